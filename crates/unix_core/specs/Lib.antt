@@ -1,0 +1,4 @@
+pub mod Console
+pub mod Disk
+pub mod Machine
+pub mod Runs

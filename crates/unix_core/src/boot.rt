@@ -1,0 +1,2 @@
+//! boot
+pub enum BootFault { NotBuilt, NoMemory }
