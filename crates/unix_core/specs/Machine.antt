@@ -1,6 +1,6 @@
 -- Process 1 and the kernel round it, as far as they are built, and one turn of it: the instructions MOV and BR of the
 -- PDP-11/40 Processor Handbook, and exec(II), exit(II), open(II) and write(II) of the UNIX Programmer's Manual.
-use Rattle.std.specs.Prelude.{ℕ, Bool, true, false, not, List, [], ◌∷◌, ◌++◌, ◌+◌, ◌-◌, ◌*◌, ◌/◌, ◌%◌, ◌&&◌, ◌||◌, ◌==◌, nat_le, nat_lt, nat_eq, if◌then◌else◌, Option, Some, None, slice_index, slice_set, take, drop, length, codes}
+use Rattle.std.specs.Prelude.{◌<◌, ℕ, Bool, true, false, not, List, [], ◌∷◌, ◌++◌, ◌+◌, ◌-◌, ◌*◌, ◌/◌, ◌%◌, ◌&&◌, ◌||◌, ◌==◌, nat_le, nat_lt, nat_eq, if◌then◌else◌, Option, Some, None, slice_index, slice_set, take, drop, length, codes}
 use Rattle.std.specs.Cmp.Lexicographic.{pointwise}
 use Rattle.v6_base.specs.Trace.{Item, sent}
 use Rattle.unix_core.specs.declared.kernel.Stage.{Stage}
@@ -43,6 +43,10 @@ abbrev pub memory_word : List ℕ → ℕ → Option ℕ
 memory_word memory at =
     if (at % 2 == 0) && nat_lt (at + 1) (length memory) then Some (slice_index memory at + 256 * slice_index memory (at + 1)) else None
 
+-- the word so many bytes behind the PC, where addresses go round
+abbrev pub word_behind : Unix → ℕ → Option ℕ
+word_behind u count = memory_word u.memory ((pc u + count) % 65536)
+
 -- so many bytes from an address on, where all of them are there
 abbrev pub memory_bytes : List ℕ → ℕ → ℕ → Option (List ℕ)
 memory_bytes memory at count = if (count == 0) || nat_le (at + count) (length memory) then Some (take count (drop at memory)) else None
@@ -80,15 +84,16 @@ abbrev pub console_name : List ℕ
 console_name = codes "/dev/tty8" ++ 0 ∷ []
 
 -- open(II) of the console for writing, once, which gives file number 0
-abbrev pub open_by : Unix → Option (List ℕ) → ℕ → Turn
-open_by u None mode = not_built u
-open_by u (Some name) mode =
-    if not u.has_console && (mode == 1) && pointwise nat_eq name console_name
-    then ran [] (record (with_register (called u 2) 0 0) { has_console = true })
-    else not_built u
+abbrev pub is_name : Option (List ℕ) → Bool
+is_name None = false
+is_name (Some name) = pointwise nat_eq name console_name
+
+abbrev pub open_by : Unix → Bool → Turn
+open_by u allowed =
+    if allowed then ran [] (record (with_register (called u 2) 0 0) { has_console = true }) else not_built u
 
 abbrev pub opened : Unix → Option ℕ → Option ℕ → Turn
-opened u (Some name) (Some mode) = open_by u (memory_bytes u.memory name 10) mode
+opened u (Some name) (Some mode) = open_by u (is_name (memory_bytes u.memory name 10) && not u.has_console && (mode == 1))
 opened u name mode = not_built u
 
 -- write(II) to the console of bytes that are all there, which gives their number
@@ -107,11 +112,11 @@ written u at count = not_built u
 -- an instruction, or a call with its arguments in the words behind it
 abbrev pub done_by : Unix → Instruction → Turn
 done_by u (instruction.MoveRegister from to) = moved (passing u 2) to (register (passing u 2) from)
-done_by u (instruction.MoveImmediate to) = moved_from u to (memory_word u.memory (pc u + 2))
+done_by u (instruction.MoveImmediate to) = moved_from u to (word_behind u 2)
 done_by u (instruction.Branch offset) = branched u offset
 done_by u instruction.Exit = ran [] (record u { stage = Ended })
-done_by u instruction.Open = opened u (memory_word u.memory (pc u + 2)) (memory_word u.memory (pc u + 4))
-done_by u instruction.Write = written u (memory_word u.memory (pc u + 2)) (memory_word u.memory (pc u + 4))
+done_by u instruction.Open = opened u (word_behind u 2) (word_behind u 4)
+done_by u instruction.Write = written u (word_behind u 2) (word_behind u 4)
 done_by u instruction.Other = not_built u
 
 -- the words that are built
@@ -125,6 +130,16 @@ instruction_of word =
     if word == 0o104401 then instruction.Exit else (
     if word == 0o104405 then instruction.Open else (
     if word == 0o104404 then instruction.Write else instruction.Other)))))
+
+-- the registers that an instruction names are there
+abbrev pub NamesRegisters : Instruction → Type 0
+NamesRegisters (instruction.MoveRegister from to) = (from < 8) × (to < 7)
+NamesRegisters (instruction.MoveImmediate to) = to < 7
+NamesRegisters (instruction.Branch offset) = Unit {0}
+NamesRegisters instruction.Exit = Unit {0}
+NamesRegisters instruction.Open = Unit {0}
+NamesRegisters instruction.Write = Unit {0}
+NamesRegisters instruction.Other = Unit {0}
 
 abbrev pub runs_by : Unix → Option ℕ → Turn
 runs_by u None = not_built u

@@ -1,6 +1,6 @@
 //! The instructions and calls that are built.
 ghost use Rattle.std.specs.Prelude.{◌≡◌};
-ghost use Rattle.unix_core.specs.Machine.{instruction_of};
+ghost use Rattle.unix_core.specs.Machine.{instruction_of, NamesRegisters};
 
 /// An instruction, or a call by its TRAP word: PDP-11/40 Processor Handbook, MOV and BR; section II of the manual.
 #[derive(Clone, Copy, Debug, PartialEq, Eq)]
@@ -20,7 +20,8 @@ pub enum Instruction {
 
 /// The instruction that a word is.
 pub fn decode(word: u16) -> Instruction
-    ensures { result ≡ instruction_of word }
+    ensures value { result ≡ instruction_of word }
+    ensures registers { NamesRegisters result }
 {
     let low = (word % 8) as u8;
     if word / 0o1000 == 0o10 && word / 8 % 8 == 0 && low < 7 {

@@ -1,0 +1,31 @@
+-- What is shown of bytes one after another.
+use Rattle.std.proofs.Common.{◌≡◌, ℕ, List, [], ◌∷◌, ◌++◌, ◌+◌, ◌<◌, length, take, get_or, refl, sym, ◌∙◌, ap, append_assoc, replicate}
+use Rattle.std.specs.List.{fold}
+use Rattle.std.proofs.lemmas.List.{replicate-append-replicate, append-nil, take_more}
+use Rattle.std.proofs.lemmas.List.Sums.{fold-append}
+use Rattle.v6_base.specs.Trace.{Item, Byte, sent}
+use Rattle.v6_base.proofs.Took.{sent-append}
+use Rattle.unix_core.specs.Console.{column_after, column_behind, shown_byte, shown_bytes}
+
+pub replicate_more : (n x : ℕ) → replicate n x ++ x ∷ [] ≡ replicate (n + 1) x
+replicate_more n x = replicate-append-replicate n 1 x
+
+pub column_behind-append : (column : ℕ) (xs ys : List ℕ) → column_behind column (xs ++ ys) ≡ column_behind (column_behind column xs) ys
+column_behind-append column xs ys = fold-append column_after column xs ys
+
+pub shown_bytes-append : (column : ℕ) (xs ys : List ℕ)
+    → shown_bytes column (xs ++ ys) ≡ shown_bytes column xs ++ shown_bytes (column_behind column (shown_bytes column xs)) ys
+shown_bytes-append column [] ys = refl
+shown_bytes-append column (x ∷ xs) ys =
+    let first : List ℕ = shown_byte column x in
+    let at : ℕ = column_behind column first in
+    ap (λ l. first ++ l) (shown_bytes-append at xs ys)
+    ∙ ap (λ k. first ++ (shown_bytes at xs ++ shown_bytes k ys)) (sym (column_behind-append column first (shown_bytes at xs)))
+    ∙ sym (append_assoc first (shown_bytes at xs) (shown_bytes (column_behind column (first ++ shown_bytes at xs)) ys))
+
+-- one byte more
+pub shown_bytes_more : (column : ℕ) (bytes : List ℕ) (i : ℕ) → i < length bytes
+    → shown_bytes column (take (i + 1) bytes) ≡ shown_bytes column (take i bytes) ++ shown_byte (column_behind column (shown_bytes column (take i bytes))) (get_or bytes i 0)
+shown_bytes_more column bytes i h =
+    ap (shown_bytes column) (take_more bytes i 0 h) ∙ shown_bytes-append column (take i bytes) (get_or bytes i 0 ∷ [])
+    ∙ ap (λ l. shown_bytes column (take i bytes) ++ l) (append-nil (shown_byte (column_behind column (shown_bytes column (take i bytes))) (get_or bytes i 0)))
