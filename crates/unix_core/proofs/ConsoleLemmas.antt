@@ -1,10 +1,7 @@
 -- What is shown of bytes one after another.
 use Rattle.std.proofs.Common.{◌≡◌, ℕ, List, [], ◌∷◌, ◌++◌, ◌+◌, ◌<◌, length, take, get_or, refl, sym, ◌∙◌, ap, append_assoc, replicate}
-use Rattle.std.specs.List.{fold}
 use Rattle.std.proofs.lemmas.List.{replicate-append-replicate, append-nil, take_more}
 use Rattle.std.proofs.lemmas.List.Sums.{fold-append}
-use Rattle.v6_base.specs.Trace.{Item, Byte, sent}
-use Rattle.v6_base.proofs.Took.{sent-append}
 use Rattle.unix_core.specs.Console.{column_after, column_behind, shown_byte, shown_bytes}
 
 pub replicate_more : (n x : ℕ) → replicate n x ++ x ∷ [] ≡ replicate (n + 1) x

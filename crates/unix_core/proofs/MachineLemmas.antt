@@ -1,7 +1,7 @@
 -- What a turn shows.
-use Rattle.std.proofs.Common.{◌≡◌, ℕ, Bool, true, false, List, [], Option, Some, None, refl}
+use Rattle.std.proofs.Common.{◌≡◌, ℕ, Bool, true, false, [], Option, Some, None, refl}
 use Rattle.std.specs.Prelude.{not, ◌&&◌, ◌==◌}
-use Rattle.unix_core.specs.Machine.{Unix, Turn, opened, open_by, is_name, memory_bytes}
+use Rattle.unix_core.specs.Machine.{Unix, opened, open_by, is_name, memory_bytes}
 
 open_by-items : (u : Unix) (allowed : Bool) → (open_by u allowed).items ≡ []
 open_by-items u true = refl

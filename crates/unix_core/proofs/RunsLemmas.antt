@@ -1,9 +1,9 @@
 -- How a run over a list of events is made of runs over its parts.
-use Rattle.std.proofs.Common.{◌≡◌, ℕ, List, [], ◌∷◌, ◌++◌, Option, Some, None, refl, sym, ◌∙◌, ap, subst, append_assoc}
+use Rattle.std.proofs.Common.{◌≡◌, ℕ, List, [], ◌∷◌, ◌++◌, Option, Some, None, refl, sym, ◌∙◌, ap, append_assoc}
 use Rattle.std.proofs.lemmas.List.{append-nil}
 use Rattle.v6_base.specs.Trace.{Item}
-use Rattle.unix_core.specs.Machine.{Unix, Turn}
-use Rattle.unix_core.specs.Runs.{Event, Slot, Course, begun, event_of, goes_on_by, step_at, step, course, behind}
+use Rattle.unix_core.specs.Machine.{Unix}
+use Rattle.unix_core.specs.Runs.{Event, Course, begun, event_of, goes_on_by, step_at, step, course, behind}
 
 -- first these events and then those
 pub course-append : (c : Course) (xs ys : List Event) → course c (xs ++ ys) ≡ course (course c xs) ys

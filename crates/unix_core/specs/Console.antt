@@ -1,16 +1,16 @@
 -- What a terminal shows of the bytes that are written to it: typewriters, tty(IV) and stty(II) of the UNIX Programmer's
 -- Manual. The modes are those that the first open sets: tabs become spaces, capitals stand for both cases, and a new
 -- line is a carriage return and a line feed.
-use Rattle.std.specs.Prelude.{ℕ, Option, Some, None, List, [], ◌∷◌, ◌++◌, ◌+◌, ◌-◌, ◌%◌, ◌&&◌, ◌==◌, nat_le, nat_lt, if◌then◌else◌, replicate, fold}
+use Rattle.std.specs.Prelude.{ℕ, Option, Some, None, List, [], ◌∷◌, ◌++◌, ◌+◌, ◌-◌, ◌%◌, ◌&&◌, ◌==◌, nat_le, if◌then◌else◌, replicate, fold}
 
 -- a backslash, and what follows it, for each byte that a terminal with capitals alone lacks
 abbrev pub escaped : ℕ → Option ℕ
 escaped byte =
-    if byte == 0o173 then Some 0o050 else (             -- { as \(
-    if byte == 0o175 then Some 0o051 else (             -- } as \)
-    if byte == 0o174 then Some 0o041 else (             -- | as \!
-    if byte == 0o176 then Some 0o136 else (             -- ~ as \^
-    if byte == 0o140 then Some 0o047 else None))))      -- grave accent as \'
+    if byte == 0o173 then Some 0o050 else ( -- { as \(
+    if byte == 0o175 then Some 0o051 else ( -- } as \)
+    if byte == 0o174 then Some 0o041 else ( -- | as \!
+    if byte == 0o176 then Some 0o136 else ( -- ~ as \^
+    if byte == 0o140 then Some 0o047 else None))))  -- grave accent as \'
 
 -- the column behind one byte that goes out
 abbrev pub column_after : ℕ → ℕ → ℕ

@@ -1,6 +1,6 @@
 -- What is read of a disk image before the first turn: file system(V), directory(V) and a.out(V) of the UNIX Programmer's
 -- Manual. An image is a list of bytes, 512 to a block; bytes past its end are 0.
-use Rattle.std.specs.Prelude.{ℕ, Bool, not, List, [], ◌∷◌, ◌++◌, ◌+◌, ◌-◌, ◌*◌, ◌/◌, ◌%◌, ◌&&◌, ◌==◌, nat_le, nat_lt, nat_eq, if◌then◌else◌, Option, Some, None, slice_index_or, slice_index, take, map, find, bit_and, replicate, length}
+use Rattle.std.specs.Prelude.{ℕ, Bool, not, List, ◌++◌, ◌+◌, ◌-◌, ◌*◌, ◌/◌, ◌%◌, ◌&&◌, ◌==◌, nat_le, nat_lt, nat_eq, if◌then◌else◌, Option, Some, None, slice_index_or, slice_index, take, map, find, bit_and, replicate, length}
 use Rattle.std.specs.Option.{option_map, option_and_then}
 use Rattle.std.specs.List.{range_with_len, list_all}
 use Rattle.std.specs.Cmp.Lexicographic.{pointwise}
@@ -21,7 +21,8 @@ abbrev pub inode_at : List ℕ → ℕ → Inode
 inode_at image at = record {
   mode = word_at image at;
   size = 65536 * byte_at image (at + 5) + word_at image (at + 6);
-  addresses = map (λ i. word_at image (at + 8 + 2 * i)) (range_with_len 0 8) }
+  addresses = map (λ i. word_at image (at + 8 + 2 * i)) (range_with_len 0 8);
+}
 
 -- Inodes are numbered from 1 and stand from block 2 on; the super-block, block 1, begins with the number of their blocks,
 -- sixteen inodes to a block. One whose mode is 0 is free.
@@ -46,11 +47,15 @@ is_small node = (bit_and node.mode 0o010000 == 0) && nat_le node.size 4096
 abbrev pub place_in : Inode → ℕ → ℕ
 place_in node at = 512 * slice_index node.addresses (at / 512) + at % 512
 
+-- a name of fourteen bytes stands at a place
+abbrev pub has_name : List ℕ → ℕ → List ℕ → Bool
+has_name image at name = pointwise nat_eq (bytes_at image at 14) name
+
 -- Entry number k of a directory: sixteen bytes, an inode number, where 0 is an empty entry, and a name filled up with NULs.
 abbrev pub is_entry_of : List ℕ → Inode → List ℕ → ℕ → Bool
 is_entry_of image node name k =
     let at = place_in node (16 * k) in
-    not (word_at image at == 0) && pointwise nat_eq (bytes_at image (at + 2) 14) name
+    not (word_at image at == 0) && has_name image (at + 2) name
 
 -- the inode number in the first entry of this name
 abbrev pub entry_named : List ℕ → Inode → List ℕ → Option ℕ
@@ -73,11 +78,11 @@ reached_through image directory name = option_and_then (reached image name) (opt
 abbrev pub filled : List ℕ → List ℕ
 filled name = name ++ replicate (14 - length name) 0
 
--- the sizes that a program's header gives, in bytes: its text, its data and the zeros behind them
-abbrev pub text_size : List ℕ → Inode → ℕ
-text_size image node = word_at image (place_in node 2)
-abbrev pub data_size : List ℕ → Inode → ℕ
-data_size image node = word_at image (place_in node 4)
+-- What a program's header says, in bytes: its text and its data, which stand behind the header one after the other, and the
+-- zeros behind them.
+abbrev pub filled_size : List ℕ → Inode → ℕ
+filled_size image node = word_at image (place_in node 2) + word_at image (place_in node 4)
+
 abbrev pub bss_size : List ℕ → Inode → ℕ
 bss_size image node = word_at image (place_in node 6)
 
@@ -86,16 +91,16 @@ bss_size image node = word_at image (place_in node 6)
 abbrev pub is_program : List ℕ → Inode → Bool
 is_program image node = (file_type node == 0) && has_execute_bit node && is_small node
     && (word_at image (place_in node 0) == 0o407)
-    && nat_le (text_size image node + data_size image node + bss_size image node) 1792
-    && nat_le (16 + text_size image node + data_size image node) node.size
+    && nat_le (filled_size image node + bss_size image node) 1792
+    && nat_le (16 + filled_size image node) node.size
 
 -- a program's bytes as it begins: text and data as they stand behind the header of sixteen bytes, and zeros up to a whole
 -- number of clicks of 64 bytes
 abbrev pub program_bytes : List ℕ → Inode → List ℕ
 program_bytes image node =
-    let filled_size = text_size image node + data_size image node in
-    map (λ i. byte_at image (place_in node (16 + i))) (range_with_len 0 filled_size)
-    ++ replicate (64 * ((filled_size + bss_size image node + 63) / 64) - filled_size) 0
+    let count = filled_size image node in
+    map (λ i. byte_at image (place_in node (16 + i))) (range_with_len 0 count)
+    ++ replicate (64 * ((count + bss_size image node + 63) / 64) - count) 0
 
 -- the console: the character device 0, 0
 abbrev pub is_console : Inode → Bool

@@ -13,11 +13,11 @@ use Rattle.unix_core.specs.Console.{shown_bytes, column_behind}
 
 pub record Unix : Type 0 where
   pub stage : Stage
-  pub memory : List ℕ                 -- the bytes of process 1 from address 0 on
-  pub registers : List ℕ              -- R0 to R6 and the PC
-  pub condition : ℕ                   -- its condition codes: N 8, Z 4, V 2, C 1
-  pub has_console : Bool              -- its file number 0 is the console, open for writing
-  pub column : ℕ                      -- where the terminal's carriage stands
+  pub memory : List ℕ  -- the bytes of process 1 from address 0 on
+  pub registers : List ℕ  -- R0 to R6 and the PC
+  pub condition : ℕ  -- its condition codes: N 8, Z 4, V 2, C 1
+  pub has_console : Bool  -- its file number 0 is the console, open for writing
+  pub column : ℕ  -- where the terminal's carriage stands
 
 -- one turn: what it answers, what it shows, and the Unix behind it
 pub record Turn : Type 0 where
@@ -66,7 +66,8 @@ exec u = ran [] (record u { stage = Running; registers = 0 ∷ 0 ∷ 0 ∷ 0 ∷
 -- MOV to a register: N and Z go by the value, V is cleared, and C stays
 abbrev pub moved : Unix → ℕ → ℕ → Turn
 moved u r value = ran [] (with_register (record u {
-    condition = (if nat_le 32768 value then 8 else 0) + (if value == 0 then 4 else 0) + u.condition % 2 }) r value)
+  condition = (if nat_le 32768 value then 8 else 0) + (if value == 0 then 4 else 0) + u.condition % 2;
+}) r value)
 
 abbrev pub moved_from : Unix → ℕ → Option ℕ → Turn
 moved_from u r None = not_built u
@@ -102,7 +103,7 @@ write_by u None count = not_built u
 write_by u (Some bytes) count =
     if u.has_console && (register u 0 == 0)
     then (let shown = shown_bytes u.column bytes in
-        ran (sent 0 shown) (record (with_register (called u 2) 0 count) { column = column_behind u.column shown }))
+    ran (sent 0 shown) (record (with_register (called u 2) 0 count) { column = column_behind u.column shown }))
     else not_built u
 
 abbrev pub written : Unix → Option ℕ → Option ℕ → Turn
@@ -123,9 +124,9 @@ done_by u instruction.Other = not_built u
 abbrev pub instruction_of : ℕ → Instruction
 instruction_of word =
     if (word / 0o1000 == 0o10) && (word / 0o10 % 0o10 == 0) && nat_lt (word % 0o10) 7
-        then instruction.MoveRegister (word / 0o100 % 0o10) (word % 0o10) else (
+    then instruction.MoveRegister (word / 0o100 % 0o10) (word % 0o10) else (
     if (word / 0o10 == 0o1270) && nat_lt (word % 0o10) 7
-        then instruction.MoveImmediate (word % 0o10) else (
+    then instruction.MoveImmediate (word % 0o10) else (
     if word / 0o400 == 1 then instruction.Branch (word % 0o400) else (
     if word == 0o104401 then instruction.Exit else (
     if word == 0o104405 then instruction.Open else (

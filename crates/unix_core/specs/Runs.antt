@@ -1,5 +1,5 @@
 -- A run as a function: from an image, a core size and a list of events to what is shown and how it ends.
-use Rattle.std.specs.Prelude.{ℕ, Bool, true, false, List, [], ◌∷◌, ◌++◌, ◌&&◌, nat_le, if◌then◌else◌, Option, Some, None, length, codes}
+use Rattle.std.specs.Prelude.{ℕ, false, List, [], ◌∷◌, ◌++◌, ◌&&◌, nat_le, if◌then◌else◌, Option, Some, None, length, codes}
 use Rattle.std.specs.Option.{option_map}
 use Rattle.v6_base.specs.Trace.{Item}
 use Rattle.unix_core.specs.declared.disk.Inode.{Inode}
@@ -17,7 +17,8 @@ unix_with program = record {
   registers = 0 ∷ 0 ∷ 0 ∷ 0 ∷ 0 ∷ 0 ∷ 0 ∷ 0 ∷ [];
   condition = 0;
   has_console = false;
-  column = 0 }
+  column = 0;
+}
 
 -- from what `/etc/init` and `/dev/tty8` lead to
 abbrev pub boots_from : List ℕ → Option Inode → Option Inode → Option Unix
@@ -36,7 +37,7 @@ boots image core =
 
 -- what comes to a kernel from outside
 pub data Event : Type 0 where
-  Slot : Event                        -- one slot of the processor: a turn of the running process
+  Slot : Event  -- one slot of the processor: a turn of the running process
 
 -- a run up to some point: what it has shown, the Unix there, and the PC of what isn't built, where it has ended at one
 pub record Course : Type 0 where

@@ -2,8 +2,20 @@
 ghost use Rattle.std.specs.Prelude.{◌≡◌, ℕ, ◌≤◌, IfOk, Some, None};
 ghost use Rattle.unix_core.specs.Runs.{boots};
 
+use crate::disk::{is_program, program_bytes, reached_through};
 use crate::kernel::Kernel;
-use std::alloc::{AllocError, Global};
+use std::alloc::Global;
+
+/// The bytes of a disk of 4,872 blocks.
+const DISK_SIZE: usize = 2494464;
+
+const ETC: [u8; 14] = *b"etc\0\0\0\0\0\0\0\0\0\0\0";
+
+const INIT: [u8; 14] = *b"init\0\0\0\0\0\0\0\0\0\0";
+
+const DEV: [u8; 14] = *b"dev\0\0\0\0\0\0\0\0\0\0\0";
+
+const TTY8: [u8; 14] = *b"tty8\0\0\0\0\0\0\0\0\0\0";
 
 /// Why there is no kernel for an image.
 #[derive(Clone, Copy, Debug, PartialEq, Eq)]
@@ -12,4 +24,35 @@ pub enum BootFault {
     NotBuilt,
     /// There is no memory for it.
     NoMemory,
+}
+
+impl Kernel {
+    ghost use Rattle.unix_core.specs.Runs.{boots};
+
+    /// Makes the kernel for a disk image and so many clicks of core, before the start of its run.
+    ///
+    /// What there is of the disk so far is read and not kept: the program `/etc/init` and the console `/dev/tty8`.
+    pub fn boot(alloc: Global, image: &[u8], core: u16) -> Result<Kernel, BootFault>
+        requires least { 64 ≤ core }
+        requires most { core ≤ 3968 }
+        ensures unix { IfOk result (λ kernel. boots image.now core ≡ Some kernel) }
+        ensures not_built { result ≡ Err BootFault.NotBuilt → boots image.now core ≡ None }
+    {
+        if image.len() > DISK_SIZE {
+            return Err(BootFault::NotBuilt);
+        }
+        let Some(init) = reached_through(image, &ETC, &INIT) else {
+            return Err(BootFault::NotBuilt);
+        };
+        let Some(console) = reached_through(image, &DEV, &TTY8) else {
+            return Err(BootFault::NotBuilt);
+        };
+        if !is_program(image, &init) || !console.is_console() {
+            return Err(BootFault::NotBuilt);
+        }
+        match program_bytes(alloc, image, &init) {
+            Ok(memory) => Ok(Kernel::with_program(memory)),
+            Err(_) => Err(BootFault::NoMemory),
+        }
+    }
 }

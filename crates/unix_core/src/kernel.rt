@@ -51,12 +51,13 @@ impl Model for Kernel {
     ghost Value = { Unix };
 
     ghost view = { λ k. record {
-        stage = k.stage;
-        memory = k.memory.items;
-        registers = k.registers;
-        condition = k.condition;
-        has_console = k.has_console;
-        column = k.column } };
+      stage = k.stage;
+      memory = k.memory.items;
+      registers = k.registers;
+      condition = k.condition;
+      has_console = k.has_console;
+      column = k.column;
+    } };
 }
 
 impl Kernel {

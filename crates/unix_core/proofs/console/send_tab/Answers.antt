@@ -1,4 +1,4 @@
-use Rattle.std.proofs.Common.{[], ◌∷◌, ◌++◌, sym, ◌∙◌, ap, replicate}
+use Rattle.std.proofs.Common.{[], ◌∷◌, sym, ◌∙◌, ap, replicate}
 use Rattle.v6_base.specs.Trace.{sent}
 use Rattle.v6_base.proofs.Took.{took_then, sent-append}
 use Rattle.unix_core.specs.Console.{column_after, column_behind}

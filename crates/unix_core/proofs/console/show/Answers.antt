@@ -1,4 +1,4 @@
-use Rattle.std.proofs.Common.{ℕ, List, [], ◌∷◌, ◌++◌, sym, ◌∙◌, ap, take, get_or}
+use Rattle.std.proofs.Common.{ℕ, List, ◌++◌, sym, ◌∙◌, ap, take, get_or}
 use Rattle.v6_base.specs.Trace.{sent}
 use Rattle.v6_base.proofs.Took.{took_then, sent-append}
 use Rattle.unix_core.specs.Console.{column_behind, shown_byte, shown_bytes}

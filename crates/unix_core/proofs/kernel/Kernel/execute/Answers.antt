@@ -1,4 +1,3 @@
-use Rattle.std.proofs.Common.{rules}
 use Rattle.v6_base.proofs.Took.{took_nothing}
 use Rattle.unix_core.specs.Machine.{word_behind}
 use Rattle.unix_core.proofs.MachineLemmas.{opened-items}

@@ -1,0 +1,17 @@
+use Rattle.std.proofs.Common.{◌≡◌, ◌+◌, ◌*◌, ◌/◌, ◌-◌, ℕ, ◌∙◌, ap, map, length, vec_len, ◌++◌, replicate, arith, rules}
+use Rattle.std.specs.List.{range_with_len}
+use Rattle.unix_core.specs.Disk.{byte_at, place_in, filled_size}
+use Rattle.unix_core.proofs.DiskLemmas.{filled_up}
+use Rattle.unix_core.proofs.disk.program_bytes.Goals as goal
+
+pub returns : goal.returns
+returns c =
+    let f : ℕ → ℕ = λ i. byte_at c.args.image.now (place_in c.args.node.now (16 + i)) in
+    let count : ℕ = filled_size c.args.image.now c.args.node.now in
+    let is_filled = c.filled_size.ensures.value in
+    let is_bss = c.bss_size.ensures.value in
+    let all : ℕ = c.filled_size.result + c.bss_size.result in
+    let long : vec_len c.in_ok-bytes.bytes ≡ length c.in_ok-bytes.bytes.items = search rules in
+    c.in_ok-resize.ensures.items
+    ∙ filled_up f count (64 * ((all + 63) / 64)) (vec_len c.in_ok-bytes.bytes) c.in_ok-bytes.bytes.items c.in_ok-bytes.ensures long (omega arith)
+    ∙ ap (λ n. map f (range_with_len 0 count) ++ replicate (64 * ((n + 63) / 64) - count) 0) (ap (λ n. n + c.bss_size.result) is_filled ∙ ap (λ n. count + n) is_bss)
