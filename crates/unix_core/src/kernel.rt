@@ -62,7 +62,7 @@ impl Model for Kernel {
 
 impl Kernel {
     ghost use Rattle.unix_core.specs.Machine.{Unix, Turn, register, pc, with_register, passing, called, moved, moved_from, branched, opened, open_by, written, write_by, done_by, NamesRegisters, runs_by, exec, ran, not_built, memory_word, memory_bytes, is_name, word_behind};
-    ghost use Rattle.unix_core.specs.Runs.{Slot, event_of, unix_with};
+    ghost use Rattle.unix_core.specs.Runs.{Slot, event_of, unix_with, started};
 
     /// A kernel that is about to execute this program.
     pub(crate) fn with_program(memory: Vec<u8>) -> Self
@@ -80,8 +80,8 @@ impl Kernel {
 
     /// Takes the start of a run, once, before the first turn. It shows nothing yet.
     pub fn start<T: Trace>(&mut self, trace: &mut T)
-        ensures next { self.new ≡ self.old }
-        ensures items { Took (T.taken trace.old) [] (T.taken trace.new) }
+        ensures next { self.new ≡ (started self.old).unix }
+        ensures items { Took (T.taken trace.old) (started self.old).items (T.taken trace.new) }
         ensures frame { T.leads_to trace.old trace.new }
     {
         let _ = trace;
