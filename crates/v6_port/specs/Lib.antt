@@ -1,0 +1,3 @@
+pub mod Outside
+pub mod Calls
+pub mod Causes

@@ -1,0 +1,9 @@
+//! The outside of the kernel: the files that a command reads and writes, behind one trait.
+//!
+//! A [`Host`] has three ports to read from and four to write to. Whatever runs over a host is proved
+//! against what the trait says of it, and so holds over real files and over files in memory alike.
+#![tactic(auto)]
+
+mod host;
+
+pub use host::{Failed, Host, InPort, OutPort};
