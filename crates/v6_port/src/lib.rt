@@ -4,6 +4,10 @@
 //! against what the trait says of it, and so holds over real files and over files in memory alike.
 #![tactic(auto)]
 
+mod counts;
+mod file_host;
 mod host;
+mod kept;
 
+pub use file_host::FileHost;
 pub use host::{Failed, Host, InPort, OutPort};

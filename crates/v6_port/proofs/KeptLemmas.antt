@@ -1,0 +1,94 @@
+-- What a change of what is kept shows outside.
+use Rattle.std.proofs.Common.{◌≡◌, ℕ, Bool, true, false, List, [], Result, Ok, Err, rules, arith, ap, subst, refl, sym}
+use Rattle.std.proofs.lemmas.Grind.{common_steps}
+use Rattle.v6_port.specs.declared.kept.Kept.{Kept}
+use Rattle.v6_port.specs.declared.host.InPort.{InPort}
+use Rattle.v6_port.specs.declared.host.OutPort.{OutPort}
+use Rattle.v6_port.specs.declared.host.Failed.{Failed}
+use Rattle.v6_port.specs.Outside.{Port, In, Out, same, in_number, out_number, port_number, PortState, Fixed, Outside, OnlyAt, Rose, Tells}
+use Rattle.v6_port.specs.Calls.{HasFailed, FailedPlainly, FailedToOpen, OpensRead, OpensWrite, Reads, Writes}
+use Rattle.v6_port.specs.Kept.{silent, untold, kept_at, state_of, outside_of, KeptBut, Faults, Turns}
+
+-- nothing else is seen to change
+pub only_at : (q : Port) (fixed : Fixed) (bytes later : Port → List ℕ) (old new : List Kept) (n : ℕ) → n ≡ port_number q
+    → KeptBut n old new → ((r : Port) → same q r ≡ false → later r ≡ bytes r)
+    → OnlyAt (same q) (outside_of fixed bytes old) (outside_of fixed later new)
+only_at q fixed bytes later old new n is but same_bytes = subst
+    (λ (n : ℕ). KeptBut n old new → OnlyAt (same q) (outside_of fixed bytes old) (outside_of fixed later new)) (sym is)
+    (λ (but : KeptBut (port_number q) old new). record {
+      fixed = refl;
+      others = λ r other. search (rules, but.others (port_number r) other, same_bytes r other);
+    }) but
+
+-- a fault is seen as a failed call
+pub has_failed : (q : Port) (fixed : Fixed) (bytes later : Port → List ℕ) (old new : List Kept) (n : ℕ) → n ≡ port_number q
+    → Faults n old new → later q ≡ bytes q → HasFailed q (outside_of fixed bytes old) (outside_of fixed later new)
+has_failed q fixed bytes later old new n is fault same_bytes = subst
+    (λ (n : ℕ). Faults n old new → HasFailed q (outside_of fixed bytes old) (outside_of fixed later new)) (sym is)
+    (λ (fault : Faults (port_number q) old new). search (rules, same_bytes)) fault
+
+-- A port that is opened is seen to be open.
+pub opened : (q : Port) (fixed : Fixed) (bytes later : Port → List ℕ) (old new : List Kept) (n : ℕ) → n ≡ port_number q
+    → Turns n true old new
+    → (outside_of fixed later new).port q ≡ record ((outside_of fixed bytes old).port q) { is_open = true; bytes = later q }
+opened q fixed bytes later old new n is turned = subst
+    (λ (n : ℕ). Turns n true old new → (outside_of fixed later new).port q ≡ record ((outside_of fixed bytes old).port q) { is_open = true; bytes = later q }) (sym is)
+    (λ (turned : Turns (port_number q) true old new). ap (λ (kept : Kept). state_of kept q (later q)) turned.turned) turned
+
+-- The same of a host that tells nothing.
+pub silent_only : (q : Port) (old new : List Kept) (n : ℕ) → n ≡ port_number q → KeptBut n old new → OnlyAt (same q) (silent old) (silent new)
+silent_only q old new n is but = only_at q _ (λ _. []) (λ _. []) old new n is but (λ _ _. refl)
+
+pub silent_plainly : (q : Port) (old new : List Kept) (n : ℕ) → n ≡ port_number q → Faults n old new → FailedPlainly q (silent old) (silent new)
+silent_plainly q old new n is fault = record {
+  failed = has_failed q _ (λ _. []) (λ _. []) old new n is fault refl;
+  missing = subst (λ (n : ℕ). (kept_at new n).missing ≡ (kept_at old n).missing) is fault.missing;
+}
+
+pub silent_to_open : (q : Port) (known : Bool) (old new : List Kept) (n : ℕ) → n ≡ port_number q → Faults n old new → FailedToOpen q known (silent old) (silent new)
+silent_to_open q known old new n is fault = let plainly = silent_plainly q old new n is fault in record {
+  failed = plainly.failed;
+  missed = λ told. absurd (cc);
+  found = λ told. absurd (cc);
+  no_fewer = omega (arith, plainly.missing);
+}
+
+-- a failed call of a host that tells nothing
+module _ (old new : List Kept) (n : ℕ) (fault : Faults n old new) where
+  pub open_read_fails : (p : InPort) (name : List ℕ) (r : Result (Unit {0}) Failed) → n ≡ in_number p → r ≡ Err (record {}) → OpensRead p name (silent old) r (silent new)
+  open_read_fails p name r is fails = rw fails (record {
+    only = silent_only (In p) old new n is fault.others;
+    outcome = silent_to_open (In p) _ old new n is fault;
+  })
+
+  pub open_write_fails : (p : OutPort) (name : List ℕ) (r : Result (Unit {0}) Failed) → n ≡ out_number p → r ≡ Err (record {}) → OpensWrite p name (silent old) r (silent new)
+  open_write_fails p name r is fails = rw fails (record {
+    only = silent_only (Out p) old new n is fault.others;
+    outcome = silent_to_open (Out p) _ old new n is fault;
+  })
+
+  pub read_fails : (p : InPort) (buffer : List ℕ) (r : Result ℕ Failed) → n ≡ in_number p → r ≡ Err (record {}) → Reads p (silent old) buffer r (silent new)
+  read_fails p buffer r is fails = rw fails (record {
+    only = silent_only (In p) old new n is fault.others;
+    outcome = silent_plainly (In p) old new n is fault;
+  })
+
+  pub write_fails : (p : OutPort) (piece : List ℕ) (r : Result ℕ Failed) → n ≡ out_number p → r ≡ Err (record {}) → Writes p (silent old) piece r (silent new)
+  write_fails p piece r is fails = rw fails (record {
+    only = silent_only (Out p) old new n is fault.others;
+    outcome = silent_plainly (Out p) old new n is fault;
+  })
+
+-- a port that a host that tells nothing has opened
+module _ (old new : List Kept) (n : ℕ) (turned : Turns n true old new) where
+  pub opens_read : (p : InPort) (name : List ℕ) → n ≡ in_number p → OpensRead p name (silent old) (Ok tt) (silent new)
+  opens_read p name is = record {
+    only = silent_only (In p) old new n is turned.others;
+    outcome = (opened (In p) untold (λ _. []) (λ _. []) old new n is turned, λ told. absurd (cc));
+  }
+
+  pub opens_write : (p : OutPort) (name : List ℕ) → n ≡ out_number p → OpensWrite p name (silent old) (Ok tt) (silent new)
+  opens_write p name is = record {
+    only = silent_only (Out p) old new n is turned.others;
+    outcome = (opened (Out p) untold (λ _. []) (λ _. []) old new n is turned, λ told. absurd (cc));
+  }

@@ -1,0 +1,49 @@
+// What a host keeps of each port, by the port's number: whether it is open, and its counts.
+ghost use Rattle.std.specs.Prelude.{◌≡◌, ◌<◌, length};
+ghost use Rattle.v6_port.specs.Outside.{in_number, out_number};
+
+use crate::host::{InPort, OutPort};
+
+pub(crate) const PORTS: usize = 7;
+
+#[derive(Clone, Copy)]
+pub(crate) struct Kept {
+    pub(crate) is_open: bool,
+    pub(crate) faults: u64,
+    pub(crate) missing: u64,
+}
+
+impl Kept {
+    pub(crate) const NOTHING: Kept = Kept {
+        is_open: false,
+        faults: 0,
+        missing: 0,
+    };
+}
+
+impl InPort {
+    pub(crate) fn number(self) -> usize
+        ensures number { result ≡ in_number self }
+        ensures below { result < 7 }
+    {
+        match self {
+            InPort::Image => 0,
+            InPort::Script => 1,
+            InPort::Log => 2,
+        }
+    }
+}
+
+impl OutPort {
+    pub(crate) fn number(self) -> usize
+        ensures number { result ≡ out_number self }
+        ensures below { result < 7 }
+    {
+        match self {
+            OutPort::Term => 3,
+            OutPort::Log => 4,
+            OutPort::Final => 5,
+            OutPort::Report => 6,
+        }
+    }
+}
