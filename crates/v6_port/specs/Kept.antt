@@ -35,6 +35,13 @@ pub record Faults (n : ℕ) (old new : List Kept) : Type 0 where
   pub rose : Rose (kept_at old n).faults (kept_at new n).faults
   pub missing : (kept_at new n).missing ≡ (kept_at old n).missing
 
+-- a fault for a name that isn't known
+pub record Misses (n : ℕ) (old new : List Kept) : Type 0 where
+  pub others : KeptBut n old new
+  pub is_open : (kept_at new n).is_open ≡ (kept_at old n).is_open
+  pub rose : Rose (kept_at old n).faults (kept_at new n).faults
+  pub missing : Rose (kept_at old n).missing (kept_at new n).missing
+
 pub record Turns (n : ℕ) (is_open : Bool) (old new : List Kept) : Type 0 where
   pub others : KeptBut n old new
   pub turned : kept_at new n ≡ record (kept_at old n) { is_open = is_open }

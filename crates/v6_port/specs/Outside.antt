@@ -22,6 +22,13 @@ out_number out_port.Log = 4
 out_number out_port.Final = 5
 out_number out_port.Report = 6
 
+-- a port's place among those for writing
+abbrev pub place : OutPort → ℕ
+place out_port.Term = 0
+place out_port.Log = 1
+place out_port.Final = 2
+place out_port.Report = 3
+
 abbrev pub port_number : Port → ℕ
 port_number (In p) = in_number p
 port_number (Out p) = out_number p

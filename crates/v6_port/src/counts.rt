@@ -1,6 +1,6 @@
 // The changes of what a host keeps of its ports.
 ghost use Rattle.std.specs.Prelude.{◌≡◌, ◌<◌, Err, true, false};
-ghost use Rattle.v6_port.specs.Kept.{Faults, Turns};
+ghost use Rattle.v6_port.specs.Kept.{Faults, Misses, Turns};
 
 use crate::host::Failed;
 use crate::kept::{Kept, PORTS};
@@ -13,6 +13,16 @@ pub(crate) fn fault<T>(ports: &mut [Kept; PORTS], number: usize) -> Result<T, Fa
 {
     ports[number].faults = ports[number].faults.saturating_add(1);
     Err(Failed)
+}
+
+/// The same, for a name that isn't known: one that is missing more, too.
+pub(crate) fn miss<T>(ports: &mut [Kept; PORTS], number: usize) -> Result<T, Failed>
+    requires { number < 7 }
+    ensures fails { result ≡ Err (record {}) }
+    ensures counted { Misses number ports.old ports.new }
+{
+    ports[number].missing = ports[number].missing.saturating_add(1);
+    fault(ports, number)
 }
 
 pub(crate) fn set_open(ports: &mut [Kept; PORTS], number: usize)

@@ -1,6 +1,6 @@
 // What a host keeps of each port, by the port's number: whether it is open, and its counts.
 ghost use Rattle.std.specs.Prelude.{◌≡◌, ◌<◌, length};
-ghost use Rattle.v6_port.specs.Outside.{in_number, out_number};
+ghost use Rattle.v6_port.specs.Outside.{in_number, out_number, place};
 
 use crate::host::{InPort, OutPort};
 
@@ -44,6 +44,19 @@ impl OutPort {
             OutPort::Log => 4,
             OutPort::Final => 5,
             OutPort::Report => 6,
+        }
+    }
+
+    /// The port's place among those for writing.
+    pub(crate) fn place(self) -> usize
+        ensures place { result ≡ place self }
+        ensures below { result < 4 }
+    {
+        match self {
+            OutPort::Term => 0,
+            OutPort::Log => 1,
+            OutPort::Final => 2,
+            OutPort::Report => 3,
         }
     }
 }

@@ -6,8 +6,12 @@
 
 mod counts;
 mod file_host;
+mod files;
 mod host;
 mod kept;
+mod mem_host;
+mod rooms;
 
 pub use file_host::FileHost;
 pub use host::{Failed, Host, InPort, OutPort};
+pub use mem_host::MemHost;
