@@ -15,3 +15,6 @@ mod rooms;
 pub use file_host::FileHost;
 pub use host::{Failed, Host, InPort, OutPort};
 pub use mem_host::MemHost;
+
+#[cfg(test)]
+mod tests;
