@@ -6,6 +6,7 @@ use Rattle.std.specs.Option.{option_map, ForSome}
 use Rattle.std.specs.Cmp.Lexicographic.{pointwise, same_text, other_text}
 use Rattle.std.proofs.lemmas.List.{get_or-map, get_or_append_left, map-append, get_or-set_other, get_or-set_same, map-set, length-map, length-set, length-append, length-take}
 use Rattle.std.proofs.Math.Seq.{map-set_same}
+use Rattle.std.proofs.lemmas.Bool.Decides.{nat_tests}
 use Rattle.std.proofs.lemmas.Grind.{common_steps}
 use Rattle.v6_port.specs.declared.host.InPort.{InPort}
 use Rattle.v6_port.specs.declared.host.InPort.TheVariants as in_port
@@ -72,23 +73,19 @@ adds files later names readings rooms ports fails calls file name bytes is named
   bytes_more (Out p) = refl
 
 -- A port's place among those for writing is its own.
+out_number-place : (p : OutPort) → out_number p ≡ place p + 3
+out_number-place out_port.Term = refl
+out_number-place out_port.Log = refl
+out_number-place out_port.Final = refl
+out_number-place out_port.Report = refl
+
 place-other : (p r : OutPort) → same (Out p) (Out r) ≡ false → place r ≢ place p
-place-other out_port.Term out_port.Term is = absurd (cc)
-place-other out_port.Term out_port.Log is = λ e. absurd (cc)
-place-other out_port.Term out_port.Final is = λ e. absurd (cc)
-place-other out_port.Term out_port.Report is = λ e. absurd (cc)
-place-other out_port.Log out_port.Term is = λ e. absurd (cc)
-place-other out_port.Log out_port.Log is = absurd (cc)
-place-other out_port.Log out_port.Final is = λ e. absurd (cc)
-place-other out_port.Log out_port.Report is = λ e. absurd (cc)
-place-other out_port.Final out_port.Term is = λ e. absurd (cc)
-place-other out_port.Final out_port.Log is = λ e. absurd (cc)
-place-other out_port.Final out_port.Final is = absurd (cc)
-place-other out_port.Final out_port.Report is = λ e. absurd (cc)
-place-other out_port.Report out_port.Term is = λ e. absurd (cc)
-place-other out_port.Report out_port.Log is = λ e. absurd (cc)
-place-other out_port.Report out_port.Final is = λ e. absurd (cc)
-place-other out_port.Report out_port.Report is = absurd (cc)
+place-other p r other e =
+    let is : out_number p ≡ out_number r = omega (arith, out_number-place p, out_number-place r) in grind (arith, nat_tests)
+
+same_place : (p r : OutPort) → same (Out p) (Out r) ≡ true → place r ≡ place p
+same_place p r here =
+    let is : out_number p ≡ out_number r = grind (arith, nat_tests) in omega (arith, out_number-place p, out_number-place r)
 
 -- One room in the place of another: what is seen of it, and of the others.
 module _ {B : Type 0} (f : Room → B) (d : B) (rooms : List Room) (room : Room) where
@@ -127,25 +124,6 @@ takes_room p name more files names readings rooms ports fails calls text room la
   bytes_same : (q : Port) → memory_bytes files readings (slice_set rooms i larger) q ≡ memory_bytes files readings rooms q
   bytes_same (In r) = refl
   bytes_same (Out r) = bytes_kept (place r)
-
--- a port for writing is the one that is meant, or has another place
-same_place : (p r : OutPort) → same (Out p) (Out r) ≡ true → place r ≡ place p
-same_place out_port.Term out_port.Term is = refl
-same_place out_port.Term out_port.Log is = absurd (cc)
-same_place out_port.Term out_port.Final is = absurd (cc)
-same_place out_port.Term out_port.Report is = absurd (cc)
-same_place out_port.Log out_port.Term is = absurd (cc)
-same_place out_port.Log out_port.Log is = refl
-same_place out_port.Log out_port.Final is = absurd (cc)
-same_place out_port.Log out_port.Report is = absurd (cc)
-same_place out_port.Final out_port.Term is = absurd (cc)
-same_place out_port.Final out_port.Log is = absurd (cc)
-same_place out_port.Final out_port.Final is = refl
-same_place out_port.Final out_port.Report is = absurd (cc)
-same_place out_port.Report out_port.Term is = absurd (cc)
-same_place out_port.Report out_port.Log is = absurd (cc)
-same_place out_port.Report out_port.Final is = absurd (cc)
-same_place out_port.Report out_port.Report is = refl
 
 -- a write into a room
 module _ (p : OutPort) (piece : List ℕ) (files : List Named) (readings : List (Option Reading)) (rooms : List Room) (ports : List Kept)

@@ -7,7 +7,7 @@ use crate::kept::{Kept, PORTS};
 
 /// One fault more, up to the largest count there is. The answer is always the error.
 pub(crate) fn fault<T>(ports: &mut [Kept; PORTS], number: usize) -> Result<T, Failed>
-    requires { number < 7 }
+    requires { number < PORTS }
     ensures fails { result ≡ Err (record {}) }
     ensures counted { Faults number ports.old ports.new }
 {
@@ -17,7 +17,7 @@ pub(crate) fn fault<T>(ports: &mut [Kept; PORTS], number: usize) -> Result<T, Fa
 
 /// The same, for a name that isn't known: one that is missing more, too.
 pub(crate) fn miss<T>(ports: &mut [Kept; PORTS], number: usize) -> Result<T, Failed>
-    requires { number < 7 }
+    requires { number < PORTS }
     ensures fails { result ≡ Err (record {}) }
     ensures counted { Misses number ports.old ports.new }
 {
@@ -26,14 +26,14 @@ pub(crate) fn miss<T>(ports: &mut [Kept; PORTS], number: usize) -> Result<T, Fai
 }
 
 pub(crate) fn set_open(ports: &mut [Kept; PORTS], number: usize)
-    requires { number < 7 }
+    requires { number < PORTS }
     ensures { Turns number true ports.old ports.new }
 {
     ports[number].is_open = true;
 }
 
 pub(crate) fn set_closed(ports: &mut [Kept; PORTS], number: usize)
-    requires { number < 7 }
+    requires { number < PORTS }
     ensures { Turns number false ports.old ports.new }
 {
     ports[number].is_open = false;

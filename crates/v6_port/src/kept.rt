@@ -1,10 +1,14 @@
-// What a host keeps of each port, by the port's number: whether it is open, and its counts.
+// What a host keeps of each of its ports, by the port's number: whether it is open, and its counts.
 ghost use Rattle.std.specs.Prelude.{◌≡◌, ◌<◌, length};
 ghost use Rattle.v6_port.specs.Outside.{in_number, out_number, place};
 
 use crate::host::{InPort, OutPort};
 
-pub(crate) const PORTS: usize = 7;
+pub(crate) const INPUTS: usize = 3;
+
+pub(crate) const OUTPUTS: usize = 4;
+
+pub(crate) const PORTS: usize = INPUTS + OUTPUTS;
 
 #[derive(Clone, Copy)]
 pub(crate) struct Kept {
@@ -22,9 +26,10 @@ impl Kept {
 }
 
 impl InPort {
+    /// The port's number among all ports.
     pub(crate) fn number(self) -> usize
         ensures number { result ≡ in_number self }
-        ensures below { result < 7 }
+        ensures below { result < PORTS }
     {
         match self {
             InPort::Image => 0,
@@ -35,9 +40,10 @@ impl InPort {
 }
 
 impl OutPort {
+    /// The port's number among all ports.
     pub(crate) fn number(self) -> usize
         ensures number { result ≡ out_number self }
-        ensures below { result < 7 }
+        ensures below { result < PORTS }
     {
         match self {
             OutPort::Term => 3,
@@ -50,7 +56,7 @@ impl OutPort {
     /// The port's place among those for writing.
     pub(crate) fn place(self) -> usize
         ensures place { result ≡ place self }
-        ensures below { result < 4 }
+        ensures below { result < OUTPUTS }
     {
         match self {
             OutPort::Term => 0,

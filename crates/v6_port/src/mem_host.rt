@@ -1,21 +1,15 @@
 // Files in memory.
-ghost use Rattle.std.specs.Prelude.{◌≡◌, ◌≢◌, ◌+◌, ◌-◌, ◌<◌, ◌^◌, ◌==◌, ◌++◌, ◌∷◌, [], min, length, is_err, IfOk, OnOk, OnErr, false};
+ghost use Rattle.std.specs.Prelude.{◌≡◌, ◌+◌, ◌-◌, ◌<◌, ◌^◌, ◌==◌, ◌++◌, ◌∷◌, [], ℕ, min, length, slice_index_or, None, OnOk, OnErr, string_bytes};
 ghost use Rattle.std.specs.List.{list_any};
 ghost use Rattle.std.specs.Option.{ForSome, option_map};
-ghost use Rattle.std.specs.Prelude.{string_bytes};
-ghost use Rattle.v6_port.specs.Calls.{is_expected as is_expected_name};
-ghost use Rattle.std.specs.Prelude.{ℕ, slice_index_or, None};
+ghost use Rattle.v6_port.specs.Calls.{is_expected};
 
 use crate::counts::{fault, miss, set_closed, set_open};
 use crate::files::{Named, Reading, find, rest_of};
 use crate::host::{Failed, Host, InPort, OutPort};
-use crate::kept::{Kept, PORTS};
+use crate::kept::{INPUTS, Kept, OUTPUTS, PORTS};
 use crate::rooms::Room;
 use std::alloc::{AllocError, Global};
-
-const INPUTS: usize = 3;
-
-const OUTPUTS: usize = 4;
 
 /// A host over files in memory, for trying a command without the system. It tells all its bytes.
 ///
@@ -127,6 +121,16 @@ fn is_next_due(calls: &mut u32, fails: &[u32]) -> bool
     fails.contains(calls)
 }
 
+// Whether this is the name that a port expects.
+fn is_name(expected: &Option<String>, name: &str) -> bool
+    ensures { result ≡ is_expected (option_map string_bytes expected.now) name.now }
+{
+    match expected {
+        Some(expected) => expected.as_str() == name,
+        None => false,
+    }
+}
+
 impl Host for MemHost {
     ghost use Rattle.std.specs.Prelude.{◌≡◌, ◌≢◌, is_err, IfOk, length, min, false};
     ghost use Rattle.v6_port.specs.declared.host.OutPort.TheVariants.{Report};
@@ -168,6 +172,7 @@ impl Host for MemHost {
         if is_next_due(&mut self.calls, &self.fails) {
             return fault(&mut self.ports, number);
         }
+        // A port that was opened has one.
         let Some(reading) = self.readings[number] else {
             return Ok(0);
         };
@@ -189,7 +194,7 @@ impl Host for MemHost {
     {
         let is_due = is_next_due(&mut self.calls, &self.fails);
         let number = port.number();
-        if !is_expected(&self.names[port.place()], name) {
+        if !is_name(&self.names[port.place()], name) {
             return miss(&mut self.ports, number);
         }
         if is_due {
@@ -232,14 +237,5 @@ impl Host for MemHost {
         }
         set_closed(&mut self.ports, number);
         Ok(())
-    }
-}
-
-fn is_expected(expected: &Option<String>, name: &str) -> bool
-    ensures { result ≡ is_expected_name (option_map string_bytes expected.now) name.now }
-{
-    match expected {
-        Some(expected) => expected.as_str() == name,
-        None => false,
     }
 }
