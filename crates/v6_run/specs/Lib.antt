@@ -1,0 +1,4 @@
+pub mod Number
+pub mod Status
+pub mod Script
+pub mod Words

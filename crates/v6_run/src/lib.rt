@@ -1,0 +1,9 @@
+//! The command `run`: a disk image and a script in, what the terminal shows out.
+#![tactic(auto)]
+
+mod number;
+mod script;
+mod status;
+mod words;
+
+pub use status::{Status, Unbuilt};

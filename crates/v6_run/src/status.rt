@@ -1,0 +1,52 @@
+//! How a command ends.
+ghost use Rattle.std.specs.Prelude.{◌≡◌};
+ghost use Rattle.v6_run.specs.Status.{status_number};
+
+use v6_port::{InPort, OutPort};
+
+/// How a command ended.
+#[derive(Clone, Copy, Debug, PartialEq, Eq)]
+pub enum Status {
+    /// The command was done to its end.
+    Done,
+    /// The words are no command's.
+    Usage,
+    /// A file could not be opened or read.
+    ReadFault(InPort),
+    /// A file could not be opened, written or finished.
+    WriteFault(OutPort),
+    /// The size of core is not 64 to 3968 clicks.
+    CoreSize,
+    /// There was no memory, before the first slot of a run.
+    NoMemory,
+    /// The run comes to something that is not built yet.
+    NotBuilt(Unbuilt),
+}
+
+/// What is not built yet.
+#[derive(Clone, Copy, Debug, PartialEq, Eq)]
+pub enum Unbuilt {
+    /// The disk image is of another form than the one that can be booted.
+    Image,
+    /// The script's line of this number, from 1.
+    Line(u32),
+    /// What the running process has at this pc.
+    At(u16),
+}
+
+impl Status {
+    /// The exit status of a program that ends so.
+    pub fn number(&self) -> u8
+        ensures { result ≡ status_number self.now }
+    {
+        match self {
+            Status::Done => 0,
+            Status::Usage => 1,
+            Status::ReadFault(_) => 2,
+            Status::WriteFault(_) => 3,
+            Status::CoreSize => 4,
+            Status::NoMemory => 8,
+            Status::NotBuilt(_) => 11,
+        }
+    }
+}
