@@ -1,3 +1,5 @@
 pub mod NumberLemmas
 pub mod LineLemmas
 pub mod ScriptLemmas
+pub mod PortLemmas
+pub mod SlotLemmas

@@ -2,3 +2,8 @@ pub mod Number
 pub mod Status
 pub mod Script
 pub mod Words
+pub mod Causes
+pub mod Fronts
+pub mod Report
+pub mod Ports
+pub mod Events

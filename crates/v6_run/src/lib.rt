@@ -2,7 +2,9 @@
 #![tactic(auto)]
 
 mod number;
+mod ports;
 mod script;
+mod slots;
 mod status;
 mod words;
 
