@@ -3,3 +3,4 @@ pub mod LineLemmas
 pub mod ScriptLemmas
 pub mod PortLemmas
 pub mod SlotLemmas
+pub mod FileLemmas

@@ -1,6 +1,7 @@
 //! The command `run`: a disk image and a script in, what the terminal shows out.
 #![tactic(auto)]
 
+mod files;
 mod number;
 mod ports;
 mod script;

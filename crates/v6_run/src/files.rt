@@ -1,0 +1,81 @@
+//! Whole files of a host.
+ghost use Rattle.std.specs.Prelude.{◌≡◌, ◌<◌, ◌≤◌, ◌^◌, ◌++◌, length, take, true, Some, IfOk, OnOk, OnErr, MatchResult};
+ghost use Rattle.std.specs.Option.{option_map};
+ghost use Rattle.v6_port.specs.Outside.{In, Out, IsOpen, OnlyAt, Tells, same};
+ghost use Rattle.v6_port.specs.Causes.{Calm, FaultAt};
+ghost use Rattle.v6_port.specs.Calls.{is_given};
+ghost use Rattle.v6_run.specs.Causes.{IsCaused, EndsReading, status_of};
+ghost use Rattle.v6_run.specs.Fronts.{HoldsFront};
+
+use crate::status::Status;
+use std::alloc::Global;
+use v6_port::{Failed, Host, InPort, OutPort};
+
+/// Reads what is left of an open port, to its end or to this many bytes.
+fn read_left<H: Host>(
+    alloc: Global,
+    host: &mut H,
+    port: InPort,
+    limit: usize,
+) -> Result<Vec<u8>, Status>
+    requires is_open { IsOpen (H.outside host.old) (In port) }
+    requires small { limit < 2 ^ 32 }
+    ensures only { OnlyAt (same (In port)) (H.outside host.old) (H.outside host.new) }
+    ensures bytes { IfOk result (λ all. Tells (H.outside host.old) → all.items ≡ take limit ((H.outside host.old).port (In port)).bytes) }
+    ensures short { IfOk result (λ all. length all.items ≤ limit) }
+    ensures kind { EndsReading port (status_of result) }
+    ensures cause { IsCaused (λ _. true) (status_of result) (H.outside host.old) (H.outside host.new) }
+{
+    let mut all = Vec::new(alloc);
+    let mut buffer = [0u8; 4096];
+    'file: while all.len() < limit {
+        let wanted = (limit - all.len()).min(4096);
+        let Ok(count) = host.read(port, &mut buffer[..wanted]) else {
+            return Err(Status::ReadFault(port));
+        };
+        if count == 0 {
+            break;
+        }
+        if all.extend_from_slice(&buffer[..count]).is_err() {
+            return Err(Status::NoMemory);
+        }
+    }
+    Ok(all)
+}
+
+/// Reads the file of this name, to its end or to this many bytes.
+pub(crate) fn read_file<H: Host>(
+    alloc: Global,
+    host: &mut H,
+    port: InPort,
+    name: &str,
+    limit: usize,
+) -> Result<Vec<u8>, Status>
+    requires { limit < 2 ^ 32 }
+    ensures only { OnlyAt (same (In port)) (H.outside host.old) (H.outside host.new) }
+    ensures bytes { IfOk result (λ all. Tells (H.outside host.old) → option_map (take limit) ((H.outside host.old).fixed.given name.now) ≡ Some all.items) }
+    ensures short { IfOk result (λ all. length all.items ≤ limit) }
+    ensures kind { EndsReading port (status_of result) }
+    ensures cause { IsCaused (λ _. is_given ((H.outside host.old).fixed.given name.now)) (status_of result) (H.outside host.old) (H.outside host.new) }
+{
+    if host.open_read(port, name).is_err() {
+        return Err(Status::ReadFault(port));
+    }
+    read_left(alloc, host, port, limit)
+}
+
+/// Writes all of a text.
+pub(crate) fn write_all<H: Host>(host: &mut H, port: OutPort, text: &[u8]) -> Result<(), Failed>
+    requires { IsOpen (H.outside host.old) (Out port) }
+    ensures only { OnlyAt (same (Out port)) (H.outside host.old) (H.outside host.new) }
+    ensures is_open { IsOpen (H.outside host.new) (Out port) }
+    ensures whole { OnOk result (Tells (H.outside host.old) → ((H.outside host.new).port (Out port)).bytes ≡ ((H.outside host.old).port (Out port)).bytes ++ text.now) }
+    ensures front { Tells (H.outside host.old) → HoldsFront ((H.outside host.old).port (Out port)).bytes text.now ((H.outside host.new).port (Out port)).bytes }
+    ensures cause { MatchResult result (λ _. Calm (H.outside host.old) (H.outside host.new)) (λ _. FaultAt (Out port) true (H.outside host.old) (H.outside host.new)) }
+{
+    let mut at = 0;
+    'text: while at < text.len() {
+        at += host.write(port, &text[at..])?;
+    }
+    Ok(())
+}
