@@ -4,3 +4,4 @@ pub mod ScriptLemmas
 pub mod PortLemmas
 pub mod SlotLemmas
 pub mod FileLemmas
+pub mod FrontLemmas

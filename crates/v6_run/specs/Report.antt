@@ -5,6 +5,7 @@ use Rattle.v6_port.specs.declared.host.InPort.{InPort}
 use Rattle.v6_port.specs.declared.host.InPort.TheVariants as in_port
 use Rattle.v6_port.specs.declared.host.OutPort.{OutPort}
 use Rattle.v6_port.specs.declared.host.OutPort.TheVariants as out_port
+use Rattle.v6_port.specs.Outside.{Out, PortState, Outside}
 use Rattle.v6_run.specs.declared.status.Status.{Status}
 use Rattle.v6_run.specs.declared.status.Status.TheVariants.{Done, Usage, ReadFault, WriteFault, CoreSize, NoMemory, NotBuilt}
 use Rattle.v6_run.specs.declared.status.Unbuilt.{Unbuilt}
@@ -37,3 +38,6 @@ report_of (WriteFault port) = line_of (codes "write fault: " ++ out_name port)
 report_of CoreSize = line_of (codes "core size")
 report_of NoMemory = line_of (codes "no memory")
 report_of (NotBuilt place) = line_of (codes "not built: " ++ unbuilt_name place)
+
+abbrev pub report : Outside → PortState
+report o = o.port (Out out_port.Report)

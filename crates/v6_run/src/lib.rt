@@ -4,6 +4,7 @@
 mod files;
 mod number;
 mod ports;
+mod report;
 mod script;
 mod slots;
 mod status;
