@@ -5,3 +5,4 @@ pub mod PortLemmas
 pub mod SlotLemmas
 pub mod FileLemmas
 pub mod FrontLemmas
+pub mod ShownLemmas

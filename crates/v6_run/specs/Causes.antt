@@ -40,15 +40,15 @@ HasCause (NotBuilt place) old new = IsFaultless old new
 abbrev pub MissesUnknown : (Port → Bool) → Outside → Outside → Type 0
 MissesUnknown known old new = Tells old → (q : Port) → known q ≡ true → (new.port q).missing ≡ (old.port q).missing
 
--- how the reading of a port may end
-abbrev pub EndsReading : InPort → Status → Type 0
-EndsReading port Done = ⊤
-EndsReading port Usage = ⊥
-EndsReading port (ReadFault other) = other ≡ port
-EndsReading port (WriteFault other) = ⊥
-EndsReading port CoreSize = ⊥
-EndsReading port NoMemory = ⊤
-EndsReading port (NotBuilt place) = ⊥
+-- how the reading of a port may stop
+abbrev pub StopsReading : InPort → Status → Type 0
+StopsReading port Done = ⊥
+StopsReading port Usage = ⊥
+StopsReading port (ReadFault other) = other ≡ port
+StopsReading port (WriteFault other) = ⊥
+StopsReading port CoreSize = ⊥
+StopsReading port NoMemory = ⊤
+StopsReading port (NotBuilt place) = ⊥
 
 -- the status of an answer, which is Done where it is good
 abbrev pub status_of : {T : Type 0} → Result T Status → Status

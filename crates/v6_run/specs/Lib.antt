@@ -7,3 +7,5 @@ pub mod Fronts
 pub mod Report
 pub mod Ports
 pub mod Events
+pub mod Headline
+pub mod Answers

@@ -1,10 +1,10 @@
 //! Whole files of a host.
-ghost use Rattle.std.specs.Prelude.{◌≡◌, ◌<◌, ◌≤◌, ◌^◌, ◌++◌, length, take, true, Some, IfOk, OnOk, OnErr, MatchResult};
+ghost use Rattle.std.specs.Prelude.{◌≡◌, ◌<◌, ◌≤◌, ◌^◌, ◌++◌, length, take, true, Some, IfOk, IfErr, OnOk, OnErr, MatchResult};
 ghost use Rattle.std.specs.Option.{option_map};
 ghost use Rattle.v6_port.specs.Outside.{In, Out, IsOpen, OnlyAt, Tells, same};
 ghost use Rattle.v6_port.specs.Causes.{Calm, FaultAt};
 ghost use Rattle.v6_port.specs.Calls.{is_given};
-ghost use Rattle.v6_run.specs.Causes.{IsCaused, EndsReading, status_of};
+ghost use Rattle.v6_run.specs.Causes.{IsCaused, StopsReading, status_of};
 ghost use Rattle.v6_run.specs.Fronts.{HoldsFront};
 
 use crate::status::Status;
@@ -23,7 +23,7 @@ fn read_left<H: Host>(
     ensures only { OnlyAt (same (In port)) (H.outside host.old) (H.outside host.new) }
     ensures bytes { IfOk result (λ all. Tells (H.outside host.old) → all.items ≡ take limit ((H.outside host.old).port (In port)).bytes) }
     ensures short { IfOk result (λ all. length all.items ≤ limit) }
-    ensures kind { EndsReading port (status_of result) }
+    ensures kind { IfErr result (StopsReading port) }
     ensures cause { IsCaused (λ _. true) (status_of result) (H.outside host.old) (H.outside host.new) }
 {
     let mut all = Vec::new(alloc);
@@ -55,7 +55,7 @@ pub(crate) fn read_file<H: Host>(
     ensures only { OnlyAt (same (In port)) (H.outside host.old) (H.outside host.new) }
     ensures bytes { IfOk result (λ all. Tells (H.outside host.old) → option_map (take limit) ((H.outside host.old).fixed.given name.now) ≡ Some all.items) }
     ensures short { IfOk result (λ all. length all.items ≤ limit) }
-    ensures kind { EndsReading port (status_of result) }
+    ensures kind { IfErr result (StopsReading port) }
     ensures cause { IsCaused (λ _. is_given ((H.outside host.old).fixed.given name.now)) (status_of result) (H.outside host.old) (H.outside host.new) }
 {
     if host.open_read(port, name).is_err() {

@@ -5,6 +5,7 @@ mod files;
 mod number;
 mod ports;
 mod report;
+mod run;
 mod script;
 mod slots;
 mod status;
