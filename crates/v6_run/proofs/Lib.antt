@@ -6,3 +6,6 @@ pub mod SlotLemmas
 pub mod FileLemmas
 pub mod FrontLemmas
 pub mod ShownLemmas
+pub mod ResultLemmas
+pub mod CauseLemmas
+pub mod AnswerLemmas

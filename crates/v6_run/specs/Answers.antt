@@ -1,8 +1,10 @@
 -- What `run` answers to good words, before its report: the parts of the contract of `v6` as one.
-use Rattle.std.specs.Prelude.{◌≡◌, ⊤, ℕ, Bool, true, false, Option, Some, None, IsSomeAnd, List}
+use Rattle.std.specs.Prelude.{◌≡◌, ⊤, ℕ, Bool, true, false, Option, Some, None, IsSomeAnd, List, take}
+use Rattle.std.specs.Option.{option_map}
 use Rattle.v6_port.specs.declared.host.InPort.TheVariants as in_port
 use Rattle.v6_port.specs.declared.host.OutPort.TheVariants as out_port
 use Rattle.v6_port.specs.Outside.{Port, In, Out, Outside, Tells, OnlyAt}
+use Rattle.v6_port.specs.Causes.{Calm}
 use Rattle.unix_core.specs.Machine.{Unix}
 use Rattle.v6_run.specs.declared.status.Status.{Status}
 use Rattle.v6_run.specs.declared.status.Status.TheVariants.{Done, Usage, ReadFault, WriteFault, CoreSize, NoMemory, NotBuilt}
@@ -30,6 +32,14 @@ pub record Answers (words : RunWords) (status : Status) (old new : Outside) : Ty
   pub none : IsBeforeRun status → term new ≡ term old
   pub closed : status ≡ Done → (term new).is_open ≡ false
   pub cause : IsCaused (is_known (Some words) old.fixed) status old new
+
+-- both files have been read, and so far nothing has been shown
+pub record HasFiles (words : RunWords) (image bytes : List ℕ) (old new : Outside) : Type 0 where
+  pub only : OnlyAt is_named old new
+  pub same_term : term new ≡ term old
+  pub calm : Calm old new
+  pub image_is : Tells old → option_map (take 2494465) (old.fixed.given words.image) ≡ Some image
+  pub script_is : Tells old → option_map (take 1048577) (old.fixed.given words.script) ≡ Some bytes
 
 -- an image is refused where it has not the form that is built, or for want of memory
 abbrev pub RefusesImage : Option Unix → Status → Type 0

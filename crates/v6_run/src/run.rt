@@ -1,17 +1,18 @@
 //! The command `run`.
-ghost use Rattle.std.specs.Prelude.{◌≡◌, ◌≤◌, false, true, Some, IfOk, OnOk, IfErr, MatchResult, ◌++◌};
+ghost use Rattle.std.specs.Prelude.{◌≡◌, ◌<◌, ◌≤◌, ◌^◌, length, false, true, Some, IfOk, OnOk, IfErr, MatchResult, ◌++◌};
 ghost use Rattle.v6_base.specs.Trace.{line_bytes};
 ghost use Rattle.v6_port.specs.Outside.{Out, IsOpen, OnlyAt, Tells, same};
 ghost use Rattle.v6_port.specs.declared.host.OutPort.TheVariants.{Term};
 ghost use Rattle.v6_port.specs.Causes.{Calm, FaultAt};
 ghost use Rattle.v6_port.specs.Calls.{is_expected};
 ghost use Rattle.unix_core.specs.Runs.{boots, course, started};
+ghost use Rattle.v6_run.specs.Words.{named};
 ghost use Rattle.v6_run.specs.Events.{events_of};
 ghost use Rattle.v6_run.specs.Ports.{term};
 ghost use Rattle.v6_run.specs.Causes.{IsCaused, status_of};
 ghost use Rattle.v6_run.specs.Fronts.{HoldsFront};
 ghost use Rattle.v6_run.specs.Headline.{course_outcome, ShowsAll, ShowsFront, IsOfRun};
-ghost use Rattle.v6_run.specs.Answers.{Answers, RefusesImage, StopsShowing};
+ghost use Rattle.v6_run.specs.Answers.{Answers, HasFiles, RefusesImage, StopsShowing};
 
 use crate::files::read_file;
 use crate::ports::Ports;
@@ -62,4 +63,65 @@ fn play<H: Host>(kernel: &mut Kernel, counts: &[u32], host: &mut H) -> Result<Op
     } else {
         Ok(ending)
     }
+}
+
+/// Runs the kernel with the terminal opened under this name, and finishes it at the run's end.
+fn show_run<H: Host>(
+    kernel: &mut Kernel,
+    counts: &[u32],
+    name: &str,
+    host: &mut H,
+) -> Result<(), Status>
+    requires { (term (H.outside host.old)).is_open ≡ false }
+    ensures only { OnlyAt (same (Out Term)) (H.outside host.old) (H.outside host.new) }
+    ensures kind { IfErr result StopsShowing }
+    ensures run { IsOfRun (status_of result)
+        → ShowsAll (status_of result) (H.outside host.old) (H.outside host.new) (course_outcome (course (started kernel.old) (events_of counts.now))) }
+    ensures front { Tells (H.outside host.old) → ShowsFront (H.outside host.old) (H.outside host.new) (course_outcome (course (started kernel.old) (events_of counts.now))) }
+    ensures closed { OnOk result ((term (H.outside host.new)).is_open ≡ false) }
+    ensures cause { IsCaused (λ _. is_expected ((H.outside host.old).fixed.expects Term) name.now) (status_of result) (H.outside host.old) (H.outside host.new) }
+{
+    if host.open_write(OutPort::Term, name).is_err() {
+        return Err(Status::WriteFault(OutPort::Term));
+    }
+    let Ok(ending) = play(kernel, counts, host) else {
+        return Err(Status::WriteFault(OutPort::Term));
+    };
+    if let Some(pc) = ending {
+        return Err(Status::NotBuilt(Unbuilt::At(pc)));
+    }
+    if host.finish(OutPort::Term).is_err() {
+        return Err(Status::WriteFault(OutPort::Term));
+    }
+    Ok(())
+}
+
+/// The files that are read before a run.
+#[derive(Drop)]
+struct Files {
+    image: Vec<u8>,
+    script: Vec<u8>,
+}
+
+fn read_files<H: Host>(alloc: Global, words: &RunWords<'_>, host: &mut H) -> Result<Files, Status>
+    ensures files { IfOk result (λ files. HasFiles (named words.now) files.image.items files.script.items (H.outside host.old) (H.outside host.new)) }
+    ensures short { IfOk result (λ files. length files.script.items < 2 ^ 32) }
+    ensures refused { IfErr result (λ status. Answers (named words.now) status (H.outside host.old) (H.outside host.new)) }
+{
+    let image = read_file(alloc, host, InPort::Image, words.image, IMAGE_LIMIT)?;
+    let script = read_file(alloc, host, InPort::Script, words.script, SCRIPT_LIMIT)?;
+    Ok(Files { image, script })
+}
+
+/// The command `run` with good words.
+pub(crate) fn run<H: Host>(alloc: Global, words: &RunWords<'_>, host: &mut H) -> Result<(), Status>
+    requires least { 64 ≤ words.now.core }
+    requires most { words.now.core ≤ 3968 }
+    requires closed { (term (H.outside host.old)).is_open ≡ false }
+    ensures { Answers (named words.now) (status_of result) (H.outside host.old) (H.outside host.new) }
+{
+    let files = read_files(alloc, words, host)?;
+    let counts = read_script(alloc, &files.script)?;
+    let mut kernel = boot(alloc, &files.image, words.core)?;
+    show_run(&mut kernel, &counts, words.term, host)
 }
