@@ -1,5 +1,5 @@
 -- What `run` answers, exit by exit.
-use Rattle.std.proofs.Common.{◌≡◌, ℕ, Bool, true, false, Option, Some, None, List, [], ◌∷◌, ◌++◌, take, refl, sym, ◌∙◌, ap, subst, IsSomeAnd, IfErr, OnOk, Result, Ok, Err}
+use Rattle.std.proofs.Common.{◌≡◌, ℕ, Bool, false, Option, Some, None, List, ◌++◌, take, refl, sym, ◌∙◌, ap, subst, IsSomeAnd, IfErr, OnOk, Result, Ok, Err}
 use Rattle.std.proofs.lemmas.List.{append-nil}
 use Rattle.std.specs.Option.{option_map}
 use Rattle.v6_base.specs.Trace.{line_bytes}
@@ -10,13 +10,12 @@ use Rattle.v6_port.specs.Outside.{Port, In, Out, same, PortState, Fixed, Outside
 use Rattle.v6_port.specs.Calls.{is_given, is_expected}
 use Rattle.v6_port.specs.Causes.{Calm}
 use Rattle.unix_core.specs.Machine.{Unix}
-use Rattle.unix_core.specs.Runs.{Course, boots, course, started, runs}
+use Rattle.unix_core.specs.Runs.{boots, course, started}
 use Rattle.v6_run.specs.declared.status.Status.{Status}
 use Rattle.v6_run.specs.declared.status.Status.TheVariants.{Done, Usage, ReadFault, WriteFault, CoreSize, NoMemory, NotBuilt}
 use Rattle.v6_run.specs.declared.status.Unbuilt.TheVariants as unbuilt
 use Rattle.v6_run.specs.Words.{RunWords}
-use Rattle.v6_run.specs.Script.{Script, Slots, script_of, RefusesScript}
-use Rattle.v6_run.specs.Script as script
+use Rattle.v6_run.specs.Script.{Slots, script_of, RefusesScript}
 use Rattle.v6_run.specs.Events.{events_of}
 use Rattle.v6_run.specs.Fronts.{HoldsFront}
 use Rattle.v6_run.specs.Ports.{term}

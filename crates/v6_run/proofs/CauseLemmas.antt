@@ -1,11 +1,10 @@
 -- Why a status is answered after several calls of a host.
-use Rattle.std.proofs.Common.{◌≡◌, ℕ, Bool, true, false, refl, sym, ◌∙◌, ap, subst}
+use Rattle.std.proofs.Common.{◌≡◌, Bool, false, refl, sym, ◌∙◌, ap, subst}
 use Rattle.v6_port.specs.declared.host.InPort.{InPort}
 use Rattle.v6_port.specs.declared.host.InPort.TheVariants as in_port
-use Rattle.v6_port.specs.declared.host.OutPort.{OutPort}
 use Rattle.v6_port.specs.declared.host.OutPort.TheVariants as out_port
 use Rattle.v6_port.specs.Outside.{Port, In, Out, same, PortState, Fixed, Outside, Tells, Rose, OnlyAt}
-use Rattle.v6_port.specs.Causes.{SameCounts, Calm, CalmBut, FaultAt}
+use Rattle.v6_port.specs.Causes.{SameCounts, Calm, FaultAt}
 use Rattle.v6_run.specs.declared.status.Status.{Status}
 use Rattle.v6_run.specs.declared.status.Status.TheVariants.{Done, Usage, ReadFault, WriteFault, CoreSize, NoMemory, NotBuilt}
 use Rattle.v6_run.specs.Causes.{IsCaused, StopsReading}

@@ -1,10 +1,10 @@
 -- Writing a text piece by piece.
-use Rattle.std.proofs.Common.{◌≡◌, ◌≤◌, ◌<◌, ◌+◌, ◌-◌, ℕ, List, [], ◌∷◌, ◌++◌, refl, sym, ◌∙◌, ap, subst, take, drop, length, append_assoc, Result, Ok, Err, arith}
+use Rattle.std.proofs.Common.{◌≡◌, ◌≤◌, ◌+◌, ◌-◌, ℕ, List, ◌++◌, sym, ◌∙◌, ap, subst, take, drop, length, append_assoc, Result, Ok, Err, arith}
 use Rattle.std.proofs.lemmas.List.{take_all, length-drop, take-append-drop}
 use Rattle.std.proofs.Math.Seq.{take-add}
 use Rattle.v6_port.specs.declared.host.OutPort.{OutPort}
 use Rattle.v6_port.specs.declared.host.Failed.{Failed}
-use Rattle.v6_port.specs.Outside.{Out, Outside, PortState, Fixed, OnlyAt, Tells, same}
+use Rattle.v6_port.specs.Outside.{Out, Outside, Tells}
 use Rattle.v6_port.specs.Calls.{Writes}
 use Rattle.v6_run.specs.Fronts.{HoldsFront}
 

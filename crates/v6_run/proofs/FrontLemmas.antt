@@ -1,5 +1,5 @@
 -- Fronts of texts that are written one after another.
-use Rattle.std.proofs.Common.{◌≡◌, ℕ, List, [], ◌∷◌, ◌++◌, refl, sym, ◌∙◌, ap, append_assoc, Result, Ok, Err, OnOk}
+use Rattle.std.proofs.Common.{◌≡◌, ℕ, List, [], ◌++◌, refl, sym, ◌∙◌, ap, append_assoc, Result, Ok, Err, OnOk}
 use Rattle.std.proofs.lemmas.List.{append-nil}
 use Rattle.v6_run.specs.Fronts.{HoldsFront}
 

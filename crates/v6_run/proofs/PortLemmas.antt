@@ -1,5 +1,5 @@
 -- One byte more in the trace over a host.
-use Rattle.std.proofs.Common.{◌≡◌, ℕ, Bool, true, false, Option, Some, None, is_some, List, [], ◌∷◌, ◌++◌, refl, sym, ◌∙◌, ap, IsTrue, take, Result, Ok, Err, is_err, arith}
+use Rattle.std.proofs.Common.{◌≡◌, ℕ, true, false, Option, Some, None, is_some, [], ◌∷◌, ◌++◌, refl, sym, ◌∙◌, ap, take, Result, Ok, Err, is_err, arith}
 use Rattle.std.proofs.lemmas.List.{append-nil}
 use Rattle.std.specs.Option.{option_to_list}
 use Rattle.v6_base.specs.Trace.{Byte, Took, sent}

@@ -1,5 +1,5 @@
 -- What is said of a result, at the variant that it is.
-use Rattle.std.proofs.Common.{◌≡◌, Bool, refl, sym, ◌∙◌, ap, subst, Result, Ok, Err, IfOk, IfErr, IsErrAnd}
+use Rattle.std.proofs.Common.{◌≡◌, Bool, sym, ap, subst, Result, Ok, Err, IfOk, IfErr, IsErrAnd}
 use Rattle.v6_port.specs.Outside.{Port, Outside}
 use Rattle.v6_port.specs.Causes.{Calm}
 use Rattle.v6_run.specs.declared.status.Status.{Status}

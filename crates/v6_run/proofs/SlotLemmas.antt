@@ -1,13 +1,13 @@
 -- A run over a part of its events, then over the next one.
-use Rattle.std.proofs.Common.{◌≡◌, ◌<◌, ◌≤◌, ◌+◌, ◌-◌, ℕ, Option, Some, None, List, [], ◌∷◌, ◌++◌, refl, sym, ◌∙◌, ap, subst, take, drop, length, get_or, replicate, append_assoc, arith}
+use Rattle.std.proofs.Common.{◌≡◌, ◌<◌, ◌≤◌, ◌+◌, ◌-◌, ℕ, Option, Some, None, List, [], ◌∷◌, ◌++◌, refl, sym, ◌∙◌, ap, subst, take, drop, length, get_or, replicate, arith}
 use Rattle.std.proofs.lemmas.Grind.{replicate_next, flat_map-append}
 use Rattle.std.proofs.lemmas.List.{replicate-append-replicate, take_more, take-append-drop, append-nil, take_all}
-use Rattle.v6_base.specs.Trace.{Taken, Item, Took}
+use Rattle.v6_base.specs.Trace.{Taken, Took}
 use Rattle.v6_base.proofs.Took.{took_none, took_then}
 use Rattle.unix_core.specs.declared.kernel.Turned.{Turned}
 use Rattle.unix_core.specs.declared.kernel.Turned.TheVariants.{Ran, Idle, NotBuilt}
 use Rattle.unix_core.specs.Machine.{Unix}
-use Rattle.unix_core.specs.Runs.{Event, Slot, Course, begun, started, event_of, ending_of, course, behind}
+use Rattle.unix_core.specs.Runs.{Event, Slot, Course, begun, started, event_of, ending_of, course}
 use Rattle.unix_core.proofs.RunsLemmas.{course_joined, course_last}
 use Rattle.v6_run.specs.Events.{events_of}
 

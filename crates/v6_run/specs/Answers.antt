@@ -1,5 +1,5 @@
 -- What `run` answers to good words, before its report: the parts of the contract of `v6` as one.
-use Rattle.std.specs.Prelude.{◌≡◌, ⊤, ℕ, Bool, true, false, Option, Some, None, IsSomeAnd, List, take}
+use Rattle.std.specs.Prelude.{◌≡◌, ⊤, ℕ, Bool, true, false, Option, Some, None, IsSome, IsSomeAnd, MatchOption, List, take}
 use Rattle.std.specs.Option.{option_map}
 use Rattle.v6_port.specs.declared.host.InPort.TheVariants as in_port
 use Rattle.v6_port.specs.declared.host.OutPort.TheVariants as out_port
@@ -12,7 +12,7 @@ use Rattle.v6_run.specs.declared.status.Unbuilt.TheVariants as unbuilt
 use Rattle.v6_run.specs.Words.{RunWords}
 use Rattle.v6_run.specs.Ports.{term}
 use Rattle.v6_run.specs.Causes.{IsCaused}
-use Rattle.v6_run.specs.Headline.{files_outcome, ShowsAll, ShowsFront, IsOfRun, IsOfWords, IsBeforeRun, is_known}
+use Rattle.v6_run.specs.Headline.{refused_by, files_outcome, ShowsAll, ShowsFront, IsOfRun, IsOfWords, IsBeforeRun, is_known}
 
 -- the ports for which the words have a name
 abbrev pub is_named : Port → Bool
@@ -64,3 +64,15 @@ StopsShowing NoMemory = ⊥
 StopsShowing (NotBuilt unbuilt.Image) = ⊥
 StopsShowing (NotBuilt (unbuilt.Line n)) = ⊥
 StopsShowing (NotBuilt (unbuilt.At pc)) = ⊤
+
+-- What any words are answered, before the report.
+pub record AnswersWords (words : Option RunWords) (status : Status) (old new : Outside) : Type 0 where
+  pub only : OnlyAt is_named old new
+  pub kind : MatchOption (refused_by words) (IsOfWords status) (λ refusal. status ≡ refusal)
+  pub unopened : IsSome (refused_by words) → new ≡ old
+  pub run : IsOfRun status → Tells old → IsSomeAnd (files_outcome words old.fixed) (ShowsAll status old new)
+  pub front : status ≡ WriteFault out_port.Term → Tells old → IsSomeAnd (files_outcome words old.fixed) (ShowsFront old new)
+  pub none : IsBeforeRun status → term new ≡ term old
+  pub closed : status ≡ Done → (term new).is_open ≡ false
+  pub cause : IsCaused (is_known words old.fixed) status old new
+  pub unreported : status ≡ WriteFault out_port.Report → ⊥

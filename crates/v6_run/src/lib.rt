@@ -1,6 +1,7 @@
 //! The command `run`: a disk image and a script in, what the terminal shows out.
 #![tactic(auto)]
 
+mod command;
 mod files;
 mod number;
 mod ports;
@@ -11,4 +12,5 @@ mod slots;
 mod status;
 mod words;
 
+pub use command::v6;
 pub use status::{Status, Unbuilt};

@@ -1,5 +1,5 @@
 use Rattle.std.proofs.Common.{rules, ◌∙◌, ap}
-use Rattle.v6_port.specs.Outside.{Fixed, Tells}
+use Rattle.v6_port.specs.Outside.{Fixed}
 use Rattle.v6_run.proofs.FileLemmas.{front_at, failed_write, good_write, piece_more, rest_is, write_within}
 use Rattle.v6_run.proofs.files.write_all.Goals as goal
 

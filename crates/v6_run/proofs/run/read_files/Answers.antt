@@ -1,8 +1,7 @@
-use Rattle.std.proofs.Common.{◌≡◌, Bool, rules, sym, ◌∙◌, ap, subst, IfErr, IsErrAnd, Result}
-use Rattle.v6_port.specs.Outside.{Port, Outside}
+use Rattle.std.proofs.Common.{Bool}
+use Rattle.v6_port.specs.Outside.{Port}
 use Rattle.v6_port.specs.Calls.{is_given}
-use Rattle.v6_run.specs.Words.{RunWords, named}
-use Rattle.v6_run.specs.Answers.{Answers}
+use Rattle.v6_run.specs.Words.{named}
 use Rattle.v6_run.proofs.ResultLemmas.{value_where_ok, error_where_err, cause_where_err, calm_where_ok, error_passed}
 use Rattle.v6_run.proofs.AnswerLemmas.{image_unread, script_unread, files_read}
 use Rattle.v6_run.proofs.run.read_files.Goals as goal

@@ -1,4 +1,4 @@
-use Rattle.std.proofs.Common.{◌≡◌, rules, sym, ◌∙◌, ap, subst, Some, List, ℕ}
+use Rattle.std.proofs.Common.{◌≡◌, subst, Some, List, ℕ}
 use Rattle.v6_run.specs.Words.{named}
 use Rattle.v6_run.specs.Script.{Slots, script_of, RefusesScript}
 use Rattle.v6_run.specs.Answers.{Answers, RefusesImage}

@@ -1,9 +1,6 @@
-use Rattle.std.proofs.Common.{rules, ◌≡◌, ◌+◌, ◌++◌, ◌∙◌, sym, ap, subst, Some, None, List, ℕ, drop, length, Option}
-use Rattle.v6_base.specs.Trace.{Took}
-use Rattle.unix_core.specs.Machine.{Unix}
-use Rattle.unix_core.specs.Runs.{Course, started, course}
+use Rattle.std.proofs.Common.{◌+◌, ◌∙◌, sym, Some, None, drop}
 use Rattle.v6_run.specs.Events.{events_of}
-use Rattle.v6_run.proofs.SlotLemmas.{HasRun, run_none, run_piece, run_more, run_last, line_more, lines_more, all_lines, from_start}
+use Rattle.v6_run.proofs.SlotLemmas.{run_none, run_piece, run_more, run_last, line_more, lines_more, all_lines, from_start}
 use Rattle.v6_run.proofs.slots.run_counts.Goals as goal
 
 pub lines-init : goal.lines-init

@@ -1,4 +1,4 @@
-use Rattle.std.proofs.Common.{◌≡◌, ◌+◌, ◌-◌, sym, ap, Some, None, replicate}
+use Rattle.std.proofs.Common.{◌+◌, ◌-◌, sym, ap, Some, None, replicate}
 use Rattle.unix_core.specs.Runs.{Slot, ending_of}
 use Rattle.v6_run.proofs.SlotLemmas.{run_none, run_turn, run_more, run_last, one_more, some_more, goes_on}
 use Rattle.v6_run.proofs.slots.run_slots.Goals as goal
