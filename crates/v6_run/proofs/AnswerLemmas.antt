@@ -1,5 +1,5 @@
 -- What `run` answers, exit by exit.
-use Rattle.std.proofs.Common.{◌≡◌, ℕ, Bool, false, Option, Some, None, List, ◌++◌, take, refl, sym, ◌∙◌, ap, subst, IsSomeAnd, IfErr, OnOk, Result, Ok, Err}
+use Rattle.std.proofs.Common.{◌≡◌, ℕ, Bool, true, false, Option, Some, None, List, ◌++◌, take, refl, sym, ◌∙◌, ap, subst, IsSome, IsSomeAnd, IfErr, OnOk, Result, Ok, Err}
 use Rattle.std.proofs.lemmas.List.{append-nil}
 use Rattle.std.specs.Option.{option_map}
 use Rattle.v6_base.specs.Trace.{line_bytes}
@@ -20,20 +20,23 @@ use Rattle.v6_run.specs.Events.{events_of}
 use Rattle.v6_run.specs.Fronts.{HoldsFront}
 use Rattle.v6_run.specs.Ports.{term}
 use Rattle.v6_run.specs.Causes.{IsCaused, StopsReading, status_of}
-use Rattle.v6_run.specs.Headline.{Outcome, not_built, course_outcome, image_outcome, script_outcome, outcome_of, files_outcome, ShowsAll, ShowsFront, IsOfRun, IsOfWords, IsBeforeRun, is_known}
+use Rattle.v6_run.specs.Headline.{Outcome, not_built, course_outcome, image_outcome, script_outcome, outcome_of, files_outcome, ShowsAll, ShowsFront, status_at, IsBegun, IsOfRun, IsOfWords, IsBeforeRun, is_known}
 use Rattle.v6_run.specs.Answers.{Answers, HasFiles, is_named, RefusesImage, StopsShowing}
 use Rattle.v6_run.proofs.CauseLemmas.{still_tells, only_then, calm_then, caused_then, caused_reading, caused_showing, named_image, named_script, named_term, only_named}
 
 -- an answer before the run
 before_run : (words : RunWords) (s : Status) (old new : Outside) → OnlyAt is_named old new → IsOfWords s → IsBeforeRun s → term new ≡ term old
+    → (s ≡ ReadFault in_port.Script → Tells old → IsSome (old.fixed.given words.image))
     → (IsOfRun s → Tells old → IsSomeAnd (files_outcome (Some words) old.fixed) (ShowsAll s old new)) → IsCaused (is_known (Some words) old.fixed) s old new → Answers words s old new
-before_run words s old new only kind before same_term run cause = record {
+before_run words s old new only kind before same_term order run cause = record {
   only = only;
   kind = kind;
   run = run;
   front = λ is. absurd (subst IsBeforeRun is before);
+  order = order;
   none = λ _. same_term;
   closed = λ is. absurd (subst IsBeforeRun is before);
+  unfinished = λ pc is. absurd (subst IsBeforeRun is before);
   cause = cause;
 }
 
@@ -64,21 +67,30 @@ reads_no_run port CoreSize stops run = run
 reads_no_run port NoMemory stops run = run
 reads_no_run port (NotBuilt place) stops run = stops
 
+image_first : in_port.Script ≡ in_port.Image → ⊥
+image_first is = cc
+
+given_where_read : (n : ℕ) (given : Option (List ℕ)) (bytes : List ℕ) → option_map (take n) given ≡ Some bytes → IsSome given
+given_where_read n None bytes is = cc
+given_where_read n (Some all) bytes is = refl
+
 -- the image could not be read
 pub image_unread : (words : RunWords) (s : Status) (old new : Outside) → OnlyAt (same (In in_port.Image)) old new → StopsReading in_port.Image s
     → IsCaused (λ _. is_given (old.fixed.given words.image)) s old new → Answers words s old new
 image_unread words s old new only stops cause =
     before_run words s old new (only_named _ _ _ named_image only) (reads_named in_port.Image tt s stops) (reads_before in_port.Image s stops) (only.others (Out out_port.Term) refl)
-    (λ run. absurd (reads_no_run in_port.Image s stops run)) (caused_reading (is_known (Some words) old.fixed) in_port.Image _ s old new refl stops cause)
+    (λ is told. absurd (image_first (subst (StopsReading in_port.Image) is stops))) (λ run. absurd (reads_no_run in_port.Image s stops run)) (caused_reading (is_known (Some words) old.fixed) in_port.Image _ s old new refl stops cause)
 
 -- the script could not be read, behind the image
-pub script_unread : (words : RunWords) (s : Status) (old middle new : Outside) → OnlyAt (same (In in_port.Image)) old middle → Calm old middle
+pub script_unread : (words : RunWords) (s : Status) (image : List ℕ) (old middle new : Outside) → OnlyAt (same (In in_port.Image)) old middle → Calm old middle
+    → (Tells old → option_map (take 2494465) (old.fixed.given words.image) ≡ Some image)
     → OnlyAt (same (In in_port.Script)) middle new → StopsReading in_port.Script s → IsCaused (λ _. is_given (middle.fixed.given words.script)) s middle new → Answers words s old new
-script_unread words s old middle new first calm second stops cause =
+script_unread words s image old middle new first calm image_is second stops cause =
     let given : is_given (old.fixed.given words.script) ≡ is_given (middle.fixed.given words.script) = ap (λ (f : Fixed). is_given (f.given words.script)) (sym first.fixed) in
     before_run words s old new (only_then _ _ _ _ (only_named _ _ _ named_image first) (only_named _ _ _ named_script second))
     (reads_named in_port.Script tt s stops) (reads_before in_port.Script s stops)
     (second.others (Out out_port.Term) refl ∙ first.others (Out out_port.Term) refl)
+    (λ _ told. given_where_read 2494465 _ image (image_is told))
     (λ run. absurd (reads_no_run in_port.Script s stops run))
     (caused_then (is_known (Some words) old.fixed) s old middle new first.fixed calm (caused_reading (is_known (Some words) old.fixed) in_port.Script _ s middle new given stops cause))
 
@@ -131,6 +143,18 @@ later_shown : (r : Result (Unit {0}) Status) → IfErr r StopsShowing → IsBefo
 later_shown (Ok u) kind before = before
 later_shown (Err s) kind before = shows_later s kind before
 
+unfinished_shown : (r : Result (Unit {0}) Status) (pc : ℕ) (P : Type 0) → (r ≡ Err (NotBuilt (unbuilt.At pc)) → P) → status_of r ≡ NotBuilt (unbuilt.At pc) → P
+unfinished_shown (Ok u) pc P unfinished is = absurd (cc)
+unfinished_shown (Err s) pc P unfinished is = unfinished (ap Err is)
+
+no_reading_shown : (r : Result (Unit {0}) Status) (port : InPort) → IfErr r StopsShowing → status_of r ≡ ReadFault port → ⊥
+no_reading_shown (Ok u) port kind is = cc
+no_reading_shown (Err s) port kind is = subst StopsShowing is kind
+
+begun_at : (ending : Option ℕ) → IsBegun (status_at ending)
+begun_at None = tt
+begun_at (Some pc) = tt
+
 closed_shown : (r : Result (Unit {0}) Status) (P : Type 0) → IfErr r StopsShowing → OnOk r P → status_of r ≡ Done → P
 closed_shown (Ok u) P kind closed is = closed
 closed_shown (Err s) P kind closed is = absurd (subst StopsShowing is kind)
@@ -153,10 +177,10 @@ module _ (words : RunWords) (image bytes : List ℕ) (old middle : Outside) (fil
   })
 
   pub script_refused : (s : Status) → RefusesScript (script_of bytes) s → Answers words s old middle
-  script_refused (NotBuilt (unbuilt.Line n)) refused = before_run words _ old middle files.only tt tt files.same_term (λ _. shows_none (unbuilt.Line n) (ap (script_outcome image words.core) refused)) files.calm
+  script_refused (NotBuilt (unbuilt.Line n)) refused = before_run words _ old middle files.only tt tt files.same_term (λ is. absurd (cc)) (λ _. shows_none (unbuilt.Line n) (ap (script_outcome image words.core) refused)) files.calm
   script_refused (NotBuilt unbuilt.Image) refused = absurd refused
   script_refused (NotBuilt (unbuilt.At pc)) refused = absurd refused
-  script_refused NoMemory refused = before_run words _ old middle files.only tt tt files.same_term (λ run. absurd run) files.calm
+  script_refused NoMemory refused = before_run words _ old middle files.only tt tt files.same_term (λ is. absurd (cc)) (λ run. absurd run) files.calm
   script_refused Done refused = absurd refused
   script_refused Usage refused = absurd refused
   script_refused (ReadFault port) refused = absurd refused
@@ -169,10 +193,10 @@ module _ (words : RunWords) (image bytes : List ℕ) (old middle : Outside) (fil
     image_is unix is = ap (script_outcome image words.core) script_is ∙ ap (λ o. image_outcome (option_map (λ u. course (started u) (events_of counts)) o)) is
 
     pub image_refused : (s : Status) → RefusesImage (boots image words.core) s → Answers words s old middle
-    image_refused (NotBuilt unbuilt.Image) refused = before_run words _ old middle files.only tt tt files.same_term (λ _. shows_none unbuilt.Image (image_is None refused)) files.calm
+    image_refused (NotBuilt unbuilt.Image) refused = before_run words _ old middle files.only tt tt files.same_term (λ is. absurd (cc)) (λ _. shows_none unbuilt.Image (image_is None refused)) files.calm
     image_refused (NotBuilt (unbuilt.Line n)) refused = absurd refused
     image_refused (NotBuilt (unbuilt.At pc)) refused = absurd refused
-    image_refused NoMemory refused = before_run words _ old middle files.only tt tt files.same_term (λ run. absurd run) files.calm
+    image_refused NoMemory refused = before_run words _ old middle files.only tt tt files.same_term (λ is. absurd (cc)) (λ run. absurd run) files.calm
     image_refused Done refused = absurd refused
     image_refused Usage refused = absurd refused
     image_refused (ReadFault port) refused = absurd refused
@@ -193,14 +217,17 @@ module _ (words : RunWords) (image bytes : List ℕ) (old middle : Outside) (fil
         shown = λ _. all.shown (still_tells _ _ _ files.only told) ∙ ap (λ (p : PortState). p.bytes ++ line_bytes 0 run.items) files.same_term;
       })
 
-      shown_front : ShowsFront middle new run → Tells old → IsSomeAnd (files_outcome (Some words) old.fixed) (ShowsFront old new)
-      shown_front front told = subst (λ o. IsSomeAnd o (ShowsFront old new)) (sym (outcome_run told))
-          (subst (λ (p : PortState). HoldsFront p.bytes (line_bytes 0 run.items) (term new).bytes) files.same_term front)
+      shown_front : HoldsFront (term middle).bytes (line_bytes 0 run.items) (term new).bytes → Tells old → IsSomeAnd (files_outcome (Some words) old.fixed) (ShowsFront old new)
+      shown_front front told = subst (λ o. IsSomeAnd o (ShowsFront old new)) (sym (outcome_run told)) (record {
+        begun = begun_at (course (started unix) (events_of counts)).ending;
+        front = subst (λ (p : PortState). HoldsFront p.bytes (line_bytes 0 run.items) (term new).bytes) files.same_term front;
+      })
 
       pub run_shown : OnlyAt (same (Out out_port.Term)) middle new → IfErr r StopsShowing → (IsOfRun (status_of r) → ShowsAll (status_of r) middle new run)
-          → (Tells middle → ShowsFront middle new run) → OnOk r ((term new).is_open ≡ false)
+          → (Tells middle → HoldsFront (term middle).bytes (line_bytes 0 run.items) (term new).bytes) → OnOk r ((term new).is_open ≡ false)
+          → ((pc : ℕ) → r ≡ Err (NotBuilt (unbuilt.At pc)) → (term new).is_open ≡ true)
           → IsCaused (λ _. is_expected (middle.fixed.expects out_port.Term) words.term) (status_of r) middle new → Answers words (status_of r) old new
-      run_shown only kind all front closed cause =
+      run_shown only kind all front closed unfinished cause =
           let expected : is_expected (old.fixed.expects out_port.Term) words.term ≡ is_expected (middle.fixed.expects out_port.Term) words.term =
           ap (λ (f : Fixed). is_expected (f.expects out_port.Term) words.term) (sym files.only.fixed) in
           record {
@@ -208,8 +235,10 @@ module _ (words : RunWords) (image bytes : List ℕ) (old middle : Outside) (fil
             kind = kind_shown r kind;
             run = λ is. shown_all is (all is);
             front = λ _ told. shown_front (front (still_tells _ _ _ files.only told)) told;
+            order = λ is. absurd (no_reading_shown r in_port.Script kind is);
             none = λ before. absurd (later_shown r kind before);
             closed = closed_shown r _ kind closed;
+            unfinished = λ pc. unfinished_shown r pc _ (unfinished pc);
             cause = caused_then (is_known (Some words) old.fixed) (status_of r) old middle new files.only.fixed files.calm
                 (cause_shown r (is_known (Some words) old.fixed) _ middle new expected kind cause);
           }

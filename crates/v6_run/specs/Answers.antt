@@ -12,7 +12,7 @@ use Rattle.v6_run.specs.declared.status.Unbuilt.TheVariants as unbuilt
 use Rattle.v6_run.specs.Words.{RunWords}
 use Rattle.v6_run.specs.Ports.{term}
 use Rattle.v6_run.specs.Causes.{IsCaused}
-use Rattle.v6_run.specs.Headline.{refused_by, files_outcome, ShowsAll, ShowsFront, IsOfRun, IsOfWords, IsBeforeRun, is_known}
+use Rattle.v6_run.specs.Headline.{refused_by, files_outcome, ShowsAll, ShowsFront, IsOfRun, IsOfWords, IsImageGiven, IsBeforeRun, is_known}
 
 -- the ports for which the words have a name
 abbrev pub is_named : Port → Bool
@@ -29,8 +29,10 @@ pub record Answers (words : RunWords) (status : Status) (old new : Outside) : Ty
   pub kind : IsOfWords status
   pub run : IsOfRun status → Tells old → IsSomeAnd (files_outcome (Some words) old.fixed) (ShowsAll status old new)
   pub front : status ≡ WriteFault out_port.Term → Tells old → IsSomeAnd (files_outcome (Some words) old.fixed) (ShowsFront old new)
+  pub order : status ≡ ReadFault in_port.Script → Tells old → IsImageGiven (Some words) old.fixed
   pub none : IsBeforeRun status → term new ≡ term old
   pub closed : status ≡ Done → (term new).is_open ≡ false
+  pub unfinished : (pc : ℕ) → status ≡ NotBuilt (unbuilt.At pc) → (term new).is_open ≡ true
   pub cause : IsCaused (is_known (Some words) old.fixed) status old new
 
 -- both files have been read, and so far nothing has been shown
@@ -72,7 +74,9 @@ pub record AnswersWords (words : Option RunWords) (status : Status) (old new : O
   pub unopened : IsSome (refused_by words) → new ≡ old
   pub run : IsOfRun status → Tells old → IsSomeAnd (files_outcome words old.fixed) (ShowsAll status old new)
   pub front : status ≡ WriteFault out_port.Term → Tells old → IsSomeAnd (files_outcome words old.fixed) (ShowsFront old new)
+  pub order : status ≡ ReadFault in_port.Script → Tells old → IsImageGiven words old.fixed
   pub none : IsBeforeRun status → term new ≡ term old
   pub closed : status ≡ Done → (term new).is_open ≡ false
+  pub unfinished : (pc : ℕ) → status ≡ NotBuilt (unbuilt.At pc) → (term new).is_open ≡ true
   pub cause : IsCaused (is_known words old.fixed) status old new
   pub unreported : status ≡ WriteFault out_port.Report → ⊥

@@ -1,6 +1,6 @@
 -- What a command answers and shows, from its words and the bytes of its files: the words first, then the script's first line
 -- that isn't built, then the form of the image, then the run.
-use Rattle.std.specs.Prelude.{◌≡◌, ⊤, ℕ, Bool, true, false, Option, Some, None, List, [], ◌++◌, take, nat_le, ◌&&◌, if◌then◌else◌}
+use Rattle.std.specs.Prelude.{◌≡◌, ⊤, ℕ, Bool, true, false, Option, Some, None, IsSome, List, [], ◌++◌, take, nat_le, ◌&&◌, if◌then◌else◌}
 use Rattle.v6_base.specs.Trace.{Item, line_bytes}
 use Rattle.v6_port.specs.declared.host.InPort.TheVariants as in_port
 use Rattle.v6_port.specs.declared.host.OutPort.TheVariants as out_port
@@ -63,9 +63,27 @@ pub record ShowsAll (status : Status) (old new : Outside) (run : Outcome) : Type
   pub answered : status ≡ run.status
   pub shown : Tells old → (term new).bytes ≡ (term old).bytes ++ line_bytes 0 run.items
 
--- the terminal's port has got a front of what the run shows
-abbrev pub ShowsFront : Outside → Outside → Outcome → Type 0
-ShowsFront old new run = HoldsFront (term old).bytes (line_bytes 0 run.items) (term new).bytes
+-- a run has begun where neither the script nor the image was refused
+abbrev pub IsBegun : Status → Type 0
+IsBegun Done = ⊤
+IsBegun Usage = ⊥
+IsBegun (ReadFault port) = ⊥
+IsBegun (WriteFault port) = ⊥
+IsBegun CoreSize = ⊥
+IsBegun NoMemory = ⊥
+IsBegun (NotBuilt unbuilt.Image) = ⊥
+IsBegun (NotBuilt (unbuilt.Line n)) = ⊥
+IsBegun (NotBuilt (unbuilt.At pc)) = ⊤
+
+-- the run has begun, and the terminal's port has got a front of what it shows
+pub record ShowsFront (old new : Outside) (run : Outcome) : Type 0 where
+  pub begun : IsBegun run.status
+  pub front : HoldsFront (term old).bytes (line_bytes 0 run.items) (term new).bytes
+
+-- the image that the words name is given
+abbrev pub IsImageGiven : Option RunWords → Fixed → Type 0
+IsImageGiven None fixed = ⊥
+IsImageGiven (Some words) fixed = IsSome (fixed.given words.image)
 
 -- the statuses that a run's files come to
 abbrev pub IsOfRun : Status → Type 0

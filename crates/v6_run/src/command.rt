@@ -1,14 +1,16 @@
 //! The command of a program's words, and its report.
-ghost use Rattle.std.specs.Prelude.{◌≡◌, ◌≤◌, ◌&&◌, ◌++◌, false, nat_le, map, string_bytes, IsSome, IsSomeAnd, MatchOption};
+ghost use Rattle.std.specs.Prelude.{◌≡◌, ℕ, ◌≤◌, ◌&&◌, ◌++◌, true, false, nat_le, map, string_bytes, IsSome, IsSomeAnd, MatchOption};
 ghost use Rattle.v6_port.specs.Outside.{Out, IsIdle, OnlyAt, Tells, is_report};
 ghost use Rattle.v6_port.specs.declared.host.OutPort.{OutPort};
 ghost use Rattle.v6_port.specs.declared.host.OutPort.TheVariants.{Term};
+ghost use Rattle.v6_port.specs.declared.host.InPort.TheVariants.{Script};
+ghost use Rattle.v6_run.specs.declared.status.Unbuilt.{Unbuilt};
 ghost use Rattle.v6_run.specs.Words.{command_of};
 ghost use Rattle.v6_run.specs.Ports.{term};
 ghost use Rattle.v6_run.specs.Fronts.{HoldsFront};
 ghost use Rattle.v6_run.specs.Report.{report, report_of};
 ghost use Rattle.v6_run.specs.Causes.{HasCause, MissesUnknown, status_of};
-ghost use Rattle.v6_run.specs.Headline.{refused_by, files_outcome, ShowsAll, ShowsFront, IsOfRun, IsOfWords, IsBeforeRun, is_touched, is_known};
+ghost use Rattle.v6_run.specs.Headline.{refused_by, files_outcome, ShowsAll, ShowsFront, IsOfRun, IsOfWords, IsImageGiven, IsBeforeRun, is_touched, is_known};
 ghost use Rattle.v6_run.specs.Answers.{AnswersWords};
 
 use crate::report::report_status;
@@ -62,8 +64,10 @@ pub fn v6<H: Host>(alloc: Global, words: &Vec<String>, host: &mut H) -> Status
         → IsSomeAnd (files_outcome (command_of (map string_bytes words.now.items)) (H.outside host.old).fixed) (ShowsAll result (H.outside host.old) (H.outside host.new)) }
     ensures front { result ≡ Status.WriteFault Term → Tells (H.outside host.old)
         → IsSomeAnd (files_outcome (command_of (map string_bytes words.now.items)) (H.outside host.old).fixed) (ShowsFront (H.outside host.old) (H.outside host.new)) }
+    ensures order { result ≡ Status.ReadFault Script → Tells (H.outside host.old) → IsImageGiven (command_of (map string_bytes words.now.items)) (H.outside host.old).fixed }
     ensures none { IsBeforeRun result → term (H.outside host.new) ≡ term (H.outside host.old) }
     ensures closed { result ≡ Status.Done → (p : OutPort) → is_report (Out p) ≡ false → ((H.outside host.new).port (Out p)).is_open ≡ false }
+    ensures unfinished { (pc : ℕ) → result ≡ Status.NotBuilt (Unbuilt.At pc) → (term (H.outside host.new)).is_open ≡ true }
 
     // A fault is answered only where its port's faults rose, and a name is missing only where it isn't known.
     ensures cause { HasCause result (H.outside host.old) (H.outside host.new) }

@@ -1,5 +1,5 @@
 //! The command `run`.
-ghost use Rattle.std.specs.Prelude.{◌≡◌, ◌<◌, ◌≤◌, ◌^◌, length, false, true, Some, IfOk, OnOk, IfErr, MatchResult, ◌++◌};
+ghost use Rattle.std.specs.Prelude.{◌≡◌, ℕ, ◌<◌, ◌≤◌, ◌^◌, length, false, true, Some, Err, IfOk, OnOk, IfErr, MatchResult, ◌++◌};
 ghost use Rattle.v6_base.specs.Trace.{line_bytes};
 ghost use Rattle.v6_port.specs.Outside.{Out, IsOpen, OnlyAt, Tells, same};
 ghost use Rattle.v6_port.specs.declared.host.OutPort.TheVariants.{Term};
@@ -11,7 +11,7 @@ ghost use Rattle.v6_run.specs.Events.{events_of};
 ghost use Rattle.v6_run.specs.Ports.{term};
 ghost use Rattle.v6_run.specs.Causes.{IsCaused, status_of};
 ghost use Rattle.v6_run.specs.Fronts.{HoldsFront};
-ghost use Rattle.v6_run.specs.Headline.{course_outcome, ShowsAll, ShowsFront, IsOfRun};
+ghost use Rattle.v6_run.specs.Headline.{course_outcome, ShowsAll, IsOfRun};
 ghost use Rattle.v6_run.specs.Answers.{Answers, HasFiles, RefusesImage, StopsShowing};
 
 use crate::files::read_file;
@@ -77,8 +77,10 @@ fn show_run<H: Host>(
     ensures kind { IfErr result StopsShowing }
     ensures run { IsOfRun (status_of result)
         → ShowsAll (status_of result) (H.outside host.old) (H.outside host.new) (course_outcome (course (started kernel.old) (events_of counts.now))) }
-    ensures front { Tells (H.outside host.old) → ShowsFront (H.outside host.old) (H.outside host.new) (course_outcome (course (started kernel.old) (events_of counts.now))) }
+    ensures front { Tells (H.outside host.old)
+        → HoldsFront (term (H.outside host.old)).bytes (line_bytes 0 (course (started kernel.old) (events_of counts.now)).items) (term (H.outside host.new)).bytes }
     ensures closed { OnOk result ((term (H.outside host.new)).is_open ≡ false) }
+    ensures unfinished { (pc : ℕ) → result ≡ Err (Status.NotBuilt (Unbuilt.At pc)) → (term (H.outside host.new)).is_open ≡ true }
     ensures cause { IsCaused (λ _. is_expected ((H.outside host.old).fixed.expects Term) name.now) (status_of result) (H.outside host.old) (H.outside host.new) }
 {
     if host.open_write(OutPort::Term, name).is_err() {

@@ -27,7 +27,7 @@ returns-in_err-script-clause-refused g c =
     let known_image : Port → Bool = λ _. is_given (old.fixed.given words.image) in
     let known_script : Port → Bool = λ _. is_given (middle.fixed.given words.script) in
     error_passed _ _ _ c.from_residual-in_err-script.ensures.1
-    (script_unread words _ old middle new first.only (calm_where_ok known_image _ _ old middle c.in_ok-image.was first.cause)
+    (script_unread words _ _ old middle new first.only (calm_where_ok known_image _ _ old middle c.in_ok-image.was first.cause) (value_where_ok _ _ _ c.in_ok-image.was first.bytes)
     second.only (error_where_err _ _ _ c.in_err-script.was second.kind) (cause_where_err known_script _ _ middle new c.in_err-script.was second.cause))
 
 pub returns-clause-files : goal.returns-clause-files

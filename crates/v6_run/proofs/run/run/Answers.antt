@@ -6,7 +6,10 @@ use Rattle.v6_port.specs.Outside.{Tells}
 use Rattle.unix_core.specs.Runs.{boots, course, started}
 use Rattle.v6_run.specs.Causes.{status_of}
 use Rattle.v6_run.specs.Events.{events_of}
-use Rattle.v6_run.specs.Headline.{course_outcome, ShowsAll, ShowsFront, IsOfRun}
+use Rattle.v6_run.specs.Headline.{course_outcome, ShowsAll, IsOfRun}
+use Rattle.v6_base.specs.Trace.{line_bytes}
+use Rattle.v6_run.specs.Fronts.{HoldsFront}
+use Rattle.v6_run.specs.Ports.{term}
 use Rattle.v6_run.proofs.ResultLemmas.{value_where_ok, error_where_err, status_passed}
 use Rattle.v6_run.proofs.AnswerLemmas.{script_refused, image_refused, run_shown}
 use Rattle.v6_run.proofs.run.run.Goals as goal
@@ -51,5 +54,5 @@ returns g c =
     let shown = c.show_run.ensures in
     let s = status_of c.show_run.result in
     let all = subst (λ (l : List ℕ). IsOfRun s → ShowsAll s middle new (course_outcome (course (started c.in_ok-kernel.kernel) (events_of l)))) c.deref-3.ensures.value shown.run in
-    let front = subst (λ (l : List ℕ). Tells middle → ShowsFront middle new (course_outcome (course (started c.in_ok-kernel.kernel) (events_of l)))) c.deref-3.ensures.value shown.front in
-    run_shown words _ _ old middle files counts script_is c.in_ok-kernel.kernel boots_is c.show_run.result new shown.only shown.kind all front shown.closed shown.cause
+    let front = subst (λ (l : List ℕ). Tells middle → HoldsFront (term middle).bytes (line_bytes 0 (course (started c.in_ok-kernel.kernel) (events_of l)).items) (term new).bytes) c.deref-3.ensures.value shown.front in
+    run_shown words _ _ old middle files counts script_is c.in_ok-kernel.kernel boots_is c.show_run.result new shown.only shown.kind all front shown.closed shown.unfinished shown.cause
