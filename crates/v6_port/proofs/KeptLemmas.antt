@@ -1,11 +1,10 @@
 -- What a change of what is kept shows outside.
 use Rattle.std.proofs.Common.{◌≡◌, ℕ, Bool, true, false, List, [], Result, Ok, Err, rules, arith, ap, subst, refl, sym}
-use Rattle.std.proofs.lemmas.Grind.{common_steps}
 use Rattle.v6_port.specs.declared.kept.Kept.{Kept}
 use Rattle.v6_port.specs.declared.host.InPort.{InPort}
 use Rattle.v6_port.specs.declared.host.OutPort.{OutPort}
 use Rattle.v6_port.specs.declared.host.Failed.{Failed}
-use Rattle.v6_port.specs.Outside.{Port, In, Out, same, in_number, out_number, port_number, PortState, Fixed, Outside, OnlyAt, Rose, Tells}
+use Rattle.v6_port.specs.Outside.{Port, In, Out, same, in_number, out_number, port_number, Fixed, OnlyAt}
 use Rattle.v6_port.specs.Calls.{HasFailed, FailedPlainly, FailedToOpen, OpensRead, OpensWrite, Reads, Writes}
 use Rattle.v6_port.specs.Kept.{silent, untold, kept_at, state_of, outside_of, KeptBut, Faults, Turns}
 

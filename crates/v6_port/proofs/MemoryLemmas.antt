@@ -1,27 +1,23 @@
 -- What the changes of a host in memory show outside.
-use Rattle.std.proofs.Common.{◌≡◌, ◌≢◌, ℕ, zero, suc, ◌+◌, ◌<◌, ◌≤◌, Bool, true, false, List, [], ◌∷◌, ◌++◌, map, length, drop, take, Ok, get_or, set, slice_index_or, slice_set, Option, Some, None, nat_eq, rules, arith, ap, subst, refl, sym, ◌∙◌}
-use Rattle.std.specs.Prelude.{◌==◌, if◌then◌else◌, string_bytes, String, MatchBool}
+use Rattle.std.proofs.Common.{◌≡◌, ◌≢◌, ℕ, zero, suc, ◌+◌, ◌<◌, ◌≤◌, true, false, List, [], ◌∷◌, ◌++◌, map, length, drop, take, Ok, get_or, slice_index_or, slice_set, Option, Some, None, nat_eq, arith, ap, subst, refl, sym, ◌∙◌}
+use Rattle.std.specs.Prelude.{if◌then◌else◌, string_bytes, String}
 use Rattle.std.specs.declared.alloc.Global.{Global}
 use Rattle.std.specs.Option.{option_map, ForSome}
 use Rattle.std.specs.Cmp.Lexicographic.{pointwise, same_text, other_text}
-use Rattle.std.proofs.lemmas.List.{get_or-map, get_or_append_left, map-append, get_or-set_other, get_or-set_same, map-set, length-map, length-set, length-append, length-take}
+use Rattle.std.proofs.lemmas.List.{get_or-map, get_or_append_left, map-append, get_or-set_other, get_or-set_same, map-set, length-map, length-append, length-take}
 use Rattle.std.proofs.Math.Seq.{map-set_same}
 use Rattle.std.proofs.lemmas.Bool.Decides.{nat_tests}
-use Rattle.std.proofs.lemmas.Grind.{common_steps}
-use Rattle.v6_port.specs.declared.host.InPort.{InPort}
-use Rattle.v6_port.specs.declared.host.InPort.TheVariants as in_port
 use Rattle.v6_port.specs.declared.host.OutPort.{OutPort}
 use Rattle.v6_port.specs.declared.host.OutPort.TheVariants as out_port
-use Rattle.v6_port.specs.declared.host.Failed.{Failed}
 use Rattle.v6_port.specs.declared.kept.Kept.{Kept}
 use Rattle.v6_port.specs.declared.files.Named.{Named}
 use Rattle.v6_port.specs.declared.files.Reading.{Reading}
 use Rattle.v6_port.specs.declared.rooms.Room.{Room}
 use Rattle.v6_port.specs.Outside.{Fixed, Port, In, Out, same, place, in_number, out_number, port_number}
 use Rattle.v6_port.specs.Kept.{kept_at, state_of, outside_of}
-use Rattle.v6_port.specs.Files.{is_named, bytes_at, first_of, given_by, left_in, memory_bytes}
-use Rattle.v6_port.specs.Memory.{Memory, memory_of, Adds, TakesRoom}
-use Rattle.v6_port.specs.Calls.{Reads, Writes}
+use Rattle.v6_port.specs.Files.{is_named, first_of, given_by, left_in, memory_bytes}
+use Rattle.v6_port.specs.Memory.{memory_of, Adds, TakesRoom}
+use Rattle.v6_port.specs.Calls.{Writes}
 
 -- texts that are tested for being equal
 same_bytes : (bytes : List ℕ) → pointwise nat_eq bytes bytes ≡ true

@@ -1,6 +1,5 @@
 -- The files and rooms that a host in memory keeps, and what is seen of them.
-use Rattle.std.specs.Prelude.{ℕ, zero, ◌-◌, Bool, List, [], ◌∷◌, map, drop, slice_index_or, Option, Some, None, if◌then◌else◌, nat_eq, string_bytes}
-use Rattle.std.specs.Option.{option_map}
+use Rattle.std.specs.Prelude.{ℕ, Bool, List, [], ◌∷◌, map, drop, slice_index_or, Option, Some, None, if◌then◌else◌, nat_eq, string_bytes}
 use Rattle.std.specs.Cmp.Lexicographic.{pointwise}
 use Rattle.v6_port.specs.declared.files.Named.{Named}
 use Rattle.v6_port.specs.declared.files.Reading.{Reading}

@@ -11,7 +11,7 @@ use Rattle.v6_port.specs.declared.files.Named.{Named}
 use Rattle.v6_port.specs.declared.files.Reading.{Reading}
 use Rattle.v6_port.specs.declared.rooms.Room.{Room}
 use Rattle.v6_port.specs.declared.mem_host.MemHost.{MemHost}
-use Rattle.v6_port.specs.Outside.{Port, In, Out, same, place, PortState, Outside}
+use Rattle.v6_port.specs.Outside.{Port, In, Out, same, place, Outside}
 use Rattle.v6_port.specs.Calls.{is_given, is_expected}
 use Rattle.v6_port.specs.Kept.{outside_of}
 use Rattle.v6_port.specs.Files.{given_by, memory_bytes}

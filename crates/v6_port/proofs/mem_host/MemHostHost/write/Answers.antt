@@ -1,6 +1,5 @@
-use Rattle.std.proofs.Common.{◌≡◌, ℕ, ◌+◌, ◌<◌, ◌≤◌, ◌++◌, length, take, min, ap, rules, arith}
+use Rattle.std.proofs.Common.{◌≡◌, ◌+◌, ◌<◌, ◌≤◌, ◌++◌, length, take, min, ap, rules, arith}
 use Rattle.v6_port.specs.declared.rooms.Room.{Room}
-use Rattle.std.proofs.lemmas.Grind.{common_steps}
 use Rattle.v6_port.proofs.MemoryLemmas.{writes, room_used, same_read}
 use Rattle.v6_port.proofs.mem_host.MemHostHost.write.Goals as goal
 use Rattle.v6_port.proofs.mem_host.MemHostHost.write.Goals.{else-is_full-via-then-is_full+else-not-is_empty, else-is_full-via-else-is_full}
