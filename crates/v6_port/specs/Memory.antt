@@ -24,6 +24,7 @@ pub record Memory : Type 0 where
   pub calls : ℕ
   pub room : OutPort → ℕ
 
+-- the same by what the host keeps
 abbrev pub memory_of : List Named → List (Option (String Global)) → List (Option Reading) → List Room → List Kept → List ℕ → ℕ → Memory
 memory_of files names readings rooms ports fails calls = record {
   outside = outside_of (record {
@@ -45,7 +46,7 @@ written m p = (m.outside.port (Out p)).bytes
 abbrev pub left : Memory → InPort → List ℕ
 left m p = (m.outside.port (In p)).bytes
 
--- A host in memory to which nothing was given yet.
+-- a host in memory with no file, no room, and no call that is to fail
 pub record IsEmpty (m : Memory) : Type 0 where
   pub tells : m.outside.fixed.tells ≡ true
   pub given : (name : List ℕ) → m.outside.fixed.given name ≡ None
@@ -54,7 +55,7 @@ pub record IsEmpty (m : Memory) : Type 0 where
   pub calls : m.calls ≡ 0
   pub room : (p : OutPort) → m.room p ≡ 0
 
--- what it takes to give a host a file
+-- A file was added, and nothing else has changed.
 pub record Adds (name bytes : List ℕ) (old new : Memory) : Type 0 where
   pub gives : new.outside.fixed.given name ≡ Some bytes
   pub others : (other : List ℕ) → other ≢ name → new.outside.fixed.given other ≡ old.outside.fixed.given other
@@ -65,7 +66,7 @@ pub record Adds (name bytes : List ℕ) (old new : Memory) : Type 0 where
   pub calls : new.calls ≡ old.calls
   pub room : new.room ≡ old.room
 
--- and to give a port its name, and room
+-- A port was given its name, and room for so many bytes more, and nothing else has changed.
 pub record TakesRoom (p : OutPort) (name : List ℕ) (more : ℕ) (old new : Memory) : Type 0 where
   pub expects : new.outside.fixed.expects p ≡ Some name
   pub room : new.room p ≡ old.room p + more
