@@ -14,3 +14,6 @@ mod words;
 
 pub use command::v6;
 pub use status::{Status, Unbuilt};
+
+#[cfg(test)]
+mod tests;
