@@ -1,4 +1,4 @@
--- What a status says of the ports: a fault is answered only where the port's count of faults rose.
+-- What a status says of the ports, by docs/manual/commands.md: a fault is answered only where the port's count of faults rose.
 use Rattle.std.specs.Prelude.{◌≡◌, ⊤, Bool, true, false, Result, Ok, Err}
 use Rattle.v6_port.specs.declared.host.InPort.{InPort}
 use Rattle.v6_port.specs.Outside.{Port, In, Out, same, is_report, Outside, Tells, Rose}

@@ -1,4 +1,4 @@
--- What a script makes happen.
+-- What a script makes happen, by docs/manual/scripts.md.
 use Rattle.std.specs.Prelude.{ℕ, List, replicate, flat_map}
 use Rattle.unix_core.specs.Runs.{Event, Slot}
 

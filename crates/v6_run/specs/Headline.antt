@@ -1,5 +1,5 @@
 -- What a command answers and shows, from its words and the bytes of its files: the words first, then the script's first line
--- that isn't built, then the form of the image, then the run.
+-- that isn't built, then the form of the image, then the run. The order is that of docs/manual/commands.md.
 use Rattle.std.specs.Prelude.{◌≡◌, ⊤, ℕ, Bool, true, false, Option, Some, None, IsSome, List, [], ◌++◌, take, nat_le, ◌&&◌, if◌then◌else◌}
 use Rattle.v6_base.specs.Trace.{Item, line_bytes}
 use Rattle.v6_port.specs.declared.host.InPort.TheVariants as in_port

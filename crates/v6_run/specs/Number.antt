@@ -1,4 +1,4 @@
--- Numbers as commands and scripts write them: one to nine decimal digits.
+-- Numbers as commands and scripts write them, by docs/manual/commands.md and scripts.md: one to nine decimal digits.
 use Rattle.std.specs.Prelude.{ℕ, Bool, Option, Some, None, List, length, nat_lt, nat_le, ◌&&◌, if◌then◌else◌}
 use Rattle.std.specs.List.{list_all}
 use Rattle.std.specs.Char.{is_ascii_digit}

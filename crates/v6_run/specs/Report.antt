@@ -1,5 +1,5 @@
 -- The line that a command writes to Report for its status; it writes nothing where it was done.
--- The lines are those of docs/manual/commands.md, "Reports".
+-- The lines are those of docs/manual/commands.md.
 use Rattle.std.specs.Prelude.{ℕ, List, [], ◌∷◌, ◌++◌, codes, decimal}
 use Rattle.v6_port.specs.declared.host.InPort.{InPort}
 use Rattle.v6_port.specs.declared.host.InPort.TheVariants as in_port

@@ -1,5 +1,4 @@
--- Scripts: what each line asks for, and the first line that is not built.
---
+-- Scripts, by docs/manual/scripts.md: what each line asks for, and the first line that is not built.
 -- A script is lines that end by LF; the last may lack it. A CR right before an LF is dropped.
 -- The one line that is built is `run N`, N slots. A script has at most 200,000,000 slots and 1,048,576 bytes.
 use Rattle.std.specs.Prelude.{◌≡◌, ⊤, ℕ, ◌+◌, Bool, not, Option, Some, None, is_some, unwrap_or, List, [], ◌∷◌, length, take, drop, map, sum_by, nat_eq, nat_le, ◌==◌, ◌&&◌, if◌then◌else◌, codes}

@@ -1,4 +1,4 @@
--- The words of a command, without the program's name.
+-- The words of a command, without the program's name, by docs/manual/commands.md.
 use Rattle.std.specs.Prelude.{ℕ, Bool, true, false, Option, Some, None, List, [], ◌∷◌, nat_eq, codes}
 use Rattle.std.specs.Cmp.Lexicographic.{pointwise}
 use Rattle.v6_run.specs.Number.{number_of}
