@@ -1,0 +1,12 @@
+#!/bin/sh
+# Runs the disk of this folder and prints what the terminal got. Where the program isn't built yet, it is proved and built first,
+# which takes some minutes.
+set -eu
+cd "$(dirname "$0")/../.."
+if [ ! -x crates/v6/out/v6 ]; then
+    (cd crates/v6 && rt run >/dev/null)
+fi
+out=$(mktemp -d)
+trap 'rm -rf "$out"' EXIT
+crates/v6/out/v6 run examples/hi/image 1200 examples/hi/script "$out/term" "$out/log" "$out/final"
+cat "$out/term"
