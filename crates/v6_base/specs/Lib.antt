@@ -1,1 +1,6 @@
 pub mod Trace
+pub mod Image
+pub mod Access
+pub mod Words
+pub mod Sizes
+pub mod Whole
