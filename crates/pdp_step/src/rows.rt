@@ -1,0 +1,390 @@
+//! The rows of the instructions: operands, result, and what is left to store.
+ghost use Rattle.std.specs.Prelude.{◌≡◌, ◌<◌, ℕ, if◌then◌else◌};
+ghost use Rattle.pdp_decode.specs.Numbers.{flag_bits};
+ghost use Rattle.pdp_step.specs.Registers.{codes_in};
+ghost use Rattle.pdp_step.specs.Arithmetic.{size, result_of};
+ghost use Rattle.pdp_step.specs.Rows.{keep_of, merged, put_of, sign_extended, move_of, moved, compared, joined, joined_reg, modified, exchanged, written, tested, sign_made, counted, distance_of, branched, address_of, jumped, called, popped, returned, marked, resumed, named_codes};
+ghost use Rattle.pdp_step.specs.Instruction.{go};
+ghost use Rattle.pdp_step.specs.Behind.{effect_by, planned_by, popped_by};
+
+use crate::arithmetic::{Change, Combine, Made, changed, combined, outcome, swap, taken};
+use crate::operands::{Spot, fetch, form};
+use crate::outcome::Demand;
+use crate::regs::{Bank, Regs, carry, codes, held, hold, pack};
+use pdp_decode::{Condition, Flags, Operand, Reg, Width};
+use v6_base::{Space, Trap};
+
+/// What an instruction has left to store.
+#[derive(Clone, Copy, Debug, PartialEq, Eq)]
+pub enum Store {
+    NoStore,
+    ByteAt(u16, u8),
+    WordAt(u16, u16),
+    /// At the address that R6 has been lowered to.
+    PushAt(u16, u16),
+}
+
+/// Why an instruction is not done.
+#[derive(Clone, Copy, Debug, PartialEq, Eq)]
+pub enum Halt {
+    /// With everything as it was.
+    HaltStill(Trap),
+    /// With PC behind the word.
+    HaltPast(Demand),
+}
+
+impl From<Trap> for Halt {
+    ghost use Rattle.pdp_step.specs.declared.rows.Halt.{Halt};
+
+    ghost from_gives = { λ trap halt. halt ≡ Halt.HaltStill trap };
+
+    #[inline(always)]
+    fn from(trap: Trap) -> Halt {
+        Halt::HaltStill(trap)
+    }
+}
+
+// A result that goes where the operand was found.
+#[inline(always)]
+#[tactic(auto, unfolding(crate::specs::Rows::put_of))]
+fn put(regs: &mut Regs, width: Width, spot: Spot, made: Made) -> Store
+    requires codes { made.cc < 16 }
+    requires small { made.value < size width }
+    ensures { effect_by result regs.new.r regs.new.cc ≡ put_of regs.old.r width spot made }
+{
+    regs.cc = made.cc;
+    match spot {
+        Spot::InRegister(n) => {
+            let value = merge(width, held(&regs.r, n), made.value);
+            hold(&mut regs.r, n, value);
+            Store::NoStore
+        }
+        Spot::InMemory(at) => match width {
+            Width::Word => Store::WordAt(at, made.value),
+            Width::Byte => Store::ByteAt(at, made.value as u8),
+        },
+    }
+}
+
+// A value that goes into a register; a byte leaves the high byte.
+#[inline(always)]
+fn merge(width: Width, old: u16, value: u16) -> u16
+    requires { value < size width }
+    ensures { result ≡ merged width old value }
+{
+    match width {
+        Width::Word => value,
+        Width::Byte => 256 * (old / 256) + value,
+    }
+}
+
+// A byte with its sign carried on.
+#[inline(always)]
+fn extend(b: u16) -> u16
+    requires { b < 256 }
+    ensures { result ≡ sign_extended b }
+{
+    if b >= 0o200 { b + 0o177400 } else { b }
+}
+
+// What was moved: a byte that goes into a register carries its sign on.
+#[inline(always)]
+#[tactic(auto, unfolding(crate::specs::Rows::move_of))]
+fn put_moved(regs: &mut Regs, width: Width, spot: Spot, made: Made) -> Store
+    requires codes { made.cc < 16 }
+    requires small { made.value < size width }
+    ensures { effect_by result regs.new.r regs.new.cc ≡ move_of regs.old.r width spot made }
+{
+    match width {
+        Width::Word => put(regs, width, spot, made),
+        Width::Byte => match spot {
+            Spot::InRegister(n) => {
+                regs.cc = made.cc;
+                hold(&mut regs.r, n, extend(made.value));
+                Store::NoStore
+            }
+            Spot::InMemory(_) => put(regs, width, spot, made),
+        },
+    }
+}
+
+#[inline(always)]
+#[tactic(auto, unfolding(crate::specs::Rows::moved))]
+pub fn move_to<S: Space>(
+    space: &S,
+    regs: &mut Regs,
+    w: Width,
+    s: Operand,
+    d: Operand,
+) -> Result<Store, Halt>
+    ensures { planned_by result regs.new.r regs.new.cc ≡ go (moved (S.image space.now) regs.old.r regs.old.cc w s d) }
+{
+    let source = fetch(space, &mut regs.r, w, s)?;
+    let spot = form(space, &mut regs.r, w, d)?;
+    let made = outcome(w, source.value, false, carry(regs.cc));
+    Ok(put_moved(regs, w, spot, made))
+}
+
+#[inline(always)]
+#[tactic(auto, unfolding(crate::specs::Rows::compared))]
+pub fn compare<S: Space>(
+    space: &S,
+    regs: &mut Regs,
+    w: Width,
+    s: Operand,
+    d: Operand,
+    op: Combine,
+) -> Result<Store, Halt>
+    ensures { planned_by result regs.new.r regs.new.cc ≡ go (compared (S.image space.now) regs.old.r regs.old.cc w s d op) }
+{
+    let source = fetch(space, &mut regs.r, w, s)?;
+    let dest = fetch(space, &mut regs.r, w, d)?;
+    let made = combined(op, w, source.value, dest.value, carry(regs.cc));
+    regs.cc = made.cc;
+    Ok(Store::NoStore)
+}
+
+#[inline(always)]
+#[tactic(auto, unfolding(crate::specs::Rows::joined))]
+pub fn join<S: Space>(
+    space: &S,
+    regs: &mut Regs,
+    w: Width,
+    s: Operand,
+    d: Operand,
+    op: Combine,
+) -> Result<Store, Halt>
+    ensures { planned_by result regs.new.r regs.new.cc ≡ go (joined (S.image space.now) regs.old.r regs.old.cc w s d op) }
+{
+    let source = fetch(space, &mut regs.r, w, s)?;
+    let dest = fetch(space, &mut regs.r, w, d)?;
+    let made = combined(op, w, source.value, dest.value, carry(regs.cc));
+    Ok(put(regs, w, dest.spot, made))
+}
+
+#[inline(never)]
+#[tactic(auto, unfolding(crate::specs::Rows::joined_reg))]
+pub fn join_reg<S: Space>(
+    space: &S,
+    regs: &mut Regs,
+    n: Reg,
+    d: Operand,
+    op: Combine,
+) -> Result<Store, Halt>
+    ensures { planned_by result regs.new.r regs.new.cc ≡ go (joined_reg (S.image space.now) regs.old.r regs.old.cc n d op) }
+{
+    let source = held(&regs.r, n);
+    let dest = fetch(space, &mut regs.r, Width::Word, d)?;
+    let made = combined(op, Width::Word, source, dest.value, carry(regs.cc));
+    Ok(put(regs, Width::Word, dest.spot, made))
+}
+
+#[inline(never)]
+#[tactic(auto, unfolding(crate::specs::Rows::modified))]
+pub fn modify<S: Space>(
+    space: &S,
+    regs: &mut Regs,
+    w: Width,
+    d: Operand,
+    op: Change,
+) -> Result<Store, Halt>
+    ensures { planned_by result regs.new.r regs.new.cc ≡ go (modified (S.image space.now) regs.old.r regs.old.cc w d op) }
+{
+    let dest = fetch(space, &mut regs.r, w, d)?;
+    let made = changed(op, w, dest.value, carry(regs.cc));
+    Ok(put(regs, w, dest.spot, made))
+}
+
+#[inline(never)]
+#[tactic(auto, unfolding(crate::specs::Rows::exchanged))]
+pub fn exchange<S: Space>(space: &S, regs: &mut Regs, d: Operand) -> Result<Store, Halt>
+    ensures { planned_by result regs.new.r regs.new.cc ≡ go (exchanged (S.image space.now) regs.old.r d) }
+{
+    let dest = fetch(space, &mut regs.r, Width::Word, d)?;
+    let made = swap(dest.value);
+    Ok(put(regs, Width::Word, dest.spot, made))
+}
+
+#[inline(never)]
+#[tactic(auto, unfolding(crate::specs::Rows::written))]
+pub fn write<S: Space>(
+    space: &S,
+    regs: &mut Regs,
+    w: Width,
+    d: Operand,
+    made: Made,
+) -> Result<Store, Halt>
+    requires codes { made.cc < 16 }
+    requires small { made.value < size w }
+    ensures { planned_by result regs.new.r regs.new.cc ≡ go (written (S.image space.now) regs.old.r w d made) }
+{
+    let spot = form(space, &mut regs.r, w, d)?;
+    Ok(put(regs, w, spot, made))
+}
+
+#[inline(never)]
+#[tactic(auto, unfolding(crate::specs::Rows::tested))]
+pub fn test<S: Space>(space: &S, regs: &mut Regs, w: Width, d: Operand) -> Result<Store, Halt>
+    ensures { planned_by result regs.new.r regs.new.cc ≡ go (tested (S.image space.now) regs.old.r w d) }
+{
+    let dest = fetch(space, &mut regs.r, w, d)?;
+    regs.cc = outcome(w, dest.value, false, false).cc;
+    Ok(Store::NoStore)
+}
+
+/// What SXT writes.
+#[inline(always)]
+pub fn sign(cc: u8) -> Made
+    ensures made { result ≡ sign_made cc }
+    ensures codes { result.cc < 16 }
+{
+    let k = codes(cc);
+    let value = if k.n { 65535 } else { 0 };
+    Made {
+        value,
+        cc: pack(k.n, !k.n, false, k.c),
+    }
+}
+
+#[inline(always)]
+#[tactic(auto, unfolding(crate::specs::Rows::counted))]
+pub fn count(regs: &mut Regs, n: Reg, words: u8) -> Store
+    ensures { effect_by result regs.new.r regs.new.cc ≡ counted regs.old.r regs.old.cc n words }
+{
+    let left = held(&regs.r, n).wrapping_sub(1);
+    hold(&mut regs.r, n, left);
+    if held(&regs.r, n) != 0 {
+        let pc = held(&regs.r, Reg::Pc).wrapping_sub(2 * words as u16);
+        hold(&mut regs.r, Reg::Pc, pc);
+    }
+    Store::NoStore
+}
+
+#[inline(always)]
+fn distance(offset: u8) -> u16
+    ensures { result ≡ distance_of offset }
+{
+    if offset < 128 {
+        2 * offset as u16
+    } else {
+        2 * offset as u16 + 65024
+    }
+}
+
+#[inline(always)]
+#[tactic(auto, unfolding(crate::specs::Rows::branched))]
+pub fn branch(regs: &mut Regs, test: Condition, offset: u8) -> Store
+    ensures { effect_by result regs.new.r regs.new.cc ≡ branched regs.old.r regs.old.cc test offset }
+{
+    if taken(test, codes(regs.cc)) {
+        let pc = held(&regs.r, Reg::Pc).wrapping_add(distance(offset));
+        hold(&mut regs.r, Reg::Pc, pc);
+    }
+    Store::NoStore
+}
+
+// The address of an operand; `decode` gives none in a register.
+#[inline(always)]
+fn place(spot: Spot) -> u16
+    ensures { result ≡ address_of spot }
+{
+    match spot {
+        Spot::InRegister(_) => 0,
+        Spot::InMemory(at) => at,
+    }
+}
+
+#[inline(never)]
+#[tactic(auto, unfolding(crate::specs::Rows::jumped))]
+pub fn jump<S: Space>(space: &S, regs: &mut Regs, d: Operand) -> Result<Store, Halt>
+    ensures { planned_by result regs.new.r regs.new.cc ≡ go (jumped (S.image space.now) regs.old.r regs.old.cc d) }
+{
+    let spot = form(space, &mut regs.r, Width::Word, d)?;
+    hold(&mut regs.r, Reg::Pc, place(spot));
+    Ok(Store::NoStore)
+}
+
+#[inline(never)]
+#[tactic(auto, unfolding(crate::specs::Rows::called))]
+pub fn call<S: Space>(space: &S, regs: &mut Regs, link: Reg, d: Operand) -> Result<Store, Halt>
+    ensures { planned_by result regs.new.r regs.new.cc ≡ go (called (S.image space.now) regs.old.r regs.old.cc link d) }
+{
+    let spot = form(space, &mut regs.r, Width::Word, d)?;
+    let pushed = held(&regs.r, link);
+    let sp = held(&regs.r, Reg::Sp).wrapping_sub(2);
+    hold(&mut regs.r, Reg::Sp, sp);
+    let pc = held(&regs.r, Reg::Pc);
+    hold(&mut regs.r, link, pc);
+    hold(&mut regs.r, Reg::Pc, place(spot));
+    Ok(Store::PushAt(sp, pushed))
+}
+
+// The word that R6 names, which R6 passes.
+#[inline(always)]
+#[tactic(auto, unfolding(crate::specs::Rows::popped, crate::specs::Operands::word_at))]
+fn pop<S: Space>(space: &S, r: &mut Bank) -> Result<u16, Trap>
+    ensures { popped_by result r.new ≡ popped (S.image space.now) r.old }
+{
+    let at = held(r, Reg::Sp);
+    hold(r, Reg::Sp, at.wrapping_add(2));
+    space.load_word(at)
+}
+
+#[inline(never)]
+#[tactic(auto, unfolding(crate::specs::Rows::returned))]
+pub fn return_by<S: Space>(space: &S, regs: &mut Regs, link: Reg) -> Result<Store, Halt>
+    ensures { planned_by result regs.new.r regs.new.cc ≡ go (returned (S.image space.now) regs.old.r regs.old.cc link) }
+{
+    let pc = held(&regs.r, link);
+    hold(&mut regs.r, Reg::Pc, pc);
+    let top = pop(space, &mut regs.r)?;
+    hold(&mut regs.r, link, top);
+    Ok(Store::NoStore)
+}
+
+#[inline(never)]
+#[tactic(auto, unfolding(crate::specs::Rows::marked))]
+pub fn mark<S: Space>(space: &S, regs: &mut Regs, words: u8) -> Result<Store, Halt>
+    ensures { planned_by result regs.new.r regs.new.cc ≡ go (marked (S.image space.now) regs.old.r regs.old.cc words) }
+{
+    let sp = held(&regs.r, Reg::Pc).wrapping_add(2 * words as u16);
+    hold(&mut regs.r, Reg::Sp, sp);
+    let pc = held(&regs.r, Reg::R5);
+    hold(&mut regs.r, Reg::Pc, pc);
+    let top = pop(space, &mut regs.r)?;
+    hold(&mut regs.r, Reg::R5, top);
+    Ok(Store::NoStore)
+}
+
+#[inline(never)]
+#[tactic(auto, unfolding(crate::specs::Rows::resumed))]
+pub fn resume<S: Space>(space: &S, regs: &mut Regs) -> Result<Store, Halt>
+    ensures { planned_by result regs.new.r regs.new.cc ≡ go (resumed (S.image space.now) regs.old.r) }
+{
+    let pc = pop(space, &mut regs.r)?;
+    let ps = pop(space, &mut regs.r)?;
+    hold(&mut regs.r, Reg::Pc, pc);
+    regs.cc = (ps % 16) as u8;
+    Ok(Store::NoStore)
+}
+
+#[inline(never)]
+pub fn set_codes(regs: &mut Regs, set: bool, names: Flags) -> Store
+    ensures { effect_by result regs.new.r regs.new.cc ≡ keep_of regs.old.r (flag_bits (named_codes set names (codes_in regs.old.cc))) }
+{
+    let k = codes(regs.cc);
+    regs.cc = pack(
+        chosen(names.n, set, k.n),
+        chosen(names.z, set, k.z),
+        chosen(names.v, set, k.v),
+        chosen(names.c, set, k.c),
+    );
+    Store::NoStore
+}
+
+#[inline(always)]
+fn chosen(named: bool, set: bool, old: bool) -> bool
+    ensures { result ≡ (if named then set else old) }
+{
+    if named { set } else { old }
+}

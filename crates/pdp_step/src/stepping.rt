@@ -1,0 +1,167 @@
+//! One instruction: first it is planned on a copy of the registers, then its one store is made, then the registers change.
+ghost use Rattle.std.specs.Prelude.{◌≡◌, ℕ};
+ghost use Rattle.v6_base.specs.Access.{image_after, answer_of};
+ghost use Rattle.pdp_step.specs.Registers.{passed};
+ghost use Rattle.pdp_decode.specs.Decode.{decode_of};
+ghost use Rattle.pdp_step.specs.Operands.{stop_with};
+ghost use Rattle.pdp_step.specs.Outcomes.{stop_outcome, demand_outcome, IsStill, IsPast};
+ghost use Rattle.pdp_step.specs.Instruction.{row_of, plan_of, stored, sp_at, stepped, instr};
+ghost use Rattle.pdp_step.specs.Behind.{planned_by};
+
+use crate::arithmetic::{Change, Combine, outcome};
+use crate::outcome::{Demand, Kind, Outcome};
+use crate::pairs::{divide, multiply, shift_pair, shift_reg};
+use crate::regs::{Bank, Regs, held, pass};
+use crate::rows::{
+    Halt, Store, branch, call, compare, count, exchange, join, join_reg, jump, mark, modify,
+    move_to, resume, return_by, set_codes, sign, test, write,
+};
+use pdp_decode::{Instr, Reg, SoftTrap, Width, decode};
+use v6_base::{Space, Trap};
+
+/// One instruction: the word at PC is fetched, PC passes it, and what its row says is done. After a fault it was not done:
+/// `Odd` and `Segment` leave everything as it was, the other faults and a call have moved PC behind the word alone.
+#[inline(always)]
+#[tactic(auto, unfolding(crate::specs::Instruction::instr))]
+pub fn step<S: Space>(regs: &mut Regs, space: &mut S) -> Outcome
+    ensures step { stepped result regs.new.r regs.new.cc (S.image space.new) ≡ instr regs.old.r regs.old.cc (S.image space.old) }
+    ensures rest { S.rest space.new ≡ S.rest space.old }
+    ensures still { IsStill result → (regs.new.r ≡ regs.old.r) × (regs.new.cc ≡ regs.old.cc) × (S.image space.new ≡ S.image space.old) }
+    ensures past { IsPast result → (regs.new.r ≡ passed regs.old.r) × (regs.new.cc ≡ regs.old.cc) × (S.image space.new ≡ S.image space.old) }
+{
+    let mut after = *regs;
+    match plan(space, &mut after) {
+        Ok(store) => match commit(space, store) {
+            Ok(()) => {
+                *regs = after;
+                Outcome::Next
+            }
+            Err(trap) => stopped(trap, reached(&after.r, store)),
+        },
+        Err(Halt::HaltPast(demand)) => {
+            pass(&mut regs.r);
+            demanded(demand)
+        }
+        Err(Halt::HaltStill(trap)) => stopped(trap, held(&after.r, Reg::Sp)),
+    }
+}
+
+// What an instruction does to the registers, and what it has left to store.
+#[inline(always)]
+#[tactic(auto, unfolding(crate::specs::Instruction::plan_of, crate::specs::Operands::word_at))]
+fn plan<S: Space>(space: &S, regs: &mut Regs) -> Result<Store, Halt>
+    ensures { planned_by result regs.new.r regs.new.cc ≡ plan_of (S.image space.now) regs.old.r regs.old.cc }
+{
+    let word = space.load_word(held(&regs.r, Reg::Pc))?;
+    pass(&mut regs.r);
+    perform(space, word, regs)
+}
+
+// The table of instructions.
+#[inline(always)]
+#[tactic(auto, unfolding(crate::specs::Instruction::row_of))]
+fn perform<S: Space>(space: &S, word: u16, regs: &mut Regs) -> Result<Store, Halt>
+    ensures { planned_by result regs.new.r regs.new.cc ≡ row_of (S.image space.now) word (decode_of word) regs.old.r regs.old.cc }
+{
+    match decode(word) {
+        Instr::Mov(Width::Word, s, d) => move_to(space, regs, Width::Word, s, d),
+        Instr::Mov(Width::Byte, s, d) => move_to(space, regs, Width::Byte, s, d),
+        Instr::Cmp(Width::Word, s, d) => compare(space, regs, Width::Word, s, d, Combine::Compare),
+        Instr::Cmp(Width::Byte, s, d) => compare(space, regs, Width::Byte, s, d, Combine::Compare),
+        Instr::Bit(Width::Word, s, d) => compare(space, regs, Width::Word, s, d, Combine::TestBits),
+        Instr::Bit(Width::Byte, s, d) => compare(space, regs, Width::Byte, s, d, Combine::TestBits),
+        Instr::Bic(Width::Word, s, d) => join(space, regs, Width::Word, s, d, Combine::ClearBits),
+        Instr::Bic(Width::Byte, s, d) => join(space, regs, Width::Byte, s, d, Combine::ClearBits),
+        Instr::Bis(Width::Word, s, d) => join(space, regs, Width::Word, s, d, Combine::SetBits),
+        Instr::Bis(Width::Byte, s, d) => join(space, regs, Width::Byte, s, d, Combine::SetBits),
+        Instr::Add(s, d) => join(space, regs, Width::Word, s, d, Combine::Sum),
+        Instr::Sub(s, d) => join(space, regs, Width::Word, s, d, Combine::Difference),
+        Instr::Clr(w, d) => write(space, regs, w, d, outcome(w, 0, false, false)),
+        Instr::Com(w, d) => modify(space, regs, w, d, Change::Complement),
+        Instr::Inc(w, d) => modify(space, regs, w, d, Change::Increase),
+        Instr::Dec(w, d) => modify(space, regs, w, d, Change::Decrease),
+        Instr::Neg(w, d) => modify(space, regs, w, d, Change::Negate),
+        Instr::Adc(w, d) => modify(space, regs, w, d, Change::AddCarry),
+        Instr::Sbc(w, d) => modify(space, regs, w, d, Change::SubtractCarry),
+        Instr::Tst(w, d) => test(space, regs, w, d),
+        Instr::Ror(w, d) => modify(space, regs, w, d, Change::RotateRight),
+        Instr::Rol(w, d) => modify(space, regs, w, d, Change::RotateLeft),
+        Instr::Asr(w, d) => modify(space, regs, w, d, Change::ShiftRight),
+        Instr::Asl(w, d) => modify(space, regs, w, d, Change::ShiftLeft),
+        Instr::Swab(d) => exchange(space, regs, d),
+        Instr::Sxt(d) => write(space, regs, Width::Word, d, sign(regs.cc)),
+        Instr::Mul(n, s) => multiply(space, regs, n, s),
+        Instr::Div(n, s) => divide(space, regs, n, s),
+        Instr::Ash(n, s) => shift_reg(space, regs, n, s),
+        Instr::Ashc(n, s) => shift_pair(space, regs, n, s),
+        Instr::Xor(n, d) => join_reg(space, regs, n, d, Combine::ExclusiveOr),
+        Instr::Sob(n, words) => Ok(count(regs, n, words)),
+        Instr::Branch(condition, offset) => Ok(branch(regs, condition, offset)),
+        Instr::Jmp(d) => jump(space, regs, d),
+        Instr::Jsr(n, d) => call(space, regs, n, d),
+        Instr::Rts(n) => return_by(space, regs, n),
+        Instr::Mark(words) => mark(space, regs, words),
+        Instr::Rti => resume(space, regs),
+        Instr::Codes(set, names) => Ok(set_codes(regs, set, names)),
+        Instr::Wait => Ok(Store::NoStore),
+        Instr::SoftTrap(SoftTrap::Bpt) => Err(Halt::HaltPast(Demand::Breakpoint)),
+        Instr::SoftTrap(SoftTrap::Iot) => Err(Halt::HaltPast(Demand::InputOutput)),
+        Instr::Emt => Err(Halt::HaltPast(Demand::Emulator)),
+        Instr::Sys(n) => Err(Halt::HaltPast(Demand::System(n))),
+        Instr::Illegal => Err(Halt::HaltPast(Demand::Unknown(word))),
+    }
+}
+
+// Makes what is left to store.
+#[inline(always)]
+#[tactic(auto, unfolding(crate::specs::Instruction::stored))]
+fn commit<S: Space>(space: &mut S, store: Store) -> Result<(), Trap>
+    ensures answer { result ≡ answer_of (stored (S.image space.old) store) }
+    ensures image { S.image space.new ≡ image_after (S.image space.old) (stored (S.image space.old) store) }
+    ensures rest { S.rest space.new ≡ S.rest space.old }
+{
+    match store {
+        Store::NoStore => Ok(()),
+        Store::ByteAt(at, value) => space.store_byte(at, value),
+        Store::WordAt(at, value) => space.store_word(at, value),
+        Store::PushAt(at, value) => space.store_word(at, value),
+    }
+}
+
+// R6 as it stands at a store.
+#[inline(always)]
+fn reached(r: &Bank, store: Store) -> u16
+    ensures { result ≡ sp_at r.now store }
+{
+    match store {
+        Store::NoStore => held(r, Reg::Sp),
+        Store::ByteAt(_, _) => held(r, Reg::Sp),
+        Store::WordAt(_, _) => held(r, Reg::Sp),
+        Store::PushAt(at, _) => at,
+    }
+}
+
+#[inline(always)]
+fn stopped(trap: Trap, sp: u16) -> Outcome
+    ensures outcome { result ≡ stop_outcome (stop_with trap sp) }
+    ensures not_past { IsPast result → ⊥ }
+{
+    match trap {
+        Trap::Odd => Outcome::Fault(Kind::Odd),
+        Trap::Segment => Outcome::Fault(Kind::Segment { sp }),
+    }
+}
+
+#[inline(always)]
+fn demanded(demand: Demand) -> Outcome
+    ensures outcome { result ≡ demand_outcome demand }
+    ensures not_still { IsStill result → ⊥ }
+{
+    match demand {
+        Demand::System(n) => Outcome::Call(n),
+        Demand::Unknown(word) => Outcome::Fault(Kind::Illegal(word)),
+        Demand::Breakpoint => Outcome::Fault(Kind::Bpt),
+        Demand::InputOutput => Outcome::Fault(Kind::Iot),
+        Demand::Emulator => Outcome::Fault(Kind::Emt),
+    }
+}
