@@ -1,15 +1,15 @@
 -- What a function answers, joined with the registers and codes that it leaves behind its `&mut`.
 use Rattle.std.specs.Prelude.{ℕ, List, Result, Ok, Err}
 use Rattle.v6_base.specs.declared.space.Trap.{Trap}
+use Rattle.v6_base.specs.Image.{Image}
 use Rattle.pdp_step.specs.declared.operands.Spot.{Spot}
 use Rattle.pdp_step.specs.declared.operands.Spot.TheVariants.{InMemory}
 use Rattle.pdp_step.specs.declared.operands.Found.{Found}
-use Rattle.pdp_step.specs.declared.rows.Store.{Store}
 use Rattle.pdp_step.specs.declared.rows.Halt.{Halt}
 use Rattle.pdp_step.specs.declared.rows.Halt.TheVariants.{HaltStill, HaltPast}
 use Rattle.pdp_step.specs.Operands.{Stop, stop_of, Formed, Fetched}
-use Rattle.pdp_step.specs.Rows.{Effect, Popped}
-use Rattle.pdp_step.specs.Instruction.{Planned, Go, Past, Still}
+use Rattle.pdp_step.specs.Rows.{Popped}
+use Rattle.pdp_step.specs.Instruction.{Finished, Done, Passed, Stopped}
 
 abbrev pub formed_by : Result Spot Trap → List ℕ → Result Formed Stop
 formed_by (Ok spot) r = Ok (record { spot = spot; r = r })
@@ -27,10 +27,11 @@ abbrev pub popped_by : Result ℕ Trap → List ℕ → Result Popped Stop
 popped_by (Ok value) r = Ok (record { value = value; r = r })
 popped_by (Err trap) r = Err (stop_of trap r)
 
-abbrev pub effect_by : Store → List ℕ → ℕ → Effect
-effect_by store r cc = record { r = r; cc = cc; store = store }
+abbrev pub stored_by : Result (Unit {0}) Trap → List ℕ → ℕ → Image → Finished
+stored_by (Ok done) r cc m = Done r cc m
+stored_by (Err trap) r cc m = Stopped (stop_of trap r) m
 
-abbrev pub planned_by : Result Store Halt → List ℕ → ℕ → Planned
-planned_by (Ok store) r cc = Go (effect_by store r cc)
-planned_by (Err (HaltPast demand)) r cc = Past demand
-planned_by (Err (HaltStill trap)) r cc = Still (stop_of trap r)
+abbrev pub finished_by : Result (Unit {0}) Halt → List ℕ → ℕ → Image → Finished
+finished_by (Ok done) r cc m = Done r cc m
+finished_by (Err (HaltPast demand)) r cc m = Passed demand m
+finished_by (Err (HaltStill trap)) r cc m = Stopped (stop_of trap r) m

@@ -11,8 +11,6 @@ use Rattle.pdp_decode.specs.declared.instr.Instr.{Instr}
 use Rattle.pdp_decode.specs.declared.instr.Instr.TheVariants.{Mov, Cmp, Bit, Bic, Bis, Add, Sub, Clr, Com, Inc, Dec, Neg, Adc, Sbc, Tst, Ror, Rol, Asr, Asl, Swab, Sxt, Mul, Div, Ash, Ashc, Xor, Sob, Branch, Jmp, Jsr, Rts, Mark, Rti, Codes, Wait, SoftTrap, Emt, Sys, Illegal}
 use Rattle.pdp_decode.specs.Numbers.{flag_bits}
 use Rattle.pdp_decode.specs.Decode.{decode_of}
-use Rattle.pdp_step.specs.declared.rows.Store.{Store}
-use Rattle.pdp_step.specs.declared.rows.Store.TheVariants.{NoStore, ByteAt, WordAt, PushAt}
 use Rattle.pdp_step.specs.declared.outcome.Demand.{Demand}
 use Rattle.pdp_step.specs.declared.outcome.Demand.TheVariants.{System, Unknown, Breakpoint, InputOutput, Emulator}
 use Rattle.pdp_step.specs.declared.arithmetic.Change.TheVariants.{Complement, Increase, Decrease, Negate, AddCarry, SubtractCarry, RotateRight, RotateLeft, ShiftRight, ShiftLeft}
@@ -23,7 +21,7 @@ use Rattle.pdp_step.specs.Registers.{reg_in, passed, codes_in}
 use Rattle.pdp_step.specs.Operands.{Stop, stop_with, word_at}
 use Rattle.pdp_step.specs.Outcomes.{stop_outcome, demand_outcome}
 use Rattle.pdp_step.specs.Arithmetic.{result_of}
-use Rattle.pdp_step.specs.Rows.{Effect, keep_of, moved, compared, joined, joined_reg, modified, exchanged, written, tested, sign_made, multiplied, divided, shifted_reg, shifted_pair, counted, branched, jumped, called, returned, marked, resumed, named_codes}
+use Rattle.pdp_step.specs.Rows.{Store, NoStore, ByteAt, WordAt, PushAt, Effect, keep_of, moved, compared, joined, joined_reg, modified, exchanged, written, tested, sign_made, multiplied, divided, shifted_reg, shifted_pair, counted, branched, jumped, called, returned, marked, resumed, named_codes}
 
 -- what an instruction comes to: an effect; a trap, with PC behind the word; or a stop, with nothing changed
 pub data Planned : Type 0 where
@@ -98,6 +96,12 @@ sp_at r (ByteAt a b) = reg_in r Sp
 sp_at r (WordAt a w) = reg_in r Sp
 sp_at r (PushAt a w) = a
 
+-- the end of an instruction, with the image then: its registers and codes, or why it is not done
+pub data Finished : Type 0 where
+  Done : List ℕ → ℕ → Image → Finished
+  Passed : Demand → Image → Finished
+  Stopped : Stop → Image → Finished
+
 -- the answer, the registers, the codes and the image behind one instruction
 pub record Stepped : Type 0 where
   pub outcome : Outcome
@@ -108,15 +112,23 @@ pub record Stepped : Type 0 where
 abbrev pub stepped : Outcome → List ℕ → ℕ → Image → Stepped
 stepped o r cc m = record { outcome = o; r = r; cc = cc; image = m }
 
--- a store that traps leaves what there was
-abbrev pub after_store : List ℕ → ℕ → Image → Effect → Result Image Trap → Stepped
-after_store r cc m e (Ok new) = stepped Next e.r e.cc new
-after_store r cc m e (Err trap) = stepped (stop_outcome (stop_with trap (sp_at e.r e.store))) r cc m
+-- a store that traps leaves the image as it was
+abbrev pub after_store : Image → Effect → Result Image Trap → Finished
+after_store m e (Ok new) = Done e.r e.cc new
+after_store m e (Err trap) = Stopped (stop_with trap (sp_at e.r e.store)) m
 
-abbrev pub settled : List ℕ → ℕ → Image → Planned → Stepped
-settled r cc m (Go e) = after_store r cc m e (stored m e.store)
-settled r cc m (Past demand) = stepped (demand_outcome demand) (passed r) cc m
-settled r cc m (Still stop) = stepped (stop_outcome stop) r cc m
+unfoldable pub finish_of : Image → Effect → Finished
+finish_of m e = after_store m e (stored m e.store)
+
+abbrev pub finished : Image → Planned → Finished
+finished m (Go e) = finish_of m e
+finished m (Past demand) = Passed demand m
+finished m (Still stop) = Stopped stop m
+
+abbrev pub settled : List ℕ → ℕ → Finished → Stepped
+settled r cc (Done new new_cc m) = stepped Next new new_cc m
+settled r cc (Passed demand m) = stepped (demand_outcome demand) (passed r) cc m
+settled r cc (Stopped stop m) = stepped (stop_outcome stop) r cc m
 
 unfoldable pub instr : List ℕ → ℕ → Image → Stepped
-instr r cc m = settled r cc m (plan_of m r cc)
+instr r cc m = settled r cc (finished m (plan_of m r cc))

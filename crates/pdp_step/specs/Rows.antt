@@ -14,8 +14,6 @@ use Rattle.pdp_decode.specs.declared.instr.Flags.{Flags}
 use Rattle.pdp_decode.specs.Numbers.{flag_bits}
 use Rattle.pdp_step.specs.declared.operands.Spot.{Spot}
 use Rattle.pdp_step.specs.declared.operands.Spot.TheVariants.{InRegister, InMemory}
-use Rattle.pdp_step.specs.declared.rows.Store.{Store}
-use Rattle.pdp_step.specs.declared.rows.Store.TheVariants.{NoStore, ByteAt, WordAt, PushAt}
 use Rattle.pdp_step.specs.declared.arithmetic.Made.{Made}
 use Rattle.pdp_step.specs.declared.arithmetic.Change.{Change}
 use Rattle.pdp_step.specs.declared.arithmetic.Combine.{Combine}
@@ -23,6 +21,13 @@ use Rattle.pdp_step.specs.Registers.{plus, minus, reg_in, with_reg, codes_in}
 use Rattle.pdp_step.specs.Operands.{Stop, word_at, formed, fetched}
 use Rattle.pdp_step.specs.Arithmetic.{result_of, swapped, change_of, combine_of, is_taken}
 use Rattle.pdp_step.specs.Extended.{product_of, product_codes, quotient_fits, quotient_of, remainder_of, shift_of, shift_codes}
+
+-- the one store of an instruction; a push is made at the address that R6 has been lowered to
+pub data Store : Type 0 where
+  NoStore : Store
+  ByteAt : ℕ → ℕ → Store
+  WordAt : ℕ → ℕ → Store
+  PushAt : ℕ → ℕ → Store
 
 -- what an instruction does where it isn't stopped: its registers and codes, and at most one store
 pub record Effect : Type 0 where

@@ -11,6 +11,8 @@ mod pairs;
 mod regs;
 mod rows;
 mod stepping;
+#[cfg(test)]
+mod tests;
 
 pub use outcome::{Kind, Outcome};
 pub use regs::Regs;

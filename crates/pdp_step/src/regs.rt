@@ -35,7 +35,8 @@ pub fn held(r: &Bank, n: Reg) -> u16
 
 #[inline(always)]
 pub fn hold(r: &mut Bank, n: Reg, value: u16)
-    ensures { r.new ≡ with_reg r.old n value }
+    ensures set { r.new ≡ with_reg r.old n value }
+    ensures holds { reg_in r.new n ≡ value }
 {
     r[number(n)] = value;
 }

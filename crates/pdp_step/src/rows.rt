@@ -4,8 +4,8 @@ ghost use Rattle.pdp_decode.specs.Numbers.{flag_bits};
 ghost use Rattle.pdp_step.specs.Registers.{codes_in};
 ghost use Rattle.pdp_step.specs.Arithmetic.{size, result_of};
 ghost use Rattle.pdp_step.specs.Rows.{keep_of, merged, put_of, sign_extended, move_of, moved, compared, joined, joined_reg, modified, exchanged, written, tested, sign_made, counted, distance_of, branched, address_of, jumped, called, popped, returned, marked, resumed, named_codes};
-ghost use Rattle.pdp_step.specs.Instruction.{go};
-ghost use Rattle.pdp_step.specs.Behind.{effect_by, planned_by, popped_by};
+ghost use Rattle.pdp_step.specs.Instruction.{go, finish_of, finished};
+ghost use Rattle.pdp_step.specs.Behind.{stored_by, finished_by, popped_by};
 
 use crate::arithmetic::{Change, Combine, Made, changed, combined, outcome, swap, taken};
 use crate::operands::{Spot, fetch, form};
@@ -13,16 +13,6 @@ use crate::outcome::Demand;
 use crate::regs::{Bank, Regs, carry, codes, held, hold, pack};
 use pdp_decode::{Condition, Flags, Operand, Reg, Width};
 use v6_base::{Space, Trap};
-
-/// What an instruction has left to store.
-#[derive(Clone, Copy, Debug, PartialEq, Eq)]
-pub enum Store {
-    NoStore,
-    ByteAt(u16, u8),
-    WordAt(u16, u16),
-    /// At the address that R6 has been lowered to.
-    PushAt(u16, u16),
-}
 
 /// Why an instruction is not done.
 #[derive(Clone, Copy, Debug, PartialEq, Eq)]
@@ -46,22 +36,29 @@ impl From<Trap> for Halt {
 
 // A result that goes where the operand was found.
 #[inline(always)]
-#[tactic(auto, unfolding(crate::specs::Rows::put_of))]
-fn put(regs: &mut Regs, width: Width, spot: Spot, made: Made) -> Store
+#[tactic(auto, unfolding(crate::specs::Rows::put_of, crate::specs::Instruction::finish_of, crate::specs::Instruction::stored))]
+fn put<S: Space>(
+    space: &mut S,
+    regs: &mut Regs,
+    width: Width,
+    spot: Spot,
+    made: Made,
+) -> Result<(), Trap>
     requires codes { made.cc < 16 }
     requires small { made.value < size width }
-    ensures { effect_by result regs.new.r regs.new.cc ≡ put_of regs.old.r width spot made }
+    ensures put { stored_by result regs.new.r regs.new.cc (S.image space.new) ≡ finish_of (S.image space.old) (put_of regs.old.r width spot made) }
+    ensures rest { S.rest space.new ≡ S.rest space.old }
 {
     regs.cc = made.cc;
     match spot {
         Spot::InRegister(n) => {
             let value = merge(width, held(&regs.r, n), made.value);
             hold(&mut regs.r, n, value);
-            Store::NoStore
+            Ok(())
         }
         Spot::InMemory(at) => match width {
-            Width::Word => Store::WordAt(at, made.value),
-            Width::Byte => Store::ByteAt(at, made.value as u8),
+            Width::Word => space.store_word(at, made.value),
+            Width::Byte => space.store_byte(at, made.value as u8),
         },
     }
 }
@@ -89,21 +86,28 @@ fn extend(b: u16) -> u16
 
 // What was moved: a byte that goes into a register carries its sign on.
 #[inline(always)]
-#[tactic(auto, unfolding(crate::specs::Rows::move_of))]
-fn put_moved(regs: &mut Regs, width: Width, spot: Spot, made: Made) -> Store
+#[tactic(auto, unfolding(crate::specs::Rows::move_of, crate::specs::Instruction::finish_of, crate::specs::Instruction::stored))]
+fn put_moved<S: Space>(
+    space: &mut S,
+    regs: &mut Regs,
+    width: Width,
+    spot: Spot,
+    made: Made,
+) -> Result<(), Trap>
     requires codes { made.cc < 16 }
     requires small { made.value < size width }
-    ensures { effect_by result regs.new.r regs.new.cc ≡ move_of regs.old.r width spot made }
+    ensures put { stored_by result regs.new.r regs.new.cc (S.image space.new) ≡ finish_of (S.image space.old) (move_of regs.old.r width spot made) }
+    ensures rest { S.rest space.new ≡ S.rest space.old }
 {
     match width {
-        Width::Word => put(regs, width, spot, made),
+        Width::Word => put(space, regs, width, spot, made),
         Width::Byte => match spot {
             Spot::InRegister(n) => {
                 regs.cc = made.cc;
                 hold(&mut regs.r, n, extend(made.value));
-                Store::NoStore
+                Ok(())
             }
-            Spot::InMemory(_) => put(regs, width, spot, made),
+            Spot::InMemory(_) => put(space, regs, width, spot, made),
         },
     }
 }
@@ -111,22 +115,23 @@ fn put_moved(regs: &mut Regs, width: Width, spot: Spot, made: Made) -> Store
 #[inline(always)]
 #[tactic(auto, unfolding(crate::specs::Rows::moved))]
 pub fn move_to<S: Space>(
-    space: &S,
+    space: &mut S,
     regs: &mut Regs,
     w: Width,
     s: Operand,
     d: Operand,
-) -> Result<Store, Halt>
-    ensures { planned_by result regs.new.r regs.new.cc ≡ go (moved (S.image space.now) regs.old.r regs.old.cc w s d) }
+) -> Result<(), Halt>
+    ensures row { finished_by result regs.new.r regs.new.cc (S.image space.new) ≡ finished (S.image space.old) (go (moved (S.image space.old) regs.old.r regs.old.cc w s d)) }
+    ensures rest { S.rest space.new ≡ S.rest space.old }
 {
     let source = fetch(space, &mut regs.r, w, s)?;
     let spot = form(space, &mut regs.r, w, d)?;
     let made = outcome(w, source.value, false, carry(regs.cc));
-    Ok(put_moved(regs, w, spot, made))
+    Ok(put_moved(space, regs, w, spot, made)?)
 }
 
 #[inline(always)]
-#[tactic(auto, unfolding(crate::specs::Rows::compared))]
+#[tactic(auto, unfolding(crate::specs::Rows::compared, crate::specs::Instruction::finish_of, crate::specs::Instruction::stored))]
 pub fn compare<S: Space>(
     space: &S,
     regs: &mut Regs,
@@ -134,102 +139,107 @@ pub fn compare<S: Space>(
     s: Operand,
     d: Operand,
     op: Combine,
-) -> Result<Store, Halt>
-    ensures { planned_by result regs.new.r regs.new.cc ≡ go (compared (S.image space.now) regs.old.r regs.old.cc w s d op) }
+) -> Result<(), Halt>
+    ensures { finished_by result regs.new.r regs.new.cc (S.image space.now) ≡ finished (S.image space.now) (go (compared (S.image space.now) regs.old.r regs.old.cc w s d op)) }
 {
     let source = fetch(space, &mut regs.r, w, s)?;
     let dest = fetch(space, &mut regs.r, w, d)?;
     let made = combined(op, w, source.value, dest.value, carry(regs.cc));
     regs.cc = made.cc;
-    Ok(Store::NoStore)
+    Ok(())
 }
 
 #[inline(always)]
 #[tactic(auto, unfolding(crate::specs::Rows::joined))]
 pub fn join<S: Space>(
-    space: &S,
+    space: &mut S,
     regs: &mut Regs,
     w: Width,
     s: Operand,
     d: Operand,
     op: Combine,
-) -> Result<Store, Halt>
-    ensures { planned_by result regs.new.r regs.new.cc ≡ go (joined (S.image space.now) regs.old.r regs.old.cc w s d op) }
+) -> Result<(), Halt>
+    ensures row { finished_by result regs.new.r regs.new.cc (S.image space.new) ≡ finished (S.image space.old) (go (joined (S.image space.old) regs.old.r regs.old.cc w s d op)) }
+    ensures rest { S.rest space.new ≡ S.rest space.old }
 {
     let source = fetch(space, &mut regs.r, w, s)?;
     let dest = fetch(space, &mut regs.r, w, d)?;
     let made = combined(op, w, source.value, dest.value, carry(regs.cc));
-    Ok(put(regs, w, dest.spot, made))
+    Ok(put(space, regs, w, dest.spot, made)?)
 }
 
 #[inline(never)]
 #[tactic(auto, unfolding(crate::specs::Rows::joined_reg))]
 pub fn join_reg<S: Space>(
-    space: &S,
+    space: &mut S,
     regs: &mut Regs,
     n: Reg,
     d: Operand,
     op: Combine,
-) -> Result<Store, Halt>
-    ensures { planned_by result regs.new.r regs.new.cc ≡ go (joined_reg (S.image space.now) regs.old.r regs.old.cc n d op) }
+) -> Result<(), Halt>
+    ensures row { finished_by result regs.new.r regs.new.cc (S.image space.new) ≡ finished (S.image space.old) (go (joined_reg (S.image space.old) regs.old.r regs.old.cc n d op)) }
+    ensures rest { S.rest space.new ≡ S.rest space.old }
 {
     let source = held(&regs.r, n);
     let dest = fetch(space, &mut regs.r, Width::Word, d)?;
     let made = combined(op, Width::Word, source, dest.value, carry(regs.cc));
-    Ok(put(regs, Width::Word, dest.spot, made))
+    Ok(put(space, regs, Width::Word, dest.spot, made)?)
 }
 
 #[inline(never)]
 #[tactic(auto, unfolding(crate::specs::Rows::modified))]
 pub fn modify<S: Space>(
-    space: &S,
+    space: &mut S,
     regs: &mut Regs,
     w: Width,
     d: Operand,
     op: Change,
-) -> Result<Store, Halt>
-    ensures { planned_by result regs.new.r regs.new.cc ≡ go (modified (S.image space.now) regs.old.r regs.old.cc w d op) }
+) -> Result<(), Halt>
+    ensures row { finished_by result regs.new.r regs.new.cc (S.image space.new) ≡ finished (S.image space.old) (go (modified (S.image space.old) regs.old.r regs.old.cc w d op)) }
+    ensures rest { S.rest space.new ≡ S.rest space.old }
 {
     let dest = fetch(space, &mut regs.r, w, d)?;
     let made = changed(op, w, dest.value, carry(regs.cc));
-    Ok(put(regs, w, dest.spot, made))
+    Ok(put(space, regs, w, dest.spot, made)?)
 }
 
 #[inline(never)]
 #[tactic(auto, unfolding(crate::specs::Rows::exchanged))]
-pub fn exchange<S: Space>(space: &S, regs: &mut Regs, d: Operand) -> Result<Store, Halt>
-    ensures { planned_by result regs.new.r regs.new.cc ≡ go (exchanged (S.image space.now) regs.old.r d) }
+pub fn exchange<S: Space>(space: &mut S, regs: &mut Regs, d: Operand) -> Result<(), Halt>
+    ensures row { finished_by result regs.new.r regs.new.cc (S.image space.new) ≡ finished (S.image space.old) (go (exchanged (S.image space.old) regs.old.r d)) }
+    ensures rest { S.rest space.new ≡ S.rest space.old }
 {
     let dest = fetch(space, &mut regs.r, Width::Word, d)?;
     let made = swap(dest.value);
-    Ok(put(regs, Width::Word, dest.spot, made))
+    Ok(put(space, regs, Width::Word, dest.spot, made)?)
 }
 
 #[inline(never)]
 #[tactic(auto, unfolding(crate::specs::Rows::written))]
 pub fn write<S: Space>(
-    space: &S,
+    space: &mut S,
     regs: &mut Regs,
     w: Width,
     d: Operand,
     made: Made,
-) -> Result<Store, Halt>
+) -> Result<(), Halt>
     requires codes { made.cc < 16 }
     requires small { made.value < size w }
-    ensures { planned_by result regs.new.r regs.new.cc ≡ go (written (S.image space.now) regs.old.r w d made) }
+    ensures row { finished_by result regs.new.r regs.new.cc (S.image space.new) ≡ finished (S.image space.old) (go (written (S.image space.old) regs.old.r w d made)) }
+    ensures rest { S.rest space.new ≡ S.rest space.old }
 {
     let spot = form(space, &mut regs.r, w, d)?;
-    Ok(put(regs, w, spot, made))
+    Ok(put(space, regs, w, spot, made)?)
 }
 
 #[inline(never)]
-#[tactic(auto, unfolding(crate::specs::Rows::tested))]
-pub fn test<S: Space>(space: &S, regs: &mut Regs, w: Width, d: Operand) -> Result<Store, Halt>
-    ensures { planned_by result regs.new.r regs.new.cc ≡ go (tested (S.image space.now) regs.old.r w d) }
+#[tactic(auto, unfolding(crate::specs::Rows::tested, crate::specs::Instruction::finish_of, crate::specs::Instruction::stored))]
+pub fn test<S: Space>(space: &S, regs: &mut Regs, w: Width, d: Operand) -> Result<(), Halt>
+    ensures { finished_by result regs.new.r regs.new.cc (S.image space.now) ≡ finished (S.image space.now) (go (tested (S.image space.now) regs.old.r w d)) }
 {
     let dest = fetch(space, &mut regs.r, w, d)?;
     regs.cc = outcome(w, dest.value, false, false).cc;
-    Ok(Store::NoStore)
+    Ok(())
 }
 
 /// What SXT writes.
@@ -248,8 +258,8 @@ pub fn sign(cc: u8) -> Made
 
 #[inline(always)]
 #[tactic(auto, unfolding(crate::specs::Rows::counted))]
-pub fn count(regs: &mut Regs, n: Reg, words: u8) -> Store
-    ensures { effect_by result regs.new.r regs.new.cc ≡ counted regs.old.r regs.old.cc n words }
+pub fn count(regs: &mut Regs, n: Reg, words: u8)
+    ensures { keep_of regs.new.r regs.new.cc ≡ counted regs.old.r regs.old.cc n words }
 {
     let left = held(&regs.r, n).wrapping_sub(1);
     hold(&mut regs.r, n, left);
@@ -257,7 +267,6 @@ pub fn count(regs: &mut Regs, n: Reg, words: u8) -> Store
         let pc = held(&regs.r, Reg::Pc).wrapping_sub(2 * words as u16);
         hold(&mut regs.r, Reg::Pc, pc);
     }
-    Store::NoStore
 }
 
 #[inline(always)]
@@ -273,14 +282,13 @@ fn distance(offset: u8) -> u16
 
 #[inline(always)]
 #[tactic(auto, unfolding(crate::specs::Rows::branched))]
-pub fn branch(regs: &mut Regs, test: Condition, offset: u8) -> Store
-    ensures { effect_by result regs.new.r regs.new.cc ≡ branched regs.old.r regs.old.cc test offset }
+pub fn branch(regs: &mut Regs, test: Condition, offset: u8)
+    ensures { keep_of regs.new.r regs.new.cc ≡ branched regs.old.r regs.old.cc test offset }
 {
     if taken(test, codes(regs.cc)) {
         let pc = held(&regs.r, Reg::Pc).wrapping_add(distance(offset));
         hold(&mut regs.r, Reg::Pc, pc);
     }
-    Store::NoStore
 }
 
 // The address of an operand; `decode` gives none in a register.
@@ -295,28 +303,30 @@ fn place(spot: Spot) -> u16
 }
 
 #[inline(never)]
-#[tactic(auto, unfolding(crate::specs::Rows::jumped))]
-pub fn jump<S: Space>(space: &S, regs: &mut Regs, d: Operand) -> Result<Store, Halt>
-    ensures { planned_by result regs.new.r regs.new.cc ≡ go (jumped (S.image space.now) regs.old.r regs.old.cc d) }
+#[tactic(auto, unfolding(crate::specs::Rows::jumped, crate::specs::Instruction::finish_of, crate::specs::Instruction::stored))]
+pub fn jump<S: Space>(space: &S, regs: &mut Regs, d: Operand) -> Result<(), Halt>
+    ensures { finished_by result regs.new.r regs.new.cc (S.image space.now) ≡ finished (S.image space.now) (go (jumped (S.image space.now) regs.old.r regs.old.cc d)) }
 {
     let spot = form(space, &mut regs.r, Width::Word, d)?;
     hold(&mut regs.r, Reg::Pc, place(spot));
-    Ok(Store::NoStore)
+    Ok(())
 }
 
 #[inline(never)]
-#[tactic(auto, unfolding(crate::specs::Rows::called))]
-pub fn call<S: Space>(space: &S, regs: &mut Regs, link: Reg, d: Operand) -> Result<Store, Halt>
-    ensures { planned_by result regs.new.r regs.new.cc ≡ go (called (S.image space.now) regs.old.r regs.old.cc link d) }
+#[tactic(auto, unfolding(crate::specs::Rows::called, crate::specs::Instruction::finish_of, crate::specs::Instruction::stored))]
+pub fn call<S: Space>(space: &mut S, regs: &mut Regs, link: Reg, d: Operand) -> Result<(), Halt>
+    ensures row { finished_by result regs.new.r regs.new.cc (S.image space.new) ≡ finished (S.image space.old) (go (called (S.image space.old) regs.old.r regs.old.cc link d)) }
+    ensures rest { S.rest space.new ≡ S.rest space.old }
 {
     let spot = form(space, &mut regs.r, Width::Word, d)?;
     let pushed = held(&regs.r, link);
     let sp = held(&regs.r, Reg::Sp).wrapping_sub(2);
     hold(&mut regs.r, Reg::Sp, sp);
+    space.store_word(sp, pushed)?;
     let pc = held(&regs.r, Reg::Pc);
     hold(&mut regs.r, link, pc);
     hold(&mut regs.r, Reg::Pc, place(spot));
-    Ok(Store::PushAt(sp, pushed))
+    Ok(())
 }
 
 // The word that R6 names, which R6 passes.
@@ -331,21 +341,21 @@ fn pop<S: Space>(space: &S, r: &mut Bank) -> Result<u16, Trap>
 }
 
 #[inline(never)]
-#[tactic(auto, unfolding(crate::specs::Rows::returned))]
-pub fn return_by<S: Space>(space: &S, regs: &mut Regs, link: Reg) -> Result<Store, Halt>
-    ensures { planned_by result regs.new.r regs.new.cc ≡ go (returned (S.image space.now) regs.old.r regs.old.cc link) }
+#[tactic(auto, unfolding(crate::specs::Rows::returned, crate::specs::Instruction::finish_of, crate::specs::Instruction::stored))]
+pub fn return_by<S: Space>(space: &S, regs: &mut Regs, link: Reg) -> Result<(), Halt>
+    ensures { finished_by result regs.new.r regs.new.cc (S.image space.now) ≡ finished (S.image space.now) (go (returned (S.image space.now) regs.old.r regs.old.cc link)) }
 {
     let pc = held(&regs.r, link);
     hold(&mut regs.r, Reg::Pc, pc);
     let top = pop(space, &mut regs.r)?;
     hold(&mut regs.r, link, top);
-    Ok(Store::NoStore)
+    Ok(())
 }
 
 #[inline(never)]
-#[tactic(auto, unfolding(crate::specs::Rows::marked))]
-pub fn mark<S: Space>(space: &S, regs: &mut Regs, words: u8) -> Result<Store, Halt>
-    ensures { planned_by result regs.new.r regs.new.cc ≡ go (marked (S.image space.now) regs.old.r regs.old.cc words) }
+#[tactic(auto, unfolding(crate::specs::Rows::marked, crate::specs::Instruction::finish_of, crate::specs::Instruction::stored))]
+pub fn mark<S: Space>(space: &S, regs: &mut Regs, words: u8) -> Result<(), Halt>
+    ensures { finished_by result regs.new.r regs.new.cc (S.image space.now) ≡ finished (S.image space.now) (go (marked (S.image space.now) regs.old.r regs.old.cc words)) }
 {
     let sp = held(&regs.r, Reg::Pc).wrapping_add(2 * words as u16);
     hold(&mut regs.r, Reg::Sp, sp);
@@ -353,24 +363,24 @@ pub fn mark<S: Space>(space: &S, regs: &mut Regs, words: u8) -> Result<Store, Ha
     hold(&mut regs.r, Reg::Pc, pc);
     let top = pop(space, &mut regs.r)?;
     hold(&mut regs.r, Reg::R5, top);
-    Ok(Store::NoStore)
+    Ok(())
 }
 
 #[inline(never)]
-#[tactic(auto, unfolding(crate::specs::Rows::resumed))]
-pub fn resume<S: Space>(space: &S, regs: &mut Regs) -> Result<Store, Halt>
-    ensures { planned_by result regs.new.r regs.new.cc ≡ go (resumed (S.image space.now) regs.old.r) }
+#[tactic(auto, unfolding(crate::specs::Rows::resumed, crate::specs::Instruction::finish_of, crate::specs::Instruction::stored))]
+pub fn resume<S: Space>(space: &S, regs: &mut Regs) -> Result<(), Halt>
+    ensures { finished_by result regs.new.r regs.new.cc (S.image space.now) ≡ finished (S.image space.now) (go (resumed (S.image space.now) regs.old.r)) }
 {
     let pc = pop(space, &mut regs.r)?;
     let ps = pop(space, &mut regs.r)?;
     hold(&mut regs.r, Reg::Pc, pc);
     regs.cc = (ps % 16) as u8;
-    Ok(Store::NoStore)
+    Ok(())
 }
 
 #[inline(never)]
-pub fn set_codes(regs: &mut Regs, set: bool, names: Flags) -> Store
-    ensures { effect_by result regs.new.r regs.new.cc ≡ keep_of regs.old.r (flag_bits (named_codes set names (codes_in regs.old.cc))) }
+pub fn set_codes(regs: &mut Regs, set: bool, names: Flags)
+    ensures { keep_of regs.new.r regs.new.cc ≡ keep_of regs.old.r (flag_bits (named_codes set names (codes_in regs.old.cc))) }
 {
     let k = codes(regs.cc);
     regs.cc = pack(
@@ -379,7 +389,6 @@ pub fn set_codes(regs: &mut Regs, set: bool, names: Flags) -> Store
         chosen(names.v, set, k.v),
         chosen(names.c, set, k.c),
     );
-    Store::NoStore
 }
 
 #[inline(always)]

@@ -1,20 +1,19 @@
-//! One instruction: first it is planned on a copy of the registers, then its one store is made, then the registers change.
+//! One instruction, on a copy of the registers; its one store is the last that can fail.
 ghost use Rattle.std.specs.Prelude.{◌≡◌, ℕ};
-ghost use Rattle.v6_base.specs.Access.{image_after, answer_of};
 ghost use Rattle.pdp_step.specs.Registers.{passed};
 ghost use Rattle.pdp_decode.specs.Decode.{decode_of};
 ghost use Rattle.pdp_step.specs.Operands.{stop_with};
 ghost use Rattle.pdp_step.specs.Outcomes.{stop_outcome, demand_outcome, IsStill, IsPast};
-ghost use Rattle.pdp_step.specs.Instruction.{row_of, plan_of, stored, sp_at, stepped, instr};
-ghost use Rattle.pdp_step.specs.Behind.{planned_by};
+ghost use Rattle.pdp_step.specs.Instruction.{row_of, plan_of, finished, stepped, instr};
+ghost use Rattle.pdp_step.specs.Behind.{finished_by};
 
 use crate::arithmetic::{Change, Combine, outcome};
 use crate::outcome::{Demand, Kind, Outcome};
 use crate::pairs::{divide, multiply, shift_pair, shift_reg};
-use crate::regs::{Bank, Regs, held, pass};
+use crate::regs::{Regs, held, pass};
 use crate::rows::{
-    Halt, Store, branch, call, compare, count, exchange, join, join_reg, jump, mark, modify,
-    move_to, resume, return_by, set_codes, sign, test, write,
+    Halt, branch, call, compare, count, exchange, join, join_reg, jump, mark, modify, move_to,
+    resume, return_by, set_codes, sign, test, write,
 };
 use pdp_decode::{Instr, Reg, SoftTrap, Width, decode};
 use v6_base::{Space, Trap};
@@ -30,14 +29,11 @@ pub fn step<S: Space>(regs: &mut Regs, space: &mut S) -> Outcome
     ensures past { IsPast result → (regs.new.r ≡ passed regs.old.r) × (regs.new.cc ≡ regs.old.cc) × (S.image space.new ≡ S.image space.old) }
 {
     let mut after = *regs;
-    match plan(space, &mut after) {
-        Ok(store) => match commit(space, store) {
-            Ok(()) => {
-                *regs = after;
-                Outcome::Next
-            }
-            Err(trap) => stopped(trap, reached(&after.r, store)),
-        },
+    match attempt(space, &mut after) {
+        Ok(()) => {
+            *regs = after;
+            Outcome::Next
+        }
         Err(Halt::HaltPast(demand)) => {
             pass(&mut regs.r);
             demanded(demand)
@@ -46,11 +42,12 @@ pub fn step<S: Space>(regs: &mut Regs, space: &mut S) -> Outcome
     }
 }
 
-// What an instruction does to the registers, and what it has left to store.
+// An instruction on registers that are a copy. Where it isn't done, the copy is as it was by then.
 #[inline(always)]
 #[tactic(auto, unfolding(crate::specs::Instruction::plan_of, crate::specs::Operands::word_at))]
-fn plan<S: Space>(space: &S, regs: &mut Regs) -> Result<Store, Halt>
-    ensures { planned_by result regs.new.r regs.new.cc ≡ plan_of (S.image space.now) regs.old.r regs.old.cc }
+fn attempt<S: Space>(space: &mut S, regs: &mut Regs) -> Result<(), Halt>
+    ensures attempt { finished_by result regs.new.r regs.new.cc (S.image space.new) ≡ finished (S.image space.old) (plan_of (S.image space.old) regs.old.r regs.old.cc) }
+    ensures rest { S.rest space.new ≡ S.rest space.old }
 {
     let word = space.load_word(held(&regs.r, Reg::Pc))?;
     pass(&mut regs.r);
@@ -59,9 +56,10 @@ fn plan<S: Space>(space: &S, regs: &mut Regs) -> Result<Store, Halt>
 
 // The table of instructions.
 #[inline(always)]
-#[tactic(auto, unfolding(crate::specs::Instruction::row_of))]
-fn perform<S: Space>(space: &S, word: u16, regs: &mut Regs) -> Result<Store, Halt>
-    ensures { planned_by result regs.new.r regs.new.cc ≡ row_of (S.image space.now) word (decode_of word) regs.old.r regs.old.cc }
+#[tactic(auto, unfolding(crate::specs::Instruction::row_of, crate::specs::Instruction::finish_of, crate::specs::Instruction::stored))]
+fn perform<S: Space>(space: &mut S, word: u16, regs: &mut Regs) -> Result<(), Halt>
+    ensures row { finished_by result regs.new.r regs.new.cc (S.image space.new) ≡ finished (S.image space.old) (row_of (S.image space.old) word (decode_of word) regs.old.r regs.old.cc) }
+    ensures rest { S.rest space.new ≡ S.rest space.old }
 {
     match decode(word) {
         Instr::Mov(Width::Word, s, d) => move_to(space, regs, Width::Word, s, d),
@@ -95,49 +93,29 @@ fn perform<S: Space>(space: &S, word: u16, regs: &mut Regs) -> Result<Store, Hal
         Instr::Ash(n, s) => shift_reg(space, regs, n, s),
         Instr::Ashc(n, s) => shift_pair(space, regs, n, s),
         Instr::Xor(n, d) => join_reg(space, regs, n, d, Combine::ExclusiveOr),
-        Instr::Sob(n, words) => Ok(count(regs, n, words)),
-        Instr::Branch(condition, offset) => Ok(branch(regs, condition, offset)),
+        Instr::Sob(n, words) => {
+            count(regs, n, words);
+            Ok(())
+        }
+        Instr::Branch(condition, offset) => {
+            branch(regs, condition, offset);
+            Ok(())
+        }
         Instr::Jmp(d) => jump(space, regs, d),
         Instr::Jsr(n, d) => call(space, regs, n, d),
         Instr::Rts(n) => return_by(space, regs, n),
         Instr::Mark(words) => mark(space, regs, words),
         Instr::Rti => resume(space, regs),
-        Instr::Codes(set, names) => Ok(set_codes(regs, set, names)),
-        Instr::Wait => Ok(Store::NoStore),
+        Instr::Codes(set, names) => {
+            set_codes(regs, set, names);
+            Ok(())
+        }
+        Instr::Wait => Ok(()),
         Instr::SoftTrap(SoftTrap::Bpt) => Err(Halt::HaltPast(Demand::Breakpoint)),
         Instr::SoftTrap(SoftTrap::Iot) => Err(Halt::HaltPast(Demand::InputOutput)),
         Instr::Emt => Err(Halt::HaltPast(Demand::Emulator)),
         Instr::Sys(n) => Err(Halt::HaltPast(Demand::System(n))),
         Instr::Illegal => Err(Halt::HaltPast(Demand::Unknown(word))),
-    }
-}
-
-// Makes what is left to store.
-#[inline(always)]
-#[tactic(auto, unfolding(crate::specs::Instruction::stored))]
-fn commit<S: Space>(space: &mut S, store: Store) -> Result<(), Trap>
-    ensures answer { result ≡ answer_of (stored (S.image space.old) store) }
-    ensures image { S.image space.new ≡ image_after (S.image space.old) (stored (S.image space.old) store) }
-    ensures rest { S.rest space.new ≡ S.rest space.old }
-{
-    match store {
-        Store::NoStore => Ok(()),
-        Store::ByteAt(at, value) => space.store_byte(at, value),
-        Store::WordAt(at, value) => space.store_word(at, value),
-        Store::PushAt(at, value) => space.store_word(at, value),
-    }
-}
-
-// R6 as it stands at a store.
-#[inline(always)]
-fn reached(r: &Bank, store: Store) -> u16
-    ensures { result ≡ sp_at r.now store }
-{
-    match store {
-        Store::NoStore => held(r, Reg::Sp),
-        Store::ByteAt(_, _) => held(r, Reg::Sp),
-        Store::WordAt(_, _) => held(r, Reg::Sp),
-        Store::PushAt(at, _) => at,
     }
 }
 

@@ -112,8 +112,9 @@ impl Whole {
         if v < self.text_len {
             return Named::InText(v);
         }
-        if v >= self.data_base && v < self.data_base + self.data_len {
-            return Named::InData(v - self.data_base);
+        let i = v.wrapping_sub(self.data_base);
+        if i < self.data_len {
+            return Named::InData(i);
         }
         if v >= self.stack_start {
             return Named::InStack(v - self.stack_start);

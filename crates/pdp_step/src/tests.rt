@@ -1,0 +1,357 @@
+//! Rows by hand from the instruction pages of the handbook, each worked apart from the code.
+use crate::{Kind, Outcome, Regs, step};
+use std::alloc::AllocError;
+use std::test::Fail;
+use v6_base::{Space, Whole};
+
+// In octal: the word at 0 and the one behind it; R0, R1, R5, SP, the word at 40 and the codes before; R0, R1, R5, SP, the
+// word at 40, PC and the codes behind.
+const ROWS: &str = "\
+010001 0      | 100000 0      0      177600 0      3  | 100000 100000 0      177600 0      2      11 ; MOV negative, C stays
+010001 0      | 0      5      0      177600 0      12 | 0      0      0      177600 0      2      4  ; MOV zero
+110001 0      | 1377   123456 0      177600 0      0  | 1377   177777 0      177600 0      2      10 ; MOVB extends the sign
+110037 40     | 101    0      0      177600 123456 0  | 101    0      0      177600 123501 4      0  ; MOVB to memory leaves its neighbour
+020001 0      | 100000 1      0      177600 0      0  | 100000 1      0      177600 0      2      2  ; CMP, V and no borrow
+020001 0      | 1      2      0      177600 0      0  | 1      2      0      177600 0      2      11 ; CMP, borrow
+020001 0      | 77777  177777 0      177600 0      0  | 77777  177777 0      177600 0      2      13 ; CMP, V and borrow
+120001 0      | 1005   2005   0      177600 0      13 | 1005   2005   0      177600 0      2      4  ; CMPB of low bytes
+120001 0      | 200    1      0      177600 0      0  | 200    1      0      177600 0      2      2  ; CMPB, V
+030001 0      | 100001 100000 0      177600 0      3  | 100001 100000 0      177600 0      2      11 ; BIT
+130001 0      | 400    777    0      177600 0      0  | 400    777    0      177600 0      2      4  ; BITB, zero
+040001 0      | 70     177777 0      177600 0      1  | 70     177707 0      177600 0      2      11 ; BIC
+140001 0      | 377    123456 0      177600 0      0  | 377    123400 0      177600 0      2      4  ; BICB leaves the high byte
+050001 0      | 7      100070 0      177600 0      0  | 7      100077 0      177600 0      2      10 ; BIS
+150001 0      | 200    1001   0      177600 0      0  | 200    1201   0      177600 0      2      10 ; BISB leaves the high byte
+060001 0      | 77777  1      0      177600 0      0  | 77777  100000 0      177600 0      2      12 ; ADD, overflow
+060001 0      | 177777 1      0      177600 0      0  | 177777 0      0      177600 0      2      5  ; ADD, carry
+060001 0      | 100000 100000 0      177600 0      0  | 100000 0      0      177600 0      2      7  ; ADD, both
+160001 0      | 1      100000 0      177600 0      0  | 1      77777  0      177600 0      2      2  ; SUB, overflow
+160001 0      | 2      1      0      177600 0      0  | 2      177777 0      177600 0      2      11 ; SUB, borrow
+005001 0      | 0      7      0      177600 0      13 | 0      0      0      177600 0      2      4  ; CLR
+105001 0      | 0      123456 0      177600 0      0  | 0      123400 0      177600 0      2      4  ; CLRB
+005101 0      | 0      177777 0      177600 0      0  | 0      0      0      177600 0      2      5  ; COM
+105101 0      | 0      1252   0      177600 0      0  | 0      1125   0      177600 0      2      1  ; COMB
+005201 0      | 0      77777  0      177600 0      1  | 0      100000 0      177600 0      2      13 ; INC, overflow
+105201 0      | 0      1377   0      177600 0      0  | 0      1000   0      177600 0      2      4  ; INCB round
+005301 0      | 0      100000 0      177600 0      0  | 0      77777  0      177600 0      2      2  ; DEC, overflow
+105301 0      | 0      200    0      177600 0      1  | 0      177    0      177600 0      2      3  ; DECB, overflow
+005401 0      | 0      100000 0      177600 0      0  | 0      100000 0      177600 0      2      13 ; NEG of the least number
+005401 0      | 0      0      0      177600 0      1  | 0      0      0      177600 0      2      4  ; NEG of zero
+105401 0      | 0      1      0      177600 0      0  | 0      377    0      177600 0      2      11 ; NEGB
+005501 0      | 0      77777  0      177600 0      1  | 0      100000 0      177600 0      2      12 ; ADC, overflow
+005501 0      | 0      177777 0      177600 0      1  | 0      0      0      177600 0      2      5  ; ADC, carry
+105501 0      | 0      177    0      177600 0      0  | 0      177    0      177600 0      2      0  ; ADCB without carry
+005600 0      | 100000 0      0      177600 0      1  | 77777  0      0      177600 0      2      2  ; SBC, overflow
+005601 0      | 0      0      0      177600 0      1  | 0      177777 0      177600 0      2      11 ; SBC, borrow
+105601 0      | 0      200    0      177600 0      1  | 0      177    0      177600 0      2      2  ; SBCB, overflow
+005701 0      | 0      100000 0      177600 0      3  | 0      100000 0      177600 0      2      10 ; TST
+105701 0      | 0      400    0      177600 0      3  | 0      400    0      177600 0      2      4  ; TSTB
+006001 0      | 0      2      0      177600 0      1  | 0      100001 0      177600 0      2      12 ; ROR, C in
+006001 0      | 0      1      0      177600 0      0  | 0      0      0      177600 0      2      7  ; ROR, C out
+106001 0      | 0      777    0      177600 0      1  | 0      777    0      177600 0      2      11 ; RORB
+006101 0      | 0      100000 0      177600 0      1  | 0      1      0      177600 0      2      3  ; ROL, both
+106101 0      | 0      100    0      177600 0      0  | 0      200    0      177600 0      2      12 ; ROLB
+006201 0      | 0      100001 0      177600 0      0  | 0      140000 0      177600 0      2      11 ; ASR keeps the sign
+106201 0      | 0      201    0      177600 0      0  | 0      300    0      177600 0      2      11 ; ASRB
+006301 0      | 0      40000  0      177600 0      0  | 0      100000 0      177600 0      2      12 ; ASL, overflow
+106301 0      | 0      300    0      177600 0      0  | 0      200    0      177600 0      2      11 ; ASLB, carry
+000301 0      | 0      100001 0      177600 0      3  | 0      600    0      177600 0      2      10 ; SWAB
+000301 0      | 0      100377 0      177600 0      0  | 0      177600 0      177600 0      2      10 ; SWAB, low byte negative
+006701 0      | 0      7      0      177600 0      13 | 0      177777 0      177600 0      2      11 ; SXT of a negative
+006701 0      | 0      7      0      177600 0      3  | 0      0      0      177600 0      2      5  ; SXT of another
+070001 0      | 177776 3      0      177600 0      0  | 177777 177772 0      177600 0      2      10 ; MUL, negative
+070001 0      | 40000  4      0      177600 0      0  | 1      0      0      177600 0      2      1  ; MUL, too large for a word
+070100 0      | 400    400    0      177600 0      0  | 400    0      0      177600 0      2      1  ; MUL, odd register
+071027 2      | 0      7      0      177600 0      0  | 3      1      0      177600 0      4      0  ; DIV, cut toward 0
+071027 2      | 177777 177771 0      177600 0      0  | 177775 177777 0      177600 0      4      10 ; DIV of a negative number
+071027 0      | 1      7      0      177600 0      14 | 1      7      0      177600 0      4      3  ; DIV by 0
+071027 1      | 0      100000 0      177600 0      0  | 0      100000 0      177600 0      4      2  ; DIV, no room
+071027 1      | 177777 100000 0      177600 0      0  | 100000 0      0      177600 0      4      10 ; DIV, the least quotient
+071127 3      | 0      2      0      177600 0      0  | 0      2      0      177600 0      4      2  ; DIV, odd register
+072001 0      | 40000  1      0      177600 0      0  | 100000 1      0      177600 0      2      12 ; ASH, sign changes
+072001 0      | 100003 76     0      177600 0      0  | 160000 76     0      177600 0      2      11 ; ASH, to the right
+072001 0      | 60000  3      0      177600 0      0  | 0      3      0      177600 0      2      7  ; ASH, sign changes on the way
+072001 0      | 5      100    0      177600 0      3  | 5      100    0      177600 0      2      0  ; ASH by 0 clears V and C
+072001 0      | 100000 40     0      177600 0      0  | 177777 40     0      177600 0      2      11 ; ASH by -32
+073027 20     | 0      100001 0      177600 0      0  | 100001 0      0      177600 0      4      12 ; ASHC, to the left
+073027 77     | 1      0      0      177600 0      0  | 0      100000 0      177600 0      4      0  ; ASHC, to the right
+073127 1      | 0      100000 0      177600 0      0  | 0      0      0      177600 0      4      3  ; ASHC, odd register
+074001 0      | 52525  177777 0      177600 0      1  | 52525  125252 0      177600 0      2      11 ; XOR
+077001 0      | 2      0      0      177600 0      17 | 1      0      0      177600 0      0      17 ; SOB goes on
+077001 0      | 1      0      0      177600 0      17 | 0      0      0      177600 0      2      17 ; SOB ends
+000403 0      | 0      0      0      177600 0      0  | 0      0      0      177600 0      10     0  ; BR, taken
+001003 0      | 0      0      0      177600 0      13 | 0      0      0      177600 0      10     13 ; BNE, taken
+001003 0      | 0      0      0      177600 0      4  | 0      0      0      177600 0      2      4  ; BNE, not taken
+001403 0      | 0      0      0      177600 0      4  | 0      0      0      177600 0      10     4  ; BEQ, taken
+001403 0      | 0      0      0      177600 0      13 | 0      0      0      177600 0      2      13 ; BEQ, not taken
+002003 0      | 0      0      0      177600 0      12 | 0      0      0      177600 0      10     12 ; BGE, taken
+002003 0      | 0      0      0      177600 0      10 | 0      0      0      177600 0      2      10 ; BGE, not taken
+002403 0      | 0      0      0      177600 0      2  | 0      0      0      177600 0      10     2  ; BLT, taken
+002403 0      | 0      0      0      177600 0      12 | 0      0      0      177600 0      2      12 ; BLT, not taken
+003003 0      | 0      0      0      177600 0      13 | 0      0      0      177600 0      10     13 ; BGT, taken
+003003 0      | 0      0      0      177600 0      16 | 0      0      0      177600 0      2      16 ; BGT, not taken
+003403 0      | 0      0      0      177600 0      10 | 0      0      0      177600 0      10     10 ; BLE, taken
+003403 0      | 0      0      0      177600 0      1  | 0      0      0      177600 0      2      1  ; BLE, not taken
+000777 0      | 0      0      0      177600 0      0  | 0      0      0      177600 0      0      0  ; BR back
+100003 0      | 0      0      0      177600 0      7  | 0      0      0      177600 0      10     7  ; BPL, taken
+100003 0      | 0      0      0      177600 0      10 | 0      0      0      177600 0      2      10 ; BPL, not taken
+100403 0      | 0      0      0      177600 0      10 | 0      0      0      177600 0      10     10 ; BMI, taken
+100403 0      | 0      0      0      177600 0      7  | 0      0      0      177600 0      2      7  ; BMI, not taken
+101003 0      | 0      0      0      177600 0      12 | 0      0      0      177600 0      10     12 ; BHI, taken
+101003 0      | 0      0      0      177600 0      4  | 0      0      0      177600 0      2      4  ; BHI, not taken
+101403 0      | 0      0      0      177600 0      1  | 0      0      0      177600 0      10     1  ; BLOS, taken
+101403 0      | 0      0      0      177600 0      12 | 0      0      0      177600 0      2      12 ; BLOS, not taken
+102003 0      | 0      0      0      177600 0      15 | 0      0      0      177600 0      10     15 ; BVC, taken
+102003 0      | 0      0      0      177600 0      2  | 0      0      0      177600 0      2      2  ; BVC, not taken
+102403 0      | 0      0      0      177600 0      2  | 0      0      0      177600 0      10     2  ; BVS, taken
+102403 0      | 0      0      0      177600 0      15 | 0      0      0      177600 0      2      15 ; BVS, not taken
+103003 0      | 0      0      0      177600 0      16 | 0      0      0      177600 0      10     16 ; BCC, taken
+103003 0      | 0      0      0      177600 0      1  | 0      0      0      177600 0      2      1  ; BCC, not taken
+103403 0      | 0      0      0      177600 0      1  | 0      0      0      177600 0      10     1  ; BCS, taken
+103403 0      | 0      0      0      177600 0      16 | 0      0      0      177600 0      2      16 ; BCS, not taken
+002403 0      | 0      0      0      177600 0      10 | 0      0      0      177600 0      10     10 ; BLT by N and V
+003403 0      | 0      0      0      177600 0      4  | 0      0      0      177600 0      10     4  ; BLE by Z alone
+101403 0      | 0      0      0      177600 0      4  | 0      0      0      177600 0      10     4  ; BLOS by Z alone
+101003 0      | 0      0      0      177600 0      1  | 0      0      0      177600 0      2      1  ; BHI, not by C
+000160 30     | 10     0      0      177600 0      0  | 10     0      0      177600 0      40     0  ; JMP X(R)
+004537 30     | 0      0      123456 42     0      0  | 0      0      4      40     123456 30     0  ; JSR pushes the link
+004767 10     | 0      0      0      42     0      0  | 0      0      0      40     4      14     0  ; JSR PC
+000205 0      | 0      0      1000   40     123456 0  | 0      0      123456 42     123456 1000   0  ; RTS
+006417 0      | 0      0      1000   177600 123456 0  | 0      0      123456 42     123456 1000   0  ; MARK
+000002 0      | 0      0      0      36     177765 0  | 0      0      0      42     177765 0      5  ; RTI
+000277 0      | 0      0      0      177600 0      0  | 0      0      0      177600 0      2      17 ; SCC
+000242 0      | 0      0      0      177600 0      17 | 0      0      0      177600 0      2      15 ; CLV
+000271 0      | 0      0      0      177600 0      2  | 0      0      0      177600 0      2      13 ; SEN, SEC
+000240 0      | 0      0      0      177600 0      5  | 0      0      0      177600 0      2      5  ; no codes named
+000001 0      | 0      0      0      177600 0      11 | 0      0      0      177600 0      2      11 ; WAIT
+000005 0      | 0      0      0      177600 0      0  | 0      0      0      177600 0      2      0  ; RESET
+011001 0      | 40     0      0      177600 5      0  | 40     5      0      177600 5      2      0  ; (R)
+012001 0      | 40     0      0      177600 5      0  | 42     5      0      177600 5      2      0  ; (R)+
+013001 40     | 2      0      0      177600 5      0  | 4      5      0      177600 5      2      0  ; @(R)+
+014001 0      | 42     0      0      177600 5      0  | 40     5      0      177600 5      2      0  ; -(R)
+015001 40     | 4      0      0      177600 5      0  | 2      5      0      177600 5      2      0  ; @-(R)
+016001 20     | 20     0      0      177600 5      0  | 20     5      0      177600 5      4      0  ; X(R)
+017001 40     | 177742 0      0      177600 5      0  | 177742 5      0      177600 5      4      0  ; @X(R)
+012701 123456 | 0      0      0      177600 0      0  | 0      123456 0      177600 0      4      10 ; #n
+013701 40     | 0      0      0      177600 5      0  | 0      5      0      177600 5      4      0  ; @#a
+016701 34     | 0      0      0      177600 5      0  | 0      5      0      177600 5      4      0  ; relative
+112001 0      | 41     0      0      177600 2400   0  | 42     5      0      177600 2400   2      0  ; byte (R)+ steps by 1
+114001 0      | 42     0      0      177600 2400   0  | 41     5      0      177600 2400   2      0  ; byte -(R) steps by 1
+112601 0      | 0      0      0      40     2405   0  | 0      5      0      42     2405   2      0  ; byte (SP)+ steps by 2
+114601 0      | 0      0      0      42     2405   0  | 0      5      0      40     2405   2      0  ; byte -(SP) steps by 2
+113001 40     | 2      0      0      177600 7      0  | 4      7      0      177600 7      2      0  ; byte @(R)+ steps by 2
+060137 40     | 0      2      0      177600 3      0  | 0      2      0      177600 5      4      0  ; into memory
+010020 0      | 40     0      0      177600 0      0  | 42     0      0      177600 40     2      0  ; the source is read before the destination is formed
+016001 177777 | 41     0      0      177600 5      0  | 41     5      0      177600 5      4      0  ; addresses go round";
+
+// The octal numbers of a row, up to its name.
+fn numbers(row: &str, out: &mut Vec<u16>) -> Result<(), AllocError> {
+    let mut number: u16 = 0;
+    let mut is_open = false;
+    for byte in row.as_bytes() {
+        let digit = *byte;
+        if digit == b';' {
+            break;
+        }
+        if digit >= b'0' && digit <= b'7' {
+            number = number.wrapping_mul(8).wrapping_add((digit - b'0') as u16);
+            is_open = true;
+        } else if is_open {
+            out.push(number)?;
+            number = 0;
+            is_open = false;
+        }
+    }
+    Ok(())
+}
+
+#[test]
+fn instructions_do_what_their_pages_say(rt: HostRuntime) -> Result<(), Fail> {
+    let mut memory = Whole::new(rt.alloc())?;
+    memory.set_sizes(0, 1, 20);
+    let mut rows: u32 = 0;
+    let mut n: Vec<u16> = Vec::new(rt.alloc());
+    for row in ROWS.lines() {
+        n.clear();
+        numbers(row, &mut n)?;
+        assert_eq!(rt; n.len(), 15, "{row}");
+        assert_eq!(rt; memory.store_word(0, n[0]), Ok(()));
+        assert_eq!(rt; memory.store_word(2, n[1]), Ok(()));
+        assert_eq!(rt; memory.store_word(0o40, n[6]), Ok(()));
+        assert!(rt; n[7] < 16);
+        let r = [n[2], n[3], 0, 0, 0, n[4], n[5], 0];
+        let mut regs = Regs { r, cc: n[7] as u8 };
+        assert_eq!(rt; step(&mut regs, &mut memory), Outcome::Next, "{row}");
+        let r = regs.r;
+        assert_eq!(rt;
+            [r[0], r[1], r[5], r[6]],
+            [n[8], n[9], n[10], n[11]],
+            "{row}"
+        );
+        assert_eq!(rt; memory.load_word(0o40), Ok(n[12]), "{row}");
+        assert_eq!(rt; r[7], n[13], "{row}");
+        assert_eq!(rt; regs.cc as u16, n[14], "{row}");
+        rows = rows.wrapping_add(1);
+    }
+    assert_eq!(rt; rows, 136);
+    Ok(())
+}
+
+// The word at 0 and the one behind it, R0 and SP; what comes of it, and how far PC moves.
+const FAULTS: [([u16; 4], Outcome, u16); 27] = [
+    // MOV @#41,R0
+    ([0o013700, 0o41, 0, 0], Outcome::Fault(Kind::Odd), 0),
+    // MOV @(R0)+,R0 through an odd address
+    ([0o013000, 0, 0o41, 0], Outcome::Fault(Kind::Odd), 0),
+    // MOV R0,@#100, behind the data
+    (
+        [0o010037, 0o100, 0, 0o177600],
+        Outcome::Fault(Kind::Segment { sp: 0o177600 }),
+        0,
+    ),
+    // MOV (R0)+,-(SP), below the stack
+    (
+        [0o012046, 0, 0o40, 64256],
+        Outcome::Fault(Kind::Segment { sp: 64254 }),
+        0,
+    ),
+    // MOV (SP)+,R0
+    (
+        [0o012600, 0, 0, 64254],
+        Outcome::Fault(Kind::Segment { sp: 64256 }),
+        0,
+    ),
+    // MOV @-(SP),R0
+    (
+        [0o015600, 0, 0, 64256],
+        Outcome::Fault(Kind::Segment { sp: 64254 }),
+        0,
+    ),
+    // JSR PC,@#40
+    (
+        [0o004737, 0o40, 0, 64256],
+        Outcome::Fault(Kind::Segment { sp: 64254 }),
+        0,
+    ),
+    // JSR SP,@#40
+    (
+        [0o004637, 0o40, 0, 64256],
+        Outcome::Fault(Kind::Segment { sp: 64254 }),
+        0,
+    ),
+    // RTS PC
+    (
+        [0o000207, 0, 0, 64254],
+        Outcome::Fault(Kind::Segment { sp: 64256 }),
+        0,
+    ),
+    // RTI, whose second word isn't there
+    (
+        [0o000002, 0, 0, 0o76],
+        Outcome::Fault(Kind::Segment { sp: 0o102 }),
+        0,
+    ),
+    // MARK 40
+    (
+        [0o006440, 0, 0, 0],
+        Outcome::Fault(Kind::Segment { sp: 68 }),
+        0,
+    ),
+    ([0o000000, 0, 0, 0], Outcome::Fault(Kind::Illegal(0)), 2),
+    (
+        [0o000007, 0, 0, 0],
+        Outcome::Fault(Kind::Illegal(0o000007)),
+        2,
+    ),
+    (
+        [0o000107, 0, 0, 0],
+        Outcome::Fault(Kind::Illegal(0o000107)),
+        2,
+    ),
+    (
+        [0o000210, 0, 0, 0],
+        Outcome::Fault(Kind::Illegal(0o000210)),
+        2,
+    ),
+    (
+        [0o004005, 0, 0, 0],
+        Outcome::Fault(Kind::Illegal(0o004005)),
+        2,
+    ),
+    (
+        [0o006500, 0, 0, 0],
+        Outcome::Fault(Kind::Illegal(0o006500)),
+        2,
+    ),
+    (
+        [0o007000, 0, 0, 0],
+        Outcome::Fault(Kind::Illegal(0o007000)),
+        2,
+    ),
+    (
+        [0o075000, 0, 0, 0],
+        Outcome::Fault(Kind::Illegal(0o075000)),
+        2,
+    ),
+    (
+        [0o106400, 0, 0, 0],
+        Outcome::Fault(Kind::Illegal(0o106400)),
+        2,
+    ),
+    (
+        [0o170011, 0, 0, 0],
+        Outcome::Fault(Kind::Illegal(0o170011)),
+        2,
+    ),
+    ([0o000003, 0, 0, 0], Outcome::Fault(Kind::Bpt), 2),
+    ([0o000004, 0, 0, 0], Outcome::Fault(Kind::Iot), 2),
+    ([0o104377, 0, 0, 0], Outcome::Fault(Kind::Emt), 2),
+    ([0o104400, 0, 0, 0], Outcome::Call(0), 2),
+    ([0o104521, 0, 0, 0], Outcome::Call(0o21), 2),
+    ([0o104777, 0, 0, 0], Outcome::Call(0o77), 2),
+];
+
+#[test]
+fn faults_leave_what_was(rt: HostRuntime) -> Result<(), Fail> {
+    let mut memory = Whole::new(rt.alloc())?;
+    memory.set_sizes(0, 1, 20);
+    for (before, outcome, passed) in FAULTS {
+        let [word, next, r0, sp] = before;
+        assert_eq!(rt; memory.store_word(0, word), Ok(()));
+        assert_eq!(rt; memory.store_word(2, next), Ok(()));
+        let r = [r0, 1, 2, 3, 4, 5, sp, 0];
+        let mut regs = Regs { r, cc: 5 };
+        assert_eq!(rt; step(&mut regs, &mut memory), outcome, "{word}");
+        assert_eq!(rt; regs.r, [r0, 1, 2, 3, 4, 5, sp, passed], "{word}");
+        assert_eq!(rt; regs.cc, 5);
+    }
+    Ok(())
+}
+
+#[test]
+fn a_quotient_and_a_remainder_take_two_registers(rt: HostRuntime) -> Result<(), Fail> {
+    let mut memory = Whole::new(rt.alloc())?;
+    memory.set_sizes(0, 1, 0);
+    assert_eq!(rt; memory.store_word(0, 0o071002), Ok(()));
+    let r = [0, 7, 0o177776, 0, 0, 0, 0, 0];
+    let mut regs = Regs { r, cc: 0o17 };
+    assert_eq!(rt; step(&mut regs, &mut memory), Outcome::Next);
+    assert_eq!(rt; regs.r, [0o177775, 1, 0o177776, 0, 0, 0, 0, 2]);
+    assert_eq!(rt; regs.cc, 0o10);
+    Ok(())
+}
+
+#[test]
+fn a_program_that_leaves_its_memory_stops(rt: HostRuntime) -> Result<(), Fail> {
+    let mut memory = Whole::new(rt.alloc())?;
+    memory.set_sizes(0, 1, 0);
+    let r = [0, 0, 0, 0, 0, 0, 7, 64];
+    let mut regs = Regs { r, cc: 0 };
+    assert_eq!(rt;
+        step(&mut regs, &mut memory),
+        Outcome::Fault(Kind::Segment { sp: 7 })
+    );
+    regs.r[7] = 3;
+    assert_eq!(rt; step(&mut regs, &mut memory), Outcome::Fault(Kind::Odd));
+    Ok(())
+}
