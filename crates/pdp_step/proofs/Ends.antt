@@ -8,7 +8,7 @@ use Rattle.pdp_step.specs.declared.rows.Halt.TheVariants.{HaltStill, HaltPast}
 use Rattle.pdp_step.specs.Operands.{Stop, stop_of}
 use Rattle.pdp_step.specs.Behind.{finished_by}
 use Rattle.pdp_step.specs.Rows.{Effect}
-use Rattle.pdp_step.specs.Instruction.{Planned, Go, Past, Still, Finished, Done, Passed, Stopped, after_store, finish_of, finished, stored}
+use Rattle.pdp_step.specs.Instruction.{Planned, Go, Past, Still, Passed, Stopped, after_store, finish_of, finished, stored}
 
 after_passed : (m m' : Image) (e : Effect) (s : Result Image Trap) (d : Demand) → Passed d m' ≡ after_store m e s → m' ≡ m
 after_passed m m' e (Ok new) d is = cc

@@ -6,3 +6,4 @@ pub mod Rows
 pub mod Outcomes
 pub mod Instruction
 pub mod Behind
+pub mod Form

@@ -6,6 +6,7 @@ ghost use Rattle.pdp_step.specs.Operands.{stop_with};
 ghost use Rattle.pdp_step.specs.Outcomes.{stop_outcome, demand_outcome, IsStill, IsPast};
 ghost use Rattle.pdp_step.specs.Instruction.{row_of, plan_of, finished, stepped, instr};
 ghost use Rattle.pdp_step.specs.Behind.{finished_by};
+ghost use Rattle.pdp_step.specs.Form.{KeepsForm};
 
 use crate::arithmetic::{Change, Combine, outcome};
 use crate::outcome::{Demand, Kind, Outcome};
@@ -19,7 +20,8 @@ use pdp_decode::{Instr, Reg, SoftTrap, Width, decode};
 use v6_base::{Space, Trap};
 
 /// One instruction: the word at PC is fetched, PC passes it, and what its row says is done. After a fault it was not done:
-/// `Odd` and `Segment` leave everything as it was, the other faults and a call have moved PC behind the word alone.
+/// `Odd` and `Segment` leave everything as it was, the other faults and a call have moved PC behind the word alone. The
+/// text and the sizes of the data and of the stack stay in any case.
 #[inline(always)]
 #[tactic(auto, unfolding(crate::specs::Instruction::instr))]
 pub fn step<S: Space>(regs: &mut Regs, space: &mut S) -> Outcome
@@ -27,6 +29,7 @@ pub fn step<S: Space>(regs: &mut Regs, space: &mut S) -> Outcome
     ensures rest { S.rest space.new ≡ S.rest space.old }
     ensures still { IsStill result → (regs.new.r ≡ regs.old.r) × (regs.new.cc ≡ regs.old.cc) × (S.image space.new ≡ S.image space.old) }
     ensures past { IsPast result → (regs.new.r ≡ passed regs.old.r) × (regs.new.cc ≡ regs.old.cc) × (S.image space.new ≡ S.image space.old) }
+    ensures form { KeepsForm (S.image space.old) (S.image space.new) }
 {
     let mut after = *regs;
     match attempt(space, &mut after) {
