@@ -117,7 +117,7 @@ sign_made cc =
     let k = codes_in cc in
     record { value = (if k.n then 65535 else 0); cc = flag_bits (record { n = k.n; z = not k.n; v = false; c = k.c }) }
 
--- MUL: the high word of the product, then the low word into the register or its odd neighbour
+-- the second register of a pair; an odd register is both
 abbrev pub odd_of : Reg → Reg
 odd_of R0 = R1
 odd_of R1 = R1
@@ -136,13 +136,14 @@ with_pair r n high low = with_reg (with_reg r n high) (odd_of n) low
 abbrev pub pair_in : List ℕ → Reg → ℕ
 pair_in r n = 65536 * reg_in r n + reg_in r (odd_of n)
 
+-- MUL
 unfoldable pub multiplied : Image → List ℕ → Reg → Operand → Result Effect Stop
 multiplied m r n s =
     then_do (fetched m r Word s) (λ src.
     let p = product_of (reg_in src.r n) src.value in
     Ok (keep_of (with_pair src.r n (p / 65536) (p % 65536)) (flag_bits (product_codes p))))
 
--- by 0: N and Z cleared, V and C set; a quotient that doesn't fit: V alone set; both leave the registers
+-- DIV by 0: N and Z cleared, V and C set; a quotient that doesn't fit: V alone set; both leave the registers
 unfoldable pub division_of : List ℕ → Reg → ℕ → Effect
 division_of r n s =
     let d = pair_in r n in
@@ -151,6 +152,7 @@ division_of r n s =
     else (let q = quotient_of d s in
     keep_of (with_pair r n q (remainder_of d s)) (flag_bits (record { n = nat_le 0o100000 q; z = q == 0; v = false; c = false }))))
 
+-- DIV
 unfoldable pub divided : Image → List ℕ → Reg → Operand → Result Effect Stop
 divided m r n s =
     then_do (fetched m r Word s) (λ src.
