@@ -1,6 +1,6 @@
 -- What is shown of bytes one after another.
-use Rattle.std.proofs.Common.{◌≡◌, ℕ, List, [], ◌∷◌, ◌++◌, ◌+◌, ◌<◌, length, take, get_or, refl, sym, ◌∙◌, ap, append_assoc, replicate}
-use Rattle.std.proofs.lemmas.List.{replicate-append-replicate, append-nil, take_more}
+use Rattle.std.proofs.Common.{◌≡◌, ℕ, List, [], ◌∷◌, ◌++◌, ◌+◌, refl, sym, ◌∙◌, ap, append_assoc, replicate}
+use Rattle.std.proofs.lemmas.List.{replicate-append-replicate, append-nil}
 use Rattle.std.proofs.lemmas.List.Sums.{fold-append}
 use Rattle.unix_core.specs.Console.{column_after, column_behind, shown_byte, shown_bytes}
 
@@ -21,8 +21,6 @@ shown_bytes-append column (x ∷ xs) ys =
     ∙ sym (append_assoc first (shown_bytes at xs) (shown_bytes (column_behind column (first ++ shown_bytes at xs)) ys))
 
 -- one byte more
-pub shown_bytes_more : (column : ℕ) (bytes : List ℕ) (i : ℕ) → i < length bytes
-    → shown_bytes column (take (i + 1) bytes) ≡ shown_bytes column (take i bytes) ++ shown_byte (column_behind column (shown_bytes column (take i bytes))) (get_or bytes i 0)
-shown_bytes_more column bytes i h =
-    ap (shown_bytes column) (take_more bytes i 0 h) ∙ shown_bytes-append column (take i bytes) (get_or bytes i 0 ∷ [])
-    ∙ ap (λ l. shown_bytes column (take i bytes) ++ l) (append-nil (shown_byte (column_behind column (shown_bytes column (take i bytes))) (get_or bytes i 0)))
+pub shown_bytes_then : (column : ℕ) (xs : List ℕ) (x : ℕ) → shown_bytes column (xs ++ x ∷ []) ≡ shown_bytes column xs ++ shown_byte (column_behind column (shown_bytes column xs)) x
+shown_bytes_then column xs x =
+    shown_bytes-append column xs (x ∷ []) ∙ ap (λ l. shown_bytes column xs ++ l) (append-nil (shown_byte (column_behind column (shown_bytes column xs)) x))

@@ -1,6 +1,6 @@
 -- What is read of a disk image before the first turn: file system(V), directory(V) and a.out(V) of the UNIX Programmer's
 -- Manual. An image is a list of bytes, 512 to a block; bytes past its end are 0.
-use Rattle.std.specs.Prelude.{ℕ, Bool, not, List, ◌++◌, ◌+◌, ◌-◌, ◌*◌, ◌/◌, ◌%◌, ◌&&◌, ◌==◌, nat_le, nat_lt, nat_eq, if◌then◌else◌, Option, Some, None, slice_index_or, slice_index, take, map, find, bit_and, replicate, length}
+use Rattle.std.specs.Prelude.{◌≡◌, ◌≤◌, ℕ, Bool, not, List, ◌++◌, ◌+◌, ◌-◌, ◌*◌, ◌/◌, ◌%◌, ◌&&◌, ◌==◌, nat_le, nat_lt, nat_eq, if◌then◌else◌, Option, Some, None, slice_index_or, slice_index, take, map, find, bit_and, replicate, length}
 use Rattle.std.specs.Option.{option_map, option_and_then}
 use Rattle.std.specs.List.{range_with_len, list_all}
 use Rattle.std.specs.Cmp.Lexicographic.{pointwise}
@@ -101,6 +101,10 @@ program_bytes image node =
     let count = filled_size image node in
     map (λ i. byte_at image (place_in node (16 + i))) (range_with_len 0 count)
     ++ replicate (64 * ((count + bss_size image node + 63) / 64) - count) 0
+
+-- whole clicks, 28 at most
+abbrev pub IsProgramSize : ℕ → Type 0
+IsProgramSize size = (size ≤ 1792) × (64 * (size / 64) ≡ size)
 
 -- the console: the character device 0, 0
 abbrev pub is_console : Inode → Bool

@@ -1,19 +1,25 @@
--- Process 1 and the kernel round it, as far as they are built, and one turn of it: the instructions MOV and BR of the
--- PDP-11/40 Processor Handbook, and exec(II), exit(II), open(II) and write(II) of the UNIX Programmer's Manual.
-use Rattle.std.specs.Prelude.{◌<◌, ℕ, Bool, true, false, not, List, [], ◌∷◌, ◌++◌, ◌+◌, ◌-◌, ◌*◌, ◌/◌, ◌%◌, ◌&&◌, ◌||◌, ◌==◌, nat_le, nat_lt, nat_eq, if◌then◌else◌, Option, Some, None, slice_index, slice_set, take, drop, length, codes}
+-- Process 1 and the kernel round it, as far as they are built, and one turn of it: an instruction of the PDP-11/40, and
+-- exec(II), exit(II), open(II) and write(II) of the UNIX Programmer's Manual.
+use Rattle.std.specs.Prelude.{ℕ, Bool, true, not, List, [], ◌∷◌, ◌++◌, ◌+◌, ◌-◌, ◌*◌, ◌%◌, ◌&&◌, ◌||◌, ◌==◌, nat_le, nat_eq, if◌then◌else◌, Result, Ok, Err, is_ok, slice_index, slice_set, map, codes}
+use Rattle.std.specs.List.{range_with_len, list_all}
 use Rattle.std.specs.Cmp.Lexicographic.{pointwise}
+use Rattle.v6_base.specs.declared.space.Trap.{Trap}
+use Rattle.v6_base.specs.Image.{Image}
+use Rattle.v6_base.specs.Access.{load_byte, load_word}
 use Rattle.v6_base.specs.Trace.{Item, sent}
+use Rattle.pdp_step.specs.declared.outcome.Outcome.{Outcome}
+use Rattle.pdp_step.specs.declared.outcome.Outcome.TheVariants.{Next, Call, Fault}
+use Rattle.pdp_step.specs.Instruction.{Stepped, instr}
 use Rattle.unix_core.specs.declared.kernel.Stage.{Stage}
 use Rattle.unix_core.specs.declared.kernel.Stage.TheVariants.{Fresh, Running, Ended}
 use Rattle.unix_core.specs.declared.kernel.Turned.{Turned}
 use Rattle.unix_core.specs.declared.kernel.Turned.TheVariants.{Ran, Idle, NotBuilt}
-use Rattle.unix_core.specs.declared.instruction.Instruction.{Instruction}
-use Rattle.unix_core.specs.declared.instruction.Instruction.TheVariants as instruction
 use Rattle.unix_core.specs.Console.{shown_bytes, column_behind}
 
 pub record Unix : Type 0 where
   pub stage : Stage
-  pub memory : List ℕ  -- the bytes of process 1 from address 0 on
+  pub image : Image  -- text, data and stack of process 1
+  pub data_size : ℕ  -- the bytes of its data
   pub registers : List ℕ  -- R0 to R6 and the PC
   pub condition : ℕ  -- its condition codes: N 8, Z 4, V 2, C 1
   pub has_console : Bool  -- its file number 0 is the console, open for writing
@@ -34,122 +40,97 @@ pc u = register u 7
 abbrev pub with_register : Unix → ℕ → ℕ → Unix
 with_register u r value = record u { registers = slice_set u.registers r value }
 
--- the PC passes an instruction of this many bytes
-abbrev pub passing : Unix → ℕ → Unix
-passing u count = with_register u 7 ((pc u + count) % 65536)
-
--- the word at an even address, where both its bytes are there
-abbrev pub memory_word : List ℕ → ℕ → Option ℕ
-memory_word memory at =
-    if (at % 2 == 0) && nat_lt (at + 1) (length memory) then Some (slice_index memory at + 256 * slice_index memory (at + 1)) else None
-
--- the word so many bytes behind the PC, where addresses go round
-abbrev pub word_behind : Unix → ℕ → Option ℕ
-word_behind u count = memory_word u.memory ((pc u + count) % 65536)
-
--- so many bytes from an address on, where all of them are there
-abbrev pub memory_bytes : List ℕ → ℕ → ℕ → Option (List ℕ)
-memory_bytes memory at count = if (count == 0) || nat_le (at + count) (length memory) then Some (take count (drop at memory)) else None
-
 abbrev pub ran : List Item → Unix → Turn
 ran items next = record { answer = Ran; items = items; next = next }
 
--- what isn't built shows and changes nothing
-abbrev pub not_built : Unix → Turn
-not_built u = record { answer = NotBuilt (pc u); items = []; next = u }
+-- what stands at this PC isn't built: it shows nothing
+abbrev pub not_built : ℕ → Unix → Turn
+not_built at u = record { answer = NotBuilt at; items = []; next = u }
 
--- exec(II) gives the program's registers: the stack holds `/etc/init` and its NUL, its address, the end of the addresses and
--- their number, which are sixteen bytes in all
+-- exec(II) gives the program's registers; the argument's sixteen bytes are on the stack
 abbrev pub exec : Unix → Turn
 exec u = ran [] (record u { stage = Running; registers = 0 ∷ 0 ∷ 0 ∷ 0 ∷ 0 ∷ 0 ∷ 65520 ∷ 0 ∷ []; condition = 0 })
 
--- MOV to a register: N and Z go by the value, V is cleared, and C stays
-abbrev pub moved : Unix → ℕ → ℕ → Turn
-moved u r value = ran [] (with_register (record u {
-  condition = (if nat_le 32768 value then 8 else 0) + (if value == 0 then 4 else 0) + u.condition % 2;
-}) r value)
+-- so many bytes of an image from an address on, where addresses go round
+abbrev pub is_there : Image → ℕ → ℕ → Bool
+is_there image at i = is_ok (load_byte image ((at + i) % 65536))
 
-abbrev pub moved_from : Unix → ℕ → Option ℕ → Turn
-moved_from u r None = not_built u
-moved_from u r (Some value) = moved (passing u 4) r value
+abbrev pub are_there : Image → ℕ → ℕ → Bool
+are_there image at count = list_all (is_there image at) (range_with_len 0 count)
 
--- BR: twice the offset, with its sign, is added to the PC behind the word
-abbrev pub branched : Unix → ℕ → Turn
-branched u offset = ran [] (passing u (2 + 2 * offset + (if nat_lt offset 128 then 0 else 65024)))
+abbrev pub byte_or_zero : Result ℕ Trap → ℕ
+byte_or_zero (Ok byte) = byte
+byte_or_zero (Err trap) = 0
 
--- a call clears C, and the PC passes the arguments behind it
-abbrev pub called : Unix → ℕ → Unix
-called u arguments = passing (record u { condition = u.condition - u.condition % 2 }) (2 + 2 * arguments)
+abbrev pub bytes_from : Image → ℕ → ℕ → List ℕ
+bytes_from image at count = map (λ i. byte_or_zero (load_byte image ((at + i) % 65536))) (range_with_len 0 count)
+
+-- the word behind the call, and the one behind that
+abbrev pub argument : Unix → ℕ → Result ℕ Trap
+argument u k = load_word u.image ((pc u + 2 * k) % 65536)
+
+-- a call that is done clears C, the PC passes its two arguments, and R0 takes what it gives
+abbrev pub answered : Unix → ℕ → Unix
+answered u value = record u {
+  registers = slice_set (slice_set u.registers 7 ((pc u + 4) % 65536)) 0 value;
+  condition = u.condition - u.condition % 2;
+}
 
 abbrev pub console_name : List ℕ
 console_name = codes "/dev/tty8" ++ 0 ∷ []
 
+abbrev pub names_console : Image → ℕ → Bool
+names_console image at = are_there image at 10 && pointwise nat_eq (bytes_from image at 10) console_name
+
 -- open(II) of the console for writing, once, which gives file number 0
-abbrev pub is_name : Option (List ℕ) → Bool
-is_name None = false
-is_name (Some name) = pointwise nat_eq name console_name
+abbrev pub may_open : Unix → ℕ → ℕ → Bool
+may_open u name mode = names_console u.image name && not u.has_console && (mode == 1)
 
-abbrev pub open_by : Unix → Bool → Turn
-open_by u allowed =
-    if allowed then ran [] (record (with_register (called u 2) 0 0) { has_console = true }) else not_built u
+abbrev pub opens : ℕ → Unix → Bool → Turn
+opens at u allowed = if allowed then ran [] (record (answered u 0) { has_console = true }) else not_built at u
 
-abbrev pub opened : Unix → Option ℕ → Option ℕ → Turn
-opened u (Some name) (Some mode) = open_by u (is_name (memory_bytes u.memory name 10) && not u.has_console && (mode == 1))
-opened u name mode = not_built u
+abbrev pub opened : ℕ → Unix → Result ℕ Trap → Result ℕ Trap → Turn
+opened at u (Ok name) (Ok mode) = opens at u (may_open u name mode)
+opened at u name mode = not_built at u
 
--- write(II) to the console of bytes that are all there, which gives their number
-abbrev pub write_by : Unix → Option (List ℕ) → ℕ → Turn
-write_by u None count = not_built u
-write_by u (Some bytes) count =
-    if u.has_console && (register u 0 == 0)
-    then (let shown = shown_bytes u.column bytes in
-    ran (sent 0 shown) (record (with_register (called u 2) 0 count) { column = column_behind u.column shown }))
-    else not_built u
+-- write(II) to the console of bytes that all lie in the data, which gives their number
+abbrev pub may_write : Unix → ℕ → ℕ → Bool
+may_write u from count =
+    u.has_console && (register u 0 == 0) && ((count == 0) || nat_le (from + count) u.data_size) && are_there u.image from count
 
-abbrev pub written : Unix → Option ℕ → Option ℕ → Turn
-written u (Some at) (Some count) = write_by u (memory_bytes u.memory at count) count
-written u at count = not_built u
+abbrev pub writes : ℕ → Unix → ℕ → ℕ → Bool → Turn
+writes at u from count allowed =
+    let shown = shown_bytes u.column (bytes_from u.image from count) in
+    if allowed then ran (sent 0 shown) (record (answered u count) { column = column_behind u.column shown }) else not_built at u
 
--- an instruction, or a call with its arguments in the words behind it
-abbrev pub done_by : Unix → Instruction → Turn
-done_by u (instruction.MoveRegister from to) = moved (passing u 2) to (register (passing u 2) from)
-done_by u (instruction.MoveImmediate to) = moved_from u to (word_behind u 2)
-done_by u (instruction.Branch offset) = branched u offset
-done_by u instruction.Exit = ran [] (record u { stage = Ended })
-done_by u instruction.Open = opened u (word_behind u 2) (word_behind u 4)
-done_by u instruction.Write = written u (word_behind u 2) (word_behind u 4)
-done_by u instruction.Other = not_built u
+abbrev pub written : ℕ → Unix → Result ℕ Trap → Result ℕ Trap → Turn
+written at u (Ok from) (Ok count) = writes at u from count (may_write u from count)
+written at u from count = not_built at u
 
--- the words that are built
-abbrev pub instruction_of : ℕ → Instruction
-instruction_of word =
-    if (word / 0o1000 == 0o10) && (word / 0o10 % 0o10 == 0) && nat_lt (word % 0o10) 7
-    then instruction.MoveRegister (word / 0o100 % 0o10) (word % 0o10) else (
-    if (word / 0o10 == 0o1270) && nat_lt (word % 0o10) 7
-    then instruction.MoveImmediate (word % 0o10) else (
-    if word / 0o400 == 1 then instruction.Branch (word % 0o400) else (
-    if word == 0o104401 then instruction.Exit else (
-    if word == 0o104405 then instruction.Open else (
-    if word == 0o104404 then instruction.Write else instruction.Other)))))
+-- a call by its number; the PC stands behind its word
+abbrev pub called : ℕ → Unix → ℕ → Turn
+called at u number =
+    if number == 1 then ran [] (record u { stage = Ended }) else (
+    if number == 5 then opened at u (argument u 0) (argument u 1) else (
+    if number == 4 then written at u (argument u 0) (argument u 1) else not_built at u))
 
--- the registers that an instruction names are there
-abbrev pub NamesRegisters : Instruction → Type 0
-NamesRegisters (instruction.MoveRegister from to) = (from < 8) × (to < 7)
-NamesRegisters (instruction.MoveImmediate to) = to < 7
-NamesRegisters (instruction.Branch offset) = Unit {0}
-NamesRegisters instruction.Exit = Unit {0}
-NamesRegisters instruction.Open = Unit {0}
-NamesRegisters instruction.Write = Unit {0}
-NamesRegisters instruction.Other = Unit {0}
+-- what an instruction comes to
+abbrev pub comes_to : ℕ → Unix → Outcome → Turn
+comes_to at u Next = ran [] u
+comes_to at u (Call number) = called at u number
+comes_to at u (Fault kind) = not_built at u
 
-abbrev pub runs_by : Unix → Option ℕ → Turn
-runs_by u None = not_built u
-runs_by u (Some word) = done_by u (instruction_of word)
+-- the Unix behind an instruction
+abbrev pub with_step : Unix → Stepped → Unix
+with_step u s = record u { registers = s.r; condition = s.cc; image = s.image }
+
+abbrev pub runs_on : Unix → Stepped → Turn
+runs_on u s = comes_to (pc u) (with_step u s) s.outcome
 
 -- the turn of a slot: first the exec of `/etc/init`, then an instruction a turn until it exits
 abbrev pub turn_at : Stage → Unix → Turn
 turn_at Fresh u = exec u
-turn_at Running u = runs_by u (memory_word u.memory (pc u))
+turn_at Running u = runs_on u (instr u.registers u.condition u.image)
 turn_at Ended u = record { answer = Idle; items = []; next = u }
 
 abbrev pub turn_of : Unix → Turn

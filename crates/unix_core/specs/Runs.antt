@@ -1,6 +1,7 @@
 -- A run as a function: from an image, a core size and a list of events to what is shown and how it ends.
-use Rattle.std.specs.Prelude.{ℕ, false, List, [], ◌∷◌, ◌++◌, ◌&&◌, nat_le, if◌then◌else◌, Option, Some, None, length, codes}
+use Rattle.std.specs.Prelude.{ℕ, false, List, [], ◌∷◌, ◌++◌, ◌&&◌, ◌*◌, nat_le, if◌then◌else◌, Option, Some, None, length, codes, replicate}
 use Rattle.std.specs.Option.{option_map}
+use Rattle.v6_base.specs.Image.{Image}
 use Rattle.v6_base.specs.Trace.{Item}
 use Rattle.unix_core.specs.declared.disk.Inode.{Inode}
 use Rattle.unix_core.specs.declared.kernel.Stage.TheVariants.{Fresh}
@@ -9,11 +10,25 @@ use Rattle.unix_core.specs.declared.kernel.Turned.TheVariants.{Ran, Idle, NotBui
 use Rattle.unix_core.specs.Disk.{reached_through, filled, is_program, is_console, program_bytes}
 use Rattle.unix_core.specs.Machine.{Unix, Turn, turn_of}
 
+-- What exec(II) leaves at the end of the stack for the one argument: the number 1, the argument's address, -1, and the
+-- argument, `/etc/init`, with its NUL.
+abbrev pub first_arguments : List ℕ
+first_arguments = 1 ∷ 0 ∷ 0o366 ∷ 0o377 ∷ 0o377 ∷ 0o377 ∷ [] ++ codes "/etc/init" ++ 0 ∷ []
+
+-- a memory with no text, so many clicks of data and twenty of stack, all zeros
+abbrev pub cleared_image : ℕ → Image
+cleared_image clicks = record { text = []; «data» = replicate (64 * clicks) 0; stack = replicate 1280 0 }
+
+-- a program's memory as it begins: its bytes, and twenty clicks of stack
+abbrev pub image_with : List ℕ → Image
+image_with program = record { text = []; «data» = program; stack = replicate 1264 0 ++ first_arguments }
+
 -- the Unix before its first turn: process 1 is about to execute `/etc/init`
 abbrev pub unix_with : List ℕ → Unix
 unix_with program = record {
   stage = Fresh;
-  memory = program;
+  image = image_with program;
+  data_size = length program;
   registers = 0 ∷ 0 ∷ 0 ∷ 0 ∷ 0 ∷ 0 ∷ 0 ∷ 0 ∷ [];
   condition = 0;
   has_console = false;

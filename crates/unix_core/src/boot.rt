@@ -4,6 +4,7 @@ ghost use Rattle.unix_core.specs.Runs.{boots};
 
 use crate::disk::{is_program, program_bytes, reached_through};
 use crate::kernel::Kernel;
+use crate::program::space_with;
 use std::alloc::Global;
 
 /// The bytes of a disk of 4,872 blocks.
@@ -50,8 +51,11 @@ impl Kernel {
         if !is_program(image, &init) || !console.is_console() {
             return Err(BootFault::NotBuilt);
         }
-        match program_bytes(alloc, image, &init) {
-            Ok(memory) => Ok(Kernel::with_program(memory)),
+        let Ok(program) = program_bytes(alloc, image, &init) else {
+            return Err(BootFault::NoMemory);
+        };
+        match space_with(alloc, &program) {
+            Ok(space) => Ok(Kernel::with_image(space, program.len() as u16)),
             Err(_) => Err(BootFault::NoMemory),
         }
     }

@@ -3,9 +3,11 @@ ghost use Rattle.std.specs.Prelude.{◌≡◌, ℕ, Option, ◌%◌};
 ghost use Rattle.std.specs.Option.{option_map};
 ghost use Rattle.v6_base.specs.Trace.{Took, sent, Byte};
 ghost use Rattle.std.specs.Prelude.{[], ◌∷◌, ◌-◌, replicate};
+ghost use Rattle.unix_core.specs.Machine.{bytes_from};
 ghost use Rattle.unix_core.specs.Console.{escaped, column_after, column_behind, shown_byte, shown_bytes};
 
-use v6_base::Trace;
+use crate::memory::byte_from;
+use v6_base::{Space, Trace};
 
 /// What follows a backslash for a byte that a terminal with capitals alone lacks.
 fn escape(byte: u8) -> Option<u8>
@@ -86,15 +88,16 @@ fn show_byte<T: Trace>(column: u8, byte: u8, trace: &mut T) -> u8
     }
 }
 
-/// Shows bytes one after another, and gives the column behind them.
-pub fn show<T: Trace>(column: u8, bytes: &[u8], trace: &mut T) -> u8
-    ensures column { result ≡ column_behind column (shown_bytes column bytes.now) }
-    ensures items { Took (T.taken trace.old) (sent 0 (shown_bytes column bytes.now)) (T.taken trace.new) }
+/// Shows so many bytes of a memory from an address on, one after another, and gives the column behind them. A byte that isn't
+/// there counts as 0.
+pub fn show<S: Space, T: Trace>(column: u8, space: &S, from: u16, count: u16, trace: &mut T) -> u8
+    ensures column { result ≡ column_behind column (shown_bytes column (bytes_from (S.image space.now) from count)) }
+    ensures items { Took (T.taken trace.old) (sent 0 (shown_bytes column (bytes_from (S.image space.now) from count))) (T.taken trace.new) }
     ensures frame { T.leads_to trace.old trace.new }
 {
     let mut at = column;
-    for byte in bytes {
-        at = show_byte(at, *byte, trace);
+    for i in 0..count {
+        at = show_byte(at, byte_from(space, from, i), trace);
     }
     at
 }

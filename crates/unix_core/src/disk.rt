@@ -1,7 +1,7 @@
 //! What is read of a disk image before the first turn. Bytes past an image's end are 0.
 ghost use Rattle.std.specs.Prelude.{map, ◌≡◌, ℕ, ◌+◌, ◌*◌, ◌/◌, ◌<◌, ◌≤◌, ◌^◌, ◌&&◌, nat_le, nat_lt, IsTrue, length, codes, slice_index, vec_len, IfOk, Option, Bool};
 ghost use Rattle.std.specs.List.{list_all, range_with_len};
-ghost use Rattle.unix_core.specs.Disk.{byte_at, word_at, bytes_at, inode_at, inode_of, file_type, has_execute_bit, is_small, place_in, is_entry_of, entry_named, is_searched, reached, reached_through, filled_size, bss_size, is_program, program_bytes, is_console, has_name};
+ghost use Rattle.unix_core.specs.Disk.{IsProgramSize, byte_at, word_at, bytes_at, inode_at, inode_of, file_type, has_execute_bit, is_small, place_in, is_entry_of, entry_named, is_searched, reached, reached_through, filled_size, bss_size, is_program, program_bytes, is_console, has_name};
 
 use std::alloc::{AllocError, Global};
 
@@ -238,7 +238,8 @@ fn filled_bytes(alloc: Global, image: &[u8], node: &Inode) -> Result<Vec<u8>, Al
 /// A program's bytes as it begins, in whole clicks.
 pub fn program_bytes(alloc: Global, image: &[u8], node: &Inode) -> Result<Vec<u8>, AllocError>
     requires { filled_size image.now node.now + bss_size image.now node.now ≤ 1792 }
-    ensures { IfOk result (λ bytes. bytes.items ≡ program_bytes image.now node.now) }
+    ensures items { IfOk result (λ bytes. bytes.items ≡ program_bytes image.now node.now) }
+    ensures size { IfOk result (λ bytes. IsProgramSize (length bytes.items)) }
 {
     let size = filled_size(image, node) + bss_size(image, node);
     let mut bytes = filled_bytes(alloc, image, node)?;

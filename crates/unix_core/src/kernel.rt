@@ -1,18 +1,22 @@
 //! The kernel, which takes one event a call.
-ghost use Rattle.std.specs.Prelude.{◌≡◌, ℕ, ◌%◌, ◌+◌, ◌<◌, ◌&&◌, ◌==◌, [], ◌∷◌, Option, Some, None, List};
+ghost use Rattle.std.specs.Prelude.{◌≡◌, ℕ, false, ◌%◌, ◌*◌, ◌+◌, ◌<◌, ◌≤◌, ◌&&◌, ◌==◌, [], ◌∷◌, Option, Some, None, List, length};
 ghost use Rattle.v6_base.specs.Trace.{Took};
 
 use crate::console::show;
-use crate::instruction::{Instruction, decode};
-use crate::memory::{bytes_in, word_in};
+use crate::memory::{are_there, names_console};
+use pdp_step::{Outcome, Regs, step};
 use std::marker::Model;
-use v6_base::Trace;
-
-/// The name that `open` is built for, with its NUL.
-const CONSOLE_NAME: &[u8; 10] = b"/dev/tty8\0";
+use v6_base::{Space, Trace, Trap, Whole};
 
 /// Where the stack begins that holds `/etc/init` as the only argument: 16 bytes below the end.
 const FIRST_STACK: u16 = 65520;
+
+/// The numbers of the calls that are built: section II of the manual.
+const EXIT: u8 = 1;
+
+const WRITE: u8 = 4;
+
+const OPEN: u8 = 5;
 
 /// How far process 1 has come.
 #[derive(Clone, Copy, Debug, PartialEq, Eq)]
@@ -30,7 +34,7 @@ pub enum Turned {
     Ran,
     /// There is no process to run.
     Idle,
-    /// What stands at this address of process 1 isn't built: an instruction, a call, or a fault that would be one's end.
+    /// The instruction at this address of process 1 comes to a fault, or to a call that isn't built.
     NotBuilt(u16),
 }
 
@@ -38,9 +42,9 @@ pub enum Turned {
 #[derive(Drop)]
 pub struct Kernel {
     stage: Stage,
-    memory: Vec<u8>,
-    registers: [u16; 8],
-    condition: u8,
+    space: Whole,
+    data_size: u16,
+    regs: Regs,
     has_console: bool,
     column: u8,
 }
@@ -52,27 +56,38 @@ impl Model for Kernel {
 
     ghost view = { λ k. record {
       stage = k.stage;
-      memory = k.memory.items;
-      registers = k.registers;
-      condition = k.condition;
+      image = k.space;
+      data_size = k.data_size;
+      registers = k.regs.r;
+      condition = k.regs.cc;
       has_console = k.has_console;
       column = k.column;
     } };
 }
 
 impl Kernel {
-    ghost use Rattle.unix_core.specs.Machine.{Unix, Turn, register, pc, with_register, passing, called, moved, moved_from, branched, opened, open_by, written, write_by, done_by, NamesRegisters, runs_by, exec, ran, not_built, memory_word, memory_bytes, is_name, word_behind};
-    ghost use Rattle.unix_core.specs.Runs.{Slot, event_of, unix_with, started};
+    ghost use Rattle.v6_base.specs.Image.{Image};
+    ghost use Rattle.unix_core.specs.Machine.{Unix, Turn, register, pc, with_register, argument, answered, may_open, opens, opened, may_write, writes, written, called, comes_to, with_step, runs_on, exec, ran, not_built};
+    ghost use Rattle.pdp_step.specs.Instruction.{instr};
+    ghost use Rattle.unix_core.specs.Runs.{Slot, event_of, unix_with, image_with, started};
 
-    /// A kernel that is about to execute this program.
-    pub(crate) fn with_program(memory: Vec<u8>) -> Self
-        ensures { result ≡ unix_with memory.items }
+    /// A kernel that is about to execute the program whose image this is.
+    pub(crate) fn with_image(space: Whole, data_size: u16) -> Self
+        ensures { result ≡ record {
+          stage = Stage.Fresh;
+          image = space;
+          data_size = data_size;
+          registers = 0 ∷ 0 ∷ 0 ∷ 0 ∷ 0 ∷ 0 ∷ 0 ∷ 0 ∷ [];
+          condition = 0;
+          has_console = false;
+          column = 0;
+        } }
     {
         Kernel {
             stage: Stage::Fresh,
-            memory,
-            registers: [0; 8],
-            condition: 0,
+            space,
+            data_size,
+            regs: Regs { r: [0; 8], cc: 0 },
             has_console: false,
             column: 0,
         }
@@ -95,8 +110,8 @@ impl Kernel {
         ensures frame { T.leads_to trace.old trace.new }
     {
         match self.stage {
-            Stage::Fresh => self.exec(),
             Stage::Running => return self.run(trace),
+            Stage::Fresh => self.exec(),
             Stage::Ended => return Turned::Idle,
         }
         Turned::Ran
@@ -107,168 +122,117 @@ impl Kernel {
         ensures { self.new ≡ (exec self.old).next }
     {
         self.stage = Stage::Running;
-        self.registers = [0, 0, 0, 0, 0, 0, FIRST_STACK, 0];
-        self.condition = 0;
+        self.regs = Regs {
+            r: [0, 0, 0, 0, 0, 0, FIRST_STACK, 0],
+            cc: 0,
+        };
     }
 
     /// The turn of the running process.
+    #[inline]
     fn run<T: Trace>(&mut self, trace: &mut T) -> Turned
-        ensures answer { result ≡ (runs_by self.old (memory_word self.old.memory (pc self.old))).answer }
-        ensures next { self.new ≡ (runs_by self.old (memory_word self.old.memory (pc self.old))).next }
-        ensures items { Took (T.taken trace.old) (runs_by self.old (memory_word self.old.memory (pc self.old))).items (T.taken trace.new) }
+        ensures answer { result ≡ (runs_on self.old (instr self.old.registers self.old.condition self.old.image)).answer }
+        ensures next { self.new ≡ (runs_on self.old (instr self.old.registers self.old.condition self.old.image)).next }
+        ensures items { Took (T.taken trace.old) (runs_on self.old (instr self.old.registers self.old.condition self.old.image)).items (T.taken trace.new) }
         ensures frame { T.leads_to trace.old trace.new }
     {
-        let pc = self.registers[7];
-        match word_in(&self.memory, pc) {
-            Some(word) => self.execute(decode(word), trace),
-            None => Turned::NotBuilt(pc),
-        }
+        let at = self.regs.r[7];
+        let outcome = step(&mut self.regs, &mut self.space);
+        self.come_to(at, outcome, trace)
     }
 
-    /// Does one instruction.
-    fn execute<T: Trace>(&mut self, instruction: Instruction, trace: &mut T) -> Turned
-        requires { NamesRegisters instruction }
-        ensures answer { result ≡ (done_by self.old instruction).answer }
-        ensures next { self.new ≡ (done_by self.old instruction).next }
-        ensures items { Took (T.taken trace.old) (done_by self.old instruction).items (T.taken trace.new) }
+    /// What an instruction comes to.
+    #[inline]
+    fn come_to<T: Trace>(&mut self, at: u16, outcome: Outcome, trace: &mut T) -> Turned
+        ensures answer { result ≡ (comes_to at self.old outcome).answer }
+        ensures next { self.new ≡ (comes_to at self.old outcome).next }
+        ensures items { Took (T.taken trace.old) (comes_to at self.old outcome).items (T.taken trace.new) }
         ensures frame { T.leads_to trace.old trace.new }
     {
-        match instruction {
-            Instruction::MoveRegister { from, to } => self.move_register(from, to),
-            Instruction::MoveImmediate { to } => return self.move_immediate(to),
-            Instruction::Branch { offset } => self.branch(offset),
-            Instruction::Exit => self.stage = Stage::Ended,
-            Instruction::Open => return self.open(),
-            Instruction::Write => return self.write(trace),
-            Instruction::Other => return Turned::NotBuilt(self.registers[7]),
-        }
-        Turned::Ran
-    }
-
-    /// The PC passes an instruction of this many bytes.
-    #[inline]
-    fn pass(&mut self, count: u16)
-        ensures { self.new ≡ passing self.old count }
-    {
-        self.registers[7] = self.registers[7].wrapping_add(count);
-    }
-
-    /// MOV to a register.
-    #[inline]
-    fn move_to(&mut self, register: u8, value: u16)
-        requires { register < 8 }
-        ensures { self.new ≡ (moved self.old register value).next }
-    {
-        let negative = if value >= 0o100000 { 8 } else { 0 };
-        let zero = if value == 0 { 4 } else { 0 };
-        self.condition = negative + zero + self.condition % 2;
-        self.registers[usize::from(register)] = value;
-    }
-
-    fn move_register(&mut self, from: u8, to: u8)
-        requires from { from < 8 }
-        requires to { to < 8 }
-        ensures { self.new ≡ (moved (passing self.old 2) to (register (passing self.old 2) from)).next }
-    {
-        self.pass(2);
-        let value = self.registers[usize::from(from)];
-        self.move_to(to, value);
-    }
-
-    fn move_immediate(&mut self, to: u8) -> Turned
-        requires { to < 8 }
-        ensures answer { result ≡ (moved_from self.old to (word_behind self.old 2)).answer }
-        ensures next { self.new ≡ (moved_from self.old to (word_behind self.old 2)).next }
-    {
-        let Some(value) = self.word_behind(2) else {
-            return Turned::NotBuilt(self.registers[7]);
-        };
-        self.pass(4);
-        self.move_to(to, value);
-        Turned::Ran
-    }
-
-    /// BR by an offset in words.
-    fn branch(&mut self, offset: u8)
-        ensures { self.new ≡ (branched self.old offset).next }
-    {
-        let count = 2 + 2 * u16::from(offset);
-        if offset < 128 {
-            self.pass(count);
-        } else {
-            self.pass(count.wrapping_add(65024));
+        match outcome {
+            Outcome::Next => Turned::Ran,
+            Outcome::Call(number) => self.call(at, number, trace),
+            Outcome::Fault(_) => Turned::NotBuilt(at),
         }
     }
 
-    /// The word so many bytes behind the PC.
-    #[inline]
-    fn word_behind(&self, count: u16) -> Option<u16>
-        ensures { result ≡ word_behind self.now count }
+    /// A call by its number.
+    #[inline(never)]
+    fn call<T: Trace>(&mut self, at: u16, number: u8, trace: &mut T) -> Turned
+        ensures answer { result ≡ (called at self.old number).answer }
+        ensures next { self.new ≡ (called at self.old number).next }
+        ensures items { Took (T.taken trace.old) (called at self.old number).items (T.taken trace.new) }
+        ensures frame { T.leads_to trace.old trace.new }
     {
-        word_in(&self.memory, self.registers[7].wrapping_add(count))
+        match number {
+            EXIT => {
+                self.stage = Stage::Ended;
+                Turned::Ran
+            }
+            OPEN => self.open(at),
+            WRITE => self.write(at, trace),
+            _ => Turned::NotBuilt(at),
+        }
     }
 
-    /// The PC passes a call and its two arguments, and R0 takes what it gives.
+    /// An argument of a call, which stands behind its word.
+    fn argument(&self, k: u16) -> Result<u16, Trap>
+        requires { k < 8 }
+        ensures { result ≡ argument self.now k }
+    {
+        self.space.load_word(self.regs.r[7].wrapping_add(2 * k))
+    }
+
+    /// The PC passes a call's two arguments, and R0 takes what it gives.
     fn answer(&mut self, value: u16)
-        ensures { self.new ≡ with_register (called self.old 2) 0 value }
+        ensures { self.new ≡ answered self.old value }
     {
-        self.condition -= self.condition % 2;
-        self.pass(6);
-        self.registers[0] = value;
+        self.regs.cc -= self.regs.cc % 2;
+        self.regs.r[7] = self.regs.r[7].wrapping_add(4);
+        self.regs.r[0] = value;
     }
 
     /// Opens the console for writing: open(II).
-    fn open(&mut self) -> Turned
-        ensures answer { result ≡ (opened self.old (word_behind self.old 2) (word_behind self.old 4)).answer }
-        ensures next { self.new ≡ (opened self.old (word_behind self.old 2) (word_behind self.old 4)).next }
+    fn open(&mut self, at: u16) -> Turned
+        ensures answer { result ≡ (opened at self.old (argument self.old 0) (argument self.old 1)).answer }
+        ensures next { self.new ≡ (opened at self.old (argument self.old 0) (argument self.old 1)).next }
     {
-        let pc = self.registers[7];
-        let (Some(name), Some(mode)) = (self.word_behind(2), self.word_behind(4)) else {
-            return Turned::NotBuilt(pc);
+        let (Ok(name), Ok(mode)) = (self.argument(0), self.argument(1)) else {
+            return Turned::NotBuilt(at);
         };
-        if !self.names_console(name) || self.has_console || mode != 1 {
-            return Turned::NotBuilt(pc);
+        if !names_console(&self.space, name) || self.has_console || mode != 1 {
+            return Turned::NotBuilt(at);
         }
         self.answer(0);
         self.has_console = true;
         Turned::Ran
     }
 
-    /// Whether the console's name stands at an address.
-    fn names_console(&self, at: u16) -> bool
-        ensures { result ≡ is_name (memory_bytes self.now.memory at 10) }
+    /// Whether R0 holds the number of an open console, and the bytes to be written lie in the data.
+    fn may_write(&self, from: u16, count: u16) -> bool
+        ensures { result ≡ may_write self.now from count }
     {
-        match bytes_in(&self.memory, at, 10) {
-            Some(name) => name == CONSOLE_NAME.as_slice(),
-            None => false,
-        }
-    }
-
-    /// Whether R0 holds the number of an open console.
-    fn may_write(&self) -> bool
-        ensures { result ≡ (self.now.has_console && (register self.now 0 == 0)) }
-    {
-        self.has_console && self.registers[0] == 0
+        let end = u32::from(from) + u32::from(count);
+        self.has_console
+            && self.regs.r[0] == 0
+            && (count == 0 || end <= u32::from(self.data_size))
+            && are_there(&self.space, from, count)
     }
 
     /// Writes to the console: write(II).
-    fn write<T: Trace>(&mut self, trace: &mut T) -> Turned
-        ensures answer { result ≡ (written self.old (word_behind self.old 2) (word_behind self.old 4)).answer }
-        ensures next { self.new ≡ (written self.old (word_behind self.old 2) (word_behind self.old 4)).next }
-        ensures items { Took (T.taken trace.old) (written self.old (word_behind self.old 2) (word_behind self.old 4)).items (T.taken trace.new) }
+    fn write<T: Trace>(&mut self, at: u16, trace: &mut T) -> Turned
+        ensures answer { result ≡ (written at self.old (argument self.old 0) (argument self.old 1)).answer }
+        ensures next { self.new ≡ (written at self.old (argument self.old 0) (argument self.old 1)).next }
+        ensures items { Took (T.taken trace.old) (written at self.old (argument self.old 0) (argument self.old 1)).items (T.taken trace.new) }
         ensures frame { T.leads_to trace.old trace.new }
     {
-        let pc = self.registers[7];
-        let (Some(at), Some(count)) = (self.word_behind(2), self.word_behind(4)) else {
-            return Turned::NotBuilt(pc);
+        let (Ok(from), Ok(count)) = (self.argument(0), self.argument(1)) else {
+            return Turned::NotBuilt(at);
         };
-        let Some(bytes) = bytes_in(&self.memory, at, count) else {
-            return Turned::NotBuilt(pc);
-        };
-        if !self.may_write() {
-            return Turned::NotBuilt(pc);
+        if !self.may_write(from, count) {
+            return Turned::NotBuilt(at);
         }
-        self.column = show(self.column, bytes, trace);
+        self.column = show(self.column, &self.space, from, count, trace);
         self.answer(count);
         Turned::Ran
     }

@@ -4,9 +4,9 @@
 mod boot;
 mod console;
 mod disk;
-mod instruction;
 mod kernel;
 mod memory;
+mod program;
 
 pub use boot::BootFault;
 pub use kernel::{Kernel, Turned};

@@ -4,8 +4,8 @@ use Rattle.unix_core.specs.Disk.{byte_at, place_in, filled_size}
 use Rattle.unix_core.proofs.DiskLemmas.{filled_up}
 use Rattle.unix_core.proofs.disk.program_bytes.Goals as goal
 
-pub returns : goal.returns
-returns c =
+pub returns-clause-items : goal.returns-clause-items
+returns-clause-items c =
     let f : ℕ → ℕ = λ i. byte_at c.args.image.now (place_in c.args.node.now (16 + i)) in
     let count : ℕ = filled_size c.args.image.now c.args.node.now in
     let is_filled = c.filled_size.ensures.value in
