@@ -66,7 +66,10 @@ Goes-on a a_kept b b_kept c c_kept first second = record {
   grows = λ told.
       let one = first.grows told in
       let two = second.grows (ap (λ (f : Fixed). f.tells) first.only.fixed ∙ told) in
-      record { more = one.more ++ two.more; is = two.is ∙ ap (λ l. l ++ two.more) one.is ∙ append_assoc (term a).bytes one.more two.more };
+      record {
+        more = one.more ++ two.more;
+        is = two.is ∙ ap (λ l. l ++ two.more) one.is ∙ append_assoc (term a).bytes one.more two.more;
+      };
   stopped = λ is_cut.
       let one = first.stopped is_cut in
       let two = second.stopped (ap is_some one.1 ∙ is_cut) in

@@ -32,7 +32,8 @@ unbuilt_name (At pc) = codes "pc " ++ decimal pc
 
 abbrev pub report_of : Status → List ℕ
 report_of Done = []
-report_of Usage = line_of (codes "usage: v6 run IMAGE CORE SCRIPT TERM LOG FINAL, memory IMAGE CORE SCRIPT FINAL, check IMAGE, make N FINAL, demo N")
+report_of Usage =
+    line_of (codes "usage: v6 run IMAGE CORE SCRIPT TERM LOG FINAL, memory IMAGE CORE SCRIPT FINAL, check IMAGE, make N FINAL, demo N")
 report_of (ReadFault port) = line_of (codes "read fault: " ++ in_name port)
 report_of (WriteFault port) = line_of (codes "write fault: " ++ out_name port)
 report_of CoreSize = line_of (codes "core size")

@@ -18,7 +18,8 @@ pub record Line : Type 0 where
 abbrev pub lines_of_parts : List (List ℕ) → List Line
 lines_of_parts [] = []
 lines_of_parts (part ∷ []) = if length part == 0 then [] else (record { text = part; size = length part }) ∷ []
-lines_of_parts (part ∷ next ∷ parts) = (record { text = strip_carriage_return part; size = length part + 1 }) ∷ lines_of_parts (next ∷ parts)
+lines_of_parts (part ∷ next ∷ parts) =
+    (record { text = strip_carriage_return part; size = length part + 1 }) ∷ lines_of_parts (next ∷ parts)
 
 abbrev pub lines_of : List ℕ → List Line
 lines_of script = lines_of_parts (slice_split (λ byte. byte == 10) script)
@@ -32,7 +33,10 @@ slots_of line = unwrap_or (count_of line.text) 0
 
 -- each of these first lines of a script is `run N`, and they keep to both limits
 abbrev pub is_built : List Line → Bool
-is_built lines = list_all (λ line. is_some (count_of line.text)) lines && nat_le (sum_by slots_of lines) 200000000 && nat_le (sum_by (λ line. line.size) lines) 1048576
+is_built lines =
+    list_all (λ line. is_some (count_of line.text)) lines
+    && nat_le (sum_by slots_of lines) 200000000
+    && nat_le (sum_by (λ line. line.size) lines) 1048576
 
 -- the number of the first line with which the lines so far are no longer built, the first line being 1
 abbrev pub unbuilt_line : List Line → Option ℕ

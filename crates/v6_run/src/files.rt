@@ -21,7 +21,8 @@ fn read_left<H: Host>(
     requires is_open { IsOpen (H.outside host.old) (In port) }
     requires small { limit < 2 ^ 32 }
     ensures only { OnlyAt (same (In port)) (H.outside host.old) (H.outside host.new) }
-    ensures bytes { IfOk result (λ all. Tells (H.outside host.old) → all.items ≡ take limit ((H.outside host.old).port (In port)).bytes) }
+    ensures bytes { IfOk result (λ all. Tells (H.outside host.old)
+        → all.items ≡ take limit ((H.outside host.old).port (In port)).bytes) }
     ensures short { IfOk result (λ all. length all.items ≤ limit) }
     ensures kind { IfErr result (StopsReading port) }
     ensures cause { IsCaused (λ _. true) (status_of result) (H.outside host.old) (H.outside host.new) }
@@ -53,10 +54,12 @@ pub(crate) fn read_file<H: Host>(
 ) -> Result<Vec<u8>, Status>
     requires { limit < 2 ^ 32 }
     ensures only { OnlyAt (same (In port)) (H.outside host.old) (H.outside host.new) }
-    ensures bytes { IfOk result (λ all. Tells (H.outside host.old) → option_map (take limit) ((H.outside host.old).fixed.given name.now) ≡ Some all.items) }
+    ensures bytes { IfOk result (λ all. Tells (H.outside host.old)
+        → option_map (take limit) ((H.outside host.old).fixed.given name.now) ≡ Some all.items) }
     ensures short { IfOk result (λ all. length all.items ≤ limit) }
     ensures kind { IfErr result (StopsReading port) }
-    ensures cause { IsCaused (λ _. is_given ((H.outside host.old).fixed.given name.now)) (status_of result) (H.outside host.old) (H.outside host.new) }
+    ensures cause { IsCaused (λ _. is_given ((H.outside host.old).fixed.given name.now)) (status_of result)
+        (H.outside host.old) (H.outside host.new) }
 {
     if host.open_read(port, name).is_err() {
         return Err(Status::ReadFault(port));
@@ -69,9 +72,12 @@ pub(crate) fn write_all<H: Host>(host: &mut H, port: OutPort, text: &[u8]) -> Re
     requires { IsOpen (H.outside host.old) (Out port) }
     ensures only { OnlyAt (same (Out port)) (H.outside host.old) (H.outside host.new) }
     ensures is_open { IsOpen (H.outside host.new) (Out port) }
-    ensures whole { OnOk result (Tells (H.outside host.old) → ((H.outside host.new).port (Out port)).bytes ≡ ((H.outside host.old).port (Out port)).bytes ++ text.now) }
-    ensures front { Tells (H.outside host.old) → HoldsFront ((H.outside host.old).port (Out port)).bytes text.now ((H.outside host.new).port (Out port)).bytes }
-    ensures cause { MatchResult result (λ _. Calm (H.outside host.old) (H.outside host.new)) (λ _. FaultAt (Out port) true (H.outside host.old) (H.outside host.new)) }
+    ensures whole { OnOk result (Tells (H.outside host.old)
+        → ((H.outside host.new).port (Out port)).bytes ≡ ((H.outside host.old).port (Out port)).bytes ++ text.now) }
+    ensures front { Tells (H.outside host.old)
+        → HoldsFront ((H.outside host.old).port (Out port)).bytes text.now ((H.outside host.new).port (Out port)).bytes }
+    ensures cause { MatchResult result (λ _. Calm (H.outside host.old) (H.outside host.new))
+        (λ _. FaultAt (Out port) true (H.outside host.old) (H.outside host.new)) }
 {
     let mut at = 0;
     'text: while at < text.len() {

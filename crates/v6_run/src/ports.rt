@@ -39,7 +39,8 @@ impl<'a, H: Host> Trace for Ports<'a, H> {
 
     ghost taken = { λ t. taken_of (H.outside t.host.now) t.kept };
 
-    ghost leads_to = { λ a b. Goes (H.outside a.host.now) a.kept (H.outside b.host.now) b.kept × (b.host.ghost_name ≡ a.host.ghost_name) };
+    ghost leads_to = { λ a b. Goes (H.outside a.host.now) a.kept (H.outside b.host.now) b.kept
+        × (b.host.ghost_name ≡ a.host.ghost_name) };
 
     ghost stays = { λ t. (Goes-same (H.outside t.host.now) t.kept, refl) };
 

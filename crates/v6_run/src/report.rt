@@ -46,9 +46,12 @@ fn parts_of<'a>(status: Status, digits: &'a mut Buffer) -> (&'a [u8], &'a [u8])
 /// Writes a line of two parts to Report.
 fn write_line<H: Host>(host: &mut H, head: &[u8], tail: &[u8]) -> Result<(), Failed>
     ensures only { OnlyAt (same (Out Report)) (H.outside host.old) (H.outside host.new) }
-    ensures whole { OnOk result (Tells (H.outside host.old) → (report (H.outside host.new)).bytes ≡ (report (H.outside host.old)).bytes ++ line_of (head.now ++ tail.now)) }
-    ensures front { Tells (H.outside host.old) → HoldsFront (report (H.outside host.old)).bytes (line_of (head.now ++ tail.now)) (report (H.outside host.new)).bytes }
-    ensures cause { MatchResult result (λ _. Calm (H.outside host.old) (H.outside host.new)) (λ _. FaultAt (Out Report) true (H.outside host.old) (H.outside host.new)) }
+    ensures whole { OnOk result (Tells (H.outside host.old)
+        → (report (H.outside host.new)).bytes ≡ (report (H.outside host.old)).bytes ++ line_of (head.now ++ tail.now)) }
+    ensures front { Tells (H.outside host.old)
+        → HoldsFront (report (H.outside host.old)).bytes (line_of (head.now ++ tail.now)) (report (H.outside host.new)).bytes }
+    ensures cause { MatchResult result (λ _. Calm (H.outside host.old) (H.outside host.new))
+        (λ _. FaultAt (Out Report) true (H.outside host.old) (H.outside host.new)) }
 {
     write_all(host, OutPort::Report, head)?;
     write_all(host, OutPort::Report, tail)?;
@@ -61,9 +64,11 @@ pub(crate) fn report_status<H: Host>(status: Status, host: &mut H)
     ensures done { status ≡ Status.Done → H.outside host.new ≡ H.outside host.old }
     ensures only { OnlyAt (same (Out Report)) (H.outside host.old) (H.outside host.new) }
     ensures missing { Tells (H.outside host.old) → (report (H.outside host.new)).missing ≡ (report (H.outside host.old)).missing }
-    ensures whole { Tells (H.outside host.old) → (report (H.outside host.new)).faults ≡ (report (H.outside host.old)).faults
+    ensures whole { Tells (H.outside host.old)
+        → (report (H.outside host.new)).faults ≡ (report (H.outside host.old)).faults
         → (report (H.outside host.new)).bytes ≡ (report (H.outside host.old)).bytes ++ report_of status }
-    ensures front { Tells (H.outside host.old) → HoldsFront (report (H.outside host.old)).bytes (report_of status) (report (H.outside host.new)).bytes }
+    ensures front { Tells (H.outside host.old)
+        → HoldsFront (report (H.outside host.old)).bytes (report_of status) (report (H.outside host.new)).bytes }
 {
     if status == Status::Done {
         return;

@@ -51,10 +51,13 @@ fn play<H: Host>(kernel: &mut Kernel, counts: &[u32], host: &mut H) -> Result<Op
     ensures is_open { IsOpen (H.outside host.new) (Out Term) }
     ensures ending { IfOk result (λ ending. ending ≡ (course (started kernel.old) (events_of counts.now)).ending) }
     ensures shown { OnOk result (Tells (H.outside host.old)
-        → (term (H.outside host.new)).bytes ≡ (term (H.outside host.old)).bytes ++ line_bytes 0 (course (started kernel.old) (events_of counts.now)).items) }
+        → (term (H.outside host.new)).bytes ≡ (term (H.outside host.old)).bytes
+        ++ line_bytes 0 (course (started kernel.old) (events_of counts.now)).items) }
     ensures front { Tells (H.outside host.old)
-        → HoldsFront (term (H.outside host.old)).bytes (line_bytes 0 (course (started kernel.old) (events_of counts.now)).items) (term (H.outside host.new)).bytes }
-    ensures cause { MatchResult result (λ _. Calm (H.outside host.old) (H.outside host.new)) (λ _. FaultAt (Out Term) true (H.outside host.old) (H.outside host.new)) }
+        → HoldsFront (term (H.outside host.old)).bytes (line_bytes 0 (course (started kernel.old) (events_of counts.now)).items)
+        (term (H.outside host.new)).bytes }
+    ensures cause { MatchResult result (λ _. Calm (H.outside host.old) (H.outside host.new))
+        (λ _. FaultAt (Out Term) true (H.outside host.old) (H.outside host.new)) }
 {
     let mut ports = Ports::new(host);
     let ending = run_counts(kernel, counts, &mut ports);
@@ -76,12 +79,15 @@ fn show_run<H: Host>(
     ensures only { OnlyAt (same (Out Term)) (H.outside host.old) (H.outside host.new) }
     ensures kind { IfErr result StopsShowing }
     ensures run { IsOfRun (status_of result)
-        → ShowsAll (status_of result) (H.outside host.old) (H.outside host.new) (course_outcome (course (started kernel.old) (events_of counts.now))) }
+        → ShowsAll (status_of result) (H.outside host.old) (H.outside host.new)
+        (course_outcome (course (started kernel.old) (events_of counts.now))) }
     ensures front { Tells (H.outside host.old)
-        → HoldsFront (term (H.outside host.old)).bytes (line_bytes 0 (course (started kernel.old) (events_of counts.now)).items) (term (H.outside host.new)).bytes }
+        → HoldsFront (term (H.outside host.old)).bytes (line_bytes 0 (course (started kernel.old) (events_of counts.now)).items)
+        (term (H.outside host.new)).bytes }
     ensures closed { OnOk result ((term (H.outside host.new)).is_open ≡ false) }
     ensures unfinished { (pc : ℕ) → result ≡ Err (Status.NotBuilt (Unbuilt.At pc)) → (term (H.outside host.new)).is_open ≡ true }
-    ensures cause { IsCaused (λ _. is_expected ((H.outside host.old).fixed.expects Term) name.now) (status_of result) (H.outside host.old) (H.outside host.new) }
+    ensures cause { IsCaused (λ _. is_expected ((H.outside host.old).fixed.expects Term) name.now) (status_of result)
+        (H.outside host.old) (H.outside host.new) }
 {
     if host.open_write(OutPort::Term, name).is_err() {
         return Err(Status::WriteFault(OutPort::Term));
@@ -106,7 +112,8 @@ struct Files {
 }
 
 fn read_files<H: Host>(alloc: Global, words: &RunWords<'_>, host: &mut H) -> Result<Files, Status>
-    ensures files { IfOk result (λ files. HasFiles (named words.now) files.image.items files.script.items (H.outside host.old) (H.outside host.new)) }
+    ensures files { IfOk result (λ files.
+        HasFiles (named words.now) files.image.items files.script.items (H.outside host.old) (H.outside host.new)) }
     ensures short { IfOk result (λ files. length files.script.items < 2 ^ 32) }
     ensures refused { IfErr result (λ status. Answers (named words.now) status (H.outside host.old) (H.outside host.new)) }
 {

@@ -1,6 +1,6 @@
 //! The words of a command.
-ghost use Rattle.std.specs.Prelude.{◌≡◌, map, option_map, string_bytes};
-ghost use Rattle.v6_run.specs.Words.{command_of, named};
+ghost use Rattle.std.specs.Prelude.{◌≡◌, option_map};
+ghost use Rattle.v6_run.specs.Words.{command_in, named};
 
 use crate::number::number_of;
 
@@ -15,7 +15,7 @@ pub(crate) struct RunWords<'a> {
 
 /// The command of these words, or nothing where they are no command's: `run IMAGE CORE SCRIPT TERM LOG FINAL`.
 pub(crate) fn command_of(words: &[String]) -> Option<RunWords<'_>>
-    ensures { option_map named result ≡ command_of (map string_bytes words.now) }
+    ensures { option_map named result ≡ command_in words.now }
 {
     match words {
         [verb, image, core, script, term, _, _] if verb.as_str() == "run" => {
