@@ -1,2 +1,9 @@
 pub mod Words
 pub mod Fields
+pub mod Modes
+pub mod Disk
+pub mod Free
+pub mod Held
+pub mod Faults
+pub mod Store
+pub mod Stands

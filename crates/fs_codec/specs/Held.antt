@@ -1,0 +1,55 @@
+-- The blocks that an inode holds: file system(V) of the UNIX Programmer's Manual.
+use Rattle.std.specs.Prelude.{ℕ, not, ◌-◌, ◌/◌, ◌%◌, ◌==◌, nat_lt, if◌then◌else◌, List, [], ◌∷◌, ◌++◌, flat_map, take, slice_index}
+use Rattle.fs_codec.specs.Words.{words}
+use Rattle.fs_codec.specs.Fields.{Inode}
+use Rattle.fs_codec.specs.Modes.{is_large, holds_blocks}
+use Rattle.fs_codec.specs.Disk.{Disk, is_data, inode}
+
+-- the 256 addresses in an indirect block; there are none in a block that is no data block
+abbrev pub entries : Disk → ℕ → List ℕ
+entries disk block = if is_data disk block then words (disk block) 0 256 else []
+
+-- an indirect block and the blocks that it names
+abbrev pub in_indirect : Disk → ℕ → List ℕ
+in_indirect disk block = block ∷ entries disk block
+
+-- a double indirect block, the indirect blocks that it names, and theirs
+abbrev pub in_double : Disk → ℕ → List ℕ
+in_double disk block = block ∷ flat_map (in_indirect disk) (entries disk block)
+
+-- The eight addresses of a small file are its blocks. Seven of a large one are indirect blocks, and the last is a double
+-- indirect block. An address 0 is none.
+abbrev pub addresses : Disk → Inode → List ℕ
+addresses disk node =
+    if is_large node.mode
+    then flat_map (in_indirect disk) (take 7 node.addr) ++ in_double disk (slice_index node.addr 7)
+    else node.addr
+
+abbrev pub held_by : Disk → ℕ → List ℕ
+held_by disk i = if holds_blocks (inode disk i).mode then addresses disk (inode disk i) else []
+
+-- The name of a block among those of its file, a kind and a number: data block n of the file; indirect block k, which names
+-- the data blocks from 256 * k on; and the double indirect block.
+abbrev pub Name : Type 0
+Name = ℕ × ℕ
+
+abbrev pub data_name : ℕ → Name
+data_name n = (0, n)
+
+abbrev pub indirect_name : ℕ → Name
+indirect_name k = (1, k)
+
+abbrev pub double_name : Name
+double_name = (2, 0)
+
+-- The address of indirect block k of a large file: the double indirect block names those from 7 on.
+abbrev pub indirect_at : Disk → Inode → ℕ → ℕ
+indirect_at disk node k =
+    if nat_lt k 7 then slice_index node.addr k else slice_index (entries disk (slice_index node.addr 7)) (k - 7)
+
+-- the address of the block of this name, or 0 where the file has none
+abbrev pub address : Disk → Inode → Name → ℕ
+address disk node name =
+    if not (is_large node.mode) then (if name.0 == 0 then slice_index node.addr name.1 else 0) else
+    (if name.0 == 0 then slice_index (entries disk (indirect_at disk node (name.1 / 256))) (name.1 % 256) else
+    (if name.0 == 1 then indirect_at disk node name.1 else slice_index node.addr 7))

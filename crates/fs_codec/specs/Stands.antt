@@ -1,0 +1,65 @@
+-- The store that a disk's blocks stand for.
+use Rattle.std.specs.Prelude.{◌≡◌, ℕ, zero, suc, Bool, false, not, ◌+◌, ◌-◌, ◌*◌, ◌&&◌, ◌==◌, nat_lt, if◌then◌else◌, List, ◌∷◌, length, map, flat_map, take, replicate, slice_index, Option, Some, None}
+use Rattle.std.specs.List.{range_with_len}
+use Rattle.fs_codec.specs.Fields.{Inode}
+use Rattle.fs_codec.specs.Modes.{is_device, holds_blocks}
+use Rattle.fs_codec.specs.Disk.{Disk, head, inode, inode_numbers}
+use Rattle.fs_codec.specs.Free.{free_walk}
+use Rattle.fs_codec.specs.Held.{Name, data_name, indirect_name, double_name, address}
+use Rattle.fs_codec.specs.Faults.{disk_fault}
+use Rattle.fs_codec.specs.Store.{Node, Store}
+
+-- the name of a rank
+abbrev pub name_of : ℕ → Name
+name_of r = if nat_lt r 67328 then data_name r else (if nat_lt r 67591 then indirect_name (r - 67328) else double_name)
+
+abbrev pub is_held : Disk → Inode → Name → Bool
+is_held disk node name = holds_blocks node.mode && not (address disk node name == 0)
+
+unfoldable pub held_of : Disk → Inode → List Bool
+held_of disk node = map (λ r. is_held disk node (name_of r)) (range_with_len 0 67592)
+
+-- one more than the greatest number below n that passes a test, or 0
+abbrev pub one_past : (ℕ → Bool) → ℕ → ℕ
+one_past test zero = 0
+one_past test (suc n) = if test n then n + 1 else one_past test n
+
+-- the bytes of data block n of a file
+abbrev pub data_of : Disk → Inode → ℕ → List ℕ
+data_of disk node n =
+    if is_held disk node (data_name n) then disk (address disk node (data_name n)) else replicate 512 0
+
+unfoldable pub body_of : Disk → Inode → List ℕ
+body_of disk node =
+    flat_map (data_of disk node) (range_with_len 0 (one_past (λ n. is_held disk node (data_name n)) 67328))
+
+-- the node of an inode, where it is used
+abbrev pub node_of : Disk → Inode → Option Node
+node_of disk node = if node.mode == 0 then None else Some (record {
+  mode = node.mode;
+  nlink = node.nlink;
+  uid = node.uid;
+  gid = node.gid;
+  size = node.size;
+  device = if is_device node.mode then slice_index node.addr 0 else 0;
+  actime = node.actime;
+  modtime = node.modtime;
+  held = held_of disk node;
+  body = body_of disk node;
+})
+
+-- No node has the number 0.
+unfoldable pub store_of : Disk → Store
+store_of disk = record {
+  nodes = None ∷ map (λ i. node_of disk (inode disk i)) (inode_numbers disk);
+  count = 16 * (head disk).i_size;
+  room = length (free_walk disk).blocks;
+  spare = take (head disk).ninode (head disk).inode;
+  stamp = (head disk).time;
+  mark = false;
+}
+
+-- Blocks without a fault stand for a store, of whose mark they say nothing.
+pub record StandsFor (disk : Disk) (store : Store) : Type 0 where
+  pub sound : disk_fault disk ≡ None
+  pub same : record store { mark = false } ≡ store_of disk
