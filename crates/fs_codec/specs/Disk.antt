@@ -1,6 +1,7 @@
 -- What stands where on a disk: file system(V) of the UNIX Programmer's Manual. A block has 512 bytes.
-use Rattle.std.specs.Prelude.{ℕ, Bool, ◌+◌, ◌*◌, ◌/◌, ◌%◌, ◌&&◌, nat_le, nat_lt, List, map, slice_index, slice_range}
+use Rattle.std.specs.Prelude.{ℕ, Bool, ◌+◌, ◌*◌, ◌/◌, ◌%◌, ◌&&◌, nat_le, nat_lt, List, slice_range}
 use Rattle.std.specs.List.{range_with_len}
+use Rattle.fs_codec.specs.Words.{bytes_from}
 use Rattle.fs_codec.specs.Fields.{super_of, Inode, inode_of}
 use Rattle.fs_codec.specs.declared.super_block.SuperBlock.{SuperBlock}
 
@@ -10,7 +11,7 @@ Disk = ℕ → List ℕ
 
 -- the disk of which these are the first bytes; the others are 0
 unfoldable pub disk_of : List ℕ → Disk
-disk_of bytes block = map (λ k. slice_index bytes (512 * block + k)) (range_with_len 0 512)
+disk_of bytes block = bytes_from bytes (512 * block) 512
 
 -- Block 0 is the boot block, and block 1 the super-block.
 abbrev pub head : Disk → SuperBlock

@@ -25,8 +25,12 @@ addresses disk node =
     then flat_map (in_indirect disk) (take 7 node.addr) ++ in_double disk (slice_index node.addr 7)
     else node.addr
 
+abbrev pub held_blocks : Disk → Inode → List ℕ
+held_blocks disk node = if holds_blocks node.mode then addresses disk node else []
+
+-- the blocks that the inode of a number holds
 abbrev pub held_by : Disk → ℕ → List ℕ
-held_by disk i = if holds_blocks (inode disk i).mode then addresses disk (inode disk i) else []
+held_by disk i = held_blocks disk (inode disk i)
 
 -- The name of a block among those of its file, a kind and a number: data block n of the file; indirect block k, which names
 -- the data blocks from 256 * k on; and the double indirect block.

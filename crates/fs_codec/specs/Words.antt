@@ -13,6 +13,10 @@ long bytes at = 65536 * word bytes at + word bytes (at + 2)
 unfoldable pub words : List ℕ → ℕ → ℕ → List ℕ
 words bytes at n = map (λ k. word bytes (at + 2 * k)) (range_with_len 0 n)
 
+-- n bytes, of which those past the list's end are 0
+unfoldable pub bytes_from : List ℕ → ℕ → ℕ → List ℕ
+bytes_from bytes at n = map (λ k. slice_index bytes (at + k)) (range_with_len 0 n)
+
 -- all bytes but the n from `at` on are the same
 pub record SameOutside (at n : ℕ) (old new : List ℕ) : Type 0 where
   pub before : (k : ℕ) → k < at → slice_index new k ≡ slice_index old k

@@ -1,0 +1,12 @@
+use Rattle.std.proofs.Common.{◌≡◌, ◌+◌, ◌*◌, ◌∙◌, ap, arith}
+use Rattle.fs_codec.specs.Words.{word}
+use Rattle.fs_codec.specs.Disk.{disk_of}
+use Rattle.fs_check.proofs.ImageLemmas.{word_of_disk}
+use Rattle.fs_check.proofs.image.word_in.Goals as goal
+
+pub returns : goal.returns
+returns c =
+    let spelled : c.byte.result + 256 * c.byte-2.result ≡ word (disk_of c.args.image.now c.from.result) c.from-2.result =
+    word_of_disk c.args.image.now c.from.result c.from-2.result c.byte.result c.byte-2.result (omega arith) c.byte.ensures c.byte-2.ensures in
+    let read : c.read_u16.result ≡ c.byte.result + 256 * c.byte-2.result = omega arith in
+    read ∙ spelled ∙ ap (λ b. word (disk_of c.args.image.now b) c.from-2.result) c.from.ensures ∙ ap (word (disk_of c.args.image.now c.args.block)) c.from-2.ensures
