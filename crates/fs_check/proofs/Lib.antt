@@ -1,2 +1,4 @@
 pub mod ImageLemmas
 pub mod WorstLemmas
+pub mod MarksLemmas
+pub mod WalkLemmas

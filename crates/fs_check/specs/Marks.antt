@@ -16,3 +16,14 @@ pub record Adds (old new blocks : List ℕ) : Type 0 where
 -- Each block that an indirect block names came at least as often as that block's names were added.
 pub record AreAdded (disk : Disk) (added marks : List ℕ) : Type 0 where
   pub each : (i k : ℕ) → i < 4872 → k < 256 → word (disk i) (2 * k) < 4872 → slice_index added i ≤ slice_index marks (word (disk i) (2 * k))
+
+-- no block below end comes twice; the number 0 is no block's
+pub record HasNoTwo (marks : List ℕ) (end : ℕ) : Type 0 where
+  pub none : (k : ℕ) → 0 < k → k < end → slice_index marks k < 2
+
+-- this one does, and no lesser one
+pub record IsFirstTwo (marks : List ℕ) (end block : ℕ) : Type 0 where
+  pub above : 0 < block
+  pub below : block < end
+  pub two : 2 ≤ slice_index marks block
+  pub first : (k : ℕ) → 0 < k → k < block → slice_index marks k < 2

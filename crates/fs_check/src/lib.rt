@@ -1,9 +1,14 @@
 //! Whether a disk image can be run: the first of its faults, and the numbers of its nodes and of its free blocks.
 #![tactic(auto)]
 
+mod acceptance;
+mod free;
 mod image;
+mod marks;
 mod modes;
 mod outside;
+mod twice;
 mod zone;
 
+pub use acceptance::accept;
 pub use fs_codec::ImageFault;

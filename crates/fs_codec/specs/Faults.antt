@@ -45,11 +45,14 @@ all_blocks disk = (free_walk disk).blocks ++ flat_map (held_by disk) (inode_numb
 abbrev pub is_twice : List ℕ → ℕ → Bool
 is_twice blocks block = not (block == 0) && nat_le 2 (count_by (nat_eq block) blocks)
 
--- The first fault of a disk. The swap area begins at block 4000.
+-- what the super-block itself has wrong; the swap area begins at block 4000
+abbrev pub super_fault : SuperBlock → Option ImageFault
+super_fault s = first_some (when (is_bad_super s) BadSuper ∷ when (nat_lt 4000 s.f_size) (NoSwap s.f_size) ∷ [])
+
+-- the first fault of a disk
 unfoldable pub disk_fault : Disk → Option ImageFault
 disk_fault disk = first_some (
-    when (is_bad_super (head disk)) BadSuper
-    ∷ when (nat_lt 4000 (head disk).f_size) (NoSwap (head disk).f_size)
+    super_fault (head disk)
     ∷ (free_walk disk).fault
     ∷ first_some (map (node_fault disk) (inode_numbers disk))
     ∷ option_map BlockTwice (least (filter (is_twice (all_blocks disk)) (all_blocks disk)))
