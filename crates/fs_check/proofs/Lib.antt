@@ -2,3 +2,6 @@ pub mod ImageLemmas
 pub mod WorstLemmas
 pub mod MarksLemmas
 pub mod WalkLemmas
+pub mod BlankLemmas
+pub mod LeastLemmas
+pub mod TwiceLemmas

@@ -1,5 +1,5 @@
 -- The walk of the free list, step by step.
-use Rattle.std.proofs.Common.{◌≡◌, ◌+◌, ◌-◌, ◌*◌, ◌<◌, ◌≤◌, ◌==◌, ℕ, zero, suc, Bool, true, false, not, cond, if◌then◌else◌, min, List, [], ◌∷◌, length, slice_index, nat_eq, nat_lt, Option, Some, None, refl, sym, ap, ◌∙◌, ◌≢◌, subst, eq-eqb, arith}
+use Rattle.std.proofs.Common.{◌≡◌, ◌+◌, ◌-◌, ◌<◌, ◌≤◌, ◌==◌, ℕ, zero, suc, true, false, not, cond, if◌then◌else◌, min, List, [], ◌∷◌, length, slice_index, nat_eq, nat_lt, Option, Some, None, refl, sym, ap, ◌∙◌, ◌≢◌, subst, eq-eqb, arith}
 use Rattle.std.specs.List.{count_by, list_any}
 use Rattle.fs_codec.specs.Disk.{Disk, head, is_data}
 use Rattle.fs_codec.specs.Free.{Group, Walk, walk, free_walk, top, after, ended, listing}
@@ -94,10 +94,13 @@ pub ends_here : (disk : Disk) (whole : Walk) (left : ℕ) (group : Group) (old m
 ends_here disk whole left group old marks listed fault w last = record {
   ends = w.fault ∙ ap (λ (r : Walk). r.fault) last;
   long = w.long ∙ ap (λ (r : Walk). listed + length r.blocks) last ∙ omega arith;
-  adds = record { marks = w.adds.marks; each = λ k h.
-    let a : slice_index marks k ≡ min 2 (slice_index old k + count_by (nat_eq k) w.met) = w.adds.each k h in
-    let b : count_by (nat_eq k) whole.blocks ≡ count_by (nat_eq k) w.met + 0 = w.count k ∙ ap (λ (r : Walk). count_by (nat_eq k) w.met + count_by (nat_eq k) r.blocks) last in
-    omega arith };
+  adds = record {
+    marks = w.adds.marks;
+    each = λ k h.
+        let a : slice_index marks k ≡ min 2 (slice_index old k + count_by (nat_eq k) w.met) = w.adds.each k h in
+        let b : count_by (nat_eq k) whole.blocks ≡ count_by (nat_eq k) w.met + 0 = w.count k ∙ ap (λ (r : Walk). count_by (nat_eq k) w.met + count_by (nat_eq k) r.blocks) last in
+        omega arith;
+  };
 }
 
 -- it ends behind a block
@@ -107,7 +110,7 @@ ends_behind disk whole left group old marks new listed block fault w last adds =
   ends = w.fault ∙ ap (λ (r : Walk). r.fault) last;
   long = w.long ∙ ap (λ (r : Walk). listed + length r.blocks) last ∙ omega arith;
   adds = adds_then old marks new w.met (block ∷ []) whole.blocks w.adds adds
-    (λ b. w.count b ∙ ap (λ (r : Walk). count_by (nat_eq b) w.met + count_by (nat_eq b) r.blocks) last);
+      (λ b. w.count b ∙ ap (λ (r : Walk). count_by (nat_eq b) w.met + count_by (nat_eq b) r.blocks) last);
 }
 
 -- it goes on behind a block
@@ -167,7 +170,7 @@ pub ends_again : (disk : Disk) (whole : Walk) (left most : ℕ) (group : Group) 
 ends_again disk whole left most group old marks new listed block before more is some inside blank small marked adds =
     let w : Walking disk whole (suc most) group old marks listed = one_left disk whole left most group old marks listed more before in
     ends_behind disk whole (suc most) group old marks new listed block None w
-      (walk_again most disk group w.met block is (ne_eqb block 0 some) inside (is_met old marks w.met block w.adds blank small marked)) adds
+    (walk_again most disk group w.met block is (ne_eqb block 0 some) inside (is_met old marks w.met block w.adds blank small marked)) adds
 
 pub ends_by_count : (disk : Disk) (whole : Walk) (left most : ℕ) (group next : Group) (old marks new : List ℕ) (listed block : ℕ) → Walking disk whole left group old marks listed → left ≡ suc most
     → block ≡ top disk group → block ≢ 0 → is_data disk block ≡ true → slice_index old block ≡ 0 → block < 4872 → slice_index marks block ≤ 0 → Adds marks new (block ∷ [])
@@ -176,7 +179,7 @@ ends_by_count disk whole left most group next old marks new listed block before 
     let w : Walking disk whole (suc most) group old marks listed = one_left disk whole left most group old marks listed more before in
     let many_after : nat_lt 100 (after disk group).left ≡ true = ap (λ (g : Group). nat_lt 100 g.left) (sym is_next) ∙ lt-ltb 100 next.left many in
     ends_behind disk whole (suc most) group old marks new listed block (Some (FreeCount block)) w
-      (walk_count most disk group w.met block is (ne_eqb block 0 some) inside (is_new old marks w.met block w.adds blank small unmarked) many_after) adds
+    (walk_count most disk group w.met block is (ne_eqb block 0 some) inside (is_new old marks w.met block w.adds blank small unmarked) many_after) adds
 
 -- and how it goes on
 pub goes_on_behind : (disk : Disk) (whole : Walk) (left most : ℕ) (group next : Group) (old marks new : List ℕ) (listed block : ℕ) → Walking disk whole left group old marks listed → left ≡ suc most
@@ -186,5 +189,5 @@ goes_on_behind disk whole left most group next old marks new listed block before
     let w : Walking disk whole (suc most) group old marks listed = one_left disk whole left most group old marks listed more before in
     let few_after : nat_lt 100 (after disk group).left ≡ false = ap (λ (g : Group). nat_lt 100 g.left) (sym is_next) ∙ le-ltb 100 next.left few in
     goes_on disk whole most group next old marks new listed block w
-      (walk_on most disk group w.met block is (ne_eqb block 0 some) inside (is_new old marks w.met block w.adds blank small unmarked) few_after
-      ∙ ap (λ g. listing block (walk most disk g (block ∷ w.met))) (sym is_next)) adds
+    (walk_on most disk group w.met block is (ne_eqb block 0 some) inside (is_new old marks w.met block w.adds blank small unmarked) few_after
+    ∙ ap (λ g. listing block (walk most disk g (block ∷ w.met))) (sym is_next)) adds

@@ -3,14 +3,14 @@ ghost use Rattle.std.specs.Prelude.{◌≡◌, ℕ, ◌+◌, ◌<◌, ◌≤◌,
 ghost use Rattle.fs_codec.specs.Disk.{disk_of, head};
 ghost use Rattle.fs_codec.specs.Faults.{image_fault, disk_fault, super_fault};
 
-use fs_codec::{ImageFault, SuperBlock};
-
 use crate::free::walk_free;
-use crate::image::{node, super_block};
+use crate::image::{node, read_super_block};
+use crate::marks::no_marks;
 use crate::modes::is_directory;
-use crate::outside::first_outside;
+use crate::outside::{first_outside, none_clean};
 use crate::twice::{first_two, mark_nodes};
 use crate::zone::Zone;
+use fs_codec::{ImageFault, SuperBlock};
 
 /// The bytes of a disk: 4,872 blocks of 512.
 const DISK_BYTES: usize = 2_494_464;
@@ -22,7 +22,11 @@ const SWAP: u16 = 4000;
 fn super_fault(head: &SuperBlock) -> Option<ImageFault>
     ensures { result ≡ super_fault head.now }
 {
-    if head.i_size == 0 || u32::from(head.f_size) < u32::from(head.i_size) + 2 || head.nfree > 100 || head.ninode > 100 {
+    if head.i_size == 0
+        || u32::from(head.f_size) < u32::from(head.i_size) + 2
+        || head.nfree > 100
+        || head.ninode > 100
+    {
         return Some(ImageFault::BadSuper);
     }
     if head.f_size > SWAP {
@@ -32,25 +36,25 @@ fn super_fault(head: &SuperBlock) -> Option<ImageFault>
 }
 
 /// The first fault of a disk whose super-block is good.
-fn blocks_fault(bytes: &[u8], head: &SuperBlock) -> Option<ImageFault>
-    requires head { head.now ≡ head (disk_of bytes.now) }
-    requires good { super_fault head.now ≡ None }
+fn blocks_fault(bytes: &[u8], super_block: &SuperBlock) -> Option<ImageFault>
+    requires head { super_block.now ≡ head (disk_of bytes.now) }
+    requires good { super_fault super_block.now ≡ None }
     ensures { result ≡ disk_fault (disk_of bytes.now) }
 {
     let zone = Zone {
-        first: head.i_size + 2,
-        end: head.f_size,
+        first: super_block.i_size + 2,
+        end: super_block.f_size,
     };
-    let inodes = 16 * head.i_size;
-    let mut marks = [0; 4872];
-    if let Err(fault) = walk_free(bytes, zone, head.nfree, &mut marks) {
+    let inodes = 16 * super_block.i_size;
+    let mut marks = no_marks();
+    if let Err(fault) = walk_free(bytes, zone, super_block.nfree, &mut marks) {
         return Some(fault);
     }
-    let mut clean = [false; 4872];
+    let mut clean = none_clean();
     if let Some(fault) = first_outside(bytes, zone, inodes, &mut clean) {
         return Some(fault);
     }
-    let mut added = [0; 4872];
+    let mut added = no_marks();
     mark_nodes(bytes, zone, inodes, &mut marks, &mut added);
     if let Some(block) = first_two(&marks, zone.end) {
         return Some(ImageFault::BlockTwice(u32::from(block)));
@@ -68,7 +72,7 @@ fn first_fault(bytes: &[u8]) -> Option<ImageFault>
     if bytes.len() > DISK_BYTES {
         return Some(ImageFault::TooLong);
     }
-    let head = super_block(bytes);
+    let head = read_super_block(bytes);
     if let Some(fault) = super_fault(&head) {
         return Some(fault);
     }

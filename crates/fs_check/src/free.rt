@@ -7,11 +7,10 @@ ghost use Rattle.fs_check.specs.Marks.{AreMarks, Adds};
 ghost use Rattle.fs_check.specs.Outside.{zone_of};
 ghost use Rattle.fs_check.specs.Groups.{group_of};
 
-use fs_codec::ImageFault;
-
 use crate::image::word_in;
 use crate::marks::mark;
 use crate::zone::Zone;
+use fs_codec::ImageFault;
 
 /// So many numbers are left of the group whose count is at this place in this block.
 #[derive(Clone, Copy)]

@@ -44,7 +44,7 @@ fn read_bytes(image: &[u8], at: usize, into: &mut [u8])
     }
 }
 
-pub fn super_block(image: &[u8]) -> SuperBlock
+pub fn read_super_block(image: &[u8]) -> SuperBlock
     ensures { result ≡ head (disk_of image.now) }
 {
     let mut bytes = [0; 512];

@@ -1,5 +1,5 @@
 //! Addresses that are no data block's.
-ghost use Rattle.std.specs.Prelude.{◌≡◌, ◌+◌, ◌*◌, ◌<◌, ◌≤◌, ◌^◌, length, map, flat_map, IsTrue};
+ghost use Rattle.std.specs.Prelude.{◌≡◌, ℕ, false, slice_index_or, ◌+◌, ◌*◌, ◌<◌, ◌≤◌, ◌^◌, length, map, flat_map, IsTrue};
 ghost use Rattle.std.specs.Option.{option_map};
 ghost use Rattle.std.specs.List.{range_with_len};
 ghost use Rattle.fs_codec.specs.Words.{words};
@@ -35,6 +35,14 @@ fn least_outside(zone: Zone, addresses: &[u16]) -> Option<u16>
         }
     }
     least
+}
+
+/// No block is known to be clean.
+pub fn none_clean() -> [bool; 4872]
+    ensures long { length result ≡ 4872 }
+    ensures none { (k : ℕ) → slice_index_or result k false ≡ false }
+{
+    [false; 4872]
 }
 
 /// The least address outside in an indirect block. `clean` marks the blocks that have none, so that each is read once.

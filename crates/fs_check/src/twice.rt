@@ -8,12 +8,11 @@ ghost use Rattle.fs_codec.specs.Held.{in_indirect, in_double, held_blocks, held_
 ghost use Rattle.fs_check.specs.Outside.{zone_of};
 ghost use Rattle.fs_check.specs.Marks.{AreMarks, Adds, AreAdded, HasNoTwo, IsFirstTwo};
 
-use fs_codec::DiskNode;
-
 use crate::image::{node, words_of};
 use crate::marks::{mark, mark_all};
 use crate::modes::{holds_blocks, is_large};
 use crate::zone::Zone;
+use fs_codec::DiskNode;
 
 /// Marks the blocks that an indirect block names. `added` counts how often that was done: what came twice stays so.
 fn mark_entries(bytes: &[u8], marks: &mut [u8], added: &mut [u8], block: u16)

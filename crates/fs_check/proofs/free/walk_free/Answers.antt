@@ -1,7 +1,7 @@
-use Rattle.std.proofs.Common.{◌≡◌, ◌≢◌, ◌+◌, ◌-◌, ◌*◌, ◌<◌, ◌≤◌, ◌==◌, ◌∙◌, ℕ, List, ◌∷◌, [], sym, ap, subst, arith, refl, length, slice_index, get_or, true, false, not, suc, Some, None}
+use Rattle.std.proofs.Common.{◌≡◌, ◌+◌, ◌-◌, ◌<◌, ◌≤◌, ◌∙◌, ℕ, sym, ap, arith, slice_index, true, false, Some, None}
 use Rattle.std.proofs.Common.{Bool, ◌&&◌, nat_le, nat_lt}
 use Rattle.std.proofs.lemmas.Bool.{ltb-true}
-use Rattle.fs_codec.specs.Disk.{Disk, disk_of, head, is_data}
+use Rattle.fs_codec.specs.Disk.{Disk, disk_of, is_data}
 use Rattle.fs_codec.specs.Free.{free_walk}
 use Rattle.fs_codec.specs.declared.fault.ImageFault.TheVariants.{FreeCount, FreeOutside}
 use Rattle.fs_check.specs.declared.zone.Zone.{Zone}
@@ -33,13 +33,13 @@ loop-listed-init c = record {
 pub returns-then-block-eq0-clause-marks : goal.returns-then-block-eq0-clause-marks
 returns-then-block-eq0-clause-marks c =
     let e : Ends (free_walk (disk_of c.args.bytes.now)) None c.args.marks.now c.loop-listed.marks c.loop-listed.listed =
-      ends_at_none _ _ _ _ _ _ _ c.top-block.result c.loop-listed.invariant.walking c.top-block.ensures c.if-block-eq0.true in e.adds
+    ends_at_none _ _ _ _ _ _ _ c.top-block.result c.loop-listed.invariant.walking c.top-block.ensures c.if-block-eq0.true in e.adds
 
 pub returns-then-not-holds-clause-marks : goal.returns-then-not-holds-clause-marks
 returns-then-not-holds-clause-marks c =
     let e : Ends (free_walk (disk_of c.args.bytes.now)) (Some (FreeOutside c.top-block.result)) c.args.marks.now c.loop-listed.marks c.loop-listed.listed =
-      ends_outside _ _ _ (c.args.zone.end - (c.loop-listed.listed + 1)) _ _ _ _ c.top-block.result c.loop-listed.invariant.walking (omega arith) c.top-block.ensures c.if-block-eq0.false
-        (is_in (disk_of c.args.bytes.now) c.args.zone c.top-block.result false c.holds.result c.requires.zone c.holds.ensures c.if-not-holds.true) in e.adds
+    ends_outside _ _ _ (c.args.zone.end - (c.loop-listed.listed + 1)) _ _ _ _ c.top-block.result c.loop-listed.invariant.walking (omega arith) c.top-block.ensures c.if-block-eq0.false
+    (is_in (disk_of c.args.bytes.now) c.args.zone c.top-block.result false c.holds.result c.requires.zone c.holds.ensures c.if-not-holds.true) in e.adds
 
 pub returns-then-is_met : goal.returns-then-is_met
 returns-then-is_met c =
@@ -49,7 +49,7 @@ returns-then-is_met c =
     let held : in_zone c.args.zone block ≡ true = sym c.holds.ensures ∙ c.if-not-holds.false in
     let at : slice_index c.loop-listed.marks c.from-in-loop-listed.result ≡ slice_index c.loop-listed.marks block = ap (slice_index c.loop-listed.marks) c.from-in-loop-listed.ensures in
     let e : Ends (free_walk disk) None c.args.marks.now c.mark.new.marks (c.loop-listed.listed + 1) =
-      ends_again _ _ _ (c.args.zone.end - (c.loop-listed.listed + 1)) _ _ _ _ _ block c.loop-listed.invariant.walking (omega arith) c.top-block.ensures c.if-block-eq0.false inside (c.requires.blank block) (is_small c.args.zone block c.requires.end held) (omega arith) c.mark.ensures in
+    ends_again _ _ _ (c.args.zone.end - (c.loop-listed.listed + 1)) _ _ _ _ _ block c.loop-listed.invariant.walking (omega arith) c.top-block.ensures c.if-block-eq0.false inside (c.requires.blank block) (is_small c.args.zone block c.requires.end held) (omega arith) c.mark.ensures in
     record { marks = e.adds; ok = sym e.long; fault = sym e.ends }
 
 pub returns-then-place-gt100 : goal.returns-then-place-gt100
@@ -60,8 +60,8 @@ returns-then-place-gt100 c =
     let held : in_zone c.args.zone block ≡ true = sym c.holds.ensures ∙ c.if-not-holds.false in
     let at : slice_index c.loop-listed.marks c.from-in-loop-listed.result ≡ slice_index c.loop-listed.marks block = ap (slice_index c.loop-listed.marks) c.from-in-loop-listed.ensures in
     let e : Ends (free_walk disk) (Some (FreeCount block)) c.args.marks.now c.mark.new.marks (c.loop-listed.listed + 1) =
-      ends_by_count _ _ _ (c.args.zone.end - (c.loop-listed.listed + 1)) _ (group_of c.after-place.result) _ _ _ _ block c.loop-listed.invariant.walking (omega arith) c.top-block.ensures c.if-block-eq0.false inside (c.requires.blank block) (is_small c.args.zone block c.requires.end held) (omega arith) c.mark.ensures
-        c.after-place.ensures.value c.if-place-gt100.true in
+    ends_by_count _ _ _ (c.args.zone.end - (c.loop-listed.listed + 1)) _ (group_of c.after-place.result) _ _ _ _ block c.loop-listed.invariant.walking (omega arith) c.top-block.ensures c.if-block-eq0.false inside (c.requires.blank block) (is_small c.args.zone block c.requires.end held) (omega arith) c.mark.ensures
+    c.after-place.ensures.value c.if-place-gt100.true in
     record { marks = e.adds; ok = tt; fault = ap (λ b. Some (FreeCount b)) c.from-then-place-gt100.ensures ∙ sym e.ends }
 
 pub loop-listed-preserved : goal.loop-listed-preserved
@@ -75,10 +75,10 @@ loop-listed-preserved c =
       left = c.if-place-gt100.false;
       at = c.after-place.ensures.at;
       walking = goes_on_behind _ _ _ (c.args.zone.end - (c.loop-listed.listed + 1)) _ (group_of c.after-place.result) _ _ _ _ block c.loop-listed.invariant.walking (omega arith) c.top-block.ensures c.if-block-eq0.false inside (c.requires.blank block) (is_small c.args.zone block c.requires.end held) (omega arith) c.mark.ensures
-        c.after-place.ensures.value c.if-place-gt100.false;
+          c.after-place.ensures.value c.if-place-gt100.false;
     }
 
 pub returns-clause-marks : goal.returns-clause-marks
 returns-clause-marks c =
     let e : Ends (free_walk (disk_of c.args.bytes.now)) None c.args.marks.now c.loop-listed.marks c.loop-listed.listed =
-      ends_at_end _ _ _ _ _ _ _ c.loop-listed.invariant.walking (omega arith) in e.adds
+    ends_at_end _ _ _ _ _ _ _ c.loop-listed.invariant.walking (omega arith) in e.adds

@@ -1,7 +1,6 @@
-use Rattle.std.proofs.Common.{◌≡◌, ◌+◌, ◌-◌, ◌*◌, ◌<◌, ◌≤◌, ◌==◌, ◌∙◌, ℕ, List, sym, ap, subst, arith, refl, length, slice_index, get_or, true, false, not, suc, Some, None}
+use Rattle.std.proofs.Common.{◌≡◌, ◌+◌, ◌≤◌, ℕ, List, sym, ap, subst, arith, refl, slice_index}
 use Rattle.std.proofs.Math.ListN.{set}
 use Rattle.fs_codec.specs.Disk.{disk_of}
-use Rattle.fs_codec.specs.Words.{words}
 use Rattle.fs_check.specs.Marks.{Adds, AreAdded}
 use Rattle.fs_check.proofs.MarksLemmas.{adds_again, added_more}
 use Rattle.fs_check.proofs.twice.mark_entries.Goals as goal
@@ -20,4 +19,4 @@ returns-clause-after c =
     let Q : ℕ → Type 0 = λ i. AreAdded (disk_of c.args.bytes.now) (set added i (slice_index added i + 1)) c.mark_all.new.marks in
     subst Q (sym c.from-2.ensures)
     (added_more (disk_of c.args.bytes.now) added c.args.marks.now c.mark_all.new.marks c.args.block (slice_index added c.args.block) c.requires.added c.requires.marks c.requires.before c.requires.number refl (omega arith)
-      (subst P c.words_of.ensures c.mark_all.ensures))
+    (subst P c.words_of.ensures c.mark_all.ensures))

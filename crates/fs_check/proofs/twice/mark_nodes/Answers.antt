@@ -1,4 +1,4 @@
-use Rattle.std.proofs.Common.{◌≡◌, ◌+◌, ◌-◌, ◌*◌, ◌<◌, ◌≤◌, ◌==◌, ◌∙◌, ℕ, List, sym, ap, subst, arith, refl, length, slice_index, get_or, true, false, not, suc, Some, None}
+use Rattle.std.proofs.Common.{subst}
 use Rattle.fs_codec.specs.Fields.{Inode}
 use Rattle.fs_codec.specs.Disk.{disk_of}
 use Rattle.fs_codec.specs.Held.{held_blocks, held_by}

@@ -1,7 +1,7 @@
 use Rattle.std.proofs.Common.{◌∙◌, ap}
 use Rattle.fs_codec.specs.Disk.{disk_of}
 use Rattle.fs_codec.specs.Fields.{super_of}
-use Rattle.fs_check.proofs.image.super_block.Goals as goal
+use Rattle.fs_check.proofs.image.read_super_block.Goals as goal
 
 pub returns : goal.returns
 unfolding disk_of
