@@ -5,3 +5,4 @@ pub mod WalkLemmas
 pub mod BlankLemmas
 pub mod LeastLemmas
 pub mod TwiceLemmas
+pub mod TallyLemmas

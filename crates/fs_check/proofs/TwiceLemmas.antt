@@ -44,7 +44,7 @@ free_is_data : (disk : Disk) (k : ℕ) → 1 ≤ count_by (nat_eq k) (free_walk 
 unfolding free_walk
 free_is_data disk k h = walk_is_data (head disk).f_size disk (record { left = (head disk).nfree; block = 1; place = 4 }) [] k h
 
-first_none : (o : Option ImageFault) (rest : List (Option ImageFault)) → first_some (o ∷ rest) ≡ None → (o ≡ None) × (first_some rest ≡ None)
+pub first_none : (o : Option ImageFault) (rest : List (Option ImageFault)) → first_some (o ∷ rest) ≡ None → (o ≡ None) × (first_some rest ≡ None)
 first_none None rest h = (refl, h)
 first_none (Some f) rest h = absurd (cc)
 

@@ -2,6 +2,8 @@
 #![tactic(auto)]
 
 mod acceptance;
+mod counting;
+mod counts;
 mod free;
 mod image;
 mod marks;
@@ -11,4 +13,6 @@ mod twice;
 mod zone;
 
 pub use acceptance::accept;
+pub use counting::tally;
+pub use counts::Tally;
 pub use fs_codec::ImageFault;
