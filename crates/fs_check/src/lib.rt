@@ -10,6 +10,8 @@ mod marks;
 mod modes;
 mod outside;
 mod twice;
+#[cfg(test)]
+mod tests;
 mod zone;
 
 pub use acceptance::accept;
