@@ -9,9 +9,9 @@ mod image;
 mod marks;
 mod modes;
 mod outside;
-mod twice;
 #[cfg(test)]
 mod tests;
+mod twice;
 mod zone;
 
 pub use acceptance::accept;
