@@ -1,0 +1,4 @@
+pub mod BytesLemmas
+pub mod FilesLemmas
+pub mod FreeListLemmas
+pub mod ImageLemmas

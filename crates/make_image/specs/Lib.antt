@@ -1,0 +1,6 @@
+pub mod Bytes
+pub mod Files
+pub mod FreeList
+pub mod Image
+pub mod Adding
+pub mod FreeBlocks
