@@ -194,18 +194,19 @@ fn core_of_63_clicks_is_too_small(rt: HostRuntime) -> Result<(), Fail> {
     Ok(())
 }
 
-/// The word 000005 (reset) in the place of the first instruction of `hi`.
+/// The words 000005 (RESET, which does nothing for a user) and 000000 (HALT, which is no instruction for one) in the place of
+/// the first two words of `hi`.
 #[test]
-fn reset_is_not_built(rt: HostRuntime) -> Result<(), Fail> {
-    let image = image_of(rt.alloc(), b"\x05\x00")?;
+fn halt_is_not_built(rt: HostRuntime) -> Result<(), Fail> {
+    let image = image_of(rt.alloc(), b"\x05\0\0\0")?;
     let words = words_of(rt.alloc(), &RUN)?;
     let mut host = host_of(rt.alloc(), &image, "run 20\n")?;
     let status = v6(rt.alloc(), &words, &mut host);
-    assert_eq!(rt; status, Status::NotBuilt(Unbuilt::At(0)));
+    assert_eq!(rt; status, Status::NotBuilt(Unbuilt::At(2)));
     assert_eq!(rt; status.number(), 11);
     assert_eq!(rt;
         host.bytes(OutPort::Report),
-        b"not built: pc 0\n".as_slice()
+        b"not built: pc 2\n".as_slice()
     );
     assert_eq!(rt; host.bytes(OutPort::Term), b"".as_slice());
     Ok(())
