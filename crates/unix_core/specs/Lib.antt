@@ -1,3 +1,4 @@
+pub mod Boots
 pub mod Console
 pub mod Disk
 pub mod Machine

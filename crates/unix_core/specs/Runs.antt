@@ -1,6 +1,7 @@
 -- A run as a function: from an image, a core size and a list of events to what is shown and how it ends.
-use Rattle.std.specs.Prelude.{ℕ, false, List, [], ◌∷◌, ◌++◌, ◌&&◌, ◌*◌, nat_le, if◌then◌else◌, Option, Some, None, length, codes, replicate}
+use Rattle.std.specs.Prelude.{ℕ, false, List, [], ◌∷◌, ◌++◌, ◌&&◌, ◌*◌, is_some, if◌then◌else◌, Option, Some, None, length, codes, replicate}
 use Rattle.std.specs.Option.{option_map}
+use Rattle.fs_codec.specs.Faults.{image_fault}
 use Rattle.v6_base.specs.Image.{Image}
 use Rattle.v6_base.specs.Trace.{Item}
 use Rattle.unix_core.specs.declared.disk.Inode.{Inode}
@@ -41,14 +42,13 @@ boots_from image (Some init) (Some console) =
     if is_program image init && is_console console then Some (unix_with (program_bytes image init)) else None
 boots_from image init console = None
 
--- The Unix that an image of so many clicks of core begins with, or None where the image hasn't the form that is built: it is
--- no longer than a disk of 4,872 blocks, `/etc/init` leads to a program and `/dev/tty8` to the console. A program of that form
--- with its stack and its u area fits into each core that is allowed.
+-- The Unix that an image with so many clicks of core begins with, or None where the image has a fault or hasn't the form that is
+-- built: `/etc/init` leads to a program and `/dev/tty8` to the console. A program of that form with its stack and its u area fits
+-- into each core that is allowed.
 abbrev pub boots : List ℕ → ℕ → Option Unix
 boots image core =
-    if nat_le (length image) 2494464
-    then boots_from image (reached_through image (filled (codes "etc")) (filled (codes "init"))) (reached_through image (filled (codes "dev")) (filled (codes "tty8")))
-    else None
+    if is_some (image_fault image) then None
+    else boots_from image (reached_through image (filled (codes "etc")) (filled (codes "init"))) (reached_through image (filled (codes "dev")) (filled (codes "tty8")))
 
 -- what comes to a kernel from outside
 pub data Event : Type 0 where

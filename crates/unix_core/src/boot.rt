@@ -1,14 +1,11 @@
 //! What a kernel begins with.
-ghost use Rattle.std.specs.Prelude.{◌≡◌, ℕ, ◌≤◌, IfOk, Some, None};
-ghost use Rattle.unix_core.specs.Runs.{boots};
+ghost use Rattle.std.specs.Prelude.{◌≡◌, ℕ, ◌≤◌, IfOk, IfErr, Some};
 
 use crate::disk::{is_program, program_bytes, reached_through};
 use crate::kernel::Kernel;
 use crate::program::space_with;
+use fs_check::{ImageFault, accept};
 use std::alloc::Global;
-
-/// The bytes of a disk of 4,872 blocks.
-const DISK_SIZE: usize = 2494464;
 
 const ETC: [u8; 14] = *b"etc\0\0\0\0\0\0\0\0\0\0\0";
 
@@ -21,6 +18,8 @@ const TTY8: [u8; 14] = *b"tty8\0\0\0\0\0\0\0\0\0\0";
 /// Why there is no kernel for an image.
 #[derive(Clone, Copy, Debug, PartialEq, Eq)]
 pub enum BootFault {
+    /// The image has this fault.
+    Image(ImageFault),
     /// The image hasn't the form that is built.
     NotBuilt,
     /// There is no memory for it.
@@ -28,6 +27,7 @@ pub enum BootFault {
 }
 
 impl Kernel {
+    ghost use Rattle.unix_core.specs.Boots.{RefusesBoot};
     ghost use Rattle.unix_core.specs.Runs.{boots};
 
     /// Makes the kernel for a disk image and so many clicks of core, before the start of its run.
@@ -37,10 +37,10 @@ impl Kernel {
         requires least { 64 ≤ core }
         requires most { core ≤ 3968 }
         ensures unix { IfOk result (λ kernel. boots image.now core ≡ Some kernel) }
-        ensures not_built { result ≡ Err BootFault.NotBuilt → boots image.now core ≡ None }
+        ensures refused { IfErr result (RefusesBoot image.now core) }
     {
-        if image.len() > DISK_SIZE {
-            return Err(BootFault::NotBuilt);
+        if let Err(fault) = accept(image) {
+            return Err(BootFault::Image(fault));
         }
         let Some(init) = reached_through(image, &ETC, &INIT) else {
             return Err(BootFault::NotBuilt);
