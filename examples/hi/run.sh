@@ -4,7 +4,9 @@
 set -eu
 cd "$(dirname "$0")/../.."
 if [ ! -x crates/v6/out/v6 ]; then
-    (cd crates/v6 && rt run >/dev/null)
+    # rt builds the program and runs it without words, which is a usage fault
+    (cd crates/v6 && rt run) >crates/v6/out.log 2>&1 || [ -x crates/v6/out/v6 ] || { cat crates/v6/out.log; exit 1; }
+    rm -f crates/v6/out.log
 fi
 out=$(mktemp -d)
 trap 'rm -rf "$out"' EXIT
