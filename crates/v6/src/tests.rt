@@ -8,7 +8,7 @@ use std::alloc::{AllocError, Global};
 use std::fs;
 use std::test::Fail;
 use v6_port::{FileHost, InPort, MemHost, OutPort};
-use v6_run::{Status, Unbuilt, v6};
+use v6_run::{ImageFault, Status, Unbuilt, v6};
 
 const RUN: [&str; 7] = ["run", "image", "1200", "script", "term", "log", "final"];
 
@@ -209,5 +209,93 @@ fn halt_is_not_built(rt: HostRuntime) -> Result<(), Fail> {
         b"not built: pc 2\n".as_slice()
     );
     assert_eq!(rt; host.bytes(OutPort::Term), b"".as_slice());
+    Ok(())
+}
+
+/// What a command of these words reports where this is the image.
+fn report_of(alloc: Global, words: &[&str], image: &[u8]) -> Result<Vec<u8>, AllocError> {
+    let words = words_of(alloc, words)?;
+    let mut host = host_of(alloc, image, "")?;
+    let _ = v6(alloc, &words, &mut host);
+    host.bytes(OutPort::Report).to_vec(alloc)
+}
+
+#[test]
+fn check_tells_what_hi_holds(rt: HostRuntime) -> Result<(), Fail> {
+    let image = image_of(rt.alloc(), HI)?;
+    let report = report_of(rt.alloc(), &["check", "image"], &image)?;
+    assert_eq!(rt; report.as_slice(), b"ok 7 nodes 0 free\n".as_slice());
+    Ok(())
+}
+
+/// A disk that was made is accepted, and holds what the generator says.
+#[test]
+fn disk_12_is_made_and_checked(rt: HostRuntime) -> Result<(), Fail> {
+    let words = words_of(rt.alloc(), &["make", "12", "final"])?;
+    let mut host = MemHost::new(rt.alloc());
+    host.room(OutPort::Final, "final", 2048000)?;
+    host.room(OutPort::Report, "report", 256)?;
+    assert_eq!(rt; v6(rt.alloc(), &words, &mut host), Status::Done);
+    assert_eq!(rt; host.bytes(OutPort::Report), b"".as_slice());
+    let report = report_of(rt.alloc(), &["check", "image"], host.bytes(OutPort::Final))?;
+    assert_eq!(rt; report.as_slice(), b"ok 19 nodes 3891 free\n".as_slice());
+    Ok(())
+}
+
+#[test]
+fn image_past_the_disk_is_too_long(rt: HostRuntime) -> Result<(), Fail> {
+    let image = vec![in rt.alloc(); 0; 2494465]?;
+    let words = words_of(rt.alloc(), &RUN)?;
+    let mut host = host_of(rt.alloc(), &image, "walk\n")?;
+    let status = v6(rt.alloc(), &words, &mut host);
+    assert_eq!(rt; status, Status::ImageFault(ImageFault::TooLong));
+    assert_eq!(rt; status.number(), 6);
+    assert_eq!(rt;
+        host.bytes(OutPort::Report),
+        b"image: too long\n".as_slice()
+    );
+    Ok(())
+}
+
+/// 4001 blocks; block 300 in inodes 3 and 7, with block 4000 in inode 4 and without; an entry of `/u` to inode 8, which is free.
+#[test]
+fn first_faults_of_hi_that_was_changed(rt: HostRuntime) -> Result<(), Fail> {
+    let mut image = image_of(rt.alloc(), HI)?;
+    put(&mut image, 514, b"\xa1");
+    let report = report_of(rt.alloc(), &["check", "image"], &image)?;
+    assert_eq!(rt;
+        report.as_slice(),
+        b"image: file system of 4001 blocks leaves no swap\n".as_slice()
+    );
+    put(&mut image, 514, b"\xa0");
+    put(&mut image, 1098, b"\x2c\x01");
+    put(&mut image, 1226, b"\x2c\x01");
+    put(&mut image, 1130, b"\xa0\x0f");
+    let report = report_of(rt.alloc(), &["check", "image"], &image)?;
+    assert_eq!(rt;
+        report.as_slice(),
+        b"image: inode 4 has block 4000 outside\n".as_slice()
+    );
+    put(&mut image, 1130, b"\0\0");
+    let report = report_of(rt.alloc(), &["check", "image"], &image)?;
+    assert_eq!(rt; report.as_slice(), b"image: block 300 twice\n".as_slice());
+    put(&mut image, 1226, b"\0\0");
+    put(&mut image, 33312, b"\x08\x00x");
+    let report = report_of(rt.alloc(), &["check", "image"], &image)?;
+    assert_eq!(rt; report.as_slice(), b"ok 7 nodes 0 free\n".as_slice());
+    Ok(())
+}
+
+/// The report's port has no room.
+#[test]
+fn failed_report_of_check_is_a_write_fault(rt: HostRuntime) -> Result<(), Fail> {
+    let image = image_of(rt.alloc(), HI)?;
+    let words = words_of(rt.alloc(), &["check", "image"])?;
+    let mut host = MemHost::new(rt.alloc());
+    host.add("image", &image)?;
+    let status = v6(rt.alloc(), &words, &mut host);
+    assert_eq!(rt; status, Status::WriteFault(OutPort::Report));
+    assert_eq!(rt; status.number(), 3);
+    assert_eq!(rt; host.bytes(OutPort::Report), b"".as_slice());
     Ok(())
 }

@@ -1,14 +1,16 @@
 -- Why a status is answered after several calls of a host.
-use Rattle.std.proofs.Common.{◌≡◌, Bool, false, refl, sym, ◌∙◌, ap, subst}
+use Rattle.std.proofs.Common.{◌≡◌, Bool, true, false, ◌||◌, refl, sym, ◌∙◌, ap, subst}
 use Rattle.v6_port.specs.declared.host.InPort.{InPort}
 use Rattle.v6_port.specs.declared.host.InPort.TheVariants as in_port
 use Rattle.v6_port.specs.declared.host.OutPort.TheVariants as out_port
 use Rattle.v6_port.specs.Outside.{Port, In, Out, same, PortState, Fixed, Outside, Tells, Rose, OnlyAt}
 use Rattle.v6_port.specs.Causes.{SameCounts, Calm, FaultAt}
 use Rattle.v6_run.specs.declared.status.Status.{Status}
-use Rattle.v6_run.specs.declared.status.Status.TheVariants.{Done, Usage, ReadFault, WriteFault, CoreSize, NoMemory, NotBuilt}
+use Rattle.v6_run.specs.declared.status.Status.TheVariants.{Done, Usage, ReadFault, WriteFault, CoreSize, ImageFault, NoMemory, NotBuilt}
 use Rattle.v6_run.specs.Causes.{IsCaused, StopsReading}
-use Rattle.v6_run.specs.Answers.{is_named, StopsShowing}
+use Rattle.v6_run.specs.Answers.{StopsShowing}
+use Rattle.v6_run.specs.Words.{RunWords, Run}
+use Rattle.v6_run.specs.Headline.{is_named}
 
 pub still_tells : (mine : Port → Bool) (a b : Outside) → OnlyAt mine a b → Tells a → Tells b
 still_tells mine a b only told = ap (λ (f : Fixed). f.tells) only.fixed ∙ told
@@ -39,6 +41,7 @@ caused_then known Usage a b c fixed first second = calm_then a b c first second
 caused_then known (ReadFault port) a b c fixed first second = fault_then (In port) (known (In port)) a b c fixed first second
 caused_then known (WriteFault port) a b c fixed first second = fault_then (Out port) (known (Out port)) a b c fixed first second
 caused_then known CoreSize a b c fixed first second = calm_then a b c first second
+caused_then known (ImageFault fault) a b c fixed first second = calm_then a b c first second
 caused_then known NoMemory a b c fixed first second = calm_then a b c first second
 caused_then known (NotBuilt place) a b c fixed first second = calm_then a b c first second
 
@@ -49,6 +52,7 @@ caused_reading known port k Usage a b is stops cause = absurd stops
 caused_reading known port k (ReadFault other) a b is stops cause = subst (λ known_there. FaultAt (In other) known_there a b) (sym (ap (λ p. known (In p)) stops ∙ is)) cause
 caused_reading known port k (WriteFault other) a b is stops cause = absurd stops
 caused_reading known port k CoreSize a b is stops cause = absurd stops
+caused_reading known port k (ImageFault fault) a b is stops cause = absurd stops
 caused_reading known port k NoMemory a b is stops cause = cause
 caused_reading known port k (NotBuilt place) a b is stops cause = absurd stops
 
@@ -59,36 +63,27 @@ caused_showing known k Usage a b is stops cause = absurd stops
 caused_showing known k (ReadFault port) a b is stops cause = absurd stops
 caused_showing known k (WriteFault port) a b is stops cause = subst (λ known_there. FaultAt (Out port) known_there a b) (sym (ap (λ p. known (Out p)) stops ∙ is)) cause
 caused_showing known k CoreSize a b is stops cause = absurd stops
+caused_showing known k (ImageFault fault) a b is stops cause = absurd stops
 caused_showing known k NoMemory a b is stops cause = absurd stops
 caused_showing known k (NotBuilt place) a b is stops cause = cause
 
--- whatever else a reading does, it changes ports with a name alone
-pub named_image : (q : Port) → is_named q ≡ false → same (In in_port.Image) q ≡ false
-named_image (In in_port.Image) other = cc
-named_image (In in_port.Script) other = refl
-named_image (In in_port.Log) other = refl
-named_image (Out out_port.Term) other = refl
-named_image (Out out_port.Log) other = refl
-named_image (Out out_port.Final) other = refl
-named_image (Out out_port.Report) other = refl
+pub only_within : (mine named : Port → Bool) (a b : Outside) → ((q : Port) → named q ≡ false → mine q ≡ false) → OnlyAt mine a b → OnlyAt named a b
+only_within mine named a b within only = record { fixed = only.fixed; others = λ q other. only.others q (within q other) }
 
-pub named_script : (q : Port) → is_named q ≡ false → same (In in_port.Script) q ≡ false
-named_script (In in_port.Image) other = refl
-named_script (In in_port.Script) other = cc
-named_script (In in_port.Log) other = refl
-named_script (Out out_port.Term) other = refl
-named_script (Out out_port.Log) other = refl
-named_script (Out out_port.Final) other = refl
-named_script (Out out_port.Report) other = refl
+pub left_false : (a b : Bool) → (a || b) ≡ false → a ≡ false
+left_false true b is = cc
+left_false false b is = refl
 
-pub named_term : (q : Port) → is_named q ≡ false → same (Out out_port.Term) q ≡ false
-named_term (In in_port.Image) other = refl
-named_term (In in_port.Script) other = refl
-named_term (In in_port.Log) other = refl
-named_term (Out out_port.Term) other = cc
-named_term (Out out_port.Log) other = refl
-named_term (Out out_port.Final) other = refl
-named_term (Out out_port.Report) other = refl
+pub right_false : (a b : Bool) → (a || b) ≡ false → b ≡ false
+right_false true b is = cc
+right_false false b is = is
 
-pub only_named : (mine : Port → Bool) (a b : Outside) → ((q : Port) → is_named q ≡ false → mine q ≡ false) → OnlyAt mine a b → OnlyAt is_named a b
-only_named mine a b named only = record { fixed = only.fixed; others = λ q other. only.others q (named q other) }
+-- what `run` has a name for
+pub names_image : (words : RunWords) (q : Port) → is_named (Run words) q ≡ false → same (In in_port.Image) q ≡ false
+names_image words q other = left_false (same (In in_port.Image) q) (same (In in_port.Script) q) (left_false _ (same (Out out_port.Term) q) other)
+
+pub names_script : (words : RunWords) (q : Port) → is_named (Run words) q ≡ false → same (In in_port.Script) q ≡ false
+names_script words q other = right_false (same (In in_port.Image) q) (same (In in_port.Script) q) (left_false _ (same (Out out_port.Term) q) other)
+
+pub names_term : (words : RunWords) (q : Port) → is_named (Run words) q ≡ false → same (Out out_port.Term) q ≡ false
+names_term words q other = right_false (same (In in_port.Image) q || same (In in_port.Script) q) (same (Out out_port.Term) q) other

@@ -8,4 +8,8 @@ pub mod FrontLemmas
 pub mod ShownLemmas
 pub mod ResultLemmas
 pub mod CauseLemmas
+pub mod ImageLemmas
 pub mod AnswerLemmas
+pub mod RunLemmas
+pub mod CheckLemmas
+pub mod CommandLemmas

@@ -4,7 +4,7 @@ use Rattle.v6_port.specs.declared.host.InPort.{InPort}
 use Rattle.v6_port.specs.Outside.{Port, In, Out, same, is_report, Outside, Tells, Rose}
 use Rattle.v6_port.specs.Causes.{Calm, FaultAt}
 use Rattle.v6_run.specs.declared.status.Status.{Status}
-use Rattle.v6_run.specs.declared.status.Status.TheVariants.{Done, Usage, ReadFault, WriteFault, CoreSize, NoMemory, NotBuilt}
+use Rattle.v6_run.specs.declared.status.Status.TheVariants.{Done, Usage, ReadFault, WriteFault, CoreSize, ImageFault, NoMemory, NotBuilt}
 
 -- Why a status is answered: the faults of its port rose and no count of another has changed, or, with any other status, no count
 -- has changed at all. Where the host tells, a name is missing only where it isn't known.
@@ -14,6 +14,7 @@ IsCaused known Usage old new = Calm old new
 IsCaused known (ReadFault port) old new = FaultAt (In port) (known (In port)) old new
 IsCaused known (WriteFault port) old new = FaultAt (Out port) (known (Out port)) old new
 IsCaused known CoreSize old new = Calm old new
+IsCaused known (ImageFault fault) old new = Calm old new
 IsCaused known NoMemory old new = Calm old new
 IsCaused known (NotBuilt place) old new = Calm old new
 
@@ -33,6 +34,7 @@ HasCause Usage old new = IsFaultless old new
 HasCause (ReadFault port) old new = IsFaultOf (In port) old new
 HasCause (WriteFault port) old new = IsFaultOf (Out port) old new
 HasCause CoreSize old new = IsFaultless old new
+HasCause (ImageFault fault) old new = IsFaultless old new
 HasCause NoMemory old new = IsFaultless old new
 HasCause (NotBuilt place) old new = IsFaultless old new
 
@@ -47,6 +49,7 @@ StopsReading port Usage = ⊥
 StopsReading port (ReadFault other) = other ≡ port
 StopsReading port (WriteFault other) = ⊥
 StopsReading port CoreSize = ⊥
+StopsReading port (ImageFault fault) = ⊥
 StopsReading port NoMemory = ⊤
 StopsReading port (NotBuilt place) = ⊥
 

@@ -1,144 +1,207 @@
--- What a command answers and shows, from its words and the bytes of its files: the words first, then the script's first line
--- that isn't built, then the form of the image, then the run. The order is that of docs/manual/commands.md.
-use Rattle.std.specs.Prelude.{◌≡◌, ⊤, ℕ, Bool, true, false, Option, Some, None, IsSome, List, [], ◌++◌, take, nat_le, ◌&&◌, if◌then◌else◌}
-use Rattle.v6_base.specs.Trace.{Item, line_bytes}
+-- What a command answers and writes, from its words and the bytes of its files: the words first, then the image's first fault,
+-- the script's first line that isn't built, the form of the image, and the run. The order is that of docs/manual/commands.md.
+use Rattle.std.specs.Prelude.{◌≡◌, ⊤, ℕ, Bool, true, false, not, Option, Some, None, IsSomeAnd, List, [], ◌++◌, take, nat_le, ◌&&◌, ◌||◌, if◌then◌else◌}
+use Rattle.v6_base.specs.Trace.{line_bytes}
 use Rattle.v6_port.specs.declared.host.InPort.TheVariants as in_port
+use Rattle.v6_port.specs.declared.host.OutPort.{OutPort}
 use Rattle.v6_port.specs.declared.host.OutPort.TheVariants as out_port
-use Rattle.v6_port.specs.Outside.{Port, In, Out, Fixed, Outside, Tells}
+use Rattle.v6_port.specs.Outside.{Port, In, Out, same, is_report, Fixed, Outside}
 use Rattle.v6_port.specs.Calls.{is_given, is_expected}
+use Rattle.fs_codec.specs.declared.fault.ImageFault.{ImageFault}
+use Rattle.fs_codec.specs.Disk.{disk_of}
+use Rattle.fs_codec.specs.Faults.{image_fault}
+use Rattle.fs_codec.specs.Stands.{store_of}
+use Rattle.make_image.specs.Image.{build_of}
 use Rattle.unix_core.specs.Runs.{Course, runs}
 use Rattle.v6_run.specs.declared.status.Status.{Status}
-use Rattle.v6_run.specs.declared.status.Status.TheVariants.{Done, Usage, ReadFault, WriteFault, CoreSize, NoMemory, NotBuilt}
-use Rattle.v6_run.specs.declared.status.Unbuilt.{Unbuilt}
+use Rattle.v6_run.specs.declared.status.Status.TheVariants as status
 use Rattle.v6_run.specs.declared.status.Unbuilt.TheVariants as unbuilt
-use Rattle.v6_run.specs.Words.{RunWords}
+use Rattle.v6_run.specs.Words.{RunWords, Command, Run, Check, Make}
 use Rattle.v6_run.specs.Script.{Script, Slots, script_of}
 use Rattle.v6_run.specs.Script as script
 use Rattle.v6_run.specs.Events.{events_of}
 use Rattle.v6_run.specs.Fronts.{HoldsFront}
-use Rattle.v6_run.specs.Ports.{term}
+use Rattle.v6_run.specs.Report.{store_line}
+
+abbrev pub is_core_size : ℕ → Bool
+is_core_size core = nat_le 64 core && nat_le core 3968
 
 -- the status with which words are refused: they are no command's, or core isn't 64 to 3968 clicks
-abbrev pub refused_by : Option RunWords → Option Status
-refused_by None = Some Usage
-refused_by (Some words) = if nat_le 64 words.core && nat_le words.core 3968 then None else Some CoreSize
+abbrev pub refused_by : Option Command → Option Status
+refused_by None = Some status.Usage
+refused_by (Some (Run words)) = if is_core_size words.core then None else Some status.CoreSize
+refused_by (Some (Check image)) = None
+refused_by (Some (Make number final)) = None
 
--- how a run ends, and all that it shows
+-- how a command ends, and all that it writes to the files that it opens
 pub record Outcome : Type 0 where
   pub status : Status
-  pub items : List Item
+  pub written : OutPort → List ℕ
 
-abbrev pub not_built : Unbuilt → Outcome
-not_built place = record { status = NotBuilt place; items = [] }
+-- a command that ends so and writes no file
+abbrev pub ends_with : Status → Outcome
+ends_with s = record { status = s; written = λ port. [] }
+
+abbrev pub only_to : OutPort → List ℕ → OutPort → List ℕ
+only_to port bytes q = if same (Out port) (Out q) then bytes else []
 
 abbrev pub status_at : Option ℕ → Status
-status_at None = Done
-status_at (Some pc) = NotBuilt (unbuilt.At pc)
+status_at None = status.Done
+status_at (Some pc) = status.NotBuilt (unbuilt.At pc)
 
 abbrev pub course_outcome : Course → Outcome
-course_outcome c = record { status = status_at c.ending; items = c.items }
+course_outcome c = record { status = status_at c.ending; written = only_to out_port.Term (line_bytes 0 c.items) }
 
-abbrev pub image_outcome : Option Course → Outcome
-image_outcome None = not_built unbuilt.Image
-image_outcome (Some c) = course_outcome c
+abbrev pub boot_outcome : Option Course → Outcome
+boot_outcome None = ends_with (status.NotBuilt unbuilt.Image)
+boot_outcome (Some c) = course_outcome c
 
-abbrev pub script_outcome : List ℕ → ℕ → Script → Outcome
-script_outcome image core (script.Unbuilt n) = not_built (unbuilt.Line n)
-script_outcome image core (Slots counts) = image_outcome (runs image core (events_of counts))
+abbrev pub lines_outcome : List ℕ → ℕ → Script → Outcome
+lines_outcome image core (script.Unbuilt n) = ends_with (status.NotBuilt (unbuilt.Line n))
+lines_outcome image core (Slots counts) = boot_outcome (runs image core (events_of counts))
 
--- from the bytes of IMAGE, of which at most one more is read than a disk has, and of SCRIPT, of which at most one more is read
--- than a script may have
-abbrev pub outcome_of : ℕ → Option (List ℕ) → Option (List ℕ) → Option Outcome
-outcome_of core (Some image) (Some bytes) = Some (script_outcome (take 2494465 image) core (script_of (take 1048577 bytes)))
-outcome_of core (Some image) None = None
-outcome_of core None bytes = None
+-- from the bytes of SCRIPT, of which at most one more is read than a script may have
+abbrev pub script_outcome : ℕ → Option (List ℕ) → List ℕ → Option Outcome
+script_outcome core None image = None
+script_outcome core (Some bytes) image = Some (lines_outcome image core (script_of (take 1048577 bytes)))
 
--- what the files come to that good words name, where both are given
-abbrev pub files_outcome : Option RunWords → Fixed → Option Outcome
-files_outcome None fixed = None
-files_outcome (Some words) fixed = outcome_of words.core (fixed.given words.image) (fixed.given words.script)
+abbrev pub fault_outcome : Option ImageFault → Option Outcome → Option Outcome
+fault_outcome (Some fault) behind = Some (ends_with (status.ImageFault fault))
+fault_outcome None behind = behind
 
--- The run went to its end, or to what isn't built: the status is its, and the terminal's port has got all that it shows.
-pub record ShowsAll (status : Status) (old new : Outside) (run : Outcome) : Type 0 where
-  pub answered : status ≡ run.status
-  pub shown : Tells old → (term new).bytes ≡ (term old).bytes ++ line_bytes 0 run.items
+-- from the bytes of IMAGE, of which at most one more is read than a disk has: its first fault, or what follows
+abbrev pub image_outcome : Option (List ℕ) → (List ℕ → Option Outcome) → Option Outcome
+image_outcome None behind = None
+image_outcome (Some bytes) behind = fault_outcome (image_fault (take 2494465 bytes)) (behind (take 2494465 bytes))
 
--- a run has begun where neither the script nor the image was refused
+-- what a command comes to, where the files that it reads are given
+abbrev pub command_outcome : Command → Fixed → Option Outcome
+command_outcome (Run words) fixed = image_outcome (fixed.given words.image) (script_outcome words.core (fixed.given words.script))
+command_outcome (Check image) fixed = image_outcome (fixed.given image) (λ bytes. Some (ends_with status.Done))
+command_outcome (Make number final) fixed = Some (record { status = status.Done; written = only_to out_port.Final (build_of number) })
+
+abbrev pub words_outcome : Option Command → Fixed → Option Outcome
+words_outcome None fixed = None
+words_outcome (Some command) fixed = command_outcome command fixed
+
+-- the line that a command reports when it was done: that of `check` tells what the disk holds, and the others have none
+abbrev pub image_line : Option (List ℕ) → List ℕ
+image_line None = []
+image_line (Some bytes) = store_line (store_of (disk_of (take 2494465 bytes)))
+
+abbrev pub done_line : Option Command → Fixed → List ℕ
+done_line None fixed = []
+done_line (Some (Run words)) fixed = []
+done_line (Some (Check image)) fixed = image_line (fixed.given image)
+done_line (Some (Make number final)) fixed = []
+
+-- The command has come to its outcome: the status is its, and each file has got all that is written to it.
+pub record ShowsAll (s : Status) (old new : Outside) (outcome : Outcome) : Type 0 where
+  pub answered : s ≡ outcome.status
+  pub shown : (p : OutPort) → is_report (Out p) ≡ false → (new.port (Out p)).bytes ≡ (old.port (Out p)).bytes ++ outcome.written p
+
+-- an outcome that is reached by writing: neither the image nor the script was refused
 abbrev pub IsBegun : Status → Type 0
-IsBegun Done = ⊤
-IsBegun Usage = ⊥
-IsBegun (ReadFault port) = ⊥
-IsBegun (WriteFault port) = ⊥
-IsBegun CoreSize = ⊥
-IsBegun NoMemory = ⊥
-IsBegun (NotBuilt unbuilt.Image) = ⊥
-IsBegun (NotBuilt (unbuilt.Line n)) = ⊥
-IsBegun (NotBuilt (unbuilt.At pc)) = ⊤
+IsBegun status.Done = ⊤
+IsBegun status.Usage = ⊥
+IsBegun (status.ReadFault port) = ⊥
+IsBegun (status.WriteFault port) = ⊥
+IsBegun status.CoreSize = ⊥
+IsBegun (status.ImageFault fault) = ⊥
+IsBegun status.NoMemory = ⊥
+IsBegun (status.NotBuilt unbuilt.Image) = ⊥
+IsBegun (status.NotBuilt (unbuilt.Line n)) = ⊥
+IsBegun (status.NotBuilt (unbuilt.At pc)) = ⊤
 
--- the run has begun, and the terminal's port has got a front of what it shows
-pub record ShowsFront (old new : Outside) (run : Outcome) : Type 0 where
-  pub begun : IsBegun run.status
-  pub front : HoldsFront (term old).bytes (line_bytes 0 run.items) (term new).bytes
+-- the writing has begun, and each file has got a front of what is written to it
+pub record ShowsFront (old new : Outside) (outcome : Outcome) : Type 0 where
+  pub begun : IsBegun outcome.status
+  pub front : (p : OutPort) → is_report (Out p) ≡ false → HoldsFront (old.port (Out p)).bytes (outcome.written p) (new.port (Out p)).bytes
 
--- the image that the words name is given
-abbrev pub IsImageGiven : Option RunWords → Fixed → Type 0
-IsImageGiven None fixed = ⊥
-IsImageGiven (Some words) fixed = IsSome (fixed.given words.image)
+-- a script is read where the image of `run` is given and has no fault
+abbrev pub IsImageGood : Option Command → Fixed → Type 0
+IsImageGood None fixed = ⊥
+IsImageGood (Some (Run words)) fixed = IsSomeAnd (fixed.given words.image) (λ bytes. image_fault (take 2494465 bytes) ≡ None)
+IsImageGood (Some (Check image)) fixed = ⊥
+IsImageGood (Some (Make number final)) fixed = ⊥
 
--- the statuses that a run's files come to
-abbrev pub IsOfRun : Status → Type 0
-IsOfRun Done = ⊤
-IsOfRun Usage = ⊥
-IsOfRun (ReadFault port) = ⊥
-IsOfRun (WriteFault port) = ⊥
-IsOfRun CoreSize = ⊥
-IsOfRun NoMemory = ⊥
-IsOfRun (NotBuilt place) = ⊤
+-- the statuses that are a command's outcome
+abbrev pub IsOutcome : Status → Type 0
+IsOutcome status.Done = ⊤
+IsOutcome status.Usage = ⊥
+IsOutcome (status.ReadFault port) = ⊥
+IsOutcome (status.WriteFault port) = ⊥
+IsOutcome status.CoreSize = ⊥
+IsOutcome (status.ImageFault fault) = ⊤
+IsOutcome status.NoMemory = ⊥
+IsOutcome (status.NotBuilt place) = ⊤
 
--- the statuses that good words may come to: a fault is one of a port for which the words have a name
-abbrev pub IsOfWords : Status → Type 0
-IsOfWords Done = ⊤
-IsOfWords Usage = ⊥
-IsOfWords (ReadFault in_port.Image) = ⊤
-IsOfWords (ReadFault in_port.Script) = ⊤
-IsOfWords (ReadFault in_port.Log) = ⊥
-IsOfWords (WriteFault out_port.Term) = ⊤
-IsOfWords (WriteFault out_port.Log) = ⊥
-IsOfWords (WriteFault out_port.Final) = ⊥
-IsOfWords (WriteFault out_port.Report) = ⊥
-IsOfWords CoreSize = ⊥
-IsOfWords NoMemory = ⊤
-IsOfWords (NotBuilt place) = ⊤
+-- the statuses that come before any file is written
+abbrev pub IsUnwritten : Status → Type 0
+IsUnwritten status.Done = ⊥
+IsUnwritten status.Usage = ⊤
+IsUnwritten (status.ReadFault port) = ⊤
+IsUnwritten (status.WriteFault port) = ⊥
+IsUnwritten status.CoreSize = ⊤
+IsUnwritten (status.ImageFault fault) = ⊤
+IsUnwritten status.NoMemory = ⊤
+IsUnwritten (status.NotBuilt unbuilt.Image) = ⊤
+IsUnwritten (status.NotBuilt (unbuilt.Line n)) = ⊤
+IsUnwritten (status.NotBuilt (unbuilt.At pc)) = ⊥
 
--- the statuses that come before the run, and so before anything is shown
-abbrev pub IsBeforeRun : Status → Type 0
-IsBeforeRun Done = ⊥
-IsBeforeRun Usage = ⊤
-IsBeforeRun (ReadFault port) = ⊤
-IsBeforeRun (WriteFault port) = ⊥
-IsBeforeRun CoreSize = ⊤
-IsBeforeRun NoMemory = ⊤
-IsBeforeRun (NotBuilt unbuilt.Image) = ⊤
-IsBeforeRun (NotBuilt (unbuilt.Line n)) = ⊤
-IsBeforeRun (NotBuilt (unbuilt.At pc)) = ⊥
+-- the ports for which a command's words have a name
+abbrev pub is_named : Command → Port → Bool
+is_named (Run words) q = same (In in_port.Image) q || same (In in_port.Script) q || same (Out out_port.Term) q
+is_named (Check image) q = same (In in_port.Image) q
+is_named (Make number final) q = same (Out out_port.Final) q
 
--- the ports that a command touches: those for which its words have a name, and Report
-abbrev pub is_touched : Port → Bool
-is_touched (In in_port.Image) = true
-is_touched (In in_port.Script) = true
-is_touched (In in_port.Log) = false
-is_touched (Out out_port.Term) = true
-is_touched (Out out_port.Log) = false
-is_touched (Out out_port.Final) = false
-is_touched (Out out_port.Report) = true
+-- a command touches these, and Report
+abbrev pub is_touched : Option Command → Port → Bool
+is_touched None q = is_report q
+is_touched (Some command) q = is_named command q || is_report q
+
+-- only `check` reports that it was done
+abbrev pub reports_done : Command → Bool
+reports_done (Run words) = false
+reports_done (Check image) = true
+reports_done (Make number final) = false
+
+abbrev pub is_run : Command → Bool
+is_run (Run words) = true
+is_run (Check image) = false
+is_run (Make number final) = false
+
+-- The statuses that a good command may come to. A fault is one of a port for which its words have a name, or of a report that
+-- is all that the command has to say.
+abbrev pub IsOfCommand : Command → Status → Type 0
+IsOfCommand command status.Done = ⊤
+IsOfCommand command status.Usage = ⊥
+IsOfCommand command (status.ReadFault port) = is_named command (In port) ≡ true
+IsOfCommand command (status.WriteFault out_port.Term) = is_named command (Out out_port.Term) ≡ true
+IsOfCommand command (status.WriteFault out_port.Log) = is_named command (Out out_port.Log) ≡ true
+IsOfCommand command (status.WriteFault out_port.Final) = is_named command (Out out_port.Final) ≡ true
+IsOfCommand command (status.WriteFault out_port.Report) = reports_done command ≡ true
+IsOfCommand command status.CoreSize = ⊥
+IsOfCommand command (status.ImageFault fault) = is_named command (In in_port.Image) ≡ true
+IsOfCommand command status.NoMemory = ⊤
+IsOfCommand command (status.NotBuilt place) = is_run command ≡ true
+
+abbrev pub IsOfWords : Option Command → Status → Type 0
+IsOfWords None s = ⊥
+IsOfWords (Some command) s = IsOfCommand command s
 
 -- whether the name that the words give for a port is given, or expected there
-abbrev pub is_known : Option RunWords → Fixed → Port → Bool
-is_known (Some words) fixed (In in_port.Image) = is_given (fixed.given words.image)
-is_known (Some words) fixed (In in_port.Script) = is_given (fixed.given words.script)
-is_known (Some words) fixed (In in_port.Log) = true
-is_known (Some words) fixed (Out out_port.Term) = is_expected (fixed.expects out_port.Term) words.term
-is_known (Some words) fixed (Out out_port.Log) = true
-is_known (Some words) fixed (Out out_port.Final) = true
-is_known (Some words) fixed (Out out_port.Report) = true
-is_known None fixed port = true
+abbrev pub run_knows : RunWords → Fixed → Port → Bool
+run_knows words fixed (In in_port.Image) = is_given (fixed.given words.image)
+run_knows words fixed (In in_port.Script) = is_given (fixed.given words.script)
+run_knows words fixed (In in_port.Log) = true
+run_knows words fixed (Out out_port.Term) = is_expected (fixed.expects out_port.Term) words.term
+run_knows words fixed (Out out_port.Log) = true
+run_knows words fixed (Out out_port.Final) = true
+run_knows words fixed (Out out_port.Report) = true
+
+abbrev pub is_known : Option Command → Fixed → Port → Bool
+is_known None fixed q = true
+is_known (Some (Run words)) fixed q = run_knows words fixed q
+is_known (Some (Check image)) fixed q = not (same (In in_port.Image) q) || is_given (fixed.given image)
+is_known (Some (Make number final)) fixed q = not (same (Out out_port.Final) q) || is_expected (fixed.expects out_port.Final) final

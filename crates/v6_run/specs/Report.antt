@@ -1,13 +1,16 @@
--- The line that a command writes to Report for its status; it writes nothing where it was done.
--- The lines are those of docs/manual/commands.md.
-use Rattle.std.specs.Prelude.{ℕ, List, [], ◌∷◌, ◌++◌, codes, decimal}
+-- The lines that commands write to Report, by docs/manual/commands.md: how a command ended, and what `check` has found.
+use Rattle.std.specs.Prelude.{ℕ, is_some, count_by, Option, Some, None, List, [], ◌∷◌, ◌++◌, codes, decimal, Result, Ok, Err}
 use Rattle.v6_port.specs.declared.host.InPort.{InPort}
 use Rattle.v6_port.specs.declared.host.InPort.TheVariants as in_port
 use Rattle.v6_port.specs.declared.host.OutPort.{OutPort}
 use Rattle.v6_port.specs.declared.host.OutPort.TheVariants as out_port
 use Rattle.v6_port.specs.Outside.{Out, PortState, Outside}
+use Rattle.fs_codec.specs.declared.fault.ImageFault.{ImageFault}
+use Rattle.fs_codec.specs.declared.fault.ImageFault.TheVariants.{TooLong, BadSuper, NoSwap, FreeCount, FreeOutside, NodeOutside, BlockTwice, NoRoot}
+use Rattle.fs_codec.specs.Store.{Store}
+use Rattle.fs_check.specs.declared.counts.Tally.{Tally}
 use Rattle.v6_run.specs.declared.status.Status.{Status}
-use Rattle.v6_run.specs.declared.status.Status.TheVariants.{Done, Usage, ReadFault, WriteFault, CoreSize, NoMemory, NotBuilt}
+use Rattle.v6_run.specs.declared.status.Status.TheVariants as status
 use Rattle.v6_run.specs.declared.status.Unbuilt.{Unbuilt}
 use Rattle.v6_run.specs.declared.status.Unbuilt.TheVariants.{Image, Line, At}
 
@@ -25,20 +28,65 @@ out_name out_port.Log = codes "log"
 out_name out_port.Final = codes "final"
 out_name out_port.Report = codes "report"
 
-abbrev pub unbuilt_name : Unbuilt → List ℕ
-unbuilt_name Image = codes "image"
-unbuilt_name (Line n) = codes "line " ++ decimal n
-unbuilt_name (At pc) = codes "pc " ++ decimal pc
+abbrev pub fault_line : ImageFault → List ℕ
+fault_line TooLong = line_of (codes "image: too long")
+fault_line BadSuper = line_of (codes "image: bad super-block")
+fault_line (NoSwap blocks) = line_of (codes "image: file system of " ++ decimal blocks ++ codes " blocks leaves no swap")
+fault_line (FreeCount block) = line_of (codes "image: free count in block " ++ decimal block)
+fault_line (FreeOutside block) = line_of (codes "image: free block " ++ decimal block ++ codes " outside")
+fault_line (NodeOutside inode block) =
+    line_of (codes "image: inode " ++ decimal inode ++ codes " has block " ++ decimal block ++ codes " outside")
+fault_line (BlockTwice block) = line_of (codes "image: block " ++ decimal block ++ codes " twice")
+fault_line NoRoot = line_of (codes "image: no root")
 
+abbrev pub unbuilt_line : Unbuilt → List ℕ
+unbuilt_line Image = line_of (codes "not built: image")
+unbuilt_line (Line n) = line_of (codes "not built: line " ++ decimal n)
+unbuilt_line (At pc) = line_of (codes "not built: pc " ++ decimal pc)
+
+abbrev pub usage : List ℕ
+usage = codes "usage: v6 run IMAGE CORE SCRIPT TERM LOG FINAL, memory IMAGE CORE SCRIPT FINAL, check IMAGE, make N FINAL, demo N"
+
+-- the line of a status; a command that was done has none
 abbrev pub report_of : Status → List ℕ
-report_of Done = []
-report_of Usage =
-    line_of (codes "usage: v6 run IMAGE CORE SCRIPT TERM LOG FINAL, memory IMAGE CORE SCRIPT FINAL, check IMAGE, make N FINAL, demo N")
-report_of (ReadFault port) = line_of (codes "read fault: " ++ in_name port)
-report_of (WriteFault port) = line_of (codes "write fault: " ++ out_name port)
-report_of CoreSize = line_of (codes "core size")
-report_of NoMemory = line_of (codes "no memory")
-report_of (NotBuilt place) = line_of (codes "not built: " ++ unbuilt_name place)
+report_of status.Done = []
+report_of status.Usage = line_of usage
+report_of (status.ReadFault port) = line_of (codes "read fault: " ++ in_name port)
+report_of (status.WriteFault port) = line_of (codes "write fault: " ++ out_name port)
+report_of status.CoreSize = line_of (codes "core size")
+report_of (status.ImageFault fault) = fault_line fault
+report_of status.NoMemory = line_of (codes "no memory")
+report_of (status.NotBuilt place) = unbuilt_line place
+
+-- what `check` tells of a disk without a fault: how many nodes and how many free blocks it has
+abbrev pub ok_line : ℕ → ℕ → List ℕ
+ok_line nodes free = line_of (codes "ok " ++ decimal nodes ++ codes " nodes " ++ decimal free ++ codes " free")
+
+abbrev pub store_line : Store → List ℕ
+store_line store = ok_line (count_by is_some store.nodes) store.room
+
+-- the line of a command that has come to this, with a tally where it is `check`
+abbrev pub tally_line : Option Tally → List ℕ
+tally_line None = []
+tally_line (Some tally) = ok_line tally.nodes tally.free
+
+abbrev pub answer_line : Result (Option Tally) Status → List ℕ
+answer_line (Ok tally) = tally_line tally
+answer_line (Err status) = report_of status
+
+-- what a command reports that would tell this if it was done: also where that was all that failed
+abbrev pub report_line : List ℕ → Status → List ℕ
+report_line done status.Done = done
+report_line done status.Usage = report_of status.Usage
+report_line done (status.ReadFault port) = report_of (status.ReadFault port)
+report_line done (status.WriteFault out_port.Term) = report_of (status.WriteFault out_port.Term)
+report_line done (status.WriteFault out_port.Log) = report_of (status.WriteFault out_port.Log)
+report_line done (status.WriteFault out_port.Final) = report_of (status.WriteFault out_port.Final)
+report_line done (status.WriteFault out_port.Report) = done
+report_line done status.CoreSize = report_of status.CoreSize
+report_line done (status.ImageFault fault) = report_of (status.ImageFault fault)
+report_line done status.NoMemory = report_of status.NoMemory
+report_line done (status.NotBuilt place) = report_of (status.NotBuilt place)
 
 abbrev pub report : Outside → PortState
 report o = o.port (Out out_port.Report)

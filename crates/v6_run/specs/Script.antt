@@ -6,7 +6,7 @@ use Rattle.std.specs.List.{list_all, find, range_with_len, slice_split, starts_w
 use Rattle.std.specs.Str.Lines.{strip_carriage_return}
 use Rattle.v6_run.specs.Number.{number_of}
 use Rattle.v6_run.specs.declared.status.Status.{Status}
-use Rattle.v6_run.specs.declared.status.Status.TheVariants.{Done, Usage, ReadFault, WriteFault, CoreSize, NoMemory, NotBuilt}
+use Rattle.v6_run.specs.declared.status.Status.TheVariants.{Done, Usage, ReadFault, WriteFault, CoreSize, ImageFault, NoMemory, NotBuilt}
 use Rattle.v6_run.specs.declared.status.Unbuilt.TheVariants as unbuilt
 
 -- a line without its end, and how many bytes it has with it
@@ -65,3 +65,4 @@ RefusesScript script Usage = ⊥
 RefusesScript script (ReadFault port) = ⊥
 RefusesScript script (WriteFault port) = ⊥
 RefusesScript script CoreSize = ⊥
+RefusesScript script (ImageFault fault) = ⊥

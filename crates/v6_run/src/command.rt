@@ -1,75 +1,127 @@
 //! The command of a program's words, and its report.
-ghost use Rattle.std.specs.Prelude.{◌≡◌, ℕ, ◌≤◌, ◌&&◌, ◌++◌, true, false, nat_le, IsSome, IsSomeAnd, MatchOption};
+ghost use Rattle.std.specs.Prelude.{◌≡◌, ◌≢◌, ℕ, ◌++◌, true, false, Some, None, is_some, IsSome, IsSomeAnd, MatchOption, IfOk, IfErr};
+ghost use Rattle.std.specs.Option.{option_map};
 ghost use Rattle.v6_port.specs.Outside.{Out, IsIdle, OnlyAt, Tells, is_report};
 ghost use Rattle.v6_port.specs.declared.host.OutPort.{OutPort};
-ghost use Rattle.v6_port.specs.declared.host.OutPort.TheVariants.{Term};
 ghost use Rattle.v6_port.specs.declared.host.InPort.TheVariants.{Script};
 ghost use Rattle.v6_run.specs.declared.status.Unbuilt.{Unbuilt};
-ghost use Rattle.v6_run.specs.Words.{command_in};
+ghost use Rattle.v6_run.specs.Words.{command_in, named};
 ghost use Rattle.v6_run.specs.Ports.{term};
 ghost use Rattle.v6_run.specs.Fronts.{HoldsFront};
-ghost use Rattle.v6_run.specs.Report.{report, report_of};
+ghost use Rattle.v6_run.specs.Report.{report, report_line, tally_line};
 ghost use Rattle.v6_run.specs.Causes.{HasCause, MissesUnknown, status_of};
-ghost use Rattle.v6_run.specs.Headline.{refused_by, files_outcome, ShowsAll, ShowsFront, IsOfRun, IsOfWords, IsImageGiven, IsBeforeRun, is_touched, is_known};
-ghost use Rattle.v6_run.specs.Answers.{AnswersWords};
+ghost use Rattle.v6_run.specs.Headline.{is_core_size, refused_by, reports_done, words_outcome, done_line, ShowsAll, ShowsFront, IsOutcome, IsOfWords, IsImageGood, IsUnwritten, is_touched, is_known};
+ghost use Rattle.v6_run.specs.Answers.{Answers, AnswersWords};
 
-use crate::report::report_status;
+use crate::check::check;
+use crate::make::make;
+use crate::report::report;
 use crate::run::run;
 use crate::status::Status;
-use crate::words::command_of;
+use crate::words::{Command, command_of};
+use fs_check::Tally;
 use std::alloc::Global;
 use v6_port::Host;
 
 /// Whether so many clicks of 64 bytes are a size of core.
 fn is_core_size(core: u32) -> bool
-    ensures { result ≡ (nat_le 64 core && nat_le core 3968) }
+    ensures { result ≡ is_core_size core }
 {
     64 <= core && core <= 3968
 }
 
-/// Does the command of these words, but for its report.
-fn answer<H: Host>(alloc: Global, words: &[String], host: &mut H) -> Status
-    requires { (term (H.outside host.old)).is_open ≡ false }
-    ensures { AnswersWords (command_in words.now) result (H.outside host.old) (H.outside host.new) }
+/// The status that a command is refused with before it begins.
+fn refusal(command: &Command<'_>) -> Option<Status>
+    ensures { result ≡ refused_by (Some (named command.now)) }
 {
-    let Some(words) = command_of(words) else {
-        return Status::Usage;
-    };
-    if !is_core_size(words.core) {
-        return Status::CoreSize;
+    match command {
+        Command::Run(words) if !is_core_size(words.core) => Some(Status::CoreSize),
+        _ => None,
     }
-    match run(alloc, &words, host) {
-        Ok(()) => Status::Done,
-        Err(status) => status,
+}
+
+/// Does a command that is not refused, and gives what it has found, but for its report.
+fn done<H: Host>(
+    alloc: Global,
+    command: &Command<'_>,
+    host: &mut H,
+) -> Result<Option<Tally>, Status>
+    requires idle { IsIdle (H.outside host.old) }
+    requires good { refused_by (Some (named command.now)) ≡ None }
+    ensures answers { Answers (named command.now) (status_of result) (H.outside host.old) (H.outside host.new) }
+    ensures line { IfOk result (λ found. Tells (H.outside host.old)
+        → done_line (Some (named command.now)) (H.outside host.old).fixed ≡ tally_line found) }
+    ensures found { IfOk result (λ found. is_some found ≡ reports_done (named command.now)) }
+    ensures failed { IfErr result (λ status. status ≢ Status.Done) }
+{
+    match command {
+        Command::Run(words) => match run(alloc, words, host) {
+            Ok(()) => Ok(None),
+            Err(status) => Err(status),
+        },
+        Command::Check(image) => match check(alloc, image, host) {
+            Ok(tally) => Ok(Some(tally)),
+            Err(status) => Err(status),
+        },
+        Command::Make(number, name) => match make(alloc, *number, name, host) {
+            Ok(()) => Ok(None),
+            Err(status) => Err(status),
+        },
+    }
+}
+
+/// Does the command of these words, but for its report.
+fn answer<H: Host>(alloc: Global, words: &[String], host: &mut H) -> Result<Option<Tally>, Status>
+    requires { IsIdle (H.outside host.old) }
+    ensures answers { AnswersWords (command_in words.now) (status_of result) (H.outside host.old) (H.outside host.new) }
+    ensures line { IfOk result (λ found. Tells (H.outside host.old)
+        → done_line (command_in words.now) (H.outside host.old).fixed ≡ tally_line found) }
+    ensures found { IfOk result (λ found. option_map reports_done (command_in words.now) ≡ Some (is_some found)) }
+    ensures failed { IfErr result (λ status. status ≢ Status.Done) }
+{
+    let Some(command) = command_of(words) else {
+        return Err(Status::Usage);
+    };
+    match refusal(&command) {
+        Some(status) => Err(status),
+        None => done(alloc, &command, host),
     }
 }
 
 /// Does the command of these words, which are the command line's without the program's name, and reports how it ended.
 ///
-/// The one command is `run IMAGE CORE SCRIPT TERM LOG FINAL`. It boots the disk IMAGE with CORE clicks of memory, gives it the
-/// slots that SCRIPT asks for, and writes to TERM what the terminal shows. Any other words are [`Status::Usage`]. A command that
-/// was done reports nothing; any other status is reported in one line.
+/// The commands are:
+///
+/// - `run IMAGE CORE SCRIPT TERM LOG FINAL` boots the disk IMAGE with CORE clicks of memory, gives it the slots that SCRIPT asks
+///   for, and writes to TERM what the terminal shows.
+/// - `check IMAGE` tells how many nodes and free blocks the disk IMAGE has, or the first of its faults.
+/// - `make N FINAL` writes the disk image of the number N to FINAL.
+///
+/// Any other words are [`Status::Usage`]. `run` and `make` report nothing where they were done; any other status is reported in
+/// one line.
 pub fn v6<H: Host>(alloc: Global, words: &Vec<String>, host: &mut H) -> Status
     requires { IsIdle (H.outside host.old) }
 
     // No port is touched but those for which the words have a name, and Report.
-    ensures only { OnlyAt is_touched (H.outside host.old) (H.outside host.new) }
+    ensures only { OnlyAt (is_touched (command_in words.now.items)) (H.outside host.old) (H.outside host.new) }
 
     // The words alone give Usage and CoreSize, exactly, and no file is opened then.
-    ensures words { MatchOption (refused_by (command_in words.now.items)) (IsOfWords result) (λ refusal. result ≡ refusal) }
+    ensures words { MatchOption (refused_by (command_in words.now.items)) (IsOfWords (command_in words.now.items) result)
+        (λ refusal. result ≡ refusal) }
     ensures unopened { IsSome (refused_by (command_in words.now.items))
         → OnlyAt is_report (H.outside host.old) (H.outside host.new) }
 
-    // Done and NotBuilt are exactly what the files come to, and the terminal's port has got all that the run shows.
-    ensures run { IsOfRun result → Tells (H.outside host.old)
-        → IsSomeAnd (files_outcome (command_in words.now.items) (H.outside host.old).fixed)
+    // Done, ImageFault and NotBuilt are exactly what the command's files come to, and each file has got all that is written.
+    ensures outcome { IsOutcome result → Tells (H.outside host.old)
+        → IsSomeAnd (words_outcome (command_in words.now.items) (H.outside host.old).fixed)
         (ShowsAll result (H.outside host.old) (H.outside host.new)) }
-    ensures front { result ≡ Status.WriteFault Term → Tells (H.outside host.old)
-        → IsSomeAnd (files_outcome (command_in words.now.items) (H.outside host.old).fixed)
+    ensures front { (p : OutPort) → result ≡ Status.WriteFault p → Tells (H.outside host.old)
+        → IsSomeAnd (words_outcome (command_in words.now.items) (H.outside host.old).fixed)
         (ShowsFront (H.outside host.old) (H.outside host.new)) }
     ensures order { result ≡ Status.ReadFault Script → Tells (H.outside host.old)
-        → IsImageGiven (command_in words.now.items) (H.outside host.old).fixed }
-    ensures none { IsBeforeRun result → term (H.outside host.new) ≡ term (H.outside host.old) }
+        → IsImageGood (command_in words.now.items) (H.outside host.old).fixed }
+    ensures none { IsUnwritten result
+        → (p : OutPort) → is_report (Out p) ≡ false → (H.outside host.new).port (Out p) ≡ (H.outside host.old).port (Out p) }
     ensures closed { result ≡ Status.Done
         → (p : OutPort) → is_report (Out p) ≡ false → ((H.outside host.new).port (Out p)).is_open ≡ false }
     ensures unfinished { (pc : ℕ)
@@ -80,13 +132,16 @@ pub fn v6<H: Host>(alloc: Global, words: &Vec<String>, host: &mut H) -> Status
     ensures missing { MissesUnknown (is_known (command_in words.now.items) (H.outside host.old).fixed)
         (H.outside host.old) (H.outside host.new) }
 
-    // Report has got the line of the status, or a front of it where its faults rose.
+    // Report has got the line of the status, or of what a command that was done has found, or a front of it where its faults
+    // rose.
     ensures reported { Tells (H.outside host.old) → (report (H.outside host.new)).faults ≡ (report (H.outside host.old)).faults
-        → (report (H.outside host.new)).bytes ≡ (report (H.outside host.old)).bytes ++ report_of result }
+        → (report (H.outside host.new)).bytes ≡ (report (H.outside host.old)).bytes
+        ++ report_line (done_line (command_in words.now.items) (H.outside host.old).fixed) result }
     ensures report_front { Tells (H.outside host.old)
-        → HoldsFront (report (H.outside host.old)).bytes (report_of result) (report (H.outside host.new)).bytes }
+        → HoldsFront (report (H.outside host.old)).bytes
+        (report_line (done_line (command_in words.now.items) (H.outside host.old).fixed) result)
+        (report (H.outside host.new)).bytes }
 {
-    let status = answer(alloc, words.as_slice(), host);
-    report_status(status, host);
-    status
+    let answer = answer(alloc, words.as_slice(), host);
+    report(answer, host)
 }

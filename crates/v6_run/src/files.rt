@@ -1,9 +1,9 @@
 //! Whole files of a host.
-ghost use Rattle.std.specs.Prelude.{◌≡◌, ◌<◌, ◌≤◌, ◌^◌, ◌++◌, length, take, true, Some, IfOk, IfErr, OnOk, OnErr, MatchResult};
+ghost use Rattle.std.specs.Prelude.{◌≡◌, ◌≢◌, ◌<◌, ◌≤◌, ◌^◌, ◌++◌, length, take, true, false, Some, IfOk, IfErr, OnOk, OnErr, MatchResult};
 ghost use Rattle.std.specs.Option.{option_map};
 ghost use Rattle.v6_port.specs.Outside.{In, Out, IsOpen, OnlyAt, Tells, same};
 ghost use Rattle.v6_port.specs.Causes.{Calm, FaultAt};
-ghost use Rattle.v6_port.specs.Calls.{is_given};
+ghost use Rattle.v6_port.specs.Calls.{is_given, is_expected};
 ghost use Rattle.v6_run.specs.Causes.{IsCaused, StopsReading, status_of};
 ghost use Rattle.v6_run.specs.Fronts.{HoldsFront};
 
@@ -84,4 +84,28 @@ pub(crate) fn write_all<H: Host>(host: &mut H, port: OutPort, text: &[u8]) -> Re
         at += host.write(port, &text[at..])?;
     }
     Ok(())
+}
+
+/// Writes a text to a port, as the file of this name.
+pub(crate) fn write_file<H: Host>(
+    host: &mut H,
+    port: OutPort,
+    name: &str,
+    text: &[u8],
+) -> Result<(), Failed>
+    requires closed { ((H.outside host.old).port (Out port)).is_open ≡ false }
+    requires not_report { port ≢ OutPort.Report }
+    ensures only { OnlyAt (same (Out port)) (H.outside host.old) (H.outside host.new) }
+    ensures whole { OnOk result (Tells (H.outside host.old)
+        → ((H.outside host.new).port (Out port)).bytes ≡ ((H.outside host.old).port (Out port)).bytes ++ text.now) }
+    ensures front { Tells (H.outside host.old)
+        → HoldsFront ((H.outside host.old).port (Out port)).bytes text.now ((H.outside host.new).port (Out port)).bytes }
+    ensures closed { OnOk result (((H.outside host.new).port (Out port)).is_open ≡ false) }
+    ensures cause { MatchResult result (λ _. Calm (H.outside host.old) (H.outside host.new))
+        (λ _. FaultAt (Out port) (is_expected ((H.outside host.old).fixed.expects port) name.now)
+        (H.outside host.old) (H.outside host.new)) }
+{
+    host.open_write(port, name)?;
+    write_all(host, port, text)?;
+    host.finish(port)
 }

@@ -1,8 +1,13 @@
-//! The command `run`: a disk image and a script in, what the terminal shows out.
+//! The commands: `run` takes a disk image and a script, and writes what the terminal shows; `check` tells whether an image
+//! can be run, and what it holds; `make` writes an image that is known to the last byte.
 #![tactic(auto)]
 
+mod check;
 mod command;
 mod files;
+mod image;
+mod line;
+mod make;
 mod number;
 mod ports;
 mod report;
@@ -13,6 +18,7 @@ mod status;
 mod words;
 
 pub use command::v6;
+pub use fs_check::ImageFault;
 pub use status::{Status, Unbuilt};
 
 #[cfg(test)]

@@ -1,79 +1,113 @@
 //! The report on how a command ended.
-ghost use Rattle.std.specs.Prelude.{◌≡◌, ◌≢◌, ◌<◌, ◌-◌, ◌^◌, ◌++◌, true, OnOk, MatchResult};
+ghost use Rattle.std.specs.Prelude.{◌≡◌, ◌≢◌, ◌<◌, ◌-◌, ◌^◌, ◌++◌, true, OnOk, IfErr, MatchResult};
 ghost use Rattle.v6_port.specs.Outside.{Out, OnlyAt, Tells, same};
 ghost use Rattle.v6_port.specs.declared.host.OutPort.TheVariants.{Report};
 ghost use Rattle.v6_port.specs.Causes.{Calm, FaultAt};
 ghost use Rattle.v6_run.specs.Fronts.{HoldsFront};
-ghost use Rattle.v6_run.specs.Report.{line_of, report_of, report};
+ghost use Rattle.v6_run.specs.Report.{report, report_of, unbuilt_line, fault_line, ok_line};
+ghost use Rattle.v6_run.specs.Answers.{Reports};
 
 use crate::files::write_all;
+use crate::line::{Line, numbered, plain, twice_numbered};
 use crate::status::{Status, Unbuilt};
-use itoa::Buffer;
+use fs_check::{ImageFault, Tally};
 use v6_port::{Failed, Host, InPort, OutPort};
 
-const USAGE: &[u8; 113] =
-    b"usage: v6 run IMAGE CORE SCRIPT TERM LOG FINAL, memory IMAGE CORE SCRIPT FINAL, check IMAGE, make N FINAL, demo N";
+const USAGE: &str =
+    "usage: v6 run IMAGE CORE SCRIPT TERM LOG FINAL, memory IMAGE CORE SCRIPT FINAL, check IMAGE, make N FINAL, demo N";
 
-/// The line of a status without its LF: a text, and a number behind it or nothing.
-fn parts_of<'a>(status: Status, digits: &'a mut Buffer) -> (&'a [u8], &'a [u8])
-    ensures { status ≢ Status.Done → line_of (result.0.now ++ result.1.now) ≡ report_of status }
+fn fault_line(fault: ImageFault) -> Line
+    ensures { result.bytes ≡ fault_line fault }
 {
-    let text: &[u8] = match status {
-        Status::Done => b"",
-        Status::Usage => USAGE,
-        Status::ReadFault(InPort::Image) => b"read fault: image",
-        Status::ReadFault(InPort::Script) => b"read fault: script",
-        Status::ReadFault(InPort::Log) => b"read fault: log",
-        Status::WriteFault(OutPort::Term) => b"write fault: term",
-        Status::WriteFault(OutPort::Log) => b"write fault: log",
-        Status::WriteFault(OutPort::Final) => b"write fault: final",
-        Status::WriteFault(OutPort::Report) => b"write fault: report",
-        Status::CoreSize => b"core size",
-        Status::NoMemory => b"no memory",
-        Status::NotBuilt(Unbuilt::Image) => b"not built: image",
-        Status::NotBuilt(Unbuilt::Line(line)) => return (
-            b"not built: line ",
-            digits.format(line).as_bytes(),
-        ),
-        Status::NotBuilt(Unbuilt::At(pc)) => return (
-            b"not built: pc ",
-            digits.format(pc).as_bytes(),
-        ),
-    };
-    (text, b"")
+    match fault {
+        ImageFault::TooLong => plain("image: too long"),
+        ImageFault::BadSuper => plain("image: bad super-block"),
+        ImageFault::NoSwap(blocks) => {
+            numbered("image: file system of ", blocks, " blocks leaves no swap")
+        }
+        ImageFault::FreeCount(block) => numbered("image: free count in block ", block, ""),
+        ImageFault::FreeOutside(block) => numbered("image: free block ", block, " outside"),
+        ImageFault::NodeOutside(inode, block) => {
+            twice_numbered("image: inode ", inode, " has block ", block, " outside")
+        }
+        ImageFault::BlockTwice(block) => numbered("image: block ", block, " twice"),
+        ImageFault::NoRoot => plain("image: no root"),
+    }
 }
 
-/// Writes a line of two parts to Report.
-fn write_line<H: Host>(host: &mut H, head: &[u8], tail: &[u8]) -> Result<(), Failed>
+fn unbuilt_line(place: Unbuilt) -> Line
+    ensures { result.bytes ≡ unbuilt_line place }
+{
+    match place {
+        Unbuilt::Image => plain("not built: image"),
+        Unbuilt::Line(line) => numbered("not built: line ", line, ""),
+        Unbuilt::At(pc) => numbered("not built: pc ", u32::from(pc), ""),
+    }
+}
+
+/// The line of a status. A command that was done has none.
+fn status_line(status: Status) -> Line
+    ensures { result.bytes ≡ report_of status }
+{
+    match status {
+        Status::Done => Line::new(),
+        Status::Usage => plain(USAGE),
+        Status::ReadFault(InPort::Image) => plain("read fault: image"),
+        Status::ReadFault(InPort::Script) => plain("read fault: script"),
+        Status::ReadFault(InPort::Log) => plain("read fault: log"),
+        Status::WriteFault(OutPort::Term) => plain("write fault: term"),
+        Status::WriteFault(OutPort::Log) => plain("write fault: log"),
+        Status::WriteFault(OutPort::Final) => plain("write fault: final"),
+        Status::WriteFault(OutPort::Report) => plain("write fault: report"),
+        Status::CoreSize => plain("core size"),
+        Status::ImageFault(fault) => fault_line(fault),
+        Status::NoMemory => plain("no memory"),
+        Status::NotBuilt(place) => unbuilt_line(place),
+    }
+}
+
+/// What `check` tells of a disk.
+fn ok_line(tally: Tally) -> Line
+    ensures { result.bytes ≡ ok_line tally.nodes tally.free }
+{
+    twice_numbered(
+        "ok ",
+        u32::from(tally.nodes),
+        " nodes ",
+        u32::from(tally.free),
+        " free",
+    )
+}
+
+/// Writes a line to Report.
+fn write_line<H: Host>(host: &mut H, line: &Line) -> Result<(), Failed>
     ensures only { OnlyAt (same (Out Report)) (H.outside host.old) (H.outside host.new) }
     ensures whole { OnOk result (Tells (H.outside host.old)
-        → (report (H.outside host.new)).bytes ≡ (report (H.outside host.old)).bytes ++ line_of (head.now ++ tail.now)) }
+        → (report (H.outside host.new)).bytes ≡ (report (H.outside host.old)).bytes ++ line.now.bytes) }
     ensures front { Tells (H.outside host.old)
-        → HoldsFront (report (H.outside host.old)).bytes (line_of (head.now ++ tail.now)) (report (H.outside host.new)).bytes }
+        → HoldsFront (report (H.outside host.old)).bytes line.now.bytes (report (H.outside host.new)).bytes }
     ensures cause { MatchResult result (λ _. Calm (H.outside host.old) (H.outside host.new))
         (λ _. FaultAt (Out Report) true (H.outside host.old) (H.outside host.new)) }
 {
-    write_all(host, OutPort::Report, head)?;
-    write_all(host, OutPort::Report, tail)?;
-    write_all(host, OutPort::Report, b"\n")
+    write_all(host, OutPort::Report, line.as_str().as_bytes())
 }
 
-/// Writes the line of a status to Report, or as much of it as can be written. A command that was done writes none.
-pub(crate) fn report_status<H: Host>(status: Status, host: &mut H)
-    requires { (report (H.outside host.old)).faults < 2 ^ 64 - 1 }
-    ensures done { status ≡ Status.Done → H.outside host.new ≡ H.outside host.old }
-    ensures only { OnlyAt (same (Out Report)) (H.outside host.old) (H.outside host.new) }
-    ensures missing { Tells (H.outside host.old) → (report (H.outside host.new)).missing ≡ (report (H.outside host.old)).missing }
-    ensures whole { Tells (H.outside host.old)
-        → (report (H.outside host.new)).faults ≡ (report (H.outside host.old)).faults
-        → (report (H.outside host.new)).bytes ≡ (report (H.outside host.old)).bytes ++ report_of status }
-    ensures front { Tells (H.outside host.old)
-        → HoldsFront (report (H.outside host.old)).bytes (report_of status) (report (H.outside host.new)).bytes }
+/// Reports what a command came to: its status, or what it has found where it was done. Where the status can't be written, it
+/// stays; where the command was done and its finding can't be written, that is the fault.
+pub(crate) fn report<H: Host>(answer: Result<Option<Tally>, Status>, host: &mut H) -> Status
+    requires failed { IfErr answer (λ status. status ≢ Status.Done) }
+    requires faults { (report (H.outside host.old)).faults < 2 ^ 64 - 1 }
+    ensures { Reports answer result (H.outside host.old) (H.outside host.new) }
 {
-    if status == Status::Done {
-        return;
+    match answer {
+        Ok(None) => Status::Done,
+        Ok(Some(tally)) => match write_line(host, &ok_line(tally)) {
+            Ok(()) => Status::Done,
+            Err(Failed) => Status::WriteFault(OutPort::Report),
+        },
+        Err(status) => {
+            let _ = write_line(host, &status_line(status));
+            status
+        }
     }
-    let mut digits = Buffer::new();
-    let (text, number) = parts_of(status, &mut digits);
-    let _ = write_line(host, text, number);
 }

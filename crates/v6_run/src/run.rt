@@ -1,20 +1,22 @@
 //! The command `run`.
-ghost use Rattle.std.specs.Prelude.{◌≡◌, ℕ, ◌<◌, ◌≤◌, ◌^◌, length, false, true, Some, Err, IfOk, OnOk, IfErr, MatchResult, ◌++◌};
+ghost use Rattle.std.specs.Prelude.{◌≡◌, ◌≢◌, ℕ, ◌<◌, ◌≤◌, ◌^◌, length, false, true, None, Some, Err, IfOk, OnOk, IfErr, MatchResult, ◌++◌};
 ghost use Rattle.v6_base.specs.Trace.{line_bytes};
 ghost use Rattle.v6_port.specs.Outside.{Out, IsOpen, OnlyAt, Tells, same};
 ghost use Rattle.v6_port.specs.declared.host.OutPort.TheVariants.{Term};
 ghost use Rattle.v6_port.specs.Causes.{Calm, FaultAt};
 ghost use Rattle.v6_port.specs.Calls.{is_expected};
+ghost use Rattle.fs_codec.specs.Faults.{image_fault};
 ghost use Rattle.unix_core.specs.Runs.{boots, course, started};
-ghost use Rattle.v6_run.specs.Words.{named};
+ghost use Rattle.v6_run.specs.Words.{Run, run_named};
 ghost use Rattle.v6_run.specs.Events.{events_of};
 ghost use Rattle.v6_run.specs.Ports.{term};
 ghost use Rattle.v6_run.specs.Causes.{IsCaused, status_of};
 ghost use Rattle.v6_run.specs.Fronts.{HoldsFront};
-ghost use Rattle.v6_run.specs.Headline.{course_outcome, ShowsAll, IsOfRun};
+ghost use Rattle.v6_run.specs.Headline.{status_at, IsOutcome};
 ghost use Rattle.v6_run.specs.Answers.{Answers, HasFiles, RefusesImage, StopsShowing};
 
 use crate::files::read_file;
+use crate::image::read_image;
 use crate::ports::Ports;
 use crate::script::read_script;
 use crate::slots::run_counts;
@@ -24,9 +26,6 @@ use std::alloc::Global;
 use unix_core::{BootFault, Kernel};
 use v6_port::{Failed, Host, InPort, OutPort};
 
-/// The most bytes of an image that are read: one more than a disk of 4,872 blocks has.
-const IMAGE_LIMIT: usize = 2_494_465;
-
 /// The most bytes of a script that are read: one more than a script may have.
 const SCRIPT_LIMIT: usize = 1_048_577;
 
@@ -34,11 +33,13 @@ const SCRIPT_LIMIT: usize = 1_048_577;
 fn boot(alloc: Global, image: &[u8], core: u32) -> Result<Kernel, Status>
     requires least { 64 ≤ core }
     requires most { core ≤ 3968 }
+    requires good { image_fault image.now ≡ None }
     ensures unix { IfOk result (λ kernel. boots image.now core ≡ Some kernel) }
     ensures refused { IfErr result (RefusesImage (boots image.now core)) }
 {
     match Kernel::boot(alloc, image, core as u16) {
         Ok(kernel) => Ok(kernel),
+        Err(BootFault::Image(_)) => unreachable!(),
         Err(BootFault::NotBuilt) => Err(Status::NotBuilt(Unbuilt::Image)),
         Err(BootFault::NoMemory) => Err(Status::NoMemory),
     }
@@ -78,9 +79,10 @@ fn show_run<H: Host>(
     requires { (term (H.outside host.old)).is_open ≡ false }
     ensures only { OnlyAt (same (Out Term)) (H.outside host.old) (H.outside host.new) }
     ensures kind { IfErr result StopsShowing }
-    ensures run { IsOfRun (status_of result)
-        → ShowsAll (status_of result) (H.outside host.old) (H.outside host.new)
-        (course_outcome (course (started kernel.old) (events_of counts.now))) }
+    ensures ending { IsOutcome (status_of result) → status_of result ≡ status_at (course (started kernel.old) (events_of counts.now)).ending }
+    ensures shown { IsOutcome (status_of result) → Tells (H.outside host.old)
+        → (term (H.outside host.new)).bytes ≡ (term (H.outside host.old)).bytes
+        ++ line_bytes 0 (course (started kernel.old) (events_of counts.now)).items }
     ensures front { Tells (H.outside host.old)
         → HoldsFront (term (H.outside host.old)).bytes (line_bytes 0 (course (started kernel.old) (events_of counts.now)).items)
         (term (H.outside host.new)).bytes }
@@ -113,11 +115,12 @@ struct Files {
 
 fn read_files<H: Host>(alloc: Global, words: &RunWords<'_>, host: &mut H) -> Result<Files, Status>
     ensures files { IfOk result (λ files.
-        HasFiles (named words.now) files.image.items files.script.items (H.outside host.old) (H.outside host.new)) }
+        HasFiles (run_named words.now) files.image.items files.script.items (H.outside host.old) (H.outside host.new)) }
     ensures short { IfOk result (λ files. length files.script.items < 2 ^ 32) }
-    ensures refused { IfErr result (λ status. Answers (named words.now) status (H.outside host.old) (H.outside host.new)) }
+    ensures failed { IfErr result (λ status. status ≢ Status.Done) }
+    ensures refused { IfErr result (λ status. Answers (Run (run_named words.now)) status (H.outside host.old) (H.outside host.new)) }
 {
-    let image = read_file(alloc, host, InPort::Image, words.image, IMAGE_LIMIT)?;
+    let image = read_image(alloc, words.image, host)?;
     let script = read_file(alloc, host, InPort::Script, words.script, SCRIPT_LIMIT)?;
     Ok(Files { image, script })
 }
@@ -127,7 +130,8 @@ pub(crate) fn run<H: Host>(alloc: Global, words: &RunWords<'_>, host: &mut H) ->
     requires least { 64 ≤ words.now.core }
     requires most { words.now.core ≤ 3968 }
     requires closed { (term (H.outside host.old)).is_open ≡ false }
-    ensures { Answers (named words.now) (status_of result) (H.outside host.old) (H.outside host.new) }
+    ensures answers { Answers (Run (run_named words.now)) (status_of result) (H.outside host.old) (H.outside host.new) }
+    ensures failed { IfErr result (λ status. status ≢ Status.Done) }
 {
     let files = read_files(alloc, words, host)?;
     let counts = read_script(alloc, &files.script)?;

@@ -2,6 +2,7 @@
 ghost use Rattle.std.specs.Prelude.{◌≡◌};
 ghost use Rattle.v6_run.specs.Status.{status_number};
 
+use fs_check::ImageFault;
 use v6_port::{InPort, OutPort};
 
 /// How a command ended.
@@ -17,7 +18,9 @@ pub enum Status {
     WriteFault(OutPort),
     /// The size of core is not 64 to 3968 clicks.
     CoreSize,
-    /// There was no memory, before the first slot of a run.
+    /// The disk image has this first fault.
+    ImageFault(ImageFault),
+    /// There was no memory, before the first slot of a run and before anything else is written.
     NoMemory,
     /// The run comes to something that is not built yet.
     NotBuilt(Unbuilt),
@@ -45,6 +48,7 @@ impl Status {
             Status::ReadFault(_) => 2,
             Status::WriteFault(_) => 3,
             Status::CoreSize => 4,
+            Status::ImageFault(_) => 6,
             Status::NoMemory => 8,
             Status::NotBuilt(_) => 11,
         }

@@ -5,17 +5,33 @@ ghost use Rattle.v6_port.specs.Outside.{IsIdle};
 ghost use Rattle.v6_port.specs.Memory.{memory};
 
 use crate::script::read_script;
-use crate::{Status, Unbuilt, v6};
+use crate::{ImageFault, Status, Unbuilt, v6};
 use std::alloc::{AllocError, Global};
 use std::test::Fail;
 use v6_port::{InPort, MemHost, OutPort};
 
-// A host with an empty disk and a script.
+// The least disk without a fault: a block of inodes of which the first is a directory, and one data block.
+const DISK: [(usize, &[u8]); 2] = [(512, b"\x01\x00\x04\x00"), (1024, b"\xed\xc1")];
+
+fn disk(alloc: Global) -> Result<Vec<u8>, AllocError> {
+    let mut image = vec![in alloc; 0; 1026]?;
+    for (at, piece) in DISK {
+        for (i, byte) in piece.iter().enumerate() {
+            if let Some(place) = image.get_mut(at.wrapping_add(i)) {
+                *place = *byte;
+            }
+        }
+    }
+    Ok(image)
+}
+
+// A host with that disk, an empty one, and a script.
 fn host_with(alloc: Global, script: &[u8]) -> Result<MemHost, AllocError>
     ensures { IfOk result (λ host. IsIdle (memory host).outside) }
 {
     let mut host = MemHost::new(alloc);
-    host.add("disk", b"")?;
+    host.add("disk", &disk(alloc)?)?;
+    host.add("empty", b"")?;
     host.add("script", script)?;
     host.room(OutPort::Report, "report", 200)?;
     Ok(host)
@@ -32,9 +48,9 @@ fn words_of(alloc: Global, text: &str) -> Result<Vec<String>, AllocError> {
 const GOOD: &str = "run disk 1200 script term log final";
 
 // Words, the call of the host that fails, the status with its number, and the report. The second call is the first read of the
-// image, the fourth that of the script.
+// image, the fifth that of the script. Where `check` is done, its fourth call is the report.
 #[test]
-fn commands_end_before_a_run(rt: HostRuntime) -> Result<(), Fail> {
+fn commands_end_as_the_manual_says(rt: HostRuntime) -> Result<(), Fail> {
     let usage =
         "usage: v6 run IMAGE CORE SCRIPT TERM LOG FINAL, memory IMAGE CORE SCRIPT FINAL, check IMAGE, make N FINAL, demo N\n";
     let table = [
@@ -53,6 +69,9 @@ fn commands_end_before_a_run(rt: HostRuntime) -> Result<(), Fail> {
             1,
             usage,
         ),
+        ("check disk disk", 99, Status::Usage, 1, usage),
+        ("check", 99, Status::Usage, 1, usage),
+        ("make 1234567890 final", 99, Status::Usage, 1, usage),
         (
             "run disk 63 script term log final",
             99,
@@ -82,8 +101,15 @@ fn commands_end_before_a_run(rt: HostRuntime) -> Result<(), Fail> {
             "read fault: image\n",
         ),
         (
+            "run empty 64 none term log final",
+            99,
+            Status::ImageFault(ImageFault::BadSuper),
+            6,
+            "image: bad super-block\n",
+        ),
+        (
             GOOD,
-            4,
+            5,
             Status::ReadFault(InPort::Script),
             2,
             "read fault: script\n",
@@ -94,6 +120,29 @@ fn commands_end_before_a_run(rt: HostRuntime) -> Result<(), Fail> {
             Status::NotBuilt(Unbuilt::Image),
             11,
             "not built: image\n",
+        ),
+        (
+            "check none",
+            99,
+            Status::ReadFault(InPort::Image),
+            2,
+            "read fault: image\n",
+        ),
+        (
+            "check empty",
+            99,
+            Status::ImageFault(ImageFault::BadSuper),
+            6,
+            "image: bad super-block\n",
+        ),
+        ("check disk", 99, Status::Done, 0, "ok 1 nodes 0 free\n"),
+        ("check disk", 4, Status::WriteFault(OutPort::Report), 3, ""),
+        (
+            "make 12 final",
+            1,
+            Status::WriteFault(OutPort::Final),
+            3,
+            "write fault: final\n",
         ),
     ];
     for (text, failing, status, number, report) in table {

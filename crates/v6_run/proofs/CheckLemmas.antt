@@ -1,0 +1,63 @@
+-- What `check` answers.
+use Rattle.std.proofs.Common.{◌≡◌, ◌≢◌, ℕ, true, false, Option, Some, None, List, take, refl, sym, ◌∙◌, ap, subst, IsSomeAnd, is_some, count_by}
+use Rattle.std.specs.Option.{option_map}
+use Rattle.v6_port.specs.declared.host.InPort.TheVariants as in_port
+use Rattle.v6_port.specs.declared.host.OutPort.{OutPort}
+use Rattle.v6_port.specs.declared.host.OutPort.TheVariants as out_port
+use Rattle.v6_port.specs.Outside.{In, Out, same, Outside, Tells, OnlyAt}
+use Rattle.v6_port.specs.Calls.{is_given}
+use Rattle.v6_port.specs.Causes.{Calm}
+use Rattle.fs_codec.specs.Disk.{disk_of}
+use Rattle.fs_codec.specs.Faults.{image_fault}
+use Rattle.fs_codec.specs.Stands.{store_of}
+use Rattle.v6_run.specs.declared.status.Status.{Status}
+use Rattle.v6_run.specs.declared.status.Status.TheVariants.{Done}
+use Rattle.v6_run.specs.Words.{Check}
+use Rattle.v6_run.specs.Causes.{IsCaused}
+use Rattle.v6_run.specs.Report.{ok_line, store_line}
+use Rattle.v6_run.specs.Headline.{ends_with, fault_outcome, image_outcome, image_line, ShowsAll}
+use Rattle.v6_run.specs.Answers.{Answers, StopsImage}
+use Rattle.v6_run.proofs.AnswerLemmas.{image_stops, shows_none, no_output}
+
+module _ (name : List ℕ) (old new : Outside) (only : OnlyAt (same (In in_port.Image)) old new) where
+  pub check_refused : (s : Status) → StopsImage name old s → IsCaused (λ _. is_given (old.fixed.given name)) s old new → Answers (Check name) s old new
+  check_refused = image_stops (Check name) name (λ bytes. Some (ends_with Done)) old new (λ q other. other) refl refl refl only
+
+  good_outcome : (given : Option (List ℕ)) → IsSomeAnd given (λ bytes. image_fault (take 2494465 bytes) ≡ None)
+      → image_outcome given (λ bytes. Some (ends_with Done)) ≡ Some (ends_with Done)
+  good_outcome None good = absurd good
+  good_outcome (Some bytes) good = ap (λ f. fault_outcome f (Some (ends_with Done))) good
+
+  pub check_done : Calm old new → (Tells old → IsSomeAnd (old.fixed.given name) (λ bytes. image_fault (take 2494465 bytes) ≡ None)) → Answers (Check name) Done old new
+  check_done calm good = record {
+    only = only;
+    kind = tt;
+    unreported = λ is. cc;
+    outcome = λ _ told. subst (λ o. IsSomeAnd o (ShowsAll Done old new)) (sym (good_outcome _ (good told))) (shows_none Done old new (no_output old new only));
+    front = λ p is. absurd (cc);
+    order = λ is. absurd (cc);
+    none = λ unwritten. absurd unwritten;
+    closed = λ _. closed;
+    unfinished = λ pc is. absurd (cc);
+    cause = calm;
+  }
+    where
+      closed : (p : OutPort) → same (In in_port.Image) (Out p) ≡ true → (new.port (Out p)).is_open ≡ false
+      closed out_port.Term is = cc
+      closed out_port.Log is = cc
+      closed out_port.Final is = cc
+      closed out_port.Report is = cc
+
+pub line_given : (n nodes free : ℕ) (given : Option (List ℕ)) (image : List ℕ) → option_map (take n) given ≡ Some image
+    → nodes ≡ count_by is_some (store_of (disk_of image)).nodes → free ≡ (store_of (disk_of image)).room → IsSomeAnd given (λ bytes. store_line (store_of (disk_of (take n bytes))) ≡ ok_line nodes free)
+line_given n nodes free None image is some room = cc
+line_given n nodes free (Some bytes) image is some room =
+    let read : take n bytes ≡ image = cc in
+    ap (λ l. store_line (store_of (disk_of l))) read ∙ ap (λ m. ok_line m (store_of (disk_of image)).room) (sym some) ∙ ap (λ f. ok_line nodes f) (sym room)
+
+pub image_line_is : (given : Option (List ℕ)) (line : List ℕ) → IsSomeAnd given (λ bytes. store_line (store_of (disk_of (take 2494465 bytes))) ≡ line) → image_line given ≡ line
+image_line_is None line is = absurd is
+image_line_is (Some bytes) line is = is
+
+pub not_done : (name : List ℕ) (old : Outside) (s : Status) → StopsImage name old s → s ≢ Done
+not_done name old s stops is = subst (StopsImage name old) is stops
