@@ -242,18 +242,35 @@ fn disk_12_is_made_and_checked(rt: HostRuntime) -> Result<(), Fail> {
     Ok(())
 }
 
+/// An image may be as long as its file system, or as the disk. One byte more is its fault, which comes before the script's line.
 #[test]
 fn image_past_the_disk_is_too_long(rt: HostRuntime) -> Result<(), Fail> {
-    let image = vec![in rt.alloc(); 0; 2494465]?;
+    let table = [
+        (
+            2_048_000,
+            Status::NotBuilt(Unbuilt::Line(1)),
+            "not built: line 1\n",
+        ),
+        (
+            2_494_464,
+            Status::NotBuilt(Unbuilt::Line(1)),
+            "not built: line 1\n",
+        ),
+        (
+            2_494_465,
+            Status::ImageFault(ImageFault::TooLong),
+            "image: too long\n",
+        ),
+    ];
     let words = words_of(rt.alloc(), &RUN)?;
-    let mut host = host_of(rt.alloc(), &image, "walk\n")?;
-    let status = v6(rt.alloc(), &words, &mut host);
-    assert_eq!(rt; status, Status::ImageFault(ImageFault::TooLong));
-    assert_eq!(rt; status.number(), 6);
-    assert_eq!(rt;
-        host.bytes(OutPort::Report),
-        b"image: too long\n".as_slice()
-    );
+    for (size, status, report) in table {
+        let mut image = image_of(rt.alloc(), HI)?;
+        image.resize(size, 0)?;
+        let mut host = host_of(rt.alloc(), &image, "walk\n")?;
+        assert_eq!(rt; v6(rt.alloc(), &words, &mut host), status);
+        assert_eq!(rt; host.bytes(OutPort::Report), report.as_bytes());
+    }
+    assert_eq!(rt; Status::ImageFault(ImageFault::TooLong).number(), 6);
     Ok(())
 }
 
@@ -286,16 +303,17 @@ fn first_faults_of_hi_that_was_changed(rt: HostRuntime) -> Result<(), Fail> {
     Ok(())
 }
 
-/// The report's port has no room.
+/// The report's port has room for a front of the line.
 #[test]
 fn failed_report_of_check_is_a_write_fault(rt: HostRuntime) -> Result<(), Fail> {
     let image = image_of(rt.alloc(), HI)?;
     let words = words_of(rt.alloc(), &["check", "image"])?;
     let mut host = MemHost::new(rt.alloc());
     host.add("image", &image)?;
+    host.room(OutPort::Report, "report", 5)?;
     let status = v6(rt.alloc(), &words, &mut host);
     assert_eq!(rt; status, Status::WriteFault(OutPort::Report));
     assert_eq!(rt; status.number(), 3);
-    assert_eq!(rt; host.bytes(OutPort::Report), b"".as_slice());
+    assert_eq!(rt; host.bytes(OutPort::Report), b"ok 7 ".as_slice());
     Ok(())
 }

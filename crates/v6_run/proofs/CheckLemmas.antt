@@ -1,28 +1,22 @@
 -- What `check` answers.
-use Rattle.std.proofs.Common.{◌≡◌, ◌≢◌, ℕ, true, false, Option, Some, None, List, take, refl, sym, ◌∙◌, ap, subst, IsSomeAnd, is_some, count_by}
+use Rattle.std.proofs.Common.{◌≡◌, ℕ, true, false, Option, Some, None, List, take, sym, ◌∙◌, ap, subst, IsSomeAnd, is_some, count_by}
 use Rattle.std.specs.Option.{option_map}
 use Rattle.v6_port.specs.declared.host.InPort.TheVariants as in_port
 use Rattle.v6_port.specs.declared.host.OutPort.{OutPort}
 use Rattle.v6_port.specs.declared.host.OutPort.TheVariants as out_port
 use Rattle.v6_port.specs.Outside.{In, Out, same, Outside, Tells, OnlyAt}
-use Rattle.v6_port.specs.Calls.{is_given}
 use Rattle.v6_port.specs.Causes.{Calm}
 use Rattle.fs_codec.specs.Disk.{disk_of}
 use Rattle.fs_codec.specs.Faults.{image_fault}
 use Rattle.fs_codec.specs.Stands.{store_of}
-use Rattle.v6_run.specs.declared.status.Status.{Status}
 use Rattle.v6_run.specs.declared.status.Status.TheVariants.{Done}
 use Rattle.v6_run.specs.Words.{Check}
-use Rattle.v6_run.specs.Causes.{IsCaused}
 use Rattle.v6_run.specs.Report.{ok_line, store_line}
 use Rattle.v6_run.specs.Headline.{ends_with, fault_outcome, image_outcome, image_line, ShowsAll}
-use Rattle.v6_run.specs.Answers.{Answers, StopsImage}
-use Rattle.v6_run.proofs.AnswerLemmas.{image_stops, shows_none, no_output}
+use Rattle.v6_run.specs.Answers.{Answers}
+use Rattle.v6_run.proofs.AnswerLemmas.{shows_none, no_output}
 
 module _ (name : List ℕ) (old new : Outside) (only : OnlyAt (same (In in_port.Image)) old new) where
-  pub check_refused : (s : Status) → StopsImage name old s → IsCaused (λ _. is_given (old.fixed.given name)) s old new → Answers (Check name) s old new
-  check_refused = image_stops (Check name) name (λ bytes. Some (ends_with Done)) old new (λ q other. other) refl refl refl only
-
   good_outcome : (given : Option (List ℕ)) → IsSomeAnd given (λ bytes. image_fault (take 2494465 bytes) ≡ None)
       → image_outcome given (λ bytes. Some (ends_with Done)) ≡ Some (ends_with Done)
   good_outcome None good = absurd good
@@ -58,6 +52,3 @@ line_given n nodes free (Some bytes) image is some room =
 pub image_line_is : (given : Option (List ℕ)) (line : List ℕ) → IsSomeAnd given (λ bytes. store_line (store_of (disk_of (take 2494465 bytes))) ≡ line) → image_line given ≡ line
 image_line_is None line is = absurd is
 image_line_is (Some bytes) line is = is
-
-pub not_done : (name : List ℕ) (old : Outside) (s : Status) → StopsImage name old s → s ≢ Done
-not_done name old s stops is = subst (StopsImage name old) is stops

@@ -31,9 +31,6 @@ value_more ds i inside pass =
     let more = digits_value_more 10 ds i inside in
     omega arith
 
-pub digit_least : (ds : List ℕ) (i : ℕ) → i < length ds → list_all is_ascii_digit ds ≡ true → 48 ≤ get_or ds i 0
-digit_least ds i inside pass = let digit = digit_at ds i (all_digits ds pass) inside in omega arith
-
 -- each front of at most nine digits is a small number
 pub value_small : (ds : List ℕ) (i : ℕ) → length ds ≤ 9 → list_all is_ascii_digit ds ≡ true → digits_value 10 (take i ds) < 1000000000
 value_small ds i short pass =
