@@ -3,8 +3,8 @@ use Rattle.std.proofs.Common.{◌≡◌, ℕ, List, Result, Ok, Err}
 use Rattle.v6_base.specs.declared.space.Trap.{Trap}
 use Rattle.v6_base.specs.Image.{Image}
 use Rattle.pdp_step.specs.declared.outcome.Demand.{Demand}
-use Rattle.pdp_step.specs.declared.rows.Halt.{Halt}
-use Rattle.pdp_step.specs.declared.rows.Halt.TheVariants.{HaltStill, HaltPast}
+use Rattle.pdp_step.specs.declared.stepping.Halt.{Halt}
+use Rattle.pdp_step.specs.declared.stepping.Halt.TheVariants.{HaltStill, HaltPast}
 use Rattle.pdp_step.specs.Operands.{Stop, stop_of}
 use Rattle.pdp_step.specs.Behind.{finished_by}
 use Rattle.pdp_step.specs.Rows.{Effect}

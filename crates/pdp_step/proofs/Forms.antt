@@ -7,7 +7,7 @@ use Rattle.v6_base.specs.declared.named.Named.{Named}
 use Rattle.v6_base.specs.declared.named.Named.TheVariants.{InText, InData, InStack, Nothing}
 use Rattle.v6_base.specs.Image.{Image, named}
 use Rattle.v6_base.specs.Access.{then_do, with_byte, store_byte, store_word}
-use Rattle.pdp_step.specs.declared.rows.Halt.{Halt}
+use Rattle.pdp_step.specs.declared.stepping.Halt.{Halt}
 use Rattle.pdp_step.specs.Rows.{Store, NoStore, ByteAt, WordAt, PushAt, Effect}
 use Rattle.pdp_step.specs.Instruction.{Planned, Go, Past, Still, Done, after_store, finish_of, finished, stored}
 use Rattle.pdp_step.specs.Behind.{finished_by}

@@ -5,8 +5,8 @@ use Rattle.v6_base.specs.Image.{Image}
 use Rattle.pdp_step.specs.declared.operands.Spot.{Spot}
 use Rattle.pdp_step.specs.declared.operands.Spot.TheVariants.{InMemory}
 use Rattle.pdp_step.specs.declared.operands.Found.{Found}
-use Rattle.pdp_step.specs.declared.rows.Halt.{Halt}
-use Rattle.pdp_step.specs.declared.rows.Halt.TheVariants.{HaltStill, HaltPast}
+use Rattle.pdp_step.specs.declared.stepping.Halt.{Halt}
+use Rattle.pdp_step.specs.declared.stepping.Halt.TheVariants.{HaltStill, HaltPast}
 use Rattle.pdp_step.specs.Operands.{Stop, stop_of, Formed, Fetched}
 use Rattle.pdp_step.specs.Rows.{Popped}
 use Rattle.pdp_step.specs.Instruction.{Finished, Done, Passed, Stopped}

@@ -222,6 +222,7 @@ pub fn combined(op: Combine, width: Width, s: u16, d: u16, c: bool) -> Made
 }
 
 /// The result of an instruction with one operand.
+#[inline(always)]
 #[tactic(auto, unfolding(crate::specs::Arithmetic::change_of))]
 pub fn changed(op: Change, width: Width, d: u16, c: bool) -> Made
     requires { d < size width }

@@ -3,14 +3,13 @@ ghost use Rattle.std.specs.Prelude.{◌≡◌, ◌<◌, ◌*◌, ◌+◌, ℕ};
 ghost use Rattle.pdp_step.specs.Registers.{reg_in};
 ghost use Rattle.pdp_step.specs.Rows.{keep_of, odd_of, with_pair, pair_in, multiplied, division_of, divided, shifted_reg, shifted_pair};
 ghost use Rattle.pdp_step.specs.Instruction.{go, finished};
-ghost use Rattle.pdp_step.specs.Behind.{finished_by};
+ghost use Rattle.pdp_step.specs.Behind.{stored_by};
 
 use crate::extended::{fits, product, product_flags, quotient, remainder, shift, shift_flags};
 use crate::operands::fetch;
 use crate::regs::{Bank, Regs, held, hold, pack};
-use crate::rows::Halt;
 use pdp_decode::{Operand, Reg, Width};
-use v6_base::Space;
+use v6_base::{Space, Trap};
 
 // A register's odd neighbour.
 fn odd(n: Reg) -> Reg
@@ -45,8 +44,8 @@ fn hold_pair(r: &mut Bank, n: Reg, high: u16, low: u16)
 
 #[inline(never)]
 #[tactic(auto, unfolding(crate::specs::Rows::multiplied, crate::specs::Instruction::finish_of, crate::specs::Instruction::stored))]
-pub fn multiply<S: Space>(space: &S, regs: &mut Regs, n: Reg, s: Operand) -> Result<(), Halt>
-    ensures { finished_by result regs.new.r regs.new.cc (S.image space.now) ≡ finished (S.image space.now) (go (multiplied (S.image space.now) regs.old.r n s)) }
+pub fn multiply<S: Space>(space: &S, regs: &mut Regs, n: Reg, s: Operand) -> Result<(), Trap>
+    ensures { stored_by result regs.new.r regs.new.cc (S.image space.now) ≡ finished (S.image space.now) (go (multiplied (S.image space.now) regs.old.r n s)) }
 {
     let source = fetch(space, &mut regs.r, Width::Word, s)?;
     let p = product(held(&regs.r, n), source.value);
@@ -75,8 +74,8 @@ fn division(regs: &mut Regs, n: Reg, s: u16)
 
 #[inline(never)]
 #[tactic(auto, unfolding(crate::specs::Rows::divided, crate::specs::Instruction::finish_of, crate::specs::Instruction::stored))]
-pub fn divide<S: Space>(space: &S, regs: &mut Regs, n: Reg, s: Operand) -> Result<(), Halt>
-    ensures { finished_by result regs.new.r regs.new.cc (S.image space.now) ≡ finished (S.image space.now) (go (divided (S.image space.now) regs.old.r n s)) }
+pub fn divide<S: Space>(space: &S, regs: &mut Regs, n: Reg, s: Operand) -> Result<(), Trap>
+    ensures { stored_by result regs.new.r regs.new.cc (S.image space.now) ≡ finished (S.image space.now) (go (divided (S.image space.now) regs.old.r n s)) }
 {
     let source = fetch(space, &mut regs.r, Width::Word, s)?;
     division(regs, n, source.value);
@@ -85,8 +84,8 @@ pub fn divide<S: Space>(space: &S, regs: &mut Regs, n: Reg, s: Operand) -> Resul
 
 #[inline(never)]
 #[tactic(auto, unfolding(crate::specs::Rows::shifted_reg, crate::specs::Instruction::finish_of, crate::specs::Instruction::stored))]
-pub fn shift_reg<S: Space>(space: &S, regs: &mut Regs, n: Reg, s: Operand) -> Result<(), Halt>
-    ensures { finished_by result regs.new.r regs.new.cc (S.image space.now) ≡ finished (S.image space.now) (go (shifted_reg (S.image space.now) regs.old.r n s)) }
+pub fn shift_reg<S: Space>(space: &S, regs: &mut Regs, n: Reg, s: Operand) -> Result<(), Trap>
+    ensures { stored_by result regs.new.r regs.new.cc (S.image space.now) ≡ finished (S.image space.now) (go (shifted_reg (S.image space.now) regs.old.r n s)) }
 {
     let count = fetch(space, &mut regs.r, Width::Word, s)?;
     let x = shift(0o100000, count.value, held(&regs.r, n) as u32);
@@ -97,8 +96,8 @@ pub fn shift_reg<S: Space>(space: &S, regs: &mut Regs, n: Reg, s: Operand) -> Re
 
 #[inline(never)]
 #[tactic(auto, unfolding(crate::specs::Rows::shifted_pair, crate::specs::Instruction::finish_of, crate::specs::Instruction::stored))]
-pub fn shift_pair<S: Space>(space: &S, regs: &mut Regs, n: Reg, s: Operand) -> Result<(), Halt>
-    ensures { finished_by result regs.new.r regs.new.cc (S.image space.now) ≡ finished (S.image space.now) (go (shifted_pair (S.image space.now) regs.old.r n s)) }
+pub fn shift_pair<S: Space>(space: &S, regs: &mut Regs, n: Reg, s: Operand) -> Result<(), Trap>
+    ensures { stored_by result regs.new.r regs.new.cc (S.image space.now) ≡ finished (S.image space.now) (go (shifted_pair (S.image space.now) regs.old.r n s)) }
 {
     let count = fetch(space, &mut regs.r, Width::Word, s)?;
     let x = shift(0x8000_0000, count.value, pair(&regs.r, n));

@@ -1,38 +1,19 @@
 //! The rows of the instructions: operands, result, and what is left to store.
-ghost use Rattle.std.specs.Prelude.{◌≡◌, ◌<◌, ℕ, if◌then◌else◌};
+ghost use Rattle.std.specs.Prelude.{◌≡◌, ◌<◌, ℕ, if◌then◌else◌, false};
+ghost use Rattle.pdp_decode.specs.declared.instr.Mode.{Mode};
 ghost use Rattle.pdp_decode.specs.Numbers.{flag_bits};
 ghost use Rattle.pdp_step.specs.Registers.{codes_in};
 ghost use Rattle.pdp_step.specs.Arithmetic.{size, result_of};
 ghost use Rattle.pdp_step.specs.Rows.{keep_of, merged, put_of, sign_extended, move_of, moved, compared, joined, joined_reg, modified, exchanged, written, tested, sign_made, counted, distance_of, branched, address_of, jumped, called, popped, returned, marked, resumed, named_codes};
 ghost use Rattle.pdp_step.specs.Instruction.{go, finish_of, finished};
-ghost use Rattle.pdp_step.specs.Behind.{stored_by, finished_by, popped_by};
+ghost use Rattle.pdp_step.specs.Behind.{stored_by, popped_by};
 
 use crate::arithmetic::{Change, Combine, Made, changed, combined, outcome, swap, taken};
 use crate::operands::{Spot, fetch, form};
-use crate::outcome::Demand;
 use crate::regs::{Bank, Regs, carry, codes, held, hold, pack};
-use pdp_decode::{Condition, Flags, Operand, Reg, Width};
+use pdp_decode::Width::{Byte, Word};
+use pdp_decode::{Condition, Flags, Mode, Operand, Reg, Width};
 use v6_base::{Space, Trap};
-
-/// Why an instruction is not done.
-#[derive(Clone, Copy, Debug, PartialEq, Eq)]
-pub enum Halt {
-    /// With everything as it was.
-    HaltStill(Trap),
-    /// With PC behind the word.
-    HaltPast(Demand),
-}
-
-impl From<Trap> for Halt {
-    ghost use Rattle.pdp_step.specs.declared.rows.Halt.{Halt};
-
-    ghost from_gives = { λ trap halt. halt ≡ Halt.HaltStill trap };
-
-    #[inline(always)]
-    fn from(trap: Trap) -> Halt {
-        Halt::HaltStill(trap)
-    }
-}
 
 // A result that goes where the operand was found.
 #[inline(always)]
@@ -57,8 +38,8 @@ fn put<S: Space>(
             Ok(())
         }
         Spot::InMemory(at) => match width {
-            Width::Word => space.store_word(at, made.value),
-            Width::Byte => space.store_byte(at, made.value as u8),
+            Word => space.store_word(at, made.value),
+            Byte => space.store_byte(at, made.value as u8),
         },
     }
 }
@@ -70,8 +51,8 @@ fn merge(width: Width, old: u16, value: u16) -> u16
     ensures { result ≡ merged width old value }
 {
     match width {
-        Width::Word => value,
-        Width::Byte => 256 * (old / 256) + value,
+        Word => value,
+        Byte => 256 * (old / 256) + value,
     }
 }
 
@@ -100,8 +81,8 @@ fn put_moved<S: Space>(
     ensures rest { S.rest space.new ≡ S.rest space.old }
 {
     match width {
-        Width::Word => put(space, regs, width, spot, made),
-        Width::Byte => match spot {
+        Word => put(space, regs, width, spot, made),
+        Byte => match spot {
             Spot::InRegister(n) => {
                 regs.cc = made.cc;
                 hold(&mut regs.r, n, extend(made.value));
@@ -120,14 +101,14 @@ pub fn move_to<S: Space>(
     w: Width,
     s: Operand,
     d: Operand,
-) -> Result<(), Halt>
-    ensures row { finished_by result regs.new.r regs.new.cc (S.image space.new) ≡ finished (S.image space.old) (go (moved (S.image space.old) regs.old.r regs.old.cc w s d)) }
+) -> Result<(), Trap>
+    ensures row { stored_by result regs.new.r regs.new.cc (S.image space.new) ≡ finished (S.image space.old) (go (moved (S.image space.old) regs.old.r regs.old.cc w s d)) }
     ensures rest { S.rest space.new ≡ S.rest space.old }
 {
     let source = fetch(space, &mut regs.r, w, s)?;
     let spot = form(space, &mut regs.r, w, d)?;
     let made = outcome(w, source.value, false, carry(regs.cc));
-    Ok(put_moved(space, regs, w, spot, made)?)
+    put_moved(space, regs, w, spot, made)
 }
 
 #[inline(always)]
@@ -139,8 +120,8 @@ pub fn compare<S: Space>(
     s: Operand,
     d: Operand,
     op: Combine,
-) -> Result<(), Halt>
-    ensures { finished_by result regs.new.r regs.new.cc (S.image space.now) ≡ finished (S.image space.now) (go (compared (S.image space.now) regs.old.r regs.old.cc w s d op)) }
+) -> Result<(), Trap>
+    ensures { stored_by result regs.new.r regs.new.cc (S.image space.now) ≡ finished (S.image space.now) (go (compared (S.image space.now) regs.old.r regs.old.cc w s d op)) }
 {
     let source = fetch(space, &mut regs.r, w, s)?;
     let dest = fetch(space, &mut regs.r, w, d)?;
@@ -158,14 +139,14 @@ pub fn join<S: Space>(
     s: Operand,
     d: Operand,
     op: Combine,
-) -> Result<(), Halt>
-    ensures row { finished_by result regs.new.r regs.new.cc (S.image space.new) ≡ finished (S.image space.old) (go (joined (S.image space.old) regs.old.r regs.old.cc w s d op)) }
+) -> Result<(), Trap>
+    ensures row { stored_by result regs.new.r regs.new.cc (S.image space.new) ≡ finished (S.image space.old) (go (joined (S.image space.old) regs.old.r regs.old.cc w s d op)) }
     ensures rest { S.rest space.new ≡ S.rest space.old }
 {
     let source = fetch(space, &mut regs.r, w, s)?;
     let dest = fetch(space, &mut regs.r, w, d)?;
     let made = combined(op, w, source.value, dest.value, carry(regs.cc));
-    Ok(put(space, regs, w, dest.spot, made)?)
+    put(space, regs, w, dest.spot, made)
 }
 
 #[inline(never)]
@@ -176,75 +157,144 @@ pub fn join_reg<S: Space>(
     n: Reg,
     d: Operand,
     op: Combine,
-) -> Result<(), Halt>
-    ensures row { finished_by result regs.new.r regs.new.cc (S.image space.new) ≡ finished (S.image space.old) (go (joined_reg (S.image space.old) regs.old.r regs.old.cc n d op)) }
+) -> Result<(), Trap>
+    ensures row { stored_by result regs.new.r regs.new.cc (S.image space.new) ≡ finished (S.image space.old) (go (joined_reg (S.image space.old) regs.old.r regs.old.cc n d op)) }
     ensures rest { S.rest space.new ≡ S.rest space.old }
 {
     let source = held(&regs.r, n);
-    let dest = fetch(space, &mut regs.r, Width::Word, d)?;
-    let made = combined(op, Width::Word, source, dest.value, carry(regs.cc));
-    Ok(put(space, regs, Width::Word, dest.spot, made)?)
+    let dest = fetch(space, &mut regs.r, Word, d)?;
+    let made = combined(op, Word, source, dest.value, carry(regs.cc));
+    put(space, regs, Word, dest.spot, made)
+}
+
+#[inline(always)]
+#[tactic(auto, unfolding(crate::specs::Rows::modified))]
+fn modify_operand<S: Space>(
+    space: &mut S,
+    regs: &mut Regs,
+    w: Width,
+    d: Operand,
+    op: Change,
+) -> Result<(), Trap>
+    ensures row { stored_by result regs.new.r regs.new.cc (S.image space.new) ≡ finished (S.image space.old) (go (modified (S.image space.old) regs.old.r regs.old.cc w d op)) }
+    ensures rest { S.rest space.new ≡ S.rest space.old }
+{
+    let dest = fetch(space, &mut regs.r, w, d)?;
+    let made = changed(op, w, dest.value, carry(regs.cc));
+    put(space, regs, w, dest.spot, made)
 }
 
 #[inline(never)]
-#[tactic(auto, unfolding(crate::specs::Rows::modified))]
 pub fn modify<S: Space>(
     space: &mut S,
     regs: &mut Regs,
     w: Width,
     d: Operand,
     op: Change,
-) -> Result<(), Halt>
-    ensures row { finished_by result regs.new.r regs.new.cc (S.image space.new) ≡ finished (S.image space.old) (go (modified (S.image space.old) regs.old.r regs.old.cc w d op)) }
+) -> Result<(), Trap>
+    ensures row { stored_by result regs.new.r regs.new.cc (S.image space.new) ≡ finished (S.image space.old) (go (modified (S.image space.old) regs.old.r regs.old.cc w d op)) }
     ensures rest { S.rest space.new ≡ S.rest space.old }
 {
-    let dest = fetch(space, &mut regs.r, w, d)?;
-    let made = changed(op, w, dest.value, carry(regs.cc));
-    Ok(put(space, regs, w, dest.spot, made)?)
+    match d.mode {
+        Mode::Register => match w {
+            Word => modify_operand(space, regs, Word, in_register(d.reg), op),
+            Byte => modify_operand(space, regs, Byte, in_register(d.reg), op),
+        },
+        _ => match w {
+            Word => modify_operand(space, regs, Word, d, op),
+            Byte => modify_operand(space, regs, Byte, d, op),
+        },
+    }
+}
+
+// An operand that is a register, so that a row's path over registers is built apart.
+#[inline(always)]
+fn in_register(reg: Reg) -> Operand
+    ensures { result ≡ record { mode = Mode.Register; reg = reg } }
+{
+    Operand {
+        mode: Mode::Register,
+        reg,
+    }
 }
 
 #[inline(never)]
 #[tactic(auto, unfolding(crate::specs::Rows::exchanged))]
-pub fn exchange<S: Space>(space: &mut S, regs: &mut Regs, d: Operand) -> Result<(), Halt>
-    ensures row { finished_by result regs.new.r regs.new.cc (S.image space.new) ≡ finished (S.image space.old) (go (exchanged (S.image space.old) regs.old.r d)) }
+pub fn exchange<S: Space>(space: &mut S, regs: &mut Regs, d: Operand) -> Result<(), Trap>
+    ensures row { stored_by result regs.new.r regs.new.cc (S.image space.new) ≡ finished (S.image space.old) (go (exchanged (S.image space.old) regs.old.r d)) }
     ensures rest { S.rest space.new ≡ S.rest space.old }
 {
-    let dest = fetch(space, &mut regs.r, Width::Word, d)?;
+    let dest = fetch(space, &mut regs.r, Word, d)?;
     let made = swap(dest.value);
-    Ok(put(space, regs, Width::Word, dest.spot, made)?)
+    put(space, regs, Word, dest.spot, made)
 }
 
-#[inline(never)]
+#[inline(always)]
 #[tactic(auto, unfolding(crate::specs::Rows::written))]
-pub fn write<S: Space>(
+fn write<S: Space>(
     space: &mut S,
     regs: &mut Regs,
     w: Width,
     d: Operand,
     made: Made,
-) -> Result<(), Halt>
+) -> Result<(), Trap>
     requires codes { made.cc < 16 }
     requires small { made.value < size w }
-    ensures row { finished_by result regs.new.r regs.new.cc (S.image space.new) ≡ finished (S.image space.old) (go (written (S.image space.old) regs.old.r w d made)) }
+    ensures row { stored_by result regs.new.r regs.new.cc (S.image space.new) ≡ finished (S.image space.old) (go (written (S.image space.old) regs.old.r w d made)) }
     ensures rest { S.rest space.new ≡ S.rest space.old }
 {
     let spot = form(space, &mut regs.r, w, d)?;
-    Ok(put(space, regs, w, spot, made)?)
+    put(space, regs, w, spot, made)
 }
 
-#[inline(never)]
+#[inline(always)]
 #[tactic(auto, unfolding(crate::specs::Rows::tested, crate::specs::Instruction::finish_of, crate::specs::Instruction::stored))]
-pub fn test<S: Space>(space: &S, regs: &mut Regs, w: Width, d: Operand) -> Result<(), Halt>
-    ensures { finished_by result regs.new.r regs.new.cc (S.image space.now) ≡ finished (S.image space.now) (go (tested (S.image space.now) regs.old.r w d)) }
+fn test_operand<S: Space>(space: &S, regs: &mut Regs, w: Width, d: Operand) -> Result<(), Trap>
+    ensures { stored_by result regs.new.r regs.new.cc (S.image space.now) ≡ finished (S.image space.now) (go (tested (S.image space.now) regs.old.r w d)) }
 {
     let dest = fetch(space, &mut regs.r, w, d)?;
     regs.cc = outcome(w, dest.value, false, false).cc;
     Ok(())
 }
 
-/// What SXT writes.
+#[inline(never)]
+pub fn test<S: Space>(space: &S, regs: &mut Regs, w: Width, d: Operand) -> Result<(), Trap>
+    ensures { stored_by result regs.new.r regs.new.cc (S.image space.now) ≡ finished (S.image space.now) (go (tested (S.image space.now) regs.old.r w d)) }
+{
+    match d.mode {
+        Mode::Register => match w {
+            Word => test_operand(space, regs, Word, in_register(d.reg)),
+            Byte => test_operand(space, regs, Byte, in_register(d.reg)),
+        },
+        _ => match w {
+            Word => test_operand(space, regs, Word, d),
+            Byte => test_operand(space, regs, Byte, d),
+        },
+    }
+}
+
+#[inline(never)]
+pub fn clear<S: Space>(space: &mut S, regs: &mut Regs, w: Width, d: Operand) -> Result<(), Trap>
+    ensures row { stored_by result regs.new.r regs.new.cc (S.image space.new) ≡ finished (S.image space.old) (go (written (S.image space.old) regs.old.r w d (result_of w 0 false false))) }
+    ensures rest { S.rest space.new ≡ S.rest space.old }
+{
+    match w {
+        Word => write(space, regs, Word, d, outcome(Word, 0, false, false)),
+        Byte => write(space, regs, Byte, d, outcome(Byte, 0, false, false)),
+    }
+}
+
+#[inline(never)]
+pub fn extend_sign<S: Space>(space: &mut S, regs: &mut Regs, d: Operand) -> Result<(), Trap>
+    ensures row { stored_by result regs.new.r regs.new.cc (S.image space.new) ≡ finished (S.image space.old) (go (written (S.image space.old) regs.old.r Width.Word d (sign_made regs.old.cc))) }
+    ensures rest { S.rest space.new ≡ S.rest space.old }
+{
+    write(space, regs, Word, d, sign(regs.cc))
+}
+
+// What SXT writes.
 #[inline(always)]
-pub fn sign(cc: u8) -> Made
+fn sign(cc: u8) -> Made
     ensures made { result ≡ sign_made cc }
     ensures codes { result.cc < 16 }
 {
@@ -304,21 +354,21 @@ fn place(spot: Spot) -> u16
 
 #[inline(never)]
 #[tactic(auto, unfolding(crate::specs::Rows::jumped, crate::specs::Instruction::finish_of, crate::specs::Instruction::stored))]
-pub fn jump<S: Space>(space: &S, regs: &mut Regs, d: Operand) -> Result<(), Halt>
-    ensures { finished_by result regs.new.r regs.new.cc (S.image space.now) ≡ finished (S.image space.now) (go (jumped (S.image space.now) regs.old.r regs.old.cc d)) }
+pub fn jump<S: Space>(space: &S, regs: &mut Regs, d: Operand) -> Result<(), Trap>
+    ensures { stored_by result regs.new.r regs.new.cc (S.image space.now) ≡ finished (S.image space.now) (go (jumped (S.image space.now) regs.old.r regs.old.cc d)) }
 {
-    let spot = form(space, &mut regs.r, Width::Word, d)?;
+    let spot = form(space, &mut regs.r, Word, d)?;
     hold(&mut regs.r, Reg::Pc, place(spot));
     Ok(())
 }
 
 #[inline(never)]
 #[tactic(auto, unfolding(crate::specs::Rows::called, crate::specs::Instruction::finish_of, crate::specs::Instruction::stored))]
-pub fn call<S: Space>(space: &mut S, regs: &mut Regs, link: Reg, d: Operand) -> Result<(), Halt>
-    ensures row { finished_by result regs.new.r regs.new.cc (S.image space.new) ≡ finished (S.image space.old) (go (called (S.image space.old) regs.old.r regs.old.cc link d)) }
+pub fn call<S: Space>(space: &mut S, regs: &mut Regs, link: Reg, d: Operand) -> Result<(), Trap>
+    ensures row { stored_by result regs.new.r regs.new.cc (S.image space.new) ≡ finished (S.image space.old) (go (called (S.image space.old) regs.old.r regs.old.cc link d)) }
     ensures rest { S.rest space.new ≡ S.rest space.old }
 {
-    let spot = form(space, &mut regs.r, Width::Word, d)?;
+    let spot = form(space, &mut regs.r, Word, d)?;
     let pushed = held(&regs.r, link);
     let sp = held(&regs.r, Reg::Sp).wrapping_sub(2);
     hold(&mut regs.r, Reg::Sp, sp);
@@ -342,8 +392,8 @@ fn pop<S: Space>(space: &S, r: &mut Bank) -> Result<u16, Trap>
 
 #[inline(never)]
 #[tactic(auto, unfolding(crate::specs::Rows::returned, crate::specs::Instruction::finish_of, crate::specs::Instruction::stored))]
-pub fn return_by<S: Space>(space: &S, regs: &mut Regs, link: Reg) -> Result<(), Halt>
-    ensures { finished_by result regs.new.r regs.new.cc (S.image space.now) ≡ finished (S.image space.now) (go (returned (S.image space.now) regs.old.r regs.old.cc link)) }
+pub fn return_by<S: Space>(space: &S, regs: &mut Regs, link: Reg) -> Result<(), Trap>
+    ensures { stored_by result regs.new.r regs.new.cc (S.image space.now) ≡ finished (S.image space.now) (go (returned (S.image space.now) regs.old.r regs.old.cc link)) }
 {
     let pc = held(&regs.r, link);
     hold(&mut regs.r, Reg::Pc, pc);
@@ -354,8 +404,8 @@ pub fn return_by<S: Space>(space: &S, regs: &mut Regs, link: Reg) -> Result<(), 
 
 #[inline(never)]
 #[tactic(auto, unfolding(crate::specs::Rows::marked, crate::specs::Instruction::finish_of, crate::specs::Instruction::stored))]
-pub fn mark<S: Space>(space: &S, regs: &mut Regs, words: u8) -> Result<(), Halt>
-    ensures { finished_by result regs.new.r regs.new.cc (S.image space.now) ≡ finished (S.image space.now) (go (marked (S.image space.now) regs.old.r regs.old.cc words)) }
+pub fn mark<S: Space>(space: &S, regs: &mut Regs, words: u8) -> Result<(), Trap>
+    ensures { stored_by result regs.new.r regs.new.cc (S.image space.now) ≡ finished (S.image space.now) (go (marked (S.image space.now) regs.old.r regs.old.cc words)) }
 {
     let sp = held(&regs.r, Reg::Pc).wrapping_add(2 * words as u16);
     hold(&mut regs.r, Reg::Sp, sp);
@@ -368,8 +418,8 @@ pub fn mark<S: Space>(space: &S, regs: &mut Regs, words: u8) -> Result<(), Halt>
 
 #[inline(never)]
 #[tactic(auto, unfolding(crate::specs::Rows::resumed, crate::specs::Instruction::finish_of, crate::specs::Instruction::stored))]
-pub fn resume<S: Space>(space: &S, regs: &mut Regs) -> Result<(), Halt>
-    ensures { finished_by result regs.new.r regs.new.cc (S.image space.now) ≡ finished (S.image space.now) (go (resumed (S.image space.now) regs.old.r)) }
+pub fn resume<S: Space>(space: &S, regs: &mut Regs) -> Result<(), Trap>
+    ensures { stored_by result regs.new.r regs.new.cc (S.image space.now) ≡ finished (S.image space.now) (go (resumed (S.image space.now) regs.old.r)) }
 {
     let pc = pop(space, &mut regs.r)?;
     let ps = pop(space, &mut regs.r)?;

@@ -8,16 +8,37 @@ ghost use Rattle.pdp_step.specs.Instruction.{row_of, plan_of, finished, stepped,
 ghost use Rattle.pdp_step.specs.Behind.{finished_by};
 ghost use Rattle.pdp_step.specs.Form.{KeepsForm};
 
-use crate::arithmetic::{Change, Combine, outcome};
+use crate::arithmetic::{Change, Combine};
 use crate::outcome::{Demand, Kind, Outcome};
 use crate::pairs::{divide, multiply, shift_pair, shift_reg};
 use crate::regs::{Regs, held, pass};
 use crate::rows::{
-    Halt, branch, call, compare, count, exchange, join, join_reg, jump, mark, modify, move_to,
-    resume, return_by, set_codes, sign, test, write,
+    branch, call, clear, compare, count, exchange, extend_sign, join, join_reg, jump, mark, modify,
+    move_to, resume, return_by, set_codes, test,
 };
-use pdp_decode::{Instr, Reg, SoftTrap, Width, decode};
+use pdp_decode::Width::{Byte, Word};
+use pdp_decode::{Instr, Reg, SoftTrap, decode};
 use v6_base::{Space, Trap};
+
+/// Why an instruction is not done.
+#[derive(Clone, Copy, Debug, PartialEq, Eq)]
+enum Halt {
+    /// With everything as it was.
+    HaltStill(Trap),
+    /// With PC behind the word.
+    HaltPast(Demand),
+}
+
+impl From<Trap> for Halt {
+    ghost use Rattle.pdp_step.specs.declared.stepping.Halt.{Halt};
+
+    ghost from_gives = { λ trap halt. halt ≡ Halt.HaltStill trap };
+
+    #[inline(always)]
+    fn from(trap: Trap) -> Halt {
+        Halt::HaltStill(trap)
+    }
+}
 
 /// One instruction: the word at PC is fetched, PC passes it, and what its row says is done. After a fault it was not done:
 /// `Odd` and `Segment` leave everything as it was, the other faults and a call have moved PC behind the word alone. The
@@ -65,61 +86,53 @@ fn perform<S: Space>(space: &mut S, word: u16, regs: &mut Regs) -> Result<(), Ha
     ensures rest { S.rest space.new ≡ S.rest space.old }
 {
     match decode(word) {
-        Instr::Mov(Width::Word, s, d) => move_to(space, regs, Width::Word, s, d),
-        Instr::Mov(Width::Byte, s, d) => move_to(space, regs, Width::Byte, s, d),
-        Instr::Cmp(Width::Word, s, d) => compare(space, regs, Width::Word, s, d, Combine::Compare),
-        Instr::Cmp(Width::Byte, s, d) => compare(space, regs, Width::Byte, s, d, Combine::Compare),
-        Instr::Bit(Width::Word, s, d) => compare(space, regs, Width::Word, s, d, Combine::TestBits),
-        Instr::Bit(Width::Byte, s, d) => compare(space, regs, Width::Byte, s, d, Combine::TestBits),
-        Instr::Bic(Width::Word, s, d) => join(space, regs, Width::Word, s, d, Combine::ClearBits),
-        Instr::Bic(Width::Byte, s, d) => join(space, regs, Width::Byte, s, d, Combine::ClearBits),
-        Instr::Bis(Width::Word, s, d) => join(space, regs, Width::Word, s, d, Combine::SetBits),
-        Instr::Bis(Width::Byte, s, d) => join(space, regs, Width::Byte, s, d, Combine::SetBits),
-        Instr::Add(s, d) => join(space, regs, Width::Word, s, d, Combine::Sum),
-        Instr::Sub(s, d) => join(space, regs, Width::Word, s, d, Combine::Difference),
-        Instr::Clr(w, d) => write(space, regs, w, d, outcome(w, 0, false, false)),
-        Instr::Com(w, d) => modify(space, regs, w, d, Change::Complement),
-        Instr::Inc(w, d) => modify(space, regs, w, d, Change::Increase),
-        Instr::Dec(w, d) => modify(space, regs, w, d, Change::Decrease),
-        Instr::Neg(w, d) => modify(space, regs, w, d, Change::Negate),
-        Instr::Adc(w, d) => modify(space, regs, w, d, Change::AddCarry),
-        Instr::Sbc(w, d) => modify(space, regs, w, d, Change::SubtractCarry),
-        Instr::Tst(w, d) => test(space, regs, w, d),
-        Instr::Ror(w, d) => modify(space, regs, w, d, Change::RotateRight),
-        Instr::Rol(w, d) => modify(space, regs, w, d, Change::RotateLeft),
-        Instr::Asr(w, d) => modify(space, regs, w, d, Change::ShiftRight),
-        Instr::Asl(w, d) => modify(space, regs, w, d, Change::ShiftLeft),
-        Instr::Swab(d) => exchange(space, regs, d),
-        Instr::Sxt(d) => write(space, regs, Width::Word, d, sign(regs.cc)),
-        Instr::Mul(n, s) => multiply(space, regs, n, s),
-        Instr::Div(n, s) => divide(space, regs, n, s),
-        Instr::Ash(n, s) => shift_reg(space, regs, n, s),
-        Instr::Ashc(n, s) => shift_pair(space, regs, n, s),
-        Instr::Xor(n, d) => join_reg(space, regs, n, d, Combine::ExclusiveOr),
-        Instr::Sob(n, words) => {
-            count(regs, n, words);
-            Ok(())
-        }
-        Instr::Branch(condition, offset) => {
-            branch(regs, condition, offset);
-            Ok(())
-        }
-        Instr::Jmp(d) => jump(space, regs, d),
-        Instr::Jsr(n, d) => call(space, regs, n, d),
-        Instr::Rts(n) => return_by(space, regs, n),
-        Instr::Mark(words) => mark(space, regs, words),
-        Instr::Rti => resume(space, regs),
-        Instr::Codes(set, names) => {
-            set_codes(regs, set, names);
-            Ok(())
-        }
-        Instr::Wait => Ok(()),
-        Instr::SoftTrap(SoftTrap::Bpt) => Err(Halt::HaltPast(Demand::Breakpoint)),
-        Instr::SoftTrap(SoftTrap::Iot) => Err(Halt::HaltPast(Demand::InputOutput)),
-        Instr::Emt => Err(Halt::HaltPast(Demand::Emulator)),
-        Instr::Sys(n) => Err(Halt::HaltPast(Demand::System(n))),
-        Instr::Illegal => Err(Halt::HaltPast(Demand::Unknown(word))),
+        Instr::Mov(Word, s, d) => move_to(space, regs, Word, s, d)?,
+        Instr::Mov(Byte, s, d) => move_to(space, regs, Byte, s, d)?,
+        Instr::Cmp(Word, s, d) => compare(space, regs, Word, s, d, Combine::Compare)?,
+        Instr::Cmp(Byte, s, d) => compare(space, regs, Byte, s, d, Combine::Compare)?,
+        Instr::Bit(Word, s, d) => compare(space, regs, Word, s, d, Combine::TestBits)?,
+        Instr::Bit(Byte, s, d) => compare(space, regs, Byte, s, d, Combine::TestBits)?,
+        Instr::Bic(Word, s, d) => join(space, regs, Word, s, d, Combine::ClearBits)?,
+        Instr::Bic(Byte, s, d) => join(space, regs, Byte, s, d, Combine::ClearBits)?,
+        Instr::Bis(Word, s, d) => join(space, regs, Word, s, d, Combine::SetBits)?,
+        Instr::Bis(Byte, s, d) => join(space, regs, Byte, s, d, Combine::SetBits)?,
+        Instr::Add(s, d) => join(space, regs, Word, s, d, Combine::Sum)?,
+        Instr::Sub(s, d) => join(space, regs, Word, s, d, Combine::Difference)?,
+        Instr::Clr(w, d) => clear(space, regs, w, d)?,
+        Instr::Com(w, d) => modify(space, regs, w, d, Change::Complement)?,
+        Instr::Inc(w, d) => modify(space, regs, w, d, Change::Increase)?,
+        Instr::Dec(w, d) => modify(space, regs, w, d, Change::Decrease)?,
+        Instr::Neg(w, d) => modify(space, regs, w, d, Change::Negate)?,
+        Instr::Adc(w, d) => modify(space, regs, w, d, Change::AddCarry)?,
+        Instr::Sbc(w, d) => modify(space, regs, w, d, Change::SubtractCarry)?,
+        Instr::Tst(w, d) => test(space, regs, w, d)?,
+        Instr::Ror(w, d) => modify(space, regs, w, d, Change::RotateRight)?,
+        Instr::Rol(w, d) => modify(space, regs, w, d, Change::RotateLeft)?,
+        Instr::Asr(w, d) => modify(space, regs, w, d, Change::ShiftRight)?,
+        Instr::Asl(w, d) => modify(space, regs, w, d, Change::ShiftLeft)?,
+        Instr::Swab(d) => exchange(space, regs, d)?,
+        Instr::Sxt(d) => extend_sign(space, regs, d)?,
+        Instr::Mul(n, s) => multiply(space, regs, n, s)?,
+        Instr::Div(n, s) => divide(space, regs, n, s)?,
+        Instr::Ash(n, s) => shift_reg(space, regs, n, s)?,
+        Instr::Ashc(n, s) => shift_pair(space, regs, n, s)?,
+        Instr::Xor(n, d) => join_reg(space, regs, n, d, Combine::ExclusiveOr)?,
+        Instr::Sob(n, words) => count(regs, n, words),
+        Instr::Branch(condition, offset) => branch(regs, condition, offset),
+        Instr::Jmp(d) => jump(space, regs, d)?,
+        Instr::Jsr(n, d) => call(space, regs, n, d)?,
+        Instr::Rts(n) => return_by(space, regs, n)?,
+        Instr::Mark(words) => mark(space, regs, words)?,
+        Instr::Rti => resume(space, regs)?,
+        Instr::Codes(set, names) => set_codes(regs, set, names),
+        Instr::Wait => {}
+        Instr::SoftTrap(SoftTrap::Bpt) => return Err(Halt::HaltPast(Demand::Breakpoint)),
+        Instr::SoftTrap(SoftTrap::Iot) => return Err(Halt::HaltPast(Demand::InputOutput)),
+        Instr::Emt => return Err(Halt::HaltPast(Demand::Emulator)),
+        Instr::Sys(n) => return Err(Halt::HaltPast(Demand::System(n))),
+        Instr::Illegal => return Err(Halt::HaltPast(Demand::Unknown(word))),
     }
+    Ok(())
 }
 
 #[inline(always)]

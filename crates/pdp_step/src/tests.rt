@@ -1,4 +1,5 @@
-//! Rows by hand from the instruction pages of the handbook, each worked apart from the code.
+//! Instructions against the handbook: rows after its examples, rows for each instruction and each addressing mode, and faults.
+//! What a row must come to was worked by hand from the rules of the instruction's page, from the row's left side alone.
 use crate::{Kind, Outcome, Regs, step};
 use std::alloc::AllocError;
 use std::test::Fail;
@@ -144,6 +145,46 @@ const ROWS: &str = "\
 010020 0      | 40     0      0      177600 0      0  | 42     0      0      177600 40     2      0  ; the source is read before the destination is formed
 016001 177777 | 41     0      0      177600 5      0  | 41     5      0      177600 5      4      0  ; addresses go round";
 
+// After the examples of the addressing modes (handbook, chapter 3) and of the instructions (chapter 4). In octal: the
+// words at 1020; R0 to R5; two words of memory, each behind its address; the codes; then R0 to R5, the two words, PC and the
+// codes behind.
+const EXAMPLES: &str = "\
+060204 0    0  | 0     0     2      0     4     0     | 2000   0      2002  0      | 17 | 0      0     2      0     6     0     | 0      0      | 1022 0  ; ADD R2,R4
+105104 0    0  | 0     0     0      0     22222 0     | 2000   0      2002  0      | 0  | 0      0     0      0     22155 0     | 0      0      | 1022 1  ; COMB R4
+005025 0    0  | 0     0     0      0     0     30000 | 30000  111116 2002  0      | 13 | 0      0     0      0     0     30002 | 0      0      | 1022 4  ; CLR (R5)+
+105025 0    0  | 0     0     0      0     0     30000 | 30000  111116 2002  0      | 13 | 0      0     0      0     0     30001 | 111000 0      | 1022 4  ; CLRB (R5)+
+062204 0    0  | 0     0     100002 0     10000 0     | 100002 10000  2002  0      | 0  | 0      0     100004 0     20000 0     | 10000  0      | 1022 0  ; ADD (R2)+,R4
+005240 0    0  | 17776 0     0      0     0     0     | 17774  0      2002  0      | 1  | 17774  0     0      0     0     0     | 1      0      | 1022 1  ; INC -(R0)
+105240 0    0  | 17776 0     0      0     0     0     | 17774  0      2002  0      | 0  | 17775  0     0      0     0     0     | 400    0      | 1022 0  ; INCB -(R0)
+064300 0    0  | 20    0     0      77776 0     0     | 77774  50     2002  0      | 0  | 70     0     0      77774 0     0     | 50     0      | 1022 0  ; ADD -(R3),R0
+005064 200  0  | 0     0     0      0     1000  0     | 1200   177777 2002  0      | 0  | 0      0     0      0     1000  0     | 0      0      | 1024 4  ; CLR 200(R4)
+066265 30   20 | 0     0     1100   0     0     2000  | 1130   1      2020  1      | 0  | 0      0     1100   0     0     2000  | 1      2      | 1026 0  ; ADD 30(R2),20(R5)
+005015 0    0  | 0     0     0      0     0     1700  | 1700   100    2002  0      | 0  | 0      0     0      0     0     1700  | 0      0      | 1022 4  ; CLR @R5
+005232 0    0  | 0     0     10300  0     0     0     | 10300  1010   1010  25     | 0  | 0      0     10302  0     0     0     | 1010   26     | 1022 0  ; INC @(R2)+
+005150 0    0  | 10776 0     0      0     0     0     | 10774  10100  10100 12345  | 0  | 10774  0     0      0     0     0     | 10100  165432 | 1022 11 ; COM @-(R0)
+067201 1000 0  | 0     1234  100    0     0     0     | 1100   1050   1050  2      | 0  | 0      1236  100    0     0     0     | 1050   2      | 1024 0  ; ADD @1000(R2),R1
+062700 10   0  | 20    0     0      0     0     0     | 2000   0      2002  0      | 0  | 30     0     0      0     0     0     | 0      0      | 1024 0  ; ADD #10,R0
+005037 1100 0  | 0     0     0      0     0     0     | 1100   177777 2002  0      | 0  | 0      0     0      0     0     0     | 0      0      | 1024 4  ; CLR @#1100
+063703 2000 0  | 0     0     0      500   0     0     | 2000   300    2002  0      | 0  | 0      0     0      1000  0     0     | 300    0      | 1024 0  ; ADD @#2000,R3
+005267 54   0  | 0     0     0      0     0     0     | 1100   0      2002  0      | 0  | 0      0     0      0     0     0     | 1      0      | 1024 0  ; INC A
+005077 20   0  | 0     0     0      0     0     0     | 1044   10100  10100 100001 | 0  | 0      0     0      0     0     0     | 10100  0      | 1024 4  ; CLR @A
+005001 0    0  | 0     177777 0     0     0     0     | 2000   0      2002  0      | 17 | 0      0     0      0     0     0     | 0      0      | 1022 4  ; CLR R1
+005100 0    0  | 13333 0     0      0     0     0     | 2000   0      2002  0      | 6  | 164444 0     0      0     0     0     | 0      0      | 1022 11 ; COM R0
+005203 0    0  | 0     0     0      333   0     0     | 2000   0      2002  0      | 0  | 0      0     0      334   0     0     | 0      0      | 1022 0  ; INC R3
+005305 0    0  | 0     0     0      0     0     1     | 2000   0      2002  0      | 10 | 0      0     0      0     0     0     | 0      0      | 1022 4  ; DEC R5
+005400 0    0  | 10    0     0      0     0     0     | 2000   0      2002  0      | 0  | 177770 0     0      0     0     0     | 0      0      | 1022 11 ; NEG R0
+005701 0    0  | 0     12340 0      0     0     0     | 2000   0      2002  0      | 3  | 0      12340 0      0     0     0     | 0      0      | 1022 0  ; TST R1
+000301 0    0  | 0     77777 0      0     0     0     | 2000   0      2002  0      | 17 | 0      177577 0     0     0     0     | 0      0      | 1022 0  ; SWAB R1
+006767 54   0  | 0     0     0      0     0     0     | 1100   12345  2002  0      | 10 | 0      0     0      0     0     0     | 177777 0      | 1024 10 ; SXT A
+160102 0    0  | 0     11111 12345  0     0     0     | 2000   0      2002  0      | 17 | 0      11111 1234   0     0     0     | 0      0      | 1022 0  ; SUB R1,R2
+032703 30   0  | 0     0     0      30    0     0     | 2000   0      2002  0      | 17 | 0      0     0      30    0     0     | 0      0      | 1024 1  ; BIT #30,R3
+040304 0    0  | 0     0     0      1234  1111  0     | 2000   0      2002  0      | 17 | 0      0     0      1234  101   0     | 0      0      | 1022 1  ; BIC R3,R4
+050001 0    0  | 1234  1111  0      0     0     0     | 2000   0      2002  0      | 0  | 1234   1335  0      0     0     0     | 0      0      | 1022 0  ; BIS R0,R1
+074002 0    0  | 1234  0     1111   0     0     0     | 2000   0      2002  0      | 17 | 1234   0     325    0     0     0     | 0      0      | 1022 1  ; XOR R0,R2
+070127 10   0  | 0     400   0      0     0     0     | 2000   0      2002  0      | 16 | 0      4000  0      0     0     0     | 0      0      | 1024 0  ; MUL #10,R1
+071027 2    0  | 0     20001 0      0     0     0     | 2000   0      2002  0      | 17 | 10000  1     0      0     0     0     | 0      0      | 1024 0  ; DIV #2,R0
+072300 0    0  | 3     0     0      1234  0     0     | 2000   0      2002  0      | 0  | 3      0     0      12340 0     0     | 0      0      | 1022 0  ; ASH R0,R3";
+
 // The octal numbers of a row, up to its name.
 fn numbers(row: &str, out: &mut Vec<u16>) -> Result<(), AllocError> {
     let mut number: u16 = 0;
@@ -194,6 +235,40 @@ fn instructions_do_what_their_pages_say(rt: HostRuntime) -> Result<(), Fail> {
         rows = rows.wrapping_add(1);
     }
     assert_eq!(rt; rows, 136);
+    Ok(())
+}
+
+#[test]
+fn examples_of_the_handbook_come_out(rt: HostRuntime) -> Result<(), Fail> {
+    let mut memory = Whole::new(rt.alloc())?;
+    memory.set_sizes(0, 520, 20);
+    let mut rows: u32 = 0;
+    let mut n: Vec<u16> = Vec::new(rt.alloc());
+    for row in EXAMPLES.lines() {
+        n.clear();
+        numbers(row, &mut n)?;
+        assert_eq!(rt; n.len(), 24, "{row}");
+        for (at, word) in [
+            (0o1020, n[0]),
+            (0o1022, n[1]),
+            (0o1024, n[2]),
+            (n[9], n[10]),
+            (n[11], n[12]),
+        ] {
+            assert_eq!(rt; memory.store_word(at, word), Ok(()), "{row}");
+        }
+        assert!(rt; n[13] < 16);
+        let r = [n[3], n[4], n[5], n[6], n[7], n[8], 0o177600, 0o1020];
+        let mut regs = Regs { r, cc: n[13] as u8 };
+        assert_eq!(rt; step(&mut regs, &mut memory), Outcome::Next, "{row}");
+        let wanted = [n[14], n[15], n[16], n[17], n[18], n[19], 0o177600, n[22]];
+        assert_eq!(rt; regs.r, wanted, "{row}");
+        assert_eq!(rt; memory.load_word(n[9]), Ok(n[20]), "{row}");
+        assert_eq!(rt; memory.load_word(n[11]), Ok(n[21]), "{row}");
+        assert_eq!(rt; regs.cc as u16, n[23], "{row}");
+        rows = rows.wrapping_add(1);
+    }
+    assert_eq!(rt; rows, 35);
     Ok(())
 }
 

@@ -1,0 +1,99 @@
+#!/usr/bin/env python3
+"""Counts the machine instructions that one instruction of a hosted program takes, its whole turn included.
+
+    bench/instructions.py crates/v6/out/v6
+
+It needs valgrind. For each loop below a disk is made from examples/hi/image, whose /etc/init becomes the loop. The program
+runs it for a number of slots and for twice that number under callgrind, whose counts are the same at each run; printed is
+the difference of the two counts, divided by the number. In a line of the second kind the instruction stands as often as
+fits before a branch back, so that the branch hardly counts.
+"""
+import os
+import re
+import struct
+import subprocess
+import sys
+import tempfile
+
+TOP = os.path.dirname(os.path.dirname(os.path.abspath(__file__)))
+# /etc/init on that disk: where its inode and its one block stand
+INODE, BLOCK = 1216, 66 * 512
+ROOM = 100
+
+# MOV #144,R0; then over and over: MOV @#60,R1; ADD R1,@#62; CMP R1,R0; BNE
+MEMORY_LOOP = [0o012700, 0o144, 0o013701, 0o60, 0o060137, 0o62, 0o020100, 0o001372]
+
+LOOPS = [
+    ("BR .", [0o000777]),
+    ("JSR PC,@#10; RTS PC; BR", [0o004737, 0o10, 0o000775, 0, 0o000207]),
+    ("SOB R0,.", [0o077001, 0o000777]),
+]
+
+ONES = [
+    ("MOV R1,R2", [0o010102]),
+    ("CMP R1,R2", [0o020102]),
+    ("ADD R1,R2", [0o060102]),
+    ("BIC R1,R2", [0o040102]),
+    ("XOR R1,R2", [0o074102]),
+    ("CLR R1", [0o005001]),
+    ("TST R1", [0o005701]),
+    ("INC R1", [0o005201]),
+    ("DEC R1", [0o005301]),
+    ("NEG R1", [0o005401]),
+    ("ASL R1", [0o006301]),
+    ("ROR R1", [0o006001]),
+    ("SWAB R1", [0o000301]),
+    ("MOVB R1,R2", [0o110102]),
+    ("INCB R1", [0o105201]),
+    ("MOV #5,R1", [0o012701, 5]),
+    ("MOV @#700,R1", [0o013701, 0o700]),
+    ("MOV R1,@#700", [0o010137, 0o700]),
+    ("MOV -2(SP),R1", [0o016601, 0o177776]),
+    ("TST @#700", [0o005737, 0o700]),
+    ("INC @#700", [0o005237, 0o700]),
+    ("MUL #3,R2", [0o070227, 3]),
+    ("DIV #3,R2", [0o071227, 3]),
+    ("ASH #3,R1", [0o072127, 3]),
+    ("ASHC #3,R0", [0o073027, 3]),
+]
+
+
+def repeated(words):
+    body = words * ((ROOM - 1) // len(words))
+    return body + [0o000400 | -(len(body) + 1) & 0o377]
+
+
+def disk_of(words):
+    with open(f"{TOP}/examples/hi/image", "rb") as file:
+        image = bytearray(file.read())
+    text = struct.pack(f"<{len(words)}H", *words).ljust(0o710, b"\0")
+    init = struct.pack("<8H", 0o407, len(text), 0, 0, 0, 0, 0, 0) + text
+    image[BLOCK : BLOCK + 512] = init.ljust(512, b"\0")
+    image[INODE + 6 : INODE + 8] = struct.pack("<H", len(init))
+    return image
+
+
+def count(program, slots, folder):
+    with open(f"{folder}/script", "w") as file:
+        file.write(f"run {slots}\n")
+    words = ["valgrind", "--tool=callgrind", "--callgrind-out-file=/dev/null", program]
+    words += ["run", "image", "100", "script", "term", "log", "final"]
+    ran = subprocess.run(words, cwd=folder, stderr=subprocess.PIPE, text=True, check=True)
+    return int(re.search(r"Collected : (\d+)", ran.stderr)[1])
+
+
+def cost(program, words, slots):
+    with tempfile.TemporaryDirectory() as folder:
+        with open(f"{folder}/image", "wb") as file:
+            file.write(disk_of(words))
+        return (count(program, 2 * slots, folder) - count(program, slots, folder)) / slots
+
+
+def main():
+    program = os.path.abspath(sys.argv[1])
+    print(f"{cost(program, MEMORY_LOOP, 1_000_000):6.1f}  MOV @#60,R1; ADD R1,@#62; CMP R1,R0; BNE", flush=True)
+    for name, words in LOOPS + [(name, repeated(words)) for name, words in ONES]:
+        print(f"{cost(program, words, 100_000):6.1f}  {name}", flush=True)
+
+
+main()
