@@ -1,4 +1,4 @@
-//! One instruction, on a copy of the registers; its one store is the last that can fail.
+//! One instruction. The registers as they were are kept, for where it isn't done; its one store is the last that can fail.
 ghost use Rattle.std.specs.Prelude.{◌≡◌, ℕ};
 ghost use Rattle.pdp_step.specs.Registers.{passed};
 ghost use Rattle.pdp_decode.specs.Decode.{decode_of};
@@ -52,21 +52,23 @@ pub fn step<S: Space>(regs: &mut Regs, space: &mut S) -> Outcome
     ensures past { IsPast result → (regs.new.r ≡ passed regs.old.r) × (regs.new.cc ≡ regs.old.cc) × (S.image space.new ≡ S.image space.old) }
     ensures form { KeepsForm (S.image space.old) (S.image space.new) }
 {
-    let mut after = *regs;
-    match attempt(space, &mut after) {
-        Ok(()) => {
-            *regs = after;
-            Outcome::Next
-        }
+    let before = *regs;
+    match attempt(space, regs) {
+        Ok(()) => Outcome::Next,
         Err(Halt::HaltPast(demand)) => {
+            *regs = before;
             pass(&mut regs.r);
             demanded(demand)
         }
-        Err(Halt::HaltStill(trap)) => stopped(trap, held(&after.r, Reg::Sp)),
+        Err(Halt::HaltStill(trap)) => {
+            let sp = held(&regs.r, Reg::Sp);
+            *regs = before;
+            stopped(trap, sp)
+        }
     }
 }
 
-// An instruction on registers that are a copy. Where it isn't done, the copy is as it was by then.
+// An instruction. Where it isn't done, the registers are as they were by then, and no byte has changed.
 #[inline(always)]
 #[tactic(auto, unfolding(crate::specs::Instruction::plan_of, crate::specs::Operands::word_at))]
 fn attempt<S: Space>(space: &mut S, regs: &mut Regs) -> Result<(), Halt>
