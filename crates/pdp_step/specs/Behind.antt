@@ -1,7 +1,10 @@
 -- What a function answers, joined with the registers and codes that it leaves behind its `&mut`.
 use Rattle.std.specs.Prelude.{ℕ, List, Result, Ok, Err}
 use Rattle.v6_base.specs.declared.space.Trap.{Trap}
+use Rattle.v6_base.specs.declared.space.Trap.TheVariants.{Odd, Segment}
 use Rattle.v6_base.specs.Image.{Image}
+use Rattle.pdp_step.specs.declared.operands.Reached.{Reached}
+use Rattle.pdp_step.specs.declared.operands.Reached.TheVariants.{At, NotEven, NotThere}
 use Rattle.pdp_step.specs.declared.operands.Spot.{Spot}
 use Rattle.pdp_step.specs.declared.operands.Spot.TheVariants.{InMemory}
 use Rattle.pdp_step.specs.declared.operands.Found.{Found}
@@ -18,6 +21,11 @@ formed_by (Err trap) r = Err (stop_of trap r)
 abbrev pub address_by : Result ℕ Trap → List ℕ → Result Formed Stop
 address_by (Ok at) r = Ok (record { spot = InMemory at; r = r })
 address_by (Err trap) r = Err (stop_of trap r)
+
+abbrev pub reached_by : Reached → List ℕ → Result Formed Stop
+reached_by (At at) r = Ok (record { spot = InMemory at; r = r })
+reached_by NotEven r = Err (stop_of Odd r)
+reached_by NotThere r = Err (stop_of Segment r)
 
 abbrev pub fetched_by : Result Found Trap → List ℕ → Result Fetched Stop
 fetched_by (Ok found) r = Ok (record { spot = found.spot; value = found.value; r = r })

@@ -6,7 +6,7 @@ ghost use Rattle.v6_base.specs.Access.{then_do};
 ghost use Rattle.pdp_step.specs.Registers.{plus, reg_in, passed};
 ghost use Rattle.pdp_step.specs.Operands.{word_at, at_memory, step_size, formed, formed_at, value_at, fetched};
 ghost use Rattle.pdp_step.specs.Arithmetic.{size};
-ghost use Rattle.pdp_step.specs.Behind.{formed_by, address_by, fetched_by};
+ghost use Rattle.pdp_step.specs.Behind.{formed_by, address_by, reached_by, fetched_by};
 
 use crate::regs::{Bank, held, hold, pass};
 use pdp_decode::{Mode, Operand, Reg, Width};
@@ -17,6 +17,14 @@ use v6_base::{Space, Trap};
 pub enum Spot {
     InRegister(Reg),
     InMemory(u16),
+}
+
+/// The address of an operand, or why it can't be formed, as it is answered in registers.
+#[derive(Clone, Copy, Debug, PartialEq, Eq)]
+enum Reached {
+    At(u16),
+    NotEven,
+    NotThere,
 }
 
 /// An operand that was formed and read.
@@ -34,14 +42,36 @@ pub fn form<S: Space>(space: &S, r: &mut Bank, width: Width, operand: Operand) -
 {
     match operand.mode {
         Mode::Register => Ok(Spot::InRegister(operand.reg)),
-        _ => Ok(Spot::InMemory(address(space, r, width, operand)?)),
+        _ => match address(space, r, width, operand) {
+            Reached::At(at) => Ok(Spot::InMemory(at)),
+            Reached::NotEven => Err(Trap::Odd),
+            Reached::NotThere => Err(Trap::Segment),
+        },
+    }
+}
+
+// The address of an operand in memory, formed out of line.
+#[inline(never)]
+fn address<S: Space>(space: &S, r: &mut Bank, width: Width, operand: Operand) -> Reached
+    requires { operand.mode ≢ Mode.Register }
+    ensures { reached_by result r.new ≡ formed (S.image space.now) r.old width operand.mode operand.reg }
+{
+    match find_address(space, r, width, operand) {
+        Ok(at) => Reached::At(at),
+        Err(Trap::Odd) => Reached::NotEven,
+        Err(Trap::Segment) => Reached::NotThere,
     }
 }
 
 // The address of an operand in memory.
-#[inline(never)]
+#[inline(always)]
 #[tactic(auto, unfolding(crate::specs::Operands::formed, crate::specs::Operands::word_at))]
-fn address<S: Space>(space: &S, r: &mut Bank, width: Width, operand: Operand) -> Result<u16, Trap>
+fn find_address<S: Space>(
+    space: &S,
+    r: &mut Bank,
+    width: Width,
+    operand: Operand,
+) -> Result<u16, Trap>
     requires { operand.mode ≢ Mode.Register }
     ensures { address_by result r.new ≡ formed (S.image space.now) r.old width operand.mode operand.reg }
 {
