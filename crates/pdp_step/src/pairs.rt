@@ -42,6 +42,7 @@ fn hold_pair(r: &mut Bank, n: Reg, high: u16, low: u16)
     hold(r, odd(n), low);
 }
 
+/// MUL.
 #[inline(never)]
 #[tactic(auto, unfolding(crate::specs::Rows::multiplied, crate::specs::Instruction::finish_of, crate::specs::Instruction::stored))]
 pub fn multiply<S: Space>(space: &S, regs: &mut Regs, n: Reg, s: Operand) -> Result<(), Trap>
@@ -72,6 +73,7 @@ fn division(regs: &mut Regs, n: Reg, s: u16)
     regs.cc = pack(q >= 0o100000, q == 0, false, false);
 }
 
+/// DIV.
 #[inline(never)]
 #[tactic(auto, unfolding(crate::specs::Rows::divided, crate::specs::Instruction::finish_of, crate::specs::Instruction::stored))]
 pub fn divide<S: Space>(space: &S, regs: &mut Regs, n: Reg, s: Operand) -> Result<(), Trap>
@@ -82,6 +84,7 @@ pub fn divide<S: Space>(space: &S, regs: &mut Regs, n: Reg, s: Operand) -> Resul
     Ok(())
 }
 
+/// ASH.
 #[inline(never)]
 #[tactic(auto, unfolding(crate::specs::Rows::shifted_reg, crate::specs::Instruction::finish_of, crate::specs::Instruction::stored))]
 pub fn shift_reg<S: Space>(space: &S, regs: &mut Regs, n: Reg, s: Operand) -> Result<(), Trap>
@@ -94,6 +97,7 @@ pub fn shift_reg<S: Space>(space: &S, regs: &mut Regs, n: Reg, s: Operand) -> Re
     Ok(())
 }
 
+/// ASHC.
 #[inline(never)]
 #[tactic(auto, unfolding(crate::specs::Rows::shifted_pair, crate::specs::Instruction::finish_of, crate::specs::Instruction::stored))]
 pub fn shift_pair<S: Space>(space: &S, regs: &mut Regs, n: Reg, s: Operand) -> Result<(), Trap>

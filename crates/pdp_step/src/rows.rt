@@ -1,4 +1,4 @@
-//! The rows of the instructions: operands, result, and what is left to store.
+//! The rows of the instructions: each forms and reads its operands, makes its result, and stores it last.
 ghost use Rattle.std.specs.Prelude.{◌≡◌, ◌<◌, ℕ, if◌then◌else◌, false};
 ghost use Rattle.pdp_decode.specs.declared.instr.Mode.{Mode};
 ghost use Rattle.pdp_decode.specs.Numbers.{flag_bits};
@@ -93,6 +93,7 @@ fn put_moved<S: Space>(
     }
 }
 
+/// MOV and MOVB.
 #[inline(always)]
 #[tactic(auto, unfolding(crate::specs::Rows::moved))]
 pub fn move_to<S: Space>(
@@ -111,6 +112,7 @@ pub fn move_to<S: Space>(
     put_moved(space, regs, w, spot, made)
 }
 
+/// CMP and BIT.
 #[inline(always)]
 #[tactic(auto, unfolding(crate::specs::Rows::compared, crate::specs::Instruction::finish_of, crate::specs::Instruction::stored))]
 pub fn compare<S: Space>(
@@ -130,6 +132,7 @@ pub fn compare<S: Space>(
     Ok(())
 }
 
+/// BIC, BIS, ADD and SUB.
 #[inline(always)]
 #[tactic(auto, unfolding(crate::specs::Rows::joined))]
 pub fn join<S: Space>(
@@ -149,6 +152,7 @@ pub fn join<S: Space>(
     put(space, regs, w, dest.spot, made)
 }
 
+/// XOR.
 #[inline(never)]
 #[tactic(auto, unfolding(crate::specs::Rows::joined_reg))]
 pub fn join_reg<S: Space>(
@@ -184,6 +188,7 @@ fn modify_operand<S: Space>(
     put(space, regs, w, dest.spot, made)
 }
 
+/// A row that changes its one operand. It is built apart for registers and for memory, and for each width.
 #[inline(never)]
 pub fn modify<S: Space>(
     space: &mut S,
@@ -207,7 +212,7 @@ pub fn modify<S: Space>(
     }
 }
 
-// An operand that is a register, so that a row's path over registers is built apart.
+// An operand that is known to be a register.
 #[inline(always)]
 fn in_register(reg: Reg) -> Operand
     ensures { result ≡ record { mode = Mode.Register; reg = reg } }
@@ -218,6 +223,7 @@ fn in_register(reg: Reg) -> Operand
     }
 }
 
+/// SWAB.
 #[inline(never)]
 #[tactic(auto, unfolding(crate::specs::Rows::exchanged))]
 pub fn exchange<S: Space>(space: &mut S, regs: &mut Regs, d: Operand) -> Result<(), Trap>
@@ -257,6 +263,7 @@ fn test_operand<S: Space>(space: &S, regs: &mut Regs, w: Width, d: Operand) -> R
     Ok(())
 }
 
+/// TST, built apart as `modify` is.
 #[inline(never)]
 pub fn test<S: Space>(space: &S, regs: &mut Regs, w: Width, d: Operand) -> Result<(), Trap>
     ensures { stored_by result regs.new.r regs.new.cc (S.image space.now) ≡ finished (S.image space.now) (go (tested (S.image space.now) regs.old.r w d)) }
@@ -273,6 +280,7 @@ pub fn test<S: Space>(space: &S, regs: &mut Regs, w: Width, d: Operand) -> Resul
     }
 }
 
+/// CLR, built apart for each width.
 #[inline(never)]
 pub fn clear<S: Space>(space: &mut S, regs: &mut Regs, w: Width, d: Operand) -> Result<(), Trap>
     ensures row { stored_by result regs.new.r regs.new.cc (S.image space.new) ≡ finished (S.image space.old) (go (written (S.image space.old) regs.old.r w d (result_of w 0 false false))) }
@@ -284,6 +292,7 @@ pub fn clear<S: Space>(space: &mut S, regs: &mut Regs, w: Width, d: Operand) -> 
     }
 }
 
+/// SXT.
 #[inline(never)]
 pub fn extend_sign<S: Space>(space: &mut S, regs: &mut Regs, d: Operand) -> Result<(), Trap>
     ensures row { stored_by result regs.new.r regs.new.cc (S.image space.new) ≡ finished (S.image space.old) (go (written (S.image space.old) regs.old.r Width.Word d (sign_made regs.old.cc))) }
@@ -306,6 +315,7 @@ fn sign(cc: u8) -> Made
     }
 }
 
+/// SOB.
 #[inline(always)]
 #[tactic(auto, unfolding(crate::specs::Rows::counted))]
 pub fn count(regs: &mut Regs, n: Reg, words: u8)
@@ -330,6 +340,7 @@ fn distance(offset: u8) -> u16
     }
 }
 
+/// The branches.
 #[inline(always)]
 #[tactic(auto, unfolding(crate::specs::Rows::branched))]
 pub fn branch(regs: &mut Regs, test: Condition, offset: u8)
@@ -352,6 +363,7 @@ fn place(spot: Spot) -> u16
     }
 }
 
+/// JMP.
 #[inline(never)]
 #[tactic(auto, unfolding(crate::specs::Rows::jumped, crate::specs::Instruction::finish_of, crate::specs::Instruction::stored))]
 pub fn jump<S: Space>(space: &S, regs: &mut Regs, d: Operand) -> Result<(), Trap>
@@ -362,6 +374,7 @@ pub fn jump<S: Space>(space: &S, regs: &mut Regs, d: Operand) -> Result<(), Trap
     Ok(())
 }
 
+/// JSR.
 #[inline(never)]
 #[tactic(auto, unfolding(crate::specs::Rows::called, crate::specs::Instruction::finish_of, crate::specs::Instruction::stored))]
 pub fn call<S: Space>(space: &mut S, regs: &mut Regs, link: Reg, d: Operand) -> Result<(), Trap>
@@ -390,6 +403,7 @@ fn pop<S: Space>(space: &S, r: &mut Bank) -> Result<u16, Trap>
     space.load_word(at)
 }
 
+/// RTS.
 #[inline(never)]
 #[tactic(auto, unfolding(crate::specs::Rows::returned, crate::specs::Instruction::finish_of, crate::specs::Instruction::stored))]
 pub fn return_by<S: Space>(space: &S, regs: &mut Regs, link: Reg) -> Result<(), Trap>
@@ -402,6 +416,7 @@ pub fn return_by<S: Space>(space: &S, regs: &mut Regs, link: Reg) -> Result<(), 
     Ok(())
 }
 
+/// MARK.
 #[inline(never)]
 #[tactic(auto, unfolding(crate::specs::Rows::marked, crate::specs::Instruction::finish_of, crate::specs::Instruction::stored))]
 pub fn mark<S: Space>(space: &S, regs: &mut Regs, words: u8) -> Result<(), Trap>
@@ -416,6 +431,7 @@ pub fn mark<S: Space>(space: &S, regs: &mut Regs, words: u8) -> Result<(), Trap>
     Ok(())
 }
 
+/// RTI and RTT.
 #[inline(never)]
 #[tactic(auto, unfolding(crate::specs::Rows::resumed, crate::specs::Instruction::finish_of, crate::specs::Instruction::stored))]
 pub fn resume<S: Space>(space: &S, regs: &mut Regs) -> Result<(), Trap>
@@ -428,6 +444,7 @@ pub fn resume<S: Space>(space: &S, regs: &mut Regs) -> Result<(), Trap>
     Ok(())
 }
 
+/// The instructions that set and clear codes.
 #[inline(never)]
 pub fn set_codes(regs: &mut Regs, set: bool, names: Flags)
     ensures { keep_of regs.new.r regs.new.cc ≡ keep_of regs.old.r (flag_bits (named_codes set names (codes_in regs.old.cc))) }
