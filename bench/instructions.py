@@ -90,6 +90,8 @@ def cost(program, words, slots):
 
 
 def main():
+    if len(sys.argv) != 2 or not os.access(sys.argv[1], os.X_OK):
+        sys.exit(__doc__)
     program = os.path.abspath(sys.argv[1])
     print(f"{cost(program, MEMORY_LOOP, 1_000_000):6.1f}  MOV @#60,R1; ADD R1,@#62; CMP R1,R0; BNE", flush=True)
     for name, words in LOOPS + [(name, repeated(words)) for name, words in ONES]:
