@@ -1,4 +1,5 @@
--- The instruction that a word is, by its octal digits from the left. That it is the only one is a clause of `decode`.
+-- The instruction that a word is, by its octal digits from the left: the table of `Table` as a function. That it agrees with
+-- that table, both ways, are clauses of `decode`.
 use Rattle.std.specs.Prelude.{ℕ, ◌/◌, ◌%◌, ◌==◌, nat_lt, if◌then◌else◌}
 use Rattle.pdp_decode.specs.declared.instr.Width.{Width}
 use Rattle.pdp_decode.specs.declared.instr.Width.TheVariants.{Word, Byte}

@@ -1,5 +1,5 @@
 -- The numbers that stand in instruction words for modes, registers, operands, branches and condition codes.
--- PDP-11/40 Processor Handbook, chapter 3 and section 4.
+-- PDP-11/40 Processor Handbook, chapters 3 and 4.
 use Rattle.std.specs.Prelude.{ℕ, ◌+◌, ◌*◌, Bool, true, false}
 use Rattle.pdp_decode.specs.declared.instr.Width.{Width}
 use Rattle.pdp_decode.specs.declared.instr.Width.TheVariants.{Word, Byte}

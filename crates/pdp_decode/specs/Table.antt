@@ -1,5 +1,6 @@
--- Which words an instruction has, in octal, a line a row, as in the numerical list of the PDP-11/40 Processor Handbook.
--- Illegal here, in user mode and without the options: HALT, MFPI, MTPI, floating point, and what the handbook leaves unused.
+-- Which words an instruction has, in octal, a line a row, in the order of docs/manual/instructions.md: PDP-11/40 Processor
+-- Handbook, chapter 4. Illegal here, in user mode: HALT, JMP and JSR to a register, MFPI, MTPI, both floating-point options,
+-- and what the handbook leaves unused.
 use Rattle.std.specs.Prelude.{◌≡◌, ◌≢◌, ℕ, ◌+◌, ◌*◌, ◌%◌, ◌<◌, ◌≤◌, ◌⊎◌}
 use Rattle.pdp_decode.specs.declared.instr.Mode.TheVariants.{Register}
 use Rattle.pdp_decode.specs.declared.instr.SoftTrap.TheVariants.{Bpt, Iot}

@@ -115,3 +115,31 @@ fn each_word_is_what_its_range_says(rt: HostRuntime) -> Result<(), Fail> {
     assert_eq!(rt; first, 65536);
     Ok(())
 }
+
+#[test]
+fn operands_and_numbers_are_read_from_their_digits(rt: HostRuntime) -> Result<(), Fail> {
+    // MOV (R1)+,@-(R4); CMPB 2(SP),R3; MUL @R5,R2; SOB R1, seven words back; BEQ, two words back; SEC and SEV; TRAP 177
+    let wanted = [
+        (
+            0o012154,
+            "Mov(Word, Operand { mode: Increment, reg: R1 }, Operand { mode: DecrementDeferred, reg: R4 })",
+        ),
+        (
+            0o126603,
+            "Cmp(Byte, Operand { mode: Index, reg: Sp }, Operand { mode: Register, reg: R3 })",
+        ),
+        (0o070215, "Mul(R2, Operand { mode: Deferred, reg: R5 })"),
+        (0o077107, "Sob(R1, 7)"),
+        (0o001776, "Branch(Equal, 254)"),
+        (
+            0o000263,
+            "Codes(true, Flags { n: false, z: false, v: true, c: true })",
+        ),
+        (0o104577, "Sys(63)"),
+    ];
+    for (word, instruction) in wanted {
+        let shown = format!(in rt.alloc(); "{:?}", decode(word))?;
+        assert_eq!(rt; shown.as_str(), instruction, "{word}");
+    }
+    Ok(())
+}

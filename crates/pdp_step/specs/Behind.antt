@@ -1,4 +1,5 @@
--- What a function answers, joined with the registers and codes that it leaves behind its `&mut`.
+-- For contracts inside the crate alone: what a function answers, joined with the registers and codes that it leaves behind
+-- its `&mut`.
 use Rattle.std.specs.Prelude.{ℕ, List, Result, Ok, Err}
 use Rattle.v6_base.specs.declared.space.Trap.{Trap}
 use Rattle.v6_base.specs.declared.space.Trap.TheVariants.{Odd, Segment}
@@ -11,6 +12,7 @@ use Rattle.pdp_step.specs.declared.operands.Found.{Found}
 use Rattle.pdp_step.specs.declared.stepping.Halt.{Halt}
 use Rattle.pdp_step.specs.declared.stepping.Halt.TheVariants.{HaltStill, HaltPast}
 use Rattle.pdp_step.specs.Operands.{Stop, stop_of, Formed, Fetched}
+use Rattle.pdp_step.specs.Outcomes.{AsksNumbered}
 use Rattle.pdp_step.specs.Rows.{Popped}
 use Rattle.pdp_step.specs.Instruction.{Finished, Done, Passed, Stopped}
 
@@ -38,6 +40,12 @@ popped_by (Err trap) r = Err (stop_of trap r)
 abbrev pub stored_by : Result (Unit {0}) Trap → List ℕ → ℕ → Image → Finished
 stored_by (Ok done) r cc m = Done r cc m
 stored_by (Err trap) r cc m = Stopped (stop_of trap r) m
+
+-- an instruction that asks for a call has a number below 64
+abbrev pub HaltsNumbered : Result (Unit {0}) Halt → Type 0
+HaltsNumbered (Ok done) = Unit {0}
+HaltsNumbered (Err (HaltPast demand)) = AsksNumbered demand
+HaltsNumbered (Err (HaltStill trap)) = Unit {0}
 
 abbrev pub finished_by : Result (Unit {0}) Halt → List ℕ → ℕ → Image → Finished
 finished_by (Ok done) r cc m = Done r cc m

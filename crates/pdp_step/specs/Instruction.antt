@@ -33,7 +33,7 @@ abbrev pub go : Result Effect Stop → Planned
 go (Ok e) = Go e
 go (Err stop) = Still stop
 
--- the table, in the order of the handbook's list; r has PC behind the word
+-- the table, in the order of docs/manual/instructions.md; r has PC behind the word
 unfoldable pub row_of : Image → ℕ → Instr → List ℕ → ℕ → Planned
 row_of m word (Mov w s d) r cc = go (moved m r cc w s d)
 row_of m word (Cmp w s d) r cc = go (compared m r cc w s d Compare)
@@ -89,7 +89,7 @@ stored m (ByteAt a b) = store_byte m a b
 stored m (WordAt a w) = store_word m a w
 stored m (PushAt a w) = store_word m a w
 
--- R6 as it stands at the store: a push is made at R6, also where R6 is then the link
+-- R6 at the store: a push stores at the lowered R6, where the registers may already hold JSR's new link in R6
 abbrev pub sp_at : List ℕ → Store → ℕ
 sp_at r NoStore = reg_in r Sp
 sp_at r (ByteAt a b) = reg_in r Sp

@@ -1,4 +1,5 @@
 -- The answers of one instruction: those that leave everything as it was, and those that only pass the word.
+use Rattle.std.specs.Prelude.{◌<◌}
 use Rattle.pdp_step.specs.declared.outcome.Demand.{Demand}
 use Rattle.pdp_step.specs.declared.outcome.Demand.TheVariants.{System, Unknown, Breakpoint, InputOutput, Emulator}
 use Rattle.pdp_step.specs.declared.outcome.Kind.TheVariants.{Odd, Segment, Illegal, Bpt, Iot, Emt}
@@ -16,6 +17,19 @@ demand_outcome (Unknown word) = Fault (Illegal word)
 demand_outcome Breakpoint = Fault Bpt
 demand_outcome InputOutput = Fault Iot
 demand_outcome Emulator = Fault Emt
+
+-- a call has a number below 64
+abbrev pub AsksNumbered : Demand → Type 0
+AsksNumbered (System n) = n < 64
+AsksNumbered (Unknown word) = Unit {0}
+AsksNumbered Breakpoint = Unit {0}
+AsksNumbered InputOutput = Unit {0}
+AsksNumbered Emulator = Unit {0}
+
+abbrev pub IsNumbered : Outcome → Type 0
+IsNumbered Next = Unit {0}
+IsNumbered (Call n) = n < 64
+IsNumbered (Fault kind) = Unit {0}
 
 -- an odd or a segmentation fault
 abbrev pub IsStill : Outcome → Type 0

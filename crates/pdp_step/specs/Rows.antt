@@ -136,7 +136,7 @@ with_pair r n high low = with_reg (with_reg r n high) (odd_of n) low
 abbrev pub pair_in : List ℕ → Reg → ℕ
 pair_in r n = 65536 * reg_in r n + reg_in r (odd_of n)
 
--- MUL
+-- MUL: the codes go by the 32 bits, also where an odd register takes the low word alone
 unfoldable pub multiplied : Image → List ℕ → Reg → Operand → Result Effect Stop
 multiplied m r n s =
     then_do (fetched m r Word s) (λ src.
@@ -165,7 +165,7 @@ shifted_reg m r n s =
     let x = shift_of 0o100000 src.value (reg_in src.r n) in
     Ok (keep_of (with_reg src.r n x.value) (flag_bits (shift_codes 0o100000 x))))
 
--- ASHC
+-- ASHC: the codes go by the 32 bits, also where an odd register takes the low word alone
 unfoldable pub shifted_pair : Image → List ℕ → Reg → Operand → Result Effect Stop
 shifted_pair m r n s =
     then_do (fetched m r Word s) (λ src.

@@ -43,7 +43,7 @@ pub enum Combine {
 
 // The sign bit of a width.
 #[inline(always)]
-pub fn top(width: Width) -> u32
+fn top(width: Width) -> u32
     ensures value { result ≡ half width }
     ensures range { (128 ≤ result) × (result ≤ 32768) }
 {

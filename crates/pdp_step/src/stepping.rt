@@ -3,9 +3,9 @@ ghost use Rattle.std.specs.Prelude.{◌≡◌, ℕ};
 ghost use Rattle.pdp_step.specs.Registers.{passed};
 ghost use Rattle.pdp_decode.specs.Decode.{decode_of};
 ghost use Rattle.pdp_step.specs.Operands.{stop_with};
-ghost use Rattle.pdp_step.specs.Outcomes.{stop_outcome, demand_outcome, IsStill, IsPast};
+ghost use Rattle.pdp_step.specs.Outcomes.{stop_outcome, demand_outcome, IsStill, IsPast, AsksNumbered, IsNumbered};
 ghost use Rattle.pdp_step.specs.Instruction.{row_of, plan_of, finished, stepped, instr};
-ghost use Rattle.pdp_step.specs.Behind.{finished_by};
+ghost use Rattle.pdp_step.specs.Behind.{finished_by, HaltsNumbered};
 ghost use Rattle.pdp_step.specs.Form.{KeepsForm};
 
 use crate::arithmetic::{Change, Combine};
@@ -42,7 +42,7 @@ impl From<Trap> for Halt {
 
 /// One instruction: the word at PC is fetched, PC passes it, and what its row says is done. After a fault it was not done:
 /// `Odd` and `Segment` leave everything as it was, the other faults and a call have moved PC behind the word alone. The
-/// text and the sizes of the data and of the stack stay in any case.
+/// text and the sizes of the data and of the stack stay in any case, and a call's number is below 64.
 #[inline(always)]
 #[tactic(auto, unfolding(crate::specs::Instruction::instr))]
 pub fn step<S: Space>(regs: &mut Regs, space: &mut S) -> Outcome
@@ -51,6 +51,7 @@ pub fn step<S: Space>(regs: &mut Regs, space: &mut S) -> Outcome
     ensures still { IsStill result → (regs.new.r ≡ regs.old.r) × (regs.new.cc ≡ regs.old.cc) × (S.image space.new ≡ S.image space.old) }
     ensures past { IsPast result → (regs.new.r ≡ passed regs.old.r) × (regs.new.cc ≡ regs.old.cc) × (S.image space.new ≡ S.image space.old) }
     ensures form { KeepsForm (S.image space.old) (S.image space.new) }
+    ensures number { IsNumbered result }
 {
     let before = *regs;
     match attempt(space, regs) {
@@ -73,6 +74,7 @@ pub fn step<S: Space>(regs: &mut Regs, space: &mut S) -> Outcome
 #[tactic(auto, unfolding(crate::specs::Instruction::plan_of, crate::specs::Operands::word_at))]
 fn attempt<S: Space>(space: &mut S, regs: &mut Regs) -> Result<(), Halt>
     ensures attempt { finished_by result regs.new.r regs.new.cc (S.image space.new) ≡ finished (S.image space.old) (plan_of (S.image space.old) regs.old.r regs.old.cc) }
+    ensures number { HaltsNumbered result }
     ensures rest { S.rest space.new ≡ S.rest space.old }
 {
     let word = space.load_word(held(&regs.r, Reg::Pc))?;
@@ -80,11 +82,12 @@ fn attempt<S: Space>(space: &mut S, regs: &mut Regs) -> Result<(), Halt>
     perform(space, word, regs)
 }
 
-// The table of instructions.
+// The table of instructions. Where a row has a line for each width, it is built for each: docs/speed.md.
 #[inline(always)]
 #[tactic(auto, unfolding(crate::specs::Instruction::row_of, crate::specs::Instruction::finish_of, crate::specs::Instruction::stored))]
 fn perform<S: Space>(space: &mut S, word: u16, regs: &mut Regs) -> Result<(), Halt>
     ensures row { finished_by result regs.new.r regs.new.cc (S.image space.new) ≡ finished (S.image space.old) (row_of (S.image space.old) word (decode_of word) regs.old.r regs.old.cc) }
+    ensures number { HaltsNumbered result }
     ensures rest { S.rest space.new ≡ S.rest space.old }
 {
     match decode(word) {
@@ -141,6 +144,7 @@ fn perform<S: Space>(space: &mut S, word: u16, regs: &mut Regs) -> Result<(), Ha
 fn stopped(trap: Trap, sp: u16) -> Outcome
     ensures outcome { result ≡ stop_outcome (stop_with trap sp) }
     ensures not_past { IsPast result → ⊥ }
+    ensures number { IsNumbered result }
 {
     match trap {
         Trap::Odd => Outcome::Fault(Kind::Odd),
@@ -152,6 +156,7 @@ fn stopped(trap: Trap, sp: u16) -> Outcome
 fn demanded(demand: Demand) -> Outcome
     ensures outcome { result ≡ demand_outcome demand }
     ensures not_still { IsStill result → ⊥ }
+    ensures number { AsksNumbered demand → IsNumbered result }
 {
     match demand {
         Demand::System(n) => Outcome::Call(n),

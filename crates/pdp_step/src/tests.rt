@@ -1,5 +1,5 @@
 //! Instructions against the handbook: rows after its examples, rows for each instruction and each addressing mode, and faults.
-//! What a row must come to was worked by hand from the rules of the instruction's page, from the row's left side alone.
+//! What a row of ROWS must come to was worked by hand from the rules of the instruction's page and the row's left side alone.
 use crate::{Kind, Outcome, Regs, step};
 use std::alloc::AllocError;
 use std::test::Fail;
@@ -120,6 +120,7 @@ const ROWS: &str = "\
 000205 0      | 0      0      1000   40     123456 0  | 0      0      123456 42     123456 1000   0  ; RTS
 006417 0      | 0      0      1000   177600 123456 0  | 0      0      123456 42     123456 1000   0  ; MARK
 000002 0      | 0      0      0      36     177765 0  | 0      0      0      42     177765 0      5  ; RTI
+000006 0      | 0      0      0      36     177765 0  | 0      0      0      42     177765 0      5  ; RTT
 000277 0      | 0      0      0      177600 0      0  | 0      0      0      177600 0      2      17 ; SCC
 000242 0      | 0      0      0      177600 0      17 | 0      0      0      177600 0      2      15 ; CLV
 000271 0      | 0      0      0      177600 0      2  | 0      0      0      177600 0      2      13 ; SEN, SEC
@@ -225,8 +226,8 @@ fn instructions_do_what_their_pages_say(rt: HostRuntime) -> Result<(), Fail> {
         assert_eq!(rt; step(&mut regs, &mut memory), Outcome::Next, "{row}");
         let r = regs.r;
         assert_eq!(rt;
-            [r[0], r[1], r[5], r[6]],
-            [n[8], n[9], n[10], n[11]],
+            [r[0], r[1], r[2], r[3], r[4], r[5], r[6]],
+            [n[8], n[9], 0, 0, 0, n[10], n[11]],
             "{row}"
         );
         assert_eq!(rt; memory.load_word(0o40), Ok(n[12]), "{row}");
@@ -234,7 +235,7 @@ fn instructions_do_what_their_pages_say(rt: HostRuntime) -> Result<(), Fail> {
         assert_eq!(rt; regs.cc as u16, n[14], "{row}");
         rows = rows.wrapping_add(1);
     }
-    assert_eq!(rt; rows, 136);
+    assert_eq!(rt; rows, 137);
     Ok(())
 }
 
@@ -387,6 +388,22 @@ const FAULTS: [([u16; 4], Outcome, u16); 27] = [
 ];
 
 #[test]
+fn a_text_is_not_written(rt: HostRuntime) -> Result<(), Fail> {
+    let mut memory = Whole::new(rt.alloc())?;
+    memory.set_sizes(1, 1, 20);
+    // MOV R0,@#40, where the text ends at 100 and the data begin at 20000
+    assert_eq!(rt; memory.store_word(0o20000, 0o010037), Ok(()));
+    assert_eq!(rt; memory.store_word(0o20002, 0o40), Ok(()));
+    let r = [7, 1, 2, 3, 4, 5, 0o177600, 0o20000];
+    let mut regs = Regs { r, cc: 5 };
+    let fault = Outcome::Fault(Kind::Segment { sp: 0o177600 });
+    assert_eq!(rt; step(&mut regs, &mut memory), fault);
+    assert_eq!(rt; regs.r, r);
+    assert_eq!(rt; memory.load_word(0o40), Ok(0));
+    Ok(())
+}
+
+#[test]
 fn faults_leave_what_was(rt: HostRuntime) -> Result<(), Fail> {
     let mut memory = Whole::new(rt.alloc())?;
     memory.set_sizes(0, 1, 20);
@@ -394,10 +411,12 @@ fn faults_leave_what_was(rt: HostRuntime) -> Result<(), Fail> {
         let [word, next, r0, sp] = before;
         assert_eq!(rt; memory.store_word(0, word), Ok(()));
         assert_eq!(rt; memory.store_word(2, next), Ok(()));
+        assert_eq!(rt; memory.store_word(0o40, 0o123456), Ok(()));
         let r = [r0, 1, 2, 3, 4, 5, sp, 0];
         let mut regs = Regs { r, cc: 5 };
         assert_eq!(rt; step(&mut regs, &mut memory), outcome, "{word}");
         assert_eq!(rt; regs.r, [r0, 1, 2, 3, 4, 5, sp, passed], "{word}");
+        assert_eq!(rt; memory.load_word(0o40), Ok(0o123456), "{word}");
         assert_eq!(rt; regs.cc, 5);
     }
     Ok(())

@@ -1,5 +1,5 @@
 //! The commands: `run` takes a disk image and a script, and writes what the terminal shows; `check` tells whether an image
-//! can be run, and what it holds; `make` writes an image that is known to the last byte.
+//! has a fault, and what it holds; `make` writes an image that is known to the last byte.
 #![tactic(auto)]
 
 mod check;
