@@ -26,7 +26,8 @@ MEMORY_LOOP = [0o012700, 0o144, 0o013701, 0o60, 0o060137, 0o62, 0o020100, 0o0013
 LOOPS = [
     ("BR .", [0o000777]),
     ("JSR PC,@#10; RTS PC; BR", [0o004737, 0o10, 0o000775, 0, 0o000207]),
-    ("SOB R0,.", [0o077001, 0o000777]),
+    # the branch leads back to SOB, which falls through once in 65,536 times
+    ("SOB R0,.", [0o077001, 0o000776]),
 ]
 
 ONES = [

@@ -1,4 +1,4 @@
-//! All 65,536 words beside the octal ranges of the handbook's numerical list of instructions.
+//! All 65,536 words beside the octal ranges of the table of instructions, and some words with all that is read from them.
 use crate::decode;
 use std::test::Fail;
 

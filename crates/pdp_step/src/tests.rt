@@ -1,5 +1,5 @@
-//! Instructions against the handbook: rows after its examples, rows for each instruction and each addressing mode, and faults.
-//! What a row of ROWS must come to was worked by hand from the rules of the instruction's page and the row's left side alone.
+//! Rows for each instruction and each addressing mode, rows after the handbook's examples, and faults. What a row of ROWS must
+//! come to was worked by hand from the row's left side and the table of instructions, which docs/manual/instructions.md gives.
 use crate::{Kind, Outcome, Regs, step};
 use std::alloc::AllocError;
 use std::test::Fail;
@@ -146,8 +146,8 @@ const ROWS: &str = "\
 010020 0      | 40     0      0      177600 0      0  | 42     0      0      177600 40     2      0  ; the source is read before the destination is formed
 016001 177777 | 41     0      0      177600 5      0  | 41     5      0      177600 5      4      0  ; addresses go round";
 
-// After the examples of the addressing modes (handbook, chapter 3) and of the instructions (chapter 4). In octal: the
-// words at 1020; R0 to R5; two words of memory, each behind its address; the codes; then R0 to R5, the two words, PC and the
+// After the examples of the addressing modes (handbook, chapter 3) and of the instructions (chapter 4), written down from
+// memory. In octal: the words at 1020; R0 to R5; two words of memory, each behind its address; the codes; then R0 to R5, the two words, PC and the
 // codes behind.
 const EXAMPLES: &str = "\
 060204 0    0  | 0     0     2      0     4     0     | 2000   0      2002  0      | 17 | 0      0     2      0     6     0     | 0      0      | 1022 0  ; ADD R2,R4
