@@ -1,2 +1,4 @@
 pub mod Took
 pub mod Cuts
+pub mod Formed
+pub mod LogRows

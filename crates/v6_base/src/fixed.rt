@@ -1,6 +1,6 @@
 //! A text of 64 bytes alone.
-ghost use Rattle.std.specs.Prelude.{List, []};
-ghost use Rattle.v6_base.specs.Image.{Image};
+ghost use Rattle.std.specs.Prelude.{◌≡◌};
+ghost use Rattle.v6_base.specs.Image.{Image, IsImage, text_alone};
 
 use crate::space::{Space, Trap};
 
@@ -8,11 +8,21 @@ use crate::space::{Space, Trap};
 #[derive(Clone, Copy, Debug, PartialEq, Eq)]
 pub struct Fixed {
     pub bytes: [u8; 64],
+    ghost formed: { IsImage (text_alone bytes) },
+}
+
+impl Fixed {
+    /// A memory of these bytes.
+    pub fn new(bytes: [u8; 64]) -> Fixed
+        ensures { result.bytes ≡ bytes }
+    {
+        Fixed { bytes }
+    }
 }
 
 #[tactic(auto, unfolding(crate::specs::Image::named_by, crate::specs::Access::load_byte, crate::specs::Access::load_word, crate::specs::Access::store_byte, crate::specs::Access::store_word))]
 impl Space for Fixed {
-    ghost image = { λ f. record { text = f.bytes; «data» = []; stack = [] } };
+    ghost image = { λ fixed. text_alone fixed.bytes };
 
     ghost Rest = { Unit {0} };
 
@@ -47,4 +57,6 @@ impl Space for Fixed {
         }
         Err(Trap::Segment)
     }
+
+    ghost formed = { λ fixed. fixed.formed };
 }

@@ -1,6 +1,6 @@
 //! The memory of a process as its instructions and its calls see it.
 ghost use Rattle.std.specs.Prelude.{◌≡◌};
-ghost use Rattle.v6_base.specs.Image.{Image};
+ghost use Rattle.v6_base.specs.Image.{Image, IsImage};
 ghost use Rattle.v6_base.specs.Access.{load_byte, load_word, store_byte, store_word, image_after, answer_of};
 
 /// Why an access of memory is refused.
@@ -46,4 +46,7 @@ pub trait Space {
         ensures answer { result ≡ answer_of (store_word (image self.old) at value) }
         ensures image { image self.new ≡ image_after (image self.old) (store_word (image self.old) at value) }
         ensures rest { rest self.new ≡ rest self.old };
+
+    /// The image is bytes, in whole clicks of 64, in eight segments at most.
+    ghost formed: { (space : Self) → IsImage (image space) };
 }
