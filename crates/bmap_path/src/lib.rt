@@ -7,6 +7,15 @@ ghost use Rattle.bmap_path.specs.Path.{path_of, large_path};
 
 use arrayvec::ArrayVec;
 
+/// The blocks that a small file may have, by its eight addresses.
+pub const SMALL_BLOCKS: u16 = 8;
+
+/// The addresses in an indirect block.
+pub const INDIRECT_BLOCKS: u16 = 256;
+
+/// The first block that the double indirect block stands for: seven indirect blocks come before.
+pub const DOUBLE_START: u16 = 1792;
+
 /// What a block is to its file.
 #[derive(Clone, Copy, Debug, PartialEq, Eq, Default)]
 pub enum BlockName {
@@ -26,11 +35,11 @@ pub fn path(large: bool, bn: u16) -> ArrayVec<BlockName, 4>
     ensures { result.items ≡ path_of large bn }
 {
     let mut names = ArrayVec::new();
-    if !large && bn < 8 {
+    if !large && bn < SMALL_BLOCKS {
         names.push(BlockName::Data(bn));
         return names;
     }
-    if !large && bn >= 256 {
+    if !large && bn >= INDIRECT_BLOCKS {
         names.push(BlockName::Ind(0));
     }
     push_large(&mut names, bn);
@@ -42,29 +51,9 @@ fn push_large(names: &mut ArrayVec<BlockName, 4>, bn: u16)
     requires { array_vec_len names.old ≤ 1 }
     ensures { names.new.items ≡ names.old.items ++ large_path bn }
 {
-    if bn >= 1792 {
+    if bn >= DOUBLE_START {
         names.push(BlockName::Dbl);
     }
-    names.push(BlockName::Ind(bn / 256));
+    names.push(BlockName::Ind(bn / INDIRECT_BLOCKS));
     names.push(BlockName::Data(bn));
-}
-
-#[cfg(test)]
-mod tests {
-    use super::*;
-
-    #[test]
-    fn block_1792_of_a_small_file(rt: HostRuntime) {
-        let names = path(false, 1792);
-        assert_eq!(rt;
-            names.as_slice(),
-            [
-                BlockName::Ind(0),
-                BlockName::Dbl,
-                BlockName::Ind(7),
-                BlockName::Data(1792)
-            ]
-            .as_slice()
-        );
-    }
 }

@@ -1,27 +1,21 @@
 -- Marks after blocks have come.
-use Rattle.std.proofs.Common.{◌≡◌, ◌+◌, ◌*◌, ◌<◌, ◌≤◌, ◌⊎◌, inl, inr, ℕ, zero, suc, Bool, true, false, cond, List, [], ◌∷◌, ◌++◌, length, get_or, slice_index, take, min, nat_eq, nat_lt, refl, sym, ap, ◌∙◌, subst, ◌||◌, zero-add, append-nil, arith, map-id, eq-eqb, get_or-set_same, get_or-set_other}
-use Rattle.std.proofs.lemmas.Bool.{lt-ltb}
+use Rattle.std.proofs.Common.{◌≡◌, ◌+◌, ◌*◌, ◌<◌, ◌≤◌, ◌⊎◌, inl, inr, ℕ, zero, suc, cond, List, [], ◌∷◌, ◌++◌, length, get_or, slice_index, take, min, nat_eq, refl, sym, ap, ◌∙◌, subst, append-nil, arith, map-id, eq-eqb, get_or-set_same, get_or-set_other}
 use Rattle.std.proofs.lemmas.Bool.Decides.{eqb_tells}
 use Rattle.std.proofs.Math.ListN.{set}
 use Rattle.std.proofs.lemmas.Grind.{flat_map-append}
 use Rattle.std.proofs.lemmas.List.FromFn.{map-range_with_len_more}
-use Rattle.std.specs.List.{count_by, list_any, flat_map, range_with_len}
-use Rattle.std.proofs.lemmas.List.Sums.{sum_by-cons, sum_by-append}
-use Rattle.fs_check.proofs.WorstLemmas.{flat_map_one_more}
+use Rattle.std.specs.List.{count_by, flat_map, range_with_len}
+use Rattle.fs_check.proofs.OutsideLemmas.{flat_map_one_more}
 use Rattle.std.proofs.lemmas.List.{take_more}
 use Rattle.fs_codec.specs.Words.{word, words}
 use Rattle.fs_codec.proofs.WordsLemmas.{word_of_words, length-words}
 use Rattle.fs_codec.specs.Disk.{Disk}
-use Rattle.fs_check.specs.Marks.{AreMarks, Adds, AreAdded}
-
-pub count-cons : (b x : ℕ) (xs : List ℕ) → count_by (nat_eq b) (x ∷ xs) ≡ cond (nat_eq b x) 1 0 + count_by (nat_eq b) xs
-count-cons b x xs = sum_by-cons (λ y. cond (nat_eq b y) 1 0) x xs
-
-pub count-append : (b : ℕ) (xs ys : List ℕ) → count_by (nat_eq b) (xs ++ ys) ≡ count_by (nat_eq b) xs + count_by (nat_eq b) ys
-count-append b xs ys = sum_by-append (λ y. cond (nat_eq b y) 1 0) xs ys
+use Rattle.fs_codec.proofs.CountLemmas.{count-cons, count-append}
+use Rattle.fs_codec.specs.declared.layout.TheConstants.{DISK_BLOCKS}
+use Rattle.fs_check.specs.Marks.{AreMarks, RaisesMarks, AreAdded, AreTables}
 
 -- blocks that come after one another
-pub adds_then : (old mid new xs ys zs : List ℕ) → Adds old mid xs → Adds mid new ys → ((b : ℕ) → count_by (nat_eq b) zs ≡ count_by (nat_eq b) xs + count_by (nat_eq b) ys) → Adds old new zs
+pub adds_then : (old mid new xs ys zs : List ℕ) → RaisesMarks old mid xs → RaisesMarks mid new ys → ((b : ℕ) → count_by (nat_eq b) zs ≡ count_by (nat_eq b) xs + count_by (nat_eq b) ys) → RaisesMarks old new zs
 adds_then old mid new xs ys zs first second count = record {
   marks = second.marks;
   each = λ k h. let a : slice_index mid k ≡ min 2 (slice_index old k + count_by (nat_eq k) xs) = first.each k h in
@@ -29,20 +23,11 @@ adds_then old mid new xs ys zs first second count = record {
       let c : count_by (nat_eq k) zs ≡ count_by (nat_eq k) xs + count_by (nat_eq k) ys = count k in omega arith;
 }
 
-pub adds_append : (old mid new xs ys : List ℕ) → Adds old mid xs → Adds mid new ys → Adds old new (xs ++ ys)
+pub adds_append : (old mid new xs ys : List ℕ) → RaisesMarks old mid xs → RaisesMarks mid new ys → RaisesMarks old new (xs ++ ys)
 adds_append old mid new xs ys first second = adds_then old mid new xs ys (xs ++ ys) first second (λ b. count-append b xs ys)
 
-pub adds_none : (marks : List ℕ) → AreMarks marks → Adds marks marks []
+pub adds_none : (marks : List ℕ) → AreMarks marks → RaisesMarks marks marks []
 adds_none marks are = record { marks = are; each = λ k h. let small : slice_index marks k ≤ 2 = are.small k in omega arith }
-
-any_step : (t a : Bool) (n : ℕ) → a ≡ nat_lt 0 n → (t || a) ≡ nat_lt 0 (cond t 1 0 + n)
-any_step true a n h = sym (lt-ltb 0 (1 + n) (omega arith))
-any_step false a n h = h ∙ ap (nat_lt 0) (sym (zero-add n))
-
--- what is met is counted
-pub any_count : (b : ℕ) (xs : List ℕ) → list_any (nat_eq b) xs ≡ nat_lt 0 (count_by (nat_eq b) xs)
-any_count b [] = refl
-any_count b (x ∷ xs) = any_step (nat_eq b x) (list_any (nat_eq b) xs) (count_by (nat_eq b) xs) (any_count b xs) ∙ ap (nat_lt 0) (sym (count-cons b x xs))
 
 -- an element comes at least once
 pub count_at : (xs : List ℕ) (k : ℕ) → k < length xs → 1 ≤ count_by (nat_eq (get_or xs k 0)) xs
@@ -61,25 +46,25 @@ count_where b (x ∷ xs) = elim (eqb_tells b x) [
   ]
 ]
 
-pub adds_more : (old mid new xs : List ℕ) (i : ℕ) → i < length xs → Adds old mid (take i xs) → Adds mid new (get_or xs i 0 ∷ []) → Adds old new (take (i + 1) xs)
-adds_more old mid new xs i h first second = let P : List ℕ → Type 0 = λ l. Adds old new l in
+pub adds_more : (old mid new xs : List ℕ) (i : ℕ) → i < length xs → RaisesMarks old mid (take i xs) → RaisesMarks mid new (get_or xs i 0 ∷ []) → RaisesMarks old new (take (i + 1) xs)
+adds_more old mid new xs i h first second = let P : List ℕ → Type 0 = λ l. RaisesMarks old new l in
     subst P (sym (take_more xs i 0 h)) (adds_append old mid new (take i xs) (get_or xs i 0 ∷ []) first second)
 
-pub adds_list_more : (old mid new : List ℕ) (f : ℕ → List ℕ) (xs : List ℕ) (i : ℕ) → i < length xs → Adds old mid (flat_map f (take i xs)) → Adds mid new (f (get_or xs i 0)) → Adds old new (flat_map f (take (i + 1) xs))
-adds_list_more old mid new f xs i h first second = let P : List ℕ → Type 0 = λ l. Adds old new l in
+pub adds_list_more : (old mid new : List ℕ) (f : ℕ → List ℕ) (xs : List ℕ) (i : ℕ) → i < length xs → RaisesMarks old mid (flat_map f (take i xs)) → RaisesMarks mid new (f (get_or xs i 0)) → RaisesMarks old new (flat_map f (take (i + 1) xs))
+adds_list_more old mid new f xs i h first second = let P : List ℕ → Type 0 = λ l. RaisesMarks old new l in
     subst P (sym (flat_map_one_more f xs i 0 h)) (adds_append old mid new (flat_map f (take i xs)) (f (get_or xs i 0)) first second)
 
 range_more : (n : ℕ) → range_with_len 1 (n + 1) ≡ range_with_len 1 n ++ (n + 1) ∷ []
 range_more n = sym (map-id (range_with_len 1 (n + 1))) ∙ map-range_with_len_more (λ x. x) 1 n (n + 1) (omega arith) ∙ ap (λ l. l ++ (n + 1) ∷ []) (map-id (range_with_len 1 n))
 
-pub adds_number_more : (old mid new : List ℕ) (f : ℕ → List ℕ) (n : ℕ) → Adds old mid (flat_map f (range_with_len 1 n)) → Adds mid new (f (n + 1)) → Adds old new (flat_map f (range_with_len 1 (n + 1)))
-adds_number_more old mid new f n first second = let P : List ℕ → Type 0 = λ l. Adds old new l in
+pub adds_number_more : (old mid new : List ℕ) (f : ℕ → List ℕ) (n : ℕ) → RaisesMarks old mid (flat_map f (range_with_len 1 n)) → RaisesMarks mid new (f (n + 1)) → RaisesMarks old new (flat_map f (range_with_len 1 (n + 1)))
+adds_number_more old mid new f n first second = let P : List ℕ → Type 0 = λ l. RaisesMarks old new l in
     let parts : flat_map f (range_with_len 1 (n + 1)) ≡ flat_map f (range_with_len 1 n) ++ f (n + 1) =
     ap (flat_map f) (range_more n) ∙ flat_map-append f (range_with_len 1 n) ((n + 1) ∷ []) ∙ ap (λ l. flat_map f (range_with_len 1 n) ++ l) (append-nil (f (n + 1))) in
     subst P (sym parts) (adds_append old mid new (flat_map f (range_with_len 1 n)) (f (n + 1)) first second)
 
 -- what was added stays so
-pub added_kept : (disk : Disk) (added marks new blocks : List ℕ) → AreMarks marks → AreAdded disk added marks → Adds marks new blocks → AreAdded disk added new
+pub added_kept : (disk : Disk) (added marks new blocks : List ℕ) → AreMarks marks → AreAdded disk added marks → RaisesMarks marks new blocks → AreAdded disk added new
 added_kept disk added marks new blocks are before adds = record {
   each = λ i k hi hk hw.
       let w : ℕ = word (disk i) (2 * k) in
@@ -92,7 +77,7 @@ word_at : (disk : Disk) (i k : ℕ) → k < 256 → get_or (words (disk i) 0 256
 word_at disk i k h = word_of_words (disk i) 0 256 k h ∙ ap (word (disk i)) (omega arith)
 
 -- the blocks of an indirect block that were added twice
-pub adds_again : (disk : Disk) (added marks : List ℕ) (i : ℕ) → AreMarks marks → AreAdded disk added marks → i < 4872 → 2 ≤ slice_index added i → Adds marks marks (words (disk i) 0 256)
+pub adds_again : (disk : Disk) (added marks : List ℕ) (i : ℕ) → AreMarks marks → AreAdded disk added marks → i < DISK_BLOCKS → 2 ≤ slice_index added i → RaisesMarks marks marks (words (disk i) 0 256)
 adds_again disk added marks i are before hi two = record {
   marks = are;
   each = λ b small. elim (count_where b (words (disk i) 0 256)) [
@@ -105,8 +90,8 @@ adds_again disk added marks i are before hi two = record {
   ];
 }
 
-pub added_more : (disk : Disk) (added marks new : List ℕ) (i x : ℕ) → AreMarks added → AreMarks marks → AreAdded disk added marks → i < 4872 → x ≡ slice_index added i → x < 2
-    → Adds marks new (words (disk i) 0 256) → AreAdded disk (set added i (x + 1)) new
+pub added_more : (disk : Disk) (added marks new : List ℕ) (i x : ℕ) → AreMarks added → AreMarks marks → AreAdded disk added marks → i < DISK_BLOCKS → x ≡ slice_index added i → x < 2
+    → RaisesMarks marks new (words (disk i) 0 256) → AreAdded disk (set added i (x + 1)) new
 added_more disk added marks new i x are_added are before hi is low adds = record {
   each = λ j k hj hk hw.
       let w : ℕ = word (disk j) (2 * k) in
@@ -122,4 +107,14 @@ added_more disk added marks new i x are_added are before hi is low adds = record
             omega arith
         | inr e ↦ let at : slice_index (set added i (x + 1)) j ≡ slice_index added j = get_or-set_other added i j (x + 1) 0 (λ s. e.1 (sym s)) in omega arith
       ];
+}
+
+pub tables_kept : (disk : Disk) (marks added new blocks : List ℕ) → AreTables disk marks added → RaisesMarks marks new blocks → AreTables disk new added
+tables_kept disk marks added new blocks are adds = record { marks = adds.marks; added = are.added; within = added_kept disk added marks new blocks are.marks are.within adds }
+
+pub tables_begin : (disk : Disk) (marks added : List ℕ) → AreMarks marks → AreMarks added → ((k : ℕ) → slice_index added k ≡ 0) → AreTables disk marks added
+tables_begin disk marks added are_marks are_added zeros = record {
+  marks = are_marks;
+  added = are_added;
+  within = record { each = λ i k hi hk hw. let none : slice_index added i ≡ 0 = zeros i in omega arith };
 }

@@ -1,16 +1,12 @@
-//! Whether a disk image can be run: the first of its faults, and the numbers of its nodes and of its free blocks.
+//! Whether a disk image can be run: the first of its faults, and the numbers of its inodes that are used and of its free blocks.
 #![tactic(auto)]
 
 mod acceptance;
 mod counting;
 mod counts;
 mod free;
-mod image;
 mod marks;
-mod modes;
 mod outside;
-#[cfg(test)]
-mod tests;
 mod twice;
 mod zone;
 

@@ -26,7 +26,7 @@ words_kept old new list at n is long same =
     let high : slice_index new (at + 2 * k + 1) ≡ slice_index old (at + 2 * k + 1) = same (at + 2 * k + 1) (omega arith) (omega arith) in
     omega arith)) ∙ put
 
--- what lies behind a place stays where each byte does
+-- what lies after a place stays where each byte does
 pub drop_kept : (old new : List ℕ) (at : ℕ) → length new ≡ length old → ((k : ℕ) → at ≤ k → slice_index new k ≡ slice_index old k) → drop at new ≡ drop at old
 drop_kept old new at long same =
     same_lists (drop at new) (drop at old) (simp length-drop (omega arith)) (λ k d h.

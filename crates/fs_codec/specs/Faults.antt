@@ -6,6 +6,7 @@ use Rattle.fs_codec.specs.Disk.{Disk, disk_of, head, is_data, inode, inode_numbe
 use Rattle.fs_codec.specs.Free.{free_walk}
 use Rattle.fs_codec.specs.Held.{held_by}
 use Rattle.fs_codec.specs.declared.super_block.SuperBlock.{SuperBlock}
+use Rattle.fs_codec.specs.declared.layout.TheConstants.{DISK_BYTES, SWAP_START, LIST_SIZE}
 use Rattle.fs_codec.specs.declared.fault.ImageFault.{ImageFault}
 use Rattle.fs_codec.specs.declared.fault.ImageFault.TheVariants.{TooLong, BadSuper, NoSwap, NodeOutside, BlockTwice, NoRoot}
 
@@ -15,28 +16,34 @@ first_some [] = None
 first_some (Some x ∷ others) = Some x
 first_some (None ∷ others) = first_some others
 
-abbrev pub lesser : ℕ → Option ℕ → ℕ
-lesser x None = x
-lesser x (Some y) = min x y
+-- the lesser of two numbers, or the one that there is
+abbrev pub lesser : Option ℕ → Option ℕ → Option ℕ
+lesser None b = b
+lesser (Some a) None = Some a
+lesser (Some a) (Some b) = Some (min a b)
 
 -- the least number of a list
 abbrev pub least : List ℕ → Option ℕ
 least [] = None
-least (x ∷ xs) = Some (lesser x (least xs))
+least (x ∷ xs) = lesser (Some x) (least xs)
 
 abbrev pub when : Bool → ImageFault → Option ImageFault
 when fails fault = if fails then Some fault else None
 
 abbrev pub is_bad_super : SuperBlock → Bool
-is_bad_super s = (s.i_size == 0) || nat_lt s.f_size (s.i_size + 2) || nat_lt 100 s.nfree || nat_lt 100 s.ninode
+is_bad_super s = (s.i_size == 0) || nat_lt s.f_size (s.i_size + 2) || nat_lt LIST_SIZE s.nfree || nat_lt LIST_SIZE s.ninode
 
--- an address that is neither none nor a data block
-abbrev pub is_outside : Disk → ℕ → Bool
-is_outside disk block = not (block == 0) && not (is_data disk block)
+-- an address that is neither none nor a block that may be held
+abbrev pub is_outside : (ℕ → Bool) → ℕ → Bool
+is_outside may_be_held address = not (address == 0) && not (may_be_held address)
 
--- an inode's least address outside
-abbrev pub node_fault : Disk → ℕ → Option ImageFault
-node_fault disk i = option_map (NodeOutside i) (least (filter (is_outside disk) (held_by disk i)))
+-- the least of these addresses that is outside
+unfoldable pub least_outside : (ℕ → Bool) → List ℕ → Option ℕ
+least_outside may_be_held addresses = least (filter (is_outside may_be_held) addresses)
+
+-- the least address that an inode holds and that is no data block
+abbrev pub inode_fault : Disk → ℕ → Option ImageFault
+inode_fault disk i = option_map (NodeOutside i) (least_outside (is_data disk) (held_by disk i))
 
 -- the blocks of the free list and those that inodes hold
 unfoldable pub all_blocks : Disk → List ℕ
@@ -45,20 +52,24 @@ all_blocks disk = (free_walk disk).blocks ++ flat_map (held_by disk) (inode_numb
 abbrev pub is_twice : List ℕ → ℕ → Bool
 is_twice blocks block = not (block == 0) && nat_le 2 (count_by (nat_eq block) blocks)
 
--- what the super-block itself has wrong; the swap area begins at block 4000
-abbrev pub super_fault : SuperBlock → Option ImageFault
-super_fault s = first_some (when (is_bad_super s) BadSuper ∷ when (nat_lt 4000 s.f_size) (NoSwap s.f_size) ∷ [])
+-- what the super-block itself has wrong, where a file system may have so many blocks
+abbrev pub super_fault : ℕ → SuperBlock → Option ImageFault
+super_fault limit s = first_some (when (is_bad_super s) BadSuper ∷ when (nat_lt limit s.f_size) (NoSwap s.f_size) ∷ [])
 
--- the first fault of a disk
-unfoldable pub disk_fault : Disk → Option ImageFault
-disk_fault disk = first_some (
-    super_fault (head disk)
+-- the first fault of such a disk
+unfoldable pub disk_fault : ℕ → Disk → Option ImageFault
+disk_fault limit disk = first_some (
+    super_fault limit (head disk)
     ∷ (free_walk disk).fault
-    ∷ first_some (map (node_fault disk) (inode_numbers disk))
+    ∷ first_some (map (inode_fault disk) (inode_numbers disk))
     ∷ option_map BlockTwice (least (filter (is_twice (all_blocks disk)) (all_blocks disk)))
     ∷ when (not (is_directory (inode disk 1).mode)) NoRoot
     ∷ [])
 
--- The first fault of an image. A disk has 4,872 blocks of 512 bytes.
+-- the first fault of its image
+unfoldable pub fault_within : ℕ → List ℕ → Option ImageFault
+fault_within limit bytes = first_some (when (nat_lt DISK_BYTES (length bytes)) TooLong ∷ disk_fault limit (disk_of bytes) ∷ [])
+
+-- The first fault of an image of the disk that has the root. The swap area comes after the file system.
 unfoldable pub image_fault : List ℕ → Option ImageFault
-image_fault bytes = first_some (when (nat_lt 2494464 (length bytes)) TooLong ∷ disk_fault (disk_of bytes) ∷ [])
+image_fault bytes = fault_within SWAP_START bytes

@@ -1,10 +1,11 @@
 -- The list of free blocks: file system(V) of the UNIX Programmer's Manual. It goes in groups. The super-block says how many
--- numbers its group has, and has them behind that; the last of them is taken first. The block that is taken as the last of
+-- numbers its group has, and has them after that; the last of them is taken first. The block that is taken as the last of
 -- a group has the next group, with its count in front. A number 0 ends the list.
 use Rattle.std.specs.Prelude.{ℕ, zero, suc, not, ◌+◌, ◌-◌, ◌*◌, ◌==◌, nat_lt, nat_eq, if◌then◌else◌, List, [], ◌∷◌, Option, Some, None}
 use Rattle.std.specs.List.{list_any}
 use Rattle.fs_codec.specs.Words.{word}
 use Rattle.fs_codec.specs.Disk.{Disk, head, is_data}
+use Rattle.fs_codec.specs.declared.layout.TheConstants.{LIST_SIZE}
 use Rattle.fs_codec.specs.declared.fault.ImageFault.{ImageFault}
 use Rattle.fs_codec.specs.declared.fault.ImageFault.TheVariants.{FreeCount, FreeOutside}
 
@@ -46,7 +47,7 @@ walk (suc most) disk group met =
     if block == 0 then ended None else
     (if not (is_data disk block) then ended (Some (FreeOutside block)) else
     (listing block (if list_any (nat_eq block) met then ended None else
-    (if nat_lt 100 (after disk group).left then ended (Some (FreeCount block)) else
+    (if nat_lt LIST_SIZE (after disk group).left then ended (Some (FreeCount block)) else
     walk most disk (after disk group) (block ∷ met)))))
 
 -- It meets each data block once, and one of them again, so it has fewer steps than the file system has blocks.

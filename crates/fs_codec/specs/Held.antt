@@ -4,10 +4,11 @@ use Rattle.fs_codec.specs.Words.{words}
 use Rattle.fs_codec.specs.Fields.{Inode}
 use Rattle.fs_codec.specs.Modes.{is_large, holds_blocks}
 use Rattle.fs_codec.specs.Disk.{Disk, is_data, inode}
+use Rattle.fs_codec.specs.declared.layout.TheConstants.{BLOCK_ADDRESSES}
 
--- the 256 addresses in an indirect block; there are none in a block that is no data block
+-- the addresses in an indirect block; there are none in a block that is no data block
 abbrev pub entries : Disk → ℕ → List ℕ
-entries disk block = if is_data disk block then words (disk block) 0 256 else []
+entries disk block = if is_data disk block then words (disk block) 0 BLOCK_ADDRESSES else []
 
 -- an indirect block and the blocks that it names
 abbrev pub in_indirect : Disk → ℕ → List ℕ
@@ -33,7 +34,7 @@ abbrev pub held_by : Disk → ℕ → List ℕ
 held_by disk i = held_blocks disk (inode disk i)
 
 -- The name of a block among those of its file, a kind and a number: data block n of the file; indirect block k, which names
--- the data blocks from 256 * k on; and the double indirect block.
+-- the data blocks from 256 k on; and the double indirect block.
 abbrev pub Name : Type 0
 Name = ℕ × ℕ
 
@@ -55,5 +56,5 @@ indirect_at disk node k =
 abbrev pub address : Disk → Inode → Name → ℕ
 address disk node name =
     if not (is_large node.mode) then (if name.0 == 0 then slice_index node.addr name.1 else 0) else
-    (if name.0 == 0 then slice_index (entries disk (indirect_at disk node (name.1 / 256))) (name.1 % 256) else
+    (if name.0 == 0 then slice_index (entries disk (indirect_at disk node (name.1 / BLOCK_ADDRESSES))) (name.1 % BLOCK_ADDRESSES) else
     (if name.0 == 1 then indirect_at disk node name.1 else slice_index node.addr 7))

@@ -1,5 +1,6 @@
 pub mod Words
 pub mod Fields
+pub mod Bytes
 pub mod Modes
 pub mod Disk
 pub mod Free

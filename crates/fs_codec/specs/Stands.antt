@@ -1,9 +1,10 @@
 -- The store that a disk's blocks stand for.
-use Rattle.std.specs.Prelude.{◌≡◌, ℕ, zero, suc, Bool, false, not, ◌+◌, ◌-◌, ◌*◌, ◌&&◌, ◌==◌, nat_lt, if◌then◌else◌, List, ◌∷◌, length, map, flat_map, take, replicate, slice_index, Option, Some, None}
+use Rattle.std.specs.Prelude.{◌≡◌, ℕ, zero, suc, Bool, false, not, ◌+◌, ◌-◌, ◌&&◌, ◌==◌, nat_lt, if◌then◌else◌, List, ◌∷◌, length, map, flat_map, take, replicate, slice_index, Option, Some, None}
 use Rattle.std.specs.List.{range_with_len}
 use Rattle.fs_codec.specs.Fields.{Inode}
 use Rattle.fs_codec.specs.Modes.{is_device, holds_blocks}
-use Rattle.fs_codec.specs.Disk.{Disk, head, inode, inode_numbers}
+use Rattle.fs_codec.specs.Disk.{Disk, head, inode, inode_count, inode_numbers}
+use Rattle.fs_codec.specs.declared.layout.TheConstants.{BLOCK_SIZE}
 use Rattle.fs_codec.specs.Free.{free_walk}
 use Rattle.fs_codec.specs.Held.{Name, data_name, indirect_name, double_name, address}
 use Rattle.fs_codec.specs.Faults.{disk_fault}
@@ -27,7 +28,7 @@ one_past test (suc n) = if test n then n + 1 else one_past test n
 -- the bytes of data block n of a file
 abbrev pub data_of : Disk → Inode → ℕ → List ℕ
 data_of disk node n =
-    if is_held disk node (data_name n) then disk (address disk node (data_name n)) else replicate 512 0
+    if is_held disk node (data_name n) then disk (address disk node (data_name n)) else replicate BLOCK_SIZE 0
 
 unfoldable pub body_of : Disk → Inode → List ℕ
 body_of disk node =
@@ -52,14 +53,14 @@ node_of disk node = if node.mode == 0 then None else Some (record {
 unfoldable pub store_of : Disk → Store
 store_of disk = record {
   nodes = None ∷ map (λ i. node_of disk (inode disk i)) (inode_numbers disk);
-  count = 16 * (head disk).i_size;
+  count = inode_count disk;
   room = length (free_walk disk).blocks;
   spare = take (head disk).ninode (head disk).inode;
   stamp = (head disk).time;
   mark = false;
 }
 
--- Blocks without a fault stand for a store, of whose mark they say nothing.
-pub record StandsFor (disk : Disk) (store : Store) : Type 0 where
-  pub sound : disk_fault disk ≡ None
+-- Blocks without a fault, of a disk whose file system may have so many, stand for a store, of whose mark they say nothing.
+pub record StandsFor (limit : ℕ) (disk : Disk) (store : Store) : Type 0 where
+  pub sound : disk_fault limit disk ≡ None
   pub same : record store { mark = false } ≡ store_of disk

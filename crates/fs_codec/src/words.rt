@@ -4,6 +4,7 @@ ghost use Rattle.fs_codec.specs.Words.{word, long, words, SameOutside};
 
 use byteorder::{ByteOrder, LittleEndian};
 
+/// The word at a place, its low byte first.
 pub fn word_at(b: &[u8], at: usize) -> u16
     requires { at + 2 ≤ length b.now }
     ensures { result ≡ word b.now at }
@@ -11,6 +12,7 @@ pub fn word_at(b: &[u8], at: usize) -> u16
     LittleEndian::read_u16(&b[at..at + 2])
 }
 
+/// Puts a word to a place, and leaves the other bytes.
 pub fn put_word(b: &mut [u8], at: usize, w: u16)
     requires { at + 2 ≤ length b.old }
     ensures here { word b.new at ≡ w }
@@ -19,6 +21,7 @@ pub fn put_word(b: &mut [u8], at: usize, w: u16)
     LittleEndian::write_u16(&mut b[at..at + 2], w);
 }
 
+/// Puts a byte to a place, and leaves the others.
 pub fn put_byte(b: &mut [u8], at: usize, x: u8)
     requires { at < length b.old }
     ensures here { slice_index b.new at ≡ x }
@@ -27,7 +30,7 @@ pub fn put_byte(b: &mut [u8], at: usize, x: u8)
     b[at] = x;
 }
 
-/// A number of two words, the high word first.
+/// The number of two words at a place, the high word first.
 pub fn long_at(b: &[u8], at: usize) -> u32
     requires { at + 4 ≤ length b.now }
     ensures { result ≡ long b.now at }
@@ -35,6 +38,7 @@ pub fn long_at(b: &[u8], at: usize) -> u32
     65536 * u32::from(word_at(b, at)) + u32::from(word_at(b, at + 2))
 }
 
+/// Puts a number of two words to a place, the high word first, and leaves the other bytes.
 pub fn put_long(b: &mut [u8], at: usize, x: u32)
     requires { at + 4 ≤ length b.old }
     ensures here { long b.new at ≡ x }
@@ -54,6 +58,7 @@ pub fn read_words(b: &[u8], at: usize, into: &mut [u16])
     }
 }
 
+/// Puts words to a place, one after the other, and leaves the other bytes.
 pub fn put_words(b: &mut [u8], at: usize, from: &[u16])
     requires { at + 2 * length from.now ≤ length b.old }
     ensures here { words b.new at (length from.now) ≡ from.now }

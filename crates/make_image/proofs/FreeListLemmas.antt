@@ -6,10 +6,11 @@ use Rattle.std.proofs.lemmas.Bool.Decides.{nat_tests}
 use Rattle.std.proofs.lemmas.Grind.{get_or-set_at, same_number_lists}
 use Rattle.std.proofs.lemmas.List.{get_or-set_other, length-set}
 use Rattle.std.proofs.Math.Nat.{eq-or-lt_of_le}
-use Rattle.make_image.specs.Bytes.{filled, bytes_of}
+use Rattle.fs_codec.specs.Bytes.{bytes_of}
+use Rattle.make_image.specs.Padded.{padded}
 use Rattle.make_image.specs.FreeList.{FreeList, pushed, freed, freed_down}
-use Rattle.make_image.specs.FreeBlocks.{written, free_block, number}
-use Rattle.make_image.proofs.BytesLemmas.{length-filled, get_or-filled}
+use Rattle.make_image.specs.FreeBlocks.{words_freed, free_block, number}
+use Rattle.make_image.proofs.PaddedLemmas.{length-padded, get_or-padded}
 
 pub number_low : (lowest top i : ℕ) → lowest + i ≤ top → top - i < 4000 → number lowest top i ≡ top - i
 unfolding number
@@ -47,7 +48,7 @@ number_above lowest i some few = elim (cases_lt (lowest + 100 - i) 4000) [
   | inr f ↦ number_none_low (lowest + 1) (lowest + 100) i (omega arith) f ∙ sym (number_none_high lowest lowest i (omega arith) f)
 ]
 
--- the list holds the blocks from the lowest to the top, and behind them those of the hundred above
+-- the list holds the blocks from the lowest to the top, and after them those of the hundred above
 pub record Lists (lowest top : ℕ) (list : FreeList) : Type 0 where
   pub count : list.nfree + lowest ≡ top + 1
   pub long : length list.free ≡ 100
@@ -106,15 +107,15 @@ lists_full list lowest words below h = record {
         sym (number_low lowest lowest i (omega arith) (omega arith) ∙ value)
 
 -- before the first block an empty list has the number 0
-lists_none : Lists 4000 4000 (record { nfree = 1; free = slice_set (filled 100 []) 0 0; blocks = [] })
+lists_none : Lists 4000 4000 (record { nfree = 1; free = slice_set (padded 100 []) 0 0; blocks = [] })
 lists_none =
-    let long : length (filled 100 []) ≡ 100 = length-filled 100 [] (omega arith) in
+    let long : length (padded 100 []) ≡ 100 = length-padded 100 [] (omega arith) in
     record {
       count = refl;
-      long = length-set (filled 100 []) 0 0 ∙ long;
+      long = length-set (padded 100 []) 0 0 ∙ long;
       each = λ i few. elim (cases_lt 0 i) [
-        | inr none ↦ get_or-set_at (filled 100 []) 0 i 0 0 (omega arith) (omega arith) ∙ sym (number_none_low 4000 4000 i (omega arith) (omega arith))
-        | inl some ↦ get_or-set_other (filled 100 []) 0 i 0 0 (λ e. omega arith) ∙ get_or-filled 100 [] i ∙ sym (number_none_high 4000 4000 i (omega arith) (omega arith))
+        | inr none ↦ get_or-set_at (padded 100 []) 0 i 0 0 (omega arith) (omega arith) ∙ sym (number_none_low 4000 4000 i (omega arith) (omega arith))
+        | inl some ↦ get_or-set_other (padded 100 []) 0 i 0 0 (λ e. omega arith) ∙ get_or-padded 100 [] i ∙ sym (number_none_high 4000 4000 i (omega arith) (omega arith))
       ];
     }
 
@@ -125,8 +126,8 @@ listed zero lowest top hundreds sum some any is under near = absurd (omega arith
 listed (suc zero) lowest top hundreds sum some any is under near =
     let low : 3999 ≡ lowest = omega arith in
     let high : 4000 ≡ top = omega arith in
-    let first : Lists 3999 4000 (pushed 1 (slice_set (filled 100 []) 0 0) 3999 [] []) = lists_more (record { nfree = 1; free = slice_set (filled 100 []) 0 0; blocks = [] }) 3999 4000 [] (omega arith) (omega arith) (omega arith) lists_none in
-    subst (λ t. Lists lowest t (freed_down 1)) high (subst (λ l. Lists l 4000 (freed_down 1)) low (subst (Lists 3999 4000) (sym (freed_first (record { nfree = 0; free = filled 100 []; blocks = [] }) 3999 refl)) first))
+    let first : Lists 3999 4000 (pushed 1 (slice_set (padded 100 []) 0 0) 3999 [] []) = lists_more (record { nfree = 1; free = slice_set (padded 100 []) 0 0; blocks = [] }) 3999 4000 [] (omega arith) (omega arith) (omega arith) lists_none in
+    subst (λ t. Lists lowest t (freed_down 1)) high (subst (λ l. Lists l 4000 (freed_down 1)) low (subst (Lists 3999 4000) (sym (freed_first (record { nfree = 0; free = padded 100 []; blocks = [] }) 3999 refl)) first))
 listed (suc (suc count)) lowest top hundreds sum some any is under near =
     let place : lowest ≡ 3999 - suc count = omega arith in
     elim (eq-or-lt_of_le under) [
@@ -151,52 +152,52 @@ numbers_are lowest numbers some below long each =
     let list : Lists lowest ((lowest + 99) / 100 * 100) (freed_down (4000 - lowest)) = listed_from lowest some below in
     same_number_lists numbers (freed_down (4000 - lowest)).free (long ∙ sym list.long) (λ i h. each i (omega arith) ∙ sym (list.each i (omega arith)))
 
-written_full : (list : FreeList) → list.nfree ≡ 100 → written list ≡ 100 ∷ list.free
-written_full list h = rw h refl
+words_of_full : (list : FreeList) → list.nfree ≡ 100 → words_freed list ≡ 100 ∷ list.free
+words_of_full list h = rw h refl
 
-written_part : (list : FreeList) → list.nfree ≢ 100 → written list ≡ []
-written_part list h = rw (unequal list.nfree 100 h) refl
+words_of_part : (list : FreeList) → list.nfree ≢ 100 → words_freed list ≡ []
+words_of_part list h = rw (unequal list.nfree 100 h) refl
 
-blocks_freed : (list : FreeList) (b : ℕ) → (freed list b).blocks ≡ filled 512 (bytes_of (written list)) ++ list.blocks
+blocks_freed : (list : FreeList) (b : ℕ) → (freed list b).blocks ≡ padded 512 (bytes_of (words_freed list)) ++ list.blocks
 blocks_freed list b = elim (eq-or-lt_of_le {n = 0} {m = list.nfree} (omega arith)) [
-  | inl none ↦ ap (λ l. l.blocks) (freed_first list b (sym none)) ∙ ap (λ w. filled 512 (bytes_of w) ++ list.blocks) (sym (written_part list (λ e. omega arith)))
+  | inl none ↦ ap (λ l. l.blocks) (freed_first list b (sym none)) ∙ ap (λ w. padded 512 (bytes_of w) ++ list.blocks) (sym (words_of_part list (λ e. omega arith)))
   | inr some ↦ elim (cases_lt list.nfree 100) [
     | inl few ↦ other some (λ e. omega arith)
     | inr many ↦ elim (eq-or-lt_of_le many) [
-      | inl full ↦ ap (λ l. l.blocks) (freed_full list b (sym full)) ∙ ap (λ w. filled 512 (bytes_of w) ++ list.blocks) (sym (written_full list (sym full)))
+      | inl full ↦ ap (λ l. l.blocks) (freed_full list b (sym full)) ∙ ap (λ w. padded 512 (bytes_of w) ++ list.blocks) (sym (words_of_full list (sym full)))
       | inr over ↦ other some (λ e. omega arith)
     ]
   ]
 ]
   where
-    other : 0 < list.nfree → list.nfree ≢ 100 → (freed list b).blocks ≡ filled 512 (bytes_of (written list)) ++ list.blocks
-    other some few = ap (λ l. l.blocks) (freed_more list b (λ e. omega arith) few) ∙ ap (λ w. filled 512 (bytes_of w) ++ list.blocks) (sym (written_part list few))
+    other : 0 < list.nfree → list.nfree ≢ 100 → (freed list b).blocks ≡ padded 512 (bytes_of (words_freed list)) ++ list.blocks
+    other some few = ap (λ l. l.blocks) (freed_more list b (λ e. omega arith) few) ∙ ap (λ w. padded 512 (bytes_of w) ++ list.blocks) (sym (words_of_part list few))
 
--- the free blocks from one on are that block and those behind it
+-- the free blocks from one on are that block and those after it
 pub blocks_from : (b : ℕ) → b < 4000 → (freed_down (4000 - b)).blocks ≡ free_block b ++ (freed_down (4000 - (b + 1))).blocks
 unfolding free_block freed_down
 blocks_from b below =
     let count : suc (3999 - b) ≡ 4000 - b = omega arith in
     let rest : 3999 - b ≡ 4000 - (b + 1) = omega arith in
-    ap (λ n. (freed_down n).blocks) (sym count) ∙ blocks_freed (freed_down (3999 - b)) (3999 - (3999 - b)) ∙ ap (λ n. filled 512 (bytes_of (written (freed_down (3999 - b)))) ++ (freed_down n).blocks) rest
+    ap (λ n. (freed_down n).blocks) (sym count) ∙ blocks_freed (freed_down (3999 - b)) (3999 - (3999 - b)) ∙ ap (λ n. padded 512 (bytes_of (words_freed (freed_down (3999 - b)))) ++ (freed_down n).blocks) rest
 
 -- the first of each hundred holds the list of the hundred above
-pub full_block : (b : ℕ) (numbers : List ℕ) → b < 4000 → b % 100 ≡ 0 → numbers ≡ (freed_down (4000 - (b + 1))).free → filled 512 (bytes_of (100 ∷ numbers)) ≡ free_block b
+pub full_block : (b : ℕ) (numbers : List ℕ) → b < 4000 → b % 100 ≡ 0 → numbers ≡ (freed_down (4000 - (b + 1))).free → padded 512 (bytes_of (100 ∷ numbers)) ≡ free_block b
 unfolding free_block
 full_block b numbers below first is =
     let count : 4000 - (b + 1) ≡ 3999 - b = omega arith in
     let list : Lists (b + 1) ((b + 1 + 99) / 100 * 100) (freed_down (4000 - (b + 1))) = listed_from (b + 1) (omega arith) (omega arith) in
     let full : (freed_down (4000 - (b + 1))).nfree ≡ 100 = omega (arith, list.count) in
-    let spelled : written (freed_down (4000 - (b + 1))) ≡ 100 ∷ numbers = written_full (freed_down (4000 - (b + 1))) full ∙ ap (λ l. 100 ∷ l) (sym is) in
-    ap (λ w. filled 512 (bytes_of w)) (sym spelled) ∙ ap (λ n. filled 512 (bytes_of (written (freed_down n)))) count
+    let spelled : words_freed (freed_down (4000 - (b + 1))) ≡ 100 ∷ numbers = words_of_full (freed_down (4000 - (b + 1))) full ∙ ap (λ l. 100 ∷ l) (sym is) in
+    ap (λ w. padded 512 (bytes_of w)) (sym spelled) ∙ ap (λ n. padded 512 (bytes_of (words_freed (freed_down n)))) count
 
 none_listed : (freed_down 0).nfree ≡ 0
 unfolding freed_down
 none_listed = refl
 
-pub blank_block : (b : ℕ) → b < 4000 → b % 100 ≢ 0 → filled 512 [] ≡ free_block b
+pub blank_block : (b : ℕ) → b < 4000 → b % 100 ≢ 0 → padded 512 [] ≡ free_block b
 unfolding free_block bytes_of
-blank_block b below other = ap (λ w. filled 512 (bytes_of w)) (sym (written_part (freed_down (3999 - b)) (part b below other)))
+blank_block b below other = ap (λ w. padded 512 (bytes_of w)) (sym (words_of_part (freed_down (3999 - b)) (part b below other)))
   where
     part : (b : ℕ) → b < 4000 → b % 100 ≢ 0 → (freed_down (3999 - b)).nfree ≢ 100
     part b below other = elim (eq-or-lt_of_le {n = b} {m = 3999} (omega arith)) [
@@ -215,6 +216,6 @@ pub no_blocks : (count : ℕ) → count ≡ 0 → (freed_down count).blocks ≡ 
 unfolding freed_down
 no_blocks count none = ap (λ n. (freed_down n).blocks) none
 
--- blocks that are put behind others come off the front of those that are still to be put
-pub blocks_behind : (old new block rest whole all : List ℕ) → new ≡ old ++ block → whole ≡ block ++ rest → old ++ whole ≡ all → new ++ rest ≡ all
-blocks_behind old new block rest whole all put front is = ap (λ l. l ++ rest) put ∙ append_assoc old block rest ∙ ap (λ l. old ++ l) (sym front) ∙ is
+-- blocks that are put after others come off the front of those that are still to be put
+pub blocks_after : (old new block rest whole all : List ℕ) → new ≡ old ++ block → whole ≡ block ++ rest → old ++ whole ≡ all → new ++ rest ≡ all
+blocks_after old new block rest whole all put front is = ap (λ l. l ++ rest) put ∙ append_assoc old block rest ∙ ap (λ l. old ++ l) (sym front) ∙ is

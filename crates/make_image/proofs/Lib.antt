@@ -1,4 +1,4 @@
-pub mod BytesLemmas
+pub mod PaddedLemmas
 pub mod FilesLemmas
 pub mod FreeListLemmas
 pub mod ImageLemmas

@@ -2,7 +2,9 @@
 use Rattle.std.specs.Prelude.{ℕ, ◌+◌, ◌*◌, ◌/◌, ◌%◌, List, [], ◌∷◌, ◌++◌, map, codes}
 use Rattle.std.specs.List.{range_with_len, flat_map}
 use Rattle.fs_codec.specs.declared.entry.DirEntry.{DirEntry}
-use Rattle.make_image.specs.Bytes.{filled, bytes_of, entry_bytes}
+use Rattle.fs_codec.specs.declared.modes.TheConstants.{IALLOC, IFDIR, IFCHR}
+use Rattle.fs_codec.specs.Bytes.{bytes_of, entry_bytes}
+use Rattle.make_image.specs.Padded.{padded}
 
 -- a directory's or a plain file's bytes, or the numbers of a device, 256 * major + minor
 pub data Content : Type 0 where
@@ -14,15 +16,15 @@ pub record Node : Type 0 where
   pub nlink : ℕ
   pub content : Content
 
--- An entry's name is filled up with NULs.
+-- An entry's name is padded up with NULs.
 unfoldable pub entry : ℕ → List ℕ → DirEntry
-entry ino name = record { ino = ino; name = filled 14 name }
+entry ino name = record { ino = ino; name = padded 14 name }
 
 abbrev pub directory : ℕ → List DirEntry → Node
-directory nlink entries = record { mode = 0o140755; nlink = nlink; content = Bytes (flat_map entry_bytes entries) }
+directory nlink entries = record { mode = IALLOC + IFDIR + 0o755; nlink = nlink; content = Bytes (flat_map entry_bytes entries) }
 
 abbrev pub device : ℕ → Node
-device numbers = record { mode = 0o120666; nlink = 1; content = Device numbers }
+device numbers = record { mode = IALLOC + IFCHR + 0o666; nlink = 1; content = Device numbers }
 
 -- the words of /etc/init: the header of a.out(V), which says 0156 bytes of text and 0144 of bss, and the text
 unfoldable pub init : List ℕ
@@ -61,14 +63,14 @@ abbrev pub byte_of : ℕ → ℕ → ℕ → ℕ
 byte_of n k i = (n + k + i) % 256
 
 abbrev pub plain_file : ℕ → ℕ → Node
-plain_file n k = record { mode = 0o100644; nlink = 1; content = Bytes (map (byte_of n k) (range_with_len 0 (size_of n k))) }
+plain_file n k = record { mode = IALLOC + 0o644; nlink = 1; content = Bytes (map (byte_of n k) (range_with_len 0 (size_of n k))) }
 
 -- inodes 1 to 7: the root, /etc, /dev, /u, /dev/tty8, /dev/null, /etc/init
 unfoldable pub fixed_nodes : ℕ → List Node
 fixed_nodes n =
     directory 5 root ∷ directory 2 etc ∷ directory 2 dev ∷ directory 2 (users (n % 100))
     ∷ device 0 ∷ device 2050
-    ∷ record { mode = 0o100755; nlink = 1; content = Bytes (bytes_of init) }
+    ∷ record { mode = IALLOC + 0o755; nlink = 1; content = Bytes (bytes_of init) }
     ∷ []
 
 -- from inode 8 on: /u/f00, /u/f01 and so on

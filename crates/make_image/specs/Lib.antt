@@ -1,4 +1,4 @@
-pub mod Bytes
+pub mod Padded
 pub mod Files
 pub mod FreeList
 pub mod Image

@@ -1,10 +1,12 @@
-//! Words, inodes and directory entries behind the bytes that are there.
+//! Words, inodes and directory entries after the bytes that are there.
 ghost use Rattle.std.specs.Prelude.{◌≡◌, ℕ, ◌+◌, ◌*◌, ◌%◌, ◌/◌, ◌^◌, ◌<◌, ◌≤◌, [], ◌∷◌, ◌++◌, length, slice_index, vec_len, OnOk};
 ghost use Rattle.fs_codec.specs.Fields.{fields_of};
-ghost use Rattle.make_image.specs.Bytes.{bytes_of, filled, super_bytes, inode_bytes, entry_bytes};
+ghost use Rattle.fs_codec.specs.Bytes.{bytes_of, super_bytes, inode_bytes, entry_bytes};
+ghost use Rattle.make_image.specs.Padded.{padded};
 
-use byteorder::{ByteOrder, LittleEndian};
-use fs_codec::{DirEntry, DiskNode, SuperBlock, write_entry, write_node, write_super};
+use fs_codec::{
+    BLOCK_SIZE, DirEntry, DiskNode, SuperBlock, put_word, write_entry, write_node, write_super,
+};
 use std::alloc::AllocError;
 
 pub fn push_words(bytes: &mut Vec<u8>, words: &[u16]) -> Result<(), AllocError>
@@ -18,12 +20,12 @@ pub fn push_words(bytes: &mut Vec<u8>, words: &[u16]) -> Result<(), AllocError>
 }
 
 fn push_word(bytes: &mut Vec<u8>, word: u16) -> Result<(), AllocError>
-    ensures items { OnOk result (bytes.new.items ≡ bytes.old.items ++ word % 256 ∷ word / 256 ∷ []) }
+    ensures items { OnOk result (bytes.new.items ≡ bytes.old.items ++ bytes_of (word ∷ [])) }
     ensures len { OnOk result (vec_len bytes.new ≡ vec_len bytes.old + 2) }
 {
-    let mut pair = [0; 2];
-    LittleEndian::write_u16(&mut pair, word);
-    bytes.extend_from_slice(&pair)
+    let mut spelled = [0; 2];
+    put_word(&mut spelled, 0, word);
+    push_bytes(bytes, &spelled)
 }
 
 pub fn push_node(bytes: &mut Vec<u8>, node: &DiskNode) -> Result<(), AllocError>
@@ -46,10 +48,10 @@ pub fn push_entry(bytes: &mut Vec<u8>, entry: &DirEntry) -> Result<(), AllocErro
 
 /// A block whose first 416 bytes are the super-block, and the others 0.
 pub fn push_super_block(bytes: &mut Vec<u8>, head: &SuperBlock) -> Result<(), AllocError>
-    ensures items { OnOk result (bytes.new.items ≡ bytes.old.items ++ filled 512 (super_bytes head.now)) }
-    ensures len { OnOk result (vec_len bytes.new ≡ vec_len bytes.old + 512) }
+    ensures items { OnOk result (bytes.new.items ≡ bytes.old.items ++ padded BLOCK_SIZE (super_bytes head.now)) }
+    ensures len { OnOk result (vec_len bytes.new ≡ vec_len bytes.old + BLOCK_SIZE) }
 {
-    let mut spelled = [0; 512];
+    let mut spelled = [0; BLOCK_SIZE];
     write_super(head, &mut spelled);
     push_bytes(bytes, &spelled)
 }
@@ -62,11 +64,11 @@ fn push_bytes(bytes: &mut Vec<u8>, more: &[u8]) -> Result<(), AllocError>
     bytes.extend_from_slice(more)
 }
 
-/// Puts `more` behind the bytes, and zeros up to `size`.
-pub fn push_filled(bytes: &mut Vec<u8>, more: &[u8], size: usize) -> Result<(), AllocError>
+/// Puts `more` after the bytes, and zeros up to `size`.
+pub fn push_padded(bytes: &mut Vec<u8>, more: &[u8], size: usize) -> Result<(), AllocError>
     requires within { length more.now ≤ size }
     requires fits { size ≤ 2 ^ 32 }
-    ensures items { OnOk result (bytes.new.items ≡ bytes.old.items ++ filled size more.now) }
+    ensures items { OnOk result (bytes.new.items ≡ bytes.old.items ++ padded size more.now) }
     ensures len { OnOk result (vec_len bytes.new ≡ vec_len bytes.old + size) }
 {
     let end = bytes.len() + size;

@@ -1,18 +1,21 @@
 //! Files and devices with their inodes, added one by one.
 ghost use Rattle.std.specs.Prelude.{◌≡◌, ◌+◌, ◌*◌, ◌/◌, ◌^◌, ◌<◌, ◌≤◌, [], length, OnOk};
 ghost use Rattle.std.specs.List.{range_with_len};
-ghost use Rattle.make_image.specs.Bytes.{filled};
+ghost use Rattle.make_image.specs.Padded.{padded};
 ghost use Rattle.make_image.specs.Files.{Bytes, device};
 
-use crate::bytes::{push_filled, push_node};
-use fs_codec::DiskNode;
+use crate::bytes::{push_node, push_padded};
+use fs_codec::{BLOCK_SIZE, DiskNode, IALLOC, IFCHR};
 use std::alloc::{AllocError, Global};
 
-/// The block behind the inodes.
-const FIRST_BLOCK: u16 = 62;
+/// The blocks of inodes.
+pub const INODE_BLOCKS: u16 = 60;
+
+/// The first block after the inodes.
+pub const FIRST_BLOCK: u16 = 62;
 
 /// The mode of a device for characters that all may read and write.
-const DEVICE: u16 = 0o120666;
+const DEVICE: u16 = IALLOC | IFCHR | 0o666;
 
 /// The bytes of the inodes so far, and of the blocks that their files have.
 #[derive(Drop)]
@@ -22,7 +25,7 @@ pub struct Files {
 }
 
 impl Files {
-    ghost use Rattle.make_image.specs.Adding.{Adds};
+    ghost use Rattle.make_image.specs.Adding.{AddsNode};
 
     pub fn new(alloc: Global) -> Self
         ensures inodes { result.inodes.items ≡ [] }
@@ -34,20 +37,20 @@ impl Files {
         }
     }
 
-    /// The first block behind those of the files so far.
+    /// The first block after those of the files so far.
     pub fn next_block(&self) -> u16
         requires { length self.now.contents.items ≤ 4096 * 106 }
-        ensures { result ≡ 62 + length self.now.contents.items / 512 }
+        ensures { result ≡ FIRST_BLOCK + length self.now.contents.items / BLOCK_SIZE }
     {
-        FIRST_BLOCK + (self.contents.len() / 512) as u16
+        FIRST_BLOCK + (self.contents.len() / BLOCK_SIZE) as u16
     }
 
     pub fn add_file(&mut self, mode: u16, nlink: u8, bytes: &[u8]) -> Result<(), AllocError>
         requires small { length bytes.now ≤ 4096 }
         requires room { length self.old.contents.items ≤ 4096 * 105 }
-        ensures { OnOk result (Adds (record { mode = mode; nlink = nlink; content = Bytes bytes.now }) self.old self.new) }
+        ensures { OnOk result (AddsNode (record { mode = mode; nlink = nlink; content = Bytes bytes.now }) self.old self.new) }
     {
-        let blocks = bytes.len().div_ceil(512);
+        let blocks = bytes.len().div_ceil(BLOCK_SIZE);
         let node = DiskNode {
             mode,
             nlink,
@@ -59,12 +62,12 @@ impl Files {
             modtime: 0,
         };
         push_node(&mut self.inodes, &node)?;
-        push_filled(&mut self.contents, bytes, 512 * blocks)
+        push_padded(&mut self.contents, bytes, BLOCK_SIZE * blocks)
     }
 
     pub fn add_device(&mut self, numbers: u16) -> Result<(), AllocError>
         requires room { length self.old.contents.items ≤ 4096 * 105 }
-        ensures { OnOk result (Adds (device numbers) self.old self.new) }
+        ensures { OnOk result (AddsNode (device numbers) self.old self.new) }
     {
         let node = DiskNode {
             mode: DEVICE,
@@ -84,7 +87,7 @@ impl Files {
 fn addresses(first: u16, blocks: u16) -> [u16; 8]
     requires few { blocks ≤ 8 }
     requires fits { first + blocks < 2 ^ 16 }
-    ensures { result ≡ filled 8 (range_with_len first blocks) }
+    ensures { result ≡ padded 8 (range_with_len first blocks) }
 {
     let mut addresses = [0; 8];
     for i in 0..blocks {

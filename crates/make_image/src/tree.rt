@@ -2,23 +2,23 @@
 ghost use Rattle.std.specs.Prelude.{◌≡◌, ◌*◌, ◌%◌, ◌<◌, ◌≤◌, length, vec_len, IfOk, map};
 ghost use Rattle.std.specs.List.{flat_map, range_with_len};
 ghost use Rattle.make_image.specs.Adding.{Holds};
-ghost use Rattle.make_image.specs.Bytes.{bytes_of, entry_bytes};
+ghost use Rattle.fs_codec.specs.Bytes.{bytes_of, entry_bytes};
 ghost use Rattle.make_image.specs.Files.{init, byte_of, size_of, fixed_nodes, nodes};
 ghost use Rattle.make_image.specs.Files.{entry as entry_of, name_of, root as root_of, etc as etc_of, dev as dev_of, users as users_of};
 
 use crate::bytes::{push_entry, push_words};
 use crate::files::Files;
-use fs_codec::DirEntry;
+use fs_codec::{BLOCK_SIZE, DirEntry, IALLOC, IFDIR};
 use std::alloc::{AllocError, Global};
 
 /// The mode of a directory that all may read and search.
-const DIRECTORY: u16 = 0o140755;
+const DIRECTORY: u16 = IALLOC | IFDIR | 0o755;
 
 /// The mode of a program that all may read and execute.
-const PROGRAM: u16 = 0o100755;
+const PROGRAM: u16 = IALLOC | 0o755;
 
 /// The mode of a file that all may read.
-const PLAIN: u16 = 0o100644;
+const PLAIN: u16 = IALLOC | 0o644;
 
 /// The file `/etc/init`: the header of a.out(V) with 0156 bytes of text and 0144 of bss, and the text.
 #[rattlefmt::skip]
@@ -38,7 +38,7 @@ pub fn files(alloc: Global, n: u32) -> Result<Files, AllocError>
     ensures nodes { IfOk result (λ f. Holds (nodes n) f) }
     ensures few { IfOk result (λ f. length f.inodes.items ≤ 32 * 106) }
     ensures small { IfOk result (λ f. length f.contents.items ≤ 4096 * 106) }
-    ensures whole { IfOk result (λ f. length f.contents.items % 512 ≡ 0) }
+    ensures whole { IfOk result (λ f. length f.contents.items % BLOCK_SIZE ≡ 0) }
 {
     let mut files = fixed_files(alloc, n)?;
     for k in 0..n % 100 {

@@ -1,7 +1,7 @@
 use Rattle.std.proofs.Common.{◌≡◌, sym, ap, ◌∙◌}
 use Rattle.std.proofs.Common.{rules}
-use Rattle.make_image.specs.Bytes.{entry_bytes}
-use Rattle.make_image.proofs.BytesLemmas.{entry_bytes_of}
+use Rattle.fs_codec.specs.Bytes.{entry_bytes}
+use Rattle.fs_codec.proofs.BytesLemmas.{entry_bytes_of}
 use Rattle.make_image.proofs.bytes.push_entry.Goals as goal
 
 pub returns-clause-items : goal.returns-clause-items

@@ -1,8 +1,8 @@
 use Rattle.std.proofs.Common.{◌≡◌, sym, ap, ◌∙◌}
 use Rattle.std.proofs.Common.{rules}
 use Rattle.fs_codec.specs.Fields.{fields_of}
-use Rattle.make_image.specs.Bytes.{inode_bytes}
-use Rattle.make_image.proofs.BytesLemmas.{inode_bytes_of}
+use Rattle.fs_codec.specs.Bytes.{inode_bytes}
+use Rattle.fs_codec.proofs.BytesLemmas.{inode_bytes_of}
 use Rattle.make_image.proofs.bytes.push_node.Goals as goal
 
 pub returns-clause-items : goal.returns-clause-items

@@ -1,6 +1,7 @@
 use Rattle.std.proofs.Common.{sym, append-nil, arith}
-use Rattle.make_image.specs.Bytes.{bytes_of}
-use Rattle.make_image.proofs.BytesLemmas.{bytes_of_more, appended}
+use Rattle.fs_codec.specs.Bytes.{bytes_of}
+use Rattle.fs_codec.proofs.BytesLemmas.{bytes_of_more}
+use Rattle.make_image.proofs.PaddedLemmas.{appended}
 use Rattle.make_image.proofs.bytes.push_words.Goals as goal
 
 pub loop-word-init : goal.loop-word-init

@@ -1,5 +1,5 @@
 use Rattle.std.proofs.Common.{◌≡◌, ◌+◌, ◌*◌, ◌++◌, take, vec_len}
-use Rattle.make_image.specs.Bytes.{bytes_of}
+use Rattle.fs_codec.specs.Bytes.{bytes_of}
 use Rattle.make_image.proofs.bytes.push_words.Given as goal
 
 abbrev pub invariant-loop-word : goal.invariant-loop-word

@@ -1,6 +1,6 @@
 use Rattle.std.proofs.Common.{◌≡◌, ◌*◌, take, vec_len}
 use Rattle.std.specs.List.{flat_map}
-use Rattle.make_image.specs.Bytes.{entry_bytes}
+use Rattle.fs_codec.specs.Bytes.{entry_bytes}
 use Rattle.make_image.proofs.tree.directory.Given as goal
 
 abbrev pub invariant-loop-entry : goal.invariant-loop-entry

@@ -1,6 +1,6 @@
 use Rattle.std.proofs.Common.{◌≡◌, ◌+◌, ◌∷◌, [], ◌++◌, ap, ◌∙◌, sym, arith}
 use Rattle.std.specs.Prelude.{codes}
-use Rattle.make_image.specs.Bytes.{entry_bytes}
+use Rattle.fs_codec.specs.Bytes.{entry_bytes}
 use Rattle.make_image.specs.Files.{entry, name_of}
 use Rattle.make_image.proofs.FilesLemmas.{flat_map_one_more}
 use Rattle.make_image.proofs.tree.users.Goals as goal

@@ -1,6 +1,6 @@
 use Rattle.std.proofs.Common.{◌≡◌, ◌+◌, ◌*◌, vec_len}
 use Rattle.std.specs.List.{flat_map}
-use Rattle.make_image.specs.Bytes.{entry_bytes}
+use Rattle.fs_codec.specs.Bytes.{entry_bytes}
 use Rattle.make_image.specs.Files.{users}
 use Rattle.make_image.proofs.tree.users.Given as goal
 

@@ -1,6 +1,0 @@
-use Rattle.std.proofs.Common.{arith}
-use Rattle.fs_check.proofs.ImageLemmas.{bytes_by_places}
-use Rattle.fs_check.proofs.image.read_bytes.Goals as goal
-
-pub returns : goal.returns
-returns c = bytes_by_places _ _ _ _ (omega arith) (λ k h. c.loop-k.invariant k (omega arith))
