@@ -5,8 +5,6 @@
 
 mod instr;
 mod reading;
-#[cfg(test)]
-mod tests;
 
 pub use instr::{Condition, Flags, Instr, Mode, Operand, Reg, SoftTrap, Width};
 pub use reading::decode;

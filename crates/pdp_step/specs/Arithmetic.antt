@@ -47,33 +47,33 @@ swapped d =
     record { value = t; cc = flag_bits (record { n = nat_le 0o200 (t % 256); z = t % 256 == 0; v = false; c = false }) }
 
 -- s is the source, d the destination, c the old C; CMP and BIT store nothing of their result
-unfoldable pub combine_of : Combine → Width → ℕ → ℕ → Bool → Made
-combine_of Compare w s d c =
+unfoldable pub combine_of : Combine → Width → Bool → ℕ → ℕ → Made
+combine_of Compare w c s d =
     let t = (s + (size w - d)) % size w in
     result_of w t (not (same_sign w s d) && same_sign w t d) (nat_lt s d)
-combine_of TestBits w s d c = result_of w (bit_and s d) false c
-combine_of ClearBits w s d c = result_of w (bit_and d (size w - 1 - s)) false c
-combine_of SetBits w s d c = result_of w (bit_or d s) false c
-combine_of Sum w s d c =
+combine_of TestBits w c s d = result_of w (bit_and s d) false c
+combine_of ClearBits w c s d = result_of w (bit_and d (size w - 1 - s)) false c
+combine_of SetBits w c s d = result_of w (bit_or d s) false c
+combine_of Sum w c s d =
     let t = (d + s) % size w in
     result_of w t (same_sign w s d && not (same_sign w t s)) (nat_le (size w) (d + s))
-combine_of Difference w s d c =
+combine_of Difference w c s d =
     let t = (d + (size w - s)) % size w in
     result_of w t (not (same_sign w s d) && same_sign w t s) (nat_lt d s)
-combine_of ExclusiveOr w s d c = result_of w (bit_xor d s) false c
+combine_of ExclusiveOr w c s d = result_of w (bit_xor d s) false c
 
 -- d is the destination, c the old C
-unfoldable pub change_of : Change → Width → ℕ → Bool → Made
-change_of Complement w d c = result_of w (size w - 1 - d) false true
-change_of Increase w d c = result_of w ((d + 1) % size w) (d == half w - 1) c
-change_of Decrease w d c = result_of w ((d + (size w - 1)) % size w) (d == half w) c
-change_of Negate w d c = let t = (size w - d) % size w in result_of w t (t == half w) (not (t == 0))
-change_of AddCarry w d c = result_of w ((d + one_if c) % size w) (d == half w - 1 && c) (d == size w - 1 && c)
-change_of SubtractCarry w d c = result_of w ((d + (size w - one_if c)) % size w) (d == half w && c) (d == 0 && c)
-change_of RotateRight w d c = shifted_of w (d / 2 + (if c then half w else 0)) (d % 2 == 1)
-change_of RotateLeft w d c = shifted_of w ((2 * d + one_if c) % size w) (nat_le (half w) d)
-change_of ShiftRight w d c = shifted_of w (d / 2 + (if nat_le (half w) d then half w else 0)) (d % 2 == 1)
-change_of ShiftLeft w d c = shifted_of w (2 * d % size w) (nat_le (half w) d)
+unfoldable pub change_of : Change → Width → Bool → ℕ → Made
+change_of Complement w c d = result_of w (size w - 1 - d) false true
+change_of Increase w c d = result_of w ((d + 1) % size w) (d == half w - 1) c
+change_of Decrease w c d = result_of w ((d + (size w - 1)) % size w) (d == half w) c
+change_of Negate w c d = let t = (size w - d) % size w in result_of w t (t == half w) (not (t == 0))
+change_of AddCarry w c d = result_of w ((d + one_if c) % size w) (d == half w - 1 && c) (d == size w - 1 && c)
+change_of SubtractCarry w c d = result_of w ((d + (size w - one_if c)) % size w) (d == half w && c) (d == 0 && c)
+change_of RotateRight w c d = shifted_of w (d / 2 + (if c then half w else 0)) (d % 2 == 1)
+change_of RotateLeft w c d = shifted_of w ((2 * d + one_if c) % size w) (nat_le (half w) d)
+change_of ShiftRight w c d = shifted_of w (d / 2 + (if nat_le (half w) d then half w else 0)) (d % 2 == 1)
+change_of ShiftLeft w c d = shifted_of w (2 * d % size w) (nat_le (half w) d)
 
 -- when a branch is taken
 unfoldable pub is_taken : Condition → Flags → Bool

@@ -1,9 +1,8 @@
 -- How the address of an operand is formed from its mode and register, and how the operand is read. All addresses and words
 -- go round modulo 65536. PDP-11/40 Processor Handbook, chapter 3 (addressing modes).
-use Rattle.std.specs.Prelude.{ℕ, ◌%◌, List, Result, Ok, Err}
+use Rattle.std.specs.Prelude.{ℕ, ◌%◌, Result, Ok, Err}
 use Rattle.v6_base.specs.declared.space.Trap.{Trap}
 use Rattle.v6_base.specs.declared.space.Trap.TheVariants.{Odd, Segment}
-use Rattle.v6_base.specs.Image.{Image}
 use Rattle.v6_base.specs.Access.{then_do, load_byte, load_word}
 use Rattle.pdp_decode.specs.declared.instr.Width.{Width}
 use Rattle.pdp_decode.specs.declared.instr.Width.TheVariants.{Word, Byte}
@@ -12,9 +11,10 @@ use Rattle.pdp_decode.specs.declared.instr.Mode.TheVariants.{Register, Deferred,
 use Rattle.pdp_decode.specs.declared.instr.Reg.{Reg}
 use Rattle.pdp_decode.specs.declared.instr.Reg.TheVariants.{R0, R1, R2, R3, R4, R5, Sp, Pc}
 use Rattle.pdp_decode.specs.declared.instr.Operand.{Operand}
-use Rattle.pdp_step.specs.declared.operands.Spot.{Spot}
-use Rattle.pdp_step.specs.declared.operands.Spot.TheVariants.{InRegister, InMemory}
-use Rattle.pdp_step.specs.Registers.{plus, minus, reg_in, with_reg, passed}
+use Rattle.pdp_step.specs.declared.operands.Location.{Location}
+use Rattle.pdp_step.specs.declared.operands.Location.TheVariants.{InRegister, InMemory}
+use Rattle.pdp_step.specs.Registers.{plus, minus}
+use Rattle.pdp_step.specs.Machine.{Machine, reg_in, with_reg, passed}
 
 -- what stops an instruction before anything has changed; a segmentation fault names the value that R6 has reached
 pub data Stop : Type 0 where
@@ -25,16 +25,16 @@ abbrev pub stop_with : Trap → ℕ → Stop
 stop_with Odd sp = OddAddress
 stop_with Segment sp = NoSegment sp
 
-abbrev pub stop_of : Trap → List ℕ → Stop
-stop_of trap r = stop_with trap (reg_in r Sp)
+abbrev pub stop_of : Trap → Machine → Stop
+stop_of trap m = stop_with trap (reg_in m Sp)
 
 -- an access of memory, with the registers as they stand by then
-abbrev pub at_memory : {A : Type 0} → List ℕ → Result A Trap → Result A Stop
-at_memory r (Ok a) = Ok a
-at_memory r (Err trap) = Err (stop_of trap r)
+abbrev pub at_memory : {A : Type 0} → Machine → Result A Trap → Result A Stop
+at_memory m (Ok a) = Ok a
+at_memory m (Err trap) = Err (stop_of trap m)
 
-unfoldable pub word_at : Image → List ℕ → ℕ → Result ℕ Stop
-word_at m r a = at_memory r (load_word m a)
+unfoldable pub word_at : Machine → ℕ → Result ℕ Stop
+word_at m a = at_memory m (load_word m.image a)
 
 -- a byte instruction steps by 1, but for R6 and PC, which stay even
 abbrev pub byte_step : Reg → ℕ
@@ -51,44 +51,44 @@ abbrev pub step_size : Width → Reg → ℕ
 step_size Word n = 2
 step_size Byte n = byte_step n
 
--- where an operand is, and the registers when that is known
+-- where an operand is, and the machine when that is known
 pub record Formed : Type 0 where
-  pub spot : Spot
-  pub r : List ℕ
+  pub location : Location
+  pub machine : Machine
 
-abbrev pub formed_at : ℕ → List ℕ → Result Formed Stop
-formed_at address r = Ok (record { spot = InMemory address; r = r })
+abbrev pub formed_at : Machine → ℕ → Result Formed Stop
+formed_at m address = Ok (record { location = InMemory address; machine = m })
 
 -- the address that a word in memory holds
-abbrev pub through : Image → List ℕ → ℕ → Result Formed Stop
-through m r a = then_do (word_at m r a) (λ address. formed_at address r)
+abbrev pub through : Machine → ℕ → Result Formed Stop
+through m a = then_do (word_at m a) (λ address. formed_at m address)
 
 -- in the last two modes PC passes the word X before the register is read
-unfoldable pub formed : Image → List ℕ → Width → Mode → Reg → Result Formed Stop
-formed m r w Register n = Ok (record { spot = InRegister n; r = r })
-formed m r w Deferred n = formed_at (reg_in r n) r
-formed m r w Increment n = formed_at (reg_in r n) (with_reg r n (plus (reg_in r n) (step_size w n)))
-formed m r w IncrementDeferred n = through m (with_reg r n (plus (reg_in r n) 2)) (reg_in r n)
-formed m r w Decrement n = let a = minus (reg_in r n) (step_size w n) in formed_at a (with_reg r n a)
-formed m r w DecrementDeferred n = let a = minus (reg_in r n) 2 in through m (with_reg r n a) a
-formed m r w Index n = then_do (word_at m r (reg_in r Pc)) (λ x. formed_at (plus (reg_in (passed r) n) x) (passed r))
-formed m r w IndexDeferred n = then_do (word_at m r (reg_in r Pc)) (λ x. through m (passed r) (plus (reg_in (passed r) n) x))
+unfoldable pub formed : Machine → Width → Mode → Reg → Result Formed Stop
+formed m w Register n = Ok (record { location = InRegister n; machine = m })
+formed m w Deferred n = formed_at m (reg_in m n)
+formed m w Increment n = formed_at (with_reg m n (plus (reg_in m n) (step_size w n))) (reg_in m n)
+formed m w IncrementDeferred n = through (with_reg m n (plus (reg_in m n) 2)) (reg_in m n)
+formed m w Decrement n = let a = minus (reg_in m n) (step_size w n) in formed_at (with_reg m n a) a
+formed m w DecrementDeferred n = let a = minus (reg_in m n) 2 in through (with_reg m n a) a
+formed m w Index n = then_do (word_at m (reg_in m Pc)) (λ x. formed_at (passed m) (plus (reg_in (passed m) n) x))
+formed m w IndexDeferred n = then_do (word_at m (reg_in m Pc)) (λ x. through (passed m) (plus (reg_in (passed m) n) x))
 
 -- a byte operand in a register is its low byte
-unfoldable pub value_at : Image → List ℕ → Width → Spot → Result ℕ Stop
-value_at m r Word (InRegister n) = Ok (reg_in r n)
-value_at m r Byte (InRegister n) = Ok (reg_in r n % 256)
-value_at m r Word (InMemory a) = word_at m r a
-value_at m r Byte (InMemory a) = at_memory r (load_byte m a)
+unfoldable pub value_at : Machine → Width → Location → Result ℕ Stop
+value_at m Word (InRegister n) = Ok (reg_in m n)
+value_at m Byte (InRegister n) = Ok (reg_in m n % 256)
+value_at m Word (InMemory a) = word_at m a
+value_at m Byte (InMemory a) = at_memory m (load_byte m.image a)
 
 -- an operand that is formed and read
 pub record Fetched : Type 0 where
-  pub spot : Spot
+  pub location : Location
   pub value : ℕ
-  pub r : List ℕ
+  pub machine : Machine
 
-unfoldable pub fetched : Image → List ℕ → Width → Operand → Result Fetched Stop
-fetched m r w o =
-    then_do (formed m r w o.mode o.reg) (λ f.
-    then_do (value_at m f.r w f.spot) (λ value.
-    Ok (record { spot = f.spot; value = value; r = f.r })))
+unfoldable pub fetched : Machine → Width → Operand → Result Fetched Stop
+fetched m w o =
+    then_do (formed m w o.mode o.reg) (λ f.
+    then_do (value_at f.machine w f.location) (λ value.
+    Ok (record { location = f.location; value = value; machine = f.machine })))

@@ -190,7 +190,7 @@ pub fn taken(test: Condition, k: Flags) -> bool
 pub fn combined(op: Combine, width: Width, s: u16, d: u16, c: bool) -> Made
     requires source { s < size width }
     requires dest { d < size width }
-    ensures made { result ≡ combine_of op width s d c }
+    ensures made { result ≡ combine_of op width c s d }
     ensures codes { result.cc < 16 }
     ensures small { result.value < size width }
 {
@@ -226,7 +226,7 @@ pub fn combined(op: Combine, width: Width, s: u16, d: u16, c: bool) -> Made
 #[tactic(auto, unfolding(crate::specs::Arithmetic::change_of))]
 pub fn changed(op: Change, width: Width, d: u16, c: bool) -> Made
     requires { d < size width }
-    ensures made { result ≡ change_of op width d c }
+    ensures made { result ≡ change_of op width c d }
     ensures codes { result.cc < 16 }
     ensures small { result.value < size width }
 {

@@ -11,8 +11,6 @@ mod pairs;
 mod regs;
 mod rows;
 mod stepping;
-#[cfg(test)]
-mod tests;
 
 pub use outcome::{Kind, Outcome};
 pub use regs::Regs;
