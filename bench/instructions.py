@@ -99,4 +99,5 @@ def main():
         print(f"{cost(program, words, 100_000):6.1f}  {name}", flush=True)
 
 
-main()
+if __name__ == "__main__":
+    main()

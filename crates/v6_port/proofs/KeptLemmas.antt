@@ -1,15 +1,16 @@
 -- What a change of what is kept shows outside.
-use Rattle.std.proofs.Common.{◌≡◌, ℕ, Bool, true, false, List, [], Result, Ok, Err, rules, arith, ap, subst, refl, sym}
+use Rattle.std.proofs.Common.{◌≡◌, ◌≢◌, ◌<◌, ℕ, Bool, true, false, List, [], ◌≤◌, length, Result, Ok, Err, rules, arith, ap, subst, refl, sym, ◌∙◌}
 use Rattle.v6_port.specs.declared.kept.Kept.{Kept}
 use Rattle.v6_port.specs.declared.host.InPort.{InPort}
 use Rattle.v6_port.specs.declared.host.OutPort.{OutPort}
+use Rattle.v6_port.specs.declared.host.OutPort.TheVariants as out_port
 use Rattle.v6_port.specs.declared.host.Failed.{Failed}
-use Rattle.v6_port.specs.Outside.{Port, In, Out, same, in_number, out_number, port_number, Fixed, OnlyAt}
-use Rattle.v6_port.specs.Calls.{HasFailed, FailedPlainly, FailedToOpen, OpensRead, OpensWrite, Reads, Writes}
+use Rattle.v6_port.specs.Outside.{Port, In, Out, same, in_number, out_number, port_number, is_report, Environment, OnlyAt}
+use Rattle.v6_port.specs.Calls.{HasFailed, FailedPlainly, FailedToOpen, OpensRead, OpensWrite, Reads, Writes, Finishes}
 use Rattle.v6_port.specs.Kept.{silent, untold, kept_at, state_of, outside_of, KeptBut, Faults, Turns}
 
 -- nothing else is seen to change
-pub only_at : (q : Port) (fixed : Fixed) (bytes later : Port → List ℕ) (old new : List Kept) (n : ℕ) → n ≡ port_number q
+pub only_at : (q : Port) (fixed : Environment) (bytes later : Port → List ℕ) (old new : List Kept) (n : ℕ) → n ≡ port_number q
     → KeptBut n old new → ((r : Port) → same q r ≡ false → later r ≡ bytes r)
     → OnlyAt (same q) (outside_of fixed bytes old) (outside_of fixed later new)
 only_at q fixed bytes later old new n is but same_bytes = subst
@@ -20,14 +21,14 @@ only_at q fixed bytes later old new n is but same_bytes = subst
     }) but
 
 -- a fault is seen as a failed call
-pub has_failed : (q : Port) (fixed : Fixed) (bytes later : Port → List ℕ) (old new : List Kept) (n : ℕ) → n ≡ port_number q
+pub has_failed : (q : Port) (fixed : Environment) (bytes later : Port → List ℕ) (old new : List Kept) (n : ℕ) → n ≡ port_number q
     → Faults n old new → later q ≡ bytes q → HasFailed q (outside_of fixed bytes old) (outside_of fixed later new)
 has_failed q fixed bytes later old new n is fault same_bytes = subst
     (λ (n : ℕ). Faults n old new → HasFailed q (outside_of fixed bytes old) (outside_of fixed later new)) (sym is)
     (λ (fault : Faults (port_number q) old new). search (rules, same_bytes)) fault
 
 -- A port that is opened is seen to be open.
-pub opened : (q : Port) (fixed : Fixed) (bytes later : Port → List ℕ) (old new : List Kept) (n : ℕ) → n ≡ port_number q
+pub opened : (q : Port) (fixed : Environment) (bytes later : Port → List ℕ) (old new : List Kept) (n : ℕ) → n ≡ port_number q
     → Turns n true old new
     → (outside_of fixed later new).port q ≡ record ((outside_of fixed bytes old).port q) { is_open = true; bytes = later q }
 opened q fixed bytes later old new n is turned = subst
@@ -78,6 +79,12 @@ module _ (old new : List Kept) (n : ℕ) (fault : Faults n old new) where
     outcome = silent_plainly (Out p) old new n is fault;
   })
 
+  pub finish_fails : (p : OutPort) (r : Result (Unit {0}) Failed) → n ≡ out_number p → r ≡ Err (record {}) → Finishes p (silent old) r (silent new)
+  finish_fails p r is fails = rw fails (record {
+    only = silent_only (Out p) old new n is fault.others;
+    outcome = silent_plainly (Out p) old new n is fault;
+  })
+
 -- a port that a host that tells nothing has opened
 module _ (old new : List Kept) (n : ℕ) (turned : Turns n true old new) where
   pub opens_read : (p : InPort) (name : List ℕ) → n ≡ in_number p → OpensRead p name (silent old) (Ok tt) (silent new)
@@ -90,4 +97,35 @@ module _ (old new : List Kept) (n : ℕ) (turned : Turns n true old new) where
   opens_write p name is = record {
     only = silent_only (Out p) old new n is turned.others;
     outcome = (opened (Out p) untold (λ _. []) (λ _. []) old new n is turned, λ told. absurd (cc));
+  }
+
+-- a port that it has closed
+not_report : (p : OutPort) → p ≢ out_port.Report → is_report (Out p) ≡ false
+not_report out_port.Term other = refl
+not_report out_port.Log other = refl
+not_report out_port.Final other = refl
+not_report out_port.Report other = absurd (other refl)
+
+pub finishes : (old new : List Kept) (n : ℕ) → Turns n false old new
+    → (p : OutPort) → n ≡ out_number p → p ≢ out_port.Report → Finishes p (silent old) (Ok tt) (silent new)
+finishes old new n turned p is other = record {
+  only = silent_only (Out p) old new n is turned.others;
+  outcome = subst (λ (n : ℕ). Turns n false old new → (silent new).port (Out p) ≡ record ((silent old).port (Out p)) { is_open = false }) (sym is)
+      (λ (turned : Turns (out_number p) false old new).
+      ap (λ (kept : Kept). state_of kept (Out p) []) turned.turned
+      ∙ ap (λ (is_open : Bool). record ((silent old).port (Out p)) { is_open = is_open }) (not_report p other)) turned;
+}
+
+-- Reads and writes of a host that tells nothing change nothing that is seen.
+module _ (ports : List Kept) (bytes : List ℕ) (n : ℕ) (within : n ≤ length bytes) where
+  pub reads : (p : InPort) → Reads p (silent ports) bytes (Ok n) (silent ports)
+  reads p = record {
+    only = record { fixed = refl; others = λ q other. refl };
+    outcome = (within, refl, (λ told. absurd (cc)), λ told. absurd (cc));
+  }
+
+  pub writes : (p : OutPort) → (0 < length bytes → 0 < n) → Writes p (silent ports) bytes (Ok n) (silent ports)
+  writes p some = record {
+    only = record { fixed = refl; others = λ q other. refl };
+    outcome = (within, some, refl, λ told. absurd (cc));
   }

@@ -10,13 +10,13 @@ use Rattle.std.proofs.lemmas.Bool.Decides.{nat_tests}
 use Rattle.v6_port.specs.declared.host.OutPort.{OutPort}
 use Rattle.v6_port.specs.declared.host.OutPort.TheVariants as out_port
 use Rattle.v6_port.specs.declared.kept.Kept.{Kept}
-use Rattle.v6_port.specs.declared.files.Named.{Named}
+use Rattle.v6_port.specs.declared.files.NamedFile.{NamedFile}
 use Rattle.v6_port.specs.declared.files.Reading.{Reading}
 use Rattle.v6_port.specs.declared.rooms.Room.{Room}
-use Rattle.v6_port.specs.Outside.{Fixed, Port, In, Out, same, place, in_number, out_number, port_number}
+use Rattle.v6_port.specs.Outside.{Environment, Port, In, Out, same, place, in_number, out_number, port_number}
 use Rattle.v6_port.specs.Kept.{kept_at, state_of, outside_of}
 use Rattle.v6_port.specs.Files.{is_named, first_of, given_by, left_in, memory_bytes}
-use Rattle.v6_port.specs.Memory.{memory_of, Adds, TakesRoom}
+use Rattle.v6_port.specs.Memory.{memory_of, AddsFile, TakesRoom}
 use Rattle.v6_port.specs.Calls.{Writes}
 
 -- texts that are tested for being equal
@@ -35,7 +35,7 @@ first_of-first_of None b c = refl
 first_of-first_of (Some bytes) b c = refl
 
 -- the last of the files is looked at first
-given_by-append : (files : List Named) (file : Named) (name : List ℕ)
+given_by-append : (files : List NamedFile) (file : NamedFile) (name : List ℕ)
     → given_by (files ++ file ∷ []) name ≡ first_of (if is_named name file then Some file.bytes.items else None) (given_by files name)
 given_by-append [] file name = sym (first_of-none _)
 given_by-append (first ∷ files) file name =
@@ -43,17 +43,17 @@ given_by-append (first ∷ files) file name =
     ∙ first_of-first_of (if is_named name file then Some file.bytes.items else None) (given_by files name) _
 
 -- A file more leaves what is being read.
-left_in-append : (files : List Named) (file : Named) (reading : Option Reading) → ForSome reading (λ r. r.file < length files)
+left_in-append : (files : List NamedFile) (file : NamedFile) (reading : Option Reading) → ForSome reading (λ r. r.file < length files)
     → left_in (files ++ file ∷ []) reading ≡ left_in files reading
 left_in-append files file None within = refl
 left_in-append files file (Some r) within = ap (drop r.at)
-    (rw map-append (get_or_append_left (map (λ (f : Named). f.bytes.items) files) _ [] r.file (rw length-map (within r refl))))
+    (rw map-append (get_or_append_left (map (λ (f : NamedFile). f.bytes.items) files) _ [] r.file (rw length-map (within r refl))))
 
-pub adds : (files later : List Named) (names : List (Option (String Global))) (readings : List (Option Reading)) (rooms : List Room) (ports : List Kept)
-    (fails : List ℕ) (calls : ℕ) (file : Named) (name bytes : List ℕ)
+pub adds : (files later : List NamedFile) (names : List (Option (String Global))) (readings : List (Option Reading)) (rooms : List Room) (ports : List Kept)
+    (fails : List ℕ) (calls : ℕ) (file : NamedFile) (name bytes : List ℕ)
     → later ≡ files ++ file ∷ [] → string_bytes file.name ≡ name → file.bytes.items ≡ bytes
     → ((k : ℕ) → ForSome (slice_index_or readings k None) (λ r. r.file < length files))
-    → Adds name bytes (memory_of files names readings rooms ports fails calls) (memory_of later names readings rooms ports fails calls)
+    → AddsFile name bytes (memory_of files names readings rooms ports fails calls) (memory_of later names readings rooms ports fails calls)
 adds files later names readings rooms ports fails calls file name bytes is named holds within = rw is (record {
   gives = given_by-append files file name ∙ rw (named, same_bytes name, holds) refl;
   others = λ other differs. given_by-append files file other ∙ rw (named, other_bytes name other differs) refl;
@@ -94,7 +94,7 @@ module _ {B : Type 0} (f : Room → B) (d : B) (rooms : List Room) (room : Room)
   read_room : (i j : ℕ) → i ≡ j → i < length rooms → room ≡ get_or rooms i room → slice_index_or (map f rooms) j d ≡ f room
   read_room i j is below read = rw (← is) (get_or-map f rooms i room d below ∙ ap f (sym read))
 
-pub takes_room : (p : OutPort) (name : List ℕ) (more : ℕ) (files : List Named) (names : List (Option (String Global))) (readings : List (Option Reading)) (rooms : List Room) (ports : List Kept)
+pub takes_room : (p : OutPort) (name : List ℕ) (more : ℕ) (files : List NamedFile) (names : List (Option (String Global))) (readings : List (Option Reading)) (rooms : List Room) (ports : List Kept)
     (fails : List ℕ) (calls : ℕ) (text : String Global) (room larger : Room) (i j : ℕ)
     → i ≡ place p → j ≡ place p → i < length rooms → j < length names → room ≡ get_or rooms i room
     → string_bytes text ≡ name → larger.free ≡ room.free + more → larger.bytes.items ≡ room.bytes.items
@@ -122,7 +122,7 @@ takes_room p name more files names readings rooms ports fails calls text room la
   bytes_same (Out r) = bytes_kept (place r)
 
 -- a write into a room
-module _ (p : OutPort) (piece : List ℕ) (files : List Named) (readings : List (Option Reading)) (rooms : List Room) (ports : List Kept)
+module _ (p : OutPort) (piece : List ℕ) (files : List NamedFile) (readings : List (Option Reading)) (rooms : List Room) (ports : List Kept)
     (room fuller : Room) (i n : ℕ) (is : i ≡ place p) (below : i < length rooms) (read : room ≡ get_or rooms i room)
     (appended : fuller.bytes.items ≡ room.bytes.items ++ take n piece) (part : n ≤ length piece) where
   bytes_other : (q : Port) → same (Out p) q ≡ false → memory_bytes files readings (slice_set rooms i fuller) q ≡ memory_bytes files readings rooms q
@@ -133,7 +133,7 @@ module _ (p : OutPort) (piece : List ℕ) (files : List Named) (readings : List 
   bytes_appended = set_room-same (λ (r : Room). r.bytes.items) [] rooms fuller i (place p) is below ∙ appended
       ∙ ap (λ (xs : List ℕ). xs ++ take n piece) (sym (read_room (λ (r : Room). r.bytes.items) [] rooms room i (place p) is below read))
 
-  pub writes : (fixed : Fixed) → (0 < length piece → 0 < n)
+  pub writes : (fixed : Environment) → (0 < length piece → 0 < n)
       → Writes p (outside_of fixed (memory_bytes files readings rooms) ports) piece (Ok n) (outside_of fixed (memory_bytes files readings (slice_set rooms i fuller)) ports)
   writes fixed some = record {
     only = record { fixed = refl; others = λ q other. ap (λ (bytes : List ℕ). state_of (kept_at ports (port_number q)) q bytes) (bytes_other q other) };

@@ -2,7 +2,7 @@
 use Rattle.std.specs.Prelude.{◌≡◌, ℕ, Bool, true, false, ◌||◌, ◌==◌, List, [], None, slice_index_or, refl}
 use Rattle.v6_port.specs.declared.kept.Kept.{Kept}
 use Rattle.v6_port.specs.declared.host.OutPort.TheVariants.{Report}
-use Rattle.v6_port.specs.Outside.{Port, Out, IsOpen, port_number, is_report, PortState, Fixed, Outside, Rose}
+use Rattle.v6_port.specs.Outside.{Port, Out, IsOpen, port_number, is_report, PortState, Environment, Outside, Rose}
 
 -- a port that is closed, with no fault yet
 abbrev pub nothing_kept : Kept
@@ -15,11 +15,11 @@ kept_at ports n = slice_index_or ports n nothing_kept
 abbrev pub state_of : Kept → Port → List ℕ → PortState
 state_of kept q bytes = record { is_open = kept.is_open || is_report q; faults = kept.faults; missing = kept.missing; bytes = bytes }
 
-abbrev pub outside_of : Fixed → (Port → List ℕ) → List Kept → Outside
+abbrev pub outside_of : Environment → (Port → List ℕ) → List Kept → Outside
 outside_of fixed bytes ports = record { fixed = fixed; port = λ q. state_of (kept_at ports (port_number q)) q (bytes q) }
 
 -- a host that tells nothing of its bytes
-abbrev pub untold : Fixed
+abbrev pub untold : Environment
 untold = record { tells = false; given = λ _. None; expects = λ _. None }
 
 abbrev pub silent : List Kept → Outside
@@ -51,7 +51,7 @@ or_true true = refl
 or_true false = refl
 
 -- Report is open
-pub outside_of-report : (fixed : Fixed) (bytes : Port → List ℕ) (ports : List Kept) → IsOpen (outside_of fixed bytes ports) (Out Report)
+pub outside_of-report : (fixed : Environment) (bytes : Port → List ℕ) (ports : List Kept) → IsOpen (outside_of fixed bytes ports) (Out Report)
 outside_of-report fixed bytes ports = or_true _
 
 pub silent-report : (ports : List Kept) → IsOpen (silent ports) (Out Report)

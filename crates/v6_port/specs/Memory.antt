@@ -7,7 +7,7 @@ use Rattle.std.specs.List.{list_any}
 use Rattle.v6_port.specs.declared.host.InPort.{InPort}
 use Rattle.v6_port.specs.declared.host.OutPort.{OutPort}
 use Rattle.v6_port.specs.declared.kept.Kept.{Kept}
-use Rattle.v6_port.specs.declared.files.Named.{Named}
+use Rattle.v6_port.specs.declared.files.NamedFile.{NamedFile}
 use Rattle.v6_port.specs.declared.files.Reading.{Reading}
 use Rattle.v6_port.specs.declared.rooms.Room.{Room}
 use Rattle.v6_port.specs.declared.mem_host.MemHost.{MemHost}
@@ -25,7 +25,7 @@ pub record Memory : Type 0 where
   pub room : OutPort → ℕ
 
 -- the same by what the host keeps
-abbrev pub memory_of : List Named → List (Option (String Global)) → List (Option Reading) → List Room → List Kept → List ℕ → ℕ → Memory
+abbrev pub memory_of : List NamedFile → List (Option (String Global)) → List (Option Reading) → List Room → List Kept → List ℕ → ℕ → Memory
 memory_of files names readings rooms ports fails calls = record {
   outside = outside_of (record {
     tells = true;
@@ -56,7 +56,7 @@ pub record IsEmpty (m : Memory) : Type 0 where
   pub room : (p : OutPort) → m.room p ≡ 0
 
 -- A file was added, and nothing else has changed.
-pub record Adds (name bytes : List ℕ) (old new : Memory) : Type 0 where
+pub record AddsFile (name bytes : List ℕ) (old new : Memory) : Type 0 where
   pub gives : new.outside.fixed.given name ≡ Some bytes
   pub others : (other : List ℕ) → other ≢ name → new.outside.fixed.given other ≡ old.outside.fixed.given other
   pub tells : new.outside.fixed.tells ≡ old.outside.fixed.tells

@@ -49,13 +49,13 @@ pub record PortState : Type 0 where
 
 -- What no call changes: whether the host tells its bytes, the bytes of each name, and the one name
 -- under which a port can be opened for writing.
-pub record Fixed : Type 0 where
+pub record Environment : Type 0 where
   pub tells : Bool
   pub given : List ℕ → Option (List ℕ)
   pub expects : OutPort → Option (List ℕ)
 
 pub record Outside : Type 0 where
-  pub fixed : Fixed
+  pub fixed : Environment
   pub port : Port → PortState
 
 abbrev pub Tells : Outside → Type 0

@@ -1,22 +1,26 @@
 // Real files. This is the edge: what the system gives and takes is trusted, and nothing here tells it.
-ghost use Rattle.std.specs.Prelude.{◌≤◌, length, IfOk};
+ghost use Rattle.std.specs.Prelude.{◌≡◌, ◌≤◌, length, None, IfOk, OnOk};
 ghost use Rattle.v6_port.specs.Outside.{IsNew, IsIdle};
 
+use crate::buffered_writer::BufferedWriter;
 use crate::counts::{fault, set_closed, set_open};
 use crate::host::{Failed, Host, InPort, OutPort};
-use crate::kept::{Kept, PORTS};
+use crate::kept::{INPUTS, Kept, OUTPUTS, PORTS};
 use std::io::{Read, Write};
 use std::rt::Files;
 use std::{fs, io};
 
 /// A host over the files of the system: a port's name is the path of its file. An output file is emptied
-/// when it is opened, and each write goes to the file at once. Report is standard output.
+/// when it is opened. What is written to it is held, and given out where 4096 bytes are held and more are to be
+/// written, when the port is finished, and when the host is let go. Report is standard output, at once.
 ///
 /// It tells nothing of its bytes. A file that isn't there is a fault, and so is a write that takes no byte.
+/// Bytes that can't be given out are a fault of the call that tries to: a later write, or `finish`.
 #[derive(Drop)]
 pub struct FileHost<R: Files + Print + Drop> {
     rt: R,
-    files: [Option<R::File>; PORTS],
+    inputs: [Option<R::File>; INPUTS],
+    outputs: [Option<BufferedWriter<R::File>>; OUTPUTS],
     ports: [Kept; PORTS],
 }
 
@@ -28,28 +32,51 @@ impl<R: Files + Print + Drop> FileHost<R> {
     {
         FileHost {
             rt,
-            files: [None, None, None, None, None, None, None],
+            inputs: [None, None, None],
+            outputs: [None, None, None, None],
             ports: [Kept::NOTHING; PORTS],
         }
     }
 }
 
-// Report goes to standard output, and what is for another port to its file.
+// What can't be given out is kept.
+fn give_out<W: Write + Drop>(outputs: &mut [Option<BufferedWriter<W>>; OUTPUTS]) {
+    for output in outputs.iter_mut() {
+        if let Some(file) = output {
+            let _ = file.flush();
+        }
+    }
+}
+
+// Report goes to standard output, after all that is held, since that may go there too. What is for another
+// port goes to its file.
 fn put<R: Files + Print>(
     rt: &R,
-    files: &mut [Option<R::File>; PORTS],
+    outputs: &mut [Option<BufferedWriter<R::File>>; OUTPUTS],
     port: OutPort,
     piece: &[u8],
 ) -> io::Result<usize>
     ensures { IfOk result (λ n. n ≤ length piece.now) }
 {
     if let OutPort::Report = port {
+        give_out(outputs);
         return rt.write_some(piece);
     }
-    match &mut files[port.number()] {
+    match &mut outputs[port.place()] {
         Some(file) => file.write(piece),
         None => Ok(0),
     }
+}
+
+// Gives out what is held, and lets the file go.
+fn close<W: Write + Drop>(output: &mut Option<BufferedWriter<W>>) -> io::Result<()>
+    ensures closed { OnOk result (output.new ≡ None) }
+{
+    if let Some(file) = output {
+        file.flush()?;
+    }
+    *output = None;
+    Ok(())
 }
 
 impl<R: Files + Print + Drop> Host for FileHost<R> {
@@ -64,14 +91,14 @@ impl<R: Files + Print + Drop> Host for FileHost<R> {
         let Ok(file) = fs::open(&self.rt, name) else {
             return fault(&mut self.ports, number);
         };
-        self.files[number] = Some(file);
+        self.inputs[number] = Some(file);
         set_open(&mut self.ports, number);
         Ok(())
     }
 
     fn read(&mut self, port: InPort, buf: &mut [u8]) -> Result<usize, Failed> {
         let number = port.number();
-        let Some(file) = &mut self.files[number] else {
+        let Some(file) = &mut self.inputs[number] else {
             return fault(&mut self.ports, number);
         };
         let Ok(count) = file.read(buf) else {
@@ -85,14 +112,14 @@ impl<R: Files + Print + Drop> Host for FileHost<R> {
         let Ok(file) = fs::create(&self.rt, name) else {
             return fault(&mut self.ports, number);
         };
-        self.files[number] = Some(file);
+        self.outputs[port.place()] = Some(BufferedWriter::new(file));
         set_open(&mut self.ports, number);
         Ok(())
     }
 
     fn write(&mut self, port: OutPort, piece: &[u8]) -> Result<usize, Failed> {
         let number = port.number();
-        let Ok(count) = put(&self.rt, &mut self.files, port, piece) else {
+        let Ok(count) = put(&self.rt, &mut self.outputs, port, piece) else {
             return fault(&mut self.ports, number);
         };
         if count == 0 && !piece.is_empty() {
@@ -103,7 +130,9 @@ impl<R: Files + Print + Drop> Host for FileHost<R> {
 
     fn finish(&mut self, port: OutPort) -> Result<(), Failed> {
         let number = port.number();
-        self.files[number] = None;
+        if close(&mut self.outputs[port.place()]).is_err() {
+            return fault(&mut self.ports, number);
+        }
         set_closed(&mut self.ports, number);
         Ok(())
     }

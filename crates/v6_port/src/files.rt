@@ -4,7 +4,7 @@ ghost use Rattle.v6_port.specs.Files.{bytes_at, given_by, left_in};
 
 /// A file to be read.
 #[derive(Drop)]
-pub(crate) struct Named {
+pub(crate) struct NamedFile {
     pub(crate) name: String,
     pub(crate) bytes: Vec<u8>,
 }
@@ -17,7 +17,7 @@ pub(crate) struct Reading {
 }
 
 /// The index of the file that was added last under the name.
-pub(crate) fn find(files: &[Named], name: &str) -> Option<usize>
+pub(crate) fn find(files: &[NamedFile], name: &str) -> Option<usize>
     ensures { MatchOption result
         (given_by files.now name.now ≡ None)
         (λ i. (i < length files.now) × (given_by files.now name.now ≡ Some (bytes_at files.now i))) }
@@ -32,7 +32,7 @@ pub(crate) fn find(files: &[Named], name: &str) -> Option<usize>
 }
 
 /// What is left of a file that is being read.
-pub(crate) fn rest_of(files: &[Named], reading: Reading) -> &[u8]
+pub(crate) fn rest_of(files: &[NamedFile], reading: Reading) -> &[u8]
     requires { reading.file < length files.now }
     ensures rest { result.now ≡ drop reading.at (bytes_at files.now reading.file) }
     ensures fits { reading.at + length result.now < 2 ^ 64 }

@@ -61,7 +61,7 @@ pub trait Host {
         requires { ((outside self.old).port (Out port)).is_open ≡ false }
         ensures { OpensWrite port name.now (outside self.old) result (outside self.new) };
 
-    /// Writes the first bytes of `piece` behind what was written, and says how many: at least one, unless
+    /// Writes the first bytes of `piece` after what was written, and says how many: at least one, unless
     /// `piece` is empty.
     ///
     /// # Errors

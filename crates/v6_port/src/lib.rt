@@ -4,6 +4,7 @@
 //! against what the trait says of it, and so holds over real files and over files in memory alike.
 #![tactic(auto)]
 
+mod buffered_writer;
 mod counts;
 mod file_host;
 mod files;
@@ -15,6 +16,3 @@ mod rooms;
 pub use file_host::FileHost;
 pub use host::{Failed, Host, InPort, OutPort};
 pub use mem_host::MemHost;
-
-#[cfg(test)]
-mod tests;

@@ -5,7 +5,7 @@ ghost use Rattle.std.specs.Option.{ForSome, option_map};
 ghost use Rattle.v6_port.specs.Calls.{is_expected};
 
 use crate::counts::{fault, miss, set_closed, set_open};
-use crate::files::{Named, Reading, find, rest_of};
+use crate::files::{NamedFile, Reading, find, rest_of};
 use crate::host::{Failed, Host, InPort, OutPort};
 use crate::kept::{INPUTS, Kept, OUTPUTS, PORTS};
 use crate::rooms::Room;
@@ -18,7 +18,7 @@ use std::alloc::{AllocError, Global};
 #[derive(Drop)]
 pub struct MemHost {
     alloc: Global,
-    files: Vec<Named>,
+    files: Vec<NamedFile>,
     names: [Option<String>; OUTPUTS],
     readings: [Option<Reading>; INPUTS],
     rooms: [Room; OUTPUTS],
@@ -30,7 +30,7 @@ pub struct MemHost {
 
 impl MemHost {
     ghost use Rattle.v6_port.specs.Outside.{Out, IsNew, IsIdle};
-    ghost use Rattle.v6_port.specs.Memory.{memory, written, IsEmpty, Adds, TakesRoom};
+    ghost use Rattle.v6_port.specs.Memory.{memory, written, IsEmpty, AddsFile, TakesRoom};
 
     /// A host with no files, no room, and no call that is to fail.
     pub fn new(alloc: Global) -> Self
@@ -62,13 +62,13 @@ impl MemHost {
     ///
     /// There is no memory for a copy of it. The host is as before then.
     pub fn add(&mut self, name: &str, bytes: &[u8]) -> Result<(), AllocError>
-        ensures ok { OnOk result (Adds name.now bytes.now (memory self.old) (memory self.new)) }
+        ensures ok { OnOk result (AddsFile name.now bytes.now (memory self.old) (memory self.new)) }
         ensures err { OnErr result (memory self.new ≡ memory self.old) }
         ensures idle { IsIdle (memory self.old).outside → IsIdle (memory self.new).outside }
     {
         let name = String::from_str(self.alloc, name)?;
         let bytes = bytes.to_vec(self.alloc)?;
-        self.files.push(Named { name, bytes })?;
+        self.files.push(NamedFile { name, bytes })?;
         Ok(())
     }
 
