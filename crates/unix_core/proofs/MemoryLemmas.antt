@@ -14,7 +14,7 @@ use Rattle.v6_base.specs.declared.named.Named.TheVariants.{InText, InData, InSta
 use Rattle.v6_base.specs.Image.{Image, named_by, data_base}
 use Rattle.v6_base.specs.Access.{load_byte, store_byte, with_byte, image_after}
 use Rattle.v6_base.specs.Sizes.{cut_back, cut_front, resized}
-use Rattle.unix_core.specs.Machine.{bytes_from, byte_or_zero}
+use Rattle.unix_core.specs.Memory.{bytes_from, byte_or_zero}
 use Rattle.unix_core.proofs.DiskLemmas.{range_from}
 
 -- the first n places of a list have been written with those of another
@@ -48,13 +48,13 @@ pub named-data : (text d stack v : ℕ) → text ≡ 0 → v < d → named_by te
 unfolding named_by
 named-data text d stack v none inside =
     let base : data_base text ≡ 0 = ap data_base none in
-    let behind : v < data_base text + d = omega arith in
-    picks_data _ _ _ (leb (65536 - stack) v) (InText v) (InData (v - data_base text)) (InStack (v - (65536 - stack))) Nothing (le-ltb v text (omega arith)) (le-leb (data_base text) v (omega arith)) (lt-ltb v (data_base text + d) behind)
+    let in_data : v < data_base text + d = omega arith in
+    picks_data _ _ _ (leb (65536 - stack) v) (InText v) (InData (v - data_base text)) (InStack (v - (65536 - stack))) Nothing (le-ltb v text (omega arith)) (le-leb (data_base text) v (omega arith)) (lt-ltb v (data_base text + d) in_data)
     ∙ ap (λ n. InData (v - n)) base ∙ ap InData (let none_less : v - 0 ≡ v = omega arith in none_less)
 
 pub named-stack : (text d stack v : ℕ) → text ≡ 0 → d ≤ v → 65536 - stack ≤ v → named_by text d stack v ≡ InStack (v - (65536 - stack))
 unfolding named_by
-named-stack text d stack v none behind inside =
+named-stack text d stack v none after_data inside =
     let base : data_base text ≡ 0 = ap data_base none in
     let past : data_base text + d ≤ v = omega arith in
     picks_stack _ (leb (data_base text) v) _ _ (InText v) (InData (v - data_base text)) (InStack (v - (65536 - stack))) Nothing (le-ltb v text (omega arith)) (le-ltb v (data_base text + d) past) (le-leb (65536 - stack) v inside)
@@ -67,12 +67,12 @@ store-data m v b none inside =
 pub store-stack : (m : Image) (v b : ℕ) → m.text ≡ [] → length m.data ≤ v → 65536 - length m.stack ≤ v
     → image_after m (store_byte m v b) ≡ record m { stack = slice_set m.stack (v - (65536 - length m.stack)) b }
 unfolding store_byte
-store-stack m v b none behind inside =
-    ap (λ n. image_after m (with_byte m n b)) (named-stack (length m.text) (length m.data) (length m.stack) v (ap length none) behind inside)
+store-stack m v b none after_data inside =
+    ap (λ n. image_after m (with_byte m n b)) (named-stack (length m.text) (length m.data) (length m.stack) v (ap length none) after_data inside)
 
 -- a test of numbers in order goes on where one passes, and ends where one fails
-pub all_behind : (p : ℕ → Bool) (k n : ℕ) → k < n → p k ≡ true → list_all p (range_with_len k (n - k)) ≡ list_all p (range_with_len (k + 1) (n - (k + 1)))
-all_behind p k n h passes = ap (list_all p) (range_from k n h) ∙ ap (λ b. b && list_all p (range_with_len (k + 1) (n - (k + 1)))) passes
+pub all_after : (p : ℕ → Bool) (k n : ℕ) → k < n → p k ≡ true → list_all p (range_with_len k (n - k)) ≡ list_all p (range_with_len (k + 1) (n - (k + 1)))
+all_after p k n h passes = ap (list_all p) (range_from k n h) ∙ ap (λ b. b && list_all p (range_with_len (k + 1) (n - (k + 1)))) passes
 
 pub all_fail : (p : ℕ → Bool) (k n : ℕ) → k < n → p k ≡ false → list_all p (range_with_len k (n - k)) ≡ false
 all_fail p k n h fails = ap (list_all p) (range_from k n h) ∙ ap (λ b. b && list_all p (range_with_len (k + 1) (n - (k + 1)))) fails
@@ -97,9 +97,9 @@ fresh_image d s =
     ∙ ap (λ (l : List ℕ). record { text = replicate (64 * 0) 0; «data» = l; stack = cut_front (64 * s) [] }) (cut_back-nil (64 * d))
     ∙ ap (λ (l : List ℕ). record { text = []; «data» = replicate (64 * d) 0; stack = l }) (cut_front-nil (64 * s))
 
--- a byte of what is written behind a front
-pub behind_front : (n i : ℕ) (old more : List ℕ) → n ≤ length old → get_or (take n old ++ more) (n + i) 0 ≡ get_or more i 0
-behind_front n i old more fits =
+-- a byte of what is written after a front
+pub after_front : (n i : ℕ) (old more : List ℕ) → n ≤ length old → get_or (take n old ++ more) (n + i) 0 ≡ get_or more i 0
+after_front n i old more fits =
     let size : length (take n old) ≡ n = length-take-le n old fits in
     ap (λ k. get_or (take n old ++ more) (k + i) 0) (sym size) ∙ get_or-append-add (take n old) more i 0
 
@@ -111,8 +111,8 @@ front_written n old more fits = record {
   size = refl;
 }
 
-pub length_behind : (n : ℕ) (old more : List ℕ) → n ≤ length old → length (take n old ++ more) ≡ n + length more
-length_behind n old more fits = length-append (take n old) more ∙ ap (λ k. k + length more) (length-take-le n old fits)
+pub length-after_front : (n : ℕ) (old more : List ℕ) → n ≤ length old → length (take n old ++ more) ≡ n + length more
+length-after_front n old more fits = length-append (take n old) more ∙ ap (λ k. k + length more) (length-take-le n old fits)
 
 -- all places have been written
 pub written_whole : (n : ℕ) (bytes old new : List ℕ) → length bytes ≡ n → length old ≡ n → IsWritten n bytes old new → new ≡ bytes

@@ -1,51 +1,101 @@
 -- How a run over a list of events is made of runs over its parts.
-use Rattle.std.proofs.Common.{◌≡◌, ℕ, List, [], ◌∷◌, ◌++◌, Option, Some, None, refl, sym, ◌∙◌, ap, append_assoc}
+use Rattle.std.proofs.Common.{◌≡◌, ℕ, Bool, true, false, List, [], ◌∷◌, ◌++◌, Option, Some, None, refl, sym, ◌∙◌, ap, append_assoc}
 use Rattle.std.proofs.lemmas.List.{append-nil}
 use Rattle.v6_base.specs.Trace.{Item}
-use Rattle.unix_core.specs.Machine.{Unix}
-use Rattle.unix_core.specs.Runs.{Event, Course, begun, event_of, goes_on_by, step_at, step, course, behind}
+use Rattle.unix_core.specs.declared.process.Ending.{Ending}
+use Rattle.unix_core.specs.declared.process.Ending.TheVariants as came
+use Rattle.unix_core.specs.declared.turned.Unbuilt.{Unbuilt}
+use Rattle.unix_core.specs.declared.turned.Unbuilt.TheVariants as unbuilt
+use Rattle.unix_core.specs.declared.turned.Turned.TheVariants.{NotBuilt}
+use Rattle.unix_core.specs.Unix.{Process, System, register}
+use Rattle.unix_core.specs.Turn.{Turn, ending_at, slot_of, turn, turned_by, turned}
+use Rattle.unix_core.specs.Runs.{Event, Slot, Course, begun, event_of, goes_on_by, unless_ended, after_event, course, after_items}
 
 -- first these events and then those
 pub course-append : (c : Course) (xs ys : List Event) → course c (xs ++ ys) ≡ course (course c xs) ys
 course-append c [] ys = refl
-course-append c (x ∷ xs) ys = course-append (step c x) xs ys
+course-append c (x ∷ xs) ys = course-append (after_event c x) xs ys
 
-step_ended : (c : Course) (e : Option ℕ) (pc : ℕ) (x : Event) → e ≡ Some pc → step_at e c x ≡ c
-step_ended c None pc x is = cc
-step_ended c (Some p) pc x is = refl
+event_ended : (c : Course) (e : Option Unbuilt) (place : Unbuilt) (x : Event) → e ≡ Some place → unless_ended e c x ≡ c
+event_ended c None place x is = cc
+event_ended c (Some p) place x is = refl
 
 -- a run that has ended stays as it is
-pub course_ended : (c : Course) (pc : ℕ) (xs : List Event) → c.ending ≡ Some pc → course c xs ≡ c
-course_ended c pc [] is = refl
-course_ended c pc (x ∷ xs) is = ap (λ d. course d xs) (step_ended c c.ending pc x is) ∙ course_ended c pc xs is
+pub course_ended : (c : Course) (place : Unbuilt) (xs : List Event) → c.ending ≡ Some place → course c xs ≡ c
+course_ended c place [] is = refl
+course_ended c place (x ∷ xs) is = ap (λ d. course d xs) (event_ended c c.ending place x is) ∙ course_ended c place xs is
 
-step_behind : (items : List Item) (c : Course) (e : Option ℕ) (x : Event) → step_at e (behind items c) x ≡ behind items (step_at e c x)
-step_behind items c None x = ap (λ (l : List Item). record (goes_on_by c (event_of x c.unix)) { items = l }) (append_assoc items c.items (event_of x c.unix).items)
-step_behind items c (Some pc) x = refl
+event_after_items : (items : List Item) (c : Course) (e : Option Unbuilt) (x : Event) → unless_ended e (after_items items c) x ≡ after_items items (unless_ended e c x)
+event_after_items items c None x = ap (λ (l : List Item). record (goes_on_by c (event_of x c.system)) { items = l }) (append_assoc items c.items (event_of x c.system).items)
+event_after_items items c (Some place) x = refl
 
 -- what was shown before stands in front
-pub course-behind : (items : List Item) (c : Course) (xs : List Event) → course (behind items c) xs ≡ behind items (course c xs)
-course-behind items c [] = refl
-course-behind items c (x ∷ xs) = ap (λ d. course d xs) (step_behind items c c.ending x) ∙ course-behind items (step c x) xs
+pub course-after_items : (items : List Item) (c : Course) (xs : List Event) → course (after_items items c) xs ≡ after_items items (course c xs)
+course-after_items items c [] = refl
+course-after_items items c (x ∷ xs) = ap (λ d. course d xs) (event_after_items items c c.ending x) ∙ course-after_items items (after_event c x) xs
 
--- a run that goes on begins again at its Unix, behind what it has shown
-goes_as : (c : Course) (e : Option ℕ) → c.ending ≡ e → e ≡ None → c ≡ behind c.items (begun c.unix)
+-- a run that goes on begins again at its system, after what it has shown
+goes_as : (c : Course) (e : Option Unbuilt) → c.ending ≡ e → e ≡ None → c ≡ after_items c.items (begun c.system)
 goes_as c e is none =
-    ap (λ (l : List Item). record c { items = l }) (sym (append-nil c.items)) ∙ ap (λ (o : Option ℕ). record { items = c.items ++ []; unix = c.unix; ending = o }) (is ∙ none)
+    ap (λ (l : List Item). record c { items = l }) (sym (append-nil c.items))
+    ∙ ap (λ (o : Option Unbuilt). record { items = c.items ++ []; system = c.system; ending = o }) (is ∙ none)
 
-pub course_goes : (c : Course) (k : Unix) (ys : List Event) → c.ending ≡ None → k ≡ c.unix → course c ys ≡ behind c.items (course (begun k) ys)
-course_goes c k ys goes unix =
-    ap (λ d. course d ys) (goes_as c c.ending refl goes) ∙ course-behind c.items (begun c.unix) ys ∙ ap (λ (u : Unix). behind c.items (course (begun u) ys)) (sym unix)
+pub course_goes : (c : Course) (m : System) (ys : List Event) → c.ending ≡ None → m ≡ c.system → course c ys ≡ after_items c.items (course (begun m) ys)
+course_goes c m ys goes system =
+    ap (λ d. course d ys) (goes_as c c.ending refl goes) ∙ course-after_items c.items (begun c.system) ys ∙ ap (λ (n : System). after_items c.items (course (begun n) ys)) (sym system)
 
--- A loop over pieces of a list of events: k is the Unix behind the pieces xs, and the run goes on.
-module _ (c : Course) (k : Unix) (xs : List Event) (goes : (course c xs).ending ≡ None) (unix : k ≡ (course c xs).unix) where
-  pub course_joined : (ys all : List Event) → all ≡ xs ++ ys → course c all ≡ behind (course c xs).items (course (begun k) ys)
-  course_joined ys all is = ap (course c) is ∙ course-append c xs ys ∙ course_goes (course c xs) k ys goes unix
+-- A loop over pieces of a list of events: m is the system after the pieces xs, and the run goes on.
+module _ (c : Course) (m : System) (xs : List Event) (goes : (course c xs).ending ≡ None) (system : m ≡ (course c xs).system) where
+  pub course_joined : (ys all : List Event) → all ≡ xs ++ ys → course c all ≡ after_items (course c xs).items (course (begun m) ys)
+  course_joined ys all is = ap (course c) is ∙ course-append c xs ys ∙ course_goes (course c xs) m ys goes system
 
   -- where the next piece ends the run, what follows it changes nothing
-  pub course_last : (ys zs all : List Event) (pc : ℕ) → all ≡ (xs ++ ys) ++ zs → (course (begun k) ys).ending ≡ Some pc
-      → course c all ≡ behind (course c xs).items (course (begun k) ys)
-  course_last ys zs all pc is ends =
+  pub course_last : (ys zs all : List Event) (place : Unbuilt) → all ≡ (xs ++ ys) ++ zs → (course (begun m) ys).ending ≡ Some place
+      → course c all ≡ after_items (course c xs).items (course (begun m) ys)
+  course_last ys zs all place is ends =
       let joined = course_joined ys (xs ++ ys) refl in
       ap (course c) is ∙ course-append c (xs ++ ys) zs
-      ∙ course_ended (course c (xs ++ ys)) pc zs (ap (λ (d : Course). d.ending) joined ∙ ends) ∙ joined
+      ∙ course_ended (course c (xs ++ ys)) place zs (ap (λ (d : Course). d.ending) joined ∙ ends) ∙ joined
+
+-- what an answer says of the turn's ending
+ends_by : (ending : Option Unbuilt) (is_idle : Bool) (place : Unbuilt) → turned_by ending is_idle ≡ NotBuilt place → ending ≡ Some place
+ends_by None true place is = cc
+ends_by None false place is = cc
+ends_by (Some p) is_idle place is = cc
+
+pub turn_ends : (t : Turn) (place : Unbuilt) → turned t ≡ NotBuilt place → t.ending ≡ Some place
+turn_ends t place is = ends_by t.ending t.is_idle place is
+
+goes_by : (ending : Option Unbuilt) (is_idle : Bool) → ((place : Unbuilt) → turned_by ending is_idle ≡ NotBuilt place → ⊥) → ending ≡ None
+goes_by None is_idle built = refl
+goes_by (Some place) is_idle built = absurd (built place refl)
+
+pub turn_goes : (t : Turn) → ((place : Unbuilt) → turned t ≡ NotBuilt place → ⊥) → t.ending ≡ None
+turn_goes t built = goes_by t.ending t.is_idle built
+
+-- a run ends at a pc, if it does before its last event
+abbrev pub IsAt : Option Unbuilt → Type 0
+IsAt None = Unit {0}
+IsAt (Some unbuilt.Image) = ⊥
+IsAt (Some (unbuilt.Line n)) = ⊥
+IsAt (Some (unbuilt.At pc)) = Unit {0}
+
+ending_is : (pc : ℕ) (e : Ending) → IsAt (ending_at pc e)
+ending_is pc came.Returned = tt
+ending_is pc came.Ended = tt
+ending_is pc came.NotBuilt = tt
+
+slot_is : (m : System) (process : Option Process) → IsAt (slot_of m process).ending
+slot_is m None = tt
+slot_is m (Some p) = ending_is (register p 7) (turn m.unix).ending
+
+event_is : (event : Event) (m : System) → IsAt (event_of event m).ending
+event_is Slot m = slot_is m m.unix.process
+
+step_is : (c : Course) (ended : Option Unbuilt) (event : Event) → IsAt c.ending → IsAt (unless_ended ended c event).ending
+step_is c None event at = event_is event c.system
+step_is c (Some place) event at = at
+
+pub course_is : (c : Course) (events : List Event) → IsAt c.ending → IsAt (course c events).ending
+course_is c [] at = at
+course_is c (event ∷ events) at = course_is (after_event c event) events (step_is c c.ending event at)

@@ -12,7 +12,7 @@ escaped byte =
     if byte == 0o176 then Some 0o136 else ( -- ~ as \^
     if byte == 0o140 then Some 0o047 else None))))  -- grave accent as \'
 
--- the column behind one byte that goes out
+-- the column after one byte that goes out
 abbrev pub column_after : ℕ → ℕ → ℕ
 column_after column byte =
     if nat_le 0o040 byte && nat_le byte 0o176 then (column + 1) % 256 else (
@@ -20,9 +20,9 @@ column_after column byte =
     if byte == 0o012 then 0 else (
     if byte == 0o015 then 0 else column)))
 
--- the column behind some bytes that go out
-abbrev pub column_behind : ℕ → List ℕ → ℕ
-column_behind column bytes = fold column_after column bytes
+-- the column after some bytes that go out
+abbrev pub column_after_all : ℕ → List ℕ → ℕ
+column_after_all column bytes = fold column_after column bytes
 
 abbrev pub shown_as : Option ℕ → ℕ → ℕ → List ℕ
 shown_as (Some mark) column byte = 0o134 ∷ mark ∷ []
@@ -40,4 +40,4 @@ shown_byte column byte = shown_as (escaped (byte % 128)) column (byte % 128)
 -- what goes out for bytes that are written one after another
 abbrev pub shown_bytes : ℕ → List ℕ → List ℕ
 shown_bytes column [] = []
-shown_bytes column (byte ∷ bytes) = let shown = shown_byte column byte in shown ++ shown_bytes (column_behind column shown) bytes
+shown_bytes column (byte ∷ bytes) = let shown = shown_byte column byte in shown ++ shown_bytes (column_after_all column shown) bytes

@@ -1,5 +1,11 @@
 pub mod Boots
+pub mod Calls
 pub mod Console
 pub mod Disk
-pub mod Machine
+pub mod Memory
+pub mod Parts
+pub mod Program
 pub mod Runs
+pub mod Steps
+pub mod Turn
+pub mod Unix

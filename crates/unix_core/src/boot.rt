@@ -1,7 +1,7 @@
 //! What a kernel begins with.
 ghost use Rattle.std.specs.Prelude.{◌≡◌, ℕ, ◌≤◌, IfOk, IfErr, Some};
 
-use crate::disk::{is_program, program_bytes, reached_through};
+use crate::disk::{is_console, is_program, program_bytes, reached_through};
 use crate::kernel::Kernel;
 use crate::program::space_with;
 use fs_check::{ImageFault, accept};
@@ -36,7 +36,7 @@ impl Kernel {
     pub fn boot(alloc: Global, image: &[u8], core: u16) -> Result<Kernel, BootFault>
         requires least { 64 ≤ core }
         requires most { core ≤ 3968 }
-        ensures unix { IfOk result (λ kernel. boots image.now core ≡ Some kernel) }
+        ensures system { IfOk result (λ system. boots image.now core ≡ Some system) }
         ensures refused { IfErr result (RefusesBoot image.now core) }
     {
         if let Err(fault) = accept(image) {
@@ -48,14 +48,14 @@ impl Kernel {
         let Some(console) = reached_through(image, &DEV, &TTY8) else {
             return Err(BootFault::NotBuilt);
         };
-        if !is_program(image, &init) || !console.is_console() {
+        if !is_program(image, &init) || !is_console(&console) {
             return Err(BootFault::NotBuilt);
         }
         let Ok(program) = program_bytes(alloc, image, &init) else {
             return Err(BootFault::NoMemory);
         };
         match space_with(alloc, &program) {
-            Ok(space) => Ok(Kernel::with_image(space, program.len() as u16)),
+            Ok(space) => Ok(Kernel::new(space)),
             Err(_) => Err(BootFault::NoMemory),
         }
     }

@@ -3,8 +3,8 @@ ghost use Rattle.std.specs.Prelude.{◌≡◌, ℕ, Option, ◌%◌};
 ghost use Rattle.std.specs.Option.{option_map};
 ghost use Rattle.v6_base.specs.Trace.{Took, sent, Byte};
 ghost use Rattle.std.specs.Prelude.{[], ◌∷◌, ◌-◌, replicate};
-ghost use Rattle.unix_core.specs.Machine.{bytes_from};
-ghost use Rattle.unix_core.specs.Console.{escaped, column_after, column_behind, shown_byte, shown_bytes};
+ghost use Rattle.unix_core.specs.Memory.{bytes_from};
+ghost use Rattle.unix_core.specs.Console.{escaped, column_after, column_after_all, shown_byte, shown_bytes};
 
 use crate::memory::byte_from;
 use v6_base::{Space, Trace};
@@ -23,7 +23,7 @@ fn escape(byte: u8) -> Option<u8>
     }
 }
 
-/// The column behind one byte that goes out.
+/// The column after one byte that goes out.
 fn column_past(column: u8, byte: u8) -> u8
     ensures { result ≡ column_after column byte }
 {
@@ -35,7 +35,7 @@ fn column_past(column: u8, byte: u8) -> u8
     }
 }
 
-/// Sends one byte out, and gives the column behind it.
+/// Sends one byte out, and gives the column after it.
 fn send<T: Trace>(column: u8, byte: u8, trace: &mut T) -> u8
     ensures column { result ≡ column_after column byte }
     ensures items { Took (T.taken trace.old) (Byte 0 byte ∷ []) (T.taken trace.new) }
@@ -57,7 +57,7 @@ fn send_two<T: Trace>(column: u8, first: u8, second: u8, trace: &mut T) -> u8
 
 /// Sends spaces up to the next stop: one to eight of them.
 fn send_tab<T: Trace>(column: u8, trace: &mut T) -> u8
-    ensures column { result ≡ column_behind column (replicate (8 - column % 8) 0o40) }
+    ensures column { result ≡ column_after_all column (replicate (8 - column % 8) 0o40) }
     ensures items { Took (T.taken trace.old) (sent 0 (replicate (8 - column % 8) 0o40)) (T.taken trace.new) }
     ensures frame { T.leads_to trace.old trace.new }
 {
@@ -69,9 +69,9 @@ fn send_tab<T: Trace>(column: u8, trace: &mut T) -> u8
     at
 }
 
-/// Shows one byte, and gives the column behind it.
+/// Shows one byte, and gives the column after it.
 fn show_byte<T: Trace>(column: u8, byte: u8, trace: &mut T) -> u8
-    ensures column { result ≡ column_behind column (shown_byte column byte) }
+    ensures column { result ≡ column_after_all column (shown_byte column byte) }
     ensures items { Took (T.taken trace.old) (sent 0 (shown_byte column byte)) (T.taken trace.new) }
     ensures frame { T.leads_to trace.old trace.new }
 {
@@ -88,10 +88,10 @@ fn show_byte<T: Trace>(column: u8, byte: u8, trace: &mut T) -> u8
     }
 }
 
-/// Shows so many bytes of a memory from an address on, one after another, and gives the column behind them. A byte that isn't
+/// Shows so many bytes of a memory from an address on, one after another, and gives the column after them. A byte that isn't
 /// there counts as 0.
 pub fn show<S: Space, T: Trace>(column: u8, space: &S, from: u16, count: u16, trace: &mut T) -> u8
-    ensures column { result ≡ column_behind column (shown_bytes column (bytes_from (S.image space.now) from count)) }
+    ensures column { result ≡ column_after_all column (shown_bytes column (bytes_from (S.image space.now) from count)) }
     ensures items { Took (T.taken trace.old) (sent 0 (shown_bytes column (bytes_from (S.image space.now) from count))) (T.taken trace.new) }
     ensures frame { T.leads_to trace.old trace.new }
 {

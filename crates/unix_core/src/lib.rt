@@ -6,7 +6,10 @@ mod console;
 mod disk;
 mod kernel;
 mod memory;
+mod process;
 mod program;
+mod turned;
 
 pub use boot::BootFault;
-pub use kernel::{Kernel, Turned};
+pub use kernel::Kernel;
+pub use turned::{Turned, Unbuilt};

@@ -1,6 +1,6 @@
 //! The memory of a process, as its calls see it.
 ghost use Rattle.std.specs.Prelude.{◌≡◌, ℕ, ◌+◌, ◌%◌};
-ghost use Rattle.unix_core.specs.Machine.{is_there, byte_or_zero, are_there, bytes_from, names_console};
+ghost use Rattle.unix_core.specs.Memory.{is_there, byte_or_zero, are_there, bytes_from, names_console};
 ghost use Rattle.v6_base.specs.Access.{load_byte};
 
 use v6_base::Space;

@@ -1,13 +1,16 @@
 use Rattle.std.proofs.Common.{◌≡◌, ◌+◌, ◌*◌, ◌/◌, ◌-◌, ℕ, ◌∙◌, ap, map, length, vec_len, ◌++◌, replicate, arith, rules}
 use Rattle.std.specs.List.{range_with_len}
-use Rattle.unix_core.specs.Disk.{byte_at, place_in, filled_size}
+use Rattle.fs_codec.specs.Fields.{fields_of}
+use Rattle.fs_codec.specs.Disk.{disk_of}
+use Rattle.unix_core.specs.Disk.{file_byte, file_bytes, filled_size}
 use Rattle.unix_core.proofs.DiskLemmas.{filled_up}
 use Rattle.unix_core.proofs.disk.program_bytes.Goals as goal
 
 pub returns-clause-items : goal.returns-clause-items
+unfolding file_bytes
 returns-clause-items c =
-    let f : ℕ → ℕ = λ i. byte_at c.args.image.now (place_in c.args.node.now (16 + i)) in
-    let count : ℕ = filled_size c.args.image.now c.args.node.now in
+    let f : ℕ → ℕ = λ i. file_byte (disk_of c.args.image.now) (fields_of c.args.node.now) (16 + i) in
+    let count : ℕ = filled_size (disk_of c.args.image.now) (fields_of c.args.node.now) in
     let is_filled = c.filled_size.ensures.value in
     let is_bss = c.bss_size.ensures.value in
     let all : ℕ = c.filled_size.result + c.bss_size.result in

@@ -1,6 +1,6 @@
 use Rattle.std.proofs.Common.{◌≡◌, ◌-◌}
 use Rattle.std.specs.List.{list_all, range_with_len}
-use Rattle.unix_core.specs.Machine.{is_there}
+use Rattle.unix_core.specs.Memory.{is_there}
 use Rattle.unix_core.proofs.memory.are_there.Given as goal
 
 -- the bytes that are left answer for all

@@ -1,6 +1,6 @@
 use Rattle.std.proofs.Common.{◌≡◌, ℕ, ◌+◌, ◌%◌, ◌<◌, length, get_or}
 use Rattle.v6_base.specs.Access.{load_byte}
-use Rattle.unix_core.specs.Machine.{byte_or_zero}
+use Rattle.unix_core.specs.Memory.{byte_or_zero}
 use Rattle.unix_core.proofs.memory.name_from.Given as goal
 
 abbrev pub invariant-loop-i : goal.invariant-loop-i

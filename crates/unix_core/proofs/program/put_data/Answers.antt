@@ -5,9 +5,9 @@ use Rattle.unix_core.proofs.program.put_data.Goals as goal
 
 pub loop-i-preserved : goal.loop-i-preserved
 loop-i-preserved c =
-    let m : Image = c.loop-i.space in
+    let m : Image = c.loop-i.space.image in
     let i : ℕ = c.loop-i.i in
-    let old = c.args.space.now.data in
+    let old = c.args.space.now.image.data in
     let bytes = c.args.bytes.now in
     let size = c.loop-i.invariant.written.size in
     let within : i < length bytes = c.loop-i-test.true in

@@ -1,7 +1,7 @@
 use Rattle.std.proofs.Common.{◌≡◌, ◌*◌, ◌/◌, ◌++◌, ℕ, List, [], length, take, drop, replicate, ◌∙◌, ap, arith}
 use Rattle.std.proofs.lemmas.List.{length-replicate, take-replicate}
 use Rattle.v6_base.specs.Image.{Image}
-use Rattle.unix_core.specs.Runs.{first_arguments}
+use Rattle.unix_core.specs.Program.{first_arguments}
 use Rattle.unix_core.proofs.MemoryLemmas.{filled_data}
 use Rattle.unix_core.proofs.program.space_with.Goals as goal
 
@@ -11,7 +11,7 @@ put_data-requires-clause-text c = ap (λ (m : Image). m.text) c.in_ok-space.ensu
 pub put_data-requires-clause-room : goal.put_data-requires-clause-room
 put_data-requires-clause-room c =
     let whole = c.requires.1 in
-    let size : length c.in_ok-space.space.data ≡ 64 * (length c.args.program.now / 64) =
+    let size : length c.in_ok-space.space.image.data ≡ 64 * (length c.args.program.now / 64) =
     ap (λ (m : Image). length m.data) c.in_ok-space.ensures ∙ length-replicate (64 * (length c.args.program.now / 64)) 0 in omega arith
 
 pub put_arguments-requires-clause-text : goal.put_arguments-requires-clause-text
@@ -20,7 +20,7 @@ put_arguments-requires-clause-text c = ap (λ (m : Image). m.text) c.put_data.en
 pub put_arguments-requires-clause-data : goal.put_arguments-requires-clause-data
 put_arguments-requires-clause-data c =
     let few = c.requires.0 in
-    let filled : length c.put_data.new.space.data ≡ length c.args.program.now =
+    let filled : length c.put_data.new.space.image.data ≡ length c.args.program.now =
     ap (λ (m : Image). length m.data) c.put_data.ensures
     ∙ ap (λ (m : Image). length (c.args.program.now ++ drop (length c.args.program.now) m.data)) c.in_ok-space.ensures
     ∙ ap length (filled_data c.args.program.now _ c.requires.1) in omega arith

@@ -1,0 +1,72 @@
+-- The turn of a slot, where there is a process: first the exec of `/etc/init`, then an instruction a turn until it exits.
+use Rattle.std.specs.Prelude.{ℕ, Bool, true, false, List, [], ◌∷◌, Option, Some, None, if◌then◌else◌}
+use Rattle.v6_base.specs.Trace.{Item}
+use Rattle.pdp_step.specs.declared.outcome.Outcome.{Outcome}
+use Rattle.pdp_step.specs.declared.outcome.Outcome.TheVariants.{Next, Call, Fault}
+use Rattle.pdp_step.specs.Machine.{Machine}
+use Rattle.pdp_step.specs.Instruction.{Stepped, instr}
+use Rattle.v6_base.specs.Image.{Image}
+use Rattle.unix_core.specs.declared.process.Ending.{Ending}
+use Rattle.unix_core.specs.declared.process.Ending.TheVariants as ending
+use Rattle.unix_core.specs.declared.turned.Unbuilt.{Unbuilt}
+use Rattle.unix_core.specs.declared.turned.Unbuilt.TheVariants.{At}
+use Rattle.unix_core.specs.declared.turned.Turned.{Turned}
+use Rattle.unix_core.specs.declared.turned.Turned.TheVariants.{Ran, Idle, NotBuilt}
+use Rattle.unix_core.specs.Unix.{Process, Unix, System, register, process_of, with_process, image_of}
+use Rattle.unix_core.specs.Program.{first_stack}
+use Rattle.unix_core.specs.Steps.{Steps, returns, not_built}
+use Rattle.unix_core.specs.Calls.{system_call}
+
+-- exec(II) gives a program its registers
+abbrev pub after_exec : Process → Process
+after_exec p = record p { registers = 0 ∷ 0 ∷ 0 ∷ 0 ∷ 0 ∷ 0 ∷ first_stack ∷ 0 ∷ []; condition = 0; is_fresh = false }
+
+-- what an instruction of a process works on, and the process after it
+abbrev pub machine_with : Image → Process → Machine
+machine_with image p = record { r = p.registers; cc = p.condition; image = image }
+
+abbrev pub with_machine : Process → Machine → Process
+with_machine p m = record p { registers = m.r; condition = m.cc; «data» = m.image.data; stack = m.image.stack }
+
+abbrev pub comes_to : Unix → Outcome → Steps
+comes_to u Next = returns u
+comes_to u (Call number) = system_call number u
+comes_to u (Fault kind) = not_built u
+
+abbrev pub instruction : Unix → Steps
+instruction u =
+    let p : Process = process_of u in
+    let s : Stepped = instr (machine_with (image_of u p) p) in
+    comes_to (with_process u (with_machine p s.machine)) s.outcome
+
+abbrev pub turn : Unix → Steps
+turn u = if (process_of u).is_fresh then returns (with_process u (after_exec (process_of u))) else instruction u
+
+-- what an event comes to: what is shown, the system then, whether nobody was there to run, and how the run ends, where it
+-- ends here
+pub record Turn : Type 0 where
+  pub items : List Item
+  pub next : System
+  pub is_idle : Bool
+  pub ending : Option Unbuilt
+
+-- what isn't built stands where the PC was
+abbrev pub ending_at : ℕ → Ending → Option Unbuilt
+ending_at pc ending.Returned = None
+ending_at pc ending.Ended = None
+ending_at pc ending.NotBuilt = Some (At pc)
+
+abbrev pub turn_of : System → ℕ → Steps → Turn
+turn_of m pc steps = record { items = steps.items; next = record m { unix = steps.unix }; is_idle = false; ending = ending_at pc steps.ending }
+
+abbrev pub slot_of : System → Option Process → Turn
+slot_of m None = record { items = []; next = m; is_idle = true; ending = None }
+slot_of m (Some p) = turn_of m (register p 7) (turn m.unix)
+
+-- what a kernel answers of a turn
+abbrev pub turned_by : Option Unbuilt → Bool → Turned
+turned_by None is_idle = if is_idle then Idle else Ran
+turned_by (Some place) is_idle = NotBuilt place
+
+abbrev pub turned : Turn → Turned
+turned t = turned_by t.ending t.is_idle
