@@ -1,5 +1,5 @@
 -- What a command answers before it has written anything.
-use Rattle.std.proofs.Common.{◌≡◌, ℕ, true, false, Option, Some, None, List, take, refl, sym, ◌∙◌, ap, subst, IsSomeAnd}
+use Rattle.std.proofs.Common.{◌≡◌, ℕ, true, false, Option, Some, None, List, [], take, refl, sym, ◌∙◌, ap, subst, IsSomeAnd}
 use Rattle.std.proofs.lemmas.List.{append-nil}
 use Rattle.v6_port.specs.declared.host.InPort.TheVariants as in_port
 use Rattle.v6_port.specs.declared.host.OutPort.{OutPort}
@@ -8,42 +8,60 @@ use Rattle.v6_port.specs.Outside.{Port, In, Out, same, PortState, Outside, Tells
 use Rattle.v6_port.specs.Calls.{is_given}
 use Rattle.fs_codec.specs.Faults.{image_fault}
 use Rattle.fs_codec.specs.declared.fault.ImageFault as fault
+use Rattle.v6_run.specs.declared.image.TheConstants.{IMAGE_LIMIT}
 use Rattle.v6_run.specs.declared.status.Status.{Status}
-use Rattle.v6_run.specs.declared.status.Status.TheVariants.{Done, Usage, ReadFault, WriteFault, CoreSize, ImageFault, NoMemory, NotBuilt}
+use Rattle.v6_run.specs.declared.status.Status.TheVariants.{Done, ReadFault, ImageFault, NoMemory}
+use Rattle.v6_run.specs.declared.files.ReadError.TheVariants as reading
+use Rattle.v6_run.specs.declared.image.ImageError.{ImageError}
+use Rattle.v6_run.specs.declared.image.ImageError.TheVariants as image
 use Rattle.v6_run.specs.Words.{Command}
+use Rattle.v6_run.specs.Status.{is_decided, has_written}
+use Rattle.v6_run.specs.Errors.{image_status}
 use Rattle.v6_run.specs.Causes.{IsCaused}
-use Rattle.v6_run.specs.Headline.{Outcome, ends_with, fault_outcome, image_outcome, command_outcome, ShowsAll, IsOutcome, IsUnwritten, IsImageGood, is_named, IsOfCommand, is_known}
-use Rattle.v6_run.specs.Answers.{Answers, StopsImage}
-use Rattle.v6_run.proofs.CauseLemmas.{only_within, caused_reading}
+use Rattle.v6_run.specs.Steps.{StopsImage}
+use Rattle.v6_run.specs.Headline.{MaybeCompletion, Known, IsKnownAnd, ends_with, fault_completion, image_completion, command_completion, IsComplete, IsImageGood, is_named, may_end, is_known}
+use Rattle.v6_run.specs.Answers.{Answers}
+use Rattle.v6_run.proofs.CauseLemmas.{only_within, fault_known}
 
-pub unwritten : (command : Command) (s : Status) (old new : Outside) → OnlyAt (is_named command) old new → IsOfCommand command s → IsUnwritten s
+pub not_so : (P : Type 0) → false ≡ true → P
+not_so P is = absurd (cc)
+
+-- a status without a file is none with one
+pub no_file : (s t : Status) → has_written s ≡ false → has_written t ≡ true → s ≡ t → ⊥
+no_file s t before after is = let both : has_written s ≡ true = ap has_written is ∙ after in cc
+
+pub unwritten : (command : Command) (s : Status) (old new : Outside) → OnlyAt (is_named command) old new → may_end command s ≡ true → has_written s ≡ false
     → ((p : OutPort) → new.port (Out p) ≡ old.port (Out p)) → (s ≡ ReadFault in_port.Script → Tells old → IsImageGood (Some command) old.fixed)
-    → (IsOutcome s → Tells old → IsSomeAnd (command_outcome command old.fixed) (ShowsAll s old new)) → IsCaused (is_known (Some command) old.fixed) s old new
+    → (is_decided s ≡ true → Tells old → IsKnownAnd (command_completion command old.fixed) (IsComplete s old new)) → IsCaused (is_known (Some command) old.fixed) s old new
     → Answers command s old new
-unwritten command s old new only kind before none order outcome cause = record {
+unwritten command s old new only ends before none order complete cause = record {
   only = only;
-  kind = kind;
-  unreported = λ is. subst IsUnwritten is before;
-  outcome = outcome;
-  front = λ p is. absurd (subst IsUnwritten is before);
+  ends = ends;
+  unreported = no_file s _ before refl;
+  complete = complete;
+  partial = λ p is. absurd (no_file s _ before refl is);
   order = order;
   none = λ _. none;
-  closed = λ is. absurd (subst IsUnwritten is before);
-  unfinished = λ pc is. absurd (subst IsUnwritten is before);
+  closed = λ is. absurd (no_file s Done before refl is);
+  unfinished = λ pc is. absurd (no_file s _ before refl is);
   cause = cause;
 }
 
--- an outcome without a file
-pub shows_none : (s : Status) (old new : Outside) → ((p : OutPort) → new.port (Out p) ≡ old.port (Out p)) → ShowsAll s old new (ends_with s)
-shows_none s old new none = record {
+-- a completion without a file
+pub complete_unwritten : (s : Status) (old new : Outside) → ((p : OutPort) → new.port (Out p) ≡ old.port (Out p)) → IsComplete s old new (ends_with s)
+complete_unwritten s old new none = record {
   answered = refl;
-  shown = λ p other. ap (λ (state : PortState). state.bytes) (none p) ∙ sym (append-nil (old.port (Out p)).bytes);
+  written = λ p other. record {
+    text = [];
+    fits = refl;
+    holds = ap (λ (state : PortState). state.bytes) (none p) ∙ sym (append-nil (old.port (Out p)).bytes);
+  };
 }
 
-outcome_at_fault : (given : Option (List ℕ)) (behind : List ℕ → Option Outcome) (f : fault.ImageFault)
-    → IsSomeAnd given (λ bytes. image_fault (take 2494465 bytes) ≡ Some f) → image_outcome given behind ≡ Some (ends_with (ImageFault f))
-outcome_at_fault None behind f faulty = absurd faulty
-outcome_at_fault (Some bytes) behind f faulty = ap (λ o. fault_outcome o (behind (take 2494465 bytes))) faulty
+completion_at_fault : (given : Option (List ℕ)) (rest : List ℕ → MaybeCompletion) (f : fault.ImageFault)
+    → IsSomeAnd given (λ bytes. image_fault (take IMAGE_LIMIT bytes) ≡ Some f) → image_completion given rest ≡ Known (ends_with (ImageFault f))
+completion_at_fault None rest f faulty = absurd faulty
+completion_at_fault (Some bytes) rest f faulty = ap (λ o. fault_completion o (rest (take IMAGE_LIMIT bytes))) faulty
 
 -- the reading of an image leaves the outputs alone
 pub no_output : (old new : Outside) → OnlyAt (same (In in_port.Image)) old new → (p : OutPort) → new.port (Out p) ≡ old.port (Out p)
@@ -53,22 +71,22 @@ no_output old new only out_port.Final = only.others (Out out_port.Final) refl
 no_output old new only out_port.Report = only.others (Out out_port.Report) refl
 
 -- the image of a command could not be read, or has a fault
-module _ (command : Command) (name : List ℕ) (behind : List ℕ → Option Outcome) (old new : Outside)
+module _ (command : Command) (name : List ℕ) (rest : List ℕ → MaybeCompletion) (old new : Outside)
     (named : (q : Port) → is_named command q ≡ false → same (In in_port.Image) q ≡ false) (reads : is_named command (In in_port.Image) ≡ true)
-    (outcome : command_outcome command old.fixed ≡ image_outcome (old.fixed.given name) behind)
+    (completion : command_completion command old.fixed ≡ image_completion (old.fixed.given name) rest)
     (known : is_known (Some command) old.fixed (In in_port.Image) ≡ is_given (old.fixed.given name)) (only : OnlyAt (same (In in_port.Image)) old new) where
-  pub image_stops : (s : Status) → StopsImage name old s → IsCaused (λ _. is_given (old.fixed.given name)) s old new → Answers command s old new
-  image_stops Done stops cause = absurd stops
-  image_stops Usage stops cause = absurd stops
-  image_stops (ReadFault port) stops cause =
-      unwritten command (ReadFault port) old new (only_within _ _ _ _ named only) (subst (λ p. is_named command (In p) ≡ true) (sym stops) reads) tt (no_output old new only)
-      (λ is. absurd (cc)) (λ run. absurd run) (caused_reading (is_known (Some command) old.fixed) in_port.Image _ (ReadFault port) old new known stops cause)
-  image_stops (WriteFault port) stops cause = absurd stops
-  image_stops CoreSize stops cause = absurd stops
-  image_stops (ImageFault f) stops cause =
-      unwritten command (ImageFault f) old new (only_within _ _ _ _ named only) reads tt (no_output old new only) (λ is. absurd (cc))
-      (λ _ told. subst (λ o. IsSomeAnd o (ShowsAll (ImageFault f) old new)) (sym (outcome ∙ outcome_at_fault _ behind f (stops told))) (shows_none (ImageFault f) old new (no_output old new only)))
-      cause
-  image_stops NoMemory stops cause =
-      unwritten command NoMemory old new (only_within _ _ _ _ named only) tt tt (no_output old new only) (λ is. absurd (cc)) (λ run. absurd run) cause
-  image_stops (NotBuilt place) stops cause = absurd stops
+  stops_with : (s : Status) → may_end command s ≡ true → has_written s ≡ false → (s ≡ ReadFault in_port.Script → ⊥)
+      → (is_decided s ≡ true → Tells old → IsKnownAnd (command_completion command old.fixed) (IsComplete s old new))
+      → IsCaused (is_known (Some command) old.fixed) s old new → Answers command s old new
+  stops_with s ends before read complete cause =
+      unwritten command s old new (only_within _ _ _ _ named only) ends before (no_output old new only) (λ is. absurd (read is)) complete cause
+
+  pub image_stops : (error : ImageError) → StopsImage name error old new → Answers command (image_status error) old new
+  image_stops (image.Unread reading.Fault) stops =
+      stops_with (ReadFault in_port.Image) reads refl (λ is. cc) (λ decided. not_so _ decided) (fault_known _ _ _ old new known stops)
+  image_stops (image.Unread reading.NoMemory) stops = stops_with NoMemory refl refl (λ is. cc) (λ decided. not_so _ decided) stops
+  image_stops (image.Faulty f) stops =
+      stops_with (ImageFault f) reads refl (λ is. cc)
+      (λ _ told. subst (λ m. IsKnownAnd m (IsComplete (ImageFault f) old new)) (sym (completion ∙ completion_at_fault _ rest f (stops.1 told)))
+      (complete_unwritten (ImageFault f) old new (no_output old new only)))
+      stops.0

@@ -1,19 +1,17 @@
 -- Why a status is answered after several calls of a host.
-use Rattle.std.proofs.Common.{◌≡◌, Bool, true, false, ◌||◌, refl, sym, ◌∙◌, ap, subst}
-use Rattle.v6_port.specs.declared.host.InPort.{InPort}
+use Rattle.std.proofs.Common.{◌≡◌, Bool, true, false, ◌||◌, Option, Some, None, MatchOption, refl, sym, ◌∙◌, ap, subst}
 use Rattle.v6_port.specs.declared.host.InPort.TheVariants as in_port
 use Rattle.v6_port.specs.declared.host.OutPort.TheVariants as out_port
-use Rattle.v6_port.specs.Outside.{Port, In, Out, same, PortState, Fixed, Outside, Tells, Rose, OnlyAt}
+use Rattle.v6_port.specs.Outside.{Port, In, Out, same, PortState, Environment, Outside, Tells, Rose, OnlyAt}
 use Rattle.v6_port.specs.Causes.{SameCounts, Calm, FaultAt}
 use Rattle.v6_run.specs.declared.status.Status.{Status}
-use Rattle.v6_run.specs.declared.status.Status.TheVariants.{Done, Usage, ReadFault, WriteFault, CoreSize, ImageFault, NoMemory, NotBuilt}
-use Rattle.v6_run.specs.Causes.{IsCaused, StopsReading}
-use Rattle.v6_run.specs.Answers.{StopsShowing}
+use Rattle.v6_run.specs.Status.{fault_port}
+use Rattle.v6_run.specs.Causes.{IsCaused}
 use Rattle.v6_run.specs.Words.{RunWords, Run}
 use Rattle.v6_run.specs.Headline.{is_named}
 
 pub still_tells : (mine : Port → Bool) (a b : Outside) → OnlyAt mine a b → Tells a → Tells b
-still_tells mine a b only told = ap (λ (f : Fixed). f.tells) only.fixed ∙ told
+still_tells mine a b only told = ap (λ (f : Environment). f.tells) only.fixed ∙ told
 
 pub only_then : (mine : Port → Bool) (a b c : Outside) → OnlyAt mine a b → OnlyAt mine b c → OnlyAt mine a c
 only_then mine a b c first second = record {
@@ -27,45 +25,24 @@ same_then a b c first second = record { faults = second.faults ∙ first.faults;
 pub calm_then : (a b c : Outside) → Calm a b → Calm b c → Calm a c
 calm_then a b c first second = record { at = λ q. same_then _ _ _ (first.at q) (second.at q) }
 
-fault_then : (p : Port) (known : Bool) (a b c : Outside) → b.fixed ≡ a.fixed → Calm a b → FaultAt p known b c → FaultAt p known a c
+pub fault_then : (p : Port) (known : Bool) (a b c : Outside) → b.fixed ≡ a.fixed → Calm a b → FaultAt p known b c → FaultAt p known a c
 fault_then p known a b c fixed first second = record {
   rose = subst (λ n. Rose n (c.port p).faults) (first.at p).faults second.rose;
   others = record { at = λ q other. same_then _ _ _ (first.at q) (second.others.at q other) };
-  missing = λ told is. second.missing (ap (λ (f : Fixed). f.tells) fixed ∙ told) is ∙ (first.at p).missing;
+  missing = λ told is. second.missing (ap (λ (f : Environment). f.tells) fixed ∙ told) is ∙ (first.at p).missing;
 }
 
--- the cause of a status stands behind calm
+caused_at : (known : Port → Bool) (at_fault : Option Port) (a b c : Outside) → b.fixed ≡ a.fixed → Calm a b
+    → MatchOption at_fault (Calm b c) (λ p. FaultAt p (known p) b c) → MatchOption at_fault (Calm a c) (λ p. FaultAt p (known p) a c)
+caused_at known None a b c fixed first second = calm_then a b c first second
+caused_at known (Some p) a b c fixed first second = fault_then p (known p) a b c fixed first second
+
+-- the cause of a status stands after calm
 pub caused_then : (known : Port → Bool) (s : Status) (a b c : Outside) → b.fixed ≡ a.fixed → Calm a b → IsCaused known s b c → IsCaused known s a c
-caused_then known Done a b c fixed first second = calm_then a b c first second
-caused_then known Usage a b c fixed first second = calm_then a b c first second
-caused_then known (ReadFault port) a b c fixed first second = fault_then (In port) (known (In port)) a b c fixed first second
-caused_then known (WriteFault port) a b c fixed first second = fault_then (Out port) (known (Out port)) a b c fixed first second
-caused_then known CoreSize a b c fixed first second = calm_then a b c first second
-caused_then known (ImageFault fault) a b c fixed first second = calm_then a b c first second
-caused_then known NoMemory a b c fixed first second = calm_then a b c first second
-caused_then known (NotBuilt place) a b c fixed first second = calm_then a b c first second
+caused_then known s a b c = caused_at known (fault_port s) a b c
 
--- a reading that stops has its cause at its own port
-pub caused_reading : (known : Port → Bool) (port : InPort) (k : Bool) (s : Status) (a b : Outside) → known (In port) ≡ k → StopsReading port s → IsCaused (λ _. k) s a b → IsCaused known s a b
-caused_reading known port k Done a b is stops cause = absurd stops
-caused_reading known port k Usage a b is stops cause = absurd stops
-caused_reading known port k (ReadFault other) a b is stops cause = subst (λ known_there. FaultAt (In other) known_there a b) (sym (ap (λ p. known (In p)) stops ∙ is)) cause
-caused_reading known port k (WriteFault other) a b is stops cause = absurd stops
-caused_reading known port k CoreSize a b is stops cause = absurd stops
-caused_reading known port k (ImageFault fault) a b is stops cause = absurd stops
-caused_reading known port k NoMemory a b is stops cause = cause
-caused_reading known port k (NotBuilt place) a b is stops cause = absurd stops
-
--- and so has a showing
-pub caused_showing : (known : Port → Bool) (k : Bool) (s : Status) (a b : Outside) → known (Out out_port.Term) ≡ k → StopsShowing s → IsCaused (λ _. k) s a b → IsCaused known s a b
-caused_showing known k Done a b is stops cause = absurd stops
-caused_showing known k Usage a b is stops cause = absurd stops
-caused_showing known k (ReadFault port) a b is stops cause = absurd stops
-caused_showing known k (WriteFault port) a b is stops cause = subst (λ known_there. FaultAt (Out port) known_there a b) (sym (ap (λ p. known (Out p)) stops ∙ is)) cause
-caused_showing known k CoreSize a b is stops cause = absurd stops
-caused_showing known k (ImageFault fault) a b is stops cause = absurd stops
-caused_showing known k NoMemory a b is stops cause = absurd stops
-caused_showing known k (NotBuilt place) a b is stops cause = cause
+pub fault_known : (p : Port) (known k : Bool) (a b : Outside) → known ≡ k → FaultAt p k a b → FaultAt p known a b
+fault_known p known k a b is fault = subst (λ t. FaultAt p t a b) (sym is) fault
 
 pub only_within : (mine named : Port → Bool) (a b : Outside) → ((q : Port) → named q ≡ false → mine q ≡ false) → OnlyAt mine a b → OnlyAt named a b
 only_within mine named a b within only = record { fixed = only.fixed; others = λ q other. only.others q (within q other) }

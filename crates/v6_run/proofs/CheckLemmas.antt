@@ -1,5 +1,5 @@
 -- What `check` answers.
-use Rattle.std.proofs.Common.{◌≡◌, ℕ, true, false, Option, Some, None, List, take, sym, ◌∙◌, ap, subst, IsSomeAnd, is_some, count_by}
+use Rattle.std.proofs.Common.{◌≡◌, ℕ, true, false, Option, Some, None, List, take, refl, sym, ◌∙◌, ap, subst, IsSomeAnd, is_some, count_by}
 use Rattle.std.specs.Option.{option_map}
 use Rattle.v6_port.specs.declared.host.InPort.TheVariants as in_port
 use Rattle.v6_port.specs.declared.host.OutPort.{OutPort}
@@ -9,28 +9,29 @@ use Rattle.v6_port.specs.Causes.{Calm}
 use Rattle.fs_codec.specs.Disk.{disk_of}
 use Rattle.fs_codec.specs.Faults.{image_fault}
 use Rattle.fs_codec.specs.Stands.{store_of}
+use Rattle.v6_run.specs.declared.image.TheConstants.{IMAGE_LIMIT}
 use Rattle.v6_run.specs.declared.status.Status.TheVariants.{Done}
 use Rattle.v6_run.specs.Words.{Check}
 use Rattle.v6_run.specs.Report.{ok_line, store_line}
-use Rattle.v6_run.specs.Headline.{ends_with, fault_outcome, image_outcome, image_line, ShowsAll}
+use Rattle.v6_run.specs.Headline.{Known, IsKnownAnd, ends_with, fault_completion, image_completion, image_line, IsComplete}
 use Rattle.v6_run.specs.Answers.{Answers}
-use Rattle.v6_run.proofs.AnswerLemmas.{shows_none, no_output}
+use Rattle.v6_run.proofs.AnswerLemmas.{not_so, complete_unwritten, no_output}
 
 module _ (name : List ℕ) (old new : Outside) (only : OnlyAt (same (In in_port.Image)) old new) where
-  good_outcome : (given : Option (List ℕ)) → IsSomeAnd given (λ bytes. image_fault (take 2494465 bytes) ≡ None)
-      → image_outcome given (λ bytes. Some (ends_with Done)) ≡ Some (ends_with Done)
-  good_outcome None good = absurd good
-  good_outcome (Some bytes) good = ap (λ f. fault_outcome f (Some (ends_with Done))) good
+  good_completion : (given : Option (List ℕ)) → IsSomeAnd given (λ bytes. image_fault (take IMAGE_LIMIT bytes) ≡ None)
+      → image_completion given (λ bytes. Known (ends_with Done)) ≡ Known (ends_with Done)
+  good_completion None good = absurd good
+  good_completion (Some bytes) good = ap (λ f. fault_completion f (Known (ends_with Done))) good
 
-  pub check_done : Calm old new → (Tells old → IsSomeAnd (old.fixed.given name) (λ bytes. image_fault (take 2494465 bytes) ≡ None)) → Answers (Check name) Done old new
+  pub check_done : Calm old new → (Tells old → IsSomeAnd (old.fixed.given name) (λ bytes. image_fault (take IMAGE_LIMIT bytes) ≡ None)) → Answers (Check name) Done old new
   check_done calm good = record {
     only = only;
-    kind = tt;
+    ends = refl;
     unreported = λ is. cc;
-    outcome = λ _ told. subst (λ o. IsSomeAnd o (ShowsAll Done old new)) (sym (good_outcome _ (good told))) (shows_none Done old new (no_output old new only));
-    front = λ p is. absurd (cc);
+    complete = λ _ told. subst (λ m. IsKnownAnd m (IsComplete Done old new)) (sym (good_completion _ (good told))) (complete_unwritten Done old new (no_output old new only));
+    partial = λ p is. absurd (cc);
     order = λ is. absurd (cc);
-    none = λ unwritten. absurd unwritten;
+    none = λ before. not_so _ (sym before);
     closed = λ _. closed;
     unfinished = λ pc is. absurd (cc);
     cause = calm;
@@ -49,6 +50,6 @@ line_given n nodes free (Some bytes) image is some room =
     let read : take n bytes ≡ image = cc in
     ap (λ l. store_line (store_of (disk_of l))) read ∙ ap (λ m. ok_line m (store_of (disk_of image)).room) (sym some) ∙ ap (λ f. ok_line nodes f) (sym room)
 
-pub image_line_is : (given : Option (List ℕ)) (line : List ℕ) → IsSomeAnd given (λ bytes. store_line (store_of (disk_of (take 2494465 bytes))) ≡ line) → image_line given ≡ line
+pub image_line_is : (given : Option (List ℕ)) (line : List ℕ) → IsSomeAnd given (λ bytes. store_line (store_of (disk_of (take IMAGE_LIMIT bytes))) ≡ line) → image_line given ≡ line
 image_line_is None line is = absurd is
 image_line_is (Some bytes) line is = is

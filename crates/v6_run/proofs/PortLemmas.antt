@@ -1,24 +1,41 @@
 -- One byte more in the trace over a host.
-use Rattle.std.proofs.Common.{◌≡◌, ℕ, true, false, Option, Some, None, is_some, [], ◌∷◌, ◌++◌, refl, sym, ◌∙◌, ap, take, Result, Ok, Err, is_err, arith}
+use Rattle.std.proofs.Common.{◌≡◌, ℕ, true, false, Option, Some, None, is_some, List, [], ◌∷◌, ◌++◌, refl, sym, ◌∙◌, ap, take, Result, Ok, Err, is_err, eqb, cond, arith}
 use Rattle.std.proofs.lemmas.List.{append-nil}
 use Rattle.std.specs.Option.{option_to_list}
-use Rattle.v6_base.specs.Trace.{Byte, Took, sent}
-use Rattle.v6_base.proofs.Took.{sent-append}
-use Rattle.v6_port.specs.Outside.{Fixed, Outside, Tells}
+use Rattle.v6_base.specs.Trace.{Byte, HoldsMore, Took, line_bytes}
+use Rattle.v6_base.proofs.Took.{holds_same}
+use Rattle.v6_port.specs.Outside.{Environment, Outside, Tells}
 use Rattle.v6_port.specs.Calls.{Writes}
 use Rattle.v6_port.specs.declared.host.Failed.{Failed}
 use Rattle.v6_port.specs.declared.host.OutPort.TheVariants as out_port
-use Rattle.v6_run.specs.Ports.{term, taken_of}
+use Rattle.v6_run.specs.Ports.{term, of_line_0, taken_of}
 
 -- the byte is written, or kept
 abbrev pub TakesByte : Outside → ℕ → Outside → Option ℕ → Type 0
 TakesByte old byte new kept = Tells old → (term new).bytes ++ option_to_list kept ≡ (term old).bytes ++ byte ∷ []
 
-pub items_more : (old new : Outside) (old_kept kept : Option ℕ) (byte : ℕ) → is_some old_kept ≡ false → TakesByte old byte new kept → Tells old
-    → (taken_of new kept).items ≡ (taken_of old old_kept).items ++ Byte 0 byte ∷ []
-items_more old new None kept byte goes takes told =
-    ap (sent 0) (takes told) ∙ sent-append 0 (term old).bytes (byte ∷ []) ∙ ap (λ l. sent 0 l ++ Byte 0 byte ∷ []) (sym (append-nil (term old).bytes))
-items_more old new (Some other) kept byte goes takes told = cc
+-- one byte more on line 0 is none on another
+on_line : (line byte : ℕ) (old new : List ℕ) → new ≡ old ++ byte ∷ [] → of_line_0 new line ≡ of_line_0 old line ++ line_bytes line (Byte 0 byte ∷ [])
+on_line line byte old new is = elim (eqb 0 line) as (λ b. (cond b new []) ≡ (cond b old []) ++ (cond b (byte ∷ []) [])) [
+  | true ↦ is
+  | false ↦ refl
+]
+
+bytes_more : (old new : Outside) (old_kept kept : Option ℕ) (byte : ℕ) → is_some old_kept ≡ false → TakesByte old byte new kept → Tells old
+    → (term new).bytes ++ option_to_list kept ≡ ((term old).bytes ++ option_to_list old_kept) ++ byte ∷ []
+bytes_more old new None kept byte goes takes told = takes told ∙ ap (λ l. l ++ byte ∷ []) (sym (append-nil (term old).bytes))
+bytes_more old new (Some other) kept byte goes takes told = cc
+
+pub holds_byte : (old new : Outside) (old_kept kept : Option ℕ) (byte : ℕ) → is_some old_kept ≡ false → new.fixed ≡ old.fixed → TakesByte old byte new kept
+    → HoldsMore (taken_of old old_kept) (Byte 0 byte ∷ []) (taken_of new kept)
+holds_byte old new old_kept kept byte goes fixed takes = record {
+  tells_bytes = ap (λ (f : Environment). f.tells) fixed;
+  bytes = λ told line. on_line line byte ((term old).bytes ++ option_to_list old_kept) ((term new).bytes ++ option_to_list kept) (bytes_more old new old_kept kept byte goes takes told);
+  tells_entries = refl;
+  entries = λ told. refl;
+  tells_text = refl;
+  text = λ told. absurd (let no_text : false ≡ true = told in cc);
+}
 
 pub took_byte : (old new : Outside) (old_kept kept : Option ℕ) (byte : ℕ) → is_some old_kept ≡ false → new.fixed ≡ old.fixed → TakesByte old byte new kept
     → Took (taken_of old old_kept) (Byte 0 byte ∷ []) (taken_of new kept)
@@ -26,10 +43,20 @@ took_byte old new old_kept kept byte goes fixed takes = record {
   part = Byte 0 byte ∷ [];
   rest = [];
   split = refl;
-  tells = ap (λ (f : Fixed). f.tells) fixed;
-  holds = items_more old new old_kept kept byte goes takes;
+  holds = holds_byte old new old_kept kept byte goes fixed takes;
   whole = λ uncut. refl;
   refused = λ is_cut. absurd (cc);
+}
+
+-- a trace that is cut takes nothing
+pub took_while_cut : (o : Outside) (kept : Option ℕ) (byte : ℕ) → is_some kept ≡ true → Took (taken_of o kept) (Byte 0 byte ∷ []) (taken_of o kept)
+took_while_cut o kept byte is_cut = record {
+  part = [];
+  rest = Byte 0 byte ∷ [];
+  split = refl;
+  holds = holds_same (taken_of o kept);
+  whole = λ uncut. absurd (cc);
+  refused = λ _. (is_cut, refl);
 }
 
 kept_nothing : (kept : Option ℕ) → is_some kept ≡ false → option_to_list kept ≡ []
@@ -51,11 +78,11 @@ module _ (old new : Outside) (kept : Option ℕ) (byte : ℕ) (r : Result ℕ Fa
   pub took_written : is_err r ≡ false → Took (taken_of old kept) (Byte 0 byte ∷ []) (taken_of new kept)
   took_written good = took_byte old new kept kept byte goes write.only.fixed (written r write good)
 
-  pub items_written : is_err r ≡ false → Tells old → (taken_of new kept).items ≡ (taken_of old kept).items ++ Byte 0 byte ∷ []
-  items_written good = items_more old new kept kept byte goes (written r write good)
+  pub held_written : is_err r ≡ false → HoldsMore (taken_of old kept) (Byte 0 byte ∷ []) (taken_of new kept)
+  held_written good = holds_byte old new kept kept byte goes write.only.fixed (written r write good)
 
   pub took_kept : is_err r ≡ true → Took (taken_of old kept) (Byte 0 byte ∷ []) (taken_of new (Some byte))
   took_kept bad = took_byte old new kept (Some byte) byte goes write.only.fixed (failed r write bad)
 
-  pub items_kept : is_err r ≡ true → Tells old → (taken_of new (Some byte)).items ≡ (taken_of old kept).items ++ Byte 0 byte ∷ []
-  items_kept bad = items_more old new kept (Some byte) byte goes (failed r write bad)
+  pub held_kept : is_err r ≡ true → HoldsMore (taken_of old kept) (Byte 0 byte ∷ []) (taken_of new (Some byte))
+  held_kept bad = holds_byte old new kept (Some byte) byte goes write.only.fixed (failed r write bad)

@@ -7,7 +7,7 @@ use Rattle.std.proofs.Math.Seq.{take-append_seam}
 use Rattle.std.proofs.lemmas.List.{take-append-le, take-append-drop, append-nil, map-append}
 use Rattle.std.proofs.lemmas.Bool.{leb-true, le-leb}
 use Rattle.std.specs.List.{list_all, find, range_with_len}
-use Rattle.v6_run.specs.Script.{Line, lines_of, count_of, slots_of, is_built, unbuilt_line, Slots, Unbuilt, script_of, script_of_lines}
+use Rattle.v6_run.specs.Script.{Line, lines_of, count_of, slots_of, is_built, first_unbuilt, Slots, Unbuilt, script_of, script_of_lines}
 
 -- the first number of a range that passes
 first_found : (p : ℕ → Bool) (k a n : ℕ) → k < n → ((i : ℕ) → i < k → p (a + i) ≡ false) → p (a + k) ≡ true → find p (range_with_len a n) ≡ Some (a + k)
@@ -78,12 +78,12 @@ built_front xs ys built = record {
 built_take : (n : ℕ) (lines : List Line) → Built lines → Built (take n lines)
 built_take n lines built = built_front (take n lines) (drop n lines) (subst Built (sym (take-append-drop n lines)) built)
 
-all_built : (lines : List Line) → Built lines → unbuilt_line lines ≡ None
+all_built : (lines : List Line) → Built lines → first_unbuilt lines ≡ None
 all_built lines built = none_found (λ n. not (is_built (take n lines))) 1 (length lines) (λ i inside. ap not (is_built-true _ (built_take (1 + i) lines built)))
 
-first_unbuilt : (lines : List Line) (line : Line) (more : List Line) → Built lines → (Built (lines ++ line ∷ []) → ⊥)
-    → unbuilt_line (lines ++ line ∷ more) ≡ Some (1 + length lines)
-first_unbuilt lines line more built never =
+first_unbuilt_is : (lines : List Line) (line : Line) (more : List Line) → Built lines → (Built (lines ++ line ∷ []) → ⊥)
+    → first_unbuilt (lines ++ line ∷ more) ≡ Some (1 + length lines)
+first_unbuilt_is lines line more built never =
     let all = lines ++ line ∷ more in
     let inside : length lines < length all = omega (arith, length-append lines (line ∷ more)) in
     first_found (λ n. not (is_built (take n all))) (length lines) 1 (length all) inside
@@ -154,8 +154,8 @@ module _ (script rest : List ℕ) (line slots size : ℕ) (counts : List ℕ) (r
   -- the script is refused at the next line
   refused : (Built (read.done ++ next_line ∷ []) → ⊥) → script_of script ≡ Unbuilt (line + 1)
   refused never =
-      let found : unbuilt_line (lines_of script) ≡ Some (line + 1) =
-      ap unbuilt_line all_lines ∙ first_unbuilt read.done next_line (lines_of more) read.built never
+      let found : first_unbuilt (lines_of script) ≡ Some (line + 1) =
+      ap first_unbuilt all_lines ∙ first_unbuilt_is read.done next_line (lines_of more) read.built never
       ∙ ap Some (let number : 1 + length read.done ≡ line + 1 = omega (arith, read.line_is) in number) in
       ap (script_of_lines (lines_of script)) found
 
@@ -180,6 +180,6 @@ module _ (script rest : List ℕ) (line slots size : ℕ) (counts : List ℕ) (r
 pub read_all : (script rest : List ℕ) (line slots size : ℕ) (counts : List ℕ) → HasRead script rest line slots size counts → length rest ≡ 0 → script_of script ≡ Slots counts
 read_all script [] line slots size counts read none =
     let all : lines_of script ≡ read.done = read.whole ∙ append-nil read.done in
-    let goes : unbuilt_line (lines_of script) ≡ None = ap unbuilt_line all ∙ all_built read.done read.built in
+    let goes : first_unbuilt (lines_of script) ≡ None = ap first_unbuilt all ∙ all_built read.done read.built in
     ap (script_of_lines (lines_of script)) goes ∙ ap Slots (ap (map slots_of) all ∙ sym read.counts_are)
 read_all script (byte ∷ rest) line slots size counts read none = absurd (omega arith)

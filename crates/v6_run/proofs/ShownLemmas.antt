@@ -2,8 +2,8 @@
 use Rattle.std.proofs.Common.{◌≡◌, ℕ, false, Option, Some, None, is_some, List, [], ◌++◌, refl, sym, ◌∙◌, ap, subst, append_assoc}
 use Rattle.std.proofs.lemmas.List.{append-nil, append_cancel_left}
 use Rattle.std.specs.Option.{option_to_list}
-use Rattle.v6_base.specs.Trace.{Item, Took, sent, line_bytes}
-use Rattle.v6_base.proofs.Took.{line_bytes-append, line_bytes-sent}
+use Rattle.v6_base.specs.Trace.{Item, Took, line_bytes}
+use Rattle.v6_base.proofs.Took.{line_bytes-append}
 use Rattle.v6_port.specs.Outside.{Outside, Tells}
 use Rattle.v6_run.specs.Fronts.{HoldsFront}
 use Rattle.v6_run.specs.Ports.{term, taken_of, Goes}
@@ -11,10 +11,7 @@ use Rattle.v6_run.specs.Ports.{term, taken_of, Goes}
 module _ (old new : Outside) (kept : Option ℕ) (items : List Item) (took : Took (taken_of old None) items (taken_of new kept)) (goes : Goes old None new kept) (told : Tells old) where
   -- what was written, with the byte that was kept
   taken_bytes : (term new).bytes ++ option_to_list kept ≡ (term old).bytes ++ line_bytes 0 took.part
-  taken_bytes =
-      sym (line_bytes-sent 0 ((term new).bytes ++ option_to_list kept)) ∙ ap (line_bytes 0) (took.holds told)
-      ∙ line_bytes-append 0 (sent 0 ((term old).bytes ++ [])) took.part
-      ∙ ap (λ l. l ++ line_bytes 0 took.part) (line_bytes-sent 0 ((term old).bytes ++ []) ∙ append-nil (term old).bytes)
+  taken_bytes = took.holds.bytes told 0 ∙ ap (λ l. l ++ line_bytes 0 took.part) (append-nil (term old).bytes)
 
   pub front_shown : HoldsFront (term old).bytes (line_bytes 0 items) (term new).bytes
   front_shown =

@@ -2,7 +2,9 @@ pub mod Number
 pub mod Status
 pub mod Script
 pub mod Words
+pub mod Errors
 pub mod Causes
+pub mod Steps
 pub mod Fronts
 pub mod Report
 pub mod Ports

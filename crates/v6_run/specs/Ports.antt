@@ -1,18 +1,30 @@
 -- The terminal's port of a host as a trace of what a run shows.
-use Rattle.std.specs.Prelude.{◌≡◌, ℕ, true, false, Option, Some, None, is_some, option_to_list, List, [], ◌++◌, refl}
+use Rattle.std.specs.Prelude.{◌≡◌, ℕ, true, false, Option, Some, None, is_some, option_to_list, List, [], ◌++◌, ◌==◌, if◌then◌else◌, refl}
 use Rattle.std.proofs.Common.{sym, ◌∙◌, ap, subst, append_assoc}
 use Rattle.std.proofs.lemmas.List.{append-nil}
-use Rattle.v6_base.specs.Trace.{Taken, sent}
+use Rattle.v6_base.specs.Trace.{Taken}
 use Rattle.v6_port.specs.declared.host.OutPort.TheVariants.{Term}
-use Rattle.v6_port.specs.Outside.{Out, same, PortState, Fixed, Outside, Tells, Rose, OnlyAt}
+use Rattle.v6_port.specs.Outside.{Out, same, PortState, Environment, Outside, Tells, Rose, OnlyAt}
 
 abbrev pub term : Outside → PortState
 term o = o.port (Out Term)
 
--- What has been taken are the bytes written to Term and, behind them, the one that is kept because its writing failed. With that
--- the trace is cut.
+-- these bytes are those of line 0
+abbrev pub of_line_0 : List ℕ → ℕ → List ℕ
+of_line_0 bytes line = if 0 == line then bytes else []
+
+-- What has been taken are the bytes of line 0: those written to Term and, after them, the one that is kept because its writing
+-- failed. With that the trace is cut. Of the log nothing is told yet.
 abbrev pub taken_of : Outside → Option ℕ → Taken
-taken_of o kept = record { cut = is_some kept; tells = o.fixed.tells; items = sent 0 ((term o).bytes ++ option_to_list kept) }
+taken_of o kept = record {
+  cut = is_some kept;
+  tells_bytes = o.fixed.tells;
+  bytes = of_line_0 ((term o).bytes ++ option_to_list kept);
+  tells_entries = false;
+  entries = [];
+  tells_text = false;
+  text = [];
+}
 
 pub record Extends (old new : List ℕ) : Type 0 where
   pub more : List ℕ
@@ -65,7 +77,7 @@ Goes-on a a_kept b b_kept c c_kept first second = record {
   cause = cause_on a a_kept b b_kept c c_kept first second;
   grows = λ told.
       let one = first.grows told in
-      let two = second.grows (ap (λ (f : Fixed). f.tells) first.only.fixed ∙ told) in
+      let two = second.grows (ap (λ (f : Environment). f.tells) first.only.fixed ∙ told) in
       record {
         more = one.more ++ two.more;
         is = two.is ∙ ap (λ l. l ++ two.more) one.is ∙ append_assoc (term a).bytes one.more two.more;

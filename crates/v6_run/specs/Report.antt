@@ -11,8 +11,10 @@ use Rattle.fs_codec.specs.Store.{Store}
 use Rattle.fs_check.specs.declared.counts.Tally.{Tally}
 use Rattle.v6_run.specs.declared.status.Status.{Status}
 use Rattle.v6_run.specs.declared.status.Status.TheVariants as status
-use Rattle.v6_run.specs.declared.status.Unbuilt.{Unbuilt}
-use Rattle.v6_run.specs.declared.status.Unbuilt.TheVariants.{Image, Line, At}
+use Rattle.unix_core.specs.declared.turned.Unbuilt.{Unbuilt}
+use Rattle.unix_core.specs.declared.turned.Unbuilt.TheVariants.{Image, Line, At}
+use Rattle.v6_run.specs.declared.error.CommandError.{CommandError}
+use Rattle.v6_run.specs.Errors.{command_status}
 
 abbrev pub line_of : List ℕ → List ℕ
 line_of text = text ++ 10 ∷ []
@@ -48,15 +50,15 @@ abbrev pub usage : List ℕ
 usage = codes "usage: v6 run IMAGE CORE SCRIPT TERM LOG FINAL, memory IMAGE CORE SCRIPT FINAL, check IMAGE, make N FINAL, demo N"
 
 -- the line of a status; a command that was done has none
-abbrev pub report_of : Status → List ℕ
-report_of status.Done = []
-report_of status.Usage = line_of usage
-report_of (status.ReadFault port) = line_of (codes "read fault: " ++ in_name port)
-report_of (status.WriteFault port) = line_of (codes "write fault: " ++ out_name port)
-report_of status.CoreSize = line_of (codes "core size")
-report_of (status.ImageFault fault) = fault_line fault
-report_of status.NoMemory = line_of (codes "no memory")
-report_of (status.NotBuilt place) = unbuilt_line place
+abbrev pub status_line : Status → List ℕ
+status_line status.Done = []
+status_line status.Usage = line_of usage
+status_line (status.ReadFault port) = line_of (codes "read fault: " ++ in_name port)
+status_line (status.WriteFault port) = line_of (codes "write fault: " ++ out_name port)
+status_line status.CoreSize = line_of (codes "core size")
+status_line (status.ImageFault fault) = fault_line fault
+status_line status.NoMemory = line_of (codes "no memory")
+status_line (status.NotBuilt place) = unbuilt_line place
 
 -- what `check` tells of a disk without a fault: how many nodes and how many free blocks it has
 abbrev pub ok_line : ℕ → ℕ → List ℕ
@@ -70,23 +72,15 @@ abbrev pub tally_line : Option Tally → List ℕ
 tally_line None = []
 tally_line (Some tally) = ok_line tally.nodes tally.free
 
-abbrev pub answer_line : Result (Option Tally) Status → List ℕ
+abbrev pub answer_line : Result (Option Tally) CommandError → List ℕ
 answer_line (Ok tally) = tally_line tally
-answer_line (Err status) = report_of status
+answer_line (Err error) = status_line (command_status error)
 
 -- what a command reports that would tell this if it was done: also where that was all that failed
 abbrev pub report_line : List ℕ → Status → List ℕ
 report_line done status.Done = done
-report_line done status.Usage = report_of status.Usage
-report_line done (status.ReadFault port) = report_of (status.ReadFault port)
-report_line done (status.WriteFault out_port.Term) = report_of (status.WriteFault out_port.Term)
-report_line done (status.WriteFault out_port.Log) = report_of (status.WriteFault out_port.Log)
-report_line done (status.WriteFault out_port.Final) = report_of (status.WriteFault out_port.Final)
 report_line done (status.WriteFault out_port.Report) = done
-report_line done status.CoreSize = report_of status.CoreSize
-report_line done (status.ImageFault fault) = report_of (status.ImageFault fault)
-report_line done status.NoMemory = report_of status.NoMemory
-report_line done (status.NotBuilt place) = report_of (status.NotBuilt place)
+report_line done other = status_line other
 
 abbrev pub report : Outside → PortState
 report o = o.port (Out out_port.Report)

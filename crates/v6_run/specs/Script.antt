@@ -1,13 +1,11 @@
 -- Scripts, by docs/manual/scripts.md: what each line asks for, and the first line that is not built.
 -- A script is lines that end by LF; the last may lack it. A CR right before an LF is dropped.
 -- The one line that is built is `run N`, N slots. A script has at most 200,000,000 slots and 1,048,576 bytes.
-use Rattle.std.specs.Prelude.{◌≡◌, ⊤, ℕ, ◌+◌, Bool, not, Option, Some, None, is_some, unwrap_or, List, [], ◌∷◌, length, take, drop, map, sum_by, nat_eq, nat_le, ◌==◌, ◌&&◌, if◌then◌else◌, codes}
+use Rattle.std.specs.Prelude.{ℕ, ◌+◌, Bool, not, Option, Some, None, is_some, unwrap_or, List, [], ◌∷◌, length, take, drop, map, sum_by, nat_eq, nat_le, ◌==◌, ◌&&◌, if◌then◌else◌, codes}
 use Rattle.std.specs.List.{list_all, find, range_with_len, slice_split, starts_with}
 use Rattle.std.specs.Str.Lines.{strip_carriage_return}
+use Rattle.v6_run.specs.declared.script.TheConstants.{MAX_SLOTS, MAX_BYTES}
 use Rattle.v6_run.specs.Number.{number_of}
-use Rattle.v6_run.specs.declared.status.Status.{Status}
-use Rattle.v6_run.specs.declared.status.Status.TheVariants.{Done, Usage, ReadFault, WriteFault, CoreSize, ImageFault, NoMemory, NotBuilt}
-use Rattle.v6_run.specs.declared.status.Unbuilt.TheVariants as unbuilt
 
 -- a line without its end, and how many bytes it has with it
 pub record Line : Type 0 where
@@ -35,12 +33,12 @@ slots_of line = unwrap_or (count_of line.text) 0
 abbrev pub is_built : List Line → Bool
 is_built lines =
     list_all (λ line. is_some (count_of line.text)) lines
-    && nat_le (sum_by slots_of lines) 200000000
-    && nat_le (sum_by (λ line. line.size) lines) 1048576
+    && nat_le (sum_by slots_of lines) MAX_SLOTS
+    && nat_le (sum_by (λ line. line.size) lines) MAX_BYTES
 
 -- the number of the first line with which the lines so far are no longer built, the first line being 1
-abbrev pub unbuilt_line : List Line → Option ℕ
-unbuilt_line lines = find (λ n. not (is_built (take n lines))) (range_with_len 1 (length lines))
+abbrev pub first_unbuilt : List Line → Option ℕ
+first_unbuilt lines = find (λ n. not (is_built (take n lines))) (range_with_len 1 (length lines))
 
 pub data Script : Type 0 where
   Unbuilt : ℕ → Script
@@ -52,17 +50,4 @@ script_of_lines lines None = Slots (map slots_of lines)
 
 -- the counts of slots that a script asks for, line by line, or the first line that is not built
 abbrev pub script_of : List ℕ → Script
-script_of script = script_of_lines (lines_of script) (unbuilt_line (lines_of script))
-
--- a script is refused by its first line that is not built, or for want of memory
-abbrev pub RefusesScript : Script → Status → Type 0
-RefusesScript script (NotBuilt (unbuilt.Line n)) = script ≡ Unbuilt n
-RefusesScript script (NotBuilt unbuilt.Image) = ⊥
-RefusesScript script (NotBuilt (unbuilt.At pc)) = ⊥
-RefusesScript script NoMemory = ⊤
-RefusesScript script Done = ⊥
-RefusesScript script Usage = ⊥
-RefusesScript script (ReadFault port) = ⊥
-RefusesScript script (WriteFault port) = ⊥
-RefusesScript script CoreSize = ⊥
-RefusesScript script (ImageFault fault) = ⊥
+script_of script = script_of_lines (lines_of script) (first_unbuilt (lines_of script))

@@ -1,7 +1,9 @@
--- The exit status of each way to end, as docs/manual/commands.md lists them.
-use Rattle.std.specs.Prelude.{ℕ}
+-- How commands end, by docs/manual/commands.md: the exit status of each way, and what it tells of the command.
+use Rattle.std.specs.Prelude.{ℕ, Bool, true, false, Option, Some, None}
+use Rattle.v6_port.specs.Outside.{Port, In, Out}
 use Rattle.v6_run.specs.declared.status.Status.{Status}
 use Rattle.v6_run.specs.declared.status.Status.TheVariants.{Done, Usage, ReadFault, WriteFault, CoreSize, ImageFault, NoMemory, NotBuilt}
+use Rattle.unix_core.specs.declared.turned.Unbuilt.TheVariants as unbuilt
 
 abbrev pub status_number : Status → ℕ
 status_number Done = 0
@@ -12,3 +14,23 @@ status_number CoreSize = 4
 status_number (ImageFault fault) = 6
 status_number NoMemory = 8
 status_number (NotBuilt place) = 11
+
+-- the port that is at fault
+abbrev pub fault_port : Status → Option Port
+fault_port (ReadFault port) = Some (In port)
+fault_port (WriteFault port) = Some (Out port)
+fault_port _ = None
+
+-- whether the bytes of the command's files decide that it ends so
+abbrev pub is_decided : Status → Bool
+is_decided Done = true
+is_decided (ImageFault fault) = true
+is_decided (NotBuilt place) = true
+is_decided _ = false
+
+-- whether the command has come to write its files
+abbrev pub has_written : Status → Bool
+has_written Done = true
+has_written (WriteFault port) = true
+has_written (NotBuilt (unbuilt.At pc)) = true
+has_written _ = false

@@ -50,11 +50,11 @@ command_of _ = None
 abbrev pub command_in : List (String Global) → Option Command
 command_in words = command_of (map string_bytes words)
 
--- and its parts
-abbrev pub run_named : words.RunWords → RunWords
-run_named w = record { image = w.image.now; core = w.core; script = w.script.now; term = w.term.now }
+-- what the words and numbers that a program holds are
+abbrev pub run_words_value : words.RunWords → RunWords
+run_words_value w = record { image = w.image.now; core = w.core; script = w.script.now; term = w.term.now }
 
-abbrev pub named : written.Command → Command
-named (variant.Run words) = Run (run_named words)
-named (variant.Check image) = Check image.now
-named (variant.Make number final) = Make number final.now
+abbrev pub command_value : written.Command → Command
+command_value (variant.Run words) = Run (run_words_value words)
+command_value (variant.Check image) = Check image.now
+command_value (variant.Make number final) = Make number final.now

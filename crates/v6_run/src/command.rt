@@ -1,19 +1,22 @@
 //! The command of a program's words, and its report.
-ghost use Rattle.std.specs.Prelude.{◌≡◌, ◌≢◌, ℕ, ◌++◌, true, false, Some, None, is_some, IsSome, IsSomeAnd, MatchOption, IfOk, IfErr};
+ghost use Rattle.std.specs.Prelude.{◌≡◌, ℕ, ◌++◌, true, false, Some, is_some, IsSome, MatchOption, IfOk};
 ghost use Rattle.std.specs.Option.{option_map};
 ghost use Rattle.v6_port.specs.Outside.{Out, IsIdle, OnlyAt, Tells, is_report};
 ghost use Rattle.v6_port.specs.declared.host.OutPort.{OutPort};
 ghost use Rattle.v6_port.specs.declared.host.InPort.TheVariants.{Script};
-ghost use Rattle.v6_run.specs.declared.status.Unbuilt.{Unbuilt};
-ghost use Rattle.v6_run.specs.Words.{command_in, named};
+ghost use Rattle.unix_core.specs.declared.turned.Unbuilt.{Unbuilt};
+ghost use Rattle.v6_run.specs.Words.{command_in, command_value};
 ghost use Rattle.v6_run.specs.Ports.{term};
 ghost use Rattle.v6_run.specs.Fronts.{HoldsFront};
 ghost use Rattle.v6_run.specs.Report.{report, report_line, tally_line};
-ghost use Rattle.v6_run.specs.Causes.{HasCause, MissesUnknown, status_of};
-ghost use Rattle.v6_run.specs.Headline.{is_core_size, refused_by, reports_done, words_outcome, done_line, ShowsAll, ShowsFront, IsOutcome, IsOfWords, IsImageGood, IsUnwritten, is_touched, is_known};
+ghost use Rattle.v6_run.specs.Status.{is_decided, has_written};
+ghost use Rattle.v6_run.specs.Errors.{command_status, end_of};
+ghost use Rattle.v6_run.specs.Causes.{HasCause, MissesUnknown};
+ghost use Rattle.v6_run.specs.Headline.{is_core_size, has_core_size, refused_by, reports_done, words_completion, done_line, IsKnownAnd, IsComplete, IsPartial, IsImageGood, words_may_end, is_touched, is_known};
 ghost use Rattle.v6_run.specs.Answers.{Answers, AnswersWords};
 
 use crate::check::check;
+use crate::error::CommandError;
 use crate::make::make;
 use crate::report::report;
 use crate::run::run;
@@ -30,62 +33,64 @@ fn is_core_size(core: u32) -> bool
     64 <= core && core <= 3968
 }
 
-/// The status that a command is refused with before it begins.
-fn refusal(command: &Command<'_>) -> Option<Status>
-    ensures { result ≡ refused_by (Some (named command.now)) }
+/// Whether the size of core is good, for a command with one.
+fn has_core_size(command: &Command<'_>) -> bool
+    ensures { result ≡ has_core_size (command_value command.now) }
 {
     match command {
-        Command::Run(words) if !is_core_size(words.core) => Some(Status::CoreSize),
-        _ => None,
+        Command::Run(words) => is_core_size(words.core),
+        _ => true,
     }
 }
 
-/// Does a command that is not refused, and gives what it has found, but for its report.
+/// Does a command with a good size of core, and gives what it has found, but for its report.
 fn done<H: Host>(
     alloc: Global,
     command: &Command<'_>,
     host: &mut H,
-) -> Result<Option<Tally>, Status>
+) -> Result<Option<Tally>, CommandError>
     requires idle { IsIdle (H.outside host.old) }
-    requires good { refused_by (Some (named command.now)) ≡ None }
-    ensures answers { Answers (named command.now) (status_of result) (H.outside host.old) (H.outside host.new) }
+    requires good { has_core_size (command_value command.now) ≡ true }
+    ensures answers { Answers (command_value command.now) (end_of command_status result) (H.outside host.old) (H.outside host.new) }
     ensures line { IfOk result (λ found. Tells (H.outside host.old)
-        → done_line (Some (named command.now)) (H.outside host.old).fixed ≡ tally_line found) }
-    ensures found { IfOk result (λ found. is_some found ≡ reports_done (named command.now)) }
-    ensures failed { IfErr result (λ status. status ≢ Status.Done) }
+        → done_line (Some (command_value command.now)) (H.outside host.old).fixed ≡ tally_line found) }
+    ensures found { IfOk result (λ found. is_some found ≡ reports_done (command_value command.now)) }
 {
     match command {
         Command::Run(words) => match run(alloc, words, host) {
             Ok(()) => Ok(None),
-            Err(status) => Err(status),
+            Err(error) => Err(CommandError::Run(error)),
         },
         Command::Check(image) => match check(alloc, image, host) {
             Ok(tally) => Ok(Some(tally)),
-            Err(status) => Err(status),
+            Err(error) => Err(CommandError::Check(error)),
         },
         Command::Make(number, name) => match make(alloc, *number, name, host) {
             Ok(()) => Ok(None),
-            Err(status) => Err(status),
+            Err(error) => Err(CommandError::Make(error)),
         },
     }
 }
 
 /// Does the command of these words, but for its report.
-fn answer<H: Host>(alloc: Global, words: &[String], host: &mut H) -> Result<Option<Tally>, Status>
+fn answer<H: Host>(
+    alloc: Global,
+    words: &[String],
+    host: &mut H,
+) -> Result<Option<Tally>, CommandError>
     requires { IsIdle (H.outside host.old) }
-    ensures answers { AnswersWords (command_in words.now) (status_of result) (H.outside host.old) (H.outside host.new) }
+    ensures answers { AnswersWords (command_in words.now) (end_of command_status result) (H.outside host.old) (H.outside host.new) }
     ensures line { IfOk result (λ found. Tells (H.outside host.old)
         → done_line (command_in words.now) (H.outside host.old).fixed ≡ tally_line found) }
     ensures found { IfOk result (λ found. option_map reports_done (command_in words.now) ≡ Some (is_some found)) }
-    ensures failed { IfErr result (λ status. status ≢ Status.Done) }
 {
     let Some(command) = command_of(words) else {
-        return Err(Status::Usage);
+        return Err(CommandError::Usage);
     };
-    match refusal(&command) {
-        Some(status) => Err(status),
-        None => done(alloc, &command, host),
+    if !has_core_size(&command) {
+        return Err(CommandError::CoreSize);
     }
+    done(alloc, &command, host)
 }
 
 /// Does the command of these words, which are the command line's without the program's name, and reports how it ended.
@@ -106,21 +111,22 @@ pub fn v6<H: Host>(alloc: Global, words: &Vec<String>, host: &mut H) -> Status
     ensures only { OnlyAt (is_touched (command_in words.now.items)) (H.outside host.old) (H.outside host.new) }
 
     // The words alone give Usage and CoreSize, exactly, and no file is opened then.
-    ensures words { MatchOption (refused_by (command_in words.now.items)) (IsOfWords (command_in words.now.items) result)
+    ensures words { MatchOption (refused_by (command_in words.now.items)) (words_may_end (command_in words.now.items) result ≡ true)
         (λ refusal. result ≡ refusal) }
     ensures unopened { IsSome (refused_by (command_in words.now.items))
         → OnlyAt is_report (H.outside host.old) (H.outside host.new) }
 
-    // Done, ImageFault and NotBuilt are exactly what the command's files come to, and each file has got all that is written.
-    ensures outcome { IsOutcome result → Tells (H.outside host.old)
-        → IsSomeAnd (words_outcome (command_in words.now.items) (H.outside host.old).fixed)
-        (ShowsAll result (H.outside host.old) (H.outside host.new)) }
-    ensures front { (p : OutPort) → result ≡ Status.WriteFault p → Tells (H.outside host.old)
-        → IsSomeAnd (words_outcome (command_in words.now.items) (H.outside host.old).fixed)
-        (ShowsFront (H.outside host.old) (H.outside host.new)) }
+    // Done, ImageFault and NotBuilt are exactly what the command's files come to, and each file has got all that is written. At a
+    // write fault each has got a front of it.
+    ensures complete { is_decided result ≡ true → Tells (H.outside host.old)
+        → IsKnownAnd (words_completion (command_in words.now.items) (H.outside host.old).fixed)
+        (IsComplete result (H.outside host.old) (H.outside host.new)) }
+    ensures partial { (p : OutPort) → result ≡ Status.WriteFault p → Tells (H.outside host.old)
+        → IsKnownAnd (words_completion (command_in words.now.items) (H.outside host.old).fixed)
+        (IsPartial (H.outside host.old) (H.outside host.new)) }
     ensures order { result ≡ Status.ReadFault Script → Tells (H.outside host.old)
         → IsImageGood (command_in words.now.items) (H.outside host.old).fixed }
-    ensures none { IsUnwritten result
+    ensures none { has_written result ≡ false
         → (p : OutPort) → is_report (Out p) ≡ false → (H.outside host.new).port (Out p) ≡ (H.outside host.old).port (Out p) }
     ensures closed { result ≡ Status.Done
         → (p : OutPort) → is_report (Out p) ≡ false → ((H.outside host.new).port (Out p)).is_open ≡ false }

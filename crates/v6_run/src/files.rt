@@ -1,15 +1,23 @@
 //! Whole files of a host.
-ghost use Rattle.std.specs.Prelude.{◌≡◌, ◌≢◌, ◌<◌, ◌≤◌, ◌^◌, ◌++◌, length, take, true, false, Some, IfOk, IfErr, OnOk, OnErr, MatchResult};
+ghost use Rattle.std.specs.Prelude.{◌≡◌, ◌≢◌, ◌<◌, ◌≤◌, ◌^◌, ◌++◌, length, take, true, false, Some, IfOk, OnOk, MatchResult};
 ghost use Rattle.std.specs.Option.{option_map};
 ghost use Rattle.v6_port.specs.Outside.{In, Out, IsOpen, OnlyAt, Tells, same};
 ghost use Rattle.v6_port.specs.Causes.{Calm, FaultAt};
 ghost use Rattle.v6_port.specs.Calls.{is_given, is_expected};
-ghost use Rattle.v6_run.specs.Causes.{IsCaused, StopsReading, status_of};
+ghost use Rattle.v6_run.specs.Steps.{StopsReading};
 ghost use Rattle.v6_run.specs.Fronts.{HoldsFront};
 
-use crate::status::Status;
 use std::alloc::Global;
 use v6_port::{Failed, Host, InPort, OutPort};
+
+/// Why a file could not be read.
+#[derive(Clone, Copy)]
+pub(crate) enum ReadError {
+    /// Its port failed.
+    Fault,
+    /// There was no memory.
+    NoMemory,
+}
 
 /// Reads what is left of an open port, to its end or to this many bytes.
 fn read_left<H: Host>(
@@ -17,28 +25,28 @@ fn read_left<H: Host>(
     host: &mut H,
     port: InPort,
     limit: usize,
-) -> Result<Vec<u8>, Status>
+) -> Result<Vec<u8>, ReadError>
     requires is_open { IsOpen (H.outside host.old) (In port) }
     requires small { limit < 2 ^ 32 }
     ensures only { OnlyAt (same (In port)) (H.outside host.old) (H.outside host.new) }
     ensures bytes { IfOk result (λ all. Tells (H.outside host.old)
         → all.items ≡ take limit ((H.outside host.old).port (In port)).bytes) }
     ensures short { IfOk result (λ all. length all.items ≤ limit) }
-    ensures kind { IfErr result (StopsReading port) }
-    ensures cause { IsCaused (λ _. true) (status_of result) (H.outside host.old) (H.outside host.new) }
+    ensures cause { MatchResult result (λ _. Calm (H.outside host.old) (H.outside host.new))
+        (λ error. StopsReading (In port) true error (H.outside host.old) (H.outside host.new)) }
 {
     let mut all = Vec::new(alloc);
     let mut buffer = [0u8; 4096];
     'file: while all.len() < limit {
         let wanted = (limit - all.len()).min(4096);
         let Ok(count) = host.read(port, &mut buffer[..wanted]) else {
-            return Err(Status::ReadFault(port));
+            return Err(ReadError::Fault);
         };
         if count == 0 {
             break;
         }
         if all.extend_from_slice(&buffer[..count]).is_err() {
-            return Err(Status::NoMemory);
+            return Err(ReadError::NoMemory);
         }
     }
     Ok(all)
@@ -51,18 +59,18 @@ pub(crate) fn read_file<H: Host>(
     port: InPort,
     name: &str,
     limit: usize,
-) -> Result<Vec<u8>, Status>
+) -> Result<Vec<u8>, ReadError>
     requires { limit < 2 ^ 32 }
     ensures only { OnlyAt (same (In port)) (H.outside host.old) (H.outside host.new) }
     ensures bytes { IfOk result (λ all. Tells (H.outside host.old)
         → option_map (take limit) ((H.outside host.old).fixed.given name.now) ≡ Some all.items) }
     ensures short { IfOk result (λ all. length all.items ≤ limit) }
-    ensures kind { IfErr result (StopsReading port) }
-    ensures cause { IsCaused (λ _. is_given ((H.outside host.old).fixed.given name.now)) (status_of result)
-        (H.outside host.old) (H.outside host.new) }
+    ensures cause { MatchResult result (λ _. Calm (H.outside host.old) (H.outside host.new))
+        (λ error. StopsReading (In port) (is_given ((H.outside host.old).fixed.given name.now)) error
+        (H.outside host.old) (H.outside host.new)) }
 {
     if host.open_read(port, name).is_err() {
-        return Err(Status::ReadFault(port));
+        return Err(ReadError::Fault);
     }
     read_left(alloc, host, port, limit)
 }

@@ -4,6 +4,7 @@
 
 mod check;
 mod command;
+mod error;
 mod files;
 mod image;
 mod line;
@@ -19,7 +20,5 @@ mod words;
 
 pub use command::v6;
 pub use fs_check::ImageFault;
-pub use status::{Status, Unbuilt};
-
-#[cfg(test)]
-mod tests;
+pub use status::Status;
+pub use unix_core::Unbuilt;

@@ -1,16 +1,24 @@
 //! The command `make`.
-ghost use Rattle.std.specs.Prelude.{◌≡◌, ◌≢◌, false, IfErr};
+ghost use Rattle.std.specs.Prelude.{◌≡◌, false};
 ghost use Rattle.v6_port.specs.Outside.{Out};
 ghost use Rattle.v6_port.specs.declared.host.OutPort.TheVariants.{Final};
 ghost use Rattle.v6_run.specs.Words.{Make};
-ghost use Rattle.v6_run.specs.Causes.{status_of};
+ghost use Rattle.v6_run.specs.Errors.{end_of, make_status};
 ghost use Rattle.v6_run.specs.Answers.{Answers};
 
 use crate::files::write_file;
-use crate::status::Status;
 use make_image::build;
 use std::alloc::Global;
 use v6_port::{Host, OutPort};
+
+/// Why a disk was not made.
+#[derive(Clone, Copy)]
+pub(crate) enum MakeError {
+    /// There was no memory.
+    NoMemory,
+    /// Its file could not be opened, written or finished.
+    Fault,
+}
 
 /// The command `make`: writes the disk image of this number as the file of this name.
 pub(crate) fn make<H: Host>(
@@ -18,16 +26,15 @@ pub(crate) fn make<H: Host>(
     number: u32,
     name: &str,
     host: &mut H,
-) -> Result<(), Status>
+) -> Result<(), MakeError>
     requires { ((H.outside host.old).port (Out Final)).is_open ≡ false }
-    ensures answers { Answers (Make number name.now) (status_of result) (H.outside host.old) (H.outside host.new) }
-    ensures failed { IfErr result (λ status. status ≢ Status.Done) }
+    ensures { Answers (Make number name.now) (end_of make_status result) (H.outside host.old) (H.outside host.new) }
 {
     let Ok(image) = build(alloc, number) else {
-        return Err(Status::NoMemory);
+        return Err(MakeError::NoMemory);
     };
-    match write_file(host, OutPort::Final, name, &image) {
-        Ok(()) => Ok(()),
-        Err(_) => Err(Status::WriteFault(OutPort::Final)),
+    if write_file(host, OutPort::Final, name, &image).is_err() {
+        return Err(MakeError::Fault);
     }
+    Ok(())
 }

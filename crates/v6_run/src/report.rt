@@ -1,16 +1,18 @@
 //! The report on how a command ended.
-ghost use Rattle.std.specs.Prelude.{◌≡◌, ◌≢◌, ◌<◌, ◌-◌, ◌^◌, ◌++◌, true, OnOk, IfErr, MatchResult};
+ghost use Rattle.std.specs.Prelude.{◌≡◌, ◌<◌, ◌-◌, ◌^◌, ◌++◌, true, OnOk, MatchResult};
 ghost use Rattle.v6_port.specs.Outside.{Out, OnlyAt, Tells, same};
 ghost use Rattle.v6_port.specs.declared.host.OutPort.TheVariants.{Report};
 ghost use Rattle.v6_port.specs.Causes.{Calm, FaultAt};
 ghost use Rattle.v6_run.specs.Fronts.{HoldsFront};
-ghost use Rattle.v6_run.specs.Report.{report, report_of, unbuilt_line, fault_line, ok_line};
+ghost use Rattle.v6_run.specs.Report.{report, status_line, unbuilt_line, fault_line, ok_line};
 ghost use Rattle.v6_run.specs.Answers.{Reports};
 
+use crate::error::CommandError;
 use crate::files::write_all;
 use crate::line::{Line, numbered, plain, twice_numbered};
-use crate::status::{Status, Unbuilt};
+use crate::status::Status;
 use fs_check::{ImageFault, Tally};
+use unix_core::Unbuilt;
 use v6_port::{Failed, Host, InPort, OutPort};
 
 const USAGE: &str =
@@ -47,7 +49,7 @@ fn unbuilt_line(place: Unbuilt) -> Line
 
 /// The line of a status. A command that was done has none.
 fn status_line(status: Status) -> Line
-    ensures { result.bytes ≡ report_of status }
+    ensures { result.bytes ≡ status_line status }
 {
     match status {
         Status::Done => Line::new(),
@@ -94,9 +96,8 @@ fn write_line<H: Host>(host: &mut H, line: &Line) -> Result<(), Failed>
 
 /// Reports what a command came to: its status, or what it has found where it was done. Where the status can't be written, it
 /// stays; where the command was done and its finding can't be written, that is the fault.
-pub(crate) fn report<H: Host>(answer: Result<Option<Tally>, Status>, host: &mut H) -> Status
-    requires failed { IfErr answer (λ status. status ≢ Status.Done) }
-    requires faults { (report (H.outside host.old)).faults < 2 ^ 64 - 1 }
+pub(crate) fn report<H: Host>(answer: Result<Option<Tally>, CommandError>, host: &mut H) -> Status
+    requires { (report (H.outside host.old)).faults < 2 ^ 64 - 1 }
     ensures { Reports answer result (H.outside host.old) (H.outside host.new) }
 {
     match answer {
@@ -105,7 +106,8 @@ pub(crate) fn report<H: Host>(answer: Result<Option<Tally>, Status>, host: &mut 
             Ok(()) => Status::Done,
             Err(Failed) => Status::WriteFault(OutPort::Report),
         },
-        Err(status) => {
+        Err(error) => {
+            let status = Status::from(error);
             let _ = write_line(host, &status_line(status));
             status
         }

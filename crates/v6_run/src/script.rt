@@ -1,16 +1,25 @@
 //! Scripts: how many slots each line asks for.
 ghost use Rattle.std.specs.Prelude.{◌≡◌, ◌<◌, ◌+◌, ◌^◌, ◌∷◌, ◌==◌, length, position, IfOk, IfErr};
 ghost use Rattle.std.specs.Str.Lines.{strip_carriage_return};
-ghost use Rattle.v6_run.specs.Script.{Slots, Line, lines_of, count_of, script_of, RefusesScript};
+ghost use Rattle.v6_run.specs.Script.{Slots, Line, lines_of, count_of, script_of};
+ghost use Rattle.v6_run.specs.Steps.{RefusesScript};
 
 use crate::number::number_of;
-use crate::status::{Status, Unbuilt};
 use std::alloc::Global;
 
 /// The most slots that one script may ask for.
-const MAX_SLOTS: u32 = 200_000_000;
+pub(crate) const MAX_SLOTS: u32 = 200_000_000;
 /// The most bytes of a script.
-const MAX_BYTES: usize = 1_048_576;
+pub(crate) const MAX_BYTES: usize = 1_048_576;
+
+/// Why a script asks for no slots.
+#[derive(Clone, Copy)]
+pub(crate) enum ScriptError {
+    /// The line of this number, from 1, is the first that is not built.
+    Line(u32),
+    /// There was no memory.
+    NoMemory,
+}
 
 /// The first line of a text without its end, how many bytes it has with it, and what follows.
 #[derive(Drop)]
@@ -67,7 +76,7 @@ fn count_of(line: &[u8]) -> Option<u32>
 }
 
 /// The counts of slots, line by line, of a script of which at most the first `MAX_BYTES` and one more byte were read.
-pub(crate) fn read_script(alloc: Global, script: &[u8]) -> Result<Vec<u32>, Status>
+pub(crate) fn read_script(alloc: Global, script: &[u8]) -> Result<Vec<u32>, ScriptError>
     requires { length script.now < 2 ^ 32 }
     ensures counts { IfOk result (λ counts. script_of script.now ≡ Slots counts.items) }
     ensures refused { IfErr result (RefusesScript (script_of script.now)) }
@@ -80,14 +89,14 @@ pub(crate) fn read_script(alloc: Global, script: &[u8]) -> Result<Vec<u32>, Stat
         size += first.size;
         rest = first.rest;
         let Some(count) = count_of(first.text) else {
-            return Err(Status::NotBuilt(Unbuilt::Line(line)));
+            return Err(ScriptError::Line(line));
         };
         if count > MAX_SLOTS - slots || size > MAX_BYTES {
-            return Err(Status::NotBuilt(Unbuilt::Line(line)));
+            return Err(ScriptError::Line(line));
         }
         slots += count;
         if counts.push(count).is_err() {
-            return Err(Status::NoMemory);
+            return Err(ScriptError::NoMemory);
         }
     }
     Ok(counts)

@@ -3,6 +3,7 @@ ghost use Rattle.std.specs.Prelude.{◌≡◌};
 ghost use Rattle.v6_run.specs.Status.{status_number};
 
 use fs_check::ImageFault;
+use unix_core::Unbuilt;
 use v6_port::{InPort, OutPort};
 
 /// How a command ended.
@@ -24,17 +25,6 @@ pub enum Status {
     NoMemory,
     /// The run comes to something that is not built yet.
     NotBuilt(Unbuilt),
-}
-
-/// What is not built yet.
-#[derive(Clone, Copy, Debug, PartialEq, Eq)]
-pub enum Unbuilt {
-    /// The disk image is of another form than the one that can be booted.
-    Image,
-    /// The script's line of this number, from 1.
-    Line(u32),
-    /// What the running process has at this pc.
-    At(u16),
 }
 
 impl Status {

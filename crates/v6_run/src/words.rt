@@ -1,7 +1,7 @@
 //! The words of a command.
 ghost use Rattle.std.specs.Prelude.{◌≡◌, option_map, string_bytes, codes};
 ghost use Rattle.v6_run.specs.Number.{number_of};
-ghost use Rattle.v6_run.specs.Words.{command_in, run_words, check_words, make_words, is_word, named};
+ghost use Rattle.v6_run.specs.Words.{command_in, run_words, check_words, make_words, is_word, command_value};
 
 use crate::number::number_of;
 
@@ -32,7 +32,7 @@ fn run_words<'a>(
     script: &'a str,
     term: &'a str,
 ) -> Option<Command<'a>>
-    ensures { option_map named result
+    ensures { option_map command_value result
         ≡ run_words (is_word verb.now (codes "run")) (number_of core.now) image.now script.now term.now }
 {
     if verb != "run" {
@@ -48,7 +48,7 @@ fn run_words<'a>(
 }
 
 fn check_words<'a>(verb: &str, image: &'a str) -> Option<Command<'a>>
-    ensures { option_map named result ≡ check_words (is_word verb.now (codes "check")) image.now }
+    ensures { option_map command_value result ≡ check_words (is_word verb.now (codes "check")) image.now }
 {
     if verb != "check" {
         return None;
@@ -57,7 +57,7 @@ fn check_words<'a>(verb: &str, image: &'a str) -> Option<Command<'a>>
 }
 
 fn make_words<'a>(verb: &str, number: &str, name: &'a str) -> Option<Command<'a>>
-    ensures { option_map named result ≡ make_words (is_word verb.now (codes "make")) (number_of number.now) name.now }
+    ensures { option_map command_value result ≡ make_words (is_word verb.now (codes "make")) (number_of number.now) name.now }
 {
     if verb != "make" {
         return None;
@@ -68,7 +68,7 @@ fn make_words<'a>(verb: &str, number: &str, name: &'a str) -> Option<Command<'a>
 
 /// The command of these words, or nothing where they are no command's.
 pub(crate) fn command_of(words: &[String]) -> Option<Command<'_>>
-    ensures { option_map named result ≡ command_in words.now }
+    ensures { option_map command_value result ≡ command_in words.now }
 {
     match words {
         [verb, image, core, script, term, _, _] => run_words(

@@ -1,5 +1,5 @@
 use Rattle.std.proofs.Common.{rules, ◌∙◌, ap}
-use Rattle.v6_port.specs.Outside.{Fixed}
+use Rattle.v6_port.specs.Outside.{Environment}
 use Rattle.v6_run.proofs.FileLemmas.{front_at, failed_write, good_write, piece_more, rest_is, write_within}
 use Rattle.v6_run.proofs.files.write_all.Goals as goal
 
@@ -13,7 +13,7 @@ text-preserved g c = record {
   calm = search rules;
   is_open = search rules;
   bytes = λ told.
-      let still = ap (λ (f : Fixed). f.tells) c.text.invariant.only.fixed ∙ told in
+      let still = ap (λ (f : Environment). f.tells) c.text.invariant.only.fixed ∙ told in
       piece_more _ _ _ _ _ c.text.at _ (c.text.invariant.bytes told) (rest_is c.args.text.now c.text.at) (good_write _ _ _ _ _ _ c.write.ensures c.in_ok-at.was still);
   within = write_within _ _ _ _ _ _ _ c.write.ensures c.in_ok-at.was c.text.invariant.within;
 }

@@ -10,12 +10,12 @@ pub returns-in-Some : goal.returns-in-Some
 returns-in-Some g c =
     let counts = c.args.counts.now in
     let slots = c.run_slots.ensures in
-    let one = run_piece c.lines.kernel _ _ (Some c.in-Some.pc) _ _ (sym c.in-Some.is ∙ slots.ending) slots.unix slots.items in
+    let one = run_piece c.lines.kernel _ _ (Some c.in-Some.place) _ _ (sym c.in-Some.is ∙ slots.ending) slots.system slots.items in
     let run = run_last _ _ _ _ _ _ _ _ _ (events_of (drop (c.lines.count-index + 1) counts)) _ c.lines.invariant.run one (lines_more counts c.lines.count-index c.lines-test.true) in
     let all = from_start _ _ _ _ _ _ _ _ c.start.ensures.next c.start.ensures.items run in
     record {
       ending = all.ends;
-      unix = all.unix_is;
+      system = all.system_is;
       items = all.items;
       frame = g.met.T.Trace.goes_on _ _ _ c.start.ensures.frame (g.met.T.Trace.goes_on _ _ _ c.lines.invariant.frame slots.frame);
     }
@@ -23,7 +23,7 @@ returns-in-Some g c =
 pub lines-preserved : goal.lines-preserved
 lines-preserved g c =
     let slots = c.run_slots.ensures in
-    let one = run_piece c.lines.kernel _ _ None _ _ (sym c.in_default.is ∙ slots.ending) slots.unix slots.items in
+    let one = run_piece c.lines.kernel _ _ None _ _ (sym c.in_default.is ∙ slots.ending) slots.system slots.items in
     record {
       run = run_more _ _ _ _ _ _ _ _ _ _ c.lines.invariant.run one (line_more c.args.counts.now c.lines.count-index c.lines-test.true);
       frame = g.met.T.Trace.goes_on _ _ _ c.lines.invariant.frame slots.frame;
@@ -34,7 +34,7 @@ returns g c =
     let all = from_start _ _ _ _ _ _ _ _ c.start.ensures.next c.start.ensures.items (all_lines _ _ _ _ _ _ _ c.lines.invariant.run c.lines-test.false) in
     record {
       ending = all.ends;
-      unix = all.unix_is;
+      system = all.system_is;
       items = all.items;
       frame = g.met.T.Trace.goes_on _ _ _ c.start.ensures.frame c.lines.invariant.frame;
     }

@@ -1,6 +1,7 @@
-use Rattle.std.proofs.Common.{◌+◌, ◌-◌, sym, ap, Some, None, replicate}
-use Rattle.unix_core.specs.Runs.{Slot, ending_of}
-use Rattle.v6_run.proofs.SlotLemmas.{run_none, run_turn, run_more, run_last, one_more, some_more, goes_on}
+use Rattle.std.proofs.Common.{◌+◌, ◌-◌, ◌∙◌, sym, Some, None, replicate}
+use Rattle.unix_core.specs.Runs.{Slot, event_of}
+use Rattle.unix_core.proofs.RunsLemmas.{turn_ends, turn_goes}
+use Rattle.v6_run.proofs.SlotLemmas.{run_none, run_turn, run_more, run_last, one_more, some_more}
 use Rattle.v6_run.proofs.slots.run_slots.Goals as goal
 
 pub slots-init : goal.slots-init
@@ -9,12 +10,12 @@ slots-init g c = record { run = run_none _ _; frame = g.met.T.Trace.stays _ }
 pub returns-in-NotBuilt : goal.returns-in-NotBuilt
 returns-in-NotBuilt g c =
     let turn = c.turn.ensures in
-    let one = run_turn c.slots.kernel _ _ (Some c.in-NotBuilt.pc) _ _ turn.answer turn.next turn.items (sym (ap ending_of c.in-NotBuilt.is)) in
+    let one = run_turn c.slots.kernel _ (Some c.in-NotBuilt.place) _ _ turn.next turn.items (turn_ends (event_of Slot c.slots.kernel) c.in-NotBuilt.place (sym turn.answer ∙ c.in-NotBuilt.is)) in
     let left = c.args.count - (c.slots.counter + 1) in
     let run = run_last _ _ _ _ _ _ _ _ _ (replicate left Slot) _ c.slots.invariant.run one (some_more c.args.count c.slots.counter c.slots-test.true) in
     record {
       ending = run.ends;
-      unix = run.unix_is;
+      system = run.system_is;
       items = run.items;
       frame = g.met.T.Trace.goes_on _ _ _ c.slots.invariant.frame turn.frame;
     }
@@ -22,7 +23,7 @@ returns-in-NotBuilt g c =
 pub slots-preserved : goal.slots-preserved
 slots-preserved g c =
     let turn = c.turn.ensures in
-    let one = run_turn c.slots.kernel _ _ None _ _ turn.answer turn.next turn.items (goes_on _ c.in_default.not-NotBuilt) in
+    let one = run_turn c.slots.kernel _ None _ _ turn.next turn.items (turn_goes (event_of Slot c.slots.kernel) (λ place is. c.in_default.not-NotBuilt place (turn.answer ∙ is))) in
     record {
       run = run_more _ _ _ _ _ _ _ _ _ _ c.slots.invariant.run one (one_more c.slots.counter);
       frame = g.met.T.Trace.goes_on _ _ _ c.slots.invariant.frame turn.frame;

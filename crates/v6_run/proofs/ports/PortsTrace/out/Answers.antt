@@ -1,6 +1,9 @@
 use Rattle.std.proofs.Common.{sym, ◌∙◌}
-use Rattle.v6_run.proofs.PortLemmas.{took_written, items_written, took_kept, items_kept}
+use Rattle.v6_run.proofs.PortLemmas.{took_written, held_written, took_kept, held_kept, took_while_cut}
 use Rattle.v6_run.proofs.ports.PortsTrace.out.Goals as goal
+
+pub returns-then-is_some-clause-took : goal.returns-then-is_some-clause-took
+returns-then-is_some-clause-took g c = took_while_cut (g.H.Host.outside c.args.self.now.host.now) c.args.self.now.kept c.args.byte (sym c.is_some.ensures ∙ c.if-is_some.true)
 
 pub returns-then-is_err-clause-took : goal.returns-then-is_err-clause-took
 returns-then-is_err-clause-took g c =
@@ -8,7 +11,7 @@ returns-then-is_err-clause-took g c =
 
 pub returns-then-is_err-clause-whole : goal.returns-then-is_err-clause-whole
 returns-then-is_err-clause-whole g c = λ goes.
-    items_kept _ _ _ _ _ goes c.write.ensures (sym c.is_err.ensures.value ∙ c.if-is_err.true)
+    held_kept _ _ _ _ _ goes c.write.ensures (sym c.is_err.ensures.value ∙ c.if-is_err.true)
 
 pub returns-else-is_err-clause-took : goal.returns-else-is_err-clause-took
 returns-else-is_err-clause-took g c =
@@ -16,4 +19,4 @@ returns-else-is_err-clause-took g c =
 
 pub returns-else-is_err-clause-whole : goal.returns-else-is_err-clause-whole
 returns-else-is_err-clause-whole g c = λ goes.
-    items_written _ _ _ _ _ goes c.write.ensures (sym c.is_err.ensures.value ∙ c.if-is_err.false)
+    held_written _ _ _ _ _ goes c.write.ensures (sym c.is_err.ensures.value ∙ c.if-is_err.false)

@@ -1,0 +1,62 @@
+-- The status that says why a command was not done, for the error of each step.
+use Rattle.std.specs.Prelude.{Result, Ok, Err}
+use Rattle.v6_port.specs.declared.host.InPort.{InPort}
+use Rattle.v6_port.specs.declared.host.InPort.TheVariants as in_port
+use Rattle.v6_port.specs.declared.host.OutPort.TheVariants as out_port
+use Rattle.v6_run.specs.declared.status.Status.{Status}
+use Rattle.v6_run.specs.declared.status.Status.TheVariants as status
+use Rattle.unix_core.specs.declared.turned.Unbuilt.TheVariants as unbuilt
+use Rattle.v6_run.specs.declared.files.ReadError.{ReadError}
+use Rattle.v6_run.specs.declared.files.ReadError.TheVariants as reading
+use Rattle.v6_run.specs.declared.image.ImageError.{ImageError}
+use Rattle.v6_run.specs.declared.image.ImageError.TheVariants as image
+use Rattle.v6_run.specs.declared.script.ScriptError.{ScriptError}
+use Rattle.v6_run.specs.declared.script.ScriptError.TheVariants as script
+use Rattle.v6_run.specs.declared.run.BootError.{BootError}
+use Rattle.v6_run.specs.declared.run.BootError.TheVariants as boot
+use Rattle.v6_run.specs.declared.run.RunError.{RunError}
+use Rattle.v6_run.specs.declared.run.RunError.TheVariants as run
+use Rattle.v6_run.specs.declared.make.MakeError.{MakeError}
+use Rattle.v6_run.specs.declared.make.MakeError.TheVariants as make
+use Rattle.v6_run.specs.declared.error.CommandError.{CommandError}
+use Rattle.v6_run.specs.declared.error.CommandError.TheVariants as command
+
+abbrev pub read_status : InPort → ReadError → Status
+read_status port reading.Fault = status.ReadFault port
+read_status port reading.NoMemory = status.NoMemory
+
+abbrev pub image_status : ImageError → Status
+image_status (image.Unread error) = read_status in_port.Image error
+image_status (image.Faulty fault) = status.ImageFault fault
+
+abbrev pub script_status : ScriptError → Status
+script_status (script.Line n) = status.NotBuilt (unbuilt.Line n)
+script_status script.NoMemory = status.NoMemory
+
+abbrev pub boot_status : BootError → Status
+boot_status boot.Form = status.NotBuilt unbuilt.Image
+boot_status boot.NoMemory = status.NoMemory
+
+abbrev pub run_status : RunError → Status
+run_status (run.Image error) = image_status error
+run_status (run.Script error) = read_status in_port.Script error
+run_status (run.Line error) = script_status error
+run_status (run.Boot error) = boot_status error
+run_status run.Term = status.WriteFault out_port.Term
+run_status (run.NotBuilt place) = status.NotBuilt place
+
+abbrev pub make_status : MakeError → Status
+make_status make.NoMemory = status.NoMemory
+make_status make.Fault = status.WriteFault out_port.Final
+
+abbrev pub command_status : CommandError → Status
+command_status command.Usage = status.Usage
+command_status command.CoreSize = status.CoreSize
+command_status (command.Run error) = run_status error
+command_status (command.Check error) = image_status error
+command_status (command.Make error) = make_status error
+
+-- the status of a step's result, which is Done where the step was done
+abbrev pub end_of : {T E : Type 0} → (E → Status) → Result T E → Status
+end_of status_of (Ok value) = status.Done
+end_of status_of (Err error) = status_of error

@@ -1,0 +1,39 @@
+-- Why a step of a command stops, step by step in the order of docs/manual/commands.md.
+use Rattle.std.specs.Prelude.{◌≡◌, ⊤, ℕ, Bool, Option, Some, None, IsSomeAnd, List, take}
+use Rattle.v6_port.specs.declared.host.InPort.TheVariants as in_port
+use Rattle.v6_port.specs.Outside.{Port, In, Outside, Tells}
+use Rattle.v6_port.specs.Causes.{Calm, FaultAt}
+use Rattle.v6_port.specs.Calls.{is_given}
+use Rattle.fs_codec.specs.Faults.{image_fault}
+use Rattle.unix_core.specs.Unix.{System}
+use Rattle.v6_run.specs.declared.image.TheConstants.{IMAGE_LIMIT}
+use Rattle.v6_run.specs.declared.files.ReadError.{ReadError}
+use Rattle.v6_run.specs.declared.files.ReadError.TheVariants as reading
+use Rattle.v6_run.specs.declared.image.ImageError.{ImageError}
+use Rattle.v6_run.specs.declared.image.ImageError.TheVariants as image
+use Rattle.v6_run.specs.declared.script.ScriptError.{ScriptError}
+use Rattle.v6_run.specs.declared.script.ScriptError.TheVariants as script_error
+use Rattle.v6_run.specs.declared.run.BootError.{BootError}
+use Rattle.v6_run.specs.declared.run.BootError.TheVariants as boot
+use Rattle.v6_run.specs.Script.{Script, Unbuilt}
+
+-- the reading of a file: at a fault of its port, under a name that is known or not, or for want of memory
+abbrev pub StopsReading : Port → Bool → ReadError → Outside → Outside → Type 0
+StopsReading p known reading.Fault old new = FaultAt p known old new
+StopsReading p known reading.NoMemory old new = Calm old new
+
+-- the reading of an image of this name: also at its first fault
+abbrev pub StopsImage : List ℕ → ImageError → Outside → Outside → Type 0
+StopsImage name (image.Unread error) old new = StopsReading (In in_port.Image) (is_given (old.fixed.given name)) error old new
+StopsImage name (image.Faulty fault) old new =
+    Calm old new × (Tells old → IsSomeAnd (old.fixed.given name) (λ bytes. image_fault (take IMAGE_LIMIT bytes) ≡ Some fault))
+
+-- a script: at its first line that is not built, or for want of memory
+abbrev pub RefusesScript : Script → ScriptError → Type 0
+RefusesScript script (script_error.Line n) = script ≡ Unbuilt n
+RefusesScript script script_error.NoMemory = ⊤
+
+-- an image without a fault: where it has not the form that is built, or for want of memory
+abbrev pub RefusesImage : Option System → BootError → Type 0
+RefusesImage system boot.Form = system ≡ None
+RefusesImage system boot.NoMemory = ⊤

@@ -1,0 +1,102 @@
+//! Why a command was not done, and the status that says so.
+ghost use Rattle.std.specs.Prelude.{◌≡◌};
+ghost use Rattle.v6_run.specs.Errors.{read_status, image_status, script_status, boot_status, run_status, make_status};
+
+use crate::files::ReadError;
+use crate::image::ImageError;
+use crate::make::MakeError;
+use crate::run::{BootError, RunError};
+use crate::script::ScriptError;
+use crate::status::Status;
+use unix_core::Unbuilt;
+use v6_port::{InPort, OutPort};
+
+/// Why a command was not done.
+#[derive(Clone, Copy)]
+pub(crate) enum CommandError {
+    /// The words are no command's.
+    Usage,
+    /// The size of core is not 64 to 3968 clicks.
+    CoreSize,
+    /// `run` has failed.
+    Run(RunError),
+    /// `check` has no image.
+    Check(ImageError),
+    /// `make` has failed.
+    Make(MakeError),
+}
+
+fn read_status(port: InPort, error: ReadError) -> Status
+    ensures { result ≡ read_status port error }
+{
+    match error {
+        ReadError::Fault => Status::ReadFault(port),
+        ReadError::NoMemory => Status::NoMemory,
+    }
+}
+
+fn image_status(error: ImageError) -> Status
+    ensures { result ≡ image_status error }
+{
+    match error {
+        ImageError::Unread(error) => read_status(InPort::Image, error),
+        ImageError::Faulty(fault) => Status::ImageFault(fault),
+    }
+}
+
+fn script_status(error: ScriptError) -> Status
+    ensures { result ≡ script_status error }
+{
+    match error {
+        ScriptError::Line(line) => Status::NotBuilt(Unbuilt::Line(line)),
+        ScriptError::NoMemory => Status::NoMemory,
+    }
+}
+
+fn boot_status(error: BootError) -> Status
+    ensures { result ≡ boot_status error }
+{
+    match error {
+        BootError::Form => Status::NotBuilt(Unbuilt::Image),
+        BootError::NoMemory => Status::NoMemory,
+    }
+}
+
+fn run_status(error: RunError) -> Status
+    ensures { result ≡ run_status error }
+{
+    match error {
+        RunError::Image(error) => image_status(error),
+        RunError::Script(error) => read_status(InPort::Script, error),
+        RunError::Line(error) => script_status(error),
+        RunError::Boot(error) => boot_status(error),
+        RunError::Term => Status::WriteFault(OutPort::Term),
+        RunError::NotBuilt(place) => Status::NotBuilt(place),
+    }
+}
+
+fn make_status(error: MakeError) -> Status
+    ensures { result ≡ make_status error }
+{
+    match error {
+        MakeError::NoMemory => Status::NoMemory,
+        MakeError::Fault => Status::WriteFault(OutPort::Final),
+    }
+}
+
+impl From<CommandError> for Status {
+    ghost use Rattle.std.specs.Prelude.{◌≡◌};
+    ghost use Rattle.v6_run.specs.Errors.{command_status};
+
+    ghost from_gives = { λ error status. status ≡ command_status error };
+
+    fn from(error: CommandError) -> Status {
+        match error {
+            CommandError::Usage => Status::Usage,
+            CommandError::CoreSize => Status::CoreSize,
+            CommandError::Run(error) => run_status(error),
+            CommandError::Check(error) => image_status(error),
+            CommandError::Make(error) => make_status(error),
+        }
+    }
+}
