@@ -1,11 +1,6 @@
 //! The program: a host over real files, and the call that does a command.
 #![tactic(auto)]
 
-#[cfg(test)]
-mod one_byte;
-#[cfg(test)]
-mod tests;
-
 use std::process::ExitCode;
 use std::rt::Env;
 use std::{env, io};

@@ -1,0 +1,349 @@
+//! How commands end and what they report: docs/manual/commands.md and docs/examples.md, which has some of the rows by their names.
+use crate::fixtures::{HI_BYTES, Piece, RUN, Row, end_over, hi_image, holds, host_with, put};
+use std::alloc::{AllocError, Global};
+use std::test::Fail;
+use v6_port::{InPort, OutPort};
+use v6_run::{ImageFault, Status, Unbuilt};
+
+const USAGE: &[u8] =
+    b"usage: v6 run IMAGE CORE SCRIPT TERM LOG FINAL, memory IMAGE CORE SCRIPT FINAL, check IMAGE, make N FINAL, demo N\n";
+
+/// The least disk without a fault: a block of inodes of which the first is a directory, and one data block.
+const LEAST_DISK: [Piece<'static>; 2] = [(512, b"\x01\x00\x04\x00"), (1024, b"\xed\xc1")];
+
+/// Words over that disk, the call of the host that fails or 0, the status, and the report. The second call is the first read
+/// of the image, the fifth that of the script. Where `check` is done, its fourth call is the report. Where the image is given
+/// as the script, its first line isn't built.
+const COMMANDS: [(&str, u32, Status, &[u8]); 29] = [
+    ("", 0, Status::Usage, USAGE),
+    (
+        "run image 64 script term log final more",
+        0,
+        Status::Usage,
+        USAGE,
+    ),
+    (
+        "run image 0000000064 script term log final",
+        0,
+        Status::Usage,
+        USAGE,
+    ),
+    ("check image image", 0, Status::Usage, USAGE),
+    ("check", 0, Status::Usage, USAGE),
+    ("make 1234567890 final", 0, Status::Usage, USAGE),
+    (
+        "run image 63 script term log final",
+        0,
+        Status::CoreSize,
+        b"core size\n",
+    ),
+    (
+        "run image 3969 script term log final",
+        0,
+        Status::CoreSize,
+        b"core size\n",
+    ),
+    // No file is opened: the first call of the host is the report's, and fails.
+    (
+        "run image 63 script term log final",
+        1,
+        Status::CoreSize,
+        b"",
+    ),
+    (
+        "run none 64 script term log final",
+        0,
+        Status::ReadFault(InPort::Image),
+        b"read fault: image\n",
+    ),
+    (
+        RUN,
+        2,
+        Status::ReadFault(InPort::Image),
+        b"read fault: image\n",
+    ),
+    (
+        "run empty 64 none term log final",
+        0,
+        Status::ImageFault(ImageFault::BadSuper),
+        b"image: bad super-block\n",
+    ),
+    (
+        "run image 64 none term log final",
+        0,
+        Status::ReadFault(InPort::Script),
+        b"read fault: script\n",
+    ),
+    (
+        RUN,
+        5,
+        Status::ReadFault(InPort::Script),
+        b"read fault: script\n",
+    ),
+    (
+        "run image 64 script term log final",
+        0,
+        Status::NotBuilt(Unbuilt::Image),
+        b"not built: image\n",
+    ),
+    (
+        "run image 3968 script term log final",
+        0,
+        Status::NotBuilt(Unbuilt::Image),
+        b"not built: image\n",
+    ),
+    (
+        "check none",
+        0,
+        Status::ReadFault(InPort::Image),
+        b"read fault: image\n",
+    ),
+    (
+        "check empty",
+        0,
+        Status::ImageFault(ImageFault::BadSuper),
+        b"image: bad super-block\n",
+    ),
+    ("check image", 0, Status::Done, b"ok 1 nodes 0 free\n"),
+    ("check image", 4, Status::WriteFault(OutPort::Report), b""),
+    (
+        "make 12 final",
+        1,
+        Status::WriteFault(OutPort::Final),
+        b"write fault: final\n",
+    ),
+    ("memory image 64 script final", 0, Status::Usage, USAGE),
+    ("demo 12", 0, Status::Usage, USAGE),
+    ("make +12 final", 0, Status::Usage, USAGE),
+    ("make 12x final", 0, Status::Usage, USAGE),
+    (
+        "run image 64 image term log final",
+        0,
+        Status::NotBuilt(Unbuilt::Line(1)),
+        b"not built: line 1\n",
+    ),
+    (
+        "run image 64 script other log final",
+        0,
+        Status::NotBuilt(Unbuilt::Image),
+        b"not built: image\n",
+    ),
+    (
+        "make 12 other",
+        0,
+        Status::WriteFault(OutPort::Final),
+        b"write fault: final\n",
+    ),
+    ("make 000000012 final", 0, Status::Done, b""),
+];
+
+fn least_disk_gives(
+    alloc: Global,
+    words: &str,
+    failing: u32,
+    status: Status,
+    report: &[u8],
+) -> Result<bool, AllocError> {
+    let mut image = vec![in alloc; 0; 1026]?;
+    put(&mut image, &LEAST_DISK);
+    holds(
+        alloc,
+        &Row {
+            words,
+            image: &image,
+            script: b"run 20\n",
+            failing,
+            status,
+            term: b"",
+            report,
+        },
+    )
+}
+
+#[test]
+fn commands_end_as_the_manual_says(rt: HostRuntime) -> Result<(), Fail> {
+    for (words, failing, status, report) in COMMANDS {
+        assert!(rt;
+            least_disk_gives(rt.alloc(), words, failing, status, report)?,
+            "{words}, {failing}"
+        );
+    }
+    Ok(())
+}
+
+/// The numbers that a program exits with.
+const NUMBERS: [(Status, u8); 8] = [
+    (Status::Done, 0),
+    (Status::Usage, 1),
+    (Status::ReadFault(InPort::Script), 2),
+    (Status::WriteFault(OutPort::Report), 3),
+    (Status::CoreSize, 4),
+    (Status::ImageFault(ImageFault::TooLong), 6),
+    (Status::NoMemory, 8),
+    (Status::NotBuilt(Unbuilt::At(2)), 11),
+];
+
+#[test]
+fn statuses_have_their_numbers(rt: HostRuntime) {
+    for (status, number) in NUMBERS {
+        assert!(rt; status.number() == number, "{number}");
+    }
+}
+
+/// Words over the disk of `examples/hi`, filled up to this number of bytes and changed by some pieces: status, report. Where
+/// the command is `run`, the script is the line `walk`, which isn't built, so the fault of the image comes before it.
+const DISKS: [(&str, usize, &[Piece<'static>], Status, &[u8]); 11] = [
+    (
+        RUN,
+        2_048_000,
+        &[],
+        Status::NotBuilt(Unbuilt::Line(1)),
+        b"not built: line 1\n",
+    ),
+    (
+        RUN,
+        2_494_464,
+        &[],
+        Status::NotBuilt(Unbuilt::Line(1)),
+        b"not built: line 1\n",
+    ),
+    (
+        RUN,
+        2_494_465,
+        &[],
+        Status::ImageFault(ImageFault::TooLong),
+        b"image: too long\n",
+    ),
+    (
+        "check image",
+        HI_BYTES,
+        &[],
+        Status::Done,
+        b"ok 7 nodes 0 free\n",
+    ),
+    (
+        "check image",
+        HI_BYTES,
+        &[(514, b"\xa1")],
+        Status::ImageFault(ImageFault::NoSwap(4001)),
+        b"image: file system of 4001 blocks leaves no swap\n",
+    ),
+    // Block 300 in inodes 3 and 7, and block 4000 in inode 4.
+    (
+        "check image",
+        HI_BYTES,
+        &[
+            (1098, b"\x2c\x01"),
+            (1226, b"\x2c\x01"),
+            (1130, b"\xa0\x0f"),
+        ],
+        Status::ImageFault(ImageFault::NodeOutside(4, 4000)),
+        b"image: inode 4 has block 4000 outside\n",
+    ),
+    (
+        "check image",
+        HI_BYTES,
+        &[(1098, b"\x2c\x01"), (1226, b"\x2c\x01")],
+        Status::ImageFault(ImageFault::BlockTwice(300)),
+        b"image: block 300 twice\n",
+    ),
+    // Block 300 in inode 3 alone, and an entry of `/u` to inode 8, which is free.
+    (
+        "check image",
+        HI_BYTES,
+        &[(1098, b"\x2c\x01"), (33312, b"\x08\x00x")],
+        Status::Done,
+        b"ok 7 nodes 0 free\n",
+    ),
+    // Block 300 is free, and the next group begins there with 101 numbers.
+    (
+        "check image",
+        154_112,
+        &[(516, b"\x01\0\x2c\x01"), (153_600, b"\x65")],
+        Status::ImageFault(ImageFault::FreeCount(300)),
+        b"image: free count in block 300\n",
+    ),
+    (
+        "check image",
+        HI_BYTES,
+        &[(516, b"\x01\0\x88\x13")],
+        Status::ImageFault(ImageFault::FreeOutside(5000)),
+        b"image: free block 5000 outside\n",
+    ),
+    (
+        "check image",
+        HI_BYTES,
+        &[(1025, b"\x81")],
+        Status::ImageFault(ImageFault::NoRoot),
+        b"image: no root\n",
+    ),
+];
+
+fn disk_gives(
+    alloc: Global,
+    words: &str,
+    bytes: usize,
+    pieces: &[Piece<'_>],
+    status: Status,
+    report: &[u8],
+) -> Result<bool, AllocError> {
+    let image = hi_image(alloc, bytes, pieces)?;
+    holds(
+        alloc,
+        &Row {
+            words,
+            image: &image,
+            script: b"walk\n",
+            failing: 0,
+            status,
+            term: b"",
+            report,
+        },
+    )
+}
+
+#[test]
+fn first_faults_are_reported(rt: HostRuntime) -> Result<(), Fail> {
+    for (words, bytes, pieces, status, report) in DISKS {
+        let holds = disk_gives(rt.alloc(), words, bytes, pieces, status, report)?;
+        assert!(rt; holds, "{words}, {status:?}");
+    }
+    Ok(())
+}
+
+/// The report's port has room for the first five bytes of the line.
+#[test]
+fn failed_report_of_check_is_a_write_fault(rt: HostRuntime) -> Result<(), Fail> {
+    let image = hi_image(rt.alloc(), HI_BYTES, &[])?;
+    let mut host = host_with(rt.alloc(), &image, b"", 5)?;
+    let status = end_over(rt.alloc(), "check image", &mut host)?;
+    let is_front = host.bytes(OutPort::Report) == b"ok 7 ".as_slice();
+    assert!(rt; is_front && status == Status::WriteFault(OutPort::Report));
+    Ok(())
+}
+
+/// What `make 12` writes, or nothing where it isn't done.
+fn disk_12(alloc: Global) -> Result<Vec<u8>, AllocError> {
+    let mut host = host_with(alloc, b"", b"", 200)?;
+    let status = end_over(alloc, "make 12 final", &mut host)?;
+    if status != Status::Done || !host.bytes(OutPort::Report).is_empty() {
+        return Ok(Vec::new(alloc));
+    }
+    host.bytes(OutPort::Final).to_vec(alloc)
+}
+
+#[test]
+fn disk_12_is_made_and_checked(rt: HostRuntime) -> Result<(), Fail> {
+    let image = disk_12(rt.alloc())?;
+    let row = Row {
+        words: "check image",
+        image: &image,
+        script: b"",
+        failing: 0,
+        status: Status::Done,
+        term: b"",
+        report: b"ok 19 nodes 3891 free\n",
+    };
+    assert!(rt; holds(rt.alloc(), &row)?);
+    Ok(())
+}

@@ -1,0 +1,354 @@
+//! Runs of the disk of `examples/hi`, as it is and changed: docs/manual/disk.md, programs.md, and docs/examples.md, which has
+//! some of the rows by their names.
+use crate::fixtures::{HI_BYTES, Piece, RUN, Row, TEXT, end_over, hi_image, holds, host_with};
+use crate::one_byte::OneByte;
+use std::alloc::{AllocError, Global};
+use std::test::Fail;
+use v6_port::{InPort, OutPort};
+use v6_run::{Status, Unbuilt};
+
+/// A disk, made of `examples/hi` by putting some bytes, and what its run comes to: status, terminal, report.
+#[derive(Clone, Copy)]
+struct Change<'a> {
+    name: &'a str,
+    pieces: &'a [Piece<'a>],
+    end: (Status, &'a [u8], &'a [u8]),
+}
+
+/// The image is not of the form that is built.
+const UNBUILT: (Status, &[u8], &[u8]) = (
+    Status::NotBuilt(Unbuilt::Image),
+    b"",
+    b"not built: image\n",
+);
+
+const HI_SHOWN: &[u8] = b"HI\r\n";
+
+const HI_DONE: (Status, &[u8], &[u8]) = (Status::Done, HI_SHOWN, b"");
+
+/// In `/etc/init` the open is at 0, the write at 6, MOV #0,R0 at 12, and the exit at 16; the name is at 18, the text at 28.
+/// Inode 5 is at 1152 and inode 7 at 1216 of the image, the header of `/etc/init` at 33792, and its entry at 32288.
+const CHANGES: [Change<'static>; 40] = [
+    Change {
+        name: "hi_over_memory",
+        pieces: &[],
+        end: HI_DONE,
+    },
+    Change {
+        name: "halt_is_not_built",
+        pieces: &[(TEXT, b"\x05\0\0\0")],
+        end: (Status::NotBuilt(Unbuilt::At(2)), b"", b"not built: pc 2\n"),
+    },
+    Change {
+        name: "open for reading and writing",
+        pieces: &[(TEXT + 4, b"\x02")],
+        end: (Status::NotBuilt(Unbuilt::At(0)), b"", b"not built: pc 0\n"),
+    },
+    Change {
+        name: "second open",
+        pieces: &[(TEXT + 6, b"\x05\x89\x12\0\x01\0")],
+        end: (Status::NotBuilt(Unbuilt::At(6)), b"", b"not built: pc 6\n"),
+    },
+    Change {
+        name: "write to another number",
+        pieces: &[(TEXT + 6, b"\xc0\x15\x01\0\x04\x89\x1c\0\x03\0")],
+        end: (
+            Status::NotBuilt(Unbuilt::At(10)),
+            b"",
+            b"not built: pc 10\n",
+        ),
+    },
+    Change {
+        name: "second write, with what the first gave in R0",
+        pieces: &[(TEXT + 12, b"\x04\x89\x1c\0\x03\0")],
+        end: (
+            Status::NotBuilt(Unbuilt::At(12)),
+            HI_SHOWN,
+            b"not built: pc 12\n",
+        ),
+    },
+    Change {
+        name: "data of 16 bytes after a text of 16",
+        pieces: &[(33794, b"\x10\0\x10")],
+        end: HI_DONE,
+    },
+    Change {
+        name: "write of the last three bytes of the only click",
+        pieces: &[(TEXT + 8, b"\x3d")],
+        end: (Status::Done, b"\0\0\0", b""),
+    },
+    Change {
+        name: "write of no bytes where nothing is",
+        pieces: &[(TEXT + 8, b"\0\x80\0\0")],
+        end: (Status::Done, b"", b""),
+    },
+    Change {
+        name: "console with device 256",
+        pieces: &[(1160, b"\0\x01")],
+        end: UNBUILT,
+    },
+    Change {
+        name: "init one byte short",
+        pieces: &[(1222, b"\x2f")],
+        end: UNBUILT,
+    },
+    Change {
+        name: "init of magic 0410",
+        pieces: &[(33792, b"\x08")],
+        end: UNBUILT,
+    },
+    // 16 inodes, so that the words of the program, 263, 32 and 5, are addresses of data blocks.
+    Change {
+        name: "init with ILARG",
+        pieces: &[
+            (512, b"\x01"),
+            (1217, b"\x91"),
+            (
+                TEXT,
+                b"\x05\0\0\0\0\0\0\0\0\0\0\0\0\0\0\0\0\0\0\0\0\0\0\0\0\0\0\0\0\0\0\0",
+            ),
+        ],
+        end: UNBUILT,
+    },
+    Change {
+        name: "init that others may execute, mode 0100645",
+        pieces: &[(1216, b"\xa5")],
+        end: HI_DONE,
+    },
+    Change {
+        name: "init that nobody may execute",
+        pieces: &[(1216, b"\xa4")],
+        end: UNBUILT,
+    },
+    Change {
+        name: "etc that nobody may search",
+        pieces: &[(1056, b"\xa4")],
+        end: UNBUILT,
+    },
+    Change {
+        name: "empty entry init before the real one",
+        pieces: &[
+            (1062, b"\x40"),
+            (32288, b"\0\0init"),
+            (32304, b"\x07\0init"),
+        ],
+        end: HI_DONE,
+    },
+    Change {
+        name: "second entry init, of another inode",
+        pieces: &[(1062, b"\x40"), (32304, b"\x06\0init")],
+        end: HI_DONE,
+    },
+    Change {
+        name: "first entry init, of another inode",
+        pieces: &[
+            (1062, b"\x40"),
+            (32288, b"\x06\0init"),
+            (32304, b"\x07\0init"),
+        ],
+        end: UNBUILT,
+    },
+    Change {
+        name: "open for reading",
+        pieces: &[(TEXT + 4, b"\0")],
+        end: (Status::NotBuilt(Unbuilt::At(0)), b"", b"not built: pc 0\n"),
+    },
+    Change {
+        name: "open of another name",
+        pieces: &[(TEXT + 26, b"7")],
+        end: (Status::NotBuilt(Unbuilt::At(0)), b"", b"not built: pc 0\n"),
+    },
+    Change {
+        name: "open of a longer name",
+        pieces: &[(TEXT + 27, b"x")],
+        end: (Status::NotBuilt(Unbuilt::At(0)), b"", b"not built: pc 0\n"),
+    },
+    Change {
+        name: "fork",
+        pieces: &[(TEXT, b"\x02\x89")],
+        end: (Status::NotBuilt(Unbuilt::At(0)), b"", b"not built: pc 0\n"),
+    },
+    Change {
+        name: "breakpoint",
+        pieces: &[(TEXT, b"\x03\0")],
+        end: (Status::NotBuilt(Unbuilt::At(0)), b"", b"not built: pc 0\n"),
+    },
+    Change {
+        name: "write before the open",
+        pieces: &[(TEXT, b"\x04\x89\x1c\0\x03\0")],
+        end: (Status::NotBuilt(Unbuilt::At(0)), b"", b"not built: pc 0\n"),
+    },
+    Change {
+        name: "write that ends one byte past the data",
+        pieces: &[(TEXT + 8, b"\x3e")],
+        end: (Status::NotBuilt(Unbuilt::At(6)), b"", b"not built: pc 6\n"),
+    },
+    Change {
+        name: "write from the stack",
+        pieces: &[(TEXT + 8, b"\xf0\xff")],
+        end: (Status::NotBuilt(Unbuilt::At(6)), b"", b"not built: pc 6\n"),
+    },
+    Change {
+        name: "carry set before the open, and an exit that a set carry passes over",
+        pieces: &[(
+            TEXT,
+            b"\xb1\0\x05\x89\x0e\0\x01\0\x01\x87\x01\x89\0\0/dev/tty8\0",
+        )],
+        end: (Status::Done, b"", b""),
+    },
+    Change {
+        name: "data of one click: TSTB of the last byte, then of the next",
+        pieces: &[(TEXT, b"\xdf\x8b\x3f\0\xdf\x8b\x40\0")],
+        end: (Status::NotBuilt(Unbuilt::At(4)), b"", b"not built: pc 4\n"),
+    },
+    Change {
+        name: "stack of 20 clicks: TSTB of the first byte, then of the one before",
+        pieces: &[(TEXT, b"\xdf\x8b\0\xfb\xdf\x8b\xff\xfa")],
+        end: (Status::NotBuilt(Unbuilt::At(4)), b"", b"not built: pc 4\n"),
+    },
+    Change {
+        name: "arguments of init: eight times MOV (SP)+,(R2)+, and a write",
+        pieces: &[
+            (1222, b"\x3c"),
+            (33794, b"\x2c"),
+            (
+                TEXT,
+                b"\x05\x89\x22\0\x01\0\xc2\x15\x2c\0\x92\x15\x92\x15\x92\x15\x92\x15\x92\x15\x92\x15\x92\x15\x92\x15\x04\x89\x2c\0\x10\0\x01\x89/dev/tty8\0",
+            ),
+        ],
+        end: (Status::Done, b"\x01\0V\x7f\x7f\x7f/ETC/INIT\0", b""),
+    },
+    Change {
+        name: "two writes, of a letter and of a tab",
+        pieces: &[
+            (1222, b"\x34"),
+            (33794, b"\x24"),
+            (
+                TEXT,
+                b"\x05\x89\x16\0\x01\0\x04\x89\x20\0\x01\0\0\x0a\x04\x89\x21\0\x01\0\x01\x89/dev/tty8\0a\t",
+            ),
+        ],
+        end: (Status::Done, b"A       ", b""),
+    },
+    Change {
+        name: "console that is a block device",
+        pieces: &[(1153, b"\xe1")],
+        end: UNBUILT,
+    },
+    Change {
+        name: "console that is a plain file",
+        pieces: &[(1153, b"\x81")],
+        end: UNBUILT,
+    },
+    Change {
+        name: "root that nobody may search",
+        pieces: &[(1024, b"\xa4")],
+        end: UNBUILT,
+    },
+    Change {
+        name: "dev that nobody may search",
+        pieces: &[(1088, b"\xa4")],
+        end: UNBUILT,
+    },
+    Change {
+        name: "etc that ends before init",
+        pieces: &[(1062, b"\x20")],
+        end: UNBUILT,
+    },
+    Change {
+        name: "program of 1,792 bytes",
+        pieces: &[(33798, b"\xe0\x06")],
+        end: HI_DONE,
+    },
+    Change {
+        name: "program of 1,793 bytes",
+        pieces: &[(33798, b"\xe1\x06")],
+        end: UNBUILT,
+    },
+    Change {
+        name: "first entry initx, of another inode",
+        pieces: &[
+            (1062, b"\x40"),
+            (32288, b"\x06\0initx"),
+            (32304, b"\x07\0init"),
+        ],
+        end: HI_DONE,
+    },
+];
+
+fn comes_out(alloc: Global, change: &Change<'_>) -> Result<bool, AllocError> {
+    let image = hi_image(alloc, HI_BYTES, change.pieces)?;
+    let (status, term, report) = change.end;
+    holds(
+        alloc,
+        &Row {
+            words: RUN,
+            image: &image,
+            script: b"run 20\n",
+            failing: 0,
+            status,
+            term,
+            report,
+        },
+    )
+}
+
+#[test]
+fn changed_disks_run_as_the_manual_says(rt: HostRuntime) -> Result<(), Fail> {
+    for change in CHANGES {
+        assert!(rt; comes_out(rt.alloc(), &change)?, "{}", change.name);
+    }
+    Ok(())
+}
+
+#[test]
+fn hi_one_byte_a_call(rt: HostRuntime) -> Result<(), Fail> {
+    let image = hi_image(rt.alloc(), HI_BYTES, &[])?;
+    let mut host = OneByte {
+        host: host_with(rt.alloc(), &image, b"run 20\n", 200)?,
+    };
+    let status = end_over(rt.alloc(), RUN, &mut host)?;
+    assert!(rt; status == Status::Done && host.host.bytes(OutPort::Term) == HI_SHOWN);
+    Ok(())
+}
+
+/// Where a run came to whose call of this number fails: the image, the script, the terminal, its end, or 0 where it is none of
+/// these. `passed` calls for the terminal came before: its opening, a write for each byte, its finish.
+fn place_of_fault(alloc: Global, image: &[u8], call: u32, passed: usize) -> Result<u8, AllocError> {
+    let mut host = host_with(alloc, image, b"run 20\n", 200)?;
+    host.fail(call)?;
+    let (place, report, shown) = match end_over(alloc, RUN, &mut host)? {
+        Status::ReadFault(InPort::Image) => (1, "read fault: image\n", 0),
+        Status::ReadFault(InPort::Script) => (2, "read fault: script\n", 0),
+        Status::WriteFault(OutPort::Term) => (3, "write fault: term\n", passed.saturating_sub(1)),
+        Status::Done => (4, "", 4),
+        _ => return Ok(0),
+    };
+    let is_reported = host.bytes(OutPort::Report) == report.as_bytes();
+    let is_shown = host.bytes(OutPort::Term) == &HI_SHOWN[..shown.min(4)];
+    Ok(if is_reported && is_shown { place } else { 0 })
+}
+
+/// Whether the faults come in the order of the command, six of them at the terminal.
+fn faults_come_in_order(alloc: Global) -> Result<bool, AllocError> {
+    let image = hi_image(alloc, HI_BYTES, &[])?;
+    let mut reached = 1;
+    let mut at_term = 0;
+    for call in 1..30 {
+        let place = place_of_fault(alloc, &image, call, at_term)?;
+        if place < reached {
+            return Ok(false);
+        }
+        if place == 3 {
+            at_term = at_term.saturating_add(1);
+        }
+        reached = place;
+    }
+    Ok(at_term == 6 && reached == 4)
+}
+
+#[test]
+fn each_call_fails_in_turn(rt: HostRuntime) -> Result<(), Fail> {
+    assert!(rt; faults_come_in_order(rt.alloc())?);
+    Ok(())
+}

@@ -1,0 +1,144 @@
+//! Commands over files of the system: docs/manual/ports.md. What is held goes out, also where a run ends early, and what can't
+//! go out is a fault.
+use crate::fixtures::{HI_BYTES, Piece, RUN, TEXT, end_over, hi_image};
+use std::fs;
+use std::test::Fail;
+use v6_port::{FileHost, Host, OutPort};
+use v6_run::{Status, Unbuilt};
+
+/// The words of `run`, with a device that has no room for the terminal.
+const RUN_ONTO_FULL: &str = "run image 1200 script /dev/full log final";
+
+/// HALT in the place of the exit of `hi`, at address 16.
+const HI_AND_HALT: &[Piece<'static>] = &[(TEXT + 16, b"\0\0")];
+
+/// A program that opens `/dev/tty8` and then writes 128 bytes over and over: open, 24, 1; write, 40, 128; CLR R0; BR to the
+/// write. Before it the size of its file, 184, and of its text, 168.
+const LOOP: &[Piece<'static>] = &[
+    (1222, b"\xb8"),
+    (33794, b"\xa8"),
+    (
+        TEXT,
+        b"\x05\x89\x18\x00\x01\x00\x04\x89\x28\x00\x80\x00\x00\x0a\xfb\x01",
+    ),
+    (TEXT + 24, b"/dev/tty8\0"),
+    (TEXT + 40, &[b'A'; 128]),
+];
+
+/// A command over the disk of `examples/hi`, changed, and what it must come to: its status, and a piece that the terminal's
+/// file holds, how often, once the host has gone.
+#[derive(Clone, Copy)]
+struct FileRow<'a> {
+    name: &'a str,
+    pieces: &'a [Piece<'a>],
+    script: &'a str,
+    words: &'a str,
+    status: Status,
+    shown: Option<(&'a [u8], usize)>,
+}
+
+const FILE_ROWS: [FileRow<'static>; 6] = [
+    FileRow {
+        name: "hi_over_files",
+        pieces: &[],
+        script: "run 20\n",
+        words: RUN,
+        status: Status::Done,
+        shown: Some((b"HI\r\n", 1)),
+    },
+    FileRow {
+        name: "port that isn't finished",
+        pieces: HI_AND_HALT,
+        script: "run 20\n",
+        words: RUN,
+        status: Status::NotBuilt(Unbuilt::At(16)),
+        shown: Some((b"HI\r\n", 1)),
+    },
+    // The first slot is the exec, the second the open, and each third from the third on a write: 100 in 300.
+    FileRow {
+        name: "more bytes than are held at once",
+        pieces: LOOP,
+        script: "run 300\n",
+        words: RUN,
+        status: Status::Done,
+        shown: Some((&[b'A'; 128], 100)),
+    },
+    FileRow {
+        name: "full device at the finish",
+        pieces: &[],
+        script: "run 20\n",
+        words: RUN_ONTO_FULL,
+        status: Status::WriteFault(OutPort::Term),
+        shown: None,
+    },
+    FileRow {
+        name: "full device at a write",
+        pieces: LOOP,
+        script: "run 300\n",
+        words: RUN_ONTO_FULL,
+        status: Status::WriteFault(OutPort::Term),
+        shown: None,
+    },
+    FileRow {
+        name: "disk made onto a full device",
+        pieces: &[],
+        script: "",
+        words: "make 12 /dev/full",
+        status: Status::WriteFault(OutPort::Final),
+        shown: None,
+    },
+];
+
+/// The host goes at the end.
+fn end_over_files(rt: &HostRuntime, words: &str) -> Result<Status, Fail> {
+    let mut host = FileHost::new(rt.clone()?);
+    Ok(end_over(rt.alloc(), words, &mut host)?)
+}
+
+/// Whether the terminal's file holds the piece, this number of times, and nothing else. The file is removed.
+fn is_shown(rt: &HostRuntime, piece: &[u8], times: usize) -> Result<bool, Fail> {
+    let mut wanted = Vec::new(rt.alloc());
+    for _ in 0..times {
+        wanted.extend_from_slice(piece)?;
+    }
+    let shown = fs::read(rt, "term")?;
+    fs::remove_file(rt, "term")?;
+    Ok(shown.as_slice() == wanted.as_slice())
+}
+
+fn file_row_holds(rt: &HostRuntime, row: &FileRow<'_>) -> Result<bool, Fail> {
+    let image = hi_image(rt.alloc(), HI_BYTES, row.pieces)?;
+    fs::write(rt, "image", image.as_slice())?;
+    fs::write(rt, "script", row.script)?;
+    let status = end_over_files(rt, row.words)?;
+    fs::remove_file(rt, "image")?;
+    fs::remove_file(rt, "script")?;
+    match row.shown {
+        Some((piece, times)) => Ok(is_shown(rt, piece, times)? && status == row.status),
+        None => Ok(status == row.status),
+    }
+}
+
+#[test]
+fn files_of_the_system_get_all_or_there_is_a_fault(rt: HostRuntime) -> Result<(), Fail> {
+    for row in FILE_ROWS {
+        assert!(rt; file_row_holds(&rt, &row)?, "{}", row.name);
+    }
+    Ok(())
+}
+
+fn write_and_let_go(rt: &HostRuntime) -> Result<(), Fail> {
+    let mut host = FileHost::new(rt.clone()?);
+    host.open_write(OutPort::Log, "held")?;
+    host.write(OutPort::Log, b"abc")?;
+    Ok(())
+}
+
+#[test]
+fn what_a_host_holds_goes_out_when_it_goes(rt: HostRuntime) -> Result<(), Fail> {
+    write_and_let_go(&rt)?;
+    let is_out = fs::read(&rt, "held")?.as_slice() == b"abc".as_slice();
+    fs::remove_file(&rt, "held")?;
+    assert!(rt; is_out);
+    Ok(())
+}

@@ -1,0 +1,191 @@
+//! How many slots a script asks for, and which lines are none: docs/manual/scripts.md.
+use crate::fixtures::{HI_BYTES, RUN, Row, TEXT, hi_image, holds, put};
+use std::alloc::{AllocError, Global};
+use std::test::Fail;
+use v6_run::{Status, Unbuilt};
+
+/// A script, the number of instructions RESET before the HALT of `/etc/init`, how the run ends, and its report. RESET does
+/// nothing for a user, and HALT is no instruction for one. So the first slot, which is the exec, one for each RESET, and one
+/// more bring the run to `not built`, and fewer slots don't.
+const SCRIPTS: [(&[u8], usize, Status, &[u8]); 18] = [
+    (b"", 0, Status::Done, b""),
+    (b"run 5", 4, Status::Done, b""),
+    (
+        b"run 5",
+        3,
+        Status::NotBuilt(Unbuilt::At(6)),
+        b"not built: pc 6\n",
+    ),
+    (b"run 1\r\nrun 000000002\n", 2, Status::Done, b""),
+    (
+        b"run 1\r\nrun 000000002\n",
+        1,
+        Status::NotBuilt(Unbuilt::At(2)),
+        b"not built: pc 2\n",
+    ),
+    (b"run 5\nrun 15\n", 19, Status::Done, b""),
+    (
+        b"run 5\nrun 15\n",
+        18,
+        Status::NotBuilt(Unbuilt::At(36)),
+        b"not built: pc 36\n",
+    ),
+    (b"run 20\n", 19, Status::Done, b""),
+    (
+        b"run 20\n",
+        18,
+        Status::NotBuilt(Unbuilt::At(36)),
+        b"not built: pc 36\n",
+    ),
+    (
+        b"run 200000000\nrun 0\n",
+        0,
+        Status::NotBuilt(Unbuilt::At(0)),
+        b"not built: pc 0\n",
+    ),
+    (
+        b"\n",
+        0,
+        Status::NotBuilt(Unbuilt::Line(1)),
+        b"not built: line 1\n",
+    ),
+    (
+        b"run 5\n\nrun 5\n",
+        0,
+        Status::NotBuilt(Unbuilt::Line(2)),
+        b"not built: line 2\n",
+    ),
+    (
+        b"run 5\r",
+        0,
+        Status::NotBuilt(Unbuilt::Line(1)),
+        b"not built: line 1\n",
+    ),
+    (
+        b"run 5\r\r\n",
+        0,
+        Status::NotBuilt(Unbuilt::Line(1)),
+        b"not built: line 1\n",
+    ),
+    (
+        b"run  5\n",
+        0,
+        Status::NotBuilt(Unbuilt::Line(1)),
+        b"not built: line 1\n",
+    ),
+    (
+        b"run 1234567890\n",
+        0,
+        Status::NotBuilt(Unbuilt::Line(1)),
+        b"not built: line 1\n",
+    ),
+    (
+        b"run 5\nwalk\nrun\n",
+        0,
+        Status::NotBuilt(Unbuilt::Line(2)),
+        b"not built: line 2\n",
+    ),
+    (
+        b"run 200000000\nrun 0\nrun 1\n",
+        0,
+        Status::NotBuilt(Unbuilt::Line(3)),
+        b"not built: line 3\n",
+    ),
+];
+
+/// The image of `examples/hi` with a program of 64 bytes: this number of instructions RESET, then HALT.
+fn resets_then_halt(alloc: Global, resets: usize) -> Result<Vec<u8>, AllocError> {
+    let size = (1222, b"\x50".as_slice());
+    let header = (33794, b"\x40".as_slice());
+    let mut image = hi_image(alloc, HI_BYTES, &[size, header, (TEXT, &[0; 32])])?;
+    for k in 0..resets.min(31) {
+        put(&mut image, &[(TEXT + 2 * k, b"\x05")]);
+    }
+    Ok(image)
+}
+
+fn ends(
+    alloc: Global,
+    script: &[u8],
+    resets: usize,
+    status: Status,
+    report: &[u8],
+) -> Result<bool, AllocError> {
+    let image = resets_then_halt(alloc, resets)?;
+    holds(
+        alloc,
+        &Row {
+            words: RUN,
+            image: &image,
+            script,
+            failing: 0,
+            status,
+            term: b"",
+            report,
+        },
+    )
+}
+
+#[test]
+fn scripts_are_read_line_by_line(rt: HostRuntime) -> Result<(), Fail> {
+    for (script, resets, status, report) in SCRIPTS {
+        assert!(rt;
+            ends(rt.alloc(), script, resets, status, report)?,
+            "{script:?}, {resets}"
+        );
+    }
+    Ok(())
+}
+
+/// Lines of eight bytes in each of the longest scripts, but for the last.
+const LINE: &[u8; 8] = b"run 000\n";
+
+/// How many there are of them: with one more they are the 1,048,576 bytes that a script may have.
+const LINES: usize = 131_071;
+
+/// What comes after those lines, how the run ends, and its report. The last line of a script of one byte too many isn't
+/// built, though it is good: its line feed and a carriage return count.
+const ENDS: [(&[u8], Status, &[u8]); 5] = [
+    (b"run 000\n", Status::Done, b""),
+    (b"run 0000", Status::Done, b""),
+    (
+        b"run 0000\n",
+        Status::NotBuilt(Unbuilt::Line(131_072)),
+        b"not built: line 131072\n",
+    ),
+    (
+        b"run 000\r\n",
+        Status::NotBuilt(Unbuilt::Line(131_072)),
+        b"not built: line 131072\n",
+    ),
+    (
+        b"run 000\nr",
+        Status::NotBuilt(Unbuilt::Line(131_073)),
+        b"not built: line 131073\n",
+    ),
+];
+
+fn long_script_ends(
+    alloc: Global,
+    end: &[u8],
+    status: Status,
+    report: &[u8],
+) -> Result<bool, AllocError> {
+    let mut script = Vec::new(alloc);
+    for _ in 0..LINES {
+        script.extend_from_slice(LINE)?;
+    }
+    script.extend_from_slice(end)?;
+    ends(alloc, &script, 0, status, report)
+}
+
+#[test]
+fn scripts_have_at_most_1048576_bytes(rt: HostRuntime) -> Result<(), Fail> {
+    for (end, status, report) in ENDS {
+        assert!(rt;
+            long_script_ends(rt.alloc(), end, status, report)?,
+            "{end:?}"
+        );
+    }
+    Ok(())
+}
