@@ -1,9 +1,11 @@
 -- The blocks that an inode holds: file system(V) of the UNIX Programmer's Manual.
-use Rattle.std.specs.Prelude.{ℕ, not, ◌-◌, ◌/◌, ◌%◌, ◌==◌, nat_lt, if◌then◌else◌, List, [], ◌∷◌, ◌++◌, flat_map, take, slice_index}
+use Rattle.std.specs.Prelude.{ℕ, ◌-◌, ◌/◌, ◌%◌, nat_lt, if◌then◌else◌, List, [], ◌∷◌, ◌++◌, flat_map, take, slice_index}
 use Rattle.fs_codec.specs.Words.{words}
 use Rattle.fs_codec.specs.Fields.{Inode}
 use Rattle.fs_codec.specs.Modes.{is_large, holds_blocks}
 use Rattle.fs_codec.specs.Disk.{Disk, is_data, inode}
+use Rattle.bmap_path.specs.declared.BlockName.{BlockName}
+use Rattle.bmap_path.specs.declared.BlockName.TheVariants.{Data, Ind, Dbl}
 use Rattle.fs_codec.specs.declared.layout.TheConstants.{BLOCK_ADDRESSES}
 
 -- the addresses in an indirect block; there are none in a block that is no data block
@@ -33,28 +35,16 @@ held_blocks disk node = if holds_blocks node.mode then addresses disk node else 
 abbrev pub held_by : Disk → ℕ → List ℕ
 held_by disk i = held_blocks disk (inode disk i)
 
--- The name of a block among those of its file, a kind and a number: data block n of the file; indirect block k, which names
--- the data blocks from 256 k on; and the double indirect block.
-abbrev pub Name : Type 0
-Name = ℕ × ℕ
-
-abbrev pub data_name : ℕ → Name
-data_name n = (0, n)
-
-abbrev pub indirect_name : ℕ → Name
-indirect_name k = (1, k)
-
-abbrev pub double_name : Name
-double_name = (2, 0)
-
 -- The address of indirect block k of a large file: the double indirect block names those from 7 on.
 abbrev pub indirect_at : Disk → Inode → ℕ → ℕ
 indirect_at disk node k =
     if nat_lt k 7 then slice_index node.addr k else slice_index (entries disk (slice_index node.addr 7)) (k - 7)
 
 -- the address of the block of this name, or 0 where the file has none
-abbrev pub address : Disk → Inode → Name → ℕ
-address disk node name =
-    if not (is_large node.mode) then (if name.0 == 0 then slice_index node.addr name.1 else 0) else
-    (if name.0 == 0 then slice_index (entries disk (indirect_at disk node (name.1 / BLOCK_ADDRESSES))) (name.1 % BLOCK_ADDRESSES) else
-    (if name.0 == 1 then indirect_at disk node name.1 else slice_index node.addr 7))
+abbrev pub address : Disk → Inode → BlockName → ℕ
+address disk node (Data n) =
+    if is_large node.mode
+    then slice_index (entries disk (indirect_at disk node (n / BLOCK_ADDRESSES))) (n % BLOCK_ADDRESSES)
+    else slice_index node.addr n
+address disk node (Ind k) = if is_large node.mode then indirect_at disk node k else 0
+address disk node Dbl = if is_large node.mode then slice_index node.addr 7 else 0

@@ -6,15 +6,17 @@ use Rattle.fs_codec.specs.Modes.{is_device, holds_blocks}
 use Rattle.fs_codec.specs.Disk.{Disk, head, inode, inode_count, inode_numbers}
 use Rattle.fs_codec.specs.declared.layout.TheConstants.{BLOCK_SIZE}
 use Rattle.fs_codec.specs.Free.{free_walk}
-use Rattle.fs_codec.specs.Held.{Name, data_name, indirect_name, double_name, address}
+use Rattle.fs_codec.specs.Held.{address}
+use Rattle.bmap_path.specs.declared.BlockName.{BlockName}
+use Rattle.bmap_path.specs.declared.BlockName.TheVariants.{Data, Ind, Dbl}
 use Rattle.fs_codec.specs.Faults.{disk_fault}
 use Rattle.fs_codec.specs.Store.{Node, Store}
 
 -- the name of a rank
-abbrev pub name_of : ℕ → Name
-name_of r = if nat_lt r 67328 then data_name r else (if nat_lt r 67591 then indirect_name (r - 67328) else double_name)
+abbrev pub name_of : ℕ → BlockName
+name_of r = if nat_lt r 67328 then Data r else (if nat_lt r 67591 then Ind (r - 67328) else Dbl)
 
-abbrev pub is_held : Disk → Inode → Name → Bool
+abbrev pub is_held : Disk → Inode → BlockName → Bool
 is_held disk node name = holds_blocks node.mode && not (address disk node name == 0)
 
 unfoldable pub held_of : Disk → Inode → List Bool
@@ -28,11 +30,11 @@ one_past test (suc n) = if test n then n + 1 else one_past test n
 -- the bytes of data block n of a file
 abbrev pub data_of : Disk → Inode → ℕ → List ℕ
 data_of disk node n =
-    if is_held disk node (data_name n) then disk (address disk node (data_name n)) else replicate BLOCK_SIZE 0
+    if is_held disk node (Data n) then disk (address disk node (Data n)) else replicate BLOCK_SIZE 0
 
 unfoldable pub body_of : Disk → Inode → List ℕ
 body_of disk node =
-    flat_map (data_of disk node) (range_with_len 0 (one_past (λ n. is_held disk node (data_name n)) 67328))
+    flat_map (data_of disk node) (range_with_len 0 (one_past (λ n. is_held disk node (Data n)) 67328))
 
 -- the node of an inode, where it is used
 abbrev pub node_of : Disk → Inode → Option Node

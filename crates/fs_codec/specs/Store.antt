@@ -1,6 +1,7 @@
 -- The store: what a file system is to those who use it, without the numbers of blocks.
-use Rattle.std.specs.Prelude.{ℕ, ◌+◌, ◌==◌, Bool, false, if◌then◌else◌, List, Option, None, slice_index_or}
-use Rattle.fs_codec.specs.Held.{Name}
+use Rattle.std.specs.Prelude.{ℕ, ◌+◌, Bool, false, List, Option, None, slice_index_or}
+use Rattle.bmap_path.specs.declared.BlockName.{BlockName}
+use Rattle.bmap_path.specs.declared.BlockName.TheVariants.{Data, Ind, Dbl}
 
 -- A node is an inode that is used. `mode` is the whole word. `held` tells of each name, by its rank, whether the node holds
 -- the block; a device holds none, and only a device has a `device`. `body` is the bytes of the file up to the end of its last
@@ -31,8 +32,10 @@ abbrev pub node_numbered : Store → ℕ → Option Node
 node_numbered store i = slice_index_or store.nodes i None
 
 -- The 67,328 data blocks that a file may have come first, then the 263 indirect blocks, then the double indirect block.
-abbrev pub rank : Name → ℕ
-rank name = if name.0 == 0 then name.1 else (if name.0 == 1 then 67328 + name.1 else 67591)
+abbrev pub rank : BlockName → ℕ
+rank (Data n) = n
+rank (Ind k) = 67328 + k
+rank Dbl = 67591
 
-abbrev pub holds : Node → Name → Bool
+abbrev pub holds : Node → BlockName → Bool
 holds node name = slice_index_or node.held (rank name) false
