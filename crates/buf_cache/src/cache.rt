@@ -2,7 +2,7 @@
 ghost use Rattle.std.specs.Prelude.{◌≡◌, ◌+◌, ◌<◌, ◌≤◌, length, slice_set, IfOk};
 ghost use Rattle.std.specs.Borrow.{sem};
 ghost use Rattle.std.specs.Io.BufRead.{Rests};
-ghost use Rattle.buf_cache.specs.Blocks.{block_at, patched};
+ghost use Rattle.buf_cache.specs.Blocks.{block_at, patched, IsDisk};
 ghost use Rattle.buf_cache.specs.contracts.cache.Cache.{the_row};
 
 use crate::disk::Disk;
@@ -46,6 +46,7 @@ impl Cache {
         requires { n < DISK_BLOCKS }
         ensures* same { sem 𝓛 (Rests the_row self.entry (λ v. v ≡ self.old)) }
         ensures value { result.now ≡ block_at self.old n }
+        ensures form { IsDisk self.old }
     {
         &self.blocks[n as usize]
     }
@@ -54,7 +55,8 @@ impl Cache {
     pub fn change(&mut self, n: u16, at: u16, bytes: &[u8])
         requires block { n < DISK_BLOCKS }
         requires within { at + length bytes.now ≤ BLOCK_SIZE }
-        ensures { self.new ≡ slice_set self.old n (patched at bytes.now (block_at self.old n)) }
+        ensures changed { self.new ≡ slice_set self.old n (patched at bytes.now (block_at self.old n)) }
+        ensures form { IsDisk self.old }
     {
         let block = &mut self.blocks[n as usize];
         let from = at as usize;
@@ -69,7 +71,8 @@ impl Cache {
     /// The bytes of block `n` on the disk.
     pub fn on_disk(&self, n: u16) -> &[u8; 512]
         requires { n < DISK_BLOCKS }
-        ensures { result.now ≡ block_at self.now n }
+        ensures value { result.now ≡ block_at self.now n }
+        ensures form { IsDisk self.now }
     {
         &self.blocks[n as usize]
     }
