@@ -1,0 +1,177 @@
+-- The node of an inode of which fields have changed, and no address that counts.
+use Rattle.std.proofs.Common.{◌≡◌, ◌≢◌, ◌-◌, ◌/◌, ◌%◌, ◌==◌, ◌&&◌, ◌||◌, ℕ, Bool, true, false, not, cond, List, map, slice_index, nat_lt, replicate, take, [], ◌++◌, Some, None, refl, sym, ap, ◌∙◌}
+use Rattle.std.proofs.lemmas.Bool.{ne_eqb}
+use Rattle.std.specs.List.{flat_map, range_with_len}
+use Rattle.fs_codec.specs.Fields.{Inode}
+use Rattle.fs_codec.specs.Modes.{file_type, is_device, is_large, holds_blocks}
+use Rattle.fs_codec.specs.Disk.{Disk}
+use Rattle.fs_codec.specs.Held.{entries, addresses, held_blocks, in_indirect, in_double, indirect_at, address}
+use Rattle.bmap_path.specs.declared.BlockName.{BlockName}
+use Rattle.bmap_path.specs.declared.BlockName.TheVariants.{Data, Ind, Dbl}
+use Rattle.fs_codec.specs.Store.{Node}
+use Rattle.fs_codec.specs.Stands.{name_of, is_held, held_of, one_past, data_of, body_of, node_of}
+use Rattle.fs_laws.specs.Shown.{KeepsBlocks, Tells, Renews}
+use Rattle.fs_codec.specs.declared.modes.TheConstants.{IFCHR, IFBLK}
+
+same_device : (node next : Inode) → KeepsBlocks node next → is_device next.mode ≡ is_device node.mode
+same_device node next k = ap (λ t. (t == IFCHR) || (t == IFBLK)) k.kind
+
+holds_kept : (node next : Inode) → KeepsBlocks node next → holds_blocks next.mode ≡ holds_blocks node.mode
+holds_kept node next k =
+    ap (λ t. not t && not (is_device next.mode)) (ne_eqb next.mode 0 k.used) ∙ ap not (same_device node next k)
+    ∙ sym (ap (λ t. not t && not (is_device node.mode)) (ne_eqb node.mode 0 k.before))
+
+no_device : (node : Inode) → holds_blocks node.mode ≡ true → is_device node.mode ≡ false
+no_device node holds = by (is_device node.mode) refl where
+  by : (t : Bool) → is_device node.mode ≡ t → is_device node.mode ≡ false
+  by false e = e
+  by true e = (let h : not (node.mode == 0) && not true ≡ true = ap (λ t. not (node.mode == 0) && not t) (sym e) ∙ holds in absurd (never (not (node.mode == 0)) h)) where
+    never : (t : Bool) → (t && false) ≡ true → ⊥
+    never true h = cc
+    never false h = cc
+
+-- the addresses rest on whether the file is large, and on those in the inode
+address_same : (disk : Disk) (node next : Inode) (name : BlockName) → is_large next.mode ≡ is_large node.mode → next.addr ≡ node.addr → address disk next name ≡ address disk node name
+address_same disk node next (Data n) large addr i =
+    cond (large i) (slice_index (entries disk (cond (nat_lt (n / 256) 7) (slice_index (addr i) (n / 256)) (slice_index (entries disk (slice_index (addr i) 7)) (n / 256 - 7)))) (n % 256)) (slice_index (addr i) n)
+address_same disk node next (Ind k) large addr i = cond (large i) (cond (nat_lt k 7) (slice_index (addr i) k) (slice_index (entries disk (slice_index (addr i) 7)) (k - 7))) 0
+address_same disk node next Dbl large addr i = cond (large i) (slice_index (addr i) 7) 0
+
+addresses_same : (disk : Disk) (node next : Inode) → is_large next.mode ≡ is_large node.mode → next.addr ≡ node.addr → addresses disk next ≡ addresses disk node
+addresses_same disk node next large addr i =
+    cond (large i) (flat_map (in_indirect disk) (take 7 (addr i)) ++ in_double disk (slice_index (addr i) 7)) (addr i)
+
+held_when : (s t : Bool) (a b : ℕ) → s ≡ t → (t ≡ true → a ≡ b) → (s && not (a == 0)) ≡ (t && not (b == 0))
+held_when true true a b e same = ap (λ n. not (n == 0)) (same refl)
+held_when false false a b e same = refl
+held_when true false a b e same = absurd (cc)
+held_when false true a b e same = absurd (cc)
+
+held_same : (disk : Disk) (node next : Inode) (name : BlockName) → KeepsBlocks node next → is_held disk next name ≡ is_held disk node name
+held_same disk node next name k =
+    held_when (holds_blocks next.mode) (holds_blocks node.mode) (address disk next name) (address disk node name) (holds_kept node next k)
+    (λ holds. address_same disk node next name k.large (k.addr (no_device node holds)))
+
+data_when : (disk : Disk) (s t : Bool) (a b : ℕ) → s ≡ t → (t ≡ true → a ≡ b) → cond (s && not (a == 0)) (disk a) (replicate 512 0) ≡ cond (t && not (b == 0)) (disk b) (replicate 512 0)
+data_when disk true true a b e same = ap (λ n. cond (not (n == 0)) (disk n) (replicate 512 0)) (same refl)
+data_when disk false false a b e same = refl
+data_when disk true false a b e same = absurd (cc)
+data_when disk false true a b e same = absurd (cc)
+
+data_same : (disk : Disk) (node next : Inode) (n : ℕ) → KeepsBlocks node next → data_of disk next n ≡ data_of disk node n
+data_same disk node next n k =
+    data_when disk (holds_blocks next.mode) (holds_blocks node.mode) (address disk next (Data n)) (address disk node (Data n)) (holds_kept node next k)
+    (λ holds. address_same disk node next (Data n) k.large (k.addr (no_device node holds)))
+
+names_same : (disk : Disk) (node next : Inode) → KeepsBlocks node next → held_of disk next ≡ held_of disk node
+unfolding held_of
+names_same disk node next k i = map (λ r. held_same disk node next (name_of r) k i) (range_with_len 0 67592)
+
+body_same : (disk : Disk) (node next : Inode) → KeepsBlocks node next → body_of disk next ≡ body_of disk node
+unfolding body_of
+body_same disk node next k i =
+    flat_map (λ n. data_same disk node next n k i) (range_with_len 0 (one_past (λ n. held_same disk node next (Data n) k i) 67328))
+
+held_blocks_when : (disk : Disk) (node next : Inode) (s t : Bool) → s ≡ t → (t ≡ true → addresses disk next ≡ addresses disk node) → cond s (addresses disk next) [] ≡ cond t (addresses disk node) []
+held_blocks_when disk node next true true e same = same refl
+held_blocks_when disk node next false false e same = refl
+held_blocks_when disk node next true false e same = absurd (cc)
+held_blocks_when disk node next false true e same = absurd (cc)
+
+-- Such an inode holds the same blocks.
+pub blocks_same : (disk : Disk) (node next : Inode) → KeepsBlocks node next → held_blocks disk next ≡ held_blocks disk node
+blocks_same disk node next k =
+    held_blocks_when disk node next (holds_blocks next.mode) (holds_blocks node.mode) (holds_kept node next k)
+    (λ holds. addresses_same disk node next k.large (k.addr (no_device node holds)))
+
+-- the node of an inode that is used
+pub shown : Disk → Inode → Node
+shown disk node = record {
+  mode = node.mode;
+  nlink = node.nlink;
+  uid = node.uid;
+  gid = node.gid;
+  size = node.size;
+  device = cond (is_device node.mode) (slice_index node.addr 0) 0;
+  actime = node.actime;
+  modtime = node.modtime;
+  held = held_of disk node;
+  body = body_of disk node;
+}
+
+pub shown_mode : (disk : Disk) (node : Inode) → (shown disk node).mode ≡ node.mode
+unfolding shown
+shown_mode disk node = refl
+
+pub node_shown : (disk : Disk) (node : Inode) → node.mode ≢ 0 → node_of disk node ≡ Some (shown disk node)
+unfolding shown
+node_shown disk node used = ap (λ t. cond t None (Some (shown disk node))) (ne_eqb node.mode 0 used)
+
+-- Its node has the fields that have changed, and the blocks and bytes that it had.
+pub node_renewed : (disk : Disk) (node next : Inode) (file : Node) → KeepsBlocks node next → node_of disk node ≡ Some file
+    → node_of disk next ≡ Some (record file {
+      mode = next.mode;
+      nlink = next.nlink;
+      uid = next.uid;
+      gid = next.gid;
+      size = next.size;
+      device = cond (is_device next.mode) (slice_index next.addr 0) 0;
+      actime = next.actime;
+      modtime = next.modtime;
+    })
+unfolding shown
+node_renewed disk node next file k is =
+    let file_is : shown disk node ≡ file = the_same (shown disk node) file (sym (node_shown disk node k.before) ∙ is) in
+    node_shown disk next k.used ∙ ap Some (λ i. record {
+      mode = next.mode;
+      nlink = next.nlink;
+      uid = next.uid;
+      gid = next.gid;
+      size = next.size;
+      device = cond (is_device next.mode) (slice_index next.addr 0) 0;
+      actime = next.actime;
+      modtime = next.modtime;
+      held = (names_same disk node next k ∙ ap (λ (f : Node). f.held) file_is) i;
+      body = (body_same disk node next k ∙ ap (λ (f : Node). f.body) file_is) i;
+    }) where
+      the_same : (a b : Node) → Some a ≡ Some b → a ≡ b
+      the_same a b h = cc
+
+-- The fields of an inode are those of its node.
+pub node_tells : (disk : Disk) (node : Inode) (file : Node) → node.mode ≢ 0 → node_of disk node ≡ Some file → Tells node file
+unfolding shown
+node_tells disk node file used is =
+    let e : Some (shown disk node) ≡ Some file = sym (node_shown disk node used) ∙ is in
+    let f : shown disk node ≡ file = the_same (shown disk node) file e in
+    record {
+      mode = ap (λ (x : Node). x.mode) f;
+      nlink = ap (λ (x : Node). x.nlink) f;
+      uid = ap (λ (x : Node). x.uid) f;
+      gid = ap (λ (x : Node). x.gid) f;
+      size = ap (λ (x : Node). x.size) f;
+      device = ap (λ (x : Node). x.device) f;
+      actime = ap (λ (x : Node). x.actime) f;
+      modtime = ap (λ (x : Node). x.modtime) f;
+    } where
+      the_same : (a b : Node) → Some a ≡ Some b → a ≡ b
+      the_same a b h = cc
+
+pub node_renews : (disk : Disk) (node next : Inode) (file renewed : Node) → KeepsBlocks node next → node_of disk node ≡ Some file → Renews next file renewed → node_of disk next ≡ Some renewed
+node_renews disk node next file renewed k is r = node_renewed disk node next file k is ∙ ap Some (λ i. record {
+  mode = r.fields.mode i;
+  nlink = r.fields.nlink i;
+  uid = r.fields.uid i;
+  gid = r.fields.gid i;
+  size = r.fields.size i;
+  device = r.fields.device i;
+  actime = r.fields.actime i;
+  modtime = r.fields.modtime i;
+  held = sym r.held i;
+  body = sym r.body i;
+})
+
+pub node_body : (disk : Disk) (node : Inode) (file : Node) → node.mode ≢ 0 → node_of disk node ≡ Some file → file.body ≡ body_of disk node
+unfolding shown
+node_body disk node file used is = ap (λ (x : Node). x.body) (the_same file (shown disk node) (sym is ∙ node_shown disk node used)) where
+  the_same : (a b : Node) → Some a ≡ Some b → a ≡ b
+  the_same a b h = cc

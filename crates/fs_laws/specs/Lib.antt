@@ -1,0 +1,13 @@
+pub mod Chain
+pub mod Whole
+pub mod Tree
+pub mod Gains
+pub mod Touch
+pub mod Truncation
+pub mod Grows
+pub mod Numbers
+pub mod Pieces
+pub mod Block
+pub mod Sync
+pub mod Rest
+pub mod Shown
