@@ -1,0 +1,72 @@
+//! A file takes the blocks on the way to one of its blocks.
+
+ghost use Rattle.std.specs.Prelude.{◌≡◌, ◌≢◌, ℕ, ◌<◌, ◌≤◌, MatchResult, is_ok, false};
+ghost use Rattle.v6_base.specs.declared.errno.Errno.{Errno};
+ghost use Rattle.fs_codec.specs.Modes.{is_device};
+ghost use Rattle.fs_codec.specs.Fields.{fields_of};
+ghost use Rattle.fs_codec.specs.Held.{address, addresses};
+ghost use Rattle.bmap_path.specs.declared.BlockName.TheVariants.{Data};
+ghost use Rattle.fs_laws.specs.Whole.{IsApart};
+ghost use Rattle.fs_laws.specs.Grows.{IsPlace, IsOpen};
+ghost use Rattle.fs_blocks.specs.State.{disk, Fits};
+ghost use Rattle.fs_blocks.specs.Steps.{HoldsOrLacks};
+ghost use Rattle.fs_blocks.specs.Touch.{TakesPath};
+
+use crate::touch_gains::gain;
+use crate::touch_reads::{block_of, see_addresses};
+use crate::volume::Volume;
+use bmap_path::{BlockName, path};
+use fs_codec::{DiskNode, is_large};
+use v6_base::Errno;
+
+/// The block of a name: the one that the file has, or else the first free block.
+fn take(volume: &mut Volume, node: &mut DiskNode, name: BlockName) -> Result<u16, Errno>
+    requires apart { IsApart (disk volume.old) (addresses (disk volume.old) (fields_of node.old)) }
+    requires place { IsPlace name }
+    requires open { IsOpen (disk volume.old) (fields_of node.old) name }
+    ensures taken { HoldsOrLacks volume.old (fields_of node.old) volume.new (fields_of node.new) name result }
+    ensures before { Fits volume.old.head }
+    ensures behind { Fits volume.new.head }
+{
+    volume.see();
+    let held = block_of(volume, node, name);
+    if held != 0 {
+        return Ok(held);
+    }
+    let taken = gain(volume, node, name);
+    volume.see();
+    taken
+}
+
+impl Volume {
+    /// The address of block `bn` of a file that is no device: the file's bytes from `512 * bn` on. What the file
+    /// lacks on the way to it is taken first, a block that is to have an address before the block at that address. A
+    /// data block that is taken is all zeros. A small file that takes a block behind its eighth becomes large. File
+    /// system(V), and `bmap` in Lions' Commentary, `subr.c`.
+    ///
+    /// # Errors
+    ///
+    /// `EFBIG` where `bn` exceeds 32767. `ENOSPC` where fewer blocks are free than the file lacks on that way; it keeps
+    /// what it took.
+    pub fn touch(&mut self, node: &mut DiskNode, bn: u32) -> Result<u16, Errno>
+        requires file { is_device node.old.mode ≡ false }
+        requires apart { IsApart (disk self.old) (addresses (disk self.old) (fields_of node.old)) }
+        ensures large { 32767 < bn → (result ≡ Err Errno.EFBIG) × (self.new ≡ self.old) × (node.new ≡ node.old) }
+        ensures takes { bn ≤ 32767 →
+            TakesPath self.old (fields_of node.old) bn self.new (fields_of node.new) (is_ok result) }
+        ensures answer { bn ≤ 32767 → MatchResult result
+            (λ b. (b ≡ address (disk self.new) (fields_of node.new) (Data bn)) × (b ≢ 0))
+            (λ e. e ≡ Errno.ENOSPC) }
+    {
+        if bn > 32767 {
+            return Err(Errno::EFBIG);
+        }
+        see_addresses(&node.addr);
+        let names = path(is_large(node.mode), bn as u16);
+        let mut block = 0;
+        for name in names.as_slice() {
+            block = take(self, node, *name)?;
+        }
+        Ok(block)
+    }
+}
