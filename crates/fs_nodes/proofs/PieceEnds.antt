@@ -1,0 +1,269 @@
+-- What a read or a write of a file leaves, with its times and its inode.
+use Rattle.std.proofs.Common.{◌≡◌, ◌≢◌, ◌+◌, ◌*◌, ◌<◌, ◌≤◌, ◌==◌, ◌&&◌, ◌||◌, inl, inr, ℕ, Bool, true, false, not, cond, List, [], length, length-set, get_or, slice_set, slice_index, min, nat_eq, Option, Some, None, refl, sym, ap, ◌∙◌, subst, arith}
+use Rattle.std.proofs.lemmas.Bool.Decides.{eqb_tells}
+use Rattle.std.specs.List.{count_by, refill}
+use Rattle.fs_codec.specs.Fields.{Inode, fields_of}
+use Rattle.fs_codec.specs.Modes.{file_type, is_device, is_directory}
+use Rattle.fs_codec.specs.Disk.{Disk, inode, inode_count, head}
+use Rattle.fs_codec.specs.Held.{addresses, held_blocks}
+use Rattle.fs_codec.specs.Store.{Node, node_numbered}
+use Rattle.fs_codec.specs.Stands.{held_of, body_of, node_of, store_of}
+use Rattle.fs_codec.specs.declared.node.DiskNode.{DiskNode}
+use Rattle.fs_codec.specs.declared.modes.TheConstants.{IFDIR}
+use Rattle.fs_codec.specs.declared.super_block.SuperBlock.{SuperBlock}
+use Rattle.v6_base.specs.declared.errno.Errno.{Errno}
+use Rattle.fs_laws.specs.Chain.{free}
+use Rattle.fs_laws.specs.Whole.{IsApart}
+use Rattle.fs_laws.specs.Pieces.{pieces, Moving, reading, writing, beginning, read_file, write_file}
+use Rattle.fs_laws.proofs.FileLemmas.{file_apart}
+use Rattle.fs_blocks.specs.State.{State, disk, Fits}
+use Rattle.fs_blocks.specs.Touch.{MovesBlocks}
+use Rattle.fs_blocks.proofs.SuperLemmas.{head_is}
+use Rattle.fs_blocks.proofs.VolumeLemmas.{same_refl}
+use Rattle.fs_nodes.specs.declared.table.Referenced.{Referenced}
+use Rattle.fs_nodes.specs.FileSystem.{FileSystem, store_now}
+use Rattle.fs_nodes.specs.Inodes.{WritesInode, Carries}
+use Rattle.fs_nodes.specs.Table.{file_system, with_inode, IsNodes}
+use Rattle.fs_nodes.specs.Moves.{file_of, moving, Comes, Grew, Dated, Ends, Moves, Carried}
+use Rattle.fs_nodes.proofs.BackLemmas.{carries_moved}
+use Rattle.fs_nodes.proofs.NodesLemmas.{IsUsed, node_at}
+use Rattle.fs_nodes.proofs.SaveLemmas.{Saves, saved}
+use Rattle.fs_nodes.proofs.TakeLemmas.{refilled, some_entry}
+use Rattle.fs_nodes.proofs.PieceSteps.{file_is, some_file, holds_some, same_names, same_body}
+
+-- an inode with other times
+pub dated : (disk : Disk) (x y : Inode) (actime modtime : ℕ) → y ≡ record x { actime = actime; modtime = modtime } → Dated x y × (file_of disk y ≡ record (file_of disk x) { actime = actime; modtime = modtime })
+dated disk x y actime modtime is =
+    let z : Inode = record x { actime = actime; modtime = modtime } in
+    let held : held_of disk z ≡ held_of disk x = same_names disk x z refl refl in
+    let body : body_of disk z ≡ body_of disk x = same_body disk x z refl refl in (
+      record { mode = ap (λ (i : Inode). i.mode) is; addr = ap (λ (i : Inode). i.addr) is; size = ap (λ (i : Inode). i.size) is },
+      ap (file_of disk) is ∙ (λ i. record {
+        mode = x.mode;
+        nlink = x.nlink;
+        uid = x.uid;
+        gid = x.gid;
+        size = x.size;
+        device = cond (is_device x.mode) (slice_index x.addr 0) 0;
+        actime = actime;
+        modtime = modtime;
+        held = held i;
+        body = body i;
+      }),
+    )
+
+-- what a call leaves of a device
+pub ends_device : {Memory : Type 0} (s : State) (x y : Inode) (m : Moving Memory) (memory : Memory) → Dated x y → is_device x.mode ≡ true → x.mode ≢ 0 → m ≡ moving s y memory 0 → Ends s x s y m memory 0 None
+ends_device {Memory} s x y m memory d device used is =
+    let some : y.mode ≢ 0 = (λ e. used (sym d.mode ∙ e)) in
+    let nothing : (z : Inode) → is_device z.mode ≡ true → held_blocks (disk s) z ≡ [] = λ z e.
+    ap (λ t. cond (not (z.mode == 0) && not t) (addresses (disk s) z) []) e ∙ ap (λ t. cond t (addresses (disk s) z) []) (never (not (z.mode == 0))) in
+    let here = nothing x device in
+    let there = nothing y (ap is_device d.mode ∙ device) in
+    let P : Moving Memory → Type 0 = λ n. Comes s y n memory 0 None in
+    record {
+      comes = subst P (sym is) (record { node = file_is (disk s) y some; room = refl; memory = refl; done = refl; error = refl });
+      carries = record {
+        count = λ k some_k. (let a : count_by (nat_eq k) (held_blocks (disk s) y) ≡ count_by (nat_eq k) (held_blocks (disk s) x) = ap (count_by (nat_eq k)) (there ∙ sym here) in omega (arith, a));
+        inside = λ k some_k comes. (let a : count_by (nat_eq k) (held_blocks (disk s) y) ≡ 0 = ap (count_by (nat_eq k)) there in absurd (omega (arith, a, comes)));
+        others = λ k none out. refl;
+        head = same_refl s.head;
+      };
+      used = some;
+      type = ap file_type d.mode;
+      changed = sym (unmarked s.changed (length (free (disk s))));
+    } where
+      never : (t : Bool) → t && not true ≡ false
+      never true = refl
+      never false = refl
+
+      unmarked : (o : Bool) (a : ℕ) → o || not (a == a) ≡ o
+      unmarked true a = refl
+      unmarked false a = elim (eqb_tells a a) [ inl y ↦ ap not y.0 | inr y ↦ absurd (y.1 refl) ]
+
+abbrev plain : ℕ → List ℕ → Inode
+plain mode addr = record { mode = mode; nlink = 0; uid = 0; gid = 0; size = 0; addr = addr; actime = 0; modtime = 0 }
+
+same_moves : (s t : State) (x y z : Inode) → Dated x y → MovesBlocks s y t z → MovesBlocks s x t z
+same_moves s t x y z d m =
+    let same : addresses (disk s) y ≡ addresses (disk s) x = ap (λ p. addresses (disk s) (plain p y.addr)) d.mode ∙ ap (λ a. addresses (disk s) (plain x.mode a)) d.addr in
+    record {
+      count = λ k some. m.count k some ∙ ap (λ l. count_by (nat_eq k) (free (disk s)) + count_by (nat_eq k) l) same;
+      apart = m.apart;
+      others = λ k none out. m.others k none (λ some. ap (count_by (nat_eq k)) same ∙ out some);
+      head = m.head;
+      changed = m.changed;
+    }
+
+pub dated_apart : (s : State) (x y : Inode) → Dated x y → IsApart (disk s) (addresses (disk s) x) → IsApart (disk s) (addresses (disk s) y)
+dated_apart s x y d apart =
+    let same : addresses (disk s) y ≡ addresses (disk s) x = ap (λ p. addresses (disk s) (plain p y.addr)) d.mode ∙ ap (λ a. addresses (disk s) (plain x.mode a)) d.addr in
+    let P : List ℕ → Type 0 = IsApart (disk s) in subst P (sym same) apart
+
+-- what a call leaves of a file
+pub ends_file : {Memory : Type 0} (s t : State) (x y z : Inode) (m : Moving Memory) (bytes : Memory) (moved : ℕ) (refusal : Option Errno) → Dated x y → is_device x.mode ≡ false → x.mode ≢ 0
+    → Comes t z m bytes moved refusal → Grew s y t z → Ends s x t z m bytes moved refusal
+ends_file s t x y z m bytes moved refusal d file used c g =
+    let some : z.mode ≢ 0 = (some_file (disk t) z m.node c.node).0 in
+    let kind : file_type z.mode ≡ file_type x.mode = g.type ∙ ap file_type d.mode in
+    let device : is_device z.mode ≡ false = ap (λ k. (k == 0o020000) || (k == 0o060000)) kind ∙ file in
+    let moves = same_moves s t x y z d g.moves in
+    record {
+      comes = c;
+      carries = carries_moved s t x z (holds_some x.mode used file) (holds_some z.mode some device) moves;
+      used = some;
+      type = kind;
+      changed = moves.changed;
+    }
+
+-- The store, where a call has come to its end and its inode is written.
+mark_is : (s : State) → s.changed ≡ (store_now s).mark
+unfolding store_now
+mark_is s = refl
+
+room_is : (s : State) → (store_now s).room ≡ length (free (disk s))
+unfolding store_now store_of
+room_is s = refl
+
+pub moves_store : {Memory : Type 0} (old new fin : State) (i : ℕ) (x next : Inode) (m : Moving Memory) (bytes : Memory) (moved : ℕ) (refusal : Option Errno) → Ends old x new next m bytes moved refusal
+    → store_now fin ≡ record (store_now old) { nodes = slice_set (store_now old).nodes i (node_of (disk new) next); room = length (free (disk new)); mark = new.changed }
+    → Moves (store_now old) i (store_now fin) m bytes moved refusal
+moves_store old new fin i x next m bytes moved refusal e is =
+    let c = e.comes in
+    let marked : new.changed ≡ (store_now old).mark || not (m.room == (store_now old).room) =
+    e.changed ∙ ap (λ b. b || not (length (free (disk new)) == length (free (disk old)))) (mark_is old) ∙ ap (λ n. (store_now old).mark || not (n == length (free (disk old)))) c.room
+    ∙ ap (λ n. (store_now old).mark || not (m.room == n)) (sym (room_is old)) in
+    record {
+      store = is ∙ (λ j. record (store_now old) {
+        nodes = slice_set (store_now old).nodes i (c.node j);
+        room = c.room j;
+        mark = marked j;
+      });
+      memory = c.memory;
+      done = c.done;
+      error = c.error;
+    }
+
+-- a number of an inode is within a super-block's count
+pub within_head : (s : State) (i : ℕ) → Fits s.head → i ≤ inode_count (disk s) → i ≤ 16 * s.head.i_size
+within_head s i fits low = let h : (head (disk s)).i_size ≡ s.head.i_size = ap (λ (x : SuperBlock). x.i_size) (head_is s.blocks s.head fits) in omega (arith, h, low)
+
+pub within_disk : (s : State) (i : ℕ) → Fits s.head → i ≤ 16 * s.head.i_size → i ≤ inode_count (disk s)
+within_disk s i fits low = let h : (head (disk s)).i_size ≡ s.head.i_size = ap (λ (x : SuperBlock). x.i_size) (head_is s.blocks s.head fits) in omega (arith, h, low)
+
+-- the root stays a directory
+pub root_kept : (s : State) (es : List Referenced) (i : ℕ) (x next : Inode) → IsNodes s es → x ≡ inode (disk s) i → file_type next.mode ≡ file_type x.mode → i ≡ 1 → is_directory next.mode ≡ true
+root_kept s es i x next n same kind first =
+    ap (λ t. t == IFDIR) kind ∙ ap (λ (y : Inode). is_directory y.mode) same ∙ ap (λ j. is_directory (inode (disk s) j).mode) first ∙ n.whole.root
+
+-- Where an inode of the table is written after its blocks were moved.
+saved_at : (old new fin : State) (es now : List Referenced) (k i : ℕ) (next : DiskNode) → IsNodes old es → k < length es → ((e : Referenced) → (get_or es k e).ino ≡ i) → Carries old (inode (disk old) i) new (fields_of next)
+    → WritesInode new i (fields_of next) fin → next.mode ≢ 0 → (i ≡ 1 → is_directory next.mode ≡ true) → ((e : Referenced) → now ≡ slice_set es k (with_inode (get_or es k e) next)) → Carried old new fin es (refill (length es) es now) i (fields_of next)
+saved_at old new fin es now k i next n low ino c w used root is =
+    let e : Referenced = some_entry es k low in
+    let entry = n.table.each k (some_entry es k low) low in
+    let same : inode (disk old) i ≡ fields_of (get_or es k (some_entry es k low)).node = ap (inode (disk old)) (sym (ino (some_entry es k low))) ∙ sym entry.same in
+    let c' : Carries old (fields_of (get_or es k (some_entry es k low)).node) new (fields_of next) = (let P : Inode → Type 0 = λ x. Carries old x new (fields_of next) in subst P same c) in
+    let to : refill (length es) es now ≡ slice_set es k (with_inode (get_or es k (some_entry es k low)) next) =
+    refilled es now (ap length (is (some_entry es k low)) ∙ length-set es k (with_inode (get_or es k (some_entry es k low)) next)) ∙ is (some_entry es k low) in
+    let s : Saves old new fin es (slice_set es k (with_inode (get_or es k (some_entry es k low)) next)) i (fields_of next) = saved old new fin es k (some_entry es k low) i next n low (ino (some_entry es k low)) c' w used root in
+    let P : List Referenced → Type 0 = λ l. Carried old new fin es l i (fields_of next) in
+    subst P (sym to) (record { nodes = s.nodes; references = s.references; store = s.store; rest = s.rest })
+
+pub saved_after : (old new fin : State) (es held now : List Referenced) (k i : ℕ) (next : DiskNode) → held ≡ es → k < length held → ((e : Referenced) → (get_or held k e).ino ≡ i) → WritesInode new i (fields_of next) fin
+    → ((e : Referenced) → now ≡ slice_set held k (with_inode (get_or held k e) next))
+    → IsNodes old es → Carries old (inode (disk old) i) new (fields_of next) → next.mode ≢ 0 → (i ≡ 1 → is_directory next.mode ≡ true) → Carried old new fin es (refill (length es) es now) i (fields_of next)
+saved_after old new fin es held now k i next same low ino w is n c used root =
+    let P : List Referenced → Type 0 = λ l. k < length l → ((e : Referenced) → (get_or l k e).ino ≡ i) → ((e : Referenced) → now ≡ slice_set l k (with_inode (get_or l k e) next)) → Carried old new fin es (refill (length es) es now) i (fields_of next) in
+    subst P (sym same) (λ low ino is. saved_at old new fin es now k i next n low ino c w used root is) low ino is
+
+-- times that are set where there is something
+one_time : (t : Bool) (f : Node) (time : ℕ) → cond t f (record f { actime = time }) ≡ record f { actime = cond t f.actime time; modtime = f.modtime }
+one_time true f time = refl
+one_time false f time = refl
+
+both_times : (t : Bool) (f : Node) (time : ℕ) → cond t f (record f { actime = time; modtime = time }) ≡ record f { actime = cond t f.actime time; modtime = cond t f.modtime time }
+both_times true f time = refl
+both_times false f time = refl
+
+-- an inode of which the time of access has been set, or both
+abbrev pub accessed : Inode → ℕ → ℕ → Inode
+accessed x count time = record x { actime = cond (count == 0) x.actime time; modtime = x.modtime }
+
+abbrev pub changed : Inode → ℕ → ℕ → Inode
+changed x count time = record x { actime = cond (count == 0) x.actime time; modtime = cond (count == 0) x.modtime time }
+
+-- a read of a device, and one of a file
+pub read_device : {Memory : Type 0} (put : Memory → ℕ → List ℕ → Option Memory) (s : State) (x y : Inode) (offset count time : ℕ) (memory : Memory) → y ≡ accessed x count time → is_device x.mode ≡ true → x.mode ≢ 0
+    → Ends s x s y (read_file put (file_of (disk s) x) (length (free (disk s))) memory offset count time) memory 0 None
+read_device {Memory} put s x y offset count time memory is device used =
+    let d = dated (disk s) x y (cond (count == 0) x.actime time) x.modtime is in
+    let f : Node = file_of (disk s) x in
+    let begun : cond (count == 0) (file_of (disk s) x) (record (file_of (disk s) x) { actime = time }) ≡ file_of (disk s) y = one_time (count == 0) (file_of (disk s) x) time ∙ sym d.1 in
+    ends_device s x y (read_file put (file_of (disk s) x) (length (free (disk s))) memory offset count time) memory d.0 device used
+    (ap (λ t. cond t (beginning (cond (count == 0) (file_of (disk s) x) (record (file_of (disk s) x) { actime = time })) (length (free (disk s))) memory)
+    (reading put (pieces offset (min x.size (offset + count))) (beginning (cond (count == 0) (file_of (disk s) x) (record (file_of (disk s) x) { actime = time })) (length (free (disk s))) memory))) device
+    ∙ ap (λ (g : Node). beginning g (length (free (disk s))) memory) begun)
+
+pub read_comes : {Memory : Type 0} (put : Memory → ℕ → List ℕ → Option Memory) (s t : State) (x y z : Inode) (offset count time end : ℕ) (memory bytes : Memory) (moved : ℕ) (refusal : Option Errno) → y ≡ accessed x count time → is_device x.mode ≡ false → x.mode ≢ 0
+    → end ≡ min y.size (offset + count) → Comes t z (reading put (pieces offset end) (moving s y memory 0)) bytes moved refusal → Grew s y t z
+    → Ends s x t z (read_file put (file_of (disk s) x) (length (free (disk s))) memory offset count time) bytes moved refusal
+read_comes {Memory} put s t x y z offset count time end memory bytes moved refusal is file used ends c g =
+    let d = dated (disk s) x y (cond (count == 0) x.actime time) x.modtime is in
+    let begun : cond (count == 0) (file_of (disk s) x) (record (file_of (disk s) x) { actime = time }) ≡ file_of (disk s) y = one_time (count == 0) (file_of (disk s) x) time ∙ sym d.1 in
+    let P : Moving Memory → Type 0 = λ n. Comes t z n bytes moved refusal in
+    ends_file s t x y z (read_file put (file_of (disk s) x) (length (free (disk s))) memory offset count time) bytes moved refusal d.0 file used
+    (subst P (ap (λ k. reading put (pieces offset k) (moving s y memory 0)) (ends ∙ ap (λ k. min k (offset + count)) d.0.size)
+    ∙ ap (λ (g : Node). reading put (pieces offset (min x.size (offset + count))) (beginning g (length (free (disk s))) memory)) (sym begun)
+    ∙ sym (ap (λ t. cond t (beginning (cond (count == 0) (file_of (disk s) x) (record (file_of (disk s) x) { actime = time })) (length (free (disk s))) memory)
+    (reading put (pieces offset (min x.size (offset + count))) (beginning (cond (count == 0) (file_of (disk s) x) (record (file_of (disk s) x) { actime = time })) (length (free (disk s))) memory))) file)) c) g
+
+-- a write of a device, and one of a file
+pub write_device : {Memory : Type 0} (get : ℕ → ℕ → Option (List ℕ)) (s : State) (x y : Inode) (offset count time : ℕ) (memory : Memory) → y ≡ changed x count time → is_device x.mode ≡ true → x.mode ≢ 0
+    → Ends s x s y (write_file get (file_of (disk s) x) (length (free (disk s))) memory offset count time) memory 0 None
+write_device {Memory} get s x y offset count time memory is device used =
+    let d = dated (disk s) x y (cond (count == 0) x.actime time) (cond (count == 0) x.modtime time) is in
+    let begun : cond (count == 0) (file_of (disk s) x) (record (file_of (disk s) x) { actime = time; modtime = time }) ≡ file_of (disk s) y = both_times (count == 0) (file_of (disk s) x) time ∙ sym d.1 in
+    ends_device s x y (write_file get (file_of (disk s) x) (length (free (disk s))) memory offset count time) memory d.0 device used
+    (ap (λ t. cond t (beginning (cond (count == 0) (file_of (disk s) x) (record (file_of (disk s) x) { actime = time; modtime = time })) (length (free (disk s))) memory)
+    (writing get (pieces offset (offset + count)) (beginning (cond (count == 0) (file_of (disk s) x) (record (file_of (disk s) x) { actime = time; modtime = time })) (length (free (disk s))) memory))) device
+    ∙ ap (λ (g : Node). beginning g (length (free (disk s))) memory) begun)
+
+pub write_comes : {Memory : Type 0} (get : ℕ → ℕ → Option (List ℕ)) (s t : State) (x y z : Inode) (offset count time : ℕ) (memory bytes : Memory) (moved : ℕ) (refusal : Option Errno) → y ≡ changed x count time → is_device x.mode ≡ false → x.mode ≢ 0
+    → Comes t z (writing get (pieces offset (offset + count)) (moving s y memory 0)) bytes moved refusal → Grew s y t z
+    → Ends s x t z (write_file get (file_of (disk s) x) (length (free (disk s))) memory offset count time) bytes moved refusal
+write_comes {Memory} get s t x y z offset count time memory bytes moved refusal is file used c g =
+    let d = dated (disk s) x y (cond (count == 0) x.actime time) (cond (count == 0) x.modtime time) is in
+    let begun : cond (count == 0) (file_of (disk s) x) (record (file_of (disk s) x) { actime = time; modtime = time }) ≡ file_of (disk s) y = both_times (count == 0) (file_of (disk s) x) time ∙ sym d.1 in
+    let P : Moving Memory → Type 0 = λ n. Comes t z n bytes moved refusal in
+    ends_file s t x y z (write_file get (file_of (disk s) x) (length (free (disk s))) memory offset count time) bytes moved refusal d.0 file used
+    (subst P (ap (λ (g : Node). writing get (pieces offset (offset + count)) (beginning g (length (free (disk s))) memory)) (sym begun)
+    ∙ sym (ap (λ t. cond t (beginning (cond (count == 0) (file_of (disk s) x) (record (file_of (disk s) x) { actime = time; modtime = time })) (length (free (disk s))) memory)
+    (writing get (pieces offset (offset + count)) (beginning (cond (count == 0) (file_of (disk s) x) (record (file_of (disk s) x) { actime = time; modtime = time })) (length (free (disk s))) memory))) file)) c) g
+
+-- what a loop asks of an inode with other times
+pub accessed_apart : (s : State) (x y : Inode) (actime modtime : ℕ) → y ≡ record x { actime = actime; modtime = modtime } → is_device y.mode ≡ false → (is_device x.mode ≡ false → IsApart (disk s) (addresses (disk s) x)) → IsApart (disk s) (addresses (disk s) y)
+accessed_apart s x y actime modtime is file apart =
+    let d = (dated (disk s) x y actime modtime is).0 in dated_apart s x y d (apart (ap is_device (sym d.mode) ∙ file))
+
+-- The blocks of an inode of a file system are apart.
+pub apart_of : (s : State) (es : List Referenced) (i : ℕ) (x : Inode) → IsNodes s es → IsUsed s i → x ≡ inode (disk s) i → is_device x.mode ≡ false → IsApart (disk s) (addresses (disk s) x)
+apart_of s es i x n u same file =
+    let y : Inode = inode (disk s) i in
+    let used : x.mode ≢ 0 = (λ e. u.used (sym (ap (λ (z : Inode). z.mode) same) ∙ e)) in
+    let held : held_blocks (disk s) x ≡ addresses (disk s) x = ap (λ t. cond t (addresses (disk s) x) []) (holds_some x.mode used file) in
+    let P : List ℕ → Type 0 = IsApart (disk s) in
+    subst P (ap (held_blocks (disk s)) (sym same) ∙ held) (file_apart (disk s) i n.whole u.low u.high)
+
+-- What a call has come to, in terms of a file system.
+pub called : {Memory : Type 0} (v w fin : State) (es after : List Referenced) (fs : FileSystem) (i : ℕ) (x next : Inode) (run : Node → ℕ → Moving Memory) (bytes : Memory) (moved : ℕ) (refusal : Option Errno) (node : Node)
+    → file_system v es ≡ fs → IsUsed v i → x ≡ inode (disk v) i → Ends v x w next (run (file_of (disk v) x) (length (free (disk v)))) bytes moved refusal → Carried v w fin es after i next
+    → node_numbered fs.store i ≡ Some node → Moves fs.store i (store_now fin) (run node fs.store.room) bytes moved refusal
+called {Memory} v w fin es after fs i x next run bytes moved refusal node view u same e c =
+    let P : FileSystem → Type 0 = λ f. node_numbered f.store i ≡ Some node → Moves f.store i (store_now fin) (run node f.store.room) bytes moved refusal in
+    subst P view (λ found.
+    let is = (some_file (disk v) x node (ap (node_of (disk v)) same ∙ sym (node_at v i u.low u.high) ∙ found)).1 in
+    let m : Moves (store_now v) i (store_now fin) (run (file_of (disk v) x) (length (free (disk v)))) bytes moved refusal = moves_store v w fin i x next (run (file_of (disk v) x) (length (free (disk v)))) bytes moved refusal e c.store in
+    let Q : Node → Type 0 = λ n. Moves (store_now v) i (store_now fin) (run n (length (free (disk v)))) bytes moved refusal in
+    let R : ℕ → Type 0 = λ r. Moves (store_now v) i (store_now fin) (run node r) bytes moved refusal in
+    subst R (sym (room_is v)) (subst Q (sym is) m))

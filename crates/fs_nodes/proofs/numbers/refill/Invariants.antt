@@ -1,0 +1,14 @@
+use Rattle.std.proofs.Common.{◌≡◌, ◌≤◌, ◌&&◌, not, length}
+use Rattle.std.specs.List.{filter, range_with_len}
+use Rattle.fs_laws.specs.Numbers.{is_free_number}
+use Rattle.fs_nodes.specs.FileSystem.{store_now}
+use Rattle.fs_nodes.specs.Numbers.{refers_to}
+use Rattle.fs_nodes.proofs.numbers.refill.Given as goal
+
+-- the numbers found are those so far
+abbrev pub invariant-loop-below : goal.invariant-loop-below
+invariant-loop-below l = record {
+  same : l.volume ≡ l.fn.volume;
+  few : length l.found.items ≤ 100;
+  found : l.found.items ≡ filter (λ i. is_free_number (store_now l.fn.volume) i && not (refers_to l.table i)) (range_with_len 1 l.below);
+}

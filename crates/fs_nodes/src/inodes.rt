@@ -1,0 +1,57 @@
+//! The inodes in their blocks: file system(V).
+ghost use Rattle.std.specs.Prelude.{◌≡◌, ◌+◌, ◌≤◌, ◌<◌, ◌*◌, MatchOption, IfSome, None};
+ghost use Rattle.fs_codec.specs.Fields.{fields_of};
+ghost use Rattle.fs_codec.specs.Disk.{inode, inode as the_inode, inode_count};
+ghost use Rattle.fs_codec.specs.Store.{node_numbered};
+ghost use Rattle.fs_blocks.specs.State.{disk};
+ghost use Rattle.fs_nodes.specs.FileSystem.{ShowsNode, store_now};
+ghost use Rattle.fs_nodes.specs.Inodes.{WritesInode};
+
+use fs_blocks::Volume;
+use fs_codec::{DiskNode, read_node, write_node};
+
+/// The inode of this number, as the disk has it.
+pub(crate) fn read_inode(volume: &mut Volume, ino: u16) -> DiskNode
+    requires low { 1 ≤ ino }
+    requires high { ino ≤ inode_count (disk volume.old) }
+    ensures node { fields_of result ≡ inode (disk volume.old) ino }
+    ensures same { volume.new ≡ volume.old }
+{
+    volume.see();
+    let place = 32 * ((ino - 1) % 16) as usize;
+    let block = volume.block((ino - 1) / 16 + 2);
+    let mut bytes = [0; 32];
+    bytes.copy_from_slice(&block[place..place + 32]);
+    read_node(&bytes)
+}
+
+/// Writes the inode of this number into its block.
+pub(crate) fn write_inode(volume: &mut Volume, ino: u16, node: &DiskNode)
+    requires low { 1 ≤ ino }
+    requires high { ino ≤ inode_count (disk volume.old) }
+    ensures { WritesInode volume.old ino (fields_of node.now) volume.new }
+{
+    volume.see();
+    let place = 32 * ((ino - 1) % 16);
+    let mut bytes = [0; 32];
+    write_node(node, &mut bytes);
+    volume.change((ino - 1) / 16 + 2, place, &bytes);
+}
+
+/// The inode of a number, where it is used.
+pub(crate) fn read_used(volume: &mut Volume, ino: u16) -> Option<DiskNode>
+    ensures used { MatchOption result (node_numbered (store_now volume.old) ino ≡ None)
+        (λ inode. ShowsNode (node_numbered (store_now volume.old) ino) inode) }
+    ensures fields { IfSome result (λ inode. fields_of inode ≡ the_inode (disk volume.old) ino) }
+    ensures same { volume.new ≡ volume.old }
+{
+    volume.see();
+    if ino == 0 || u32::from(ino) > 16 * u32::from(volume.head().i_size) {
+        return None;
+    }
+    let node = read_inode(volume, ino);
+    if node.mode == 0 {
+        return None;
+    }
+    Some(node)
+}

@@ -1,0 +1,131 @@
+//! The table of inodes in memory.
+ghost use Rattle.std.specs.Prelude.{◌≡◌, ◌<◌, ◌≤◌, IfSome, IfNone, length, slice_index_or, slice_set, Some};
+ghost use Rattle.fs_codec.specs.Fields.{fields_of};
+ghost use Rattle.fs_codec.specs.Disk.{Disk, inode, inode_count};
+ghost use Rattle.fs_codec.specs.Store.{Node, node_numbered};
+ghost use Rattle.fs_laws.specs.Numbers.{with_node};
+ghost use Rattle.fs_laws.specs.Shown.{KeepsBlocks, Renews};
+ghost use Rattle.fs_nodes.specs.FileSystem.{store_now, SameRest};
+ghost use Rattle.fs_blocks.specs.State.{disk};
+ghost use Rattle.fs_nodes.specs.Inodes.{WritesInode};
+ghost use Rattle.fs_nodes.specs.Table.{entries_of, once_more, with_inode, references_in, IsTable, IsNodes};
+ghost use Rattle.fs_nodes.specs.declared.table.Referenced.{Referenced};
+
+use crate::inodes::write_inode;
+use arrayvec::ArrayVec;
+use fs_blocks::Volume;
+use fs_codec::DiskNode;
+
+/// An inode in memory: Lions' Commentary, `inode.h`.
+#[derive(Clone, Copy, Debug, PartialEq, Eq)]
+pub(crate) struct Referenced {
+    pub(crate) ino: u16,
+    /// How many refer to it, at least one.
+    pub(crate) references: u16,
+    /// What the disk has of it.
+    pub(crate) node: DiskNode,
+}
+
+impl Default for Referenced {
+    fn default() -> Referenced {
+        Referenced {
+            ino: 0,
+            references: 0,
+            node: DiskNode {
+                mode: 0,
+                nlink: 0,
+                uid: 0,
+                gid: 0,
+                size: 0,
+                addr: [0; 8],
+                actime: 0,
+                modtime: 0,
+            },
+        }
+    }
+}
+
+/// The place of an inode in the table.
+pub(crate) fn find(table: &[Referenced], ino: u16) -> Option<usize>
+    ensures some { IfSome result (λ k. (k < length table.now)
+        × ((entry : Referenced) → (slice_index_or table.now k entry).ino ≡ ino)) }
+    ensures none { IfNone result (entries_of table.now ino ≡ 0) }
+{
+    for k in 0..table.len() {
+        if table[k].ino == ino {
+            return Some(k);
+        }
+    }
+    None
+}
+
+/// The place of an inode that the table has.
+pub(crate) fn place(table: &[Referenced], ino: u16) -> usize
+    requires { 1 ≤ entries_of table.now ino }
+    ensures low { result < length table.now }
+    ensures here { (entry : Referenced) → (slice_index_or table.now result entry).ino ≡ ino }
+{
+    match find(table, ino) {
+        Some(k) => k,
+        None => 0,
+    }
+}
+
+/// Refers once more to an inode that the table has.
+pub(crate) fn refer_again(table: &mut [Referenced], k: usize)
+    requires place { k < length table.old }
+    requires few { (entry : Referenced) → (slice_index_or table.old k entry).references < 65535 }
+    ensures { (entry : Referenced)
+        → table.new ≡ slice_set table.old k (once_more (slice_index_or table.old k entry)) }
+{
+    table[k].references += 1;
+}
+
+/// Writes an inode of the table into its block, and keeps it as it is there.
+pub(crate) fn save(
+    volume: &mut Volume,
+    table: &mut [Referenced],
+    k: usize,
+    ino: u16,
+    node: &DiskNode,
+)
+    requires place { k < length table.old }
+    requires low { 1 ≤ ino }
+    requires high { ino ≤ inode_count (disk volume.old) }
+    ensures written { WritesInode volume.old ino (fields_of node.now) volume.new }
+    ensures table { (entry : Referenced)
+        → table.new ≡ slice_set table.old k (with_inode (slice_index_or table.old k entry) node.now) }
+{
+    write_inode(volume, ino, node);
+    table[k].node = *node;
+}
+
+/// The inode of a number that the table has.
+pub(crate) fn inode_in(table: &[Referenced], ino: u16) -> DiskNode
+    requires { 1 ≤ entries_of table.now ino }
+    ensures { (disk : Disk) → IsTable disk table.now → fields_of result ≡ inode disk ino }
+{
+    table[place(table, ino)].node
+}
+
+/// Writes an inode of which fields have been set, but no block has moved, into its block and into the table.
+pub(crate) fn set_inode(
+    volume: &mut Volume,
+    table: &mut ArrayVec<Referenced, 100>,
+    ino: u16,
+    node: &DiskNode,
+)
+    requires sound { IsNodes volume.old table.old.items }
+    requires some { 1 ≤ entries_of table.old.items ino }
+    requires keeps { KeepsBlocks (inode (disk volume.old) ino) (fields_of node.now) }
+    ensures sound { IsNodes volume.new table.new.items }
+    ensures references { references_in (inode_count (disk volume.new)) table.new.items
+        ≡ references_in (inode_count (disk volume.old)) table.old.items }
+    ensures store { (file renewed : Node) → node_numbered (store_now volume.old) ino ≡ Some file
+        → Renews (fields_of node.now) file renewed
+        → store_now volume.new ≡ with_node (store_now volume.old) ino renewed (store_now volume.old).room }
+    ensures rest { SameRest volume.old.blocks volume.new.blocks }
+{
+    let k = place(table, ino);
+    save(volume, table, k, ino, node);
+}

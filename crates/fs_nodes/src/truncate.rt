@@ -1,0 +1,30 @@
+//! Files that give their blocks back.
+ghost use Rattle.std.specs.Prelude.{◌≡◌, ◌<◌, Some, slice_index};
+ghost use Rattle.fs_codec.specs.Store.{Node, node_numbered};
+ghost use Rattle.fs_laws.specs.Numbers.{with_truncated};
+ghost use Rattle.fs_nodes.specs.FileSystem.{SameRest};
+
+use crate::nodes::Nodes;
+use crate::table::{inode_in, place, save};
+use fs_codec::is_device;
+
+impl Nodes {
+    /// Gives all blocks of a file back, at a time. A device stays as it is. `itrunc` in Lions' Commentary, `iget.c`.
+    pub fn truncate(&mut self, ino: u16, time: u32)
+        requires referenced { 0 < slice_index self.old.references ino }
+        ensures store { (node : Node) → node_numbered self.old.store ino ≡ Some node
+            → self.new.store ≡ with_truncated self.old.store ino node time }
+        ensures references { self.new.references ≡ self.old.references }
+        ensures rest { SameRest self.old.blocks self.new.blocks }
+    {
+        let mut node = inode_in(&self.table, ino);
+        if is_device(node.mode) {
+            return;
+        }
+        let k = place(&self.table, ino);
+        self.volume.truncate(&mut node);
+        self.volume.see();
+        node.modtime = time;
+        save(&mut self.volume, &mut self.table, k, ino, &node);
+    }
+}
