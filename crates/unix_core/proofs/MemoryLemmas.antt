@@ -15,7 +15,7 @@ use Rattle.v6_base.specs.Image.{Image, named_by, data_base}
 use Rattle.v6_base.specs.Access.{load_byte, store_byte, with_byte, image_after}
 use Rattle.v6_base.specs.Sizes.{cut_back, cut_front, resized}
 use Rattle.unix_core.specs.Memory.{bytes_from, byte_or_zero}
-use Rattle.unix_core.proofs.DiskLemmas.{range_from}
+use Rattle.unix_core.proofs.NameLemmas.{range_from}
 
 -- the first n places of a list have been written with those of another
 pub record IsWritten (n : ℕ) (bytes old new : List ℕ) : Type 0 where

@@ -1,8 +1,11 @@
 pub mod Boots
 pub mod Calls
 pub mod Console
-pub mod Disk
+pub mod Exec
+pub mod Files
+pub mod Form
 pub mod Memory
+pub mod Names
 pub mod Parts
 pub mod Program
 pub mod Runs

@@ -1,46 +1,49 @@
 -- A run as a function: from an image, a core size and a list of events to what is shown and how it ends.
-use Rattle.std.specs.Prelude.{ℕ, false, true, List, [], ◌∷◌, ◌++◌, ◌&&◌, is_some, if◌then◌else◌, Option, Some, None, codes}
+use Rattle.std.specs.Prelude.{ℕ, true, List, [], ◌∷◌, ◌++◌, is_some, if◌then◌else◌, Option, Some, None}
 use Rattle.std.specs.Option.{option_map}
 use Rattle.fs_codec.specs.Faults.{image_fault}
-use Rattle.v6_base.specs.Image.{Image}
 use Rattle.v6_base.specs.Trace.{Item}
-use Rattle.fs_codec.specs.Fields.{Inode}
-use Rattle.fs_codec.specs.Disk.{Disk, disk_of}
+use Rattle.fs_codec.specs.Disk.{disk_of}
+use Rattle.fs_codec.specs.Store.{Store}
+use Rattle.fs_codec.specs.Stands.{store_of}
+use Rattle.fs_laws.specs.Numbers.{synced}
 use Rattle.unix_core.specs.declared.turned.Unbuilt.{Unbuilt}
-use Rattle.unix_core.specs.Disk.{reached_through, filled, is_program, is_console, program_bytes}
-use Rattle.unix_core.specs.Unix.{Process, System}
-use Rattle.unix_core.specs.Program.{program_image}
+use Rattle.unix_core.specs.Form.{has_form}
+use Rattle.unix_core.specs.Unix.{Process, Unix, System}
 use Rattle.unix_core.specs.Turn.{Turn, slot_of}
 
--- process 1, about to execute the program whose memory this is
-abbrev pub fresh_process : Image → Process
-fresh_process image = record {
+-- process 1, about to execute `/etc/init`
+abbrev pub fresh_process : Process
+fresh_process = record {
   registers = 0 ∷ 0 ∷ 0 ∷ 0 ∷ 0 ∷ 0 ∷ 0 ∷ 0 ∷ [];
   condition = 0;
-  «data» = image.data;
-  stack = image.stack;
-  has_console = false;
+  «data» = [];
+  stack = [];
+  console = None;
   is_fresh = true;
 }
 
--- the system before its first turn
-abbrev pub system_with : List ℕ → System
-system_with program = record { unix = record { process = Some (fresh_process (program_image program)); column = 0 } }
+-- the system before its first turn, with a file system, and with the time of its super-block
+abbrev pub system_with : Store → System
+system_with store = record {
+  unix = record {
+    process = Some fresh_process;
+    column = 0;
+    store = store;
+    time = store.stamp;
+  };
+}
 
--- from what `/etc/init` and `/dev/tty8` lead to
-abbrev pub boots_from : Disk → Option Inode → Option Inode → Option System
-boots_from disk (Some init) (Some console) =
-    if is_program disk init && is_console console then Some (system_with (program_bytes disk init)) else None
-boots_from disk init console = None
-
--- The system that an image with so many clicks of core begins with, or None where the image has a fault or hasn't the form that
--- is built: `/etc/init` leads to a program and `/dev/tty8` to the console. A program of that form with its stack and its u area
--- fits into each core that is allowed.
+-- The system that an image with so many clicks of core begins with, or None where the image has a fault or hasn't the
+-- form that is built. A program of that form with its stack and its u area fits into each core that is allowed.
 abbrev pub boots : List ℕ → ℕ → Option System
 boots image core =
     if is_some (image_fault image) then None
-    else (let disk = disk_of image in
-    boots_from disk (reached_through disk (filled (codes "etc")) (filled (codes "init"))) (reached_through disk (filled (codes "dev")) (filled (codes "tty8"))))
+    else (let store : Store = store_of (disk_of image) in if has_form store then Some (system_with store) else None)
+
+-- the system at its end, when all that has changed is on the disk
+abbrev pub finished : System → System
+finished m = let u : Unix = m.unix in record m { unix = record u { store = synced u.store u.time } }
 
 -- what comes to a kernel from outside
 pub data Event : Type 0 where

@@ -1,5 +1,5 @@
 -- The turn of a slot, where there is a process: first the exec of `/etc/init`, then an instruction a turn until it exits.
-use Rattle.std.specs.Prelude.{ℕ, Bool, true, false, List, [], ◌∷◌, Option, Some, None, if◌then◌else◌}
+use Rattle.std.specs.Prelude.{ℕ, Bool, true, false, List, [], Option, Some, None, if◌then◌else◌}
 use Rattle.v6_base.specs.Trace.{Item}
 use Rattle.pdp_step.specs.declared.outcome.Outcome.{Outcome}
 use Rattle.pdp_step.specs.declared.outcome.Outcome.TheVariants.{Next, Call, Fault}
@@ -13,13 +13,9 @@ use Rattle.unix_core.specs.declared.turned.Unbuilt.TheVariants.{At}
 use Rattle.unix_core.specs.declared.turned.Turned.{Turned}
 use Rattle.unix_core.specs.declared.turned.Turned.TheVariants.{Ran, Idle, NotBuilt}
 use Rattle.unix_core.specs.Unix.{Process, Unix, System, register, process_of, with_process, image_of}
-use Rattle.unix_core.specs.Program.{first_stack}
 use Rattle.unix_core.specs.Steps.{Steps, returns, not_built}
 use Rattle.unix_core.specs.Calls.{system_call}
-
--- exec(II) gives a program its registers
-abbrev pub after_exec : Process → Process
-after_exec p = record p { registers = 0 ∷ 0 ∷ 0 ∷ 0 ∷ 0 ∷ 0 ∷ first_stack ∷ 0 ∷ []; condition = 0; is_fresh = false }
+use Rattle.unix_core.specs.Exec.{exec_init}
 
 -- what an instruction of a process works on, and the process after it
 abbrev pub machine_with : Image → Process → Machine
@@ -40,7 +36,7 @@ instruction u =
     comes_to (with_process u (with_machine p s.machine)) s.outcome
 
 abbrev pub turn : Unix → Steps
-turn u = if (process_of u).is_fresh then returns (with_process u (after_exec (process_of u))) else instruction u
+turn u = if (process_of u).is_fresh then exec_init u else instruction u
 
 -- what an event comes to: what is shown, the system then, whether nobody was there to run, and how the run ends, where it
 -- ends here

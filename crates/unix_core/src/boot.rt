@@ -1,19 +1,19 @@
 //! What a kernel begins with.
-ghost use Rattle.std.specs.Prelude.{◌≡◌, ℕ, ◌≤◌, IfOk, IfErr, Some};
+ghost use Rattle.std.specs.Prelude.{◌≡◌, ℕ, ◌≤◌, ◌+◌, IfOk, IfErr, Some, None, replicate};
+ghost use Rattle.fs_codec.specs.Disk.{disk_of};
+ghost use Rattle.fs_codec.specs.Faults.{image_fault};
+ghost use Rattle.fs_codec.specs.Stands.{store_of};
+ghost use Rattle.buf_cache.specs.Blocks.{blocks_of};
 
-use crate::disk::{is_console, is_program, program_bytes, reached_through};
+use crate::files::take_root;
+use crate::form::has_form;
 use crate::kernel::Kernel;
-use crate::program::space_with;
+use buf_cache::{Cache, Disk};
+use fs_blocks::Volume;
 use fs_check::{ImageFault, accept};
-use std::alloc::Global;
-
-const ETC: [u8; 14] = *b"etc\0\0\0\0\0\0\0\0\0\0\0";
-
-const INIT: [u8; 14] = *b"init\0\0\0\0\0\0\0\0\0\0";
-
-const DEV: [u8; 14] = *b"dev\0\0\0\0\0\0\0\0\0\0\0";
-
-const TTY8: [u8; 14] = *b"tty8\0\0\0\0\0\0\0\0\0\0";
+use fs_nodes::Nodes;
+use std::alloc::{AllocError, Global};
+use v6_base::Whole;
 
 /// Why there is no kernel for an image.
 #[derive(Clone, Copy, Debug, PartialEq, Eq)]
@@ -26,37 +26,49 @@ pub enum BootFault {
     NoMemory,
 }
 
+/// The file system on the disk of an image without a fault, and its time.
+fn file_system_of(alloc: Global, image: &[u8]) -> Result<(Nodes, u32), AllocError>
+    requires { image_fault image.now ≡ None }
+    ensures store { IfOk result (λ made. made.0.store ≡ store_of (disk_of image.now)) }
+    ensures references { IfOk result (λ made. made.0.references ≡ replicate (made.0.store.count + 1) 0) }
+    ensures blocks { IfOk result (λ made. made.0.blocks ≡ blocks_of image.now) }
+    ensures time { IfOk result (λ made. made.1 ≡ (store_of (disk_of image.now)).stamp) }
+{
+    let disk = Disk::from_bytes(alloc, image)?;
+    let cache = Cache::new(alloc, disk)?;
+    let volume = Volume::open_on(cache);
+    volume.see();
+    let time = volume.head().time;
+    Ok((Nodes::new(volume), time))
+}
+
 impl Kernel {
     ghost use Rattle.unix_core.specs.Boots.{RefusesBoot};
     ghost use Rattle.unix_core.specs.Runs.{boots};
 
     /// Makes the kernel for a disk image and so many clicks of core, before the start of its run.
     ///
-    /// What there is of the disk so far is read and not kept: the program `/etc/init` and the console `/dev/tty8`.
+    /// It keeps a disk of its own, and takes all the memory that it will ever use.
     pub fn boot(alloc: Global, image: &[u8], core: u16) -> Result<Kernel, BootFault>
         requires least { 64 ≤ core }
         requires most { core ≤ 3968 }
-        ensures system { IfOk result (λ system. boots image.now core ≡ Some system) }
+        ensures system { IfOk result (λ kernel. boots image.now core ≡ Some kernel.system) }
+        ensures blocks { IfOk result (λ kernel. kernel.blocks ≡ blocks_of image.now) }
         ensures refused { IfErr result (RefusesBoot image.now core) }
     {
         if let Err(fault) = accept(image) {
             return Err(BootFault::Image(fault));
         }
-        let Some(init) = reached_through(image, &ETC, &INIT) else {
-            return Err(BootFault::NotBuilt);
-        };
-        let Some(console) = reached_through(image, &DEV, &TTY8) else {
-            return Err(BootFault::NotBuilt);
-        };
-        if !is_program(image, &init) || !is_console(&console) {
-            return Err(BootFault::NotBuilt);
-        }
-        let Ok(program) = program_bytes(alloc, image, &init) else {
+        let Ok((mut nodes, time)) = file_system_of(alloc, image) else {
             return Err(BootFault::NoMemory);
         };
-        match space_with(alloc, &program) {
-            Ok(space) => Ok(Kernel::new(space)),
-            Err(_) => Err(BootFault::NoMemory),
+        if !has_form(image, &mut nodes) {
+            return Err(BootFault::NotBuilt);
         }
+        let Ok(space) = Whole::new(alloc) else {
+            return Err(BootFault::NoMemory);
+        };
+        take_root(&mut nodes);
+        Ok(Kernel::new(space, nodes, time))
     }
 }

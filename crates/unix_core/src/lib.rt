@@ -3,9 +3,12 @@
 
 mod boot;
 mod console;
-mod disk;
+mod devices;
+mod files;
+mod form;
 mod kernel;
 mod memory;
+mod names;
 mod process;
 mod program;
 mod turned;

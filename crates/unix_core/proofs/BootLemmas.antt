@@ -1,0 +1,42 @@
+-- A volume on the disk of an image is what a kernel begins with.
+use Rattle.std.proofs.Common.{◌≡◌, ℕ, false, List, None, sym, ap, ◌∙◌, subst, arith}
+use Rattle.fs_codec.specs.Fields.{super_of}
+use Rattle.fs_codec.specs.Disk.{disk_of, head}
+use Rattle.fs_codec.specs.Faults.{disk_fault, image_fault}
+use Rattle.fs_codec.specs.Stands.{store_of}
+use Rattle.fs_codec.specs.declared.layout.TheConstants.{DISK_BLOCKS}
+use Rattle.fs_codec.specs.declared.super_block.SuperBlock.{SuperBlock}
+use Rattle.buf_cache.specs.Blocks.{block_at, blocks_of}
+use Rattle.fs_laws.specs.Whole.{IsWhole}
+use Rattle.fs_laws.proofs.ImageLemmas.{block_of_image, image_within, image_files, image_whole}
+use Rattle.fs_laws.specs.Sync.{ReadsAlike}
+use Rattle.fs_laws.proofs.WholeLemmas.{whole_is, whole_has_none}
+use Rattle.fs_laws.proofs.SyncLemmas.{alike_fault, alike_store}
+use Rattle.fs_laws.proofs.AgreeLemmas.{files_store}
+use Rattle.fs_blocks.specs.State.{State, disk, opened}
+use Rattle.fs_blocks.specs.Store.{store_now}
+
+clean_store : (volume : State) → volume.changed ≡ false → store_now volume ≡ store_of (disk volume)
+unfolding store_now store_of
+clean_store volume clean = ap (λ t. record (store_of (disk volume)) { mark = t }) clean
+
+module _ (bytes : List ℕ) (good : image_fault bytes ≡ None) where
+  module _ (volume : State) (blocks : volume.blocks ≡ blocks_of bytes) (clean : volume.changed ≡ false)
+      (stored : volume.changed ≡ false → ReadsAlike (disk volume) (block_at volume.blocks)) where
+    on_blocks : IsWhole (block_at volume.blocks)
+    on_blocks = subst (λ l. IsWhole (block_at l)) (sym blocks) (image_whole bytes good)
+
+    pub volume_sound : disk_fault DISK_BLOCKS (disk volume) ≡ None
+    volume_sound = sym (alike_fault DISK_BLOCKS (disk volume) (block_at volume.blocks) (stored clean)) ∙ whole_has_none (block_at volume.blocks) on_blocks
+
+    pub volume_store : store_now volume ≡ store_of (disk_of bytes)
+    volume_store =
+        clean_store volume clean ∙ sym (alike_store (disk volume) (block_at volume.blocks) (stored clean) (whole_is (disk volume) volume_sound))
+        ∙ ap (λ l. store_of (block_at l)) blocks ∙ files_store (disk_of bytes) (block_at (blocks_of bytes)) (image_within bytes good).0 (image_files bytes good)
+
+    pub volume_time : volume.head ≡ opened (super_of (block_at (blocks_of bytes) 1)) → volume.head.time ≡ (head (disk_of bytes)).time
+    volume_time is = ap (λ (h : SuperBlock). h.time) is ∙ ap (λ l. (super_of l).time) (block_of_image bytes 1 (omega arith))
+
+    pub volume_stamp : volume.head ≡ opened (super_of (block_at (blocks_of bytes) 1)) → volume.head.time ≡ (store_of (disk_of bytes)).stamp
+    unfolding store_of
+    volume_stamp is = volume_time is
