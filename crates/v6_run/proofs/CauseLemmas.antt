@@ -8,6 +8,7 @@ use Rattle.v6_run.specs.declared.status.Status.{Status}
 use Rattle.v6_run.specs.Status.{fault_port}
 use Rattle.v6_run.specs.Causes.{IsCaused}
 use Rattle.v6_run.specs.Words.{RunWords, Run}
+use Rattle.v6_run.specs.Outputs.{is_output}
 use Rattle.v6_run.specs.Headline.{is_named}
 
 pub still_tells : (mine : Port → Bool) (a b : Outside) → OnlyAt mine a b → Tells a → Tells b
@@ -57,10 +58,17 @@ right_false false b is = is
 
 -- what `run` has a name for
 pub names_image : (words : RunWords) (q : Port) → is_named (Run words) q ≡ false → same (In in_port.Image) q ≡ false
-names_image words q other = left_false (same (In in_port.Image) q) (same (In in_port.Script) q) (left_false _ (same (Out out_port.Term) q) other)
+names_image words q other = left_false (same (In in_port.Image) q) (same (In in_port.Script) q) (left_false _ (is_output q) other)
 
 pub names_script : (words : RunWords) (q : Port) → is_named (Run words) q ≡ false → same (In in_port.Script) q ≡ false
-names_script words q other = right_false (same (In in_port.Image) q) (same (In in_port.Script) q) (left_false _ (same (Out out_port.Term) q) other)
+names_script words q other = right_false (same (In in_port.Image) q) (same (In in_port.Script) q) (left_false _ (is_output q) other)
 
-pub names_term : (words : RunWords) (q : Port) → is_named (Run words) q ≡ false → same (Out out_port.Term) q ≡ false
-names_term words q other = right_false (same (In in_port.Image) q || same (In in_port.Script) q) (same (Out out_port.Term) q) other
+pub names_outputs : (words : RunWords) (q : Port) → is_named (Run words) q ≡ false → is_output q ≡ false
+names_outputs words q other = right_false (same (In in_port.Image) q || same (In in_port.Script) q) (is_output q) other
+
+-- the files that it writes
+pub outputs_term : (q : Port) → is_output q ≡ false → same (Out out_port.Term) q ≡ false
+outputs_term q other = left_false (same (Out out_port.Term) q) (same (Out out_port.Final) q) other
+
+pub outputs_final : (q : Port) → is_output q ≡ false → same (Out out_port.Final) q ≡ false
+outputs_final q other = right_false (same (Out out_port.Term) q) (same (Out out_port.Final) q) other

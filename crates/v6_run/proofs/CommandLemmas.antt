@@ -16,6 +16,7 @@ use Rattle.v6_run.specs.declared.image.ImageError.{ImageError}
 use Rattle.v6_run.specs.declared.image.ImageError.TheVariants as image_error
 use Rattle.v6_run.specs.declared.script.ScriptError.TheVariants as script_error
 use Rattle.v6_run.specs.declared.run.BootError.TheVariants as boot_error
+use Rattle.v6_run.specs.declared.outputs.Output.TheVariants as output
 use Rattle.v6_run.specs.declared.run.RunError.TheVariants as run_error
 use Rattle.v6_run.specs.declared.make.MakeError.TheVariants as make_error
 use Rattle.v6_run.specs.declared.error.CommandError.{CommandError}
@@ -137,7 +138,8 @@ module _ (done : List ℕ) where
   error_line (error.Run (run_error.Line script_error.NoMemory)) = refl
   error_line (error.Run (run_error.Boot boot_error.Form)) = refl
   error_line (error.Run (run_error.Boot boot_error.NoMemory)) = refl
-  error_line (error.Run run_error.Term) = refl
+  error_line (error.Run (run_error.Write output.Term)) = refl
+  error_line (error.Run (run_error.Write output.Final)) = refl
   error_line (error.Run (run_error.NotBuilt place)) = refl
   error_line (error.Check e) = image_line e
   error_line (error.Make make_error.NoMemory) = refl
@@ -171,7 +173,7 @@ partial_of_done a b Unknown complete = complete
 partial_of_done a b (Known c) complete = record {
   begun = sym (ap has_written complete.answered);
   written = λ p other. let all = complete.written p other in
-      record { text = all.text; fits = all.fits; front = front_of_all (a.port (Out p)).bytes all.text (b.port (Out p)).bytes all.holds };
+      record { text = all.text; fits = λ _. all.fits; front = front_of_all (a.port (Out p)).bytes all.text (b.port (Out p)).bytes all.holds };
 }
 
 -- what a command has come to, and what it has told

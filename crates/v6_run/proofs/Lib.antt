@@ -5,6 +5,8 @@ pub mod PortLemmas
 pub mod SlotLemmas
 pub mod FileLemmas
 pub mod FrontLemmas
+pub mod FinalLemmas
+pub mod OutputLemmas
 pub mod ShownLemmas
 pub mod ResultLemmas
 pub mod CauseLemmas

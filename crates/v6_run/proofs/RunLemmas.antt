@@ -1,14 +1,13 @@
 -- What `run` answers, exit by exit.
-use Rattle.std.proofs.Common.{◌≡◌, ℕ, true, false, Option, Some, None, is_some, List, [], ◌++◌, take, refl, sym, ◌∙◌, ap, subst}
-use Rattle.std.proofs.lemmas.List.{append-nil}
+use Rattle.std.proofs.Common.{◌≡◌, ℕ, Bool, true, false, Option, Some, None, List, take, refl, sym, ◌∙◌, ap, subst}
 use Rattle.std.specs.Option.{option_map}
-use Rattle.v6_base.specs.Trace.{line_bytes}
 use Rattle.v6_port.specs.declared.host.InPort.TheVariants as in_port
 use Rattle.v6_port.specs.declared.host.OutPort.{OutPort}
 use Rattle.v6_port.specs.declared.host.OutPort.TheVariants as out_port
 use Rattle.v6_port.specs.Outside.{In, Out, same, PortState, Environment, Outside, Tells, OnlyAt}
-use Rattle.v6_port.specs.Calls.{is_given, is_expected}
-use Rattle.v6_port.specs.Causes.{Calm, FaultAt}
+use Rattle.v6_port.specs.Calls.{is_given}
+use Rattle.v6_port.specs.Causes.{Calm}
+use Rattle.fs_codec.specs.Disk.{disk_of}
 use Rattle.fs_codec.specs.Faults.{image_fault}
 use Rattle.unix_core.specs.Unix.{System}
 use Rattle.unix_core.proofs.RunsLemmas.{IsAt, course_is}
@@ -31,15 +30,16 @@ use Rattle.v6_run.specs.Script.{Slots, script_of}
 use Rattle.v6_run.specs.Events.{events_of}
 use Rattle.v6_run.specs.Status.{is_decided, has_written}
 use Rattle.v6_run.specs.Errors.{read_status, image_status, script_status, boot_status}
-use Rattle.v6_run.specs.Fronts.{HoldsFront, HoldsSome, HoldsFrontOfSome}
-use Rattle.v6_run.specs.Ports.{term}
+use Rattle.v6_run.specs.Fronts.{HoldsSome, HoldsFrontOfSome}
+use Rattle.v6_run.specs.declared.outputs.Output.{Output}
+use Rattle.v6_run.specs.declared.outputs.Output.TheVariants as file
+use Rattle.v6_run.specs.Outputs.{port_of, is_output, run_writes, EndsRun, StopsRun}
 use Rattle.v6_run.specs.Causes.{IsCaused}
 use Rattle.v6_run.specs.Steps.{StopsReading, StopsImage, RefusesScript, RefusesImage}
-use Rattle.v6_run.specs.Headline.{Known, IsKnownAnd, ends_with, only_to, course_completion, boot_completion, lines_completion, script_completion, fault_completion, image_completion, command_completion, IsComplete, IsPartial, status_at, is_named, may_end, is_known}
+use Rattle.v6_run.specs.Headline.{Known, IsKnownAnd, ends_with, course_completion, boot_completion, lines_completion, script_completion, fault_completion, image_completion, command_completion, IsComplete, IsPartial, status_at, is_named, may_end, run_knows, is_known}
 use Rattle.v6_run.specs.Answers.{Answers, HasFiles}
 use Rattle.v6_run.proofs.ImageLemmas.{fault_given}
-use Rattle.v6_run.proofs.CauseLemmas.{still_tells, only_then, calm_then, fault_then, fault_known, only_within, names_image, names_script, names_term}
-use Rattle.v6_run.proofs.FrontLemmas.{front_of_nothing}
+use Rattle.v6_run.proofs.CauseLemmas.{still_tells, only_then, calm_then, fault_then, fault_known, only_within, names_image, names_script, names_outputs}
 use Rattle.v6_run.proofs.AnswerLemmas.{not_so, unwritten, complete_unwritten, image_stops}
 
 -- the image could not be read, or has a fault
@@ -99,34 +99,20 @@ begun_at (Some unbuilt.Image) at = absurd at
 begun_at (Some (unbuilt.Line n)) at = absurd at
 begun_at (Some (unbuilt.At pc)) at = refl
 
-only_term : (words : RunWords) (p : OutPort) (P : Type 0) → is_named (Run words) (Out p) ≡ true → (p ≡ out_port.Term → P) → P
-only_term words out_port.Term P named holds = holds refl
-only_term words out_port.Log P named holds = not_so P named
-only_term words out_port.Final P named holds = not_so P named
-only_term words out_port.Report P named holds = not_so P named
+-- the files that `run` writes are those for writing that its words name
+named_output : (words : RunWords) (p : OutPort) → is_named (Run words) (Out p) ≡ true → is_output (Out p) ≡ true
+named_output words out_port.Term named = refl
+named_output words out_port.Log named = not_so _ named
+named_output words out_port.Final named = refl
+named_output words out_port.Report named = not_so _ named
 
--- the ports at which a run shows nothing
-module _ (old middle new : Outside) (none : (p : OutPort) → middle.port (Out p) ≡ old.port (Out p)) (only : OnlyAt (same (Out out_port.Term)) middle new) (bytes : List ℕ) where
-  unshown : (p : OutPort) → same (Out out_port.Term) (Out p) ≡ false → (new.port (Out p)).bytes ≡ (old.port (Out p)).bytes
-  unshown p other = ap (λ (state : PortState). state.bytes) (only.others (Out p) other ∙ none p)
+may_stop : (words : RunWords) (output : Output) → may_end (Run words) (WriteFault (port_of output)) ≡ true
+may_stop words file.Term = refl
+may_stop words file.Final = refl
 
-  none_shown : (p : OutPort) → same (Out out_port.Term) (Out p) ≡ false → (new.port (Out p)).bytes ≡ (old.port (Out p)).bytes ++ []
-  none_shown p other = unshown p other ∙ sym (append-nil (old.port (Out p)).bytes)
-
-  shown_at : (term new).bytes ≡ (term old).bytes ++ bytes → (p : OutPort) → HoldsSome (only_to out_port.Term bytes p) (old.port (Out p)).bytes (new.port (Out p)).bytes
-  shown_at shown out_port.Term = record { text = bytes; fits = refl; holds = shown }
-  shown_at shown out_port.Log = record { text = []; fits = refl; holds = none_shown out_port.Log refl }
-  shown_at shown out_port.Final = record { text = []; fits = refl; holds = none_shown out_port.Final refl }
-  shown_at shown out_port.Report = record { text = []; fits = refl; holds = none_shown out_port.Report refl }
-
-  front_unshown : (p : OutPort) → same (Out out_port.Term) (Out p) ≡ false → HoldsFront (old.port (Out p)).bytes [] (new.port (Out p)).bytes
-  front_unshown p other = subst (HoldsFront (old.port (Out p)).bytes []) (sym (unshown p other)) (front_of_nothing (old.port (Out p)).bytes [])
-
-  front_at : HoldsFront (term old).bytes bytes (term new).bytes → (p : OutPort) → HoldsFrontOfSome (only_to out_port.Term bytes p) (old.port (Out p)).bytes (new.port (Out p)).bytes
-  front_at front out_port.Term = record { text = bytes; fits = refl; front = front }
-  front_at front out_port.Log = record { text = []; fits = refl; front = front_unshown out_port.Log refl }
-  front_at front out_port.Final = record { text = []; fits = refl; front = front_unshown out_port.Final refl }
-  front_at front out_port.Report = record { text = []; fits = refl; front = front_unshown out_port.Report refl }
+not_report : (output : Output) → WriteFault (port_of output) ≡ WriteFault out_port.Report → ⊥
+not_report file.Term is = cc
+not_report file.Final is = cc
 
 module _ (words : RunWords) (image bytes : List ℕ) (old middle : Outside) (files : HasFiles words image bytes old middle) where
   run_is : Tells old → command_completion (Run words) old.fixed ≡ Known (lines_completion image words.core (script_of bytes))
@@ -148,86 +134,85 @@ module _ (words : RunWords) (image bytes : List ℕ) (old middle : Outside) (fil
 
   module _ (counts : List ℕ) (script_is : script_of bytes ≡ Slots counts) where
     boots_as : (system : Option System) → boots image words.core ≡ system
-        → lines_completion image words.core (script_of bytes) ≡ boot_completion (option_map (λ m. course (begun m) (events_of counts)) system)
-    boots_as system is = ap (lines_completion image words.core) script_is ∙ ap (λ o. boot_completion (option_map (λ m. course (begun m) (events_of counts)) o)) is
+        → lines_completion image words.core (script_of bytes) ≡ boot_completion image (option_map (λ m. course (begun m) (events_of counts)) system)
+    boots_as system is = ap (lines_completion image words.core) script_is ∙ ap (λ o. boot_completion image (option_map (λ m. course (begun m) (events_of counts)) o)) is
 
     pub boot_refused : (error : BootError) → RefusesImage (boots image words.core) error → Answers (Run words) (boot_status error) old middle
     boot_refused boot.Form refused = before_run (NotBuilt unbuilt.Image) refl refl (λ is. cc) (λ _. unbuilt_complete unbuilt.Image (boots_as None refused)) files.calm
     boot_refused boot.NoMemory refused = before_run NoMemory refl refl (λ is. cc) (λ decided. not_so _ decided) files.calm
 
-    -- the run, with the terminal
-    module _ (system : System) (boots_is : boots image words.core ≡ Some system) (new : Outside) (only : OnlyAt (same (Out out_port.Term)) middle new) where
+    -- the run, with its files
+    module _ (system : System) (boots_is : boots image words.core ≡ Some system) (new : Outside) (only : OnlyAt is_output middle new) where
       abbrev run : Course
       run = course (begun system) (events_of counts)
 
-      run_completion : Tells old → command_completion (Run words) old.fixed ≡ Known (course_completion run)
+      run_completion : Tells old → command_completion (Run words) old.fixed ≡ Known (course_completion image run)
       run_completion told = run_is told ∙ ap Known (boots_as (Some system) boots_is)
 
       run_is_at : IsAt run.ending
       run_is_at = course_is (begun system) (events_of counts) tt
 
       only_run : OnlyAt (is_named (Run words)) old new
-      only_run = only_then _ _ _ _ files.only (only_within _ _ _ _ (names_term words) only)
+      only_run = only_then _ _ _ _ files.only (only_within _ _ _ _ (names_outputs words) only)
 
-      run_complete : (ended : Option Unbuilt) → ended ≡ run.ending → (Tells middle → (term new).bytes ≡ (term middle).bytes ++ line_bytes 0 run.items) → Tells old
+      run_complete : (ended : Option Unbuilt) → EndsRun (disk_of image) run ended middle new → Tells old
           → IsKnownAnd (command_completion (Run words) old.fixed) (IsComplete (status_at ended) old new)
-      run_complete ended ends shown told = subst (λ m. IsKnownAnd m (IsComplete (status_at ended) old new)) (sym (run_completion told)) (record {
-        answered = ap status_at ends;
-        written = λ p _. shown_at old middle new files.none only (line_bytes 0 run.items)
-            (shown (still_tells _ _ _ files.only told) ∙ ap (λ (state : PortState). state.bytes ++ line_bytes 0 run.items) (files.none out_port.Term)) p;
+      run_complete ended ends told = subst (λ m. IsKnownAnd m (IsComplete (status_at ended) old new)) (sym (run_completion told)) (record {
+        answered = ap status_at ends.ended;
+        written = λ p _. subst (λ (state : PortState). HoldsSome (run_writes (disk_of image) run p) state.bytes (new.port (Out p)).bytes) (files.none p)
+            (ends.written (still_tells _ _ _ files.only told) p);
       })
 
-      pub run_ended : (ended : Option Unbuilt) → ended ≡ run.ending → (Tells middle → (term new).bytes ≡ (term middle).bytes ++ line_bytes 0 run.items)
-          → (term new).is_open ≡ is_some ended → Calm middle new → Answers (Run words) (status_at ended) old new
-      run_ended None ends shown is_open calm = record {
+      pub run_ended : (ended : Option Unbuilt) → EndsRun (disk_of image) run ended middle new → Answers (Run words) (status_at ended) old new
+      run_ended None ends = record {
         only = only_run;
         ends = refl;
         unreported = λ is. cc;
-        complete = λ _. run_complete None ends shown;
+        complete = λ _. run_complete None ends;
         partial = λ p is. absurd (cc);
         order = λ is. absurd (cc);
         none = λ before. not_so _ (sym before);
-        closed = λ _ p named. only_term words p _ named (λ same_port. subst (λ q. (new.port (Out q)).is_open ≡ false) (sym same_port) is_open);
+        closed = λ _ p named. ends.is_open p (named_output words p named);
         unfinished = λ pc is. absurd (cc);
-        cause = calm_then _ _ _ files.calm calm;
+        cause = calm_then _ _ _ files.calm ends.calm;
       }
-      run_ended (Some unbuilt.Image) ends shown is_open calm = absurd (subst IsAt (sym ends) run_is_at)
-      run_ended (Some (unbuilt.Line n)) ends shown is_open calm = absurd (subst IsAt (sym ends) run_is_at)
-      run_ended (Some (unbuilt.At pc)) ends shown is_open calm = record {
+      run_ended (Some unbuilt.Image) ends = absurd (subst IsAt (sym ends.ended) run_is_at)
+      run_ended (Some (unbuilt.Line n)) ends = absurd (subst IsAt (sym ends.ended) run_is_at)
+      run_ended (Some (unbuilt.At pc)) ends = record {
         only = only_run;
         ends = refl;
         unreported = λ is. cc;
-        complete = λ _. run_complete (Some (unbuilt.At pc)) ends shown;
+        complete = λ _. run_complete (Some (unbuilt.At pc)) ends;
         partial = λ p is. absurd (cc);
         order = λ is. absurd (cc);
         none = λ before. not_so _ (sym before);
         closed = λ is. absurd (cc);
-        unfinished = λ _ _. is_open;
-        cause = calm_then _ _ _ files.calm calm;
+        unfinished = λ _ _ p named. ends.is_open p (named_output words p named);
+        cause = calm_then _ _ _ files.calm ends.calm;
       }
 
-      run_partial : (Tells middle → HoldsFront (term middle).bytes (line_bytes 0 run.items) (term new).bytes) → Tells old
+      run_partial : (output : Output) (known : Bool) → StopsRun (disk_of image) run output known middle new → Tells old
           → IsKnownAnd (command_completion (Run words) old.fixed) (IsPartial old new)
-      run_partial front told = subst (λ m. IsKnownAnd m (IsPartial old new)) (sym (run_completion told)) (record {
+      run_partial output known stops told = subst (λ m. IsKnownAnd m (IsPartial old new)) (sym (run_completion told)) (record {
         begun = begun_at run.ending run_is_at;
-        written = λ p _. front_at old middle new files.none only (line_bytes 0 run.items)
-            (subst (λ (state : PortState). HoldsFront state.bytes (line_bytes 0 run.items) (term new).bytes) (files.none out_port.Term) (front (still_tells _ _ _ files.only told))) p;
+        written = λ p _. subst (λ (state : PortState). HoldsFrontOfSome (run_writes (disk_of image) run p) state.bytes (new.port (Out p)).bytes) (files.none p)
+            (stops.written (still_tells _ _ _ files.only told) p);
       })
 
-      pub run_failed : (Tells middle → HoldsFront (term middle).bytes (line_bytes 0 run.items) (term new).bytes)
-          → FaultAt (Out out_port.Term) (is_expected (middle.fixed.expects out_port.Term) words.term) middle new → Answers (Run words) (WriteFault out_port.Term) old new
-      run_failed front fault =
-          let expected : is_expected (old.fixed.expects out_port.Term) words.term ≡ is_expected (middle.fixed.expects out_port.Term) words.term =
-          ap (λ (f : Environment). is_expected (f.expects out_port.Term) words.term) (sym files.only.fixed) in
+      pub run_stopped : (output : Output) → StopsRun (disk_of image) run output (run_knows words middle.fixed (Out (port_of output))) middle new
+          → Answers (Run words) (WriteFault (port_of output)) old new
+      run_stopped output stops =
+          let known : run_knows words old.fixed (Out (port_of output)) ≡ run_knows words middle.fixed (Out (port_of output)) =
+          ap (λ (f : Environment). run_knows words f (Out (port_of output))) (sym files.only.fixed) in
           record {
             only = only_run;
-            ends = refl;
-            unreported = λ is. cc;
+            ends = may_stop words output;
+            unreported = not_report output;
             complete = λ decided. not_so _ decided;
-            partial = λ _ _. run_partial front;
+            partial = λ _ _. run_partial output _ stops;
             order = λ is. absurd (cc);
             none = λ before. not_so _ (sym before);
             closed = λ is. absurd (cc);
             unfinished = λ pc is. absurd (cc);
-            cause = fault_known (Out out_port.Term) _ _ old new expected (fault_then _ _ old middle new files.only.fixed files.calm fault);
+            cause = fault_known (Out (port_of output)) _ _ old new known (fault_then _ _ old middle new files.only.fixed files.calm stops.fault);
           }

@@ -17,7 +17,6 @@ use Rattle.v6_run.specs.declared.error.CommandError.{CommandError}
 use Rattle.v6_run.specs.Words.{RunWords, Command, Run}
 use Rattle.v6_run.specs.Status.{is_decided, has_written}
 use Rattle.v6_run.specs.Errors.{command_status, end_of}
-use Rattle.v6_run.specs.Ports.{term}
 use Rattle.v6_run.specs.Report.{report, answer_line}
 use Rattle.v6_run.specs.Fronts.{HoldsFront}
 use Rattle.v6_run.specs.Causes.{IsCaused}
@@ -33,7 +32,7 @@ pub record Answers (command : Command) (status : Status) (old new : Outside) : T
   pub order : status ≡ ReadFault in_port.Script → Tells old → IsImageGood (Some command) old.fixed
   pub none : has_written status ≡ false → (p : OutPort) → new.port (Out p) ≡ old.port (Out p)
   pub closed : status ≡ Done → (p : OutPort) → is_named command (Out p) ≡ true → (new.port (Out p)).is_open ≡ false
-  pub unfinished : (pc : ℕ) → status ≡ NotBuilt (unbuilt.At pc) → (term new).is_open ≡ true
+  pub unfinished : (pc : ℕ) → status ≡ NotBuilt (unbuilt.At pc) → (p : OutPort) → is_named command (Out p) ≡ true → (new.port (Out p)).is_open ≡ true
   pub cause : IsCaused (is_known (Some command) old.fixed) status old new
 
 -- what any words come to, before the report

@@ -18,6 +18,7 @@ use Rattle.v6_run.specs.declared.run.RunError.{RunError}
 use Rattle.v6_run.specs.declared.run.RunError.TheVariants as run
 use Rattle.v6_run.specs.declared.make.MakeError.{MakeError}
 use Rattle.v6_run.specs.declared.make.MakeError.TheVariants as make
+use Rattle.v6_run.specs.Outputs.{port_of}
 use Rattle.v6_run.specs.declared.error.CommandError.{CommandError}
 use Rattle.v6_run.specs.declared.error.CommandError.TheVariants as command
 
@@ -42,7 +43,7 @@ run_status (run.Image error) = image_status error
 run_status (run.Script error) = read_status in_port.Script error
 run_status (run.Line error) = script_status error
 run_status (run.Boot error) = boot_status error
-run_status run.Term = status.WriteFault out_port.Term
+run_status (run.Write output) = status.WriteFault (port_of output)
 run_status (run.NotBuilt place) = status.NotBuilt place
 
 abbrev pub make_status : MakeError → Status

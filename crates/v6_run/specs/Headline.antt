@@ -1,7 +1,6 @@
 -- What a command answers and writes, from its words and the bytes of its files, in the order of docs/manual/commands.md: the
 -- words, the size of core, the image's first fault, the script's first line that isn't built, the form of the image, and the run.
 use Rattle.std.specs.Prelude.{◌≡◌, ℕ, Bool, true, false, not, Option, Some, None, IsSomeAnd, List, [], take, nat_le, ◌&&◌, ◌||◌, if◌then◌else◌}
-use Rattle.v6_base.specs.Trace.{line_bytes}
 use Rattle.v6_port.specs.declared.host.InPort.TheVariants as in_port
 use Rattle.v6_port.specs.declared.host.OutPort.{OutPort}
 use Rattle.v6_port.specs.declared.host.OutPort.TheVariants as out_port
@@ -25,6 +24,7 @@ use Rattle.v6_run.specs.Script as script
 use Rattle.v6_run.specs.Events.{events_of}
 use Rattle.v6_run.specs.Status.{has_written}
 use Rattle.v6_run.specs.Fronts.{HoldsSome, HoldsFrontOfSome, exactly}
+use Rattle.v6_run.specs.Outputs.{is_output, run_writes}
 use Rattle.v6_run.specs.Report.{store_line}
 
 abbrev pub is_core_size : ℕ → Bool
@@ -66,17 +66,17 @@ abbrev pub status_at : Option Unbuilt → Status
 status_at None = status.Done
 status_at (Some place) = status.NotBuilt place
 
--- the terminal gets what the run shows
-abbrev pub course_completion : Course → Completion
-course_completion c = record { status = status_at c.ending; writes = only_to out_port.Term (line_bytes 0 c.items) }
+-- the terminal gets what the run shows, and FINAL the disk that it leaves
+abbrev pub course_completion : List ℕ → Course → Completion
+course_completion image c = record { status = status_at c.ending; writes = run_writes (disk_of image) c }
 
-abbrev pub boot_completion : Option Course → Completion
-boot_completion None = ends_with (status.NotBuilt unbuilt.Image)
-boot_completion (Some c) = course_completion c
+abbrev pub boot_completion : List ℕ → Option Course → Completion
+boot_completion image None = ends_with (status.NotBuilt unbuilt.Image)
+boot_completion image (Some c) = course_completion image c
 
 abbrev pub lines_completion : List ℕ → ℕ → Script → Completion
 lines_completion image core (script.Unbuilt n) = ends_with (status.NotBuilt (unbuilt.Line n))
-lines_completion image core (Slots counts) = boot_completion (runs image core (events_of counts))
+lines_completion image core (Slots counts) = boot_completion image (runs image core (events_of counts))
 
 -- from the bytes of SCRIPT, of which at most one more is read than a script may have
 abbrev pub script_completion : ℕ → Option (List ℕ) → List ℕ → MaybeCompletion
@@ -130,7 +130,7 @@ IsImageGood _ fixed = ⊥
 
 -- the ports for which a command's words have a name
 abbrev pub is_named : Command → Port → Bool
-is_named (Run words) q = same (In in_port.Image) q || same (In in_port.Script) q || same (Out out_port.Term) q
+is_named (Run words) q = same (In in_port.Image) q || same (In in_port.Script) q || is_output q
 is_named (Check image) q = same (In in_port.Image) q
 is_named (Make number final) q = same (Out out_port.Final) q
 
@@ -168,6 +168,7 @@ abbrev pub run_knows : RunWords → Environment → Port → Bool
 run_knows words fixed (In in_port.Image) = is_given (fixed.given words.image)
 run_knows words fixed (In in_port.Script) = is_given (fixed.given words.script)
 run_knows words fixed (Out out_port.Term) = is_expected (fixed.expects out_port.Term) words.term
+run_knows words fixed (Out out_port.Final) = is_expected (fixed.expects out_port.Final) words.final_disk
 run_knows words fixed _ = true
 
 abbrev pub is_known : Option Command → Environment → Port → Bool

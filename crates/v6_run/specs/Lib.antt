@@ -9,5 +9,7 @@ pub mod Fronts
 pub mod Report
 pub mod Ports
 pub mod Events
+pub mod Final
+pub mod Outputs
 pub mod Headline
 pub mod Answers

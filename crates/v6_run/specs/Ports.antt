@@ -3,11 +3,14 @@ use Rattle.std.specs.Prelude.{◌≡◌, ℕ, true, false, Option, Some, None, i
 use Rattle.std.proofs.Common.{sym, ◌∙◌, ap, subst, append_assoc}
 use Rattle.std.proofs.lemmas.List.{append-nil}
 use Rattle.v6_base.specs.Trace.{Taken}
-use Rattle.v6_port.specs.declared.host.OutPort.TheVariants.{Term}
+use Rattle.v6_port.specs.declared.host.OutPort.TheVariants.{Term, Final}
 use Rattle.v6_port.specs.Outside.{Out, same, PortState, Environment, Outside, Tells, Rose, OnlyAt}
 
 abbrev pub term : Outside → PortState
 term o = o.port (Out Term)
+
+abbrev pub final_of : Outside → PortState
+final_of o = o.port (Out Final)
 
 -- these bytes are those of line 0
 abbrev pub of_line_0 : List ℕ → ℕ → List ℕ

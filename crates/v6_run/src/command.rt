@@ -6,7 +6,6 @@ ghost use Rattle.v6_port.specs.declared.host.OutPort.{OutPort};
 ghost use Rattle.v6_port.specs.declared.host.InPort.TheVariants.{Script};
 ghost use Rattle.unix_core.specs.declared.turned.Unbuilt.{Unbuilt};
 ghost use Rattle.v6_run.specs.Words.{command_in, command_value};
-ghost use Rattle.v6_run.specs.Ports.{term};
 ghost use Rattle.v6_run.specs.Fronts.{HoldsFront};
 ghost use Rattle.v6_run.specs.Report.{report, report_line, tally_line};
 ghost use Rattle.v6_run.specs.Status.{is_decided, has_written};
@@ -98,7 +97,7 @@ fn answer<H: Host>(
 /// The commands are:
 ///
 /// - `run IMAGE CORE SCRIPT TERM LOG FINAL` boots the disk IMAGE with CORE clicks of memory, gives it the slots that SCRIPT asks
-///   for, and writes to TERM what the terminal shows.
+///   for, and writes to TERM what the terminal shows and to FINAL the disk that it leaves.
 /// - `check IMAGE` tells how many nodes and free blocks the disk IMAGE has, or the first of its faults.
 /// - `make N FINAL` writes the disk image of the number N to FINAL.
 ///
@@ -116,8 +115,8 @@ pub fn v6<H: Host>(alloc: Global, words: &Vec<String>, host: &mut H) -> Status
     ensures unopened { IsSome (refused_by (command_in words.now.items))
         → OnlyAt is_report (H.outside host.old) (H.outside host.new) }
 
-    // Done, ImageFault and NotBuilt are exactly what the command's files come to, and each file has got all that is written. At a
-    // write fault each has got a front of it.
+    // Done, ImageFault and NotBuilt are exactly what the command's files come to, and each file has got all of a text that may be
+    // written to it. At a write fault each has got a front of one, or nothing.
     ensures complete { is_decided result ≡ true → Tells (H.outside host.old)
         → IsKnownAnd (words_completion (command_in words.now.items) (H.outside host.old).fixed)
         (IsComplete result (H.outside host.old) (H.outside host.new)) }
@@ -131,7 +130,8 @@ pub fn v6<H: Host>(alloc: Global, words: &Vec<String>, host: &mut H) -> Status
     ensures closed { result ≡ Status.Done
         → (p : OutPort) → is_report (Out p) ≡ false → ((H.outside host.new).port (Out p)).is_open ≡ false }
     ensures unfinished { (pc : ℕ)
-        → result ≡ Status.NotBuilt (Unbuilt.At pc) → (term (H.outside host.new)).is_open ≡ true }
+        → result ≡ Status.NotBuilt (Unbuilt.At pc) → (p : OutPort) → is_touched (command_in words.now.items) (Out p) ≡ true
+        → is_report (Out p) ≡ false → ((H.outside host.new).port (Out p)).is_open ≡ true }
 
     // A fault is answered only where its port's faults rose, and a name is missing only where it isn't known.
     ensures cause { HasCause result (H.outside host.old) (H.outside host.new) }

@@ -70,7 +70,7 @@ fn run_status(error: RunError) -> Status
         RunError::Script(error) => read_status(InPort::Script, error),
         RunError::Line(error) => script_status(error),
         RunError::Boot(error) => boot_status(error),
-        RunError::Term => Status::WriteFault(OutPort::Term),
+        RunError::Write(output) => Status::WriteFault(output.port()),
         RunError::NotBuilt(place) => Status::NotBuilt(place),
     }
 }

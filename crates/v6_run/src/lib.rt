@@ -10,6 +10,7 @@ mod image;
 mod line;
 mod make;
 mod number;
+mod outputs;
 mod ports;
 mod report;
 mod run;

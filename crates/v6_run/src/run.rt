@@ -2,10 +2,13 @@
 ghost use Rattle.std.specs.Prelude.{◌≡◌, ◌<◌, ◌≤◌, ◌^◌, length, is_some, true, false, None, Some, IfOk, OnOk, IfErr, MatchResult, ◌++◌};
 ghost use Rattle.v6_base.specs.Trace.{line_bytes};
 ghost use Rattle.v6_port.specs.Outside.{Out, IsOpen, OnlyAt, Tells, same};
+ghost use Rattle.v6_port.specs.declared.host.OutPort.{OutPort};
 ghost use Rattle.v6_port.specs.declared.host.OutPort.TheVariants.{Term};
 ghost use Rattle.v6_port.specs.Causes.{Calm, FaultAt};
-ghost use Rattle.v6_port.specs.Calls.{is_expected};
 ghost use Rattle.fs_codec.specs.Faults.{image_fault};
+ghost use Rattle.fs_codec.specs.Disk.{head};
+ghost use Rattle.buf_cache.specs.Blocks.{block_at, blocks_of};
+ghost use Rattle.fs_laws.specs.Rest.{SameRest};
 ghost use Rattle.unix_core.specs.Runs.{boots, begun, course};
 ghost use Rattle.v6_run.specs.Words.{Run, run_words_value};
 ghost use Rattle.v6_run.specs.Events.{events_of};
@@ -13,17 +16,21 @@ ghost use Rattle.v6_run.specs.Ports.{term};
 ghost use Rattle.v6_run.specs.Fronts.{HoldsFront};
 ghost use Rattle.v6_run.specs.Steps.{RefusesImage};
 ghost use Rattle.v6_run.specs.Errors.{end_of, run_status};
+ghost use Rattle.v6_run.specs.Outputs.{port_of, is_output, EndsRun, StopsRun};
+ghost use Rattle.v6_run.specs.Headline.{run_knows};
 ghost use Rattle.v6_run.specs.Answers.{Answers, HasFiles};
 
 use crate::files::{ReadError, read_file};
 use crate::image::{ImageError, read_image};
+use crate::outputs::{Output, finish_outputs, open_outputs, write_disk};
 use crate::ports::Ports;
 use crate::script::{MAX_BYTES, ScriptError, read_script};
 use crate::slots::run_counts;
 use crate::words::RunWords;
+use fs_codec::SWAP_START;
 use std::alloc::Global;
 use unix_core::{BootFault, Kernel, Unbuilt};
-use v6_port::{Failed, Host, InPort, OutPort};
+use v6_port::{Failed, Host, InPort};
 
 /// The most bytes of a script that are read: one more than a script may have.
 pub(crate) const SCRIPT_LIMIT: usize = MAX_BYTES + 1;
@@ -48,8 +55,8 @@ pub(crate) enum RunError {
     Line(ScriptError),
     /// The image is not booted.
     Boot(BootError),
-    /// The terminal's file could not be opened, written or finished.
-    Term,
+    /// A file could not be opened, written or finished.
+    Write(Output),
     /// The run comes to what is not built.
     NotBuilt(Unbuilt),
 }
@@ -103,7 +110,8 @@ fn boot(alloc: Global, image: &[u8], core: u32) -> Result<Kernel, BootError>
     requires least { 64 ≤ core }
     requires most { core ≤ 3968 }
     requires good { image_fault image.now ≡ None }
-    ensures system { IfOk result (λ system. boots image.now core ≡ Some system) }
+    ensures system { IfOk result (λ kernel. boots image.now core ≡ Some kernel.system) }
+    ensures blocks { IfOk result (λ kernel. kernel.blocks ≡ blocks_of image.now) }
     ensures refused { IfErr result (RefusesImage (boots image.now core)) }
 {
     match Kernel::boot(alloc, image, core as u16) {
@@ -123,13 +131,15 @@ fn play<H: Host>(
     requires { IsOpen (H.outside host.old) (Out Term) }
     ensures only { OnlyAt (same (Out Term)) (H.outside host.old) (H.outside host.new) }
     ensures is_open { IsOpen (H.outside host.new) (Out Term) }
-    ensures ending { IfOk result (λ ending. ending ≡ (course (begun kernel.old) (events_of counts.now)).ending) }
+    ensures ending { IfOk result (λ ending. ending ≡ (course (begun kernel.old.system) (events_of counts.now)).ending) }
     ensures shown { OnOk result (Tells (H.outside host.old)
         → (term (H.outside host.new)).bytes ≡ (term (H.outside host.old)).bytes
-        ++ line_bytes 0 (course (begun kernel.old) (events_of counts.now)).items) }
+        ++ line_bytes 0 (course (begun kernel.old.system) (events_of counts.now)).items) }
     ensures front { Tells (H.outside host.old)
-        → HoldsFront (term (H.outside host.old)).bytes (line_bytes 0 (course (begun kernel.old) (events_of counts.now)).items)
+        → HoldsFront (term (H.outside host.old)).bytes (line_bytes 0 (course (begun kernel.old.system) (events_of counts.now)).items)
         (term (H.outside host.new)).bytes }
+    ensures system { kernel.new.system ≡ (course (begun kernel.old.system) (events_of counts.now)).system }
+    ensures rest { SameRest kernel.old.blocks kernel.new.blocks }
     ensures cause { MatchResult result (λ _. Calm (H.outside host.old) (H.outside host.new))
         (λ _. FaultAt (Out Term) true (H.outside host.old) (H.outside host.new)) }
 {
@@ -142,35 +152,37 @@ fn play<H: Host>(
     }
 }
 
-/// Runs the kernel with the terminal opened under this name, and gives what isn't built where it comes to that. Else the
-/// terminal is finished.
-fn show_run<H: Host>(
+/// Runs the kernel with its files opened, and gives what isn't built where it comes to that. Else the run is finished, its disk
+/// is written, and then the files are finished.
+fn run_with_outputs<H: Host>(
     kernel: &mut Kernel,
     counts: &[u32],
-    name: &str,
+    words: &RunWords<'_>,
     host: &mut H,
-) -> Result<Option<Unbuilt>, Failed>
-    requires { (term (H.outside host.old)).is_open ≡ false }
-    ensures only { OnlyAt (same (Out Term)) (H.outside host.old) (H.outside host.new) }
-    ensures ending { IfOk result (λ ending. ending ≡ (course (begun kernel.old) (events_of counts.now)).ending) }
-    ensures shown { OnOk result (Tells (H.outside host.old)
-        → (term (H.outside host.new)).bytes ≡ (term (H.outside host.old)).bytes
-        ++ line_bytes 0 (course (begun kernel.old) (events_of counts.now)).items) }
-    ensures front { Tells (H.outside host.old)
-        → HoldsFront (term (H.outside host.old)).bytes (line_bytes 0 (course (begun kernel.old) (events_of counts.now)).items)
-        (term (H.outside host.new)).bytes }
-    ensures is_open { IfOk result (λ ending. (term (H.outside host.new)).is_open ≡ is_some ending) }
-    ensures cause { MatchResult result (λ _. Calm (H.outside host.old) (H.outside host.new))
-        (λ _. FaultAt (Out Term) (is_expected ((H.outside host.old).fixed.expects Term) name.now)
+) -> Result<Option<Unbuilt>, Output>
+    requires closed { (p : OutPort) → is_output (Out p) ≡ true → ((H.outside host.old).port (Out p)).is_open ≡ false }
+    requires root { (head (block_at kernel.old.blocks)).f_size ≤ SWAP_START }
+    ensures only { OnlyAt is_output (H.outside host.old) (H.outside host.new) }
+    ensures outcome { MatchResult result
+        (λ ending. EndsRun (block_at kernel.old.blocks) (course (begun kernel.old.system) (events_of counts.now)) ending
+        (H.outside host.old) (H.outside host.new))
+        (λ output. StopsRun (block_at kernel.old.blocks) (course (begun kernel.old.system) (events_of counts.now)) output
+        (run_knows (run_words_value words.now) (H.outside host.old).fixed (Out (port_of output)))
         (H.outside host.old) (H.outside host.new)) }
 {
-    host.open_write(OutPort::Term, name)?;
-    let ending = play(kernel, counts, host)?;
+    open_outputs(words, host)?;
+    let Ok(ending) = play(kernel, counts, host) else {
+        return Err(Output::Term);
+    };
     if ending.is_some() {
         return Ok(ending);
     }
-    host.finish(OutPort::Term)?;
-    Ok(ending)
+    kernel.finish();
+    if write_disk(kernel, host).is_err() {
+        return Err(Output::Final);
+    }
+    finish_outputs(host)?;
+    Ok(None)
 }
 
 /// The files that are read before a run.
@@ -200,15 +212,15 @@ pub(crate) fn run<H: Host>(
 ) -> Result<(), RunError>
     requires least { 64 ≤ words.now.core }
     requires most { words.now.core ≤ 3968 }
-    requires closed { (term (H.outside host.old)).is_open ≡ false }
+    requires closed { (p : OutPort) → is_output (Out p) ≡ true → ((H.outside host.old).port (Out p)).is_open ≡ false }
     ensures { Answers (Run (run_words_value words.now)) (end_of run_status result) (H.outside host.old) (H.outside host.new) }
 {
     let files = read_files(alloc, words, host)?;
     let counts = read_script(alloc, &files.script)?;
     let mut kernel = boot(alloc, &files.image, words.core)?;
-    match show_run(&mut kernel, &counts, words.term, host) {
+    match run_with_outputs(&mut kernel, &counts, words, host) {
         Ok(None) => Ok(()),
         Ok(Some(place)) => Err(RunError::NotBuilt(place)),
-        Err(Failed) => Err(RunError::Term),
+        Err(output) => Err(RunError::Write(output)),
     }
 }

@@ -12,6 +12,7 @@ pub(crate) struct RunWords<'a> {
     pub(crate) core: u32,
     pub(crate) script: &'a str,
     pub(crate) term: &'a str,
+    pub(crate) final_disk: &'a str,
 }
 
 /// A command with its names and numbers.
@@ -31,9 +32,10 @@ fn run_words<'a>(
     image: &'a str,
     script: &'a str,
     term: &'a str,
+    final_disk: &'a str,
 ) -> Option<Command<'a>>
     ensures { option_map command_value result
-        ≡ run_words (is_word verb.now (codes "run")) (number_of core.now) image.now script.now term.now }
+        ≡ run_words (is_word verb.now (codes "run")) (number_of core.now) image.now script.now term.now final_disk.now }
 {
     if verb != "run" {
         return None;
@@ -44,6 +46,7 @@ fn run_words<'a>(
         core,
         script,
         term,
+        final_disk,
     }))
 }
 
@@ -71,12 +74,13 @@ pub(crate) fn command_of(words: &[String]) -> Option<Command<'_>>
     ensures { option_map command_value result ≡ command_in words.now }
 {
     match words {
-        [verb, image, core, script, term, _, _] => run_words(
+        [verb, image, core, script, term, _, final_disk] => run_words(
             verb.as_str(),
             core.as_str(),
             image.as_str(),
             script.as_str(),
             term.as_str(),
+            final_disk.as_str(),
         ),
         [verb, image] => check_words(verb.as_str(), image.as_str()),
         [verb, number, name] => make_words(verb.as_str(), number.as_str(), name.as_str()),

@@ -1,14 +1,21 @@
-use Rattle.std.proofs.Common.{◌≡◌, ◌∙◌, sym, ap, subst, is_some, None, Some}
-use Rattle.v6_port.specs.declared.host.OutPort.TheVariants as out_port
+use Rattle.std.proofs.Common.{◌≡◌, ◌≤◌, ◌∙◌, sym, ap, subst, Option, None, Some}
 use Rattle.v6_port.specs.Outside.{PortState}
-use Rattle.unix_core.specs.Runs.{boots}
+use Rattle.fs_codec.specs.Disk.{disk_of, head}
+use Rattle.fs_codec.specs.declared.layout.TheConstants.{SWAP_START}
+use Rattle.buf_cache.specs.Blocks.{block_at, blocks_of}
+use Rattle.unix_core.specs.declared.turned.Unbuilt.{Unbuilt}
+use Rattle.unix_core.specs.Runs.{boots, begun, course}
+use Rattle.v6_run.specs.Events.{events_of}
+use Rattle.v6_run.specs.Outputs.{EndsRun}
 use Rattle.v6_run.specs.Words.{Run, run_words_value}
 use Rattle.v6_run.specs.Script.{Slots, script_of}
 use Rattle.v6_run.specs.Steps.{RefusesScript, RefusesImage}
 use Rattle.v6_run.specs.Errors.{run_status}
 use Rattle.v6_run.specs.Answers.{Answers}
 use Rattle.v6_run.proofs.ResultLemmas.{value_where_ok, error_where_err, end_passed}
-use Rattle.v6_run.proofs.RunLemmas.{script_refused, boot_refused, run_ended, run_failed}
+use Rattle.v6_run.proofs.RunLemmas.{script_refused, boot_refused, run_ended, run_stopped}
+use Rattle.v6_run.proofs.FinalLemmas.{image_below}
+use Rattle.v6_run.proofs.OutputLemmas.{same_blocks, ends_over, stops_over}
 use Rattle.v6_run.proofs.run.run.Goals as goal
 
 pub returns-in_err-files : goal.returns-in_err-files
@@ -38,57 +45,74 @@ returns-in_err-kernel g c =
     let refused = subst (λ image. RefusesImage (boots image words.core) c.in_err-kernel.field-0.0) c.deref-2.ensures.value (error_where_err _ _ _ c.in_err-kernel.was c.boot.ensures.refused) in
     end_passed run_status _ _ (λ s. Answers (Run words) s old new) c.from_residual-in_err-kernel.ensures.1 (boot_refused words _ _ old new files _ script_is _ refused)
 
-pub show_run-requires : goal.show_run-requires
-show_run-requires g c =
+pub run_with_outputs-requires-clause-closed : goal.run_with_outputs-requires-clause-closed
+run_with_outputs-requires-clause-closed g c p out =
     let files = value_where_ok _ _ _ c.in_ok-files.was c.read_files.ensures.files in
-    ap (λ (state : PortState). state.is_open) (files.none out_port.Term) ∙ c.requires.closed
+    ap (λ (state : PortState). state.is_open) (files.none p) ∙ c.requires.closed p out
+
+pub run_with_outputs-requires-clause-root : goal.run_with_outputs-requires-clause-root
+run_with_outputs-requires-clause-root g c =
+    let files = value_where_ok _ _ _ c.in_ok-files.was c.read_files.ensures.files in
+    let blocks_is = subst (λ l. c.in_ok-kernel.kernel.blocks ≡ blocks_of l) c.deref-2.ensures.value (value_where_ok _ _ _ c.in_ok-kernel.was c.boot.ensures.blocks) in
+    subst (λ l. (head (block_at l)).f_size ≤ SWAP_START) (sym blocks_is) (image_below c.in_ok-files.files.image.items files.good)
 
 pub returns-in-Ok-None : goal.returns-in-Ok-None
 returns-in-Ok-None g c =
     let words = run_words_value c.args.words.now in
     let old = g.H.Host.outside c.args.host.now in
     let middle = g.H.Host.outside c.read_files.new.host in
-    let new = g.H.Host.outside c.show_run.new.host in
+    let new = g.H.Host.outside c.run_with_outputs.new.host in
     let files = value_where_ok _ _ _ c.in_ok-files.was c.read_files.ensures.files in
+    let image = c.in_ok-files.files.image.items in
     let bytes = c.in_ok-files.files.script.items in
     let counts = c.in_ok-counts.counts.items in
+    let kernel = c.in_ok-kernel.kernel in
     let read = subst (λ l. script_of l ≡ Slots counts) c.deref.ensures.value (value_where_ok _ _ _ c.in_ok-counts.was c.read_script.ensures.counts) in
     let script_is = subst (λ l. script_of bytes ≡ Slots l) (sym c.deref-3.ensures.value) read in
-    let boots_is = subst (λ image. boots image words.core ≡ Some c.in_ok-kernel.kernel) c.deref-2.ensures.value (value_where_ok _ _ _ c.in_ok-kernel.was c.boot.ensures.system) in
-    let shown = c.in-Ok-None.ensures in
+    let boots_is = subst (λ l. boots l words.core ≡ Some kernel.system) c.deref-2.ensures.value (value_where_ok _ _ _ c.in_ok-kernel.was c.boot.ensures.system) in
+    let blocks_is = subst (λ l. kernel.blocks ≡ blocks_of l) c.deref-2.ensures.value (value_where_ok _ _ _ c.in_ok-kernel.was c.boot.ensures.blocks) in
+    let only = c.run_with_outputs.ensures.only in
     let field = c.in-Ok-None.field-0-is in
     let none : c.in-Ok-None.field-0 ≡ None = cc in
-    run_ended words _ _ old middle files _ script_is c.in_ok-kernel.kernel boots_is new shown.only None (sym none ∙ shown.ending) shown.shown (shown.is_open ∙ ap is_some none) shown.cause
+    let ends = subst (λ (e : Option Unbuilt). EndsRun (block_at kernel.blocks) (course (begun kernel.system) (events_of c.deref-3.result.now)) e middle new) none c.in-Ok-None.ensures.outcome in
+    run_ended words image bytes old middle files _ script_is kernel.system boots_is new only None (ends_over (disk_of image) (block_at kernel.blocks) (same_blocks image kernel.blocks blocks_is) _ _ _ _ ends)
 
 pub returns-in-Ok-Some : goal.returns-in-Ok-Some
 returns-in-Ok-Some g c =
     let words = run_words_value c.args.words.now in
     let old = g.H.Host.outside c.args.host.now in
     let middle = g.H.Host.outside c.read_files.new.host in
-    let new = g.H.Host.outside c.show_run.new.host in
+    let new = g.H.Host.outside c.run_with_outputs.new.host in
     let files = value_where_ok _ _ _ c.in_ok-files.was c.read_files.ensures.files in
+    let image = c.in_ok-files.files.image.items in
     let bytes = c.in_ok-files.files.script.items in
     let counts = c.in_ok-counts.counts.items in
+    let kernel = c.in_ok-kernel.kernel in
     let read = subst (λ l. script_of l ≡ Slots counts) c.deref.ensures.value (value_where_ok _ _ _ c.in_ok-counts.was c.read_script.ensures.counts) in
     let script_is = subst (λ l. script_of bytes ≡ Slots l) (sym c.deref-3.ensures.value) read in
-    let boots_is = subst (λ image. boots image words.core ≡ Some c.in_ok-kernel.kernel) c.deref-2.ensures.value (value_where_ok _ _ _ c.in_ok-kernel.was c.boot.ensures.system) in
-    let shown = c.in-Ok-Some.ensures in
+    let boots_is = subst (λ l. boots l words.core ≡ Some kernel.system) c.deref-2.ensures.value (value_where_ok _ _ _ c.in_ok-kernel.was c.boot.ensures.system) in
+    let blocks_is = subst (λ l. kernel.blocks ≡ blocks_of l) c.deref-2.ensures.value (value_where_ok _ _ _ c.in_ok-kernel.was c.boot.ensures.blocks) in
+    let only = c.run_with_outputs.ensures.only in
     let field = c.in-Ok-Some.field-0-is in
     let same = c.in-Ok-Some.place-is in
     let some : c.in-Ok-Some.field-0 ≡ Some c.in-Ok-Some.place = cc in
-    run_ended words _ _ old middle files _ script_is c.in_ok-kernel.kernel boots_is new shown.only (Some c.in-Ok-Some.place) (sym some ∙ shown.ending) shown.shown (shown.is_open ∙ ap is_some some) shown.cause
+    let ends = subst (λ (e : Option Unbuilt). EndsRun (block_at kernel.blocks) (course (begun kernel.system) (events_of c.deref-3.result.now)) e middle new) some c.in-Ok-Some.ensures.outcome in
+    run_ended words image bytes old middle files _ script_is kernel.system boots_is new only (Some c.in-Ok-Some.place) (ends_over (disk_of image) (block_at kernel.blocks) (same_blocks image kernel.blocks blocks_is) _ _ _ _ ends)
 
 pub returns : goal.returns
 returns g c =
     let words = run_words_value c.args.words.now in
     let old = g.H.Host.outside c.args.host.now in
     let middle = g.H.Host.outside c.read_files.new.host in
-    let new = g.H.Host.outside c.show_run.new.host in
+    let new = g.H.Host.outside c.run_with_outputs.new.host in
     let files = value_where_ok _ _ _ c.in_ok-files.was c.read_files.ensures.files in
+    let image = c.in_ok-files.files.image.items in
     let bytes = c.in_ok-files.files.script.items in
     let counts = c.in_ok-counts.counts.items in
+    let kernel = c.in_ok-kernel.kernel in
     let read = subst (λ l. script_of l ≡ Slots counts) c.deref.ensures.value (value_where_ok _ _ _ c.in_ok-counts.was c.read_script.ensures.counts) in
     let script_is = subst (λ l. script_of bytes ≡ Slots l) (sym c.deref-3.ensures.value) read in
-    let boots_is = subst (λ image. boots image words.core ≡ Some c.in_ok-kernel.kernel) c.deref-2.ensures.value (value_where_ok _ _ _ c.in_ok-kernel.was c.boot.ensures.system) in
-    let shown = c.in-Err.ensures in
-    run_failed words _ _ old middle files _ script_is c.in_ok-kernel.kernel boots_is new shown.only shown.front shown.cause
+    let boots_is = subst (λ l. boots l words.core ≡ Some kernel.system) c.deref-2.ensures.value (value_where_ok _ _ _ c.in_ok-kernel.was c.boot.ensures.system) in
+    let blocks_is = subst (λ l. kernel.blocks ≡ blocks_of l) c.deref-2.ensures.value (value_where_ok _ _ _ c.in_ok-kernel.was c.boot.ensures.blocks) in
+    let only = c.run_with_outputs.ensures.only in
+    run_stopped words image bytes old middle files _ script_is kernel.system boots_is new only _ (stops_over (disk_of image) (block_at kernel.blocks) (same_blocks image kernel.blocks blocks_is) _ _ _ _ _ c.in-Err.ensures.outcome)

@@ -1,0 +1,154 @@
+-- The text of a disk reads as its blocks, and is written block by block.
+use Rattle.std.proofs.Common.{◌≡◌, ◌+◌, ◌-◌, ◌*◌, ◌<◌, ◌≤◌, ℕ, zero, suc, None, List, ◌++◌, length, length-append, slice_index, refl, sym, ap, ◌∙◌, subst, append_assoc, arith}
+use Rattle.std.proofs.lemmas.List.{append-nil, get_or_append_left, get_or-append_right}
+use Rattle.std.specs.List.{flat_map, range_with_len}
+use Rattle.fs_codec.specs.Disk.{Disk, disk_of, head}
+use Rattle.fs_codec.specs.Fields.{super_of}
+use Rattle.fs_codec.specs.Faults.{image_fault}
+use Rattle.fs_codec.specs.Store.{Store}
+use Rattle.fs_codec.specs.Stands.{StandsFor}
+use Rattle.fs_codec.specs.declared.layout.TheConstants.{DISK_BLOCKS, SWAP_START}
+use Rattle.fs_codec.proofs.ImageLemmas.{bytes_by_places}
+use Rattle.fs_check.proofs.TallyLemmas.{no_fault}
+use Rattle.buf_cache.specs.Blocks.{block_at, blocks_of, IsDisk}
+use Rattle.fs_laws.specs.Whole.{IsWhole}
+use Rattle.fs_laws.specs.Rest.{SameRest}
+use Rattle.fs_laws.proofs.WholeLemmas.{whole_is, whole_within, within_whole}
+use Rattle.fs_laws.proofs.FreeLemmas.{good_head}
+use Rattle.fs_laws.proofs.AgreeLemmas.{SameFiles, files_whole, files_store}
+use Rattle.fs_laws.proofs.ImageLemmas.{block_of_image}
+use Rattle.v6_run.specs.Fronts.{HoldsFront}
+use Rattle.v6_run.specs.Final.{IsFinal, disk_text}
+
+flat_long : (f : ℕ → List ℕ) (a n : ℕ) → ((j : ℕ) → j < a + n → length (f j) ≡ 512) → length (flat_map f (range_with_len a n)) ≡ 512 * n
+flat_long f a zero each = refl
+flat_long f a (suc n) each =
+    length-append (f a) (flat_map f (range_with_len (a + 1) n)) ∙ (let h = each a (omega arith) in let r = flat_long f (a + 1) n (λ j low. each j (omega (arith, low))) in omega (arith, h, r))
+
+flat_byte : (f : ℕ → List ℕ) (a n i k : ℕ) → ((j : ℕ) → j < a + n → length (f j) ≡ 512) → i < n → k < 512 → slice_index (flat_map f (range_with_len a n)) (512 * i + k) ≡ slice_index (f (a + i)) k
+flat_byte f a zero i k each h small = absurd (omega (arith, h))
+flat_byte f a (suc n) zero k each h small =
+    let here : 512 * zero + k ≡ k = omega arith in
+    let first : a + 0 ≡ a = omega arith in
+    ap (slice_index (f a ++ flat_map f (range_with_len (a + 1) n))) here
+    ∙ get_or_append_left (f a) (flat_map f (range_with_len (a + 1) n)) 0 k (let l = each a (omega arith) in omega (arith, l, small)) ∙ ap (λ j. slice_index (f j) k) (sym first)
+flat_byte f a (suc n) (suc i) k each h small =
+    let there : 512 * suc i + k - 512 ≡ 512 * i + k = omega arith in
+    let next : a + 1 + i ≡ a + suc i = omega arith in
+    get_or-append_right (f a) (flat_map f (range_with_len (a + 1) n)) 512 (512 * suc i + k) 0 (each a (omega arith)) (omega arith)
+    ∙ ap (slice_index (flat_map f (range_with_len (a + 1) n))) there ∙ flat_byte f (a + 1) n i k (λ j low. each j (omega (arith, low))) (omega (arith, h)) small ∙ ap (λ j. slice_index (f j) k) next
+
+flat_split : (f : ℕ → List ℕ) (a n m : ℕ) → flat_map f (range_with_len a (n + m)) ≡ flat_map f (range_with_len a n) ++ flat_map f (range_with_len (a + n) m)
+flat_split f a zero m =
+    let none : zero + m ≡ m = omega arith in
+    let first : a ≡ a + zero = omega arith in
+    ap (λ k. flat_map f (range_with_len a k)) none ∙ ap (λ b. flat_map f (range_with_len b m)) first
+flat_split f a (suc n) m =
+    let next : suc n + m ≡ suc (n + m) = omega arith in
+    let from : a + 1 + n ≡ a + suc n = omega arith in
+    ap (λ k. flat_map f (range_with_len a k)) next ∙ ap (λ l. f a ++ l) (flat_split f (a + 1) n m)
+    ∙ sym (append_assoc (f a) (flat_map f (range_with_len (a + 1) n)) (flat_map f (range_with_len (a + 1 + n) m)))
+    ∙ ap (λ b. (f a ++ flat_map f (range_with_len (a + 1) n)) ++ flat_map f (range_with_len b m)) from
+
+-- Each block of a disk's text is the block.
+module _ (blocks : List (List ℕ)) (form : IsDisk blocks) where
+  each_whole : (j : ℕ) → j < 0 + DISK_BLOCKS → length (block_at blocks j) ≡ 512
+  each_whole j low = form.whole j (omega (arith, low))
+
+  pub text_long : length (disk_text blocks) ≡ 512 * DISK_BLOCKS
+  unfolding disk_text
+  text_long = flat_long (block_at blocks) 0 DISK_BLOCKS each_whole
+
+  text_byte : (n k : ℕ) → n < DISK_BLOCKS → k < 512 → slice_index (disk_text blocks) (512 * n + k) ≡ slice_index (block_at blocks n) k
+  unfolding disk_text
+  text_byte n k low small = let first : 0 + n ≡ n = omega arith in
+      flat_byte (block_at blocks) 0 DISK_BLOCKS n k each_whole low small ∙ ap (λ j. slice_index (block_at blocks j) k) first
+
+  pub text_block : (n : ℕ) → n < DISK_BLOCKS → disk_of (disk_text blocks) n ≡ block_at blocks n
+  unfolding disk_of
+  text_block n low = sym (bytes_by_places (disk_text blocks) (block_at blocks n) (512 * n) 512 (form.whole n low) (λ k small. sym (text_byte n k low small)))
+
+-- The text of the blocks that stand for a store is a final disk of it.
+pub final_is : (old new : List (List ℕ)) (store : Store) → (head (block_at old)).f_size ≤ SWAP_START → SameRest old new → IsDisk new → StandsFor DISK_BLOCKS (block_at new) store
+    → IsFinal (block_at old) store (disk_text new)
+final_is old new store low rest form stands =
+    let whole : IsWhole (block_at new) = whole_is (block_at new) stands.sound in
+    let end = (good_head (head (block_at new)) whole.sound.super).end in
+    let text = text_block new form in
+    let files : SameFiles (block_at new) (disk_of (disk_text new)) = record { blocks = λ k inside. text k (omega (arith, inside, end)) } in
+    let size : (head (disk_of (disk_text new))).f_size ≡ (head (block_at old)).f_size = ap (λ l. (super_of l).f_size) (text 1 (omega arith)) ∙ rest.f_size in
+    record {
+      long = text_long new form;
+      stands = record {
+        sound = whole_within SWAP_START (disk_of (disk_text new)) (files_whole (block_at new) (disk_of (disk_text new)) whole files) (omega (arith, size, low));
+        same = stands.same ∙ sym (files_store (block_at new) (disk_of (disk_text new)) whole files);
+      };
+      boot = text 0 (omega arith) ∙ rest.boot;
+      size = size;
+      behind = λ n past inside. text n inside ∙ rest.behind n past;
+    }
+
+-- it is one over another disk with the same blocks
+pub final_same : (d e : Disk) (store : Store) (text : List ℕ) → ((n : ℕ) → n < DISK_BLOCKS → e n ≡ d n) → IsFinal e store text → IsFinal d store text
+final_same d e store text same final =
+    let first : (head e).f_size ≡ (head d).f_size = ap (λ l. (super_of l).f_size) (same 1 (omega arith)) in
+    record {
+      long = final.long;
+      stands = final.stands;
+      boot = final.boot ∙ same 0 (omega arith);
+      size = final.size ∙ first;
+      behind = λ n past inside. final.behind n (omega (arith, past, first)) inside ∙ same n inside;
+    }
+
+-- The disk of an image without a fault keeps clear of the swap area.
+pub image_below : (image : List ℕ) → image_fault image ≡ None → (head (block_at (blocks_of image))).f_size ≤ SWAP_START
+image_below image good =
+    let end = (within_whole SWAP_START (disk_of image) (omega arith) (no_fault image good)).1 in
+    let same : (head (block_at (blocks_of image))).f_size ≡ (head (disk_of image)).f_size = ap (λ l. (super_of l).f_size) (block_of_image image 1 (omega arith)) in
+    omega (arith, end, same)
+
+-- the first n blocks of a disk
+unfoldable pub so_far : List (List ℕ) → ℕ → List ℕ
+so_far blocks n = flat_map (block_at blocks) (range_with_len 0 n)
+
+pub so_far_more : (blocks : List (List ℕ)) (n : ℕ) → so_far blocks (n + 1) ≡ so_far blocks n ++ block_at blocks n
+unfolding so_far
+so_far_more blocks n =
+    let first : 0 + n ≡ n = omega arith in
+    flat_split (block_at blocks) 0 n 1 ∙ ap (λ l. flat_map (block_at blocks) (range_with_len 0 n) ++ l) (append-nil (block_at blocks (0 + n)) ∙ ap (block_at blocks) first)
+
+pub so_far_all : (blocks : List (List ℕ)) (n : ℕ) → DISK_BLOCKS ≤ n → n ≤ DISK_BLOCKS → so_far blocks n ≡ disk_text blocks
+unfolding so_far disk_text
+so_far_all blocks n low high = let all : n ≡ DISK_BLOCKS = omega (arith, low, high) in ap (λ m. flat_map (block_at blocks) (range_with_len 0 m)) all
+
+-- the blocks from one on
+behind : List (List ℕ) → ℕ → List ℕ
+behind blocks n = flat_map (block_at blocks) (range_with_len (0 + n) (DISK_BLOCKS - n))
+
+text_split : (blocks : List (List ℕ)) (n : ℕ) → n ≤ DISK_BLOCKS → disk_text blocks ≡ so_far blocks n ++ behind blocks n
+unfolding so_far disk_text behind
+text_split blocks n low =
+    let all : DISK_BLOCKS ≡ n + (DISK_BLOCKS - n) = omega (arith, low) in
+    ap (λ m. flat_map (block_at blocks) (range_with_len 0 m)) all ∙ flat_split (block_at blocks) 0 n (DISK_BLOCKS - n)
+
+-- a front of one block more is a front of all
+front_of_block : (blocks : List (List ℕ)) (old now new : List ℕ) (n : ℕ) → n < DISK_BLOCKS → now ≡ old ++ so_far blocks n → HoldsFront now (block_at blocks n) new → HoldsFront old (disk_text blocks) new
+front_of_block blocks old now new n low was front = record {
+  part = so_far blocks n ++ front.part;
+  rest = front.rest ++ behind blocks (n + 1);
+  split =
+      text_split blocks (n + 1) (omega (arith, low)) ∙ ap (λ l. l ++ behind blocks (n + 1)) (so_far_more blocks n ∙ ap (λ l. so_far blocks n ++ l) front.split ∙ sym (append_assoc (so_far blocks n) front.part front.rest))
+      ∙ append_assoc (so_far blocks n ++ front.part) front.rest (behind blocks (n + 1));
+  holds = front.holds ∙ ap (λ l. l ++ front.part) was ∙ append_assoc old (so_far blocks n) front.part;
+}
+
+pub front_more : (blocks : List (List ℕ)) (old now new piece : List ℕ) (n : ℕ) → n < DISK_BLOCKS → now ≡ old ++ so_far blocks n → piece ≡ block_at blocks n → HoldsFront now piece new → HoldsFront old (disk_text blocks) new
+front_more blocks old now new piece n low was is front = front_of_block blocks old now new n low was (subst (λ l. HoldsFront now l new) is front)
+
+pub bytes_more : (blocks : List (List ℕ)) (old now new piece : List ℕ) (n : ℕ) → now ≡ old ++ so_far blocks n → piece ≡ block_at blocks n → new ≡ now ++ piece → new ≡ old ++ so_far blocks (n + 1)
+bytes_more blocks old now new piece n was is more =
+    more ∙ ap (λ l. l ++ piece) was ∙ ap (λ l. (old ++ so_far blocks n) ++ l) is ∙ append_assoc old (so_far blocks n) (block_at blocks n) ∙ ap (λ l. old ++ l) (sym (so_far_more blocks n))
+
+pub no_blocks : (blocks : List (List ℕ)) (old : List ℕ) → old ≡ old ++ so_far blocks 0
+unfolding so_far
+no_blocks blocks old = sym (append-nil old)

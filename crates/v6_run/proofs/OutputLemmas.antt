@@ -1,0 +1,205 @@
+-- What has been written to the files of a run, step by step.
+use Rattle.std.proofs.Common.{◌≡◌, ◌<◌, ◌≤◌, ℕ, Bool, true, false, Option, Some, None, is_some, Result, Ok, Err, is_err, OnOk, MatchResult, List, [], ◌++◌, refl, sym, ◌∙◌, ap, subst}
+use Rattle.std.proofs.lemmas.List.{append-nil}
+use Rattle.v6_base.specs.Trace.{line_bytes}
+use Rattle.v6_port.specs.declared.host.OutPort.{OutPort}
+use Rattle.v6_port.specs.declared.host.OutPort.TheVariants as out_port
+use Rattle.v6_port.specs.Outside.{Port, Out, same, PortState, Outside, Tells, OnlyAt}
+use Rattle.v6_port.specs.Causes.{Calm, FaultAt}
+use Rattle.fs_codec.specs.Disk.{Disk, disk_of, head}
+use Rattle.fs_codec.specs.Stands.{StandsFor}
+use Rattle.fs_codec.specs.declared.layout.TheConstants.{DISK_BLOCKS, SWAP_START}
+use Rattle.buf_cache.specs.Blocks.{block_at, blocks_of, IsDisk}
+use Rattle.fs_laws.specs.Rest.{SameRest}
+use Rattle.fs_laws.proofs.RestLemmas.{rest_then}
+use Rattle.unix_core.specs.declared.turned.Unbuilt.{Unbuilt}
+use Rattle.unix_core.specs.Unix.{System, SystemOnDisk}
+use Rattle.unix_core.specs.Runs.{Course, finished}
+use Rattle.fs_laws.proofs.ImageLemmas.{block_of_image}
+use Rattle.v6_run.specs.declared.outputs.Output.{Output}
+use Rattle.v6_run.specs.declared.outputs.Output.TheVariants.{Term, Final}
+use Rattle.v6_run.specs.Ports.{term, final_of}
+use Rattle.v6_run.specs.Fronts.{HoldsFront, HoldsSome, HoldsFrontOfSome}
+use Rattle.v6_run.specs.Final.{IsFinal, disk_text}
+use Rattle.v6_run.specs.Outputs.{port_of, is_output, final_writes, run_writes, EndsRun, StopsRun}
+use Rattle.v6_run.proofs.CauseLemmas.{still_tells, calm_then, fault_then}
+use Rattle.v6_run.proofs.FrontLemmas.{front_of_nothing, front_of_all}
+use Rattle.v6_run.proofs.FinalLemmas.{final_is, final_same}
+
+nothing_of : (writes : List ℕ → Type 0) (old new : List ℕ) → new ≡ old → HoldsFrontOfSome writes old new
+nothing_of writes old new is = record { text = []; fits = λ other. absurd (other is); front = subst (HoldsFront old []) (sym is) (front_of_nothing old []) }
+
+all_of : (writes : List ℕ → Type 0) (old new : List ℕ) → HoldsSome writes old new → HoldsFrontOfSome writes old new
+all_of writes old new all = record { text = all.text; fits = λ _. all.fits; front = front_of_all old all.text new all.holds }
+
+empty_of : (writes : List ℕ → Type 0) (old new : List ℕ) → writes [] → new ≡ old → HoldsSome writes old new
+empty_of writes old new fits is = record { text = []; fits = fits; holds = is ∙ sym (append-nil old) }
+
+-- where no name was sought, none is missing
+fault_any : (p : Port) (known : Bool) (a b : Outside) → FaultAt p true a b → FaultAt p known a b
+fault_any p known a b fault = record { rose = fault.rose; others = fault.others; missing = λ told _. fault.missing told refl }
+
+pub stopped_opening : (first : Disk) (run : Course) (output : Output) (known : Bool) (a b : Outside) → ((p : OutPort) → (b.port (Out p)).bytes ≡ (a.port (Out p)).bytes)
+    → FaultAt (Out (port_of output)) known a b → StopsRun first run output known a b
+stopped_opening first run output known a b same_bytes fault = record { written = λ told p. nothing_of _ _ _ (same_bytes p); fault = fault }
+
+module _ (first : Disk) (run : Course) (a b c : Outside) (opens : OnlyAt is_output a b) (opened : (p : OutPort) → (b.port (Out p)).bytes ≡ (a.port (Out p)).bytes) (plays : OnlyAt (same (Out out_port.Term)) b c) where
+  tells_b : Tells a → Tells b
+  tells_b told = still_tells _ _ _ opens told
+
+  tells_c : Tells a → Tells c
+  tells_c told = still_tells _ _ _ plays (tells_b told)
+
+  unplayed : (p : OutPort) → same (Out out_port.Term) (Out p) ≡ false → (c.port (Out p)).bytes ≡ (a.port (Out p)).bytes
+  unplayed p other = ap (λ (state : PortState). state.bytes) (plays.others (Out p) other) ∙ opened p
+
+  calm_c : Calm a b → Calm b c → Calm a c
+  calm_c first_calm second = calm_then _ _ _ first_calm second
+
+  pub stopped_playing : (known : Bool) → (Tells b → HoldsFront (term b).bytes (line_bytes 0 run.items) (term c).bytes) → Calm a b → FaultAt (Out out_port.Term) true b c → StopsRun first run Term known a c
+  stopped_playing known front calm fault = record {
+    written = at;
+    fault = fault_any _ known _ _ (fault_then _ _ a b c opens.fixed calm fault);
+  } where
+    at : Tells a → (p : OutPort) → HoldsFrontOfSome (run_writes first run p) (a.port (Out p)).bytes (c.port (Out p)).bytes
+    at told out_port.Term = record { text = line_bytes 0 run.items; fits = λ _. refl; front = subst (λ l. HoldsFront l (line_bytes 0 run.items) (term c).bytes) (opened out_port.Term) (front (tells_b told)) }
+    at told out_port.Log = nothing_of _ _ _ (unplayed out_port.Log refl)
+    at told out_port.Final = nothing_of _ _ _ (unplayed out_port.Final refl)
+    at told out_port.Report = nothing_of _ _ _ (unplayed out_port.Report refl)
+
+  module _ (shown : Tells b → (term c).bytes ≡ (term b).bytes ++ line_bytes 0 run.items) where
+    term_shown : Tells a → (term c).bytes ≡ (term a).bytes ++ line_bytes 0 run.items
+    term_shown told = shown (tells_b told) ∙ ap (λ l. l ++ line_bytes 0 run.items) (opened out_port.Term)
+
+    pub came_to_unbuilt : (ending : Option Unbuilt) (place : Unbuilt) → ending ≡ Some place → ending ≡ run.ending → ((p : OutPort) → is_output (Out p) ≡ true → (b.port (Out p)).is_open ≡ true)
+        → (term c).is_open ≡ true → Calm a b → Calm b c → EndsRun first run ending a c
+    came_to_unbuilt ending place is ends open_b open_c calm calm_too = record {
+      ended = ends;
+      written = at;
+      is_open = λ p out. still p out ∙ sym (ap is_there is);
+      calm = calm_c calm calm_too;
+    } where
+      is_there : Option Unbuilt → Bool
+      is_there None = false
+      is_there (Some u) = true
+
+      no_disk : final_writes first run.ending run.system []
+      no_disk = subst (λ e. final_writes first e run.system []) (sym is ∙ ends) refl
+
+      at : Tells a → (p : OutPort) → HoldsSome (run_writes first run p) (a.port (Out p)).bytes (c.port (Out p)).bytes
+      at told out_port.Term = record { text = line_bytes 0 run.items; fits = refl; holds = term_shown told }
+      at told out_port.Log = empty_of _ _ _ refl (unplayed out_port.Log refl)
+      at told out_port.Final = empty_of _ _ _ no_disk (unplayed out_port.Final refl)
+      at told out_port.Report = empty_of _ _ _ refl (unplayed out_port.Report refl)
+
+      still : (p : OutPort) → is_output (Out p) ≡ true → (c.port (Out p)).is_open ≡ true
+      still out_port.Term out = open_c
+      still out_port.Log out = absurd (let no : false ≡ true = out in cc)
+      still out_port.Final out = ap (λ (state : PortState). state.is_open) (plays.others (Out out_port.Final) refl) ∙ open_b out_port.Final refl
+      still out_port.Report out = absurd (let no : false ≡ true = out in cc)
+
+    -- the run has come to its end, and its disk is written
+    module _ (ends : None ≡ run.ending) (text : List ℕ) (final : IsFinal first (finished run.system).unix.store text) (d : Outside) (writes : OnlyAt (same (Out out_port.Final)) c d) where
+      fits : final_writes first run.ending run.system text
+      fits = subst (λ e. final_writes first e run.system text) ends final
+
+      unwritten_by : (p : OutPort) → same (Out out_port.Final) (Out p) ≡ false → (d.port (Out p)).bytes ≡ (c.port (Out p)).bytes
+      unwritten_by p other = ap (λ (state : PortState). state.bytes) (writes.others (Out p) other)
+
+      term_written : Tells a → HoldsSome (run_writes first run out_port.Term) (term a).bytes (term d).bytes
+      term_written told = record { text = line_bytes 0 run.items; fits = refl; holds = unwritten_by out_port.Term refl ∙ term_shown told }
+
+      log_written : HoldsSome (run_writes first run out_port.Log) (a.port (Out out_port.Log)).bytes (d.port (Out out_port.Log)).bytes
+      log_written = empty_of _ _ _ refl (unwritten_by out_port.Log refl ∙ unplayed out_port.Log refl)
+
+      report_written : HoldsSome (run_writes first run out_port.Report) (a.port (Out out_port.Report)).bytes (d.port (Out out_port.Report)).bytes
+      report_written = empty_of _ _ _ refl (unwritten_by out_port.Report refl ∙ unplayed out_port.Report refl)
+
+      pub stopped_writing : (known : Bool) → (Tells c → HoldsFront (final_of c).bytes text (final_of d).bytes) → Calm a b → Calm b c → FaultAt (Out out_port.Final) true c d
+          → StopsRun first run Final known a d
+      stopped_writing known front calm calm_too fault = record {
+        written = at;
+        fault = fault_any _ known _ _ (fault_then _ _ a c d (plays.fixed ∙ opens.fixed) (calm_c calm calm_too) fault);
+      } where
+        at : Tells a → (p : OutPort) → HoldsFrontOfSome (run_writes first run p) (a.port (Out p)).bytes (d.port (Out p)).bytes
+        at told out_port.Term = all_of _ _ _ (term_written told)
+        at told out_port.Log = all_of _ _ _ log_written
+        at told out_port.Final = record { text = text; fits = λ _. fits; front = subst (λ l. HoldsFront l text (final_of d).bytes) (unplayed out_port.Final refl) (front (tells_c told)) }
+        at told out_port.Report = all_of _ _ _ report_written
+
+      module _ (whole : Tells c → (final_of d).bytes ≡ (final_of c).bytes ++ text) (e : Outside) (finishes : (p : OutPort) → (e.port (Out p)).bytes ≡ (d.port (Out p)).bytes) where
+        written_d : Tells a → (p : OutPort) → HoldsSome (run_writes first run p) (a.port (Out p)).bytes (d.port (Out p)).bytes
+        written_d told out_port.Term = term_written told
+        written_d told out_port.Log = log_written
+        written_d told out_port.Final = record { text = text; fits = fits; holds = whole (tells_c told) ∙ ap (λ l. l ++ text) (unplayed out_port.Final refl) }
+        written_d told out_port.Report = report_written
+
+        written_e : Tells a → (p : OutPort) → HoldsSome (run_writes first run p) (a.port (Out p)).bytes (e.port (Out p)).bytes
+        written_e told p = subst (HoldsSome (run_writes first run p) (a.port (Out p)).bytes) (sym (finishes p)) (written_d told p)
+
+        pub stopped_finishing : (output : Output) (known : Bool) → Calm a b → Calm b c → Calm c d → FaultAt (Out (port_of output)) true d e → StopsRun first run output known a e
+        stopped_finishing output known calm calm_too calm_still fault = record {
+          written = λ told p. all_of _ _ _ (written_e told p);
+          fault = fault_any _ known _ _ (fault_then _ _ a d e (writes.fixed ∙ plays.fixed ∙ opens.fixed) (calm_then _ _ _ (calm_c calm calm_too) calm_still) fault);
+        }
+
+        pub came_to_end : ((p : OutPort) → is_output (Out p) ≡ true → (e.port (Out p)).is_open ≡ false) → Calm a b → Calm b c → Calm c d → Calm d e → EndsRun first run None a e
+        came_to_end closed calm calm_too calm_still calm_last = record {
+          ended = ends;
+          written = written_e;
+          is_open = closed;
+          calm = calm_then _ _ _ (calm_then _ _ _ (calm_c calm calm_too) calm_still) calm_last;
+        }
+
+-- the disk that a run leaves, where it has come to its end
+pub run_leaves : (old played ended : SystemOnDisk) (run : Course) → (head (block_at old.blocks)).f_size ≤ SWAP_START → played.system ≡ run.system → SameRest old.blocks played.blocks
+    → ended.system ≡ finished played.system → StandsFor DISK_BLOCKS (block_at ended.blocks) ended.system.unix.store → SameRest played.blocks ended.blocks → IsDisk ended.blocks
+    → IsFinal (block_at old.blocks) (finished run.system).unix.store (disk_text ended.blocks)
+run_leaves old played ended run low plays first ends stands second form =
+    subst (λ (m : System). IsFinal (block_at old.blocks) m.unix.store (disk_text ended.blocks)) (ends ∙ ap finished plays)
+    (final_is old.blocks ended.blocks ended.system.unix.store low (rest_then _ _ _ first second) form stands)
+
+pub came_to_none : (ending last : Option Unbuilt) → false ≡ is_some ending → ending ≡ last → None ≡ last
+came_to_none None last none is = is
+came_to_none (Some place) last none is = absurd (cc)
+
+pub fault_where_err : {T E : Type 0} (r : Result T E) (P Q : Type 0) → true ≡ is_err r → MatchResult r (λ _. P) (λ _. Q) → Q
+fault_where_err (Ok x) P Q is holds = absurd (cc)
+fault_where_err (Err e) P Q is holds = holds
+
+pub calm_where_ok : {T E : Type 0} (r : Result T E) (P Q : Type 0) → false ≡ is_err r → MatchResult r (λ _. P) (λ _. Q) → P
+calm_where_ok (Ok x) P Q is holds = holds
+calm_where_ok (Err e) P Q is holds = absurd (cc)
+
+pub told_where_ok : {T E : Type 0} (r : Result T E) (P : Type 0) → false ≡ is_err r → OnOk r P → P
+told_where_ok (Ok x) P is holds = holds
+told_where_ok (Err e) P is holds = absurd (cc)
+
+-- A kernel has the disk of its image.
+pub same_blocks : (image : List ℕ) (blocks : List (List ℕ)) → blocks ≡ blocks_of image → (n : ℕ) → n < DISK_BLOCKS → block_at blocks n ≡ disk_of image n
+same_blocks image blocks is n low = ap (λ l. block_at l n) is ∙ block_of_image image n low
+
+module _ (d e : Disk) (same_disk : (n : ℕ) → n < DISK_BLOCKS → e n ≡ d n) where
+  final_over : (ending : Option Unbuilt) (m : System) (text : List ℕ) → final_writes e ending m text → final_writes d ending m text
+  final_over None m text final = final_same d e (finished m).unix.store text same_disk final
+  final_over (Some place) m text none = none
+
+  writes_over : (run : Course) (p : OutPort) (text : List ℕ) → run_writes e run p text → run_writes d run p text
+  writes_over run out_port.Term text fits = fits
+  writes_over run out_port.Log text fits = fits
+  writes_over run out_port.Final text fits = final_over run.ending run.system text fits
+  writes_over run out_port.Report text fits = fits
+
+  pub ends_over : (run : Course) (ending : Option Unbuilt) (old new : Outside) → EndsRun e run ending old new → EndsRun d run ending old new
+  ends_over run ending old new ends = record {
+    ended = ends.ended;
+    written = λ told p. let all = ends.written told p in record { text = all.text; fits = writes_over run p all.text all.fits; holds = all.holds };
+    is_open = ends.is_open;
+    calm = ends.calm;
+  }
+
+  pub stops_over : (run : Course) (output : Output) (known : Bool) (old new : Outside) → StopsRun e run output known old new → StopsRun d run output known old new
+  stops_over run output known old new stops = record {
+    written = λ told p. let part = stops.written told p in record { text = part.text; fits = λ grew. writes_over run p part.text (part.fits grew); front = part.front };
+    fault = stops.fault;
+  }

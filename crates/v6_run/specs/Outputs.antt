@@ -1,0 +1,46 @@
+-- The files that `run` writes, by docs/manual/commands.md: what the terminal shows, and the disk at the end.
+use Rattle.std.specs.Prelude.{◌≡◌, ℕ, Bool, true, Option, Some, None, is_some, List, [], ◌||◌}
+use Rattle.v6_base.specs.Trace.{line_bytes}
+use Rattle.v6_port.specs.declared.host.OutPort.{OutPort}
+use Rattle.v6_port.specs.declared.host.OutPort.TheVariants as out_port
+use Rattle.v6_port.specs.Outside.{Port, Out, same, Outside, Tells}
+use Rattle.v6_port.specs.Causes.{Calm, FaultAt}
+use Rattle.fs_codec.specs.Disk.{Disk}
+use Rattle.unix_core.specs.declared.turned.Unbuilt.{Unbuilt}
+use Rattle.unix_core.specs.Unix.{System}
+use Rattle.unix_core.specs.Runs.{Course, finished}
+use Rattle.v6_run.specs.declared.outputs.Output.{Output}
+use Rattle.v6_run.specs.declared.outputs.Output.TheVariants.{Term, Final}
+use Rattle.v6_run.specs.Fronts.{HoldsSome, HoldsFrontOfSome, exactly}
+use Rattle.v6_run.specs.Final.{IsFinal}
+
+abbrev pub port_of : Output → OutPort
+port_of Term = out_port.Term
+port_of Final = out_port.Final
+
+abbrev pub is_output : Port → Bool
+is_output q = same (Out out_port.Term) q || same (Out out_port.Final) q
+
+-- a run that has come to its end leaves its disk, and one that came to what isn't built nothing
+abbrev pub final_writes : Disk → Option Unbuilt → System → List ℕ → Type 0
+final_writes first None m = IsFinal first (finished m).unix.store
+final_writes first (Some place) m = exactly []
+
+-- the texts that a run from a disk may write to each port
+abbrev pub run_writes : Disk → Course → OutPort → List ℕ → Type 0
+run_writes first c out_port.Term = exactly (line_bytes 0 c.items)
+run_writes first c out_port.Log = exactly []
+run_writes first c out_port.Final = final_writes first c.ending c.system
+run_writes first c out_port.Report = exactly []
+
+-- The run has been taken, and all of it is written. Its files are finished where it came to its end.
+pub record EndsRun (first : Disk) (c : Course) (ending : Option Unbuilt) (old new : Outside) : Type 0 where
+  pub ended : ending ≡ c.ending
+  pub written : Tells old → (p : OutPort) → HoldsSome (run_writes first c p) (old.port (Out p)).bytes (new.port (Out p)).bytes
+  pub is_open : (p : OutPort) → is_output (Out p) ≡ true → (new.port (Out p)).is_open ≡ is_some ending
+  pub calm : Calm old new
+
+-- One of its files, under a name that is known or not, has failed.
+pub record StopsRun (first : Disk) (c : Course) (output : Output) (known : Bool) (old new : Outside) : Type 0 where
+  pub written : Tells old → (p : OutPort) → HoldsFrontOfSome (run_writes first c p) (old.port (Out p)).bytes (new.port (Out p)).bytes
+  pub fault : FaultAt (Out (port_of output)) known old new
