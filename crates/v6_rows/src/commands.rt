@@ -155,6 +155,8 @@ fn least_disk_gives(
             failing,
             status,
             term: b"",
+            disk: b"",
+            looks_at_disk: false,
             report,
         },
     )
@@ -297,6 +299,8 @@ fn disk_gives(
             failing: 0,
             status,
             term: b"",
+            disk: b"",
+            looks_at_disk: false,
             report,
         },
     )
@@ -342,6 +346,8 @@ fn disk_12_is_made_and_checked(rt: HostRuntime) -> Result<(), Fail> {
         failing: 0,
         status: Status::Done,
         term: b"",
+        disk: b"",
+        looks_at_disk: false,
         report: b"ok 19 nodes 3891 free\n",
     };
     assert!(rt; holds(rt.alloc(), &row)?);

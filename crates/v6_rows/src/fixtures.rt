@@ -3,6 +3,7 @@ ghost use Rattle.std.specs.Prelude.{IfOk};
 ghost use Rattle.v6_port.specs.Outside.{IsIdle};
 ghost use Rattle.v6_port.specs.Memory.{memory};
 
+use fs_codec::DISK_BYTES;
 use std::alloc::{AllocError, Global};
 use v6_port::{Host, MemHost, OutPort};
 use v6_run::{Status, v6};
@@ -78,6 +79,11 @@ pub fn have(bytes: &[u8], pieces: &[Piece<'_>]) -> bool {
     true
 }
 
+/// Whether the bytes are so many, and the first of these.
+pub fn is_front(bytes: &[u8], all: &[u8], count: usize) -> bool {
+    bytes.len() == count && all.starts_with(bytes)
+}
+
 /// The image of `examples/hi`, filled up with zeros to this number of bytes, and changed by these pieces.
 pub fn hi_image(alloc: Global, bytes: usize, pieces: &[Piece<'_>]) -> Result<Vec<u8>, AllocError> {
     let mut image = vec![in alloc; 0; bytes]?;
@@ -118,7 +124,7 @@ pub fn host_with(
     host.add("script", script)?;
     host.add("empty", b"")?;
     host.room(OutPort::Term, "term", 4096)?;
-    host.room(OutPort::Final, "final", 2_048_000)?;
+    host.room(OutPort::Final, "final", DISK_BYTES)?;
     host.room(OutPort::Report, "report", report)?;
     Ok(host)
 }
@@ -133,6 +139,9 @@ pub struct Row<'a> {
     pub failing: u32,
     pub status: Status,
     pub term: &'a [u8],
+    /// What Final must hold, where that is looked at.
+    pub disk: &'a [u8],
+    pub looks_at_disk: bool,
     pub report: &'a [u8],
 }
 
@@ -143,6 +152,7 @@ pub fn holds(alloc: Global, row: &Row<'_>) -> Result<bool, AllocError> {
     Ok(
         status == row.status
             && host.bytes(OutPort::Term) == row.term
+            && (!row.looks_at_disk || host.bytes(OutPort::Final) == row.disk)
             && host.bytes(OutPort::Report) == row.report,
     )
 }

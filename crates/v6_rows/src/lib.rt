@@ -7,6 +7,8 @@
 #![tactic(auto)]
 
 #[cfg(test)]
+mod area;
+#[cfg(test)]
 mod blocks;
 #[cfg(test)]
 mod cache;
@@ -17,15 +19,27 @@ mod commands;
 #[cfg(test)]
 mod disks;
 #[cfg(test)]
+mod files;
+#[cfg(test)]
+mod final_disk;
+#[cfg(test)]
 mod fixtures;
 #[cfg(test)]
 mod generated;
 #[cfg(test)]
 mod instructions;
 #[cfg(test)]
+mod kept_files;
+#[cfg(test)]
 mod memory;
 #[cfg(test)]
+mod nodes;
+#[cfg(test)]
+mod numbers;
+#[cfg(test)]
 mod one_byte;
+#[cfg(test)]
+mod pieces;
 #[cfg(test)]
 mod ports;
 #[cfg(test)]
@@ -36,5 +50,11 @@ mod real_files;
 mod scripts;
 #[cfg(test)]
 mod terminal;
+#[cfg(test)]
+mod touch;
+#[cfg(test)]
+mod truncate;
+#[cfg(test)]
+mod volume;
 #[cfg(test)]
 mod words;

@@ -2,9 +2,10 @@
 //! some of the rows by their names.
 use crate::fixtures::{HI_BYTES, Piece, RUN, Row, TEXT, end_over, hi_image, holds, host_with};
 use crate::one_byte::OneByte;
+use fs_codec::DISK_BYTES;
 use std::alloc::{AllocError, Global};
 use std::test::Fail;
-use v6_port::{InPort, OutPort};
+use v6_port::OutPort;
 use v6_run::{Status, Unbuilt};
 
 /// A disk, made of `examples/hi` by putting some bytes, and what its run comes to: status, terminal, report.
@@ -276,9 +277,15 @@ const CHANGES: [Change<'static>; 40] = [
     },
 ];
 
+/// Nothing of these disks is newer than the time of their super-block, 0, so a run leaves them as they are.
 fn comes_out(alloc: Global, change: &Change<'_>) -> Result<bool, AllocError> {
     let image = hi_image(alloc, HI_BYTES, change.pieces)?;
     let (status, term, report) = change.end;
+    let disk = if status == Status::Done {
+        hi_image(alloc, DISK_BYTES, change.pieces)?
+    } else {
+        Vec::new(alloc)
+    };
     holds(
         alloc,
         &Row {
@@ -288,6 +295,8 @@ fn comes_out(alloc: Global, change: &Change<'_>) -> Result<bool, AllocError> {
             failing: 0,
             status,
             term,
+            disk: &disk,
+            looks_at_disk: true,
             report,
         },
     )
@@ -309,46 +318,5 @@ fn hi_one_byte_a_call(rt: HostRuntime) -> Result<(), Fail> {
     };
     let status = end_over(rt.alloc(), RUN, &mut host)?;
     assert!(rt; status == Status::Done && host.host.bytes(OutPort::Term) == HI_SHOWN);
-    Ok(())
-}
-
-/// Where a run came to whose call of this number fails: the image, the script, the terminal, its end, or 0 where it is none of
-/// these. `passed` calls for the terminal came before: its opening, a write for each byte, its finish.
-fn place_of_fault(alloc: Global, image: &[u8], call: u32, passed: usize) -> Result<u8, AllocError> {
-    let mut host = host_with(alloc, image, b"run 20\n", 200)?;
-    host.fail(call)?;
-    let (place, report, shown) = match end_over(alloc, RUN, &mut host)? {
-        Status::ReadFault(InPort::Image) => (1, "read fault: image\n", 0),
-        Status::ReadFault(InPort::Script) => (2, "read fault: script\n", 0),
-        Status::WriteFault(OutPort::Term) => (3, "write fault: term\n", passed.saturating_sub(1)),
-        Status::Done => (4, "", 4),
-        _ => return Ok(0),
-    };
-    let is_reported = host.bytes(OutPort::Report) == report.as_bytes();
-    let is_shown = host.bytes(OutPort::Term) == &HI_SHOWN[..shown.min(4)];
-    Ok(if is_reported && is_shown { place } else { 0 })
-}
-
-/// Whether the faults come in the order of the command, six of them at the terminal.
-fn faults_come_in_order(alloc: Global) -> Result<bool, AllocError> {
-    let image = hi_image(alloc, HI_BYTES, &[])?;
-    let mut reached = 1;
-    let mut at_term = 0;
-    for call in 1..30 {
-        let place = place_of_fault(alloc, &image, call, at_term)?;
-        if place < reached {
-            return Ok(false);
-        }
-        if place == 3 {
-            at_term = at_term.saturating_add(1);
-        }
-        reached = place;
-    }
-    Ok(at_term == 6 && reached == 4)
-}
-
-#[test]
-fn each_call_fails_in_turn(rt: HostRuntime) -> Result<(), Fail> {
-    assert!(rt; faults_come_in_order(rt.alloc())?);
     Ok(())
 }

@@ -1,6 +1,7 @@
 //! Commands over files of the system: docs/manual/ports.md. What is held goes out, also where a run ends early, and what can't
 //! go out is a fault.
-use crate::fixtures::{HI_BYTES, Piece, RUN, TEXT, end_over, hi_image};
+use crate::fixtures::{HI_BYTES, Piece, RUN, TEXT, end_over, hi_image, is_front};
+use fs_codec::DISK_BYTES;
 use std::fs;
 use std::test::Fail;
 use v6_port::{FileHost, Host, OutPort};
@@ -35,9 +36,11 @@ struct FileRow<'a> {
     words: &'a str,
     status: Status,
     shown: Option<(&'a [u8], usize)>,
+    /// How many bytes of the disk the file `final` then holds, where it is looked at.
+    disk: Option<usize>,
 }
 
-const FILE_ROWS: [FileRow<'static>; 6] = [
+const FILE_ROWS: [FileRow<'static>; 7] = [
     FileRow {
         name: "hi_over_files",
         pieces: &[],
@@ -45,6 +48,7 @@ const FILE_ROWS: [FileRow<'static>; 6] = [
         words: RUN,
         status: Status::Done,
         shown: Some((b"HI\r\n", 1)),
+        disk: Some(2_494_464),
     },
     FileRow {
         name: "port that isn't finished",
@@ -53,6 +57,7 @@ const FILE_ROWS: [FileRow<'static>; 6] = [
         words: RUN,
         status: Status::NotBuilt(Unbuilt::At(16)),
         shown: Some((b"HI\r\n", 1)),
+        disk: Some(0),
     },
     // The first slot is the exec, the second the open, and each third from the third on a write: 100 in 300.
     FileRow {
@@ -62,6 +67,7 @@ const FILE_ROWS: [FileRow<'static>; 6] = [
         words: RUN,
         status: Status::Done,
         shown: Some((&[b'A'; 128], 100)),
+        disk: Some(2_494_464),
     },
     FileRow {
         name: "full device at the finish",
@@ -70,6 +76,7 @@ const FILE_ROWS: [FileRow<'static>; 6] = [
         words: RUN_ONTO_FULL,
         status: Status::WriteFault(OutPort::Term),
         shown: None,
+        disk: None,
     },
     FileRow {
         name: "full device at a write",
@@ -78,6 +85,17 @@ const FILE_ROWS: [FileRow<'static>; 6] = [
         words: RUN_ONTO_FULL,
         status: Status::WriteFault(OutPort::Term),
         shown: None,
+        disk: None,
+    },
+    // The terminal's file got all before.
+    FileRow {
+        name: "full device for the disk",
+        pieces: &[],
+        script: "run 20\n",
+        words: "run image 1200 script term log /dev/full",
+        status: Status::WriteFault(OutPort::Final),
+        shown: Some((b"HI\r\n", 1)),
+        disk: None,
     },
     FileRow {
         name: "disk made onto a full device",
@@ -86,6 +104,7 @@ const FILE_ROWS: [FileRow<'static>; 6] = [
         words: "make 12 /dev/full",
         status: Status::WriteFault(OutPort::Final),
         shown: None,
+        disk: None,
     },
 ];
 
@@ -106,17 +125,52 @@ fn is_shown(rt: &HostRuntime, piece: &[u8], times: usize) -> Result<bool, Fail> 
     Ok(shown.as_slice() == wanted.as_slice())
 }
 
-fn file_row_holds(rt: &HostRuntime, row: &FileRow<'_>) -> Result<bool, Fail> {
+/// Whether the file `final` holds so many bytes of the disk, and nothing else. The file is removed.
+fn is_left(rt: &HostRuntime, pieces: &[Piece<'_>], bytes: usize) -> Result<bool, Fail> {
+    let disk = hi_image(rt.alloc(), DISK_BYTES, pieces)?;
+    let left = fs::read(rt, "final")?;
+    fs::remove_file(rt, "final")?;
+    Ok(is_front(left.as_slice(), &disk, bytes))
+}
+
+fn end_of_row(rt: &HostRuntime, row: &FileRow<'_>) -> Result<Status, Fail> {
     let image = hi_image(rt.alloc(), HI_BYTES, row.pieces)?;
     fs::write(rt, "image", image.as_slice())?;
     fs::write(rt, "script", row.script)?;
     let status = end_over_files(rt, row.words)?;
-    fs::remove_file(rt, "image")?;
     fs::remove_file(rt, "script")?;
-    match row.shown {
-        Some((piece, times)) => Ok(is_shown(rt, piece, times)? && status == row.status),
-        None => Ok(status == row.status),
+    Ok(status)
+}
+
+fn file_row_holds(rt: &HostRuntime, row: &FileRow<'_>) -> Result<bool, Fail> {
+    let mut holds = end_of_row(rt, row)? == row.status;
+    fs::remove_file(rt, "image")?;
+    if let Some((piece, times)) = row.shown {
+        holds = is_shown(rt, piece, times)? && holds;
     }
+    match row.disk {
+        Some(bytes) => holds = is_left(rt, row.pieces, bytes)? && holds,
+        None => {
+            let _ = fs::remove_file(rt, "final");
+        }
+    }
+    Ok(holds)
+}
+
+/// The image's own file gets the disk.
+#[test]
+fn image_is_left_as_the_final_disk(rt: HostRuntime) -> Result<(), Fail> {
+    let image = hi_image(rt.alloc(), HI_BYTES, &[])?;
+    fs::write(&rt, "image", image.as_slice())?;
+    fs::write(&rt, "script", "run 20\n")?;
+    let status = end_over_files(&rt, "run image 1200 script term log image")?;
+    let left = fs::read(&rt, "image")?;
+    let disk = hi_image(rt.alloc(), DISK_BYTES, &[])?;
+    fs::remove_file(&rt, "image")?;
+    fs::remove_file(&rt, "script")?;
+    fs::remove_file(&rt, "term")?;
+    assert!(rt; status == Status::Done && left.as_slice() == disk.as_slice());
+    Ok(())
 }
 
 #[test]

@@ -121,6 +121,8 @@ fn ends(
             failing: 0,
             status,
             term: b"",
+            disk: b"",
+            looks_at_disk: false,
             report,
         },
     )

@@ -65,6 +65,8 @@ fn shows(alloc: Global, text: &[u8], shown: &[u8]) -> Result<bool, AllocError> {
             failing: 0,
             status: Status::Done,
             term: shown,
+            disk: b"",
+            looks_at_disk: false,
             report: b"",
         },
     )
