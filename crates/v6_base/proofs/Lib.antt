@@ -2,3 +2,5 @@ pub mod Took
 pub mod Cuts
 pub mod Formed
 pub mod LogRows
+mod Tapes
+pub mod Copies

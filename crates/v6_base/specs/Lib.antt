@@ -6,3 +6,5 @@ pub mod Words
 pub mod Sizes
 pub mod Vectors
 pub mod Whole
+pub mod Tape
+pub mod Copy

@@ -1,6 +1,9 @@
 //! Where a kernel shows what it does.
 ghost use Rattle.std.specs.Prelude.{◌≡◌, ℕ, Bool, true, false, List, [], ◌∷◌, ◌++◌, IsTrue};
-ghost use Rattle.v6_base.specs.Trace.{Taken, Item, Byte, Took, Appends};
+ghost use Rattle.v6_base.specs.declared.entry.Entry.{Entry};
+ghost use Rattle.v6_base.specs.Trace.{Taken, Item, Byte, Log, Took, Appends};
+
+use crate::entry::Entry;
 
 /// Takes what a run shows, one item after another, until it is cut.
 ///
@@ -12,6 +15,12 @@ pub trait Trace {
 
     /// What else stays the same, or is only added to, while things are taken: the implementer's choice.
     ghost leads_to: { Self → Self → Type 0 };
+
+    /// A line of the log is written. It is taken unless the trace was cut before.
+    fn entry(&mut self, e: Entry)
+        ensures took { Took (taken self.old) (Log e ∷ []) (taken self.new) }
+        ensures whole { Appends (taken self.old) (Log e) (taken self.new) }
+        ensures frame { leads_to self.old self.new };
 
     /// A byte goes out on the terminal's line. It is taken unless the trace was cut before.
     fn out(&mut self, byte: u8)
