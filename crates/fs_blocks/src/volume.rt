@@ -259,16 +259,23 @@ impl Volume {
         self.cache.change(n, at, bytes);
     }
 
-    /// The super-block as it is now, in memory. `getfs`.
+    /// The super-block as it is now, in memory. `getfs`. What always holds of a volume is told with it: there are 4,872
+    /// blocks of 512 bytes, the free list is sound, the flags are 0, and where the super-block has not changed the one on
+    /// the disk says the same.
     pub fn head(&self) -> &SuperBlock
-        ensures { result.now ≡ self.now.head }
+        ensures head { result.now ≡ self.now.head }
+        ensures blocks { IsDisk self.now.blocks }
+        ensures sound { IsVolume self.now.blocks self.now.head }
+        ensures flags { HasNoFlags self.now.head }
+        ensures sizes { SameSizes self.now.blocks self.now.head }
+        ensures stored { self.now.changed ≡ false → ReadsAlike (disk self.now) (block_at self.now.blocks) }
     {
+        let _boot = self.cache.on_disk(0);
         &self.head
     }
 
-    /// Sees what always holds, and costs nothing: there are 4,872 blocks of 512 bytes, the free list is sound, the flags
-    /// are 0, and where the super-block has not changed the one on the disk says the same.
-    pub fn see(&self)
+    /// Sees what always holds, as `head` tells it, and costs nothing.
+    pub(crate) fn see(&self)
         ensures blocks { IsDisk self.now.blocks }
         ensures sound { IsVolume self.now.blocks self.now.head }
         ensures flags { HasNoFlags self.now.head }

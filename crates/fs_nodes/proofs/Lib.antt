@@ -1,4 +1,3 @@
-pub mod PieceCopy
 pub mod PieceSteps
 pub mod TableLemmas
 pub mod NodesLemmas

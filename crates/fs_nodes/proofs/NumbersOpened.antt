@@ -1,5 +1,5 @@
 -- A volume that was opened on a disk without a fault has none.
-use Rattle.std.proofs.Common.{◌≡◌, ℕ, List, None, sym, ap, ◌∙◌}
+use Rattle.std.proofs.Common.{◌≡◌, ℕ, List, None, ap, ◌∙◌}
 use Rattle.buf_cache.specs.Blocks.{block_at}
 use Rattle.fs_codec.specs.Fields.{super_of}
 use Rattle.fs_codec.specs.Faults.{disk_fault}

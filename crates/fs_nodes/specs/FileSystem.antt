@@ -33,7 +33,8 @@ pub record Shows (inode : DiskNode) (node : Node) : Type 0 where
 abbrev pub ShowsNode : Option Node → DiskNode → Type 0
 ShowsNode found inode = (node : Node) × (found ≡ Some node) × Shows inode node
 
--- What is so of every file system: nodes and references are by the same numbers, and what is referred to is a node.
+-- What is so of every file system: nodes and references are by the same numbers, what is referred to is a node,
+-- and there is a root.
 pub record IsFileSystem (fs : FileSystem) : Type 0 where
   pub nodes : length fs.store.nodes ≡ fs.store.count + 1
   pub references : length fs.references ≡ fs.store.count + 1
@@ -41,6 +42,7 @@ pub record IsFileSystem (fs : FileSystem) : Type 0 where
   pub count : (i : ℕ) → slice_index fs.references i < 65536
   pub used : (i : ℕ) → 0 < slice_index fs.references i → IsSome (node_numbered fs.store i)
   pub none : node_numbered fs.store 0 ≡ None
+  pub root : IsSome (node_numbered fs.store 1)
   pub blocks : IsDisk fs.blocks
 
 -- the byte at a place of a file of this size, with zeros behind it

@@ -1,14 +1,27 @@
 //! The inodes in their blocks: file system(V).
-ghost use Rattle.std.specs.Prelude.{◌≡◌, ◌+◌, ◌≤◌, ◌<◌, ◌*◌, MatchOption, IfSome, None};
+ghost use Rattle.std.specs.Prelude.{◌≡◌, ◌+◌, ◌≤◌, ◌<◌, ◌*◌, MatchOption, IfSome, None, false};
 ghost use Rattle.fs_codec.specs.Fields.{fields_of};
 ghost use Rattle.fs_codec.specs.Disk.{inode, inode as the_inode, inode_count};
 ghost use Rattle.fs_codec.specs.Store.{node_numbered};
-ghost use Rattle.fs_blocks.specs.State.{disk};
+ghost use Rattle.buf_cache.specs.Blocks.{block_at, IsDisk};
+ghost use Rattle.fs_laws.specs.Sync.{ReadsAlike};
+ghost use Rattle.fs_blocks.specs.State.{disk, IsVolume, HasNoFlags, SameSizes};
 ghost use Rattle.fs_nodes.specs.FileSystem.{ShowsNode, store_now};
 ghost use Rattle.fs_nodes.specs.Inodes.{WritesInode};
 
 use fs_blocks::Volume;
 use fs_codec::{DiskNode, read_node, write_node};
+
+/// Sees what always holds of a volume, and costs nothing.
+pub(crate) fn see(volume: &Volume)
+    ensures blocks { IsDisk volume.now.blocks }
+    ensures sound { IsVolume volume.now.blocks volume.now.head }
+    ensures flags { HasNoFlags volume.now.head }
+    ensures sizes { SameSizes volume.now.blocks volume.now.head }
+    ensures stored { volume.now.changed ≡ false → ReadsAlike (disk volume.now) (block_at volume.now.blocks) }
+{
+    let _head = volume.head();
+}
 
 /// The inode of this number, as the disk has it.
 pub(crate) fn read_inode(volume: &mut Volume, ino: u16) -> DiskNode
@@ -17,7 +30,7 @@ pub(crate) fn read_inode(volume: &mut Volume, ino: u16) -> DiskNode
     ensures node { fields_of result ≡ inode (disk volume.old) ino }
     ensures same { volume.new ≡ volume.old }
 {
-    volume.see();
+    see(volume);
     let place = 32 * ((ino - 1) % 16) as usize;
     let block = volume.block((ino - 1) / 16 + 2);
     let mut bytes = [0; 32];
@@ -31,7 +44,7 @@ pub(crate) fn write_inode(volume: &mut Volume, ino: u16, node: &DiskNode)
     requires high { ino ≤ inode_count (disk volume.old) }
     ensures { WritesInode volume.old ino (fields_of node.now) volume.new }
 {
-    volume.see();
+    see(volume);
     let place = 32 * ((ino - 1) % 16);
     let mut bytes = [0; 32];
     write_node(node, &mut bytes);
@@ -45,7 +58,7 @@ pub(crate) fn read_used(volume: &mut Volume, ino: u16) -> Option<DiskNode>
     ensures fields { IfSome result (λ inode. fields_of inode ≡ the_inode (disk volume.old) ino) }
     ensures same { volume.new ≡ volume.old }
 {
-    volume.see();
+    see(volume);
     if ino == 0 || u32::from(ino) > 16 * u32::from(volume.head().i_size) {
         return None;
     }

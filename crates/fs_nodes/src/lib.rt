@@ -1,7 +1,6 @@
 //! The inodes of a volume that somebody refers to, and reads and writes of their files.
 #![tactic(auto)]
 
-mod copy;
 mod inodes;
 mod look;
 mod nodes;

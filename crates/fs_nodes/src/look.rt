@@ -11,7 +11,7 @@ ghost use Rattle.fs_laws.specs.Whole.{IsApart};
 ghost use Rattle.fs_blocks.specs.State.{disk};
 ghost use Rattle.fs_nodes.specs.FileSystem.{file_byte, near_byte};
 
-use crate::inodes::read_inode;
+use crate::inodes::{read_inode, see};
 use crate::nodes::Nodes;
 use fs_blocks::Volume;
 use fs_codec::{DiskNode, holds_blocks};
@@ -46,7 +46,7 @@ fn data_block(volume: &mut Volume, node: &DiskNode, n: u16) -> [u8; 512]
     if !holds_blocks(node.mode) {
         return [0; 512];
     }
-    volume.see();
+    see(volume);
     see_addresses(&node.addr);
     let b = volume.address_of(node, n);
     block_or_zeros(volume, b)
@@ -90,7 +90,7 @@ fn look_at(volume: &mut Volume, node: &DiskNode, offset: u32, buf: &mut [u8; 16]
         *buf = [0; 16];
         return;
     }
-    volume.see();
+    see(volume);
     see_addresses(&node.addr);
     let n = (offset / 512) as u16;
     let last = ((offset + 15) / 512) as u16;

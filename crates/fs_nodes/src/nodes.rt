@@ -9,7 +9,7 @@ ghost use Rattle.fs_blocks.specs.State.{disk, IsVolume};
 ghost use Rattle.fs_codec.specs.Store.{node_numbered};
 ghost use Rattle.fs_nodes.specs.FileSystem.{store_now, referenced, ShowsNode, IsFileSystem};
 
-use crate::inodes::{read_inode, read_used};
+use crate::inodes::{read_inode, read_used, see};
 use crate::table::{Referenced, find, place, refer_again};
 use arrayvec::ArrayVec;
 use fs_blocks::Volume;
@@ -40,7 +40,7 @@ pub(crate) fn see_sizes(volume: &Volume)
     ensures volume { IsVolume volume.now.blocks volume.now.head }
     ensures sizes { SameZone (block_at volume.now.blocks) (disk volume.now) }
 {
-    volume.see();
+    see(volume);
 }
 
 impl Nodes {
@@ -63,7 +63,7 @@ impl Nodes {
         ensures count { result ≡ slice_index self.now.references ino }
         ensures form { IsFileSystem self.now }
     {
-        self.volume.see();
+        see(&self.volume);
         match find(&self.table, ino) {
             Some(k) => self.table[k].references,
             None => 0,

@@ -16,7 +16,7 @@ ghost use Rattle.fs_nodes.specs.Inodes.{Writes};
 ghost use Rattle.fs_nodes.specs.declared.table.Referenced.{Referenced};
 ghost use Rattle.fs_nodes.specs.Numbers.{refers_to, once_less, drawn_from, emptied, pushed, ChangesList, ChangesInode, MakesNode, MakesNone};
 
-use crate::inodes::{read_inode, write_inode};
+use crate::inodes::{read_inode, see, write_inode};
 use crate::nodes::Nodes;
 use crate::table::{Referenced, place};
 use arrayvec::ArrayVec;
@@ -29,7 +29,7 @@ fn count_inodes(volume: &Volume) -> u32
     ensures count { result ≡ inode_count (disk volume.now) }
     ensures few { result ≤ 77920 }
 {
-    volume.see();
+    see(volume);
     u32::from(BLOCK_INODES) * u32::from(volume.head().i_size)
 }
 
@@ -112,9 +112,9 @@ fn set_list(volume: &mut Volume, list: &[u16])
     ensures store { store_now volume.new ≡ record (store_now volume.old) { spare = list.now; mark = true } }
     ensures rest { ChangesList volume.old volume.new }
 {
-    volume.see();
+    see(volume);
     volume.set_spare(list);
-    volume.see();
+    see(volume);
 }
 
 /// Draws the last free number of a list, and makes what comes before it the list of the super-block.
@@ -155,7 +155,7 @@ fn draw_number(volume: &mut Volume, table: &[Referenced]) -> Option<u16>
         ≡ with_draw (store_now volume.old) (draw (store_now volume.old) (refers_to table.now)) }
     ensures rest { ChangesList volume.old volume.new }
 {
-    volume.see();
+    see(volume);
     let head = *volume.head();
     let list = &head.inode[..head.ninode as usize];
     if let Some(ino) = draw_from(volume, list) {
@@ -172,7 +172,7 @@ fn push_number(volume: &mut Volume, ino: u16)
     ensures store { store_now volume.new ≡ pushed (store_now volume.old) ino }
     ensures rest { ChangesList volume.old volume.new }
 {
-    volume.see();
+    see(volume);
     let head = *volume.head();
     if head.ninode < LIST_SIZE {
         let count = head.ninode as usize;
@@ -194,9 +194,9 @@ fn clear_inode(volume: &mut Volume, ino: u16, mut node: DiskNode)
         → Writes volume.old ino None (length (free (disk volume.old)) + names_held file)
         (volume.old.changed || nat_lt 0 (names_held file)) volume.new }
 {
-    volume.see();
+    see(volume);
     volume.truncate(&mut node);
-    volume.see();
+    see(volume);
     node.mode = 0;
     write_inode(volume, ino, &node);
 }
@@ -214,9 +214,9 @@ pub(crate) fn free_inode(volume: &mut Volume, ino: u16, node: DiskNode)
     ensures others { ChangesInode volume.old ino volume.new }
 {
     clear_inode(volume, ino, node);
-    volume.see();
+    see(volume);
     push_number(volume, ino);
-    volume.see();
+    see(volume);
 }
 
 /// Makes a new inode on a volume with a table of its inodes.
@@ -236,7 +236,7 @@ fn make_node(
     ensures rest { SameRest volume.old.blocks volume.new.blocks }
 {
     let number = draw_number(volume, table);
-    volume.see();
+    see(volume);
     let ino = match number {
         Some(ino) => ino,
         None => return Err(Errno::ENOSPC),

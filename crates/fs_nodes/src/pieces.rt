@@ -11,10 +11,10 @@ ghost use Rattle.fs_blocks.specs.State.{disk};
 ghost use Rattle.fs_nodes.specs.Copy.{put_into, get_from, put_kernel, get_kernel};
 ghost use Rattle.fs_nodes.specs.Moves.{moving, IsFile, Touched, Wrote, Grew, Comes};
 
-use crate::copy::{load_piece, store_piece};
+use crate::inodes::see;
 use fs_blocks::Volume;
 use fs_codec::{DiskNode, is_directory};
-use v6_base::{Errno, Space};
+use v6_base::{Errno, Space, copy_in, copy_out};
 
 /// How many bytes a read or a write has moved, and the error that ended it.
 #[derive(Clone, Copy, Debug, PartialEq, Eq)]
@@ -46,7 +46,7 @@ fn touch_block(volume: &mut Volume, node: &mut DiskNode, at: u64) -> Option<u16>
     ensures block { IfSome result (λ b. IsBlock (disk volume.new) (fields_of node.new) (at / 512) b × (b < 4872)) }
 {
     let taken = volume.touch(node, (at / 512) as u32);
-    volume.see();
+    see(volume);
     match taken {
         Ok(b) => Some(b),
         Err(_) => None,
@@ -104,7 +104,7 @@ pub(crate) fn read_pieces<S: Space>(
                 error: Some(Errno::ENOSPC),
             };
         }
-        if !store_piece(space, at.wrapping_add(done), &piece[0..len]) {
+        if !copy_out(space, at.wrapping_add(done), &piece[0..len]) {
             return Moved {
                 done,
                 error: Some(Errno::EFAULT),
@@ -215,7 +215,7 @@ pub(crate) fn write_pieces<S: Space>(
                 error: Some(Errno::ENOSPC),
             };
         };
-        if !load_piece(space, at.wrapping_add(done), &mut piece[0..len]) {
+        if !copy_in(space, at.wrapping_add(done), &mut piece[0..len]) {
             return Moved {
                 done,
                 error: Some(Errno::EFAULT),

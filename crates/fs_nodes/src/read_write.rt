@@ -15,6 +15,7 @@ ghost use Rattle.fs_nodes.specs.Inodes.{Carries};
 ghost use Rattle.fs_nodes.specs.Table.{entries_of, IsNodes};
 ghost use Rattle.fs_nodes.specs.Moves.{file_of, Ends, Moves, Carried};
 
+use crate::inodes::see;
 use crate::nodes::Nodes;
 use crate::pieces::{Moved, read_pieces, read_pieces_kernel, write_pieces, write_pieces_kernel};
 use crate::table::{Referenced, inode_in, place, save};
@@ -154,7 +155,7 @@ fn carry_inode(
     requires high { ino ≤ 16 * volume.old.head.i_size }
     ensures { (old : State) → IsNodes old table.old.items → Carries old (inode (disk old) ino) volume.old (fields_of node.now) → node.now.mode ≢ 0 → (ino ≡ 1 → is_directory node.now.mode ≡ true) → Carried old volume.old volume.new table.old.items table.new.items ino (fields_of node.now) }
 {
-    volume.see();
+    see(volume);
     let k = place(table, ino);
     save(volume, table, k, ino, node);
 }

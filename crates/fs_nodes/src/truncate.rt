@@ -4,6 +4,7 @@ ghost use Rattle.fs_codec.specs.Store.{Node, node_numbered};
 ghost use Rattle.fs_laws.specs.Numbers.{with_truncated};
 ghost use Rattle.fs_nodes.specs.FileSystem.{SameRest};
 
+use crate::inodes::see;
 use crate::nodes::Nodes;
 use crate::table::{inode_in, place, save};
 use fs_codec::is_device;
@@ -23,7 +24,7 @@ impl Nodes {
         }
         let k = place(&self.table, ino);
         self.volume.truncate(&mut node);
-        self.volume.see();
+        see(&self.volume);
         node.modtime = time;
         save(&mut self.volume, &mut self.table, k, ino, &node);
     }

@@ -19,22 +19,22 @@ returns-then-ino-eq0-clause-used c =
       | then-ino-eq0-via-else-ino-eq0+then-from w ↦
           let a = w.from.ensures in
           let b = w.from-else-ino-eq0.ensures in
-          let h : w.head.result.now.i_size ≡ c.args.volume.now.head.i_size = ap (λ (s : SuperBlock). s.i_size) w.head.ensures in
+          let h : w.head.result.now.i_size ≡ c.args.volume.now.head.i_size = ap (λ (s : SuperBlock). s.i_size) w.head.ensures.head in
           let past = w.if-from.true in
           no_node_past c.args.volume.now c.args.ino (omega (arith, a, b, h, past, size))
     ]
 
 pub read_inode-node-requires-clause-high : goal.read_inode-node-requires-clause-high
 read_inode-node-requires-clause-high c =
-    low_number c.args.volume.now c.args.ino c.from.result c.from-else-ino-eq0.result c.head.result.now c.see.ensures.sound.fits c.from.ensures c.from-else-ino-eq0.ensures c.head.ensures c.if-from.false
+    low_number c.args.volume.now c.args.ino c.from.result c.from-else-ino-eq0.result c.head.result.now c.see.ensures.sound.fits c.from.ensures c.from-else-ino-eq0.ensures c.head.ensures.head c.if-from.false
 
 pub returns-then-node-eq0-clause-used : goal.returns-then-node-eq0-clause-used
 returns-then-node-eq0-clause-used c =
     let some = c.if-ino-eq0.false in
-    node_at c.args.volume.now c.args.ino (omega (arith, some)) (low_number c.args.volume.now c.args.ino c.from.result c.from-else-ino-eq0.result c.head.result.now c.see.ensures.sound.fits c.from.ensures c.from-else-ino-eq0.ensures c.head.ensures c.if-from.false)
+    node_at c.args.volume.now c.args.ino (omega (arith, some)) (low_number c.args.volume.now c.args.ino c.from.result c.from-else-ino-eq0.result c.head.result.now c.see.ensures.sound.fits c.from.ensures c.from-else-ino-eq0.ensures c.head.ensures.head c.if-from.false)
     ∙ no_node (disk c.args.volume.now) (inode (disk c.args.volume.now) c.args.ino) (ap (λ (n : Inode). n.mode) (sym c.read_inode-node.ensures.node) ∙ c.if-node-eq0.true)
 
 pub returns-clause-used : goal.returns-clause-used
 returns-clause-used c =
     let some = c.if-ino-eq0.false in
-    shows_inode c.args.volume.now c.args.ino c.read_inode-node.result (omega (arith, some)) (low_number c.args.volume.now c.args.ino c.from.result c.from-else-ino-eq0.result c.head.result.now c.see.ensures.sound.fits c.from.ensures c.from-else-ino-eq0.ensures c.head.ensures c.if-from.false) c.read_inode-node.ensures.node c.if-node-eq0.false
+    shows_inode c.args.volume.now c.args.ino c.read_inode-node.result (omega (arith, some)) (low_number c.args.volume.now c.args.ino c.from.result c.from-else-ino-eq0.result c.head.result.now c.see.ensures.sound.fits c.from.ensures c.from-else-ino-eq0.ensures c.head.ensures.head c.if-from.false) c.read_inode-node.ensures.node c.if-node-eq0.false

@@ -6,7 +6,7 @@ use Rattle.fs_nodes.proofs.numbers.count_inodes.Goals.{After-from-2}
 
 size : (c : After-from-2) → c.from.result * c.from-2.result ≡ 16 * c.args.volume.now.head.i_size
 size c =
-    let e : c.from-2.result ≡ c.args.volume.now.head.i_size = c.from-2.ensures ∙ ap (λ (h : SuperBlock). h.i_size) c.head.ensures in
+    let e : c.from-2.result ≡ c.args.volume.now.head.i_size = c.from-2.ensures ∙ ap (λ (h : SuperBlock). h.i_size) c.head.ensures.head in
     let s = c.from.ensures in
     ap (λ n. n * c.from-2.result) s ∙ ap (λ n. 16 * n) e
 

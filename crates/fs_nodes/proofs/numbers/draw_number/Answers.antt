@@ -13,11 +13,11 @@ use Rattle.fs_nodes.proofs.numbers.draw_number.Goals.{After-draw_from, After-dra
 pub shared_ref_as_front-list : goal.shared_ref_as_front-list
 shared_ref_as_front-list c =
     let g = (good_volume _ _ c.see.ensures.sound).ninode in
-    let e : c.head.result.now.ninode ≡ c.args.volume.now.head.ninode = ap (λ (h : SuperBlock). h.ninode) c.head.ensures in omega (arith, g, e)
+    let e : c.head.result.now.ninode ≡ c.args.volume.now.head.ninode = ap (λ (h : SuperBlock). h.ninode) c.head.ensures.head in omega (arith, g, e)
 
 -- the list is that of the store
 list_is : (c : After-draw_from) → (store_now c.args.volume.now).spare ≡ take c.head.result.now.ninode c.head.result.now.inode
-list_is c = now_spare c.args.volume.now c.see.ensures.sound ∙ sym (ap (λ (h : SuperBlock). take h.ninode h.inode) c.head.ensures)
+list_is c = now_spare c.args.volume.now c.see.ensures.sound ∙ sym (ap (λ (h : SuperBlock). take h.ninode h.inode) c.head.ensures.head)
 
 was_drawn : (c : After-draw_from) (o : Option ℕ) → c.draw_from.result ≡ o → is_some (drawn (store_now c.args.volume.now) (reverse (store_now c.args.volume.now).spare)).number ≡ is_some o
 was_drawn c o is = ap (λ l. is_some (drawn (store_now c.args.volume.now) (reverse l)).number) (list_is c) ∙ ap is_some (sym c.draw_from.ensures.number ∙ is)

@@ -5,9 +5,10 @@ use Rattle.fs_blocks.specs.State.{disk}
 use Rattle.fs_laws.specs.Pieces.{piece_end, pieces, reading}
 use Rattle.v6_base.specs.Image.{Image}
 use Rattle.v6_base.specs.declared.errno.Errno.TheVariants.{EFAULT}
-use Rattle.fs_nodes.specs.Copy.{put_into, store_bytes}
+use Rattle.v6_base.specs.Copy.{store_bytes}
+use Rattle.fs_nodes.specs.Copy.{put_into}
 use Rattle.fs_nodes.specs.Moves.{moving, Comes}
-use Rattle.fs_nodes.proofs.PieceCopy.{store_wraps}
+use Rattle.v6_base.proofs.Copies.{store_wraps}
 use Rattle.fs_nodes.proofs.PieceSteps.{front_of, buffer_long, read_ends, read_faults, read_goes, grew_touched, grew_none}
 use Rattle.fs_nodes.proofs.pieces.read_pieces.Given.{Over}
 use Rattle.fs_nodes.proofs.pieces.read_pieces.Goals as goal
@@ -40,18 +41,18 @@ bytes g c there =
     let long' = c.read_piece.ensures.long in
     c.read_piece.ensures.bytes there ∙ ap (slice_range (body_of (disk c.read_piece.new.volume) (fields_of c.read_piece.new.node)) c.loop-from.from) (omega (arith, more, is, long, long'))
 
-pub returns-then-not-store_piece-clause-comes : goal.returns-then-not-store_piece-clause-comes
-returns-then-not-store_piece-clause-comes g c =
-    let k = (goal.at.returns-then-not-store_piece-clause-comes g c).After-read_piece in
+pub returns-then-not-copy_out-clause-comes : goal.returns-then-not-copy_out-clause-comes
+returns-then-not-copy_out-clause-comes g c =
+    let k = (goal.at.returns-then-not-copy_out-clause-comes g c).After-read_piece in
     let P : Image → Type 0 = λ m. Comes c.read_piece.new.volume (fields_of c.read_piece.new.node) (reading (put_into c.args.at) (pieces c.args.offset c.args.end) (moving c.args.volume.now (fields_of c.args.node.now) (g.S.Space.image c.args.space.now) 0)) m (c.loop-from.from - c.args.offset) (Some EFAULT) in
-    subst P (sym (c.store_piece.ensures.same c.if-not-store_piece.true))
+    subst P (sym (c.copy_out.ensures.same c.if-not-copy_out.true))
     (read_faults (put_into c.args.at) c.loop-from.volume c.read_piece.new.volume (fields_of c.loop-from.node) (fields_of c.read_piece.new.node) c.loop-from.from c.args.end (c.loop-from.from - c.args.offset) (g.S.Space.image c.loop-from.space) c.read_piece.new.into _
     c.loop-from-test.true c.if-not-read_piece.ensures.touched (bytes g k c.if-not-read_piece.false)
-    (store_wraps (g.S.Space.image c.loop-from.space) _ _ c.read_piece.new.into (omega arith) ∙ ap (store_bytes (g.S.Space.image c.loop-from.space) _) (sym ((front g k).1 _)) ∙ c.store_piece.ensures.refused c.if-not-store_piece.true)
+    (store_wraps (g.S.Space.image c.loop-from.space) _ _ c.read_piece.new.into (omega arith) ∙ ap (store_bytes (g.S.Space.image c.loop-from.space) _) (sym ((front g k).1 _)) ∙ c.copy_out.ensures.refused c.if-not-copy_out.true)
     c.loop-from.invariant.same)
 
-pub returns-then-not-store_piece-clause-grew : goal.returns-then-not-store_piece-clause-grew
-returns-then-not-store_piece-clause-grew g c =
+pub returns-then-not-copy_out-clause-grew : goal.returns-then-not-copy_out-clause-grew
+returns-then-not-copy_out-clause-grew g c =
     grew_touched _ _ _ _ _ _ _ _ c.loop-from.invariant.grew c.read_piece.ensures.touched c.loop-from.invariant.fewer
 
 pub loop-from-preserved : goal.loop-from-preserved
@@ -72,12 +73,12 @@ loop-from-preserved g c =
       file = t.file;
       grew = grew_touched _ _ _ _ _ _ _ _ c.loop-from.invariant.grew t c.loop-from.invariant.fewer;
       fewer = omega (arith, fewer, fewer');
-      rest = c.store_piece.ensures.rest ∙ c.loop-from.invariant.rest;
-      same = ap (λ k. reading (put_into c.args.at) (pieces k c.args.end) (moving c.read_piece.new.volume (fields_of c.read_piece.new.node) (g.S.Space.image c.store_piece.new.space) (k - c.args.offset))) is
-          ∙ ap (λ d. reading (put_into c.args.at) (pieces (piece_end c.loop-from.from c.args.end) c.args.end) (moving c.read_piece.new.volume (fields_of c.read_piece.new.node) (g.S.Space.image c.store_piece.new.space) d)) (omega (arith, is, low, more))
+      rest = c.copy_out.ensures.rest ∙ c.loop-from.invariant.rest;
+      same = ap (λ k. reading (put_into c.args.at) (pieces k c.args.end) (moving c.read_piece.new.volume (fields_of c.read_piece.new.node) (g.S.Space.image c.copy_out.new.space) (k - c.args.offset))) is
+          ∙ ap (λ d. reading (put_into c.args.at) (pieces (piece_end c.loop-from.from c.args.end) c.args.end) (moving c.read_piece.new.volume (fields_of c.read_piece.new.node) (g.S.Space.image c.copy_out.new.space) d)) (omega (arith, is, low, more))
           ∙ sym (read_goes (put_into c.args.at) c.loop-from.volume c.read_piece.new.volume (fields_of c.loop-from.node) (fields_of c.read_piece.new.node) c.loop-from.from c.args.end (c.loop-from.from - c.args.offset)
-          (g.S.Space.image c.loop-from.space) (g.S.Space.image c.store_piece.new.space) c.read_piece.new.into c.loop-from-test.true c.if-not-read_piece.ensures.touched (bytes g k c.if-not-read_piece.false)
-          (store_wraps (g.S.Space.image c.loop-from.space) _ _ c.read_piece.new.into (omega arith) ∙ ap (store_bytes (g.S.Space.image c.loop-from.space) _) (sym ((front g k).1 _)) ∙ c.store_piece.ensures.done c.if-not-store_piece.false))
+          (g.S.Space.image c.loop-from.space) (g.S.Space.image c.copy_out.new.space) c.read_piece.new.into c.loop-from-test.true c.if-not-read_piece.ensures.touched (bytes g k c.if-not-read_piece.false)
+          (store_wraps (g.S.Space.image c.loop-from.space) _ _ c.read_piece.new.into (omega arith) ∙ ap (store_bytes (g.S.Space.image c.loop-from.space) _) (sym ((front g k).1 _)) ∙ c.copy_out.ensures.done c.if-not-copy_out.false))
           ∙ c.loop-from.invariant.same;
     }
 

@@ -4,30 +4,31 @@ use Rattle.fs_codec.specs.Modes.{is_device}
 use Rattle.fs_laws.specs.Chain.{free}
 use Rattle.fs_blocks.specs.State.{disk}
 use Rattle.fs_laws.specs.Pieces.{piece_end, pieces, writing}
-use Rattle.fs_nodes.specs.Copy.{get_from, load_bytes}
+use Rattle.v6_base.specs.Copy.{load_bytes}
+use Rattle.fs_nodes.specs.Copy.{get_from}
 use Rattle.fs_nodes.specs.Moves.{moving}
-use Rattle.fs_nodes.proofs.PieceCopy.{load_wraps}
+use Rattle.v6_base.proofs.Copies.{load_wraps}
 use Rattle.fs_nodes.proofs.PieceSteps.{front_of, buffer_long, write_ends_large, write_ends, write_faults, write_goes, grew_touched, grew_wrote, grew_none}
 use Rattle.fs_nodes.proofs.pieces.write_pieces.Given.{Over}
 use Rattle.fs_nodes.proofs.pieces.write_pieces.Goals as goal
-use Rattle.fs_nodes.proofs.pieces.write_pieces.Goals.{After-load_piece}
+use Rattle.fs_nodes.proofs.pieces.write_pieces.Goals.{After-copy_in}
 
 -- the bytes that are loaded, as the front of the buffer and as those of the memory
-front : (g : Over) (c : After-load_piece g) → (length c.load_piece.new.into ≡ c.piece_end-next.result - c.loop-from.from)
-    × ((ys : List ℕ) → take (c.piece_end-next.result - c.loop-from.from - 0) (c.load_piece.new.into ++ ys) ≡ c.load_piece.new.into)
+front : (g : Over) (c : After-copy_in g) → (length c.copy_in.new.into ≡ c.piece_end-next.result - c.loop-from.from)
+    × ((ys : List ℕ) → take (c.piece_end-next.result - c.loop-from.from - 0) (c.copy_in.new.into ++ ys) ≡ c.copy_in.new.into)
 front g c =
     let block = c.piece_end-next.ensures.block in
     let fits : c.piece_end-next.result - c.loop-from.from ≤ 512 = omega (arith, block) in (
-      (front_of c.load_piece.new.into [] c.loop-from.piece (c.piece_end-next.result - c.loop-from.from) c.loop-from.invariant.size fits c.load_piece.ensures.long).0,
-      λ ys. (front_of c.load_piece.new.into ys c.loop-from.piece (c.piece_end-next.result - c.loop-from.from) c.loop-from.invariant.size fits c.load_piece.ensures.long).1,
+      (front_of c.copy_in.new.into [] c.loop-from.piece (c.piece_end-next.result - c.loop-from.from) c.loop-from.invariant.size fits c.copy_in.ensures.long).0,
+      λ ys. (front_of c.copy_in.new.into ys c.loop-from.piece (c.piece_end-next.result - c.loop-from.from) c.loop-from.invariant.size fits c.copy_in.ensures.long).1,
     )
 
-loads : (g : Over) (c : After-load_piece g) → load_bytes (g.S.Space.image c.args.space.now) (c.args.at + (c.loop-from.from - c.args.offset)) (piece_end c.loop-from.from c.args.end - c.loop-from.from)
+loads : (g : Over) (c : After-copy_in g) → load_bytes (g.S.Space.image c.args.space.now) (c.args.at + (c.loop-from.from - c.args.offset)) (piece_end c.loop-from.from c.args.end - c.loop-from.from)
     ≡ load_bytes (g.S.Space.image c.args.space.now) ((c.args.at + (c.loop-from.from - c.args.offset)) % 65536) (length (take (c.piece_end-next.result - c.loop-from.from - 0) c.loop-from.piece))
 loads g c =
     let is = c.piece_end-next.ensures.is in
     let l = (front g c).0 in
-    let l' = c.load_piece.ensures.long in
+    let l' = c.copy_in.ensures.long in
     load_wraps (g.S.Space.image c.args.space.now) _ _ (piece_end c.loop-from.from c.args.end - c.loop-from.from) (omega arith)
     ∙ ap (load_bytes (g.S.Space.image c.args.space.now) ((c.args.at + (c.loop-from.from - c.args.offset)) % 65536)) (omega (arith, is, l, l'))
 
@@ -51,17 +52,17 @@ pub returns-in_default-clause-grew : goal.returns-in_default-clause-grew
 returns-in_default-clause-grew g c =
     grew_touched _ _ _ _ _ _ _ _ c.loop-from.invariant.grew c.touch_block.ensures.touched c.loop-from.invariant.fewer
 
-pub returns-then-not-load_piece-clause-comes : goal.returns-then-not-load_piece-clause-comes
-returns-then-not-load_piece-clause-comes g c =
+pub returns-then-not-copy_in-clause-comes : goal.returns-then-not-copy_in-clause-comes
+returns-then-not-copy_in-clause-comes g c =
     let limit = c.write_limit.ensures in
     let small = c.if-write_limit-next.false in
     let is = c.piece_end-next.ensures.is in
-    let k = (goal.at.returns-then-not-load_piece-clause-comes g c).After-load_piece in
+    let k = (goal.at.returns-then-not-copy_in-clause-comes g c).After-copy_in in
     write_faults (get_from (g.S.Space.image c.args.space.now) c.args.at) c.loop-from.volume c.touch_block.new.volume (fields_of c.loop-from.node) (fields_of c.touch_block.new.node) c.loop-from.from c.args.end (c.loop-from.from - c.args.offset) (tt {0}) _ c.loop-from-test.true
-    (subst (λ k. piece_end c.loop-from.from c.args.end ≤ k) limit (subst (λ k. k ≤ c.write_limit.result) is small)) c.in-Some.ensures.touched (loads g k ∙ c.load_piece.ensures.refused c.if-not-load_piece.true) c.loop-from.invariant.same
+    (subst (λ k. piece_end c.loop-from.from c.args.end ≤ k) limit (subst (λ k. k ≤ c.write_limit.result) is small)) c.in-Some.ensures.touched (loads g k ∙ c.copy_in.ensures.refused c.if-not-copy_in.true) c.loop-from.invariant.same
 
-pub returns-then-not-load_piece-clause-grew : goal.returns-then-not-load_piece-clause-grew
-returns-then-not-load_piece-clause-grew g c =
+pub returns-then-not-copy_in-clause-grew : goal.returns-then-not-copy_in-clause-grew
+returns-then-not-copy_in-clause-grew g c =
     grew_touched _ _ _ _ _ _ _ _ c.loop-from.invariant.grew c.touch_block.ensures.touched c.loop-from.invariant.fewer
 
 pub loop-from-preserved : goal.loop-from-preserved
@@ -79,9 +80,9 @@ loop-from-preserved g c =
     let w = c.write_piece.ensures.wrote in
     let still : length (free (disk c.write_piece.new.volume)) ≡ length (free (disk c.touch_block.new.volume)) = ap length w.room in
     let mode = c.write_piece.ensures.mode in
-    let k = (goal.at.loop-from-preserved g c).After-load_piece in
+    let k = (goal.at.loop-from-preserved g c).After-copy_in in
     record {
-      size = buffer_long c.load_piece.new.into c.loop-from.piece (c.piece_end-next.result - c.loop-from.from) c.loop-from.invariant.size (omega (arith, block)) c.load_piece.ensures.long;
+      size = buffer_long c.copy_in.new.into c.loop-from.piece (c.piece_end-next.result - c.loop-from.from) c.loop-from.invariant.size (omega (arith, block)) c.copy_in.ensures.long;
       low = omega (arith, low, more);
       high = inr c.piece_end-next.ensures.within;
       used = λ e. t.used (sym mode ∙ e);
@@ -91,7 +92,7 @@ loop-from-preserved g c =
       same = ap (λ k. writing (get_from (g.S.Space.image c.args.space.now) c.args.at) (pieces k c.args.end) (moving c.write_piece.new.volume (fields_of c.write_piece.new.node) (tt {0}) (k - c.args.offset))) is
           ∙ ap (λ d. writing (get_from (g.S.Space.image c.args.space.now) c.args.at) (pieces (piece_end c.loop-from.from c.args.end) c.args.end) (moving c.write_piece.new.volume (fields_of c.write_piece.new.node) (tt {0}) d)) (omega (arith, is, low, more))
           ∙ sym (write_goes (get_from (g.S.Space.image c.args.space.now) c.args.at) c.loop-from.volume c.touch_block.new.volume c.write_piece.new.volume (fields_of c.loop-from.node) (fields_of c.touch_block.new.node) (fields_of c.write_piece.new.node) c.loop-from.from c.args.end (c.loop-from.from - c.args.offset)
-          (tt {0}) _ c.loop-from-test.true (subst (λ k. piece_end c.loop-from.from c.args.end ≤ k) limit (subst (λ k. k ≤ c.write_limit.result) is small)) c.in-Some.ensures.touched (loads g k ∙ c.load_piece.ensures.done c.if-not-load_piece.false ∙ ap Some (sym ((front g k).1 _))) w)
+          (tt {0}) _ c.loop-from-test.true (subst (λ k. piece_end c.loop-from.from c.args.end ≤ k) limit (subst (λ k. k ≤ c.write_limit.result) is small)) c.in-Some.ensures.touched (loads g k ∙ c.copy_in.ensures.done c.if-not-copy_in.false ∙ ap Some (sym ((front g k).1 _))) w)
           ∙ c.loop-from.invariant.same;
     }
 
