@@ -1,0 +1,6 @@
+pub mod NameLemmas
+pub mod DirectoryLemmas
+pub mod PathLemmas
+pub mod FindingLemmas
+pub mod EntryLemmas
+pub mod SearchLemmas

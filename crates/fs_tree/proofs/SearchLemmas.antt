@@ -1,0 +1,84 @@
+-- A search asks for nothing of a store but its nodes.
+use Rattle.std.proofs.Common.{◌≡◌, ℕ, Bool, true, false, cond, List, [], ◌∷◌, Option, Some, None, Result, Ok, Err, refl, sym, ap, ◌∙◌}
+use Rattle.std.specs.Prelude.{◌&&◌, ◌||◌, not, is_some, slice_index_or, if◌then◌else◌}
+use Rattle.v6_base.specs.Access.{then_do}
+use Rattle.v6_base.specs.declared.errno.Errno.{Errno}
+use Rattle.v6_base.specs.declared.errno.Errno.TheVariants.{ENOENT, EFAULT, ENFILE}
+use Rattle.fs_codec.specs.Store.{Node, Store, node_numbered}
+use Rattle.fs_tree.specs.declared.user.User.{User}
+use Rattle.fs_tree.specs.declared.directory.Looked.{Looked}
+use Rattle.fs_tree.specs.declared.directory.Looked.TheVariants.{Entry, Room}
+use Rattle.fs_tree.specs.declared.walk.Last.{Last}
+use Rattle.fs_tree.specs.declared.walk.Way.{Way}
+use Rattle.fs_tree.specs.declared.walk.Way.TheVariants.{Start, End}
+use Rattle.fs_tree.specs.Name.{is_whole, components, start_of}
+use Rattle.fs_tree.specs.Path.{with_node_of, looked_in, in_directory, used_number, entry_number, is_last, walk, way, found}
+use Rattle.fs_tree.specs.Finding.{Inodes, Finding, can_refer, with_reference, referring, refused, finding, find_in}
+
+then_each : {A B E : Type 0} (r : Result A E) (f f' : A → Result B E) → ((a : A) → f a ≡ f' a) → then_do r f ≡ then_do r f'
+then_each (Ok a) f f' each = each a
+then_each (Err e) f f' each = refl
+
+then_same : {A B E : Type 0} (r r' : Result A E) (f f' : A → Result B E) → r ≡ r' → ((a : A) → f a ≡ f' a) → then_do r f ≡ then_do r' f'
+then_same r r' f f' is each = then_each r f f' each ∙ ap (λ x. then_do x f') is
+
+module _ (s t : Store) (same : s.nodes ≡ t.nodes) where
+  used_same : (ino : ℕ) → used_number s ino ≡ used_number t ino
+  used_same ino = ap (λ l. if is_some (slice_index_or l ino None) then Ok ino else Err ENOENT) same
+
+  entry_same : (l : Looked) → entry_number s l ≡ entry_number t l
+  entry_same (Entry i ino) = used_same ino
+  entry_same (Room i) = refl
+
+  in_same : (user : User) (dir : ℕ) (name : List ℕ) (read : Bool) → in_directory s user dir name read ≡ in_directory t user dir name read
+  in_same user dir name read = ap (λ l. with_node_of (slice_index_or l dir None) (looked_in user dir name read)) same
+
+  either_same : (last : Bool) (w : Way) (r r' : Result Way Errno) → r ≡ r' → (if last then Ok w else r) ≡ (if last then Ok w else r')
+  either_same true w r r' is = refl
+  either_same false w r r' is = is
+
+  walk_same : (user : User) (whole : Bool) (dir : ℕ) (names : List (List ℕ)) → walk s user whole dir names ≡ walk t user whole dir names
+  unfolding walk
+  walk_same user whole dir [] = refl
+  walk_same user whole dir (name ∷ later) =
+      then_same _ _ _ _ (in_same user dir name (not (is_last later) || whole)) (λ last.
+      either_same (is_last later) (End last) _ _ (then_same _ _ _ _ (entry_same last.looked) (λ ino. walk_same user whole ino later)))
+
+  way_same : (user : User) (dir : ℕ) (bytes : List ℕ) → way s user dir bytes ≡ way t user dir bytes
+  way_same user dir bytes =
+      ap (λ r. if is_last (components bytes) && not (is_whole bytes) then Err EFAULT else r) (walk_same user (is_whole bytes) (start_of dir bytes) (components bytes))
+
+  found_same : (w : Way) → found s w ≡ found t w
+  found_same (Start ino) = refl
+  found_same (End last) = entry_same last.looked
+
+  search_same : (user : User) (dir : ℕ) (bytes : List ℕ) → then_do (way s user dir bytes) (found s) ≡ then_do (way t user dir bytes) (found t)
+  search_same user dir bytes = then_same _ _ _ _ (way_same user dir bytes) found_same
+
+-- What it answers depends on the references besides.
+answer_either : (b : Bool) (f f' g g' : Finding ℕ) → f.answer ≡ f'.answer → g.answer ≡ g'.answer → (if b then f else g).answer ≡ (if b then f' else g').answer
+answer_either true f f' g g' p q = p
+answer_either false f f' g g' p q = q
+
+answer_same : (r : Result ℕ Errno) (s t : Store) (references : List ℕ) → (finding (record { store = s; references = references }) r).answer ≡ (finding (record { store = t; references = references }) r).answer
+answer_same (Ok ino) s t references = answer_either (can_refer (record { store = s; references = references }) ino) _ _ _ _ refl refl
+answer_same (Err e) s t references = refl
+
+pub find_same : (s t : Store) (references : List ℕ) (user : User) (dir : ℕ) (bytes : List ℕ) → s.nodes ≡ t.nodes
+    → (find_in (record { store = s; references = references }) user dir bytes).answer ≡ (find_in (record { store = t; references = references }) user dir bytes).answer
+find_same s t references user dir bytes same =
+    ap (λ r. (finding (record { store = s; references = references }) r).answer) (search_same s t same user dir bytes)
+    ∙ answer_same (then_do (way t user dir bytes) (found t)) s t references
+
+-- What is found is referred to.
+refers : (b : Bool) (n : Inodes) (i ino : ℕ) → (if b then record { answer = Ok i; inodes = with_reference n i } else refused n ENFILE).answer ≡ Ok ino
+    → (if b then record { answer = Ok i; inodes = with_reference n i } else refused {A = ℕ} n ENFILE).inodes ≡ with_reference n ino
+refers true n i ino is = ap (with_reference n) (ap (number_or i) is) where
+  number_or : ℕ → Result ℕ Errno → ℕ
+  number_or d (Ok a) = a
+  number_or d (Err e) = d
+refers false n i ino is = absurd (cc)
+
+pub finding_refers : (n : Inodes) (r : Result ℕ Errno) (ino : ℕ) → (finding n r).answer ≡ Ok ino → (finding n r).inodes ≡ with_reference n ino
+finding_refers n (Ok i) ino is = refers (can_refer n i) n i ino is
+finding_refers n (Err e) ino is = absurd (cc)

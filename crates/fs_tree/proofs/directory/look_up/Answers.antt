@@ -1,0 +1,36 @@
+use Rattle.std.proofs.Common.{◌≡◌, IsSome, refl, sym, ap, ◌∙◌, subst, arith}
+use Rattle.fs_codec.specs.Store.{node_numbered}
+use Rattle.fs_nodes.specs.FileSystem.{FileSystem}
+use Rattle.fs_tree.specs.Directory.{entry_count}
+use Rattle.fs_tree.proofs.DirectoryLemmas.{passed_none, passed_more, found_here, room_here}
+use Rattle.fs_tree.proofs.directory.look_up.Goals as goal
+
+pub loop-place-init : goal.loop-place-init
+loop-place-init c = record { same = refl; passed = λ node found. passed_none node c.args.name.now }
+
+pub entry-entry-requires : goal.entry-entry-requires
+entry-entry-requires c =
+    let P : FileSystem → Type 0 = λ f. IsSome (node_numbered f.store c.args.dir) in
+    record { node = subst P (sym c.loop-place.invariant.same) c.requires.node }
+
+pub loop-place-preserved : goal.loop-place-preserved
+loop-place-preserved c =
+    let i = c.loop-place.invariant in
+    record {
+      same = c.entry-entry.ensures.same ∙ i.same;
+      passed = λ node found. passed_more node c.args.name.now c.loop-place.place c.loop-place.empty c.first_empty-empty.result c.entry-entry.result c.is_named.result (i.passed node found)
+          (c.entry-entry.ensures.entry node (ap (λ (f : FileSystem). node_numbered f.store c.args.dir) i.same ∙ found)) c.first_empty-empty.ensures c.is_named.ensures c.if-is_named.false;
+    }
+
+pub returns-then-is_named-clause-looked : goal.returns-then-is_named-clause-looked
+returns-then-is_named-clause-looked c = λ node found size.
+    let i = c.loop-place.invariant in
+    found_here node c.args.name.now c.loop-place.place c.args.size c.loop-place.empty c.entry-entry.result c.is_named.result (i.passed node found)
+    (c.entry-entry.ensures.entry node (ap (λ (f : FileSystem). node_numbered f.store c.args.dir) i.same ∙ found)) c.is_named.ensures c.if-is_named.true size c.loop-place-test.true
+
+pub returns-clause-looked : goal.returns-clause-looked
+returns-clause-looked c = λ node found size.
+    let past = c.loop-place-test.false in
+    let within = c.loop-place.auto.place-end in
+    let end : c.loop-place.place ≡ entry_count c.args.size = omega (arith, past, within) in
+    room_here node c.args.name.now c.loop-place.place c.args.size c.unwrap_or.result c.loop-place.empty (c.loop-place.invariant.passed node found) size end c.unwrap_or.ensures

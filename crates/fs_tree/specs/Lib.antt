@@ -1,0 +1,6 @@
+pub mod Permission
+pub mod Name
+pub mod Directory
+pub mod Path
+pub mod Finding
+pub mod Entries

@@ -1,0 +1,88 @@
+-- The search for a name: namei in Lions' Commentary, `nami.c`.
+use Rattle.std.specs.Prelude.{ℕ, Bool, true, false, not, ◌*◌, ◌&&◌, ◌||◌, if◌then◌else◌, List, [], ◌∷◌, Option, Some, None, is_some, Result, Ok, Err}
+use Rattle.v6_base.specs.Access.{then_do}
+use Rattle.v6_base.specs.declared.errno.Errno.{Errno}
+use Rattle.v6_base.specs.declared.errno.Errno.TheVariants.{ENOENT, EACCES, EFAULT, ENOTDIR}
+use Rattle.fs_codec.specs.Modes.{is_directory}
+use Rattle.fs_codec.specs.Store.{Node, Store, node_numbered}
+use Rattle.fs_tree.specs.declared.user.User.{User}
+use Rattle.fs_tree.specs.declared.user.Want.TheVariants.{Write, Execute}
+use Rattle.fs_tree.specs.declared.directory.Looked.{Looked}
+use Rattle.fs_tree.specs.declared.directory.Looked.TheVariants.{Entry, Room}
+use Rattle.fs_tree.specs.declared.walk.Last.{Last}
+use Rattle.fs_tree.specs.declared.walk.Way.{Way}
+use Rattle.fs_tree.specs.declared.walk.Way.TheVariants.{Start, End}
+use Rattle.fs_tree.specs.declared.made.Made.{Made}
+use Rattle.fs_tree.specs.declared.made.Made.TheVariants as made
+use Rattle.fs_tree.specs.Permission.{may_use}
+use Rattle.fs_tree.specs.Name.{is_whole, components, start_of}
+use Rattle.fs_tree.specs.Directory.{looked}
+
+-- the next step at the node of a number, where there is one
+abbrev pub with_node_of : Option Node → (Node → Result Last Errno) → Result Last Errno
+with_node_of None next = Err ENOENT
+with_node_of (Some node) next = next node
+
+-- The number of an inode that is used.
+abbrev pub used_number : Store → ℕ → Result ℕ Errno
+used_number store ino = if is_some (node_numbered store ino) then Ok ino else Err ENOENT
+
+-- the number that a search of a directory found
+abbrev pub entry_number : Store → Looked → Result ℕ Errno
+entry_number store (Entry i ino) = used_number store ino
+entry_number store (Room i) = Err ENOENT
+
+-- A component of a name is looked for: the node that was reached is a directory, the user may search it, the bytes of the
+-- component and what ends them can be read, and then the entries are looked at.
+abbrev pub looked_in : User → ℕ → List ℕ → Bool → Node → Result Last Errno
+looked_in user dir name is_read node =
+    if not (is_directory node.mode) then Err ENOTDIR
+    else (if not (may_use node user Execute) then Err EACCES
+    else (if not is_read then Err EFAULT
+    else Ok (record { dir = dir; name = name; may_write = may_use node user Write; looked = looked node name })))
+
+abbrev pub in_directory : Store → User → ℕ → List ℕ → Bool → Result Last Errno
+in_directory store user dir name is_read = with_node_of (node_numbered store dir) (looked_in user dir name is_read)
+
+abbrev pub is_last : List (List ℕ) → Bool
+is_last [] = true
+is_last (next ∷ later) = false
+
+-- The components of a name are looked for in order, each in the node that the one before names. A byte that cannot be read
+-- is met at the last of them. The answer is what the search of the last directory comes to.
+unfoldable pub walk : Store → User → Bool → ℕ → List (List ℕ) → Result Way Errno
+walk store user whole dir [] = Ok (Start dir)
+walk store user whole dir (name ∷ later) =
+    then_do (in_directory store user dir name (not (is_last later) || whole)) (λ last.
+    if is_last later then Ok (End last)
+    else then_do (entry_number store last.looked) (λ ino. walk store user whole ino later))
+
+-- A name is looked for from a directory. One that has no component names the start itself.
+abbrev pub way : Store → User → ℕ → List ℕ → Result Way Errno
+way store user dir bytes =
+    if is_last (components bytes) && not (is_whole bytes) then Err EFAULT
+    else walk store user (is_whole bytes) (start_of dir bytes) (components bytes)
+
+-- The three uses of it. The first finds a node.
+abbrev pub found : Store → Way → Result ℕ Errno
+found store (Start ino) = Ok ino
+found store (End last) = entry_number store last.looked
+
+-- The second finds a node, or the room for an entry of a directory that the user may write.
+abbrev pub found_or_room : Store → Last → Looked → Result Made Errno
+found_or_room store last (Entry i ino) = then_do (used_number store ino) (λ ino. Ok (made.Found ino))
+found_or_room store last (Room i) = if last.may_write then Ok (made.Room last.dir (16 * i) last.name) else Err EACCES
+
+abbrev pub to_make : Store → Way → Result Made Errno
+to_make store (Start ino) = Err ENOENT
+to_make store (End last) = found_or_room store last last.looked
+
+-- The third finds an entry of a directory that the user may write.
+abbrev pub entry_to_remove : Store → Last → Looked → Result (ℕ × ℕ × ℕ) Errno
+entry_to_remove store last (Entry i ino) =
+    if last.may_write then then_do (used_number store ino) (λ ino. Ok (last.dir, 16 * i, ino)) else Err EACCES
+entry_to_remove store last (Room i) = Err ENOENT
+
+abbrev pub to_remove : Store → Way → Result (ℕ × ℕ × ℕ) Errno
+to_remove store (Start ino) = Err ENOENT
+to_remove store (End last) = entry_to_remove store last last.looked

@@ -1,0 +1,173 @@
+//! The tree of names over a file system.
+ghost use Rattle.std.specs.Prelude.{◌≡◌, ◌<◌, ◌≤◌, ℕ, true, false, if◌then◌else◌, Some, IsSome, IfOk, IfErr};
+ghost use Rattle.std.specs.Prelude.{slice_index};
+ghost use Rattle.fs_codec.specs.Store.{Node, node_numbered};
+ghost use Rattle.fs_tree.specs.Permission.{permission};
+ghost use Rattle.fs_tree.specs.Finding.{find_in, make_in, remove_in, referring_both, can_refer, with_reference};
+ghost use Rattle.fs_tree.specs.Finding.{put_back, inodes_of};
+ghost use Rattle.fs_nodes.specs.FileSystem.{FileSystem, SameRest};
+
+use crate::access::may;
+use crate::made::Made;
+use crate::name::NameBytes;
+use crate::user::{User, Want};
+use crate::walk::{found, see_start, to_make, to_remove, walk};
+use fs_nodes::Nodes;
+use v6_base::{Errno, Space};
+
+/// A file system whose files have names.
+#[derive(Drop)]
+pub struct Tree {
+    pub nodes: Nodes,
+}
+
+/// Refers to an inode once more.
+fn take(nodes: &mut Nodes, ino: u16) -> Result<(), Errno>
+    requires node { IsSome (node_numbered nodes.old.store ino) }
+    requires few { slice_index nodes.old.references ino < 65535 }
+    ensures done { IfOk result (λ _. can_refer (inodes_of nodes.old) ino ≡ true) }
+    ensures error { IfErr result (λ e. (can_refer (inodes_of nodes.old) ino ≡ false) × (e ≡ Errno.ENFILE)) }
+    ensures inodes { inodes_of nodes.new ≡ (if can_refer (inodes_of nodes.old) ino
+        then with_reference (inodes_of nodes.old) ino else inodes_of nodes.old) }
+    ensures blocks { nodes.new.blocks ≡ nodes.old.blocks }
+{
+    nodes.take(ino)
+}
+
+/// Gives a reference to an inode back.
+fn put(nodes: &mut Nodes, ino: u16)
+    requires referenced { 0 < slice_index nodes.old.references ino }
+    requires node { IsSome (node_numbered nodes.old.store ino) }
+    ensures inodes { inodes_of nodes.new ≡ put_back (inodes_of nodes.old) ino }
+    ensures rest { SameRest nodes.old.blocks nodes.new.blocks }
+{
+    nodes.put(ino, 0);
+}
+
+/// Refers to the directory of an entry and to its inode once more, or to none of them.
+fn take_both(nodes: &mut Nodes, entry: (u16, u32, u16)) -> Result<(u16, u32, u16), Errno>
+    requires dir { IsSome (node_numbered nodes.old.store entry.0) }
+    requires node { IsSome (node_numbered nodes.old.store entry.2) }
+    requires few { (i : ℕ) → slice_index nodes.old.references i ≤ 65530 }
+    ensures answer { result ≡ (referring_both (inodes_of nodes.old) entry).answer }
+    ensures inodes { inodes_of nodes.new ≡ (referring_both (inodes_of nodes.old) entry).inodes }
+    ensures rest { SameRest nodes.old.blocks nodes.new.blocks }
+{
+    take(nodes, entry.0)?;
+    if let Err(e) = take(nodes, entry.2) {
+        put(nodes, entry.0);
+        return Err(e);
+    }
+    Ok(entry)
+}
+
+impl Tree {
+    /// The tree of names of a file system.
+    pub fn new(nodes: Nodes) -> Tree
+        ensures { result.nodes ≡ nodes }
+    {
+        Tree { nodes }
+    }
+
+    /// Whether a user may do this with the file of an inode: access in Lions' Commentary, `fio.c`. User 0 may do all, but
+    /// needs one of the three bits to execute; another is tested against the bits of the first class that fits: the owner, the
+    /// group, the others.
+    ///
+    /// # Errors
+    ///
+    /// `EACCES`: the user may not.
+    pub fn access(&self, ino: u16, who: User, want: Want) -> Result<(), Errno>
+        requires { 0 < slice_index self.now.nodes.references ino }
+        ensures { (node : Node) → node_numbered self.now.nodes.store ino ≡ Some node
+            → result ≡ permission node who want }
+    {
+        if may(self.nodes.node(ino), who, want) {
+            Ok(())
+        } else {
+            Err(Errno::EACCES)
+        }
+    }
+
+    /// Finds the inode of a name, and refers to it once more: namei in Lions' Commentary, `nami.c`. `dir` is the directory
+    /// where a name starts that does not begin with a slash. Nothing else changes.
+    ///
+    /// # Errors
+    ///
+    /// Of each component, in this order. `ENOTDIR`: it is looked for in what is no directory. `EACCES`: the user may not search
+    /// the directory. `EFAULT`: a byte of it, or the one that ends it, cannot be read. `ENOENT`: there is no such name. At the
+    /// end `ENFILE`: a hundred other inodes are referred to.
+    pub fn find<S: Space>(
+        &mut self,
+        dir: u16,
+        who: User,
+        name: NameBytes<'_, S>,
+    ) -> Result<u16, Errno>
+        requires referenced { 0 < slice_index self.old.nodes.references dir }
+        requires few { (i : ℕ) → slice_index self.old.nodes.references i ≤ 65530 }
+        ensures answer { result ≡ (find_in (inodes_of self.old.nodes) who dir name.entry).answer }
+        ensures inodes { inodes_of self.new.nodes ≡ (find_in (inodes_of self.old.nodes) who dir name.entry).inodes }
+        ensures blocks { self.new.nodes.blocks ≡ self.old.nodes.blocks }
+    {
+        see_start(&self.nodes, dir);
+        let mut name = name;
+        let way = walk(&mut self.nodes, dir, who, &mut name)?;
+        let ino = found(&mut self.nodes, way)?;
+        take(&mut self.nodes, ino)?;
+        Ok(ino)
+    }
+
+    /// Finds the inode of a name, or the room for a new entry of this name in a directory that the user may write, and refers to
+    /// the inode or to the directory once more. The room is the first empty entry, or the place just after the entries. Nothing
+    /// else changes.
+    ///
+    /// # Errors
+    ///
+    /// Those of `find`, but for the last component: where it is not found, only `EACCES`, where the user may not write the
+    /// directory. `ENOENT` too for a name without a component.
+    pub fn find_to_make<S: Space>(
+        &mut self,
+        dir: u16,
+        who: User,
+        name: NameBytes<'_, S>,
+    ) -> Result<Made, Errno>
+        requires referenced { 0 < slice_index self.old.nodes.references dir }
+        requires few { (i : ℕ) → slice_index self.old.nodes.references i ≤ 65530 }
+        ensures answer { result ≡ (make_in (inodes_of self.old.nodes) who dir name.entry).answer }
+        ensures inodes { inodes_of self.new.nodes ≡ (make_in (inodes_of self.old.nodes) who dir name.entry).inodes }
+        ensures blocks { self.new.nodes.blocks ≡ self.old.nodes.blocks }
+    {
+        see_start(&self.nodes, dir);
+        let mut name = name;
+        let way = walk(&mut self.nodes, dir, who, &mut name)?;
+        let made = to_make(&mut self.nodes, way)?;
+        take(&mut self.nodes, made.number())?;
+        Ok(made)
+    }
+
+    /// Finds the entry of a name in a directory that the user may write, and refers to the directory and then to the inode of
+    /// the entry once more. The answer is the directory, the entry's first byte there, and the inode.
+    ///
+    /// # Errors
+    ///
+    /// Those of `find`, but for the last component: where it is found, `EACCES`, where the user may not write the directory,
+    /// and then `ENOENT`, where its inode is free or there is none of its number. `ENOENT` too for a name without a component.
+    /// Where the inode cannot be referred to, the directory is no longer, as by `put` of `Nodes`.
+    pub fn find_to_remove<S: Space>(
+        &mut self,
+        dir: u16,
+        who: User,
+        name: NameBytes<'_, S>,
+    ) -> Result<(u16, u32, u16), Errno>
+        requires referenced { 0 < slice_index self.old.nodes.references dir }
+        requires few { (i : ℕ) → slice_index self.old.nodes.references i ≤ 65530 }
+        ensures answer { result ≡ (remove_in (inodes_of self.old.nodes) who dir name.entry).answer }
+        ensures inodes { inodes_of self.new.nodes ≡ (remove_in (inodes_of self.old.nodes) who dir name.entry).inodes }
+        ensures rest { SameRest self.old.nodes.blocks self.new.nodes.blocks }
+    {
+        see_start(&self.nodes, dir);
+        let mut name = name;
+        let way = walk(&mut self.nodes, dir, who, &mut name)?;
+        let entry = to_remove(&mut self.nodes, way)?;
+        take_both(&mut self.nodes, entry)
+    }
+}
