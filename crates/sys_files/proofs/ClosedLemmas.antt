@@ -1,0 +1,122 @@
+-- What dup and close keep.
+use Rattle.std.proofs.Common.{◌≡◌, ℕ, Bool, true, false, ◌+◌, ◌<◌, ◌≤◌, ◌==◌, List, [], length, Option, Some, None, is_some, IsSome, cond, eqb, slice_index, slice_set, refl, sym, ap, ◌∙◌, subst, arith}
+use Rattle.std.proofs.lemmas.Bool.{ne_eqb, eq-eqb, eqb-true, false≢true}
+use Rattle.std.proofs.lemmas.Option.{none-some, same_Some}
+use Rattle.std.proofs.lemmas.List.Quantifiers.{position-Some}
+use Rattle.v6_base.specs.declared.errno.Errno.TheVariants.{EBADF, EMFILE}
+use Rattle.fs_codec.specs.Store.{node_numbered}
+use Rattle.open_files.specs.declared.file.OpenFile.{OpenFile}
+use Rattle.open_files.specs.declared.file.Closed.TheVariants.{Still, Last}
+use Rattle.open_files.specs.Files.{file_at, entry_of, times, free_number, changed, with_more, with_fewer, left}
+use Rattle.sys_files.specs.Handed.{Handed, r0, file_of, with_number, let_go}
+use Rattle.sys_files.specs.Did.{need, fails}
+use Rattle.sys_files.specs.Sound.{is_of, numbers_of, IsSound, IsKept}
+use Rattle.sys_files.specs.Descriptors.{open_entry, dup_file, released, closes, close_file}
+use Rattle.sys_files.proofs.NumberLemmas.{number_low, given_times, taken_times, numbers_change, open_given, open_taken, pipes_set}
+use Rattle.sys_files.proofs.CheckLemmas.{check_quiet, check_err}
+use Rattle.sys_files.proofs.OwedLemmas.{count_changed, counted, used_low, file_referred}
+use Rattle.sys_files.proofs.OwingLemmas.{IsKeptBut, kept_begins, kept_ends, kept_check, once_less, put_count}
+use Rattle.sys_files.proofs.DescriptorLemmas.{entry_is, entry_err, need_is, same_file}
+
+-- A number is given to a file that is open.
+pub kept_given : (old now : Handed) (taken : List ℕ) (fd entry : ℕ) (file : OpenFile) → IsKeptBut old now taken → fd < length now.u.files → slice_index now.u.files fd ≡ 0
+    → file_at now.files entry ≡ Some file → IsKeptBut old (record now { files = slice_set now.files entry (Some (with_more 1 file)); u = with_number now.u fd (entry + 1) }) taken
+kept_given old now taken fd entry file k low none is =
+    let here = used_low now.files entry file is in
+    let count : numbers_of (file_at now.files entry) ≡ file.count = ap numbers_of is in
+    let own = given_times now.u.files fd entry entry low none in
+    let one : cond {A = ℕ} (eqb entry entry) 1 0 ≡ 1 = ap (λ t. cond {A = ℕ} t 1 0) (eq-eqb entry entry refl) in
+    record {
+      is_open = open_given now.files now.u.files fd entry (Some (with_more 1 file)) here refl k.is_open;
+      numbers = λ e.
+          let before = k.numbers e in
+          let change = numbers_change now.files now.u.files (slice_set now.u.files fd (entry + 1)) entry (Some (with_more 1 file)) here (omega (arith, count, own, one))
+          (λ i other. let at = given_times now.u.files fd entry i low none in let zero : cond {A = ℕ} (eqb entry i) 1 0 ≡ 0 = ap (λ t. cond {A = ℕ} t 1 0) (ne_eqb entry i other) in omega (arith, at, zero)) e in
+          omega (arith, before, change);
+      references = λ i.
+          let before = k.references i in
+          let change = count_changed (is_of i) now.files entry (Some (with_more 1 file)) None here in
+          let was : cond {A = ℕ} (is_of i (file_at now.files entry)) 1 0 ≡ cond (is_of i (Some file)) 1 0 = ap (λ o. cond {A = ℕ} (is_of i o) 1 0) is in
+          omega (arith, before, change, was);
+      count = k.count;
+      no_pipe = pipes_set now.files entry (Some (with_more 1 file)) k.no_pipe (λ f same. subst (λ (x : OpenFile). x.kind.pipe ≡ false) (same_Some (with_more 1 file) f same) (k.no_pipe entry file is));
+    }
+
+pub dup_kept : (h : Handed) → IsSound h → IsKept h (dup_file h).state
+dup_kept h sound = kept_ends h (dup_file h).state (kept_check h h [] (open_entry h (r0 h)) _ (kept_begins h sound) (λ entry opened.
+    kept_check h h [] (need EMFILE (free_number h.u.files)) _ (kept_begins h sound) (λ fd free.
+    let named = entry_is h (r0 h) entry opened in
+    let used : IsSome (file_at h.files entry) = ap (λ e. is_some (file_at h.files e)) named.1 ∙ sound.is_open (r0 h) named.0 in
+    let is = same_file h entry used in
+    let P : Option OpenFile → Type 0 = λ o. IsKeptBut h (record h { files = slice_set h.files entry (changed (with_more 1) o); u = with_number h.u fd (entry + 1) }) [] in
+    let first = position-Some (λ number. number == 0) h.u.files fd 0 (need_is EMFILE (free_number h.u.files) fd free) in
+    subst P (sym is) (kept_given h h [] fd entry (file_of h entry) (kept_begins h sound) first.0 (eqb-true (slice_index h.u.files fd) 0 first.1) is))))
+
+-- It shows nothing.
+pub dup_quiet : (h : Handed) → (dup_file h).items ≡ []
+dup_quiet h = check_quiet h (open_entry h (r0 h)) _ (λ entry. check_quiet h (need EMFILE (free_number h.u.files)) _ (λ fd. refl))
+
+-- A number that names an entry is counted, and its file has room for it.
+named_once : (h : Handed) (fd entry : ℕ) → slice_index h.u.files fd ≡ entry + 1 → 1 ≤ times h.u.files entry
+named_once h fd entry named = counted (λ number. number == entry + 1) h.u.files fd 0 (number_low h.u.files fd (omega (arith, named))) (eq-eqb (slice_index h.u.files fd) (entry + 1) named)
+
+-- A number is closed whose file other numbers name still.
+kept_still : (h : Handed) (fd entry : ℕ) (file : OpenFile) → IsSound h → slice_index h.u.files fd ≡ entry + 1 → file_at h.files entry ≡ Some file
+    → IsKept h (record h { files = slice_set h.files entry (Some (with_fewer file)); u = with_number h.u fd 0 })
+kept_still h fd entry file sound named is =
+    let here = used_low h.files entry file is in
+    let count : numbers_of (file_at h.files entry) ≡ file.count = ap numbers_of is in
+    let own = taken_times h.u.files fd entry entry named in
+    let one : cond {A = ℕ} (eqb entry entry) 1 0 ≡ 1 = ap (λ t. cond {A = ℕ} t 1 0) (eq-eqb entry entry refl) in
+    let least = named_once h fd entry named in
+    let most = sound.counted entry file is in
+    record {
+      is_open = open_taken h.files h.u.files fd entry (Some (with_fewer file)) here named (λ none. absurd (false≢true (sym none))) sound.is_open;
+      numbers = numbers_change h.files h.u.files (slice_set h.u.files fd 0) entry (Some (with_fewer file)) here (omega (arith, count, own, one, least, most))
+          (λ i other. let at = taken_times h.u.files fd entry i named in let zero : cond {A = ℕ} (eqb entry i) 1 0 ≡ 0 = ap (λ t. cond {A = ℕ} t 1 0) (ne_eqb entry i other) in omega (arith, at, zero));
+      references = λ i.
+          let change = count_changed (is_of i) h.files entry (Some (with_fewer file)) None here in
+          let was : cond {A = ℕ} (is_of i (file_at h.files entry)) 1 0 ≡ cond (is_of i (Some file)) 1 0 = ap (λ o. cond {A = ℕ} (is_of i o) 1 0) is in
+          omega (arith, change, was);
+      count = refl;
+      no_pipe = pipes_set h.files entry (Some (with_fewer file)) sound.no_pipe (λ f same. subst (λ (x : OpenFile). x.kind.pipe ≡ false) (same_Some (with_fewer file) f same) (sound.no_pipe entry file is));
+    }
+
+-- The last number of a file is closed: its reference to the inode goes.
+kept_last : (h : Handed) (fd entry : ℕ) (file : OpenFile) → IsSound h → slice_index h.u.files fd ≡ entry + 1 → file_at h.files entry ≡ Some file → file.count ≡ 1
+    → IsKept h (let_go (record h { files = slice_set h.files entry None; u = with_number h.u fd 0 }) file.ino)
+kept_last h fd entry file sound named is last =
+    let here = used_low h.files entry file is in
+    let count : numbers_of (file_at h.files entry) ≡ file.count = ap numbers_of is in
+    let own = taken_times h.u.files fd entry entry named in
+    let one : cond {A = ℕ} (eqb entry entry) 1 0 ≡ 1 = ap (λ t. cond {A = ℕ} t 1 0) (eq-eqb entry entry refl) in
+    let most = sound.counted entry file is in
+    record {
+      is_open = open_taken h.files h.u.files fd entry None here named (λ none. omega (arith, most, last)) sound.is_open;
+      numbers = numbers_change h.files h.u.files (slice_set h.u.files fd 0) entry None here (omega (arith, count, own, one, last))
+          (λ i other. let at = taken_times h.u.files fd entry i named in let zero : cond {A = ℕ} (eqb entry i) 1 0 ≡ 0 = ap (λ t. cond {A = ℕ} t 1 0) (ne_eqb entry i other) in omega (arith, at, zero));
+      references = λ i.
+          let change = count_changed (is_of i) h.files entry None None here in
+          let was : cond {A = ℕ} (is_of i (file_at h.files entry)) 1 0 ≡ cond (is_of i (Some file)) 1 0 = ap (λ o. cond {A = ℕ} (is_of i o) 1 0) is in
+          let less = once_less h.inodes.references file.ino i (file_referred h entry file sound is) in
+          omega (arith, change, was, less);
+      count = put_count h.inodes.store file.ino (slice_index h.inodes.references file.ino) (node_numbered h.inodes.store file.ino);
+      no_pipe = pipes_set h.files entry None sound.no_pipe (λ f same. absurd (none-some f same));
+    }
+
+pub closes_kept : (h : Handed) (fd : ℕ) → IsSound h → 0 < slice_index h.u.files fd → IsKept h (closes h fd).state
+closes_kept h fd sound some = by (file.count == 1) refl
+  where
+    entry : ℕ
+    entry = entry_of h.u.files fd
+
+    file : OpenFile
+    file = file_of h entry
+
+    by : (t : Bool) → (file.count == 1) ≡ t → IsKept h (released (record h { files = slice_set h.files entry (left (cond t (Last (with_fewer file)) (Still (with_fewer file)))); u = with_number h.u fd 0 }) (cond t (Last (with_fewer file)) (Still (with_fewer file)))).state
+    by true last = kept_last h fd entry file sound (omega (arith, some)) (same_file h entry (sound.is_open fd some)) (eqb-true file.count 1 last)
+    by false still = kept_still h fd entry file sound (omega (arith, some)) (same_file h entry (sound.is_open fd some))
+
+-- A number that is not open is not closed.
+pub close_refused : (h : Handed) → slice_index h.u.files (r0 h) ≡ 0 → close_file h ≡ fails h EBADF
+close_refused h none = check_err h (open_entry h (r0 h)) _ EBADF (entry_err h (r0 h) none)

@@ -1,0 +1,167 @@
+-- What creat keeps, part by part, and what it comes to.
+use Rattle.std.proofs.Common.{◌≡◌, ◌<◌, ◌≤◌, ℕ, Bool, true, false, cond, List, [], slice_index, Result, Ok, Err, refl, sym, ap, ◌∙◌, subst, arith}
+use Rattle.v6_base.specs.declared.answer.Answer.{Answer}
+use Rattle.v6_base.specs.declared.answer.Answer.TheVariants.{Fail}
+use Rattle.v6_base.specs.declared.errno.Errno.{Errno}
+use Rattle.v6_base.specs.declared.errno.Errno.TheVariants.{EMFILE, ENFILE, ENXIO}
+use Rattle.v6_base.specs.Trace.{Taken, Took}
+use Rattle.v6_base.proofs.Took.{took_nothing}
+use Rattle.fs_codec.specs.Modes.{is_device}
+use Rattle.fs_codec.specs.Store.{Node, Store}
+use Rattle.fs_laws.specs.Numbers.{with_truncated}
+use Rattle.fs_laws.proofs.RestLemmas.{rest_then}
+use Rattle.fs_nodes.specs.FileSystem.{FileSystem, SameRest}
+use Rattle.open_files.specs.declared.file.FileKind.{FileKind}
+use Rattle.open_files.specs.Files.{AreOpen, free_number, free_entry}
+use Rattle.fs_tree.specs.declared.made.Made.{Made}
+use Rattle.fs_tree.specs.declared.made.Made.TheVariants as made
+use Rattle.fs_tree.specs.Name.{name_at}
+use Rattle.fs_tree.specs.Finding.{Inodes, inodes_of, make_in, put_back}
+use Rattle.sys_files.specs.Handed.{Handed, node_at, user_of, with_inodes}
+use Rattle.sys_files.specs.Did.{Did, check, must, need, until_end, by_made}
+use Rattle.sys_files.specs.Sound.{owed, HasNoPipe, IsKept}
+use Rattle.sys_files.specs.Opening.{can_open, opens}
+use Rattle.sys_files.specs.Making.{opens_again, makes_file, creat_file}
+use Rattle.sys_files.specs.Entering.{OneReferenceMore, did_with}
+use Rattle.sys_files.proofs.OwingLemmas.{IsKeptBut, kept_ends, once_more, referred_low}
+use Rattle.sys_files.proofs.EnteringLemmas.{taken}
+use Rattle.sys_files.proofs.GivingLemmas.{OneReferenceLess, gives}
+use Rattle.sys_files.proofs.OpeningLemmas.{opens_kept}
+use Rattle.sys_files.proofs.PartLemmas.{named, not_named}
+
+-- A file that gives its blocks back is one of as many.
+truncated_when : (t : Bool) (store other : Store) → other.count ≡ store.count → (cond t store other).count ≡ store.count
+truncated_when true store other same = refl
+truncated_when false store other same = same
+
+pub truncated_count : (store : Store) (ino : ℕ) (node : Node) (now : ℕ)
+    → (with_truncated store ino node now).count ≡ store.count
+truncated_count store ino node now = truncated_when (is_device node.mode) store _ refl
+
+-- The opening itself keeps what a call keeps.
+pub opened_kept : (h new : Handed) (ino : ℕ) (kind : FileKind) → kind.pipe ≡ false → AreOpen h.files h.u.files
+    → HasNoPipe h.files → 0 < slice_index h.inodes.references ino
+    → new ≡ (opens h ino kind).state → IsKept h new
+opened_kept h new ino kind plain open_ pipes referred is =
+    let begins : IsKeptBut h h [] =
+    record {
+      is_open = open_;
+      numbers = λ entry. refl;
+      references = λ i. omega arith;
+      count = refl;
+      no_pipe =
+          pipes;
+    } in
+    subst (λ (x : Handed). IsKept h x) (sym is)
+    (kept_ends h (opens h ino kind).state (opens_kept h h [] ino kind plain referred begins))
+
+-- It takes no reference away.
+check_more : {A : Type 0} (h : Handed) (i : ℕ) (r : Result A Errno) (next : A → Did)
+    → ((a : A) → slice_index h.inodes.references i ≤ slice_index (next a).state.inodes.references i)
+    → slice_index h.inodes.references i ≤ slice_index (check h r next).state.inodes.references i
+check_more h i (Ok a) next more = more a
+check_more h i (Err e) next more = omega arith
+
+opens_more : (h : Handed) (ino : ℕ) (kind : FileKind) (i : ℕ) → 0 < slice_index h.inodes.references ino
+    → slice_index h.inodes.references i ≤ slice_index (opens h ino kind).state.inodes.references i
+opens_more h ino kind i referred =
+    check_more h i (need EMFILE (free_number h.u.files)) _
+    (λ fd. check_more h i (need ENFILE (free_entry h.files)) _
+    (λ entry. check_more h i (must ENXIO (can_open (node_at h ino))) _ (λ can.
+    let more = once_more h.inodes.references ino i (referred_low h.inodes.references ino referred) in
+    omega (arith, more))))
+
+pub opened_more : (h new : Handed) (ino : ℕ) (kind : FileKind) (i : ℕ) → 0 < slice_index h.inodes.references ino
+    → new ≡ (opens h ino kind).state
+    → slice_index h.inodes.references i ≤ slice_index new.inodes.references i
+opened_more h new ino kind i referred is =
+    subst (λ (x : Handed). slice_index h.inodes.references i ≤ slice_index x.inodes.references i) (sym is)
+    (opens_more h ino kind i referred)
+
+-- a part of a call after which another one is kept
+pub kept_after : (h m new : Handed) → m.files ≡ h.files → m.u ≡ h.u
+    → ((i : ℕ) → slice_index m.inodes.references i ≡ slice_index h.inodes.references i)
+    → m.inodes.store.count ≡ h.inodes.store.count
+    → IsKept m new → IsKept h new
+kept_after h m new files u same count k =
+    let owes : (i : ℕ) → owed m i ≡ owed h i = λ i. rw (files, u) refl in
+    record {
+      is_open = k.is_open;
+      numbers = rw (files, u) at k.numbers;
+      references = λ i. (let r = k.references i in let s = same i in let o = owes i in omega (arith, r, s, o));
+      count = k.count ∙ count;
+      no_pipe = k.no_pipe;
+    }
+
+-- a reference that is taken before a part and goes after it
+module _ (old mid last : Handed) (a b c d : FileSystem) (ino : ℕ) (takes : OneReferenceMore a ino b)
+    (k : IsKept (with_inodes mid (inodes_of b)) (with_inodes last (inodes_of c)))
+    (files : mid.files ≡ old.files) (u : mid.u ≡ old.u)
+    (more : (i : ℕ) → slice_index b.references i ≤ slice_index c.references i)
+    (back : inodes_of d ≡ put_back (inodes_of c) ino) (rest : SameRest c.blocks d.blocks) where
+  less : OneReferenceLess c ino d
+  less = gives c d ino (let some = taken a b ino takes in let m = more ino in omega (arith, some, m)) back rest
+
+  pub between_kept : IsKept (with_inodes old (inodes_of a)) (with_inodes last (inodes_of d))
+  between_kept =
+      let owes : (i : ℕ) → owed mid i ≡ owed old i = λ i. rw (files, u) refl in
+      record {
+        is_open = k.is_open;
+        numbers = rw (files, u) at k.numbers;
+        references = λ i. (let t = takes.references i in let r = k.references i in let l = less.references i in let o =
+            owes i in omega (arith, t, r, l, o));
+        count = less.count ∙ k.count ∙ takes.count;
+        no_pipe = k.no_pipe;
+      }
+
+  pub between_more : (i : ℕ) → slice_index a.references i ≤ slice_index d.references i
+  between_more i = let t = takes.references i in let m = more i in let l = less.references i in omega (arith, t, m, l)
+
+  pub between_blocks : SameRest b.blocks c.blocks → SameRest a.blocks d.blocks
+  between_blocks same =
+      rest_then a.blocks b.blocks d.blocks takes.blocks (rest_then b.blocks c.blocks d.blocks same rest)
+
+-- What a call comes to that shows nothing.
+module _ (d : Did) (h : Handed) (a : Answer) (is : d ≡ did_with h a) where
+  pub answered_answer : a ≡ d.answer
+  answered_answer = sym (ap (λ (x : Did). x.answer) is)
+
+  pub answered_state : h ≡ d.state
+  answered_state = sym (ap (λ (x : Did). x.state) is)
+
+  pub answered_items : (t : Taken) → Took t d.items t
+  answered_items t = took_nothing t d.items (ap (λ (x : Did). x.items) is)
+
+until_answered : (after : Handed) (ino : ℕ) (d : Did) (a : Answer) (last : Inodes) → d ≡ did_with after a
+    → last ≡ put_back after.inodes ino → until_end ino d ≡ did_with (with_inodes after last) a
+until_answered after ino d a last did is = ap (until_end ino) did ∙ sym (ap (λ m. did_with (with_inodes after m) a) is)
+
+module _ (h : Handed) (name mode now : ℕ) (n : Inodes)
+    (inodes : n ≡ (make_in h.inodes (user_of h.u) h.u.dir (name_at h.image name)).inodes) where
+  pub creat_refused : (e : Errno) → Err e ≡ (make_in h.inodes (user_of h.u) h.u.dir (name_at h.image name)).answer
+      → creat_file h name mode now ≡ did_with (with_inodes h n) (Fail e)
+  creat_refused e answer =
+      not_named h (make_in h.inodes (user_of h.u) h.u.dir (name_at h.image name)) e n
+      (by_made (opens_again now) (makes_file mode now)) answer inodes
+
+  made_is : (m : Made) → Ok m ≡ (make_in h.inodes (user_of h.u) h.u.dir (name_at h.image name)).answer
+      → creat_file h name mode now ≡ by_made (opens_again now) (makes_file mode now) (with_inodes h n) m
+  made_is m answer = named h (make_in h.inodes (user_of h.u) h.u.dir (name_at h.image name)) m n
+      (by_made (opens_again now) (makes_file mode now)) answer inodes
+
+  pub creat_found : (m : Made) (ino : ℕ) (after : Handed) (a : Answer) (last : Inodes)
+      → Ok m ≡ (make_in h.inodes (user_of h.u) h.u.dir (name_at h.image name)).answer → m ≡ made.Found ino
+      → opens_again now (with_inodes h n) ino ≡ did_with after a → last ≡ put_back after.inodes ino
+      → creat_file h name mode now ≡ did_with (with_inodes after last) a
+  creat_found m ino after a last answer is did back =
+      made_is m answer ∙ ap (by_made (opens_again now) (makes_file mode now) (with_inodes h n)) is
+      ∙ until_answered after ino (opens_again now (with_inodes h n) ino) a last did back
+
+  pub creat_new : (m : Made) (dir offset : ℕ) (entry : List ℕ) (after : Handed) (a : Answer) (last : Inodes)
+      → Ok m ≡ (make_in h.inodes (user_of h.u) h.u.dir (name_at h.image name)).answer
+      → m ≡ made.Room dir offset entry → makes_file mode now (with_inodes h n) dir offset entry ≡ did_with after a
+      → last ≡ put_back after.inodes dir
+      → creat_file h name mode now ≡ did_with (with_inodes after last) a
+  creat_new m dir offset entry after a last answer is did back =
+      made_is m answer ∙ ap (by_made (opens_again now) (makes_file mode now) (with_inodes h n)) is
+      ∙ until_answered after dir (makes_file mode now (with_inodes h n) dir offset entry) a last did back

@@ -1,0 +1,61 @@
+-- A call goes from one part to the next.
+use Rattle.std.proofs.Common.{◌≡◌, ℕ, Bool, true, false, [], Result, Ok, Err, refl, sym, ap, ◌∙◌}
+use Rattle.v6_base.specs.declared.errno.Errno.{Errno}
+use Rattle.v6_base.specs.declared.answer.Answer.{Answer}
+use Rattle.v6_base.specs.Trace.{Taken, Took}
+use Rattle.v6_base.proofs.Took.{took_nothing}
+use Rattle.fs_tree.specs.Finding.{Inodes, Finding, put_back}
+use Rattle.sys_files.specs.Handed.{Handed, with_inodes}
+use Rattle.sys_files.specs.Did.{Did, fails, is_done, check, must, until_end, then_named}
+use Rattle.sys_files.specs.Entering.{did_of}
+
+-- a test that holds, and one that fails
+pub passes : (h : Handed) (e : Errno) (t : Bool) (next : Unit {0} → Did) → t ≡ true → check h (must e t) next ≡ next tt
+passes h e true next is = refl
+passes h e false next is = absurd (cc)
+
+pub stops : (h : Handed) (e : Errno) (t : Bool) (next : Unit {0} → Did) → t ≡ false
+    → check h (must e t) next ≡ fails h e
+stops h e true next is = absurd (cc)
+stops h e false next is = refl
+
+-- a search that finds, and one that is refused
+pub named : {A : Type 0} (h : Handed) (found : Finding A) (a : A) (n : Inodes) (next : Handed → A → Did)
+    → Ok a ≡ found.answer → n ≡ found.inodes → then_named h found next ≡ next (with_inodes h n) a
+named h found a n next answer inodes =
+    sym (λ i. check (with_inodes h (inodes i)) (answer i) (next (with_inodes h (inodes i))))
+
+pub not_named : {A : Type 0} (h : Handed) (found : Finding A) (e : Errno) (n : Inodes) (next : Handed → A → Did)
+    → Err e ≡ found.answer → n ≡ found.inodes
+    → then_named h found next ≡ fails (with_inodes h n) e
+not_named h found e n next answer inodes =
+    sym (λ i. check (with_inodes h (inodes i)) (answer i) (next (with_inodes h (inodes i))))
+
+-- a reference that goes at the end of a part
+pub until_told : (h : Handed) (ino : ℕ) (r : Result (Unit {0}) Errno) (n : Inodes) → n ≡ put_back h.inodes ino
+    → until_end ino (did_of h r) ≡ did_of (with_inodes h n) r
+until_told h ino (Ok u) n is = sym (ap (λ m. is_done (with_inodes h m)) is)
+until_told h ino (Err e) n is = sym (ap (λ m. fails (with_inodes h m) e) is)
+
+pub until : (h : Handed) (ino : ℕ) (d : Did) (r : Result (Unit {0}) Errno) (n : Inodes) → d ≡ did_of h r
+    → n ≡ put_back h.inodes ino → until_end ino d ≡ did_of (with_inodes h n) r
+until h ino d r n did is = ap (until_end ino) did ∙ until_told h ino r n is
+
+told_state : (h : Handed) (r : Result (Unit {0}) Errno) → (did_of h r).state ≡ h
+told_state h (Ok u) = refl
+told_state h (Err e) = refl
+
+told_items : (h : Handed) (r : Result (Unit {0}) Errno) → (did_of h r).items ≡ []
+told_items h (Ok u) = refl
+told_items h (Err e) = refl
+
+-- what a call comes to that gives no value
+module _ (d : Did) (h : Handed) (r : Result (Unit {0}) Errno) (is : d ≡ did_of h r) where
+  pub did_answer : (a : Answer) → a ≡ (did_of h r).answer → a ≡ d.answer
+  did_answer a same = same ∙ ap (λ (x : Did). x.answer) (sym is)
+
+  pub did_state : h ≡ d.state
+  did_state = sym (ap (λ (x : Did). x.state) is ∙ told_state h r)
+
+  pub did_items : (t : Taken) → Took t d.items t
+  did_items t = took_nothing t d.items (ap (λ (x : Did). x.items) is ∙ told_items h r)

@@ -1,0 +1,121 @@
+-- What a write comes to, by its tests, and what it keeps.
+use Rattle.std.proofs.Common.{◌≡◌, ◌+◌, ◌%◌, ◌^◌, ◌==◌, ℕ, Bool, true, false, List, [], length, Result, Ok, Err, if◌then◌else◌, refl, sym, ap, ◌∙◌, subst}
+use Rattle.v6_base.specs.Trace.{Item, Taken, Took, sent}
+use Rattle.v6_base.specs.declared.errno.Errno.{Errno}
+use Rattle.v6_base.specs.declared.errno.Errno.TheVariants.{EBADF, EFAULT}
+use Rattle.v6_base.proofs.Took.{took_nothing}
+use Rattle.fs_codec.specs.Modes.{is_device}
+use Rattle.open_files.specs.declared.file.OpenFile.{OpenFile}
+use Rattle.fs_laws.specs.Pieces.{Moving}
+use Rattle.fs_tree.specs.Name.{readable}
+use Rattle.sys_files.specs.Handed.{Handed, r0, node_at, file_of, is_console}
+use Rattle.sys_files.specs.Did.{Did, fails, returns, check, must}
+use Rattle.sys_files.specs.Descriptors.{open_entry}
+use Rattle.sys_files.specs.Console.{shown_bytes, column_after_all}
+use Rattle.sys_files.specs.Moving.{with_moved, gives_count, write_of, shows_bytes, writes_to, write_file_of}
+use Rattle.sys_files.specs.Sound.{IsSound, IsKept}
+use Rattle.sys_files.proofs.KeptLemmas.{kept_same}
+use Rattle.sys_files.proofs.OffsetLemmas.{kept_moved}
+use Rattle.sys_files.proofs.ReadLemmas.{gives_state, gives_items}
+
+-- the parts after bytes were shown
+abbrev pub with_shown : Handed → List ℕ → Handed
+with_shown h bytes = record h { line = record { column = column_after_all h.line.column (shown_bytes h.line.column bytes) } }
+
+abbrev shown_if : Handed → ℕ → List ℕ → Bool → Did
+shown_if h count bytes all =
+    record (if all then returns (with_shown h bytes) count else fails (with_shown h bytes) EFAULT) { items = sent 0 (shown_bytes h.line.column bytes) }
+
+shown_by : (h : Handed) (count : ℕ) (bytes : List ℕ) (all : Bool) → (shown_if h count bytes all).state ≡ with_shown h bytes
+shown_by h count bytes true = refl
+shown_by h count bytes false = refl
+
+pub shows_state : (h : Handed) (count : ℕ) (bytes : List ℕ) → (shows_bytes h count bytes).state ≡ with_shown h bytes
+shows_state h count bytes = shown_by h count bytes (length bytes == count)
+
+abbrev write_as : Handed → ℕ → ℕ → ℕ → ℕ → Bool → Did
+write_as h entry at count now console =
+    let m : Moving (Unit {0}) = write_of h entry at count now in
+    if console then shows_bytes (with_moved h entry m) count (readable h.image at count)
+    else gives_count (with_moved h entry m) (if is_device (node_at h (file_of h entry).ino).mode then count else m.done) m.error
+
+abbrev write_if : Handed → ℕ → ℕ → ℕ → ℕ → Bool → Did
+write_if h entry at count now writing = check h (must EBADF writing) (λ may. writes_to h entry at count now)
+
+abbrev write_found : Handed → ℕ → ℕ → ℕ → Result ℕ Errno → Did
+write_found h at count now found = check h found (λ entry. write_if h entry at count now (file_of h entry).kind.writing)
+
+pub write_shows : (h : Handed) (entry at count now : ℕ) (file : OpenFile) → file ≡ file_of h entry → true ≡ is_console (node_at h file.ino)
+    → shows_bytes (with_moved h entry (write_of h entry at count now)) count (readable h.image at count) ≡ writes_to h entry at count now
+write_shows h entry at count now file is console = ap (write_as h entry at count now) (console ∙ ap (λ (x : OpenFile). is_console (node_at h x.ino)) is)
+
+pub write_gives : (h : Handed) (entry at count now : ℕ) (file : OpenFile) → file ≡ file_of h entry → false ≡ is_console (node_at h file.ino)
+    → gives_count (with_moved h entry (write_of h entry at count now))
+    (if is_device (node_at h (file_of h entry).ino).mode then count else (write_of h entry at count now).done) (write_of h entry at count now).error
+    ≡ writes_to h entry at count now
+write_gives h entry at count now file is console = ap (write_as h entry at count now) (console ∙ ap (λ (x : OpenFile). is_console (node_at h x.ino)) is)
+
+-- what is shown of the same parts
+pub took_shown : (a b : Taken) (k h : Handed) (entry at count now : ℕ) (file : OpenFile) → file ≡ file_of h entry → true ≡ is_console (node_at h file.ino)
+    → k ≡ with_moved h entry (write_of h entry at count now) → Took a (sent 0 (shown_bytes k.line.column (readable h.image at count))) b
+    → Took a (writes_to h entry at count now).items b
+took_shown a b k h entry at count now file is console parts took =
+    subst (λ (items : List Item). Took a items b)
+    (ap (λ (j : Handed). sent 0 (shown_bytes j.line.column (readable h.image at count))) parts
+    ∙ ap (λ (d : Did). d.items) (write_shows h entry at count now file is console))
+    took
+
+pub took_given : (t : Taken) (h : Handed) (entry at count now : ℕ) (file : OpenFile) → file ≡ file_of h entry → false ≡ is_console (node_at h file.ino)
+    → Took t (writes_to h entry at count now).items t
+took_given t h entry at count now file is console =
+    let m : Moving (Unit {0}) = write_of h entry at count now in
+    took_nothing t (writes_to h entry at count now).items
+    (sym (ap (λ (d : Did). d.items) (write_gives h entry at count now file is console))
+    ∙ gives_items (with_moved h entry m) (if is_device (node_at h (file_of h entry).ino).mode then count else m.done) m.error)
+
+pub write_refused : (h : Handed) (at count now : ℕ) (e : Errno) → Err e ≡ open_entry h (r0 h) → fails h e ≡ write_file_of h at count now
+write_refused h at count now e found = ap (write_found h at count now) found
+
+pub write_not_open : (h : Handed) (at count now entry : ℕ) (file : OpenFile) → Ok entry ≡ open_entry h (r0 h) → file ≡ file_of h entry → file.kind.writing ≡ false
+    → fails h EBADF ≡ write_file_of h at count now
+write_not_open h at count now entry file found is writing =
+    ap (write_if h entry at count now) (sym writing ∙ ap (λ (x : OpenFile). x.kind.writing) is) ∙ ap (write_found h at count now) found
+
+pub write_done : (h : Handed) (at count now entry : ℕ) (file : OpenFile) → Ok entry ≡ open_entry h (r0 h) → file ≡ file_of h entry → file.kind.writing ≡ true
+    → writes_to h entry at count now ≡ write_file_of h at count now
+write_done h at count now entry file found is writing =
+    ap (write_if h entry at count now) (sym writing ∙ ap (λ (x : OpenFile). x.kind.writing) is) ∙ ap (write_found h at count now) found
+
+-- what is shown by what a write comes to
+pub took_as : (a b : Taken) (before after : Did) → before ≡ after → Took a before.items b → Took a after.items b
+took_as a b before after is took = subst (λ (d : Did). Took a d.items b) is took
+
+pub took_nothing_as : (t : Taken) (before after : Did) → before ≡ after → before.items ≡ [] → Took t after.items t
+took_nothing_as t before after is none = took_nothing t after.items (sym (ap (λ (d : Did). d.items) is) ∙ none)
+
+abbrev write_place : Handed → ℕ → ℕ → ℕ → ℕ → ℕ
+write_place h entry at count now = ((file_of h entry).offset + (write_of h entry at count now).done) % 2 ^ 32
+
+kept_as : (h : Handed) (entry at count now : ℕ) (console : Bool) → IsSound h → IsKept h (write_as h entry at count now console).state
+kept_as h entry at count now true sound =
+    let after : Handed = with_moved h entry (write_of h entry at count now) in
+    subst (IsKept h) (sym (shows_state after count (readable h.image at count)))
+    (kept_moved h (with_shown after (readable h.image at count)) entry (write_place h entry at count now) sound refl refl refl refl refl)
+kept_as h entry at count now false sound =
+    let m : Moving (Unit {0}) = write_of h entry at count now in
+    subst (IsKept h) (sym (gives_state (with_moved h entry m) (if is_device (node_at h (file_of h entry).ino).mode then count else m.done) m.error))
+    (kept_moved h (with_moved h entry m) entry (write_place h entry at count now) sound refl refl refl refl refl)
+
+kept_if : (h : Handed) (entry at count now : ℕ) (writing : Bool) → IsSound h → IsKept h (write_if h entry at count now writing).state
+kept_if h entry at count now true sound = kept_as h entry at count now (is_console (node_at h (file_of h entry).ino)) sound
+kept_if h entry at count now false sound = kept_same h h sound refl refl refl refl refl
+
+kept_found : (h : Handed) (at count now : ℕ) (found : Result ℕ Errno) → IsSound h → IsKept h (write_found h at count now found).state
+kept_found h at count now (Ok entry) sound = kept_if h entry at count now (file_of h entry).kind.writing sound
+kept_found h at count now (Err e) sound = kept_same h h sound refl refl refl refl refl
+
+pub write_kept : (h : Handed) (at count now : ℕ) → IsSound h → IsKept h (write_file_of h at count now).state
+write_kept h at count now sound = kept_found h at count now (open_entry h (r0 h)) sound
+
+pub kept_by_write : (h new : Handed) (at count now : ℕ) → IsSound h → new ≡ (write_file_of h at count now).state → IsKept h new
+kept_by_write h new at count now sound is = subst (IsKept h) (sym is) (write_kept h at count now sound)

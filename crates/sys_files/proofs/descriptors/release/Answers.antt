@@ -1,0 +1,11 @@
+use Rattle.std.proofs.Common.{sym, subst}
+use Rattle.v6_base.specs.Trace.{Took}
+use Rattle.open_files.specs.declared.file.Closed.{Closed}
+use Rattle.sys_files.specs.Handed.{handed}
+use Rattle.sys_files.specs.Descriptors.{released}
+use Rattle.sys_files.proofs.descriptors.release.Goals as goal
+
+pub returns-in-Last-clause-items : goal.returns-in-Last-clause-items
+returns-in-Last-clause-items g c = λ u row image.
+    let P : Closed → Type 0 = λ told. Took (g.T.Trace.taken c.args.trace.now) (released (handed c.args.f.now u row image) told).items (g.T.Trace.taken c.close_console.new.trace) in
+    subst P (sym c.in-Last.is) (c.close_console.ensures.items u row image)

@@ -1,0 +1,13 @@
+use Rattle.std.proofs.Common.{refl}
+use Rattle.fs_laws.specs.Numbers.{with_node}
+use Rattle.sys_files.proofs.EnteringLemmas.{changed_keeps}
+use Rattle.sys_files.proofs.entering.set_links.Goals as goal
+
+pub returns-clause-kept : goal.returns-clause-kept
+returns-clause-kept c =
+    let old = c.args.nodes.now in
+    changed_keeps old c.set_links.new.self c.args.ino
+    (λ node. with_node old.store c.args.ino (record node { nlink = c.args.nlink; modtime = c.args.now })
+    old.store.room)
+    (c.see.ensures.used c.args.ino c.requires.referenced) c.set_links.ensures.store (λ node. refl)
+    c.set_links.ensures.references c.set_links.ensures.rest

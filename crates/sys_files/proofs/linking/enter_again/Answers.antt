@@ -1,0 +1,17 @@
+use Rattle.std.proofs.Common.{◌≡◌, ap, ◌∙◌, arith}
+use Rattle.fs_codec.specs.Bytes.{entry_bytes}
+use Rattle.fs_tree.specs.Finding.{Inodes, inodes_of}
+use Rattle.sys_files.specs.Handed.{node_in}
+use Rattle.sys_files.proofs.LinksLemmas.{entry_written-links}
+use Rattle.sys_files.proofs.linking.enter_again.Goals as goal
+
+pub overflow_add-nlink : goal.overflow_add-nlink
+overflow_add-nlink c =
+    let n = inodes_of c.args.f.now.tree.nodes in
+    let few = c.requires.few in
+    let same : (node_in c.enter.new.tree.nodes.store c.args.ino).nlink
+    ≡ (node_in c.args.f.now.tree.nodes.store c.args.ino).nlink =
+    ap (λ (m : Inodes). (node_in m.store c.args.ino).nlink) c.enter.ensures.inodes
+    ∙ entry_written-links n c.args.room.dir c.args.room.offset
+    (entry_bytes (record { ino = c.args.ino; name = c.args.room.name })) c.args.now c.args.ino in
+    omega (arith, c.links_of-nlink.ensures, few, same)

@@ -1,0 +1,25 @@
+use Rattle.std.proofs.Common.{◌≡◌, Err, rules, sym, ap, ◌∙◌}
+use Rattle.sys_files.specs.Handed.{handed}
+use Rattle.sys_files.specs.Entering.{did_of}
+use Rattle.sys_files.proofs.LinkingLemmas.{unlink_refused, unlink_unwritten, unlink_written}
+use Rattle.sys_files.proofs.linking.remove_entry.Goals as goal
+
+pub returns-then-not-may_link-clause-did : goal.returns-then-not-may_link-clause-did
+returns-then-not-may_link-clause-did c = λ row image.
+    unlink_refused (handed c.args.f.now c.args.u.now row image) c.args.dir c.args.offset c.args.ino c.args.now
+    (sym (c.may_link.ensures row image) ∙ c.if-not-may_link.true)
+
+pub returns-in_err-empty-clause-did : goal.returns-in_err-empty-clause-did
+returns-in_err-empty-clause-did c = λ row image.
+    let is : Err c.in_err-empty.field-0.0 ≡ c.from_residual.result = search rules in
+    unlink_unwritten (handed c.args.f.now c.args.u.now row image) c.args.dir c.args.offset c.args.ino c.args.now
+    c.in_err-empty.field-0.0 _
+    (sym (c.may_link.ensures row image) ∙ c.if-not-may_link.false) c.in_err-empty.ensures.answer c.empty.ensures.inodes
+    ∙ ap (did_of (handed (record c.args.f.now { tree = c.empty.new.tree }) c.args.u.now row image)) is
+
+pub returns-clause-did : goal.returns-clause-did
+returns-clause-did c = λ row image.
+    unlink_written (handed c.args.f.now c.args.u.now row image) c.args.dir c.args.offset c.args.ino c.args.now
+    c.in_ok-empty.field-0 _ _ c.links_of-nlink.result c.saturating_sub.result
+    (sym (c.may_link.ensures row image) ∙ c.if-not-may_link.false) c.in_ok-empty.ensures.answer c.empty.ensures.inodes
+    c.links_of-nlink.ensures c.saturating_sub.ensures c.set_links.ensures.inodes

@@ -1,0 +1,22 @@
+use Rattle.std.proofs.Common.{ℕ, bit_and}
+use Rattle.sys_files.specs.Handed.{Handed, handed}
+use Rattle.sys_files.specs.Did.{is_done}
+use Rattle.sys_files.specs.Making.{with_device}
+use Rattle.sys_files.proofs.GivingLemmas.{takes_keeps_gives}
+use Rattle.sys_files.proofs.MakingLemmas.{made_told}
+use Rattle.sys_files.proofs.making.make_any.Goals as goal
+
+pub returns-clause-did : goal.returns-clause-did
+returns-clause-did c = λ row image.
+    made_told (handed c.args.f.now c.args.u.now row image) c.args.room.dir c.args.room.offset c.args.room.name
+    (bit_and c.args.mode 0o167777) c.args.now
+    (λ (h : Handed) (ino : ℕ). is_done (with_device h ino c.args.device)) c.user_of.result c.user_of.ensures
+    c.in_ok-ino.ino _ _ (handed c.enter_any-result.new.f c.args.u.now row image) c.enter_any-result.result
+    c.in_ok-ino.ensures.answer c.make_inode.ensures.inodes
+    (c.enter_any-result.ensures.did row image) c.let_go.ensures.inodes
+
+pub returns-clause-kept : goal.returns-clause-kept
+returns-clause-kept c =
+    takes_keeps_gives c.args.f.now.tree.nodes c.make_inode.new.nodes c.enter_any-result.new.f.tree.nodes
+    c.let_go.new.nodes c.in_ok-ino.ino c.in_ok-ino.ensures.found c.enter_any-result.ensures.kept
+    c.let_go.ensures.inodes c.let_go.ensures.rest

@@ -1,0 +1,12 @@
+use Rattle.std.proofs.Common.{refl}
+use Rattle.fs_laws.specs.Numbers.{with_node}
+use Rattle.sys_files.proofs.EnteringLemmas.{changed_keeps}
+use Rattle.sys_files.proofs.making.set_device.Goals as goal
+
+pub returns-then-is_device_at-clause-kept : goal.returns-then-is_device_at-clause-kept
+returns-then-is_device_at-clause-kept c =
+    let old = c.args.nodes.now in
+    changed_keeps old c.set_device.new.self c.args.ino
+    (λ node. with_node old.store c.args.ino (record node { device = c.args.device }) old.store.room)
+    (c.see.ensures.used c.args.ino c.requires.referenced) c.set_device.ensures.store (λ node. refl)
+    c.set_device.ensures.references c.set_device.ensures.rest

@@ -1,0 +1,85 @@
+-- Descriptors are given once more and closed: dup(II), close(II); Lions' Commentary, `fio.c` and `sys3.c`.
+use Rattle.std.specs.Prelude.{◌≡◌, ℕ, Bool, false, not, ◌+◌, ◌<◌, ◌==◌, ◌&&◌, if◌then◌else◌, List, [], ◌∷◌, ◌++◌, Option, Some, None, Result, Ok, Err, slice_index, slice_set, fold}
+use Rattle.std.specs.List.{range_with_len, list_any}
+use Rattle.v6_base.specs.Trace.{Item, Log}
+use Rattle.v6_base.specs.declared.answer.Answer.TheVariants.{Ret}
+use Rattle.v6_base.specs.declared.entry.Chan.TheVariants.{Keys}
+use Rattle.v6_base.specs.declared.entry.Entry.TheVariants.{Wake}
+use Rattle.v6_base.specs.declared.errno.Errno.{Errno}
+use Rattle.v6_base.specs.declared.errno.Errno.TheVariants.{EBADF, EMFILE}
+use Rattle.open_files.specs.declared.file.OpenFile.{OpenFile}
+use Rattle.open_files.specs.declared.file.Closed.{Closed}
+use Rattle.open_files.specs.declared.file.Closed.TheVariants.{Still, Last}
+use Rattle.open_files.specs.Files.{file_at, entry_of, free_number, with_more, with_change, closed, left}
+use Rattle.sys_files.specs.Handed.{Handed, r0, r1, node_at, file_of, is_console, with_number, let_go}
+use Rattle.sys_files.specs.Did.{Did, returns, check, need}
+
+-- Each open file refers to its inode.
+abbrev pub AreReferred : List (Option OpenFile) → List ℕ → Type 0
+AreReferred files references =
+    (entry : ℕ) (file : OpenFile) → file_at files entry ≡ Some file → 0 < slice_index references file.ino
+
+-- the entry of an open number
+abbrev pub open_entry : Handed → ℕ → Result ℕ Errno
+open_entry h fd = if slice_index h.u.files fd == 0 then Err EBADF else Ok (entry_of h.u.files fd)
+
+-- 41, dup: the number in R0 is given once more, as the lowest free one, which R0 takes
+abbrev pub dup_file : Handed → Did
+dup_file h =
+    check h (open_entry h (r0 h)) (λ entry.
+    check h (need EMFILE (free_number h.u.files)) (λ fd.
+    returns (record h { files = with_change h.files entry (with_more 1); u = with_number h.u fd (entry + 1) }) fd))
+
+-- a file of the console is open
+abbrev pub is_of_console : Handed → Option OpenFile → Bool
+is_of_console h None = false
+is_of_console h (Some file) = is_console (node_at h file.ino)
+
+abbrev pub is_console_open : Handed → Bool
+is_console_open h = list_any (is_of_console h) h.files
+
+-- With the last of its files the console is closed: who waits for its keys is woken.
+abbrev pub console_closed : Handed → OpenFile → List Item
+console_closed h file =
+    if is_console (node_at h file.ino) && not (is_console_open h) then Log (Wake Keys) ∷ [] else []
+
+-- What closing comes to: it always goes on.
+pub record Closing : Type 0 where
+  pub state : Handed
+  pub items : List Item
+
+-- The entry is free with its last number: then the console is closed, and the reference to the inode goes.
+abbrev pub released : Handed → Closed → Closing
+released h (Still file) = record { state = h; items = [] }
+released h (Last file) = record { state = let_go h file.ino; items = console_closed h file }
+
+-- what is told of the file that a number lets go
+abbrev pub told_by : Handed → ℕ → Closed
+told_by h fd = closed (file_of h (entry_of h.u.files fd))
+
+-- The number names no file then, and its entry has what is left of it.
+abbrev pub dropped : Handed → ℕ → Handed
+dropped h fd = record h {
+  files = slice_set h.files (entry_of h.u.files fd) (left (told_by h fd));
+  u = with_number h.u fd 0;
+}
+
+-- a number lets its file go
+abbrev pub closes : Handed → ℕ → Closing
+closes h fd = released (dropped h fd) (told_by h fd)
+
+-- 6, close: of the number in R0
+abbrev pub close_file : Handed → Did
+close_file h =
+    check h (open_entry h (r0 h)) (λ entry.
+    let c : Closing = closes h (r0 h) in
+    record { answer = Ret (r0 h) (r1 h); state = c.state; items = c.items })
+
+-- all numbers of a process let their files go, in order
+abbrev pub then_closes : Closing → ℕ → Closing
+then_closes c fd =
+    if slice_index c.state.u.files fd == 0 then c
+    else (let next : Closing = closes c.state fd in record { state = next.state; items = c.items ++ next.items })
+
+unfoldable pub close_all : Handed → Closing
+close_all h = fold then_closes (record { state = h; items = [] }) (range_with_len 0 15)

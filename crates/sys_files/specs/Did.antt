@@ -1,0 +1,64 @@
+-- What a call does, and the words that the rows of calls are made of: section II of the manual, INTRO(II).
+use Rattle.std.specs.Prelude.{ℕ, Bool, if◌then◌else◌, List, [], Option, Some, None, Result, Ok, Err}
+use Rattle.v6_base.specs.Trace.{Item}
+use Rattle.v6_base.specs.declared.answer.Answer.{Answer}
+use Rattle.v6_base.specs.declared.answer.Answer.TheVariants.{Ret, Fail}
+use Rattle.v6_base.specs.declared.errno.Errno.{Errno}
+use Rattle.fs_tree.specs.declared.made.Made.{Made}
+use Rattle.fs_tree.specs.declared.made.Made.TheVariants as made
+use Rattle.fs_tree.specs.Name.{name_at}
+use Rattle.fs_tree.specs.Finding.{Finding, find_in, make_in}
+use Rattle.sys_files.specs.Handed.{Handed, r0, r1, user_of, with_inodes, let_go}
+
+-- what is answered, what the parts are then, and what is shown
+pub record Did : Type 0 where
+  pub answer : Answer
+  pub state : Handed
+  pub items : List Item
+
+-- The call is refused, and leaves this.
+abbrev pub fails : Handed → Errno → Did
+fails h e = record { answer = Fail e; state = h; items = [] }
+
+-- The call is done, and R0 takes a word.
+abbrev pub returns : Handed → ℕ → Did
+returns h value = record { answer = Ret value (r1 h); state = h; items = [] }
+
+-- The call is done, and the registers stay.
+abbrev pub is_done : Handed → Did
+is_done h = returns h (r0 h)
+
+-- A test: the call goes on with what it gives, or is refused with its error.
+abbrev pub check : {A : Type 0} → Handed → Result A Errno → (A → Did) → Did
+check h (Ok a) next = next a
+check h (Err e) next = fails h e
+
+-- a truth that must hold, and else an error
+abbrev pub must : Errno → Bool → Result (Unit {0}) Errno
+must e holds = if holds then Ok tt else Err e
+
+-- a value that must be there, and else an error
+abbrev pub need : {A : Type 0} → Errno → Option A → Result A Errno
+need e (Some a) = Ok a
+need e None = Err e
+
+-- A reference that the call has taken goes at its end.
+abbrev pub until_end : ℕ → Did → Did
+until_end ino did = record did { state = let_go did.state ino }
+
+-- What a search of names comes to: the call goes on with it and with the references that it has taken, or is refused.
+abbrev pub then_named : {A : Type 0} → Handed → Finding A → (Handed → A → Did) → Did
+then_named h found next = check (with_inodes h found.inodes) found.answer (next (with_inodes h found.inodes))
+
+-- The inode of the name at an address is found, and referred to until the call ends.
+abbrev pub finds : Handed → ℕ → (Handed → ℕ → Did) → Did
+finds h name next =
+    then_named h (find_in h.inodes (user_of h.u) h.u.dir (name_at h.image name)) (λ now ino. until_end ino (next now ino))
+
+-- The same for a name that may be new: its inode is found, or the room for its entry in a directory.
+abbrev pub by_made : (Handed → ℕ → Did) → (Handed → ℕ → ℕ → List ℕ → Did) → Handed → Made → Did
+by_made old new h (made.Found ino) = until_end ino (old h ino)
+by_made old new h (made.Room dir offset name) = until_end dir (new h dir offset name)
+
+abbrev pub makes : Handed → ℕ → (Handed → ℕ → Did) → (Handed → ℕ → ℕ → List ℕ → Did) → Did
+makes h name old new = then_named h (make_in h.inodes (user_of h.u) h.u.dir (name_at h.image name)) (by_made old new)

@@ -1,0 +1,79 @@
+-- What a call on files works on: the parts of the Unix that it is handed. `user.h`, `proc.h` and `file.h` in Lions' Commentary.
+use Rattle.std.specs.Prelude.{ℕ, Bool, false, ◌&&◌, ◌==◌, List, [], Option, slice_index, slice_set, unwrap_or}
+use Rattle.v6_base.specs.Image.{Image}
+use Rattle.proc_tab.specs.declared.row.Row.{Row}
+use Rattle.u_area.specs.declared.area.UArea.{UArea}
+use Rattle.fs_codec.specs.Modes.{is_character_device}
+use Rattle.fs_codec.specs.Store.{Node, Store, node_numbered}
+use Rattle.fs_laws.specs.Numbers.{with_node}
+use Rattle.open_files.specs.declared.file.OpenFile.{OpenFile}
+use Rattle.open_files.specs.Files.{file_at}
+use Rattle.fs_tree.specs.declared.user.User.{User}
+use Rattle.fs_tree.specs.Finding.{Inodes, inodes_of, put_back}
+use Rattle.sys_files.specs.declared.line.Line.{Line}
+use Rattle.sys_files.specs.declared.files.Files.{Files}
+
+pub record Handed : Type 0 where
+  pub inodes : Inodes  -- the store, and how often its inodes are referred to
+  pub files : List (Option OpenFile)  -- the table of open files
+  pub line : Line  -- the console
+  pub u : UArea  -- of the process that calls
+  pub row : Row
+  pub image : Image
+
+-- the parts as the kernel keeps them
+abbrev pub handed : Files → UArea → Row → Image → Handed
+handed f u row image =
+    record { inodes = inodes_of f.tree.nodes; files = f.table; line = f.line; u = u; row = row; image = image }
+
+-- R0 and R1 of the process
+abbrev pub r0 : Handed → ℕ
+r0 h = slice_index h.u.r 0
+
+abbrev pub r1 : Handed → ℕ
+r1 h = slice_index h.u.r 1
+
+abbrev pub user_of : UArea → User
+user_of u = record { uid = u.uid; gid = u.gid }
+
+-- what stands for a node where there is none of this number
+abbrev pub no_node : Node
+no_node = record { mode = 0; nlink = 0; uid = 0; gid = 0; size = 0; device = 0; actime = 0; modtime = 0; held = []; body = [] }
+
+abbrev pub node_in : Store → ℕ → Node
+node_in store ino = unwrap_or (node_numbered store ino) no_node
+
+abbrev pub node_at : Handed → ℕ → Node
+node_at h ino = node_in h.inodes.store ino
+
+-- what stands for an open file where an entry is free
+abbrev pub no_file : OpenFile
+no_file = record { ino = 0; kind = record { reading = false; writing = false; pipe = false }; offset = 0; count = 0 }
+
+abbrev pub file_of : Handed → ℕ → OpenFile
+file_of h entry = unwrap_or (file_at h.files entry) no_file
+
+-- the console is the character device 0, 0; the null device is 8, 2
+abbrev pub is_console : Node → Bool
+is_console node = is_character_device node.mode && (node.device == 0)
+
+abbrev pub is_null : Node → Bool
+is_null node = is_character_device node.mode && (node.device == 2050)
+
+abbrev pub with_inodes : Handed → Inodes → Handed
+with_inodes h inodes = record h { inodes = inodes }
+
+abbrev pub with_store : Handed → Store → Handed
+with_store h store = with_inodes h (record h.inodes { store = store })
+
+-- a node is changed, and holds no other blocks
+abbrev pub with_changed : Handed → ℕ → Node → Handed
+with_changed h ino node = with_store h (with_node h.inodes.store ino node h.inodes.store.room)
+
+-- a number of the process names this entry from now on: one more than the entry, or 0
+abbrev pub with_number : UArea → ℕ → ℕ → UArea
+with_number u fd number = record u { files = slice_set u.files fd number }
+
+-- a reference to an inode goes
+abbrev pub let_go : Handed → ℕ → Handed
+let_go h ino = with_inodes h (put_back h.inodes ino)

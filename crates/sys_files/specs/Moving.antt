@@ -1,0 +1,128 @@
+-- Bytes are read and written: read(II), write(II), seek(II); Lions' Commentary, `rdwr` and `seek` in `sys2.c`.
+use Rattle.std.specs.Prelude.{◌≡◌, ◌<◌, pos, ℕ, not, ◌+◌, ◌-◌, ◌*◌, ◌%◌, ◌^◌, ◌==◌, nat_le, if◌then◌else◌, List, [], ◌∷◌, length, min, slice_index, Option, Some, None}
+use Rattle.v6_base.specs.Image.{Image}
+use Rattle.v6_base.specs.Trace.{sent}
+use Rattle.v6_base.specs.declared.answer.Answer.TheVariants.{Sleep}
+use Rattle.v6_base.specs.declared.entry.Chan.TheVariants.{Keys}
+use Rattle.v6_base.specs.declared.errno.Errno.{Errno}
+use Rattle.v6_base.specs.declared.errno.Errno.TheVariants.{EBADF, EFAULT, ESPIPE}
+use Rattle.fs_codec.specs.Modes.{is_device}
+use Rattle.fs_codec.specs.Store.{Node}
+use Rattle.fs_laws.specs.Numbers.{with_node}
+use Rattle.fs_laws.specs.Pieces.{Moving, read_file, write_file}
+use Rattle.fs_nodes.specs.Copy.{put_into, get_from}
+use Rattle.fs_tree.specs.Name.{readable}
+use Rattle.open_files.specs.declared.file.OpenFile.{OpenFile}
+use Rattle.open_files.specs.Files.{file_at, with_change, with_offset}
+use Rattle.sys_files.specs.declared.files.Files.{Files}
+use Rattle.sys_files.specs.Handed.{Handed, r0, node_at, file_of, is_console, with_store}
+use Rattle.sys_files.specs.Did.{Did, fails, returns, is_done, check, must}
+use Rattle.sys_files.specs.Descriptors.{open_entry}
+use Rattle.sys_files.specs.Console.{shown_bytes, column_after_all}
+
+-- An entry is in use: this is its file, whose inode is referred to.
+pub record IsFileOf (f : Files) (entry : ℕ) (file : OpenFile) : Type 0 where
+  pub is : file_at f.table entry ≡ Some file
+  pub referred : 0 < slice_index f.tree.nodes.references file.ino
+
+-- what a read or a write of an open file has come to: its inode, and where the next one begins
+abbrev pub with_moved : {Memory : Type 0} → Handed → ℕ → Moving Memory → Handed
+with_moved h entry m =
+    let file : OpenFile = file_of h entry in
+    record (with_store h (with_node h.inodes.store file.ino m.node m.room)) {
+      files = with_change h.files entry (with_offset ((file.offset + m.done) % 2 ^ 32));
+    }
+
+-- R0 takes the number of bytes, unless an error has ended it
+abbrev pub gives_count : Handed → ℕ → Option Errno → Did
+gives_count h count None = returns h count
+gives_count h count (Some e) = fails h e
+
+-- The call waits for keys, at the priority of terminal input: its entry, address and count are kept.
+abbrev pub waits_for_keys : Handed → ℕ → ℕ → ℕ → Did
+waits_for_keys h entry at count = record {
+  answer = Sleep (pos 10) Keys;
+  state = record h { u = record h.u { pending = 1; call = entry ∷ at ∷ count ∷ 0 ∷ 0 ∷ 0 ∷ 0 ∷ 0 ∷ [] } };
+  items = [];
+}
+
+-- what a read of an entry comes to, and what the parts are then
+abbrev pub read_of : Handed → ℕ → ℕ → ℕ → ℕ → Moving Image
+read_of h entry at count now =
+    let file : OpenFile = file_of h entry in
+    read_file (put_into at) (node_at h file.ino) h.inodes.store.room h.image file.offset count now
+
+abbrev pub with_read : Handed → ℕ → Moving Image → Handed
+with_read h entry m = record (with_moved h entry m) { image = m.memory }
+
+-- A read of the console waits: no keys are typed yet. The null device has no bytes.
+abbrev pub reads_from : Handed → ℕ → ℕ → ℕ → ℕ → Did
+reads_from h entry at count now =
+    let m : Moving Image = read_of h entry at count now in
+    let after : Handed = with_read h entry m in
+    if is_console (node_at h (file_of h entry).ino) then waits_for_keys after entry at count
+    else gives_count after m.done m.error
+
+-- 3, read: of the number in R0, of a buffer's address and a number of bytes. R0 takes the number of bytes read.
+abbrev pub read_file_of : Handed → ℕ → ℕ → ℕ → Did
+read_file_of h at count now =
+    check h (open_entry h (r0 h)) (λ entry.
+    check h (must EBADF (file_of h entry).kind.reading) (λ may.
+    reads_from h entry at count now))
+
+-- What is written to the console is shown byte by byte, up to the first that cannot be read.
+abbrev pub shows_bytes : Handed → ℕ → List ℕ → Did
+shows_bytes h count bytes =
+    let shown : List ℕ = shown_bytes h.line.column bytes in
+    let after : Handed = record h { line = record { column = column_after_all h.line.column shown } } in
+    record (if length bytes == count then returns after count else fails after EFAULT) { items = sent 0 shown }
+
+-- what a write of an entry comes to
+abbrev pub write_of : Handed → ℕ → ℕ → ℕ → ℕ → Moving (Unit {0})
+write_of h entry at count now =
+    let file : OpenFile = file_of h entry in
+    write_file (get_from h.image at) (node_at h file.ino) h.inodes.store.room tt file.offset count now
+
+-- The null device takes all.
+abbrev pub writes_to : Handed → ℕ → ℕ → ℕ → ℕ → Did
+writes_to h entry at count now =
+    let node : Node = node_at h (file_of h entry).ino in
+    let m : Moving (Unit {0}) = write_of h entry at count now in
+    let after : Handed = with_moved h entry m in
+    if is_console node then shows_bytes after count (readable h.image at count)
+    else gives_count after (if is_device node.mode then count else m.done) m.error
+
+-- 4, write: of the number in R0, of a buffer's address and a number of bytes. R0 takes the number of bytes written.
+abbrev pub write_file_of : Handed → ℕ → ℕ → ℕ → Did
+write_file_of h at count now =
+    check h (open_entry h (r0 h)) (λ entry.
+    check h (must EBADF (file_of h entry).kind.writing) (λ may.
+    writes_to h entry at count now))
+
+-- a word with its sign, modulo 2^32
+abbrev pub extended : ℕ → ℕ
+extended word = if nat_le 0o100000 word then word + 2 ^ 32 - 65536 else word
+
+-- The modes of seek: from the beginning, from the place, from the end; from 3 on the same in blocks. A mode above 5
+-- counts as 5, and a negative one as 2.
+abbrev pub seek_mode : ℕ → ℕ
+seek_mode mode = if nat_le 0o100000 mode then 2 else min mode 5
+
+abbrev pub seek_base : OpenFile → Node → ℕ → ℕ
+seek_base file node mode = if mode % 3 == 0 then 0 else (if mode % 3 == 1 then file.offset else node.size)
+
+abbrev pub seek_move : ℕ → ℕ → ℕ
+seek_move offset mode = (if mode % 3 == 0 then offset else extended offset) * (if nat_le 3 mode then 512 else 1)
+
+abbrev pub sought : OpenFile → Node → ℕ → ℕ → ℕ
+sought file node offset mode = (seek_base file node mode + seek_move offset mode) % 2 ^ 32
+
+-- 19, seek: of the number in R0, of an offset and a mode
+abbrev pub seek_to : Handed → ℕ → ℕ → Did
+seek_to h offset mode =
+    check h (open_entry h (r0 h)) (λ entry.
+    let file : OpenFile = file_of h entry in
+    check h (must ESPIPE (not file.kind.pipe)) (λ may.
+    is_done (record h {
+      files = with_change h.files entry (with_offset (sought file (node_at h file.ino) offset (seek_mode mode)));
+    })))

@@ -1,0 +1,260 @@
+//! Descriptors are given once more and closed: `fio.c` and `sys3.c` in Lions' Commentary.
+ghost use Rattle.std.specs.Prelude.{◌≡◌, ◌<◌, ◌&&◌, not, IsSome, IfOk, IfErr, MatchResult, length, slice_index, []};
+ghost use Rattle.v6_base.specs.Image.{Image};
+ghost use Rattle.v6_base.specs.Trace.{Took};
+ghost use Rattle.v6_base.specs.declared.errno.Errno.{Errno};
+ghost use Rattle.proc_tab.specs.declared.row.Row.{Row};
+ghost use Rattle.u_area.specs.declared.area.UArea.{UArea};
+ghost use Rattle.fs_nodes.specs.FileSystem.{SameRest};
+ghost use Rattle.open_files.specs.declared.file.OpenFile.{OpenFile};
+ghost use Rattle.open_files.specs.declared.file.Closed.{Closed};
+ghost use Rattle.open_files.specs.Files.{file_at, AreOpen, HaveRoom};
+ghost use Rattle.sys_files.specs.Handed.{handed, file_of, node_at, is_console};
+ghost use Rattle.sys_files.specs.Sound.{IsSound, IsKept};
+ghost use Rattle.sys_files.specs.Descriptors.{open_entry, dup_file, is_of_console, is_console_open, console_closed, released, told_by, dropped, then_closes, close_file, close_all, AreReferred};
+
+use crate::devices::is_console_at;
+use crate::files::Files;
+use crate::inodes::let_go;
+use open_files::{Closed, OpenFile, OpenTable};
+use proc_tab::Row;
+use u_area::UArea;
+use v6_base::{Answer, Chan, Entry, Errno, Slot, Space, Trace};
+
+/// The entry of the table of open files that a number of the process names: `getf` in Lions' Commentary, `fio.c`.
+///
+/// # Errors
+///
+/// `EBADF`: the number is not open.
+pub(crate) fn open_entry(f: &Files, u: &UArea, fd: u16) -> Result<u8, Errno>
+    ensures entry { (row : Row) (image : Image) → result ≡ open_entry (handed f.now u.now row image) fd }
+    ensures used { AreOpen f.now.table u.now.files → IfOk result (λ entry. IsSome (file_at f.now.table entry)) }
+{
+    f.table.get(&u.files, fd)
+}
+
+/// The open file of an entry in use.
+pub(crate) fn file_of(f: &Files, entry: u8) -> OpenFile
+    requires used { IsSome (file_at f.now.table entry) }
+    ensures { (u : UArea) (row : Row) (image : Image) → result ≡ file_of (handed f.now u row image) entry }
+{
+    *f.table.file(entry)
+}
+
+/// Gives the number in R0 of the process once more.
+fn dup_number(f: &mut Files, u: &mut UArea) -> Answer
+    requires open { AreOpen f.old.table u.old.files }
+    requires few { HaveRoom f.old.table }
+    ensures answer { (row : Row) (image : Image) → result ≡ (dup_file (handed f.old u.old row image)).answer }
+    ensures state { (row : Row) (image : Image)
+        → handed f.new u.new row image ≡ (dup_file (handed f.old u.old row image)).state }
+    ensures tree { f.new.tree ≡ f.old.tree }
+{
+    match f.table.dup(&mut u.files, u.r[0]) {
+        Ok(fd) => Answer::Ret {
+            r0: u16::from(fd),
+            r1: u.r[1],
+        },
+        Err(e) => Answer::Fail(e),
+    }
+}
+
+/// 41, dup(II): the number in R0 is given once more, as the lowest one that is free. R0 takes the new one. Lions'
+/// Commentary, `dup` in `sys3.c`.
+///
+/// # Errors
+///
+/// `EBADF`: the number is not open. Else `EMFILE`: the fifteen numbers are used.
+pub fn dup_file<S: Space, T: Trace>(
+    f: &mut Files,
+    _slot: Slot,
+    u: &mut UArea,
+    row: &mut Row,
+    space: &mut S,
+    _args: [u16; 4],
+    _now: u32,
+    trace: &mut T,
+) -> Answer
+    requires sound { IsSound (handed f.old u.old row.old (S.image space.old)) }
+    ensures answer { result ≡ (dup_file (handed f.old u.old row.old (S.image space.old))).answer }
+    ensures state { handed f.new u.new row.new (S.image space.new)
+        ≡ (dup_file (handed f.old u.old row.old (S.image space.old))).state }
+    ensures items { Took (T.taken trace.old)
+        (dup_file (handed f.old u.old row.old (S.image space.old))).items (T.taken trace.new) }
+    ensures kept { IsKept (handed f.old u.old row.old (S.image space.old))
+        (handed f.new u.new row.new (S.image space.new)) }
+    ensures frame { T.leads_to trace.old trace.new }
+    ensures memory { S.rest space.new ≡ S.rest space.old }
+    ensures blocks { SameRest f.old.tree.nodes.blocks f.new.tree.nodes.blocks }
+{
+    dup_number(f, u)
+}
+
+/// Sees that the table has a hundred entries.
+fn see_entries(table: &OpenTable)
+    ensures { length table.now ≡ 100 }
+{
+    let _ = table.in_use(0);
+}
+
+/// Whether an entry is in use by a file of the console.
+fn is_of_console(f: &Files, entry: u8) -> bool
+    requires { AreReferred f.now.table f.now.tree.nodes.references }
+    ensures { (u : UArea) (row : Row) (image : Image)
+        → result ≡ is_of_console (handed f.now u row image) (file_at f.now.table entry) }
+{
+    f.table.in_use(entry) && is_console_at(&f.tree.nodes, f.table.file(entry).ino)
+}
+
+/// Whether a file of the console is open.
+fn is_console_open(f: &Files) -> bool
+    requires { AreReferred f.now.table f.now.tree.nodes.references }
+    ensures { (u : UArea) (row : Row) (image : Image) → result ≡ is_console_open (handed f.now u row image) }
+{
+    see_entries(&f.table);
+    for entry in 0..100 {
+        if is_of_console(f, entry) {
+            return true;
+        }
+    }
+    false
+}
+
+/// Whether an inode was the last that an open file of the console had: the file is closed already.
+fn is_console_closed(f: &Files, ino: u16) -> bool
+    requires referenced { 0 < slice_index f.now.tree.nodes.references ino }
+    requires others { AreReferred f.now.table f.now.tree.nodes.references }
+    ensures { (u : UArea) (row : Row) (image : Image) → result
+        ≡ (is_console (node_at (handed f.now u row image) ino) && not (is_console_open (handed f.now u row image))) }
+{
+    is_console_at(&f.tree.nodes, ino) && !is_console_open(f)
+}
+
+/// Closes the console with the last of its files: who waits for its keys is woken.
+fn close_console<T: Trace>(f: &Files, file: OpenFile, trace: &mut T)
+    requires referenced { 0 < slice_index f.now.tree.nodes.references file.ino }
+    requires others { AreReferred f.now.table f.now.tree.nodes.references }
+    ensures items { (u : UArea) (row : Row) (image : Image)
+        → Took (T.taken trace.old) (console_closed (handed f.now u row image) file) (T.taken trace.new) }
+    ensures frame { T.leads_to trace.old trace.new }
+{
+    if is_console_closed(f, file.ino) {
+        trace.entry(Entry::Wake(Chan::Keys));
+    }
+}
+
+/// Lets go what a file has that a number has let go: with its last number the console, and the reference to its inode.
+fn release<T: Trace>(f: &mut Files, told: Closed, now: u32, trace: &mut T)
+    requires referenced { (file : OpenFile) → told ≡ Closed.Last file
+        → 0 < slice_index f.old.tree.nodes.references file.ino }
+    requires others { AreReferred f.old.table f.old.tree.nodes.references }
+    ensures state { (u : UArea) (row : Row) (image : Image)
+        → handed f.new u row image ≡ (released (handed f.old u row image) told).state }
+    ensures items { (u : UArea) (row : Row) (image : Image)
+        → Took (T.taken trace.old) (released (handed f.old u row image) told).items (T.taken trace.new) }
+    ensures frame { T.leads_to trace.old trace.new }
+    ensures blocks { SameRest f.old.tree.nodes.blocks f.new.tree.nodes.blocks }
+{
+    match told {
+        Closed::Still(_) => {}
+        Closed::Last(file) => {
+            close_console(f, file, trace);
+            let_go(&mut f.tree.nodes, file.ino, now);
+        }
+    }
+}
+
+/// Lets a number of the process name no file.
+///
+/// # Errors
+///
+/// `EBADF`: it names none. Nothing has changed then.
+fn drop_number(f: &mut Files, u: &mut UArea, fd: u16) -> Result<Closed, Errno>
+    requires { AreOpen f.old.table u.old.files }
+    ensures outcome { MatchResult result
+        (λ told. (0 < slice_index u.old.files fd) × ((row : Row) (image : Image)
+        → (told ≡ told_by (handed f.old u.old row image) fd)
+        × (handed f.new u.new row image ≡ dropped (handed f.old u.old row image) fd)))
+        (λ e. (e ≡ Errno.EBADF) × (slice_index u.old.files fd ≡ 0) × (f.new ≡ f.old) × (u.new ≡ u.old)) }
+    ensures tree { f.new.tree ≡ f.old.tree }
+{
+    f.table.drop_one(&mut u.files, fd)
+}
+
+/// Closes a number of the process.
+///
+/// # Errors
+///
+/// `EBADF`: it is not open. Nothing has changed then.
+fn close_number<T: Trace>(
+    f: &mut Files,
+    u: &mut UArea,
+    fd: u16,
+    now: u32,
+    trace: &mut T,
+) -> Result<(), Errno>
+    requires { (row : Row) (image : Image) → IsSound (handed f.old u.old row image) }
+    ensures done { IfOk result (λ _. 0 < slice_index u.old.files fd) }
+    ensures error { IfErr result (λ e. (e ≡ Errno.EBADF) × (slice_index u.old.files fd ≡ 0)) }
+    ensures state { (row : Row) (image : Image) → handed f.new u.new row image
+        ≡ (then_closes (record { state = handed f.old u.old row image; items = [] }) fd).state }
+    ensures items { (row : Row) (image : Image) → Took (T.taken trace.old)
+        (then_closes (record { state = handed f.old u.old row image; items = [] }) fd).items (T.taken trace.new) }
+    ensures frame { T.leads_to trace.old trace.new }
+    ensures blocks { SameRest f.old.tree.nodes.blocks f.new.tree.nodes.blocks }
+{
+    let told = drop_number(f, u, fd)?;
+    release(f, told, now, trace);
+    Ok(())
+}
+
+/// 6, close(II): the number in R0 is closed. Lions' Commentary, `close` in `sys2.c` and `closef` in `fio.c`.
+///
+/// # Errors
+///
+/// `EBADF`: it is not open.
+pub fn close_file<S: Space, T: Trace>(
+    f: &mut Files,
+    _slot: Slot,
+    u: &mut UArea,
+    row: &mut Row,
+    space: &mut S,
+    _args: [u16; 4],
+    now: u32,
+    trace: &mut T,
+) -> Answer
+    requires sound { IsSound (handed f.old u.old row.old (S.image space.old)) }
+    ensures answer { result ≡ (close_file (handed f.old u.old row.old (S.image space.old))).answer }
+    ensures state { handed f.new u.new row.new (S.image space.new)
+        ≡ (close_file (handed f.old u.old row.old (S.image space.old))).state }
+    ensures items { Took (T.taken trace.old)
+        (close_file (handed f.old u.old row.old (S.image space.old))).items (T.taken trace.new) }
+    ensures kept { IsKept (handed f.old u.old row.old (S.image space.old))
+        (handed f.new u.new row.new (S.image space.new)) }
+    ensures frame { T.leads_to trace.old trace.new }
+    ensures memory { S.rest space.new ≡ S.rest space.old }
+    ensures blocks { SameRest f.old.tree.nodes.blocks f.new.tree.nodes.blocks }
+{
+    let fd = u.r[0];
+    match close_number(f, u, fd, now, trace) {
+        Ok(()) => Answer::Ret { r0: fd, r1: u.r[1] },
+        Err(e) => Answer::Fail(e),
+    }
+}
+
+/// Closes all numbers of a process, in order, as it ends: exit(II). Lions' Commentary, `exit` in `sys1.c`.
+pub fn close_all<T: Trace>(f: &mut Files, u: &mut UArea, now: u32, trace: &mut T)
+    requires sound { (row : Row) (image : Image) → IsSound (handed f.old u.old row image) }
+    ensures state { (row : Row) (image : Image)
+        → handed f.new u.new row image ≡ (close_all (handed f.old u.old row image)).state }
+    ensures items { (row : Row) (image : Image)
+        → Took (T.taken trace.old) (close_all (handed f.old u.old row image)).items (T.taken trace.new) }
+    ensures kept { (row : Row) (image : Image)
+        → IsKept (handed f.old u.old row image) (handed f.new u.new row image) }
+    ensures frame { T.leads_to trace.old trace.new }
+    ensures blocks { SameRest f.old.tree.nodes.blocks f.new.tree.nodes.blocks }
+{
+    for fd in 0..15 {
+        let _ = close_number(f, u, fd, now, trace);
+    }
+}

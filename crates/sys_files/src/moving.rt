@@ -1,0 +1,389 @@
+//! Bytes are read and written: `rdwr` and `seek` in Lions' Commentary, `sys2.c`.
+ghost use Rattle.std.specs.Prelude.{◌≡◌, ◌<◌, ◌≤◌, ◌+◌, ◌%◌, ◌^◌, IsSome, if◌then◌else◌, slice_index};
+ghost use Rattle.v6_base.specs.Trace.{Took, sent};
+ghost use Rattle.proc_tab.specs.declared.row.Row.{Row};
+ghost use Rattle.u_area.specs.declared.area.UArea.{UArea};
+ghost use Rattle.open_files.specs.Files.{file_at, with_change, with_offset};
+ghost use Rattle.fs_codec.specs.Modes.{is_device};
+ghost use Rattle.fs_nodes.specs.FileSystem.{SameRest};
+ghost use Rattle.fs_tree.specs.Name.{readable};
+ghost use Rattle.sys_files.specs.Handed.{Handed, handed, node_in};
+ghost use Rattle.sys_files.specs.Console.{shown_bytes};
+ghost use Rattle.sys_files.specs.Moving.{IsFileOf, with_moved, gives_count, waits_for_keys, read_of, with_read, reads_from, read_file_of};
+ghost use Rattle.sys_files.specs.Moving.{write_of, shows_bytes, writes_to, write_file_of};
+ghost use Rattle.sys_files.specs.Moving.{extended, seek_mode, seek_base, seek_move, sought, seek_to};
+ghost use Rattle.sys_files.specs.Sound.{IsSound, IsKept};
+
+use crate::descriptors::{file_of, open_entry};
+use crate::devices::is_console_at;
+use crate::files::Files;
+use crate::inodes::see;
+use crate::line::Line;
+use fs_codec::is_device;
+use fs_nodes::{Moved, Nodes};
+use open_files::{OpenFile, OpenTable};
+use proc_tab::Row;
+use u_area::UArea;
+use v6_base::{Answer, Chan, Errno, Slot, Space, Trace};
+
+/// The priority at which a process waits for keys: `TTIPRI` in Lions' Commentary, `tty.h`.
+const TTIPRI: i8 = 10;
+
+/// The pending call that is a read of the console.
+const CONSOLE_READ: u8 = 1;
+
+/// Says where the next read or write of an open file begins, when some bytes from its place on are done.
+fn move_on(table: &mut OpenTable, entry: u8, file: &OpenFile, done: u16)
+    requires used { IsSome (file_at table.old entry) }
+    ensures { table.new ≡ with_change table.old entry (with_offset ((file.now.offset + done) % 2 ^ 32)) }
+{
+    table.set_offset(entry, file.offset.wrapping_add(u32::from(done)));
+}
+
+/// R0 takes a number of bytes, unless an error has come.
+fn give_count(u: &UArea, count: u16, error: Option<Errno>) -> Answer
+    ensures { (h : Handed) → h.u ≡ u.now → result ≡ (gives_count h count error).answer }
+{
+    match error {
+        None => Answer::Ret {
+            r0: count,
+            r1: u.r[1],
+        },
+        Some(e) => Answer::Fail(e),
+    }
+}
+
+/// Lets the process wait for keys, with what it needs to go on.
+fn wait_for_keys(u: &mut UArea, entry: u8, at: u16, count: u16) -> Answer
+    ensures answer { (h : Handed) → h.u ≡ u.old → result ≡ (waits_for_keys h entry at count).answer }
+    ensures state { (h : Handed) → h.u ≡ u.old → record h { u = u.new } ≡ (waits_for_keys h entry at count).state }
+{
+    u.pending = CONSOLE_READ;
+    u.call = [u16::from(entry), at, count, 0, 0, 0, 0, 0];
+    Answer::Sleep {
+        pri: TTIPRI,
+        chan: Chan::Keys,
+    }
+}
+
+/// Reads bytes of an open file from its place on.
+fn read_bytes<S: Space>(
+    f: &mut Files,
+    entry: u8,
+    file: &OpenFile,
+    space: &mut S,
+    at: u16,
+    count: u16,
+    now: u32,
+) -> Moved
+    requires file { IsFileOf f.old entry file.now }
+    ensures done { (u : UArea) (row : Row) → result.done ≡ (read_of (handed f.old u row (S.image space.old)) entry at count now).done }
+    ensures error { (u : UArea) (row : Row) → result.error ≡ (read_of (handed f.old u row (S.image space.old)) entry at count now).error }
+    ensures state { (u : UArea) (row : Row) → handed f.new u row (S.image space.new) ≡ with_read (handed f.old u row (S.image space.old)) entry (read_of (handed f.old u row (S.image space.old)) entry at count now) }
+    ensures memory { S.rest space.new ≡ S.rest space.old }
+    ensures blocks { SameRest f.old.tree.nodes.blocks f.new.tree.nodes.blocks }
+{
+    see(&f.tree.nodes);
+    let moved = f
+        .tree
+        .nodes
+        .read_at(file.ino, file.offset, space, at, count, now);
+    move_on(&mut f.table, entry, file, moved.done);
+    moved
+}
+
+/// Reads from an open file, or waits for keys.
+fn read_from<S: Space>(
+    f: &mut Files,
+    entry: u8,
+    file: &OpenFile,
+    u: &mut UArea,
+    space: &mut S,
+    at: u16,
+    count: u16,
+    now: u32,
+) -> Answer
+    requires file { IsFileOf f.old entry file.now }
+    ensures answer { (row : Row) → result ≡ (reads_from (handed f.old u.old row (S.image space.old)) entry at count now).answer }
+    ensures state { (row : Row) → handed f.new u.new row (S.image space.new) ≡ (reads_from (handed f.old u.old row (S.image space.old)) entry at count now).state }
+    ensures memory { S.rest space.new ≡ S.rest space.old }
+    ensures blocks { SameRest f.old.tree.nodes.blocks f.new.tree.nodes.blocks }
+{
+    let waits = is_console_at(&f.tree.nodes, file.ino);
+    let moved = read_bytes(f, entry, file, space, at, count, now);
+    if waits {
+        wait_for_keys(u, entry, at, count)
+    } else {
+        give_count(u, moved.done, moved.error)
+    }
+}
+
+/// 3, read(II): of the number in R0, into a buffer. The arguments are its address and how many bytes are to be read. R0
+/// takes the number of bytes that were read: fewer, where the file ends before, and 0 of the null device. A read of the
+/// console waits until keys are typed. The next read or write begins after what was read, also after an error.
+///
+/// # Errors
+///
+/// `EBADF`: the number is not open, or not for reading. `ENOSPC`: no block is free for a hole of the file. `EFAULT`: an
+/// address of the buffer cannot be written.
+#[tactic(auto, using(v6_base::proofs::Took::takes))]
+pub fn read_file<S: Space, T: Trace>(
+    f: &mut Files,
+    _slot: Slot,
+    u: &mut UArea,
+    row: &mut Row,
+    space: &mut S,
+    args: [u16; 4],
+    now: u32,
+    trace: &mut T,
+) -> Answer
+    requires sound { IsSound (handed f.old u.old row.old (S.image space.old)) }
+    ensures answer { result ≡ (read_file_of (handed f.old u.old row.old (S.image space.old)) (slice_index args 0) (slice_index args 1) now).answer }
+    ensures state { handed f.new u.new row.new (S.image space.new) ≡ (read_file_of (handed f.old u.old row.old (S.image space.old)) (slice_index args 0) (slice_index args 1) now).state }
+    ensures items { Took (T.taken trace.old) (read_file_of (handed f.old u.old row.old (S.image space.old)) (slice_index args 0) (slice_index args 1) now).items (T.taken trace.new) }
+    ensures kept { IsKept (handed f.old u.old row.old (S.image space.old)) (handed f.new u.new row.new (S.image space.new)) }
+    ensures frame { T.leads_to trace.old trace.new }
+    ensures memory { S.rest space.new ≡ S.rest space.old }
+    ensures blocks { SameRest f.old.tree.nodes.blocks f.new.tree.nodes.blocks }
+{
+    let entry = match open_entry(f, u, u.r[0]) {
+        Ok(entry) => entry,
+        Err(e) => return Answer::Fail(e),
+    };
+    let file = file_of(f, entry);
+    if !file.kind.reading {
+        return Answer::Fail(Errno::EBADF);
+    }
+    read_from(f, entry, &file, u, space, args[0], args[1], now)
+}
+
+/// Whether the inode of a number, which is referred to, is a device's.
+fn is_device_at(nodes: &Nodes, ino: u16) -> bool
+    requires referenced { 0 < slice_index nodes.now.references ino }
+    ensures { result ≡ is_device (node_in nodes.now.store ino).mode }
+{
+    is_device(nodes.node(ino).mode)
+}
+
+/// How many bytes count as written: a device takes all.
+fn taken(device: bool, count: u16, done: u16) -> u16
+    ensures { result ≡ (if device then count else done) }
+{
+    if device { count } else { done }
+}
+
+/// Shows bytes of a memory on the console.
+fn show_bytes<S: Space, T: Trace>(
+    line: &mut Line,
+    u: &UArea,
+    space: &S,
+    at: u16,
+    count: u16,
+    trace: &mut T,
+) -> Answer
+    ensures answer { (h : Handed) → h.u ≡ u.now → result ≡ (shows_bytes h count (readable (S.image space.now) at count)).answer }
+    ensures state { (h : Handed) → h.line ≡ line.old → record h { line = line.new } ≡ (shows_bytes h count (readable (S.image space.now) at count)).state }
+    ensures items { Took (T.taken trace.old) (sent 0 (shown_bytes line.old.column (readable (S.image space.now) at count))) (T.taken trace.new) }
+    ensures frame { T.leads_to trace.old trace.new }
+{
+    if line.show(space, at, count, trace) {
+        Answer::Ret {
+            r0: count,
+            r1: u.r[1],
+        }
+    } else {
+        Answer::Fail(Errno::EFAULT)
+    }
+}
+
+/// Writes bytes of a memory into an open file, from its place on.
+fn write_bytes<S: Space>(
+    f: &mut Files,
+    entry: u8,
+    file: &OpenFile,
+    space: &S,
+    at: u16,
+    count: u16,
+    now: u32,
+) -> Moved
+    requires file { IsFileOf f.old entry file.now }
+    ensures done { (u : UArea) (row : Row) → result.done ≡ (write_of (handed f.old u row (S.image space.now)) entry at count now).done }
+    ensures error { (u : UArea) (row : Row) → result.error ≡ (write_of (handed f.old u row (S.image space.now)) entry at count now).error }
+    ensures state { (u : UArea) (row : Row) → handed f.new u row (S.image space.now) ≡ with_moved (handed f.old u row (S.image space.now)) entry (write_of (handed f.old u row (S.image space.now)) entry at count now) }
+    ensures blocks { SameRest f.old.tree.nodes.blocks f.new.tree.nodes.blocks }
+{
+    see(&f.tree.nodes);
+    let moved = f
+        .tree
+        .nodes
+        .write_at(file.ino, file.offset, space, at, count, now);
+    move_on(&mut f.table, entry, file, moved.done);
+    moved
+}
+
+/// Writes to an open file, or shows on the console.
+fn write_to<S: Space, T: Trace>(
+    f: &mut Files,
+    entry: u8,
+    file: &OpenFile,
+    u: &UArea,
+    space: &S,
+    at: u16,
+    count: u16,
+    now: u32,
+    trace: &mut T,
+) -> Answer
+    requires file { IsFileOf f.old entry file.now }
+    ensures answer { (row : Row) → result ≡ (writes_to (handed f.old u.now row (S.image space.now)) entry at count now).answer }
+    ensures state { (row : Row) → handed f.new u.now row (S.image space.now) ≡ (writes_to (handed f.old u.now row (S.image space.now)) entry at count now).state }
+    ensures items { (row : Row) → Took (T.taken trace.old) (writes_to (handed f.old u.now row (S.image space.now)) entry at count now).items (T.taken trace.new) }
+    ensures frame { T.leads_to trace.old trace.new }
+    ensures blocks { SameRest f.old.tree.nodes.blocks f.new.tree.nodes.blocks }
+{
+    let console = is_console_at(&f.tree.nodes, file.ino);
+    let device = is_device_at(&f.tree.nodes, file.ino);
+    let moved = write_bytes(f, entry, file, space, at, count, now);
+    if console {
+        show_bytes(&mut f.line, u, space, at, count, trace)
+    } else {
+        give_count(u, taken(device, count, moved.done), moved.error)
+    }
+}
+
+/// 4, write(II): of the number in R0, from a buffer. The arguments are its address and how many bytes are to be
+/// written. R0 takes the number of bytes that were written. The file grows where it must. What is written to the
+/// console is shown byte by byte, up to the first that cannot be read; the null device takes all. The next read or
+/// write begins after what was written, also after an error.
+///
+/// # Errors
+///
+/// `EBADF`: the number is not open, or not for writing. Of each piece of a file, in this order. `EFBIG`: it would end
+/// past byte 16,777,215, or in a directory past byte 65,520 and its present size. `ENOSPC`: no block is free. `EFAULT`:
+/// an address of the buffer cannot be read.
+#[tactic(auto, using(v6_base::proofs::Took::takes))]
+pub fn write_file<S: Space, T: Trace>(
+    f: &mut Files,
+    _slot: Slot,
+    u: &mut UArea,
+    row: &mut Row,
+    space: &mut S,
+    args: [u16; 4],
+    now: u32,
+    trace: &mut T,
+) -> Answer
+    requires sound { IsSound (handed f.old u.old row.old (S.image space.old)) }
+    ensures answer { result ≡ (write_file_of (handed f.old u.old row.old (S.image space.old)) (slice_index args 0) (slice_index args 1) now).answer }
+    ensures state { handed f.new u.new row.new (S.image space.new) ≡ (write_file_of (handed f.old u.old row.old (S.image space.old)) (slice_index args 0) (slice_index args 1) now).state }
+    ensures items { Took (T.taken trace.old) (write_file_of (handed f.old u.old row.old (S.image space.old)) (slice_index args 0) (slice_index args 1) now).items (T.taken trace.new) }
+    ensures kept { IsKept (handed f.old u.old row.old (S.image space.old)) (handed f.new u.new row.new (S.image space.new)) }
+    ensures frame { T.leads_to trace.old trace.new }
+    ensures memory { S.rest space.new ≡ S.rest space.old }
+    ensures blocks { SameRest f.old.tree.nodes.blocks f.new.tree.nodes.blocks }
+{
+    let entry = match open_entry(f, u, u.r[0]) {
+        Ok(entry) => entry,
+        Err(e) => return Answer::Fail(e),
+    };
+    let file = file_of(f, entry);
+    if !file.kind.writing {
+        return Answer::Fail(Errno::EBADF);
+    }
+    write_to(f, entry, &file, u, space, args[0], args[1], now, trace)
+}
+
+/// A word with its sign, modulo 2^32.
+fn extended(word: u16) -> u32
+    ensures { result ≡ extended word }
+{
+    if word >= 0o100000 {
+        u32::from(word) + 0xffff_0000
+    } else {
+        u32::from(word)
+    }
+}
+
+/// The mode that a mode counts as.
+fn seek_mode(mode: u16) -> u16
+    ensures { result ≡ seek_mode mode }
+{
+    if mode >= 0o100000 { 2 } else { mode.min(5) }
+}
+
+/// Where a mode counts from, in bytes.
+fn seek_base(nodes: &Nodes, file: &OpenFile, mode: u16) -> u32
+    requires referenced { 0 < slice_index nodes.now.references file.now.ino }
+    ensures { result ≡ seek_base file.now (node_in nodes.now.store file.now.ino) mode }
+{
+    match mode % 3 {
+        0 => 0,
+        1 => file.offset,
+        _ => nodes.node(file.ino).size,
+    }
+}
+
+/// How far an offset goes in a mode, in bytes, modulo 2^32.
+fn seek_move(offset: u16, mode: u16) -> u32
+    ensures { result ≡ seek_move offset mode % 2 ^ 32 }
+{
+    let offset = if mode % 3 == 0 {
+        u32::from(offset)
+    } else {
+        extended(offset)
+    };
+    if mode >= 3 {
+        offset.wrapping_mul(512)
+    } else {
+        offset
+    }
+}
+
+/// Where an open file's next read or write begins after a seek.
+fn sought(nodes: &Nodes, file: &OpenFile, offset: u16, mode: u16) -> u32
+    requires referenced { 0 < slice_index nodes.now.references file.now.ino }
+    ensures { result ≡ sought file.now (node_in nodes.now.store file.now.ino) offset mode }
+{
+    seek_base(nodes, file, mode).wrapping_add(seek_move(offset, mode))
+}
+
+/// 19, seek(II): says where the next read or write of the number in R0 begins. The arguments are an offset and a mode:
+/// from the beginning (0), from where it would begin (1), from the end (2), and from 3 on the same in blocks of 512
+/// bytes. But for modes 0 and 3 the offset has a sign. A mode above 5 counts as 5, and a negative one as 2.
+///
+/// # Errors
+///
+/// `EBADF`: the number is not open. `ESPIPE`: it is an end of a pipe.
+#[tactic(auto, using(v6_base::proofs::Took::takes))]
+pub fn seek_to<S: Space, T: Trace>(
+    f: &mut Files,
+    _slot: Slot,
+    u: &mut UArea,
+    row: &mut Row,
+    space: &mut S,
+    args: [u16; 4],
+    _now: u32,
+    trace: &mut T,
+) -> Answer
+    requires sound { IsSound (handed f.old u.old row.old (S.image space.old)) }
+    ensures answer { result ≡ (seek_to (handed f.old u.old row.old (S.image space.old)) (slice_index args 0) (slice_index args 1)).answer }
+    ensures state { handed f.new u.new row.new (S.image space.new) ≡ (seek_to (handed f.old u.old row.old (S.image space.old)) (slice_index args 0) (slice_index args 1)).state }
+    ensures items { Took (T.taken trace.old) (seek_to (handed f.old u.old row.old (S.image space.old)) (slice_index args 0) (slice_index args 1)).items (T.taken trace.new) }
+    ensures kept { IsKept (handed f.old u.old row.old (S.image space.old)) (handed f.new u.new row.new (S.image space.new)) }
+    ensures frame { T.leads_to trace.old trace.new }
+    ensures memory { S.rest space.new ≡ S.rest space.old }
+    ensures blocks { SameRest f.old.tree.nodes.blocks f.new.tree.nodes.blocks }
+{
+    let entry = match open_entry(f, u, u.r[0]) {
+        Ok(entry) => entry,
+        Err(e) => return Answer::Fail(e),
+    };
+    let file = file_of(f, entry);
+    if file.kind.pipe {
+        return Answer::Fail(Errno::ESPIPE);
+    }
+    let offset = sought(&f.tree.nodes, &file, args[0], seek_mode(args[1]));
+    f.table.set_offset(entry, offset);
+    Answer::Ret {
+        r0: u.r[0],
+        r1: u.r[1],
+    }
+}
