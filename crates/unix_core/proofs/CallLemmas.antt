@@ -1,37 +1,44 @@
--- What a call shows.
-use Rattle.std.proofs.Common.{◌≡◌, ℕ, Bool, true, false, [], Option, Some, None, Result, Ok, Err, refl}
-use Rattle.std.specs.Prelude.{if◌then◌else◌, ◌&&◌, ◌==◌, is_none, unwrap_or}
+-- What a call by its number comes to.
+use Rattle.std.proofs.Common.{◌≡◌, ℕ, List, [], Option, Some, None, refl, sym, ap, ◌∙◌}
+use Rattle.std.specs.Prelude.{unwrap_or, if◌then◌else◌}
 use Rattle.std.specs.Option.{option_map}
-use Rattle.v6_base.specs.declared.space.Trap.{Trap}
-use Rattle.fs_codec.specs.Store.{Node, node_numbered}
-use Rattle.unix_core.specs.Names.{console_in, for_node}
-use Rattle.unix_core.specs.Form.{is_console}
-use Rattle.unix_core.specs.Unix.{Unix, process_of, image_of, register}
-use Rattle.unix_core.specs.Memory.{argument, names_console}
+use Rattle.std.proofs.lemmas.Bool.{ne_eqb}
+use Rattle.v6_base.specs.declared.answer.Answer.{Answer}
+use Rattle.sys_files.specs.Did.{Did}
+use Rattle.unix_core.specs.declared.world.World.{World}
+use Rattle.unix_core.specs.Unix.{Process, Unix}
 use Rattle.unix_core.specs.Steps.{Steps, not_built}
-use Rattle.unix_core.specs.Calls.{open_file, open_call, row_of_two, with_arguments}
+use Rattle.unix_core.specs.Calls.{FileCall, file_call, handed_of, with_handed, arguments_of, entered, answers, did_by, does_if_built, exit_now, system_call}
+use Rattle.unix_core.specs.Parts.{unix_with, row_of}
 
-both_empty : (test : Bool) (yes_ no_ : Steps) → yes_.items ≡ [] → no_.items ≡ [] → (if test then yes_ else no_).items ≡ []
-both_empty true yes_ no_ first second = first
-both_empty false yes_ no_ first second = second
+-- what a call of process 1 that has been entered does by its row
+abbrev pub done_by : World → Option FileCall → List ℕ → Process → Did
+done_by w o args p = row_of o (handed_of (unix_with p w) p) args w.time
 
-at_node-items : (u : Unix) (i : ℕ) (node : Option Node) → (unwrap_or (option_map (open_file u i) node) (not_built u)).items ≡ []
-at_node-items u i None = refl
-at_node-items u i (Some node) = both_empty (is_console node) _ _ refl refl
+is_built : (w : World) (p : Process) (o : Option FileCall) (count : ℕ) → option_map (λ (c : FileCall). c.count) o ≡ Some count
+    → did_by (unix_with (entered count p) w) 1 (done_by w o (arguments_of p) (entered count p)) ≡ does_if_built (unix_with p w) 1 o
+is_built w p None count is = absurd (cc)
+is_built w p (Some c) count is =
+    let same : c.count ≡ count = ap (λ n. unwrap_or n 0) is in
+    ap (λ n. did_by (unix_with (entered n p) w) 1 (done_by w (Some c) (arguments_of p) (entered n p))) (sym same)
 
-found-items : (u : Unix) (found : Option ℕ) → (unwrap_or (for_node u.store found (open_file u)) (not_built u)).items ≡ []
-found-items u None = refl
-found-items u (Some i) = at_node-items u i (node_numbered u.store i)
+-- A call is entered, done and concluded.
+pub call_done : (w w' : World) (p q q' : Process) (o : Option FileCall) (count : ℕ) (args : List ℕ) (answer : Answer)
+    → option_map (λ (c : FileCall). c.count) o ≡ Some count → args ≡ arguments_of p → q ≡ entered count p
+    → unix_with q' w' ≡ with_handed (unix_with q w) 1 (done_by w o args q).state → answer ≡ (done_by w o args q).answer
+    → record (answers (unix_with q' w') 1 answer) { items = (done_by w o args q).items } ≡ does_if_built (unix_with p w) 1 o
+call_done w w' p q q' o count args answer built words enters state answered =
+    (λ i. record (answers (state i) 1 (answered i)) { items = (done_by w o args q).items })
+    ∙ ap (λ (x : Process). did_by (unix_with x w) 1 (done_by w o args x)) enters
+    ∙ ap (λ (l : List ℕ). did_by (unix_with (entered count p) w) 1 (done_by w o l (entered count p))) words
+    ∙ is_built w p o count built
 
-open_call-items : (u : Unix) (name mode : ℕ) → (open_call u name mode).items ≡ []
-open_call-items u name mode =
-    both_empty (names_console (image_of u (process_of u)) name && is_none (process_of u).console && (mode == 1)) _ _ (found-items u (console_in u.store)) refl
+is_not_built : (u : Unix) (o : Option FileCall) → option_map (λ (c : FileCall). c.count) o ≡ None → does_if_built u 1 o ≡ not_built u
+is_not_built u None is = refl
+is_not_built u (Some c) is = absurd (cc)
 
-row_of_two-open_call-items : (u : Unix) (name mode : Result ℕ Trap) → (row_of_two u name mode (open_call u)).items ≡ []
-row_of_two-open_call-items u (Ok name) (Ok mode) = open_call-items u name mode
-row_of_two-open_call-items u (Ok name) (Err trap) = refl
-row_of_two-open_call-items u (Err trap) mode = refl
-
--- opening shows nothing
-pub opening_shows_nothing : (u : Unix) → (with_arguments u (open_call u)).items ≡ []
-opening_shows_nothing u = row_of_two-open_call-items u (argument (image_of u (process_of u)) (register (process_of u) 7) 0) (argument (image_of u (process_of u)) (register (process_of u) 7) 1)
+-- A call that isn't built shows nothing.
+pub shows_nothing : (u : Unix) (number : ℕ) → (number ≡ 1 → ⊥) → option_map (λ (c : FileCall). c.count) (file_call number) ≡ None → (system_call number u 1).items ≡ []
+shows_nothing u number other is =
+    ap (λ b. (if b then exit_now u 1 else does_if_built u 1 (file_call number)).items) (ne_eqb number 1 other)
+    ∙ ap (λ (s : Steps). s.items) (is_not_built u (file_call number) is)

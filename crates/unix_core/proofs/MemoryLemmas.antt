@@ -1,21 +1,19 @@
 -- Bytes that are stored one after another, and addresses of a program with no text.
-use Rattle.std.proofs.Common.{◌≡◌, ℕ, ◌+◌, ◌-◌, ◌*◌, ◌%◌, ◌<◌, ◌≤◌, replicate, Bool, true, false, List, [], ◌∷◌, ◌++◌, length, take, drop, get_or, refl, sym, ◌∙◌, ap, arith}
+use Rattle.std.proofs.Common.{◌≡◌, ℕ, ◌+◌, ◌-◌, ◌*◌, ◌/◌, ◌%◌, ◌<◌, ◌≤◌, replicate, Bool, true, false, List, [], ◌∷◌, ◌++◌, length, take, drop, get_or, refl, sym, ◌∙◌, ap, arith}
 use Rattle.std.proofs.Math.ListN.{set, length-set}
 use Rattle.std.proofs.Math.Dec.{leb}
-use Rattle.std.specs.Prelude.{◌&&◌, if◌then◌else◌, slice_set}
-use Rattle.std.specs.List.{range_with_len, list_all}
-use Rattle.std.proofs.lemmas.Bool.{le-ltb, lt-ltb, le-leb}
+use Rattle.std.specs.Prelude.{◌&&◌, ◌==◌, if◌then◌else◌, slice_set, Result, Ok, Err}
+use Rattle.std.proofs.lemmas.Bool.{le-ltb, le-leb}
 use Rattle.std.proofs.lemmas.Grind.{drop_more_same}
 use Rattle.std.proofs.Math.Seq.{take-nil, drop-nil}
-use Rattle.std.proofs.lemmas.List.{take_more, take_more_set, drop-set-lt, take-append-drop, take_all, append-nil, length-append, drop-replicate, drop_all, length-take-le, get_or-append-add, take-append-le}
-use Rattle.std.proofs.lemmas.List.FromFn.{map-range_with_len_more}
+use Rattle.std.proofs.lemmas.List.{take_more, take_more_set, drop-set-lt, take-append-drop, take_all, append-nil, length-append, drop_all, length-take-le, get_or-append-add, take-append-le}
 use Rattle.v6_base.specs.declared.named.Named.{Named}
 use Rattle.v6_base.specs.declared.named.Named.TheVariants.{InText, InData, InStack, Nothing}
-use Rattle.v6_base.specs.Image.{Image, named_by, data_base}
-use Rattle.v6_base.specs.Access.{load_byte, store_byte, with_byte, image_after}
+use Rattle.v6_base.specs.Image.{Image, named, named_by, data_base}
+use Rattle.v6_base.specs.Access.{then_do, store_byte, store_word, with_byte, image_after}
 use Rattle.v6_base.specs.Sizes.{cut_back, cut_front, resized}
-use Rattle.unix_core.specs.Memory.{bytes_from, byte_or_zero}
-use Rattle.unix_core.proofs.NameLemmas.{range_from}
+use Rattle.v6_base.specs.declared.space.Trap.{Trap}
+use Rattle.v6_base.specs.declared.space.Trap.TheVariants.{Odd}
 
 -- the first n places of a list have been written with those of another
 pub record IsWritten (n : ℕ) (bytes old new : List ℕ) : Type 0 where
@@ -37,20 +35,9 @@ written_all n bytes old new all written =
     sym (take-append-drop n new) ∙ ap (λ l. l ++ drop n new) (written.front ∙ take_all n bytes (omega arith)) ∙ ap (λ l. bytes ++ l) written.back
 
 -- with no text the data begin at address 0
-picks_data : (a b c d : Bool) (x y z w : Named) → a ≡ false → b ≡ true → c ≡ true → (if a then x else (if b && c then y else (if d then z else w))) ≡ y
-picks_data a b c d x y z w fa fb fc = rw (fa, fb, fc) refl
-
 picks_stack : (a b c d : Bool) (x y z w : Named) → a ≡ false → c ≡ false → d ≡ true → (if a then x else (if b && c then y else (if d then z else w))) ≡ z
 picks_stack a true c d x y z w fa fc fd = rw (fa, fc, fd) refl
 picks_stack a false c d x y z w fa fc fd = rw (fa, fd) refl
-
-pub named-data : (text d stack v : ℕ) → text ≡ 0 → v < d → named_by text d stack v ≡ InData v
-unfolding named_by
-named-data text d stack v none inside =
-    let base : data_base text ≡ 0 = ap data_base none in
-    let in_data : v < data_base text + d = omega arith in
-    picks_data _ _ _ (leb (65536 - stack) v) (InText v) (InData (v - data_base text)) (InStack (v - (65536 - stack))) Nothing (le-ltb v text (omega arith)) (le-leb (data_base text) v (omega arith)) (lt-ltb v (data_base text + d) in_data)
-    ∙ ap (λ n. InData (v - n)) base ∙ ap InData (let none_less : v - 0 ≡ v = omega arith in none_less)
 
 pub named-stack : (text d stack v : ℕ) → text ≡ 0 → d ≤ v → 65536 - stack ≤ v → named_by text d stack v ≡ InStack (v - (65536 - stack))
 unfolding named_by
@@ -59,27 +46,11 @@ named-stack text d stack v none after_data inside =
     let past : data_base text + d ≤ v = omega arith in
     picks_stack _ (leb (data_base text) v) _ _ (InText v) (InData (v - data_base text)) (InStack (v - (65536 - stack))) Nothing (le-ltb v text (omega arith)) (le-ltb v (data_base text + d) past) (le-leb (65536 - stack) v inside)
 
-pub store-data : (m : Image) (v b : ℕ) → m.text ≡ [] → v < length m.data → image_after m (store_byte m v b) ≡ record m { «data» = slice_set m.data v b }
-unfolding store_byte
-store-data m v b none inside =
-    ap (λ n. image_after m (with_byte m n b)) (named-data (length m.text) (length m.data) (length m.stack) v (ap length none) inside)
-
 pub store-stack : (m : Image) (v b : ℕ) → m.text ≡ [] → length m.data ≤ v → 65536 - length m.stack ≤ v
     → image_after m (store_byte m v b) ≡ record m { stack = slice_set m.stack (v - (65536 - length m.stack)) b }
 unfolding store_byte
 store-stack m v b none after_data inside =
     ap (λ n. image_after m (with_byte m n b)) (named-stack (length m.text) (length m.data) (length m.stack) v (ap length none) after_data inside)
-
--- a test of numbers in order goes on where one passes, and ends where one fails
-pub all_after : (p : ℕ → Bool) (k n : ℕ) → k < n → p k ≡ true → list_all p (range_with_len k (n - k)) ≡ list_all p (range_with_len (k + 1) (n - (k + 1)))
-all_after p k n h passes = ap (list_all p) (range_from k n h) ∙ ap (λ b. b && list_all p (range_with_len (k + 1) (n - (k + 1)))) passes
-
-pub all_fail : (p : ℕ → Bool) (k n : ℕ) → k < n → p k ≡ false → list_all p (range_with_len k (n - k)) ≡ false
-all_fail p k n h fails = ap (list_all p) (range_from k n h) ∙ ap (λ b. b && list_all p (range_with_len (k + 1) (n - (k + 1)))) fails
-
--- one byte more
-pub bytes_from_more : (m : Image) (at i : ℕ) → bytes_from m at (i + 1) ≡ bytes_from m at i ++ byte_or_zero (load_byte m ((at + i) % 65536)) ∷ []
-bytes_from_more m at i = map-range_with_len_more (λ k. byte_or_zero (load_byte m ((at + k) % 65536))) 0 i i (omega arith)
 
 -- an image of no bytes with other sizes
 pub cut_back-nil : (n : ℕ) → cut_back n [] ≡ replicate n 0
@@ -119,7 +90,35 @@ pub written_whole : (n : ℕ) (bytes old new : List ℕ) → length bytes ≡ n 
 written_whole n bytes old new all same written =
     written_all n bytes old new all written ∙ ap (λ l. bytes ++ l) (drop_all n old (omega arith)) ∙ append-nil bytes
 
--- a whole program fills its data
-pub filled_data : (bytes : List ℕ) (n : ℕ) → n ≡ length bytes → bytes ++ drop (length bytes) (replicate n 0) ≡ bytes
-filled_data bytes n all =
-    ap (λ l. bytes ++ l) (drop-replicate (length bytes) n 0 ∙ ap (λ k. replicate k 0) (let none_left : n - length bytes ≡ 0 = omega arith in none_left)) ∙ append-nil bytes
+-- A byte that is stored leaves the text.
+named_text : (m : Image) (n : Named) (byte : ℕ) → (image_after m (with_byte m n byte)).text ≡ m.text
+named_text m (InText i) byte = refl
+named_text m (InData i) byte = refl
+named_text m (InStack i) byte = refl
+named_text m Nothing byte = refl
+
+pub stored_text : (m : Image) (at byte : ℕ) → (image_after m (store_byte m at byte)).text ≡ m.text
+unfolding store_byte
+stored_text m at byte = named_text m (named m at) byte
+
+-- the same of a word, whose two bytes are stored one after the other
+then_text : (m : Image) (r : Result Image Trap) (next : Image → Result Image Trap) → (image_after m r).text ≡ m.text
+    → ((half : Image) → (image_after half (next half)).text ≡ half.text) → (image_after m (then_do r next)).text ≡ m.text
+then_text m (Ok half) next first second = both half (next half) first (second half) where
+  both : (half : Image) (r : Result Image Trap) → half.text ≡ m.text → (image_after half r).text ≡ half.text → (image_after m r).text ≡ m.text
+  both half (Ok new) first second = second ∙ first
+  both half (Err trap) first second = refl
+then_text m (Err trap) next first second = refl
+
+word_text : (m : Image) (odd : Bool) (at word : ℕ)
+    → (image_after m (if odd then Err Odd else then_do (store_byte m at (word % 256)) (λ half. store_byte half (at + 1) (word / 256)))).text ≡ m.text
+word_text m true at word = refl
+word_text m false at word = then_text m (store_byte m at (word % 256)) (λ half. store_byte half (at + 1) (word / 256)) (stored_text m at (word % 256)) (λ half. stored_text half (at + 1) (word / 256))
+
+pub stored_word_text : (m : Image) (at word : ℕ) → (image_after m (store_word m at word)).text ≡ m.text
+unfolding store_word
+stored_word_text m at word = word_text m (at % 2 == 1) at word
+
+-- no text stays none
+pub resized_text : (m : Image) (d s : ℕ) → m.text ≡ [] → (resized m 0 d s).text ≡ []
+resized_text m d s none = ap (cut_back (64 * 0)) none ∙ cut_back-nil (64 * 0)

@@ -7,8 +7,8 @@ use Rattle.unix_core.specs.declared.process.Ending.TheVariants as came
 use Rattle.unix_core.specs.declared.turned.Unbuilt.{Unbuilt}
 use Rattle.unix_core.specs.declared.turned.Unbuilt.TheVariants as unbuilt
 use Rattle.unix_core.specs.declared.turned.Turned.TheVariants.{NotBuilt}
-use Rattle.unix_core.specs.Unix.{Process, System, register}
-use Rattle.unix_core.specs.Turn.{Turn, ending_at, slot_of, turn, turned_by, turned}
+use Rattle.unix_core.specs.Unix.{System, register, process_of}
+use Rattle.unix_core.specs.Turn.{Turn, ending_at, running, slot_of, turn, turned_by, turned}
 use Rattle.unix_core.specs.Runs.{Event, Slot, Course, begun, event_of, goes_on_by, unless_ended, after_event, course, after_items}
 
 -- first these events and then those
@@ -85,12 +85,12 @@ ending_is pc came.Returned = tt
 ending_is pc came.Ended = tt
 ending_is pc came.NotBuilt = tt
 
-slot_is : (m : System) (process : Option Process) → IsAt (slot_of m process).ending
+slot_is : (m : System) (slot : Option ℕ) → IsAt (slot_of m slot).ending
 slot_is m None = tt
-slot_is m (Some p) = ending_is (register p 7) (turn m.unix).ending
+slot_is m (Some slot) = ending_is (register (process_of m.unix slot) 7) (turn m slot).ending
 
 event_is : (event : Event) (m : System) → IsAt (event_of event m).ending
-event_is Slot m = slot_is m m.unix.process
+event_is Slot m = slot_is m (running m.unix)
 
 step_is : (c : Course) (ended : Option Unbuilt) (event : Event) → IsAt c.ending → IsAt (unless_ended ended c event).ending
 step_is c None event at = event_is event c.system

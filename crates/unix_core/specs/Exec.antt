@@ -1,52 +1,89 @@
 -- The first turn of process 1, its exec of `/etc/init`: exec(II) of the UNIX Programmer's Manual; Lions' Commentary,
 -- `sys1.c`.
-use Rattle.std.specs.Prelude.{ℕ, false, List, [], ◌∷◌, Some, if◌then◌else◌, replicate, unwrap_or}
-use Rattle.v6_base.specs.Image.{Image}
+use Rattle.std.specs.Prelude.{ℕ, Bool, false, List, [], ◌∷◌, ◌++◌, Some, Result, Ok, Err, codes, if◌then◌else◌, replicate, slice_set}
+use Rattle.v6_base.specs.Image.{Image, text_alone}
+use Rattle.v6_base.specs.declared.errno.Errno.{Errno}
 use Rattle.fs_codec.specs.Store.{Node, Store}
+use Rattle.fs_laws.specs.Numbers.{with_node}
 use Rattle.fs_laws.specs.Pieces.{Moving, read_file}
 use Rattle.fs_nodes.specs.Copy.{put_into, put_kernel}
-use Rattle.unix_core.specs.Unix.{Process, Unix, process_of}
-use Rattle.unix_core.specs.Names.{init_in, for_node}
+use Rattle.fs_tree.specs.Name.{name_at}
+use Rattle.fs_tree.specs.Finding.{Inodes, Finding, find_in, put_back}
+use Rattle.sys_files.specs.Handed.{node_in}
+use Rattle.unix_core.specs.Unix.{Process, Unix, with_state, process_of}
+use Rattle.unix_core.specs.References.{references_of}
 use Rattle.unix_core.specs.Form.{header, filled_size, data_clicks, is_program}
-use Rattle.unix_core.specs.Files.{with_moved, let_go}
 use Rattle.unix_core.specs.Program.{first_stack, program_image}
 use Rattle.unix_core.specs.Steps.{Steps, returns, not_built}
 
--- a process that begins a program with this memory
-abbrev pub with_program : Process → Image → Process
-with_program p image = record p {
-  registers = 0 ∷ 0 ∷ 0 ∷ 0 ∷ 0 ∷ 0 ∷ first_stack ∷ 0 ∷ [];
-  condition = 0;
+-- the name of the first program, in a memory of 64 bytes of the kernel's own
+abbrev pub init_name : List ℕ
+init_name = codes "/etc/init" ++ replicate 55 0
+
+-- the program is found from the root by user 0, and is referred to until all is read
+abbrev pub init_in : Inodes → Finding ℕ
+init_in n = find_in n (record { uid = 0; gid = 0 }) 1 (name_at (text_alone init_name) 0)
+
+abbrev pub inodes_in : Unix → Inodes
+inodes_in u = record { store = u.store; references = references_of u }
+
+-- a program that is of the form that is built was found
+abbrev pub leads_to_program : Finding ℕ → Result ℕ Errno → Bool
+leads_to_program found (Ok ino) = is_program (node_in found.inodes.store ino)
+leads_to_program found (Err e) = false
+
+abbrev pub is_found : Finding ℕ → Bool
+is_found found = leads_to_program found found.answer
+
+-- a process that begins a program with so many clicks of data, in this memory
+abbrev pub with_program : Process → ℕ → Image → Process
+with_program p clicks image = record p {
+  u = record (with_state p.u (0 ∷ 0 ∷ 0 ∷ 0 ∷ 0 ∷ 0 ∷ first_stack ∷ 0 ∷ []) 0) {
+    text_size = 0;
+    data_size = clicks;
+    stack_size = 20;
+  };
   «data» = image.data;
   stack = image.stack;
-  is_fresh = false;
 }
 
 -- With so much room and at a time, the header is read into sixteen bytes of the kernel,
 abbrev pub header_read : Node → ℕ → ℕ → Moving (List ℕ)
 header_read node room time = read_file put_kernel node room (replicate 16 0) 0 16 time
 
--- and after it text and data into the new memory.
+-- and after it text and data into the new memory. Where the reading ends early, the rest of it stays zeros.
 abbrev pub program_read : Node → ℕ → ℕ → Moving Image
 program_read node room time =
     let head : Moving (List ℕ) = header_read node room time in
     let memory : Image = program_image (data_clicks (header node)) in
     read_file (put_into 0) head.node head.room memory 16 (filled_size (header node)) time
 
+-- the file system when a read has come to this
+abbrev pub with_moved : {Memory : Type 0} → Store → ℕ → Moving Memory → Store
+with_moved store ino m = with_node store ino m.node m.room
+
 -- the file system after both
 abbrev pub after_reads : Store → ℕ → Node → ℕ → Store
-after_reads store i node time =
-    with_moved (with_moved store i (header_read node store.room time)) i (program_read node store.room time)
+after_reads store ino node time =
+    with_moved (with_moved store ino (header_read node store.room time)) ino (program_read node store.room time)
 
--- The program's inode is referred to until all is read.
-abbrev pub exec_file : Unix → ℕ → Node → Steps
-exec_file u i node =
+-- the inodes when the reference to the program has gone again
+abbrev pub after_exec : Inodes → ℕ → Node → ℕ → Inodes
+after_exec n ino node time = put_back (record n { store = after_reads n.store ino node time }) ino
+
+abbrev pub exec_node : Unix → ℕ → Inodes → ℕ → Node → Steps
+exec_node u slot n ino node =
     if is_program node then returns (record u {
-      process = Some (with_program (process_of u) (program_read node u.store.room u.time).memory);
-      store = let_go (after_reads u.store i node u.time) i;
+      processes = slice_set u.processes slot (Some (with_program (process_of u slot) (data_clicks (header node))
+          (program_read node n.store.room u.clock.time).memory));
+      store = (after_exec n ino node u.clock.time).store;
     })
     else not_built u
 
+abbrev pub exec_found : Unix → ℕ → Finding ℕ → Result ℕ Errno → Steps
+exec_found u slot found (Ok ino) = exec_node u slot found.inodes ino (node_in found.inodes.store ino)
+exec_found u slot found (Err e) = not_built u
+
 -- An exec of a program that is of the form that is built. What isn't of it isn't booted.
-abbrev pub exec_init : Unix → Steps
-exec_init u = unwrap_or (for_node u.store (init_in u.store) (exec_file u)) (not_built u)
+abbrev pub exec_init : Unix → ℕ → Steps
+exec_init u slot = let found : Finding ℕ = init_in (inodes_in u) in exec_found u slot found found.answer

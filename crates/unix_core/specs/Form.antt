@@ -1,33 +1,14 @@
--- The form of a file system that is booted so far: its directories on the way to the two files, the program `/etc/init`
--- and the console `/dev/tty8`. a.out(V) and file system(V) of the UNIX Programmer's Manual.
-use Rattle.std.specs.Prelude.{ℕ, Bool, not, List, ◌+◌, ◌/◌, ◌&&◌, ◌==◌, nat_le, Some}
-use Rattle.std.specs.List.{range_with_len, list_all}
+-- The form of the program `/etc/init` that is booted so far: a.out(V) of the UNIX Programmer's Manual.
+use Rattle.std.specs.Prelude.{ℕ, Bool, List, ◌+◌, ◌/◌, ◌&&◌, ◌==◌, nat_le, map}
+use Rattle.std.specs.List.{range_with_len}
 use Rattle.fs_codec.specs.Words.{word}
-use Rattle.fs_codec.specs.Fields.{Inode}
-use Rattle.fs_codec.specs.Disk.{Disk}
-use Rattle.fs_codec.specs.Modes.{file_type, is_character_device, is_large, has_execute_bit}
-use Rattle.fs_codec.specs.Store.{Node, Store, holds}
-use Rattle.fs_codec.specs.Stands.{is_held}
-use Rattle.fs_codec.specs.declared.layout.TheConstants.{BLOCK_SIZE}
-use Rattle.bmap_path.specs.declared.BlockName.TheVariants.{Data}
-use Rattle.unix_core.specs.Names.{file_bytes, is_searched, etc_in, dev_in, init_in, console_in, passes}
+use Rattle.fs_codec.specs.Modes.{file_type, has_execute_bit}
+use Rattle.fs_codec.specs.Store.{Node}
+use Rattle.fs_nodes.specs.FileSystem.{file_byte}
 
--- all data blocks of a file's size are held
-abbrev pub has_no_hole : Node → Bool
-has_no_hole node = list_all (λ n. holds node (Data n)) (range_with_len 0 ((node.size + 511) / BLOCK_SIZE))
-
--- the same of an inode on a disk
-abbrev pub has_all_blocks : Disk → Inode → Bool
-has_all_blocks disk node =
-    list_all (λ n. is_held disk node (Data n)) (range_with_len 0 ((node.size + 511) / BLOCK_SIZE))
-
--- a file of at most eight blocks, which are named in its inode
-abbrev pub is_small : ℕ → ℕ → Bool
-is_small mode size = not (is_large mode) && nat_le size 4096
-
--- a small directory that may be searched, without a hole
-abbrev pub is_small_directory : Node → Bool
-is_small_directory node = is_searched node.mode && is_small node.mode node.size && has_no_hole node
+-- n bytes of a file from a place on: what it doesn't hold is zeros, and so is what comes after its end
+unfoldable pub file_bytes : Node → ℕ → ℕ → List ℕ
+file_bytes node at n = map (λ k. file_byte node.size node.body (at + k)) (range_with_len 0 n)
 
 -- A program's header, of sixteen bytes: the magic number, and then the sizes of the text, of the data and of the zeros
 -- after them, in bytes. Text and data stand after it.
@@ -56,17 +37,6 @@ is_built_header size head =
 abbrev pub is_executed : ℕ → Bool
 is_executed mode = (file_type mode == 0) && has_execute_bit mode
 
--- a file that may be executed, without a hole, which begins with such a header
+-- a file that may be executed, which begins with such a header
 abbrev pub is_program : Node → Bool
-is_program node = is_executed node.mode && has_no_hole node && is_built_header node.size (header node)
-
--- the console: the character device 0, 0
-abbrev pub is_console : Node → Bool
-is_console node = is_character_device node.mode && (node.device == 0)
-
--- `/etc/init` leads to a program, and `/dev/tty8` to the console.
-abbrev pub has_form : Store → Bool
-has_form store =
-    passes store (Some 1) is_small_directory
-    && passes store (etc_in store) is_small_directory && passes store (init_in store) is_program
-    && passes store (dev_in store) is_small_directory && passes store (console_in store) is_console
+is_program node = is_executed node.mode && is_built_header node.size (header node)

@@ -1,13 +1,11 @@
 pub mod Boots
 pub mod Calls
-pub mod Console
+pub mod Errors
 pub mod Exec
-pub mod Files
 pub mod Form
-pub mod Memory
-pub mod Names
 pub mod Parts
 pub mod Program
+pub mod References
 pub mod Runs
 pub mod Steps
 pub mod Turn

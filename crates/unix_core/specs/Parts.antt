@@ -1,78 +1,94 @@
--- How the parts of a kernel are the Unix: a process as it runs, the devices, and how far process 1 has come.
-use Rattle.std.specs.Prelude.{◌≡◌, ◌≢◌, ◌≤◌, ℕ, true, false, [], Option, Some, None, is_some, if◌then◌else◌, slice_index}
-use Rattle.v6_base.specs.Image.{Image}
-use Rattle.fs_codec.specs.Store.{Node, node_numbered}
-use Rattle.fs_laws.specs.Rest.{SameRest}
-use Rattle.fs_nodes.specs.FileSystem.{FileSystem, referenced}
-use Rattle.unix_core.specs.declared.devices.Devices.{Devices}
+-- How the parts of a kernel are the Unix: a process as it runs, the world around it, and how far process 1 has come.
+use Rattle.std.specs.Prelude.{◌≡◌, ◌+◌, ◌==◌, ℕ, Bool, true, false, [], Option, Some, None, Ok, if◌then◌else◌, List, slice_index}
+use Rattle.open_files.specs.Files.{AreOpen, file_at, times}
+use Rattle.sys_files.specs.Handed.{Handed, node_in}
+use Rattle.sys_files.specs.Did.{Did, is_done}
+use Rattle.sys_files.specs.Sound.{numbers_of, HasNoPipe}
+use Rattle.unix_core.specs.declared.world.World.{World}
 use Rattle.unix_core.specs.declared.process.Ending.{Ending}
 use Rattle.unix_core.specs.declared.process.Ending.TheVariants.{Returned, Ended, NotBuilt}
 use Rattle.unix_core.specs.declared.kernel.Stage.{Stage}
 use Rattle.unix_core.specs.declared.kernel.Stage.TheVariants as stage
-use Rattle.unix_core.specs.Unix.{Process, Unix}
-use Rattle.unix_core.specs.Names.{init_in, passes}
-use Rattle.unix_core.specs.Form.{is_program, is_console}
-use Rattle.unix_core.specs.Files.{let_go}
-use Rattle.unix_core.specs.Exec.{program_read, after_reads}
+use Rattle.unix_core.specs.Unix.{Process, Unix, System, slots_with, no_texts}
+use Rattle.unix_core.specs.References.{referrers}
+use Rattle.unix_core.specs.Form.{is_program}
+use Rattle.unix_core.specs.Calls.{FileCall}
+use Rattle.unix_core.specs.Exec.{init_in, inodes_in}
 use Rattle.unix_core.specs.Turn.{Turn}
 use Rattle.unix_core.specs.Runs.{Slot, event_of}
 
--- a Unix with these devices, and with this process or none
-abbrev pub unix_of : Option Process → Devices → Unix
-unix_of p d = record { process = p; column = d.column; store = d.nodes.store; time = d.time }
+-- a Unix of this world, with process 1 or none
+abbrev pub unix_of : Option Process → World → Unix
+unix_of p w = record {
+  store = w.files.tree.nodes.store;
+  processes = slots_with p;
+  files = w.files.table;
+  pipes = [];
+  texts = no_texts;
+  line = w.files.line;
+  clock = record { time = w.time; ticks = 0; tout = 0 };
+  switches = 0;
+  last_pid = 1;
+  limit = w.limit;
+}
 
--- the Unix in which this process runs
-abbrev pub unix_with : Process → Devices → Unix
-unix_with p d = unix_of (Some (record p { is_fresh = false })) d
-
--- the Unix in which this process has its first turn before it
-abbrev pub unix_before : Process → Devices → Unix
-unix_before p d = unix_of (Some (record p { is_fresh = true })) d
+abbrev pub unix_with : Process → World → Unix
+unix_with p w = unix_of (Some p) w
 
 -- the Unix after a turn of this process that ended so
-abbrev pub unix_after : Ending → Process → Devices → Unix
-unix_after Returned p d = unix_with p d
-unix_after Ended p d = unix_of None d
-unix_after NotBuilt p d = unix_with p d
+abbrev pub unix_after : Ending → Process → World → Unix
+unix_after Returned p w = unix_with p w
+unix_after Ended p w = unix_of None w
+unix_after NotBuilt p w = unix_with p w
 
-abbrev pub unix_at : Stage → Process → Devices → Unix
-unix_at stage.Fresh p d = unix_before p d
-unix_at stage.Running p d = unix_with p d
-unix_at stage.Ended p d = unix_of None d
+-- the process, until it has ended
+abbrev pub process_in : Stage → Process → Option Process
+process_in (stage.Fresh init) p = Some p
+process_in stage.Running p = Some p
+process_in stage.Ended p = None
+
+abbrev pub is_fresh : Stage → Bool
+is_fresh (stage.Fresh init) = true
+is_fresh stage.Running = false
+is_fresh stage.Ended = false
+
+abbrev pub system_at : Stage → Process → World → System
+system_at at p w = record { unix = unix_of (process_in at p) w; is_fresh = is_fresh at }
 
 -- what the next slot comes to
-abbrev pub turn_at : Stage → Process → Devices → Turn
-turn_at at p d = event_of Slot (record { unix = unix_at at p d })
+abbrev pub turn_at : Stage → Process → World → Turn
+turn_at at p w = event_of Slot (system_at at p w)
 
--- The inodes that are referred to: inode 1 twice, as the root and as the directory of the process, and the console once,
--- which is there where it is open.
-pub record IsReferred (console : Option ℕ) (files : FileSystem) : Type 0 where
-  pub root : slice_index files.references 1 ≡ 2
-  pub once : (i : ℕ) → console ≡ Some i → slice_index files.references i ≡ 1
-  pub there : (i : ℕ) → console ≡ Some i → passes files.store (Some i) is_console ≡ true
-  pub others : (i : ℕ) → i ≢ 1 → console ≢ Some i → slice_index files.references i ≡ 0
-  pub few : referenced files.references ≤ (if is_some console then 2 else 1)
+-- what a call by its row does; none does nothing
+abbrev pub row_of : Option FileCall → Handed → List ℕ → ℕ → Did
+row_of None h args now = is_done h
+row_of (Some c) h args now = c.does h args now
 
--- Before its first turn process 1 has no memory, no file is open, and there is a program for it.
-pub record IsFresh (p : Process) (files : FileSystem) : Type 0 where
+-- how often an inode is referred to in a world
+abbrev pub refs : World → ℕ → ℕ
+refs w ino = slice_index w.files.tree.nodes.references ino
+
+-- The numbers of the process name entries in use, and these count them.
+pub record IsCounted (p : Process) (w : World) : Type 0 where
+  pub is_open : AreOpen w.files.table p.u.files
+  pub numbers : (entry : ℕ) → numbers_of (file_at w.files.table entry) ≡ times p.u.files entry
+  pub no_pipe : HasNoPipe w.files.table
+
+-- Each inode is referred to as often as the Unix says.
+pub record IsRunning (p : Process) (w : World) : Type 0 where
+  pub counted : IsCounted p w
+  pub referred : (ino : ℕ) → refs w ino ≡ referrers (unix_with p w) ino
+
+-- Before its first turn process 1 has no memory. Its program has been found, and is referred to once more.
+pub record IsFresh (init : ℕ) (p : Process) (w : World) : Type 0 where
   pub no_data : p.data ≡ []
   pub no_stack : p.stack ≡ []
-  pub no_console : p.console ≡ None
-  pub program : passes files.store (init_in files.store) is_program ≡ true
-
--- `/etc/init` has been read.
-pub record ReadsInit (old : FileSystem) (time : ℕ) (new : FileSystem) (memory : Image) : Type 0 where
-  pub ino : ℕ
-  pub node : Node
-  pub found : init_in old.store ≡ Some ino
-  pub there : node_numbered old.store ino ≡ Some node
-  pub program : is_program node ≡ true
-  pub memory_is : memory ≡ (program_read node old.store.room time).memory
-  pub store : new.store ≡ let_go (after_reads old.store ino node time) ino
-  pub references : new.references ≡ old.references
-  pub rest : SameRest old.blocks new.blocks
+  pub counted : IsCounted p w
+  pub referred : (ino : ℕ) → refs w ino ≡ referrers (unix_with p w) ino + (if ino == init then 1 else 0)
+  pub found : (init_in (inodes_in (unix_with p w))).answer ≡ Ok init
+  pub program : is_program (node_in w.files.tree.nodes.store init) ≡ true
 
 -- what is so of every kernel
-pub record IsKernel (at : Stage) (p : Process) (d : Devices) : Type 0 where
-  pub fresh : at ≡ stage.Fresh → IsFresh p d.nodes
-  pub referred : at ≢ stage.Ended → IsReferred p.console d.nodes
+pub record IsKernel (at : Stage) (p : Process) (w : World) : Type 0 where
+  pub fresh : (init : ℕ) → at ≡ stage.Fresh init → IsFresh init p w
+  pub running : at ≡ stage.Running → IsRunning p w

@@ -1,5 +1,5 @@
 -- A run as a function: from an image, a core size and a list of events to what is shown and how it ends.
-use Rattle.std.specs.Prelude.{ℕ, true, List, [], ◌∷◌, ◌++◌, is_some, if◌then◌else◌, Option, Some, None}
+use Rattle.std.specs.Prelude.{ℕ, Bool, true, false, List, [], ◌∷◌, ◌++◌, min, is_some, replicate, if◌then◌else◌, Option, Some, None}
 use Rattle.std.specs.Option.{option_map}
 use Rattle.fs_codec.specs.Faults.{image_fault}
 use Rattle.v6_base.specs.Trace.{Item}
@@ -8,42 +8,57 @@ use Rattle.fs_codec.specs.Store.{Store}
 use Rattle.fs_codec.specs.Stands.{store_of}
 use Rattle.fs_laws.specs.Numbers.{synced}
 use Rattle.unix_core.specs.declared.turned.Unbuilt.{Unbuilt}
-use Rattle.unix_core.specs.Form.{has_form}
-use Rattle.unix_core.specs.Unix.{Process, Unix, System}
-use Rattle.unix_core.specs.Turn.{Turn, slot_of}
+use Rattle.unix_core.specs.Unix.{Process, Unix, System, no_area, no_row, no_texts, slots_with}
+use Rattle.unix_core.specs.Exec.{init_in, inodes_in, is_found}
+use Rattle.unix_core.specs.Turn.{Turn, running, slot_of}
 
--- process 1, about to execute `/etc/init`
+-- process 1, about to execute `/etc/init`: it has no parent, and the root as its directory
 abbrev pub fresh_process : Process
 fresh_process = record {
-  registers = 0 ∷ 0 ∷ 0 ∷ 0 ∷ 0 ∷ 0 ∷ 0 ∷ 0 ∷ [];
-  condition = 0;
+  row = record no_row { pid = 1 };
+  u = record no_area { dir = 1 };
   «data» = [];
   stack = [];
-  console = None;
-  is_fresh = true;
+  text = None;
+  is_zombie = false;
 }
 
--- the system before its first turn, with a file system, and with the time of its super-block
-abbrev pub system_with : Store → System
-system_with store = record {
-  unix = record {
-    process = Some fresh_process;
-    column = 0;
-    store = store;
-    time = store.stamp;
-  };
+-- The Unix of a file system with so many clicks of core. No file is open, and the carriage stands in front. The time is that
+-- of the super-block.
+abbrev pub first_unix : Store → ℕ → Unix
+first_unix store core = record {
+  store = store;
+  processes = slots_with (Some fresh_process);
+  files = replicate 100 None;
+  pipes = [];
+  texts = no_texts;
+  line = record { column = 0 };
+  clock = record { time = store.stamp; ticks = 0; tout = 0 };
+  switches = 0;
+  last_pid = 1;
+  limit = min core 2048;
 }
+
+-- the system before its first turn
+abbrev pub system_with : Store → ℕ → System
+system_with store core = record { unix = first_unix store core; is_fresh = true }
+
+-- `/etc/init` leads to a program
+abbrev pub has_form : System → Bool
+has_form m = is_found (init_in (inodes_in m.unix))
+
+abbrev pub booted : System → Option System
+booted m = if has_form m then Some m else None
 
 -- The system that an image with so many clicks of core begins with, or None where the image has a fault or hasn't the
 -- form that is built. A program of that form with its stack and its u area fits into each core that is allowed.
 abbrev pub boots : List ℕ → ℕ → Option System
 boots image core =
-    if is_some (image_fault image) then None
-    else (let store : Store = store_of (disk_of image) in if has_form store then Some (system_with store) else None)
+    if is_some (image_fault image) then None else booted (system_with (store_of (disk_of image)) core)
 
 -- the system at its end, when all that has changed is on the disk
 abbrev pub finished : System → System
-finished m = let u : Unix = m.unix in record m { unix = record u { store = synced u.store u.time } }
+finished m = let u : Unix = m.unix in record m { unix = record u { store = synced u.store u.clock.time } }
 
 -- what comes to a kernel from outside
 pub data Event : Type 0 where
@@ -51,7 +66,7 @@ pub data Event : Type 0 where
 
 -- what an event comes to
 abbrev pub event_of : Event → System → Turn
-event_of Slot m = slot_of m m.unix.process
+event_of Slot m = slot_of m (running m.unix)
 
 -- a run up to some point: what it has shown, the system there, and how it has ended, where it has
 pub record Course : Type 0 where

@@ -1,5 +1,5 @@
--- What a turn of a process comes to, and the words that the rows of calls are made of.
-use Rattle.std.specs.Prelude.{List, [], ◌++◌}
+-- What a turn of a process comes to, and the words that rows are made of.
+use Rattle.std.specs.Prelude.{List, []}
 use Rattle.v6_base.specs.Trace.{Item}
 use Rattle.unix_core.specs.declared.process.Ending.{Ending}
 use Rattle.unix_core.specs.declared.process.Ending.TheVariants.{Returned, Ended, NotBuilt}
@@ -20,7 +20,3 @@ ends u = record { items = []; unix = u; ending = Ended }
 -- what isn't built shows nothing
 abbrev pub not_built : Unix → Steps
 not_built u = record { items = []; unix = u; ending = NotBuilt }
-
--- these items, and then the rest
-abbrev pub shows : List Item → Steps → Steps
-shows items rest = record rest { items = items ++ rest.items }

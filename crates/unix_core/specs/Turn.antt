@@ -1,42 +1,42 @@
 -- The turn of a slot, where there is a process: first the exec of `/etc/init`, then an instruction a turn until it exits.
 use Rattle.std.specs.Prelude.{ℕ, Bool, true, false, List, [], Option, Some, None, if◌then◌else◌}
+use Rattle.std.specs.Option.{option_map}
 use Rattle.v6_base.specs.Trace.{Item}
 use Rattle.pdp_step.specs.declared.outcome.Outcome.{Outcome}
 use Rattle.pdp_step.specs.declared.outcome.Outcome.TheVariants.{Next, Call, Fault}
 use Rattle.pdp_step.specs.Machine.{Machine}
 use Rattle.pdp_step.specs.Instruction.{Stepped, instr}
-use Rattle.v6_base.specs.Image.{Image}
 use Rattle.unix_core.specs.declared.process.Ending.{Ending}
 use Rattle.unix_core.specs.declared.process.Ending.TheVariants as ending
 use Rattle.unix_core.specs.declared.turned.Unbuilt.{Unbuilt}
 use Rattle.unix_core.specs.declared.turned.Unbuilt.TheVariants.{At}
 use Rattle.unix_core.specs.declared.turned.Turned.{Turned}
 use Rattle.unix_core.specs.declared.turned.Turned.TheVariants.{Ran, Idle, NotBuilt}
-use Rattle.unix_core.specs.Unix.{Process, Unix, System, register, process_of, with_process, image_of}
+use Rattle.unix_core.specs.Unix.{Process, Unix, System, with_state, register, process_at, process_of, with_process, image_of}
 use Rattle.unix_core.specs.Steps.{Steps, returns, not_built}
 use Rattle.unix_core.specs.Calls.{system_call}
 use Rattle.unix_core.specs.Exec.{exec_init}
 
 -- what an instruction of a process works on, and the process after it
-abbrev pub machine_with : Image → Process → Machine
-machine_with image p = record { r = p.registers; cc = p.condition; image = image }
+abbrev pub machine_of : Process → Machine
+machine_of p = record { r = p.u.r; cc = p.u.cc; image = image_of p }
 
 abbrev pub with_machine : Process → Machine → Process
-with_machine p m = record p { registers = m.r; condition = m.cc; «data» = m.image.data; stack = m.image.stack }
+with_machine p m = record p { u = with_state p.u m.r m.cc; «data» = m.image.data; stack = m.image.stack }
 
-abbrev pub comes_to : Unix → Outcome → Steps
-comes_to u Next = returns u
-comes_to u (Call number) = system_call number u
-comes_to u (Fault kind) = not_built u
+abbrev pub comes_to : Unix → ℕ → Outcome → Steps
+comes_to u slot Next = returns u
+comes_to u slot (Call number) = system_call number u slot
+comes_to u slot (Fault kind) = not_built u
 
-abbrev pub instruction : Unix → Steps
-instruction u =
-    let p : Process = process_of u in
-    let s : Stepped = instr (machine_with (image_of u p) p) in
-    comes_to (with_process u (with_machine p s.machine)) s.outcome
+abbrev pub instruction : Unix → ℕ → Steps
+instruction u slot =
+    let p : Process = process_of u slot in
+    let s : Stepped = instr (machine_of p) in
+    comes_to (with_process u slot (with_machine p s.machine)) slot s.outcome
 
-abbrev pub turn : Unix → Steps
-turn u = if (process_of u).is_fresh then exec_init u else instruction u
+abbrev pub turn : System → ℕ → Steps
+turn m slot = if m.is_fresh then exec_init m.unix slot else instruction m.unix slot
 
 -- what an event comes to: what is shown, the system then, whether nobody was there to run, and how the run ends, where it
 -- ends here
@@ -52,12 +52,21 @@ ending_at pc ending.Returned = None
 ending_at pc ending.Ended = None
 ending_at pc ending.NotBuilt = Some (At pc)
 
-abbrev pub turn_of : System → ℕ → Steps → Turn
-turn_of m pc steps = record { items = steps.items; next = record m { unix = steps.unix }; is_idle = false; ending = ending_at pc steps.ending }
+abbrev pub turn_of : ℕ → Steps → Turn
+turn_of pc steps = record {
+  items = steps.items;
+  next = record { unix = steps.unix; is_fresh = false };
+  is_idle = false;
+  ending = ending_at pc steps.ending;
+}
 
-abbrev pub slot_of : System → Option Process → Turn
+-- the slot whose process runs: process 1, as long as it is there
+abbrev pub running : Unix → Option ℕ
+running u = option_map (λ p. 1) (process_at u 1)
+
+abbrev pub slot_of : System → Option ℕ → Turn
 slot_of m None = record { items = []; next = m; is_idle = true; ending = None }
-slot_of m (Some p) = turn_of m (register p 7) (turn m.unix)
+slot_of m (Some slot) = turn_of (register (process_of m.unix slot) 7) (turn m slot)
 
 -- what a kernel answers of a turn
 abbrev pub turned_by : Option Unbuilt → Bool → Turned

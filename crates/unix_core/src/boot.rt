@@ -6,14 +6,13 @@ ghost use Rattle.fs_codec.specs.Stands.{store_of};
 ghost use Rattle.buf_cache.specs.Blocks.{blocks_of};
 
 use crate::files::take_root;
-use crate::form::has_form;
 use crate::kernel::Kernel;
+use crate::memory::Memory;
 use buf_cache::{Cache, Disk};
 use fs_blocks::Volume;
 use fs_check::{ImageFault, accept};
 use fs_nodes::Nodes;
 use std::alloc::{AllocError, Global};
-use v6_base::Whole;
 
 /// Why there is no kernel for an image.
 #[derive(Clone, Copy, Debug, PartialEq, Eq)]
@@ -37,7 +36,6 @@ fn file_system_of(alloc: Global, image: &[u8]) -> Result<(Nodes, u32), AllocErro
     let disk = Disk::from_bytes(alloc, image)?;
     let cache = Cache::new(alloc, disk)?;
     let volume = Volume::open_on(cache);
-    volume.see();
     let time = volume.head().time;
     Ok((Nodes::new(volume), time))
 }
@@ -62,13 +60,13 @@ impl Kernel {
         let Ok((mut nodes, time)) = file_system_of(alloc, image) else {
             return Err(BootFault::NoMemory);
         };
-        if !has_form(image, &mut nodes) {
-            return Err(BootFault::NotBuilt);
-        }
-        let Ok(space) = Whole::new(alloc) else {
+        take_root(&mut nodes);
+        let Ok(memory) = Memory::new(alloc) else {
             return Err(BootFault::NoMemory);
         };
-        take_root(&mut nodes);
-        Ok(Kernel::new(space, nodes, time))
+        match Kernel::new(memory, nodes, time, core) {
+            Some(kernel) => Ok(kernel),
+            None => Err(BootFault::NotBuilt),
+        }
     }
 }

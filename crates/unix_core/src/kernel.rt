@@ -1,28 +1,34 @@
 //! The kernel, which takes one event a call.
-ghost use Rattle.std.specs.Prelude.{◌≡◌, ◌≢◌, ◌<◌, true, [], None, Some, if◌then◌else◌};
+ghost use Rattle.std.specs.Prelude.{◌≡◌, ◌≢◌, ◌==◌, ◌<◌, ℕ, [], slice_index, None, Some, MatchOption, if◌then◌else◌};
 ghost use Rattle.v6_base.specs.Trace.{Took};
 ghost use Rattle.fs_codec.specs.Stands.{StandsFor};
 ghost use Rattle.buf_cache.specs.Blocks.{block_at, IsDisk};
 ghost use Rattle.fs_laws.specs.Rest.{SameRest};
-ghost use Rattle.unix_core.specs.Names.{init_in, passes};
-ghost use Rattle.unix_core.specs.Form.{is_program};
 ghost use Rattle.unix_core.specs.Turn.{turned};
-ghost use Rattle.unix_core.specs.Parts.{IsReferred, IsKernel, unix_at, turn_at};
+ghost use Rattle.unix_core.specs.Parts.{IsKernel, system_at, turn_at};
 
-use crate::devices::Devices;
 use crate::files::see_nodes;
+use crate::init::find_init;
+use crate::memory::Memory;
 use crate::process::{Ending, Process};
 use crate::turned::{Turned, Unbuilt};
+use crate::world::World;
 use fs_codec::DISK_BLOCKS;
 use fs_nodes::Nodes;
+use fs_tree::Tree;
+use open_files::OpenTable;
 use std::marker::Model;
-use v6_base::{Trace, Whole};
+use sys_files::{Files, Line};
+use v6_base::Trace;
+
+/// The most clicks of an image, where there is core for them.
+const MOST_CLICKS: u16 = 2048;
 
 /// How far process 1 has come.
 #[derive(Clone, Copy, Debug, PartialEq, Eq)]
 pub enum Stage {
-    /// Its first turn will be the exec of `/etc/init`.
-    Fresh,
+    /// Its first turn will be the exec of `/etc/init`, which is this inode.
+    Fresh(u16),
     Running,
     /// It has exited.
     Ended,
@@ -33,44 +39,53 @@ pub enum Stage {
 pub struct Kernel {
     stage: Stage,
     process: Process,
-    devices: Devices,
+    world: World,
 }
 
 impl Model for Kernel {
     ghost use Rattle.unix_core.specs.Unix.{SystemOnDisk};
+    ghost use Rattle.unix_core.specs.Parts.{IsKernel, system_at};
 
     ghost Value = { SystemOnDisk };
 
-    ghost use Rattle.unix_core.specs.Parts.{unix_at, IsKernel};
-
     ghost view = { λ k. record {
-      system = record { unix = unix_at k.stage k.process k.devices };
-      blocks = k.devices.nodes.blocks;
+      system = system_at k.stage k.process k.world;
+      blocks = k.world.files.tree.nodes.blocks;
     } };
 
-    ghost invariant = { λ k. IsKernel k.stage k.process k.devices };
+    ghost invariant = { λ k. IsKernel k.stage k.process k.world };
 }
 
 impl Kernel {
-    ghost use Rattle.unix_core.specs.Runs.{Slot, event_of, system_with, finished};
+    ghost use Rattle.unix_core.specs.Runs.{Slot, event_of, system_with, booted, finished};
 
-    /// A kernel that is about to execute `/etc/init` of a file system, in a memory that has nothing.
-    pub(crate) fn new(space: Whole, nodes: Nodes, time: u32) -> Self
-        requires empty { space.image ≡ record { text = []; «data» = []; stack = [] } }
-        requires program { passes nodes.store (init_in nodes.store) is_program ≡ true }
-        requires referred { IsReferred None nodes }
+    /// A kernel that is about to execute the first program of a file system, where that has the form that is built, in a
+    /// memory that has nothing and with so many clicks of core. Inode 1 is referred to as the root and as a directory.
+    pub(crate) fn new(memory: Memory, nodes: Nodes, time: u32, core: u16) -> Option<Self>
+        requires empty { memory.whole.image ≡ record { text = []; «data» = []; stack = [] } }
+        requires referred { (ino : ℕ) → slice_index nodes.references ino ≡ (if ino == 1 then 2 else 0) }
         requires time { time ≡ nodes.store.stamp }
-        ensures { result ≡ record { system = system_with nodes.store; blocks = nodes.blocks } }
+        ensures { MatchOption result (booted (system_with nodes.store core) ≡ None)
+            (λ kernel. (booted (system_with nodes.store core) ≡ Some kernel.system) × (kernel.blocks ≡ nodes.blocks)) }
     {
-        Kernel {
-            stage: Stage::Fresh,
-            process: Process::new(space),
-            devices: Devices {
-                column: 0,
-                nodes,
+        see_nodes(&nodes);
+        let mut tree = Tree::new(nodes);
+        let Some(init) = find_init(&mut tree) else {
+            return None;
+        };
+        Some(Kernel {
+            stage: Stage::Fresh(init),
+            process: Process::new(memory),
+            world: World {
+                files: Files {
+                    tree,
+                    table: OpenTable::new(),
+                    line: Line::new(),
+                },
                 time,
+                limit: core.min(MOST_CLICKS),
             },
-        }
+        })
     }
 
     /// Takes the start of a run, once, before the first turn. Nothing changes, and nothing is shown yet.
@@ -92,15 +107,15 @@ impl Kernel {
     {
         match self.stage {
             Stage::Running => {}
-            Stage::Fresh | Stage::Ended => {
-                if begin(&mut self.stage, &mut self.process, &mut self.devices) {
+            Stage::Fresh(_) | Stage::Ended => {
+                if begin(&mut self.stage, &mut self.process, &mut self.world) {
                     return Turned::Ran;
                 }
                 return Turned::Idle;
             }
         }
         let at = self.process.pc();
-        match self.process.run(&mut self.devices, trace) {
+        match self.process.run(&mut self.world, trace) {
             Ending::Returned => Turned::Ran,
             Ending::Ended => {
                 self.stage = Stage::Ended;
@@ -118,8 +133,8 @@ impl Kernel {
         ensures rest { SameRest self.old.blocks self.new.blocks }
         ensures form { IsDisk self.new.blocks }
     {
-        self.devices.nodes.update_all(self.devices.time);
-        see_nodes(&self.devices.nodes);
+        self.world.files.tree.nodes.update_all(self.world.time);
+        see_nodes(&self.world.files.tree.nodes);
     }
 
     /// Block `n` of the disk, as a run that has been finished leaves it.
@@ -127,7 +142,7 @@ impl Kernel {
         requires { n < DISK_BLOCKS }
         ensures { result ≡ block_at self.now.blocks n }
     {
-        *self.devices.nodes.on_disk(n)
+        *self.world.files.tree.nodes.on_disk(n)
     }
 }
 
@@ -135,19 +150,18 @@ impl Kernel {
 /// stands out of line, so that every other turn asks for the stage once.
 #[cold]
 #[inline(never)]
-fn begin(stage: &mut Stage, process: &mut Process, devices: &mut Devices) -> bool
-    requires kernel { IsKernel stage.old process.old devices.old }
+fn begin(stage: &mut Stage, process: &mut Process, world: &mut World) -> bool
+    requires kernel { IsKernel stage.old process.old world.old }
     requires other { stage.old ≢ Stage.Running }
-    ensures kernel { IsKernel stage.new process.new devices.new }
-    ensures answer { (if result then Turned.Ran else Turned.Idle) ≡ turned (turn_at stage.old process.old devices.old) }
-    ensures next { record { unix = unix_at stage.new process.new devices.new }
-        ≡ (turn_at stage.old process.old devices.old).next }
-    ensures items { (turn_at stage.old process.old devices.old).items ≡ [] }
-    ensures rest { SameRest devices.old.nodes.blocks devices.new.nodes.blocks }
+    ensures kernel { IsKernel stage.new process.new world.new }
+    ensures answer { (if result then Turned.Ran else Turned.Idle) ≡ turned (turn_at stage.old process.old world.old) }
+    ensures next { system_at stage.new process.new world.new ≡ (turn_at stage.old process.old world.old).next }
+    ensures items { (turn_at stage.old process.old world.old).items ≡ [] }
+    ensures rest { SameRest world.old.files.tree.nodes.blocks world.new.files.tree.nodes.blocks }
 {
     match *stage {
-        Stage::Fresh => {
-            process.exec(devices);
+        Stage::Fresh(init) => {
+            process.exec(init, world);
             *stage = Stage::Running;
             true
         }

@@ -2,16 +2,16 @@
 #![tactic(auto)]
 
 mod boot;
-mod console;
-mod devices;
+mod calls;
 mod files;
 mod form;
+mod init;
 mod kernel;
 mod memory;
-mod names;
 mod process;
 mod program;
 mod turned;
+mod world;
 
 pub use boot::BootFault;
 pub use kernel::Kernel;

@@ -1,55 +1,65 @@
-//! The memory of a process, as its calls see it.
-ghost use Rattle.std.specs.Prelude.{◌≡◌, ℕ, ◌+◌, ◌%◌};
-ghost use Rattle.unix_core.specs.Memory.{is_there, byte_or_zero, are_there, bytes_from, names_console};
-ghost use Rattle.v6_base.specs.Access.{load_byte};
+//! The memory of a process.
+ghost use Rattle.std.specs.Prelude.{◌≡◌, ◌≤◌, [], IfOk};
+ghost use Rattle.v6_base.specs.Image.{Image};
+ghost use Rattle.v6_base.specs.Sizes.{resized};
 
-use v6_base::Space;
+use std::alloc::{AllocError, Global};
+use v6_base::{Space, Trap, Whole};
 
-/// The name that `open` is built for, with its NUL.
-const CONSOLE_NAME: [u8; 10] = *b"/dev/tty8\0";
-
-/// Whether byte number i from an address on is there. Addresses go round.
-#[inline]
-fn is_there<S: Space>(space: &S, at: u16, i: u16) -> bool
-    ensures { result ≡ is_there (S.image space.now) at i }
-{
-    space.load_byte(at.wrapping_add(i)).is_ok()
+/// The memory of a process that shares no text: it has data and a stack alone.
+#[derive(Drop)]
+pub(crate) struct Memory {
+    whole: Whole,
+    ghost no_text: { whole.image.text ≡ [] },
 }
 
-/// Byte number i from an address on, or 0 where it isn't there.
-#[inline]
-pub fn byte_from<S: Space>(space: &S, at: u16, i: u16) -> u8
-    ensures { result ≡ byte_or_zero (load_byte (S.image space.now) ((at + i) % 65536)) }
-{
-    space.load_byte(at.wrapping_add(i)).unwrap_or(0)
-}
-
-/// Whether so many bytes from an address on are all there.
-pub fn are_there<S: Space>(space: &S, at: u16, count: u16) -> bool
-    ensures { result ≡ are_there (S.image space.now) at count }
-{
-    for i in 0..count {
-        if !is_there(space, at, i) {
-            return false;
-        }
+#[tactic(auto, using(crate::proofs::MemoryLemmas::resized_text))]
+impl Memory {
+    /// A memory that has nothing. All that it will ever use is taken here.
+    pub(crate) fn new(alloc: Global) -> Result<Memory, AllocError>
+        ensures { IfOk result (λ memory. memory.whole.image ≡ record { text = []; «data» = []; stack = [] }) }
+    {
+        let whole = Whole::new(alloc)?;
+        Ok(Memory { whole })
     }
-    true
-}
 
-/// The ten bytes from an address on, where a byte that isn't there counts as 0.
-fn name_from<S: Space>(space: &S, at: u16) -> [u8; 10]
-    ensures { result ≡ bytes_from (S.image space.now) at 10 }
-{
-    let mut name = [0; 10];
-    for i in 0..10 {
-        name[i] = byte_from(space, at, i as u16);
+    /// Makes data and stack so many clicks long. New clicks are zeros.
+    pub(crate) fn set_sizes(&mut self, clicks: u16, stack: u16)
+        requires few { clicks ≤ 28 }
+        requires small { stack ≤ 28 }
+        ensures { self.new.whole.image ≡ resized self.old.whole.image 0 clicks stack }
+    {
+        self.whole.set_sizes(0, clicks, stack);
     }
-    name
 }
 
-/// Whether the console's name stands at an address.
-pub fn names_console<S: Space>(space: &S, at: u16) -> bool
-    ensures { result ≡ names_console (S.image space.now) at }
-{
-    are_there(space, at, 10) && name_from(space, at) == CONSOLE_NAME
+#[tactic(auto, using(crate::proofs::MemoryLemmas::stored_text, crate::proofs::MemoryLemmas::stored_word_text))]
+impl Space for Memory {
+    ghost image = { λ memory. memory.whole.image };
+
+    ghost Rest = { Unit {0} };
+
+    ghost rest = { λ _. tt };
+
+    #[inline(always)]
+    fn load_byte(&self, at: u16) -> Result<u8, Trap> {
+        self.whole.load_byte(at)
+    }
+
+    #[inline(always)]
+    fn load_word(&self, at: u16) -> Result<u16, Trap> {
+        self.whole.load_word(at)
+    }
+
+    #[inline(always)]
+    fn store_byte(&mut self, at: u16, value: u8) -> Result<(), Trap> {
+        self.whole.store_byte(at, value)
+    }
+
+    #[inline(always)]
+    fn store_word(&mut self, at: u16, value: u16) -> Result<(), Trap> {
+        self.whole.store_word(at, value)
+    }
+
+    ghost formed = { λ memory. memory.whole.formed };
 }

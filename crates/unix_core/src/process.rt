@@ -1,35 +1,41 @@
-//! A process: its memory, its registers and what it has open; and the system calls that are built.
-ghost use Rattle.std.specs.Prelude.{◌≡◌, ◌≢◌, ℕ, false, ◌<◌, [], ◌∷◌, None};
+//! A process: its memory, its registers and what the kernel keeps of it; its turns and its calls.
+ghost use Rattle.std.specs.Prelude.{◌≡◌, ◌≢◌, ◌<◌, ℕ, [], None, Some};
+ghost use Rattle.std.specs.Option.{option_map};
 ghost use Rattle.v6_base.specs.Trace.{Took};
 ghost use Rattle.pdp_step.specs.Instruction.{instr};
 ghost use Rattle.fs_laws.specs.Rest.{SameRest};
-ghost use Rattle.unix_core.specs.Unix.{register, image_with};
+ghost use Rattle.unix_core.specs.Unix.{no_row, no_area, register};
+ghost use Rattle.unix_core.specs.declared.world.World.{World};
 ghost use Rattle.unix_core.specs.Steps.{returns};
-ghost use Rattle.unix_core.specs.Memory.{argument};
-ghost use Rattle.unix_core.specs.Calls.{with_result, without_console, exit_call, is_in_data, open_call, write_call, with_arguments, system_call};
+ghost use Rattle.unix_core.specs.Calls.{FileCall, file_call, handed_of, with_handed, argument, arguments_of, entered, refuses, answers, does_if_built, exit_now, system_call};
 ghost use Rattle.unix_core.specs.Exec.{exec_init};
-ghost use Rattle.unix_core.specs.Turn.{machine_with, with_machine, comes_to, instruction};
-ghost use Rattle.unix_core.specs.Parts.{unix_with, unix_before, unix_after, IsReferred, IsFresh};
+ghost use Rattle.unix_core.specs.Turn.{machine_of, with_machine, comes_to, instruction};
+ghost use Rattle.unix_core.specs.Runs.{fresh_process};
+ghost use Rattle.unix_core.specs.Parts.{unix_of, unix_with, unix_after, row_of, IsRunning, IsFresh};
 
-use crate::console::show;
-use crate::devices::Devices;
-use crate::files::{see_nodes, set_times, take_console};
-use crate::memory::names_console;
-use crate::names::ROOT;
-use crate::program::read_init;
+use crate::calls::{EXIT, count_of, do_call, error_number};
+use crate::files::{ROOT, let_go, see_nodes, see_numbers, see_table};
+use crate::memory::Memory;
+use crate::program::{STACK, read_init};
+use crate::world::World;
 use pdp_step::{Outcome, Regs, step};
+use proc_tab::Row;
 use std::marker::Model;
-use v6_base::{Space, Trace, Trap, Whole};
+use sys_files::close_all;
+use u_area::UArea;
+use v6_base::{Answer, Slot, Space, Trace};
 
 /// Where the stack begins that holds `/etc/init` as the only argument: 16 bytes below the end.
 const FIRST_STACK: u16 = 65520;
 
-/// The numbers of the calls that are built: section II of the manual.
-const EXIT: u8 = 1;
+/// The slot of process 1.
+const SLOT: Slot = 1;
 
-const WRITE: u8 = 4;
+/// What a word counts as that can't be read.
+const ONES: u16 = 0o177777;
 
-const OPEN: u8 = 5;
+/// The first number of an error that makes a signal.
+const FIRST_SIGNAL: u16 = 100;
 
 /// How a turn of a process ended.
 #[derive(Clone, Copy, Debug, PartialEq, Eq)]
@@ -42,50 +48,75 @@ pub(crate) enum Ending {
     NotBuilt,
 }
 
-/// Process 1 as it runs. It has no text.
+/// Process 1 as it runs. Its registers and codes stand apart from its per-process area, which has them in calls.
 #[derive(Drop)]
 pub(crate) struct Process {
-    space: Whole,
+    memory: Memory,
     regs: Regs,
-    /// The inode of the console, where it is open.
-    console: Option<u16>,
+    u: UArea,
+    row: Row,
 }
 
 impl Model for Process {
     ghost use Rattle.unix_core.specs.Unix as unix;
-    ghost use Rattle.std.specs.Prelude.{◌≡◌, false, []};
+    ghost use Rattle.std.specs.Prelude.{false, None};
 
     ghost Value = { unix.Process };
 
     ghost view = { λ p. record {
-      registers = p.regs.r;
-      condition = p.regs.cc;
-      «data» = p.space.image.data;
-      stack = p.space.image.stack;
-      console = p.console;
-      is_fresh = false;
+      row = p.row;
+      u = record p.u { r = p.regs.r; cc = p.regs.cc; codes = p.regs.cc_in_range };
+      «data» = p.memory.whole.image.data;
+      stack = p.memory.whole.image.stack;
+      text = None;
+      is_zombie = false;
     } };
+}
 
-    ghost invariant = { λ p. p.space.image.text ≡ [] };
+/// The per-process area of process 1, before its first turn.
+fn first_area() -> UArea
+    ensures { result ≡ record no_area { dir = 1 } }
+{
+    UArea {
+        r: [0; 8],
+        cc: 0,
+        uid: 0,
+        gid: 0,
+        ruid: 0,
+        rgid: 0,
+        dir: ROOT,
+        text_size: 0,
+        data_size: 0,
+        stack_size: 0,
+        pending: 0,
+        call: [0; 8],
+        user_time: 0,
+        system_time: 0,
+        child_user: 0,
+        child_system: 0,
+        status: 0,
+        handlers: [0; 20],
+        files: [0; 15],
+    }
 }
 
 impl Process {
-    /// A process with this memory, nothing in its registers and no file open.
-    pub(crate) fn new(space: Whole) -> Self
-        requires { space.image.text ≡ [] }
-        ensures { result ≡ record {
-          registers = 0 ∷ 0 ∷ 0 ∷ 0 ∷ 0 ∷ 0 ∷ 0 ∷ 0 ∷ [];
-          condition = 0;
-          «data» = space.image.data;
-          stack = space.image.stack;
-          console = None;
-          is_fresh = false;
-        } }
+    /// Process 1, in a memory that has nothing.
+    pub(crate) fn new(memory: Memory) -> Self
+        requires { memory.whole.image ≡ record { text = []; «data» = []; stack = [] } }
+        ensures { result ≡ fresh_process }
     {
         Process {
-            space,
+            memory,
             regs: Regs { r: [0; 8], cc: 0 },
-            console: None,
+            u: first_area(),
+            row: Row {
+                pid: 1,
+                ppid: 0,
+                uid: 0,
+                sig: 0,
+                tty: 0,
+            },
         }
     }
 
@@ -95,198 +126,232 @@ impl Process {
         self.regs.r[7]
     }
 
-    /// Executes `/etc/init`: exec(II).
-    pub(crate) fn exec(&mut self, devices: &mut Devices)
-        requires fresh { IsFresh self.old devices.old.nodes }
-        requires referred { IsReferred self.old.console devices.old.nodes }
-        ensures turn { exec_init (unix_before self.old devices.old) ≡ returns (unix_with self.new devices.new) }
-        ensures referred { IsReferred self.new.console devices.new.nodes }
-        ensures rest { SameRest devices.old.nodes.blocks devices.new.nodes.blocks }
+    /// Executes the first program: exec(II).
+    pub(crate) fn exec(&mut self, init: u16, world: &mut World)
+        requires { IsFresh init self.old world.old }
+        ensures turn { exec_init (unix_with self.old world.old) 1 ≡ returns (unix_with self.new world.new) }
+        ensures running { IsRunning self.new world.new }
+        ensures rest { SameRest world.old.files.tree.nodes.blocks world.new.files.tree.nodes.blocks }
     {
-        read_init(&mut devices.nodes, &mut self.space, devices.time);
+        see_nodes(&world.files.tree.nodes);
+        let clicks = read_init(
+            &mut world.files.tree.nodes,
+            init,
+            &mut self.memory,
+            world.time,
+        );
         self.regs = Regs {
             r: [0, 0, 0, 0, 0, 0, FIRST_STACK, 0],
             cc: 0,
         };
+        self.u.text_size = 0;
+        self.u.data_size = clicks;
+        self.u.stack_size = STACK;
     }
 
     /// One instruction, with its call.
     #[inline]
-    pub(crate) fn run<T: Trace>(&mut self, devices: &mut Devices, trace: &mut T) -> Ending
-        requires { IsReferred self.old.console devices.old.nodes }
-        ensures ending { result ≡ (instruction (unix_with self.old devices.old)).ending }
-        ensures unix { unix_after result self.new devices.new ≡ (instruction (unix_with self.old devices.old)).unix }
-        ensures referred { result ≢ Ending.Ended → IsReferred self.new.console devices.new.nodes }
-        ensures rest { SameRest devices.old.nodes.blocks devices.new.nodes.blocks }
-        ensures items { Took (T.taken trace.old)
-            (instruction (unix_with self.old devices.old)).items
-            (T.taken trace.new) }
+    pub(crate) fn run<T: Trace>(&mut self, world: &mut World, trace: &mut T) -> Ending
+        requires { IsRunning self.old world.old }
+        ensures ending { result ≡ (instruction (unix_with self.old world.old) 1).ending }
+        ensures unix { unix_after result self.new world.new ≡ (instruction (unix_with self.old world.old) 1).unix }
+        ensures running { result ≢ Ending.Ended → IsRunning self.new world.new }
+        ensures rest { SameRest world.old.files.tree.nodes.blocks world.new.files.tree.nodes.blocks }
+        ensures items { Took (T.taken trace.old) (instruction (unix_with self.old world.old) 1).items (T.taken trace.new) }
         ensures frame { T.leads_to trace.old trace.new }
     {
         let outcome = self.step();
-        self.come_to(outcome, devices, trace)
+        self.come_to(outcome, world, trace)
     }
 
     #[inline(always)]
     fn step(&mut self) -> Outcome
-        ensures outcome { result ≡ (instr (machine_with (image_with [] self.old) self.old)).outcome }
-        ensures process { self.new
-            ≡ with_machine self.old (instr (machine_with (image_with [] self.old) self.old)).machine }
+        ensures outcome { result ≡ (instr (machine_of self.old)).outcome }
+        ensures process { self.new ≡ with_machine self.old (instr (machine_of self.old)).machine }
     {
-        step(&mut self.regs, &mut self.space)
+        step(&mut self.regs, &mut self.memory)
     }
 
     /// What an instruction comes to.
     #[inline]
-    fn come_to<T: Trace>(
-        &mut self,
-        outcome: Outcome,
-        devices: &mut Devices,
-        trace: &mut T,
-    ) -> Ending
-        requires { IsReferred self.old.console devices.old.nodes }
-        ensures ending { result ≡ (comes_to (unix_with self.old devices.old) outcome).ending }
-        ensures unix { unix_after result self.new devices.new
-            ≡ (comes_to (unix_with self.old devices.old) outcome).unix }
-        ensures referred { result ≢ Ending.Ended → IsReferred self.new.console devices.new.nodes }
-        ensures rest { SameRest devices.old.nodes.blocks devices.new.nodes.blocks }
-        ensures items { Took (T.taken trace.old)
-            (comes_to (unix_with self.old devices.old) outcome).items
-            (T.taken trace.new) }
+    fn come_to<T: Trace>(&mut self, outcome: Outcome, world: &mut World, trace: &mut T) -> Ending
+        requires { IsRunning self.old world.old }
+        ensures ending { result ≡ (comes_to (unix_with self.old world.old) 1 outcome).ending }
+        ensures unix { unix_after result self.new world.new ≡ (comes_to (unix_with self.old world.old) 1 outcome).unix }
+        ensures running { result ≢ Ending.Ended → IsRunning self.new world.new }
+        ensures rest { SameRest world.old.files.tree.nodes.blocks world.new.files.tree.nodes.blocks }
+        ensures items { Took (T.taken trace.old) (comes_to (unix_with self.old world.old) 1 outcome).items (T.taken trace.new) }
         ensures frame { T.leads_to trace.old trace.new }
     {
         match outcome {
             Outcome::Next => Ending::Returned,
-            Outcome::Call(number) => self.call(number, devices, trace),
+            Outcome::Call(number) => self.call(number, world, trace),
             Outcome::Fault(_) => Ending::NotBuilt,
         }
     }
 
     /// A call by its number.
     #[inline(never)]
-    fn call<T: Trace>(&mut self, number: u8, devices: &mut Devices, trace: &mut T) -> Ending
-        requires { IsReferred self.old.console devices.old.nodes }
-        ensures ending { result ≡ (system_call number (unix_with self.old devices.old)).ending }
-        ensures unix { unix_after result self.new devices.new
-            ≡ (system_call number (unix_with self.old devices.old)).unix }
-        ensures referred { result ≢ Ending.Ended → IsReferred self.new.console devices.new.nodes }
-        ensures rest { SameRest devices.old.nodes.blocks devices.new.nodes.blocks }
-        ensures items { Took (T.taken trace.old)
-            (system_call number (unix_with self.old devices.old)).items
-            (T.taken trace.new) }
+    fn call<T: Trace>(&mut self, number: u8, world: &mut World, trace: &mut T) -> Ending
+        requires { IsRunning self.old world.old }
+        ensures ending { result ≡ (system_call number (unix_with self.old world.old) 1).ending }
+        ensures unix { unix_after result self.new world.new ≡ (system_call number (unix_with self.old world.old) 1).unix }
+        ensures running { result ≢ Ending.Ended → IsRunning self.new world.new }
+        ensures rest { SameRest world.old.files.tree.nodes.blocks world.new.files.tree.nodes.blocks }
+        ensures items { Took (T.taken trace.old) (system_call number (unix_with self.old world.old) 1).items (T.taken trace.new) }
         ensures frame { T.leads_to trace.old trace.new }
     {
-        match number {
-            EXIT => self.exit(devices),
-            WRITE => self.write(devices, trace),
-            OPEN => self.open(devices),
-            _ => Ending::NotBuilt,
+        if number == EXIT {
+            self.exit(world, trace);
+            return Ending::Ended;
+        }
+        match count_of(number) {
+            Some(count) => self.call_files(number, count, world, trace),
+            None => Ending::NotBuilt,
         }
     }
 
-    /// The memory, which has no text.
-    fn memory(&self) -> &Whole
-        ensures { result.now.image ≡ image_with [] self.now }
+    /// A call on files that is built, with so many arguments.
+    fn call_files<T: Trace>(
+        &mut self,
+        number: u8,
+        count: u8,
+        world: &mut World,
+        trace: &mut T,
+    ) -> Ending
+        requires running { IsRunning self.old world.old }
+        requires count { option_map (λ (c : FileCall). c.count) (file_call number) ≡ Some count }
+        ensures ending { result ≡ (does_if_built (unix_with self.old world.old) 1 (file_call number)).ending }
+        ensures unix { unix_with self.new world.new ≡ (does_if_built (unix_with self.old world.old) 1 (file_call number)).unix }
+        ensures running { IsRunning self.new world.new }
+        ensures rest { SameRest world.old.files.tree.nodes.blocks world.new.files.tree.nodes.blocks }
+        ensures items { Took (T.taken trace.old)
+            (does_if_built (unix_with self.old world.old) 1 (file_call number)).items (T.taken trace.new) }
+        ensures frame { T.leads_to trace.old trace.new }
     {
-        &self.space
+        let args = self.arguments();
+        self.enter(count);
+        let answer = self.do_call(number, args, world, trace);
+        self.conclude(answer)
     }
 
-    /// An argument of a call, which stands after its word.
-    fn argument(&self, k: u16) -> Result<u16, Trap>
-        requires { k < 8 }
-        ensures { result ≡ argument (image_with [] self.now) (register self.now 7) k }
+    /// The arguments of a call, which stand after its word, and whatever stands after them.
+    fn arguments(&self) -> [u16; 4]
+        ensures { result ≡ arguments_of self.now }
     {
-        self.memory().load_word(self.regs.r[7].wrapping_add(2 * k))
+        [
+            self.argument(0),
+            self.argument(1),
+            self.argument(2),
+            self.argument(3),
+        ]
     }
 
-    /// The PC passes a call's two arguments, and R0 takes what it gives.
-    fn finish_call(&mut self, value: u16)
-        ensures { self.new ≡ with_result self.old value }
+    fn argument(&self, k: u16) -> u16
+        requires { k < 4 }
+        ensures { result ≡ argument self.now k }
+    {
+        match self.memory.load_word(self.regs.r[7].wrapping_add(2 * k)) {
+            Ok(word) => word,
+            Err(_) => ONES,
+        }
+    }
+
+    /// A call begins: C is cleared, and the PC passes the arguments.
+    fn enter(&mut self, count: u8)
+        ensures { self.new ≡ entered count self.old }
     {
         self.regs.cc -= self.regs.cc % 2;
-        self.regs.r[7] = self.regs.r[7].wrapping_add(4);
-        self.regs.r[0] = value;
+        self.regs.r[7] = self.regs.r[7].wrapping_add(2 * u16::from(count));
     }
 
-    /// Ends the process: exit(II). Its console and its directory are not referred to any more.
-    fn exit(&mut self, devices: &mut Devices) -> Ending
-        requires { IsReferred self.old.console devices.old.nodes }
-        ensures ending { result ≡ Ending.Ended }
-        ensures unix { unix_after result self.new devices.new ≡ (exit_call (unix_with self.old devices.old)).unix }
-        ensures rest { SameRest devices.old.nodes.blocks devices.new.nodes.blocks }
-    {
-        see_nodes(&devices.nodes);
-        if let Some(console) = self.console {
-            devices.nodes.put(console, devices.time);
-        }
-        see_nodes(&devices.nodes);
-        devices.nodes.put(ROOT, devices.time);
-        Ending::Ended
-    }
-
-    /// Opens the console for writing: open(II).
-    fn open(&mut self, devices: &mut Devices) -> Ending
-        requires { IsReferred self.old.console devices.old.nodes }
-        ensures ending { result
-            ≡ (with_arguments (unix_with self.old devices.old) (open_call (unix_with self.old devices.old))).ending }
-        ensures unix { unix_after result self.new devices.new
-            ≡ (with_arguments (unix_with self.old devices.old) (open_call (unix_with self.old devices.old))).unix }
-        ensures referred { IsReferred self.new.console devices.new.nodes }
-        ensures blocks { devices.new.nodes.blocks ≡ devices.old.nodes.blocks }
-    {
-        let (Ok(name), Ok(mode)) = (self.argument(0), self.argument(1)) else {
-            return Ending::NotBuilt;
-        };
-        if !names_console(self.memory(), name) || self.console.is_some() || mode != 1 {
-            return Ending::NotBuilt;
-        }
-        let Some(console) = take_console(&mut devices.nodes) else {
-            return Ending::NotBuilt;
-        };
-        self.finish_call(0);
-        self.console = Some(console);
-        Ending::Returned
-    }
-
-    fn is_in_data(&self, from: u16, count: u16) -> bool
-        ensures { result ≡ is_in_data self.now from count }
-    {
-        count == 0 || usize::from(from) + usize::from(count) <= self.space.data_len()
-    }
-
-    /// Writes to the console: write(II).
-    fn write<T: Trace>(&mut self, devices: &mut Devices, trace: &mut T) -> Ending
-        requires { IsReferred self.old.console devices.old.nodes }
-        ensures ending { result
-            ≡ (with_arguments (unix_with self.old devices.old) (write_call (unix_with self.old devices.old))).ending }
-        ensures unix { unix_after result self.new devices.new
-            ≡ (with_arguments (unix_with self.old devices.old) (write_call (unix_with self.old devices.old))).unix }
-        ensures referred { IsReferred self.new.console devices.new.nodes }
-        ensures rest { SameRest devices.old.nodes.blocks devices.new.nodes.blocks }
-        ensures items { Took (T.taken trace.old)
-            (with_arguments (unix_with self.old devices.old) (write_call (unix_with self.old devices.old))).items
-            (T.taken trace.new) }
+    /// Does a call on files by its row.
+    fn do_call<T: Trace>(
+        &mut self,
+        number: u8,
+        args: [u16; 4],
+        world: &mut World,
+        trace: &mut T,
+    ) -> Answer
+        requires { IsRunning self.old world.old }
+        ensures answer { result ≡ (row_of (file_call number)
+            (handed_of (unix_with self.old world.old) self.old) args world.old.time).answer }
+        ensures unix { unix_with self.new world.new ≡ with_handed (unix_with self.old world.old) 1 (row_of (file_call number)
+            (handed_of (unix_with self.old world.old) self.old) args world.old.time).state }
+        ensures running { IsRunning self.new world.new }
+        ensures rest { SameRest world.old.files.tree.nodes.blocks world.new.files.tree.nodes.blocks }
+        ensures items { Took (T.taken trace.old) (row_of (file_call number)
+            (handed_of (unix_with self.old world.old) self.old) args world.old.time).items (T.taken trace.new) }
         ensures frame { T.leads_to trace.old trace.new }
     {
-        let (Ok(from), Ok(count)) = (self.argument(0), self.argument(1)) else {
-            return Ending::NotBuilt;
+        see_nodes(&world.files.tree.nodes);
+        see_table(&world.files.table);
+        see_numbers(&self.u.files);
+        self.u.r = self.regs.r;
+        self.u.cc = self.regs.cc;
+        let answer = do_call(
+            number,
+            &mut world.files,
+            SLOT,
+            &mut self.u,
+            &mut self.row,
+            &mut self.memory,
+            args,
+            world.time,
+            trace,
+        );
+        self.regs = Regs {
+            r: self.u.r,
+            cc: self.u.cc,
         };
-        if self.regs.r[0] != 0 || !self.is_in_data(from, count) {
+        answer
+    }
+
+    /// A call ends: the registers take what it answers.
+    fn conclude(&mut self, answer: Answer) -> Ending
+        ensures ending { (w : World) → result ≡ (answers (unix_with self.old w) 1 answer).ending }
+        ensures unix { (w : World) → unix_with self.new w ≡ (answers (unix_with self.old w) 1 answer).unix }
+        ensures running { (w : World) → IsRunning self.old w → IsRunning self.new w }
+    {
+        match answer {
+            Answer::Ret { r0, r1 } => {
+                self.regs.r[0] = r0;
+                self.regs.r[1] = r1;
+                Ending::Returned
+            }
+            Answer::Fail(error) => self.fail(error_number(error)),
+            Answer::Sleep { .. } => Ending::NotBuilt,
+        }
+    }
+
+    /// A call is refused.
+    fn fail(&mut self, number: u16) -> Ending
+        ensures ending { (w : World) → result ≡ (refuses (unix_with self.old w) 1 number).ending }
+        ensures unix { (w : World) → unix_with self.new w ≡ (refuses (unix_with self.old w) 1 number).unix }
+        ensures running { (w : World) → IsRunning self.old w → IsRunning self.new w }
+    {
+        if number >= FIRST_SIGNAL {
             return Ending::NotBuilt;
         }
-        let Some(console) = self.console else {
-            return Ending::NotBuilt;
-        };
-        set_times(
-            &mut devices.nodes,
-            console,
-            &self.space,
-            from,
-            count,
-            devices.time,
-        );
-        devices.column = show(devices.column, self.memory(), from, count, trace);
-        self.finish_call(count);
+        self.regs.cc = self.regs.cc - self.regs.cc % 2 + 1;
+        self.regs.r[0] = number;
         Ending::Returned
+    }
+
+    /// Ends the process: exit(II). Its files are closed, and its directory is let go.
+    fn exit<T: Trace>(&mut self, world: &mut World, trace: &mut T)
+        requires { IsRunning self.old world.old }
+        ensures unix { unix_of None world.new ≡ (exit_now (unix_with self.old world.old) 1).unix }
+        ensures rest { SameRest world.old.files.tree.nodes.blocks world.new.files.tree.nodes.blocks }
+        ensures items { Took (T.taken trace.old) (exit_now (unix_with self.old world.old) 1).items (T.taken trace.new) }
+        ensures frame { T.leads_to trace.old trace.new }
+    {
+        see_nodes(&world.files.tree.nodes);
+        see_table(&world.files.table);
+        see_numbers(&self.u.files);
+        self.u.r = self.regs.r;
+        self.u.cc = self.regs.cc;
+        close_all(&mut world.files, &mut self.u, world.time, trace);
+        let_go(&mut world.files.tree.nodes, self.u.dir, world.time);
     }
 }

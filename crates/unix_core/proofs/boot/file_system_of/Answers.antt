@@ -20,16 +20,16 @@ opened_is : (c : goal.After-head) → c.open_on-volume.result.blocks ≡ blocks_
 opened_is c = c.open_on-volume.ensures.blocks ∙ c.in_ok-cache.ensures ∙ c.in_ok-disk.ensures
 
 pub new-requires-2 : goal.new-requires-2
-new-requires-2 c = record { sound = volume_sound c.args.image.now c.requires c.open_on-volume.result (opened_is c) c.open_on-volume.ensures.clean c.see.ensures.stored }
+new-requires-2 c = record { sound = volume_sound c.args.image.now c.requires c.open_on-volume.result (opened_is c) c.open_on-volume.ensures.clean c.head.ensures.stored }
 
 pub returns-clause-store : goal.returns-clause-store
 returns-clause-store c =
     c.new-2.ensures.store
-    ∙ volume_store c.args.image.now c.requires c.open_on-volume.result (c.open_on-volume.ensures.blocks ∙ c.in_ok-cache.ensures ∙ c.in_ok-disk.ensures) c.open_on-volume.ensures.clean c.see.ensures.stored
+    ∙ volume_store c.args.image.now c.requires c.open_on-volume.result (c.open_on-volume.ensures.blocks ∙ c.in_ok-cache.ensures ∙ c.in_ok-disk.ensures) c.open_on-volume.ensures.clean c.head.ensures.stored
 
 pub returns-clause-time : goal.returns-clause-time
 returns-clause-time c =
     let is = c.open_on-volume.ensures in
-    ap (λ (h : _). h.time) c.head.ensures
-    ∙ volume_stamp c.args.image.now c.requires c.open_on-volume.result (is.blocks ∙ c.in_ok-cache.ensures ∙ c.in_ok-disk.ensures) is.clean c.see.ensures.stored
+    ap (λ (h : _). h.time) c.head.ensures.head
+    ∙ volume_stamp c.args.image.now c.requires c.open_on-volume.result (is.blocks ∙ c.in_ok-cache.ensures ∙ c.in_ok-disk.ensures) is.clean c.head.ensures.stored
     (is.head ∙ ap (λ l. opened (super_of (block_at l 1))) (c.in_ok-cache.ensures ∙ c.in_ok-disk.ensures))

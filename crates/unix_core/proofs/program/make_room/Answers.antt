@@ -10,12 +10,9 @@ room_is : (old new : Image) (clicks : ℕ) → new ≡ resized old 0 clicks 20 �
     → new ≡ record { text = []; «data» = replicate (64 * clicks) 0; stack = replicate 1280 0 }
 room_is old new clicks is empty = is ∙ ap (λ (m : Image). resized m 0 clicks 20) empty ∙ fresh_image clicks 20
 
-pub put_arguments-requires-clause-text : goal.put_arguments-requires-clause-text
-put_arguments-requires-clause-text c = ap (λ (m : Image). m.text) (room_is _ _ c.args.clicks c.set_sizes.ensures c.requires.empty)
-
 pub put_arguments-requires-clause-data : goal.put_arguments-requires-clause-data
 put_arguments-requires-clause-data c =
-    let size : length c.set_sizes.new.self.image.data ≡ 64 * c.args.clicks = ap (λ (m : Image). length m.data) (room_is _ _ c.args.clicks c.set_sizes.ensures c.requires.empty) ∙ length-replicate (64 * c.args.clicks) 0 in
+    let size : length c.set_sizes.new.self.whole.image.data ≡ 64 * c.args.clicks = ap (λ (m : Image). length m.data) (room_is _ _ c.args.clicks c.set_sizes.ensures c.requires.empty) ∙ length-replicate (64 * c.args.clicks) 0 in
     let few = c.requires.few in omega (arith, size, few)
 
 pub put_arguments-requires-clause-stack : goal.put_arguments-requires-clause-stack
@@ -23,7 +20,7 @@ put_arguments-requires-clause-stack c = ap (λ (m : Image). length m.stack) (roo
 
 pub returns : goal.returns
 returns c =
-    let room : c.set_sizes.new.self.image ≡ record { text = []; «data» = replicate (64 * c.args.clicks) 0; stack = replicate 1280 0 } =
+    let room : c.set_sizes.new.self.whole.image ≡ record { text = []; «data» = replicate (64 * c.args.clicks) 0; stack = replicate 1280 0 } =
     room_is _ _ c.args.clicks c.set_sizes.ensures c.requires.empty in
     c.put_arguments.ensures
     ∙ ap (λ (m : Image). record m { stack = take 1264 m.stack ++ first_arguments }) room

@@ -1,12 +1,11 @@
-use Rattle.std.proofs.Common.{◌≡◌, true, sym, ◌∙◌, ap, subst}
-use Rattle.fs_nodes.specs.FileSystem.{FileSystem}
-use Rattle.unix_core.specs.Names.{init_in, passes}
-use Rattle.unix_core.specs.Form.{is_program}
-use Rattle.unix_core.proofs.FormLemmas.{has_program}
+use Rattle.std.proofs.Common.{◌∙◌}
+use Rattle.unix_core.proofs.FreshLemmas.{boots_as}
 use Rattle.unix_core.proofs.kernel.Kernel.boot.Goals as goal
 
-pub new-requires-2-clause-program : goal.new-requires-2-clause-program
-new-requires-2-clause-program c =
-    let store = c.in-Ok.nodes.store in
-    let same = c.take_root.ensures.store ∙ ap (λ (f : FileSystem). f.store) c.has_form.ensures.same in
-    subst (λ s. passes s (init_in s) is_program ≡ true) (sym same) (has_program store (sym c.has_form.ensures.form ∙ c.if-not-has_form.false))
+pub returns-in-Some-clause-system : goal.returns-in-Some-clause-system
+returns-in-Some-clause-system c =
+    boots_as c.args.image.now c.args.core c.take_root.new.nodes.store _ c.in_default.ensures (c.take_root.ensures.store ∙ c.in-Ok.ensures.store) c.in-Some.ensures.0
+
+pub returns-in-None-clause-refused : goal.returns-in-None-clause-refused
+returns-in-None-clause-refused c =
+    (c.in_default.ensures, boots_as c.args.image.now c.args.core c.take_root.new.nodes.store _ c.in_default.ensures (c.take_root.ensures.store ∙ c.in-Ok.ensures.store) c.in-None.ensures)

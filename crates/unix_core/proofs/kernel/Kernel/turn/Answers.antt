@@ -1,4 +1,4 @@
-use Rattle.std.proofs.Common.{◌≡◌, Bool, true, [], sym, ◌∙◌, ap, subst}
+use Rattle.std.proofs.Common.{Bool, sym, ◌∙◌, ap, subst}
 use Rattle.std.specs.Prelude.{if◌then◌else◌}
 use Rattle.v6_base.proofs.Took.{took_nothing}
 use Rattle.fs_laws.specs.Rest.{SameRest}
@@ -16,7 +16,7 @@ returns-then-begin g c =
     let begun = c.begin.ensures in record {
       answer = sym (ap ran c.if-begin.true) ∙ begun.answer ∙ ap turned same;
       next = begun.next ∙ ap (λ (t : Turn). t.next) same;
-      rest = subst (λ b. SameRest b c.begin.new.devices.nodes.blocks) (ap (λ (k : SystemOnDisk). k.blocks) c.self.view_is) begun.rest;
+      rest = subst (λ b. SameRest b c.begin.new.world.files.tree.nodes.blocks) (ap (λ (k : SystemOnDisk). k.blocks) c.self.view_is) begun.rest;
       items = took_nothing _ _ (sym (ap (λ (t : Turn). t.items) same) ∙ begun.items);
       frame = g.met.T.Trace.stays c.args.trace.now;
     }

@@ -1,33 +1,46 @@
-use Rattle.std.proofs.Common.{◌≡◌, Some, None, sym, ◌∙◌, ap, subst}
-use Rattle.std.specs.Prelude.{slice_index}
-use Rattle.unix_core.specs.declared.devices.Devices.{Devices}
+use Rattle.std.proofs.Common.{refl, sym, ◌∙◌, ap, subst}
+use Rattle.v6_base.specs.Trace.{Took}
+use Rattle.sys_files.specs.Handed.{Handed, handed}
+use Rattle.sys_files.specs.Descriptors.{close_all}
 use Rattle.unix_core.specs.Unix.{Process}
-use Rattle.unix_core.specs.Calls.{without_console}
-use Rattle.unix_core.specs.Parts.{IsReferred}
-use Rattle.unix_core.proofs.ReferenceLemmas.{console_goes, root_left, directory_goes, ends_same}
+use Rattle.unix_core.specs.Calls.{handed_of}
+use Rattle.unix_core.specs.Parts.{unix_with, IsRunning}
+use Rattle.unix_core.proofs.ReferenceLemmas.{handed_same, sound_parts, directory_kept, exited}
 use Rattle.unix_core.proofs.process.Process.exit.Goals as goal
-use Rattle.unix_core.proofs.process.Process.exit.Goals.{in-Some, in_default}
+
+pub close_all-requires : goal.close_all-requires
+close_all-requires g c =
+    let running = subst (λ (p : Process). IsRunning p c.args.world.now) (sym c.self.view_is) c.requires in
+    record { sound = λ row image. sound_parts c.args.world.now _ _ running c.see_table.ensures c.see_numbers.ensures refl refl refl refl }
+
+pub let_go-requires : goal.let_go-requires
+let_go-requires g c =
+    let i = c.self.inside in
+    let running = subst (λ (p : Process). IsRunning p c.args.world.now) (sym c.self.view_is) c.requires in
+    record {
+      referred = directory_kept _ (handed c.close_all.new.f c.close_all.new.u i.row i.memory.whole.image)
+          (sound_parts c.args.world.now _ _ running c.see_table.ensures c.see_numbers.ensures refl refl refl refl)
+          (c.close_all.ensures.kept i.row i.memory.whole.image);
+    }
 
 pub returns-clause-unix : goal.returns-clause-unix
-returns-clause-unix c =
-    let old = c.args.devices.now.nodes in
-    let mid = c.match-self.devices.nodes in
-    elim c.match-self.branch [
-      | in-Some w ↦ (let i = w.in-Some.console in
-          let is = w.devices-is in
-          let console : c.args.self.now.console ≡ Some i = sym (ap (λ (p : Process). p.console) c.self.view_is) ∙ w.in-Some.is in
-          let referred = subst (λ o. IsReferred o old) console c.requires in
-          let two : slice_index mid.references 1 ≡ 2 = ap (λ (d : Devices). slice_index d.nodes.references 1) is ∙ root_left old w.put.new.self i referred w.put.ensures.references in
-          ends_same _ _ _ _ _ _ (ap (λ (d : Devices). d.column) is)
-          (directory_goes mid c.put-2.new.self c.see_nodes-2.ensures two c.put-2.ensures.store
-          ∙ ap (λ (d : Devices). d.nodes.store) is ∙ console_goes old w.put.new.self i referred w.put.ensures.store
-          ∙ sym (ap (without_console old.store) console))
-          (ap (λ (d : Devices). d.time) is))
-      | in_default w ↦ (let is = w.devices-is in
-          let console : c.args.self.now.console ≡ None = sym (ap (λ (p : Process). p.console) c.self.view_is) ∙ w.in_default.is in
-          let two : slice_index mid.references 1 ≡ 2 = ap (λ (d : Devices). slice_index d.nodes.references 1) is ∙ c.requires.root in
-          ends_same _ _ _ _ _ _ (ap (λ (d : Devices). d.column) is)
-          (directory_goes mid c.put-2.new.self c.see_nodes-2.ensures two c.put-2.ensures.store
-          ∙ ap (λ (d : Devices). d.nodes.store) is ∙ sym (ap (without_console old.store) console))
-          (ap (λ (d : Devices). d.time) is))
-    ]
+returns-clause-unix g c =
+    let i = c.self.inside in
+    let w = c.args.world.now in
+    let after = c.close_all.new.f in
+    let running = subst (λ (p : Process). IsRunning p w) (sym c.self.view_is) c.requires in
+    exited w (record w { files = record { tree = record { nodes = c.let_go.new.nodes }; table = after.table; line = after.line } }) c.args.self.now i.row i.memory.whole.image
+    c.close_all.new.u after.table after.line after.tree.nodes (close_all (handed_of (unix_with c.args.self.now w) c.args.self.now)) refl refl refl refl c.let_go.ensures.inodes
+    (c.close_all.ensures.state i.row i.memory.whole.image
+    ∙ ap (λ (h : Handed). (close_all h).state)
+    (handed_same w i.row i.memory.whole.image i.u i.regs.r i.regs.cc i.regs.cc_in_range _ c.see_nodes.ensures i.memory.no_text running ∙ ap (λ (p : Process). handed_of (unix_with p w) p) c.self.view_is))
+
+pub returns-clause-items : goal.returns-clause-items
+returns-clause-items g c =
+    let i = c.self.inside in
+    let w = c.args.world.now in
+    let running = subst (λ (p : Process). IsRunning p w) (sym c.self.view_is) c.requires in
+    let Takes : Handed → Type 0 = λ h. Took (g.T.Trace.taken c.args.trace.now) (close_all h).items (g.T.Trace.taken c.close_all.new.trace) in
+    subst Takes
+    (handed_same w i.row i.memory.whole.image i.u i.regs.r i.regs.cc i.regs.cc_in_range _ c.see_nodes.ensures i.memory.no_text running ∙ ap (λ (p : Process). handed_of (unix_with p w) p) c.self.view_is)
+    (c.close_all.ensures.items i.row i.memory.whole.image)

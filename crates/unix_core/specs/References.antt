@@ -1,0 +1,26 @@
+-- How often each inode of a system is referred to, which follows from the rest of it: `i_count` of `inode.h` in Lions'
+-- Commentary.
+use Rattle.std.specs.Prelude.{ℕ, Bool, false, ◌+◌, ◌==◌, if◌then◌else◌, List, Option, Some, None, map, count_by}
+use Rattle.std.specs.List.{range_with_len}
+use Rattle.sys_files.specs.Sound.{is_of}
+use Rattle.unix_core.specs.Unix.{Process, Text, Unix}
+
+-- a process whose current directory is this inode
+abbrev pub is_in : ℕ → Option Process → Bool
+is_in ino None = false
+is_in ino (Some p) = p.u.dir == ino
+
+-- a text of this inode
+abbrev pub is_text_of : ℕ → Option Text → Bool
+is_text_of ino None = false
+is_text_of ino (Some text) = text.ino == ino
+
+-- Open files, current directories and texts refer to inodes, and the kernel to inode 1 as the root.
+abbrev pub referrers : Unix → ℕ → ℕ
+referrers u ino =
+    count_by (is_of ino) u.files + count_by (is_in ino) u.processes + count_by (is_text_of ino) u.texts
+    + (if ino == 1 then 1 else 0)
+
+-- by inode numbers, from 0 on
+unfoldable pub references_of : Unix → List ℕ
+references_of u = map (referrers u) (range_with_len 0 (u.store.count + 1))
