@@ -2,7 +2,8 @@
 use Rattle.std.proofs.Common.{◌≡◌, ℕ, true, false, Option, Some, None, is_some, List, [], ◌∷◌, ◌++◌, refl, sym, ◌∙◌, ap, take, Result, Ok, Err, is_err, eqb, cond, arith}
 use Rattle.std.proofs.lemmas.List.{append-nil}
 use Rattle.std.specs.Option.{option_to_list}
-use Rattle.v6_base.specs.Trace.{Byte, HoldsMore, Took, line_bytes}
+use Rattle.v6_base.specs.declared.entry.Entry.{Entry}
+use Rattle.v6_base.specs.Trace.{Byte, Log, HoldsMore, Took, line_bytes}
 use Rattle.v6_base.proofs.Took.{holds_same}
 use Rattle.v6_port.specs.Outside.{Environment, Outside, Tells}
 use Rattle.v6_port.specs.Calls.{Writes}
@@ -57,6 +58,35 @@ took_while_cut o kept byte is_cut = record {
   holds = holds_same (taken_of o kept);
   whole = λ uncut. absurd (cc);
   refused = λ _. (is_cut, refl);
+}
+
+-- Of a line of the log nothing is told.
+holds_entry : (o : Outside) (kept : Option ℕ) (e : Entry) → HoldsMore (taken_of o kept) (Log e ∷ []) (taken_of o kept)
+holds_entry o kept e = record {
+  tells_bytes = refl;
+  bytes = λ told line. sym (append-nil ((taken_of o kept).bytes line));
+  tells_entries = refl;
+  entries = λ told. absurd (let no_entries : false ≡ true = told in cc);
+  tells_text = refl;
+  text = λ told. absurd (let no_text : false ≡ true = told in cc);
+}
+
+pub took_entry : (o : Outside) (kept : Option ℕ) (e : Entry) → Took (taken_of o kept) (Log e ∷ []) (taken_of o kept)
+took_entry o None e = record {
+  part = Log e ∷ [];
+  rest = [];
+  split = refl;
+  holds = holds_entry o None e;
+  whole = λ uncut. refl;
+  refused = λ is_cut. absurd (cc);
+}
+took_entry o (Some byte) e = record {
+  part = [];
+  rest = Log e ∷ [];
+  split = refl;
+  holds = holds_same (taken_of o (Some byte));
+  whole = λ uncut. absurd (cc);
+  refused = λ _. (refl, refl);
 }
 
 kept_nothing : (kept : Option ℕ) → is_some kept ≡ false → option_to_list kept ≡ []

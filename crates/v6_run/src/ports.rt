@@ -3,7 +3,7 @@ ghost use Rattle.std.specs.Prelude.{◌≡◌, None, is_some};
 ghost use Rattle.v6_port.specs.Outside.{Out, IsOpen};
 ghost use Rattle.v6_port.specs.declared.host.OutPort.TheVariants.{Term};
 
-use v6_base::Trace;
+use v6_base::{Entry, Trace};
 use v6_port::{Host, OutPort};
 
 /// A trace over the terminal's port. It is cut where a write fails, and keeps that byte.
@@ -45,6 +45,11 @@ impl<'a, H: Host> Trace for Ports<'a, H> {
     ghost stays = { λ t. (Goes-same (H.outside t.host.now) t.kept, refl) };
 
     ghost goes_on = { λ a b c first second. (Goes-on _ _ _ _ _ _ first.0 second.0, second.1 ∙ first.1) };
+
+    /// Takes a line of the log, of which nothing is written yet.
+    fn entry(&mut self, e: Entry) {
+        let _ = e;
+    }
 
     fn out(&mut self, byte: u8) {
         if self.kept.is_some() {
