@@ -4,7 +4,7 @@ use fs_codec::DISK_BYTES;
 use std::alloc::{AllocError, Global};
 use std::test::Fail;
 use v6_port::{MemHost, OutPort};
-use v6_run::{Status, Unbuilt};
+use v6_run::Status;
 
 /// The time 0x51234, its high word first, in the super-block. Of an inode the time of access stands at its byte 24, that of
 /// modification at 28: of `/dev/tty8`, inode 5, at 1176, and of `/etc/init`, inode 7, at 1240.
@@ -244,53 +244,77 @@ fn files_without_a_link_go_with_their_last_reference(rt: HostRuntime) -> Result<
     Ok(())
 }
 
-/// Forms that are not built: of init, and of the directory `/etc`, inode 2, whose only address is 63.
-const OTHER_FORMS: [(&str, &[Piece<'static>]); 6] = [
-    (
-        "hole in a large init, Data 5",
-        &[
+/// Forms of init, and of the directory `/etc`, inode 2, whose only address is 63: large ones, and holes where nothing is read.
+const OTHER_FORMS: [Left<'static>; 7] = [
+    Left {
+        name: "hole in a large init, Data 5",
+        pieces: &[
             LARGE_MODE,
             LARGE_SIZE,
             LARGE_INDIRECT,
             LARGE_BLOCKS,
             (34314, b"\0\0"),
         ],
-    ),
-    ("small init of 4,097 bytes", &[(1222, b"\x01\x10"), EIGHT]),
-    (
-        "small init of 513 bytes, with one block",
-        &[(1222, b"\x01\x02")],
-    ),
-    (
-        "directory of 513 bytes, with one block",
-        &[(1062, b"\x01\x02")],
-    ),
-    (
-        "large directory",
-        &[(1057, b"\xd1"), (1064, b"\x43\0"), (34304, b"\x3f\0")],
-    ),
-    (
-        "directory of 4,097 bytes, with eight blocks",
-        &[
+        script: b"run 20\n",
+        term: b"HI\r\n",
+        left: &[INIT_READ, CONSOLE_WRITTEN],
+    },
+    Left {
+        name: "small init of 4,097 bytes",
+        pieces: &[(1222, b"\x01\x10"), EIGHT],
+        script: b"run 20\n",
+        term: b"HI\r\n",
+        left: &[INIT_READ, CONSOLE_WRITTEN],
+    },
+    Left {
+        name: "small init of 513 bytes, with one block",
+        pieces: &[(1222, b"\x01\x02")],
+        script: b"run 20\n",
+        term: b"HI\r\n",
+        left: &[INIT_READ, CONSOLE_WRITTEN],
+    },
+    Left {
+        name: "directory of 513 bytes, with one block",
+        pieces: &[(1062, b"\x01\x02")],
+        script: b"run 20\n",
+        term: b"HI\r\n",
+        left: &[INIT_READ, CONSOLE_WRITTEN],
+    },
+    Left {
+        name: "large directory",
+        pieces: &[(1057, b"\xd1"), (1064, b"\x43\0"), (34304, b"\x3f\0")],
+        script: b"run 20\n",
+        term: b"HI\r\n",
+        left: &[INIT_READ, CONSOLE_WRITTEN],
+    },
+    Left {
+        name: "directory of 4,097 bytes, with eight blocks",
+        pieces: &[
             (1062, b"\x01\x10"),
             (1064, b"\x3f\0\x43\0\x44\0\x45\0\x46\0\x47\0\x48\0\x49\0"),
         ],
-    ),
+        script: b"run 20\n",
+        term: b"HI\r\n",
+        left: &[INIT_READ, CONSOLE_WRITTEN],
+    },
+    // The text is 600 bytes and the file has one block, of which 496 are text. No block is free, so the rest is zeros.
+    Left {
+        name: "hole in the text, and no room",
+        pieces: &[
+            (1222, b"\x68\x02"),
+            (33794, b"\x58\x02"),
+            (TEXT + 8, b"\xf4\x01"),
+        ],
+        script: b"run 20\n",
+        term: b"\0\0\0",
+        left: &[INIT_READ, CONSOLE_WRITTEN],
+    },
 ];
 
-fn is_unbuilt(alloc: Global, pieces: &[Piece<'_>]) -> Result<bool, AllocError> {
-    let (status, host) = run_over(alloc, &[pieces], b"run 20\n")?;
-    Ok(
-        status == Status::NotBuilt(Unbuilt::Image)
-            && host.bytes(OutPort::Term).is_empty()
-            && host.bytes(OutPort::Final).is_empty(),
-    )
-}
-
 #[test]
-fn holes_and_large_directories_are_not_built(rt: HostRuntime) -> Result<(), Fail> {
-    for (name, pieces) in OTHER_FORMS {
-        assert!(rt; is_unbuilt(rt.alloc(), pieces)?, "{name}");
+fn holes_and_large_directories_are_booted(rt: HostRuntime) -> Result<(), Fail> {
+    for row in OTHER_FORMS {
+        assert!(rt; leaves(rt.alloc(), &row)?, "{}", row.name);
     }
     Ok(())
 }

@@ -1,0 +1,142 @@
+//! Scenes: what happens on the small disk, step by step.
+ghost use Rattle.std.specs.Prelude.{◌≡◌, true, length};
+ghost use Rattle.open_files.specs.Files.{HaveRoom};
+ghost use Rattle.call_rows.specs.Ready.{IsReady};
+
+use crate::calls::{Call, Told, answer, is};
+use crate::looks::{Look, shows};
+use crate::world::{World, begin};
+use open_files::OpenTable;
+use std::alloc::{AllocError, Global};
+use v6_base::{Space, Whole};
+
+/// A step of a scene.
+#[derive(Clone, Copy, Debug)]
+pub enum Step {
+    /// A call, and what it must come to.
+    Does(Call, Told),
+    /// What must be there then.
+    Has(Look),
+    /// The process is this user's and this group's from now on.
+    User(u8, u8),
+    /// The time is this one from now on.
+    Now(u32),
+    /// The process has this terminal from now on.
+    OnLine(u8),
+    /// Another process, without an open file, goes on.
+    Fresh,
+    /// The memory has 64 bytes of text from address 0 on, and its data begin at address 8,192.
+    Text,
+    /// Bytes stand at an address.
+    Puts(u16, &'static [u8]),
+    /// `/f` is opened so often, by the numbers from 0 on.
+    Opens(u16),
+}
+
+/// A scene: words of the disk that are changed before; inodes to which others refer; and the steps.
+#[derive(Clone, Copy, Debug)]
+pub struct Scene {
+    pub name: &'static str,
+    pub disk: &'static [(usize, u16)],
+    pub crowd: u16,
+    pub steps: &'static [Step],
+}
+
+/// Whether no file has so many numbers that fifteen more can't be counted.
+fn have_room(table: &OpenTable) -> bool
+    ensures long { length table.now ≡ 100 }
+    ensures room { result ≡ true → HaveRoom table.now }
+{
+    let _ = table.in_use(0);
+    for entry in 0..100u8 {
+        if table.in_use(entry) && table.file(entry).count > 65520 {
+            return false;
+        }
+    }
+    true
+}
+
+fn does(w: &mut World, call: Call, told: Told) -> bool
+    requires { IsReady w.old.files.table w.old.u.files w.old.u.dir w.old.files.tree.nodes.references }
+    ensures { IsReady w.new.files.table w.new.u.files w.new.u.dir w.new.files.tree.nodes.references }
+{
+    if !have_room(&w.files.table) {
+        return false;
+    }
+    let answer = answer(w, call);
+    is(answer, call, told)
+}
+
+fn opens(w: &mut World, count: u16) -> bool
+    requires { IsReady w.old.files.table w.old.u.files w.old.u.dir w.old.files.tree.nodes.references }
+    ensures { IsReady w.new.files.table w.new.u.files w.new.u.dir w.new.files.tree.nodes.references }
+{
+    for fd in 0..count {
+        if !does(w, Call::Open(b"/f\0", 0), Told::Gives(fd)) {
+            return false;
+        }
+    }
+    true
+}
+
+fn puts(space: &mut Whole, at: u16, bytes: &[u8]) -> bool {
+    for (k, byte) in bytes.iter().enumerate() {
+        let _ = space.store_byte(at.wrapping_add((k % 65536) as u16), *byte);
+    }
+    true
+}
+
+/// A change of what a call is handed.
+fn changes(w: &mut World, step: Step) -> bool
+    requires { IsReady w.old.files.table w.old.u.files w.old.u.dir w.old.files.tree.nodes.references }
+    ensures { IsReady w.new.files.table w.new.u.files w.new.u.dir w.new.files.tree.nodes.references }
+{
+    match step {
+        Step::User(uid, gid) => (w.u.uid, w.u.gid) = (uid, gid),
+        Step::Now(time) => w.now = time,
+        Step::OnLine(tty) => w.row.tty = tty,
+        Step::Fresh => w.u.files = [0; 15],
+        Step::Text => w.space.set_sizes(1, 20, 1),
+        _ => return false,
+    }
+    true
+}
+
+fn holds(w: &mut World, step: Step) -> bool
+    requires { IsReady w.old.files.table w.old.u.files w.old.u.dir w.old.files.tree.nodes.references }
+    ensures { IsReady w.new.files.table w.new.u.files w.new.u.dir w.new.files.tree.nodes.references }
+{
+    match step {
+        Step::Does(call, told) => does(w, call, told),
+        Step::Has(look) => shows(w, look),
+        Step::Opens(count) => opens(w, count),
+        Step::Puts(at, bytes) => puts(&mut w.space, at, bytes),
+        _ => changes(w, step),
+    }
+}
+
+/// The number of the first step that does not hold, from 0 on.
+fn first_failure(alloc: Global, scene: &Scene) -> Result<Option<usize>, AllocError> {
+    let Some(mut w) = begin(alloc, scene.disk, scene.crowd)? else {
+        return Ok(Some(usize::MAX));
+    };
+    for (k, step) in scene.steps.iter().enumerate() {
+        if !holds(&mut w, *step) {
+            return Ok(Some(k));
+        }
+    }
+    Ok(None)
+}
+
+/// The first step of these scenes that does not hold.
+pub fn failure(
+    alloc: Global,
+    scenes: &[Scene],
+) -> Result<Option<(&'static str, usize)>, AllocError> {
+    for scene in scenes {
+        if let Some(k) = first_failure(alloc, scene)? {
+            return Ok(Some((scene.name, k)));
+        }
+    }
+    Ok(None)
+}
