@@ -47,7 +47,6 @@ fn open_nodes(alloc: Global, image: &[u8]) -> Result<Option<Nodes>, AllocError> 
         Ok(()) if image.len() <= DISK_BYTES => {
             let cache = Cache::new(alloc, Disk::from_bytes(alloc, image)?)?;
             let volume = Volume::open_on(cache);
-            volume.see();
             Ok(Some(Nodes::new(volume)))
         }
         _ => Ok(None),
@@ -150,7 +149,8 @@ use Rattle.buf_cache.specs.Blocks.{block_at}
 use Rattle.fs_laws.specs.Chain.{IsSound}
 use Rattle.fs_laws.specs.Whole.{IsWhole}
 use Rattle.fs_laws.proofs.ImageLemmas.{image_whole}
-use Rattle.fs_nodes.proofs.NumbersOpened.{opened_sound}
+use Rattle.fs_laws.proofs.WholeLemmas.{whole_has_none}
+use Rattle.fs_blocks.specs.State.{disk}
 use Rattle.store_bench.proofs.open_nodes.Goals as goal
 
 pub open_on-volume-requires : goal.open_on-volume-requires
@@ -162,9 +162,8 @@ pub new-requires-in-Ok : goal.new-requires-in-Ok
 new-requires-in-Ok c =
     let P : List (List ℕ) → Type 0 = λ l. IsWhole (block_at l) in
     let e = c.open_on-volume.ensures in
-    record { sound = opened_sound c.in_ok-cache-in-Ok.cache c.open_on-volume.result
-        (subst P (sym (c.in_ok-cache-in-Ok.ensures ∙ c.in_ok-from_bytes-in-Ok.ensures)) (image_whole c.args.image.now c.in-Ok.ensures))
-        c.see.ensures.sound e.blocks e.head e.free }
+    record { sound = whole_has_none (disk c.open_on-volume.result) (e.whole
+        (subst P (sym (c.in_ok-cache-in-Ok.ensures ∙ c.in_ok-from_bytes-in-Ok.ensures)) (image_whole c.args.image.now c.in-Ok.ensures))) }
 """,
 }
 
@@ -179,8 +178,13 @@ CALLS = [
 ]
 
 
+def built_before(folder, names):
+    """What a build has left in a crate's folder. A function may be called `out` too, and have a folder of proofs."""
+    return {"out"} if "src" in names else set()
+
+
 def built(folder):
-    shutil.copytree(f"{TOP}/crates", f"{folder}/crates", ignore=shutil.ignore_patterns("out"))
+    shutil.copytree(f"{TOP}/crates", f"{folder}/crates", ignore=built_before)
     shutil.copy(f"{TOP}/HANDLES", folder)
     os.makedirs(f"{folder}/crates/store_bench/src")
     with open(f"{folder}/crates/store_bench/src/main.rt", "w") as file:
