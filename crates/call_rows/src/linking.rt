@@ -26,12 +26,15 @@ const SCENES: [Scene; 12] = [
             Has(Times(1, T, T)),
             Has(Refs(3, 0)),
             Has(Refs(1, 2)),
-            // The file need not be permitted.
+            // The file need not be permitted, but its directory.
             User(9, 9),
             Does(Link(b"/c\0", b"/h/abcdefghijklmnop\0"), Done),
             Has(Inode(11, 0o100660, [2, 1, 2], 0)),
             Has(Body(17, 0, b"\x0b\0abcdefghijklmn")),
             Has(Refs(17, 0)),
+            Does(Unlink(b"/h/abcdefghijklmnqr\0"), Done),
+            Has(Inode(11, 0o100660, [1, 1, 2], 0)),
+            Has(Body(17, 0, b"\0\0abcdefghijklmn")),
             User(0, 0),
             Does(Link(b"/tty\0", b"/tt\0"), Done),
             Has(Inode(5, 0o120622, [2, 0, 0], 0)),
