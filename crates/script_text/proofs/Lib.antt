@@ -1,0 +1,5 @@
+pub mod NumberLemmas
+pub mod LineLemmas
+pub mod CommandLemmas
+pub mod ScriptLemmas
+pub mod SignalLemmas

@@ -1,0 +1,5 @@
+pub mod Number
+pub mod Lines
+pub mod Command
+pub mod Asked
+pub mod Script

@@ -1,0 +1,64 @@
+-- What a script makes happen, or its first fault, by docs/manual/scripts.md.
+use Rattle.std.specs.Prelude.{◌≡◌, ⊤, ℕ, Bool, false, ◌+◌, ◌%◌, ◌||◌, ◌==◌, nat_lt, if◌then◌else◌, Option, Some, None, Result, Ok, Err, List, [], ◌∷◌, ◌++◌, length, sum_by}
+use Rattle.std.specs.List.{list_any}
+use Rattle.std.specs.Option.{unwrap_or}
+use Rattle.script_text.specs.declared.script.TheConstants.{MAX_BYTES, MAX_SLOTS}
+use Rattle.script_text.specs.declared.script.Event.{Event}
+use Rattle.script_text.specs.declared.script.Event.TheVariants.{Clock, Run, Tick, Byte, Switch}
+use Rattle.script_text.specs.declared.script.ScriptFault.{ScriptFault}
+use Rattle.script_text.specs.declared.script.ScriptFault.TheVariants.{TooLong, BadLine, TooManySlots, NoMemory}
+use Rattle.script_text.specs.Lines.{lines_of}
+use Rattle.script_text.specs.Command.{events_of_line}
+
+abbrev pub slots_of : Event → ℕ
+slots_of (Clock n) = 0
+slots_of (Run n) = n
+slots_of Tick = 0
+slots_of (Byte b) = 0
+slots_of (Switch w) = 0
+
+-- the events of a line, and then those of the lines after it, where there is no fault
+abbrev pub before : List Event → Result (List Event) ScriptFault → Result (List Event) ScriptFault
+before events (Ok later) = Ok (events ++ later)
+before events (Err fault) = Err fault
+
+-- The lines from line n on, the first being 1, after lines that have asked for so many slots. The first line that is none,
+-- or with which the slots are too many, is the fault.
+abbrev pub then_lines : ℕ → ℕ → Option (List Event) → (ℕ → Result (List Event) ScriptFault) → Result (List Event) ScriptFault
+then_lines n slots None next = Err (BadLine n)
+then_lines n slots (Some events) next =
+    if nat_lt MAX_SLOTS (slots + sum_by slots_of events) then Err (TooManySlots n)
+    else before events (next (slots + sum_by slots_of events))
+
+abbrev pub script_from : ℕ → ℕ → List (List ℕ) → Result (List Event) ScriptFault
+script_from n slots [] = Ok []
+script_from n slots (line ∷ lines) = then_lines n slots (events_of_line line) (λ more. script_from (n + 1) more lines)
+
+-- the events of a script, or its first fault
+abbrev pub script_of : List ℕ → Result (List Event) ScriptFault
+script_of script = if nat_lt MAX_BYTES (length script) then Err TooLong else script_from 1 0 (lines_of script)
+
+-- why a script isn't read: its first fault, or want of memory
+abbrev pub Refuses : List ℕ → ScriptFault → Type 0
+Refuses script NoMemory = ⊤
+Refuses script fault = script_of script ≡ Err fault
+
+-- A key that interrupts those who have the terminal or makes them quit, unless the terminal is raw, by its low seven bits.
+abbrev pub is_signal_key : ℕ → Bool
+is_signal_key byte = (byte % 128 == 0o177) || (byte % 128 == 0o034)
+
+abbrev pub is_signal : Event → Bool
+is_signal (Clock n) = false
+is_signal (Run n) = false
+is_signal Tick = false
+is_signal (Byte b) = is_signal_key b
+is_signal (Switch w) = false
+
+-- the first line from line n on that types such a key
+abbrev pub signal_from : ℕ → List (List ℕ) → Option ℕ
+signal_from n [] = None
+signal_from n (line ∷ lines) =
+    if list_any is_signal (unwrap_or (events_of_line line) []) then Some n else signal_from (n + 1) lines
+
+abbrev pub signal_line_of : List ℕ → Option ℕ
+signal_line_of script = signal_from 1 (lines_of script)

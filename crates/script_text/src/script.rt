@@ -1,0 +1,110 @@
+//! A script as the list of its events.
+ghost use Rattle.std.specs.Prelude.{◌≡◌, ◌<◌, ◌^◌, false, None, Ok, IfOk, IfErr, List, length};
+ghost use Rattle.std.specs.List.{list_any};
+ghost use Rattle.script_text.specs.declared.script.Event.{Event};
+ghost use Rattle.script_text.specs.Script.{script_of, Refuses, is_signal, signal_line_of};
+
+use crate::command::{command_of_line, push, slots_asked, types_signal};
+use crate::lines::first_line;
+use std::alloc::Global;
+use thiserror::Error;
+
+/// The most bytes of a script.
+pub const MAX_BYTES: usize = 1_048_576;
+
+/// The most bytes of a line, without its line feed and a carriage return before that.
+pub(crate) const MAX_LINE: usize = 300;
+
+/// The most slots that one script may ask for.
+pub(crate) const MAX_SLOTS: u32 = 200_000_000;
+
+/// What a script asks for.
+#[derive(Clone, Copy, Debug, PartialEq, Eq)]
+pub enum Event {
+    /// From now on a tick comes after each so many slots, counted anew. 0 is none.
+    Clock(u32),
+    /// So many slots.
+    Run(u32),
+    /// One tick of the clock.
+    Tick,
+    /// A byte is typed.
+    Byte(u8),
+    /// The switches of the console are set.
+    Switch(u16),
+}
+
+/// Why a script isn't read.
+#[derive(Clone, Copy, Debug, PartialEq, Eq, Error)]
+pub enum ScriptFault {
+    /// It has more than 1,048,576 bytes.
+    #[error("too long")]
+    TooLong,
+    /// The line of this number, from 1, is the first that is no line of a script, or has more than 300 bytes.
+    #[error("line {0}")]
+    BadLine(u32),
+    /// The line of this number, from 1, brings the slots above 200,000,000, and no line before it is bad.
+    #[error("too many slots at line {0}")]
+    TooManySlots(u32),
+    /// There was no memory.
+    #[error("no memory")]
+    NoMemory,
+}
+
+/// A script: its events in order.
+#[derive(Drop)]
+pub struct Script {
+    pub events: Vec<Event>,
+}
+
+/// Reads a script.
+///
+/// # Errors
+///
+/// `TooLong`: it has more than 1,048,576 bytes. Else the first line that is bad or asks for too many slots: `BadLine`,
+/// `TooManySlots`. `NoMemory`: there was no memory for its events.
+pub fn read(alloc: Global, bytes: &[u8]) -> Result<Script, ScriptFault>
+    ensures events { IfOk result (λ script. script_of bytes.now ≡ Ok script.events.items) }
+    ensures refused { IfErr result (Refuses bytes.now) }
+{
+    if bytes.len() > MAX_BYTES {
+        return Err(ScriptFault::TooLong);
+    }
+    let mut events = Vec::new(alloc);
+    let (mut line, mut slots, mut rest) = (0, 0, bytes);
+    'lines: while !rest.is_empty() {
+        let first = first_line(rest);
+        line += 1;
+        rest = first.rest;
+        let Some(command) = command_of_line(first.line) else {
+            return Err(ScriptFault::BadLine(line));
+        };
+        let more = slots_asked(&command);
+        if more > MAX_SLOTS - slots {
+            return Err(ScriptFault::TooManySlots(line));
+        }
+        slots += more;
+        if push(&mut events, &command).is_err() {
+            return Err(ScriptFault::NoMemory);
+        }
+    }
+    Ok(Script { events })
+}
+
+/// The number, from 1, of the first line that types a key which makes a signal. Such keys aren't built yet, and with them
+/// this call goes.
+pub fn signal_line(bytes: &[u8]) -> Option<u32>
+    requires { length bytes.now < 2 ^ 32 }
+    ensures line { result ≡ signal_line_of bytes.now }
+    ensures none { result ≡ None → (events : List Event) → script_of bytes.now ≡ Ok events → list_any is_signal events ≡ false }
+{
+    let (mut line, mut rest) = (0, bytes);
+    'lines: while !rest.is_empty() {
+        let first = first_line(rest);
+        line += 1;
+        rest = first.rest;
+        if types_signal(first.line) {
+            return Some(line);
+        }
+    }
+    None
+}
