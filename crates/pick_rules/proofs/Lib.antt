@@ -1,0 +1,3 @@
+pub mod RoundLemmas
+pub mod ChoiceLemmas
+pub mod Laws
