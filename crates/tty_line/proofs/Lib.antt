@@ -1,0 +1,4 @@
+pub mod OutputLemmas
+pub mod CanonicalLemmas
+pub mod InputLemmas
+pub mod HandingLemmas
