@@ -8,10 +8,11 @@ use Rattle.fs_codec.specs.Store.{node_numbered}
 use Rattle.open_files.specs.declared.file.OpenFile.{OpenFile}
 use Rattle.open_files.specs.declared.file.Closed.TheVariants.{Still, Last}
 use Rattle.open_files.specs.Files.{file_at, entry_of, times, free_number, changed, with_more, with_fewer, left}
+use Rattle.tty_line.specs.Terminal.{Terminal}
 use Rattle.sys_files.specs.Handed.{Handed, r0, file_of, with_number, let_go}
 use Rattle.sys_files.specs.Did.{need, fails}
 use Rattle.sys_files.specs.Sound.{is_of, numbers_of, IsSound, IsKept}
-use Rattle.sys_files.specs.Descriptors.{open_entry, dup_file, released, closes, close_file}
+use Rattle.sys_files.specs.Descriptors.{open_entry, dup_file, with_closed, released, closes, close_file}
 use Rattle.sys_files.proofs.NumberLemmas.{number_low, given_times, taken_times, numbers_change, open_given, open_taken, pipes_set}
 use Rattle.sys_files.proofs.CheckLemmas.{check_quiet, check_err}
 use Rattle.sys_files.proofs.OwedLemmas.{count_changed, counted, used_low, file_referred}
@@ -82,10 +83,10 @@ kept_still h fd entry file sound named is =
       no_pipe = pipes_set h.files entry (Some (with_fewer file)) sound.no_pipe (λ f same. subst (λ (x : OpenFile). x.kind.pipe ≡ false) (same_Some (with_fewer file) f same) (sound.no_pipe entry file is));
     }
 
--- The last number of a file is closed: its reference to the inode goes.
-kept_last : (h : Handed) (fd entry : ℕ) (file : OpenFile) → IsSound h → slice_index h.u.files fd ≡ entry + 1 → file_at h.files entry ≡ Some file → file.count ≡ 1
-    → IsKept h (let_go (record h { files = slice_set h.files entry None; u = with_number h.u fd 0 }) file.ino)
-kept_last h fd entry file sound named is last =
+-- The last number of a file is closed: its reference to the inode goes, and the line may be another.
+kept_last : (h : Handed) (fd entry : ℕ) (file : OpenFile) (line : Terminal) → IsSound h → slice_index h.u.files fd ≡ entry + 1 → file_at h.files entry ≡ Some file → file.count ≡ 1
+    → IsKept h (let_go (record h { files = slice_set h.files entry None; u = with_number h.u fd 0; line = line }) file.ino)
+kept_last h fd entry file line sound named is last =
     let here = used_low h.files entry file is in
     let count : numbers_of (file_at h.files entry) ≡ file.count = ap numbers_of is in
     let own = taken_times h.u.files fd entry entry named in
@@ -113,8 +114,11 @@ closes_kept h fd sound some = by (file.count == 1) refl
     file : OpenFile
     file = file_of h entry
 
+    dropped_so : Option OpenFile → Handed
+    dropped_so o = record h { files = slice_set h.files entry o; u = with_number h.u fd 0 }
+
     by : (t : Bool) → (file.count == 1) ≡ t → IsKept h (released (record h { files = slice_set h.files entry (left (cond t (Last (with_fewer file)) (Still (with_fewer file)))); u = with_number h.u fd 0 }) (cond t (Last (with_fewer file)) (Still (with_fewer file)))).state
-    by true last = kept_last h fd entry file sound (omega (arith, some)) (same_file h entry (sound.is_open fd some)) (eqb-true file.count 1 last)
+    by true last = kept_last h fd entry file (with_closed (dropped_so None) (with_fewer file)).line sound (omega (arith, some)) (same_file h entry (sound.is_open fd some)) (eqb-true file.count 1 last)
     by false still = kept_still h fd entry file sound (omega (arith, some)) (same_file h entry (sound.is_open fd some))
 
 -- A number that is not open is not closed.

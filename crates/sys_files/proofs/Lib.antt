@@ -17,7 +17,6 @@ pub mod RemovingLemmas
 pub mod PartLemmas
 pub mod LinksLemmas
 pub mod LinkingLemmas
-pub mod ConsoleLemmas
 pub mod OffsetLemmas
 pub mod SeekLemmas
 pub mod NamesLemmas
@@ -25,4 +24,6 @@ pub mod MakingLemmas
 pub mod MovingLemmas
 pub mod ReadLemmas
 pub mod WriteLemmas
+pub mod ShowingLemmas
+pub mod ModesLemmas
 pub mod CreatingLemmas

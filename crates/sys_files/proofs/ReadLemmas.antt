@@ -1,7 +1,8 @@
 -- What a read comes to, by its tests, and what it keeps.
-use Rattle.std.proofs.Common.{◌≡◌, ◌+◌, ◌%◌, ◌^◌, ℕ, Bool, true, false, [], Option, Some, None, Result, Ok, Err, if◌then◌else◌, refl, sym, ap, ◌∙◌, subst}
+use Rattle.std.proofs.Common.{◌≡◌, ◌+◌, ◌%◌, ◌^◌, ℕ, Bool, true, false, [], Option, Some, None, Result, Ok, Err, if◌then◌else◌, slice_index, refl, sym, ap, ◌∙◌, subst}
 use Rattle.v6_base.specs.Image.{Image}
-use Rattle.v6_base.specs.Trace.{Taken, Took}
+use Rattle.v6_base.specs.Trace as items
+use Rattle.v6_base.specs.Trace.{Taken}
 use Rattle.v6_base.specs.declared.errno.Errno.{Errno}
 use Rattle.v6_base.specs.declared.errno.Errno.TheVariants.{EBADF}
 use Rattle.v6_base.proofs.Took.{took_nothing}
@@ -10,7 +11,13 @@ use Rattle.fs_laws.specs.Pieces.{Moving}
 use Rattle.sys_files.specs.Handed.{Handed, r0, node_at, file_of, is_console}
 use Rattle.sys_files.specs.Did.{Did, fails, check, must}
 use Rattle.sys_files.specs.Descriptors.{open_entry}
-use Rattle.sys_files.specs.Moving.{gives_count, waits_for_keys, read_of, with_read, reads_from, read_file_of}
+use Rattle.u_area.specs.declared.area.UArea.{UArea}
+use Rattle.tty_line.specs.declared.line.Took.{Took}
+use Rattle.tty_line.specs.declared.line.Took.TheVariants.{Done, Wait, Fault}
+use Rattle.tty_line.specs.Terminal.{Terminal}
+use Rattle.tty_line.specs.Reading.{Reading, reads}
+use Rattle.sys_files.specs.Moving.{gives_count, read_of, with_read, line_read, with_line_read, takes_line, reads_line, reads_from, read_file_of}
+use Rattle.sys_files.specs.Moving.{without_pending, resume_read}
 use Rattle.sys_files.specs.Sound.{IsSound, IsKept}
 use Rattle.sys_files.proofs.KeptLemmas.{kept_same}
 use Rattle.sys_files.proofs.OffsetLemmas.{kept_moved}
@@ -24,10 +31,39 @@ pub gives_items : (h : Handed) (count : ℕ) (e : Option Errno) → (gives_count
 gives_items h count None = refl
 gives_items h count (Some e) = refl
 
+-- what a read of a line comes to, by what it took
+pub line_is : (h : Handed) (line : Terminal) (image : Image) (entry at count : ℕ) (took : Took) → h.line ≡ line → h.image ≡ image
+    → took ≡ (reads line image at count).took → takes_line (with_line_read h (reads line image at count)) entry at count took ≡ reads_line h entry at count
+line_is h line image entry at count took line_same image_same is =
+    ap (takes_line (with_line_read h (reads line image at count)) entry at count) is
+    ∙ ap (λ (r : Reading). takes_line (with_line_read h r) entry at count r.took)
+    (sym (ap (λ (l : Terminal). reads l h.image at count) line_same ∙ ap (λ (m : Image). reads line m at count) image_same))
+
+-- the parts after a read of a line
+pub line_parts : (h : Handed) (r : Reading) (line : Terminal) (image : Image) (u : UArea) → line ≡ r.terminal → image ≡ r.image → h.u ≡ u
+    → ◌≡◌ {A = Handed} (record h { line = line; u = u; image = image }) (with_line_read h r)
+line_parts h r line image u line_same image_same u_same =
+    ap (λ (l : Terminal). record h { line = l; u = u; image = image }) line_same
+    ∙ ap (λ (m : Image). record h { line = r.terminal; u = u; image = m }) image_same
+    ∙ ap (λ (v : UArea). record h { line = r.terminal; u = v; image = r.image }) (sym u_same)
+
+-- and where the process waits then
+pub line_waits : (h : Handed) (r : Reading) (line : Terminal) (image : Image) (u : UArea) (d : Did) → line ≡ r.terminal → image ≡ r.image
+    → ◌≡◌ {A = Handed} (record (with_line_read h r) { u = u }) d.state → ◌≡◌ {A = Handed} (record h { line = line; u = u; image = image }) d.state
+line_waits h r line image u d line_same image_same waits =
+    ap (λ (l : Terminal). record h { line = l; u = u; image = image }) line_same
+    ∙ ap (λ (m : Image). record h { line = r.terminal; u = u; image = m }) image_same ∙ waits
+
+-- A read of a line shows nothing.
+pub line_quiet : (h : Handed) (entry at count : ℕ) (took : Took) → (takes_line h entry at count took).items ≡ []
+line_quiet h entry at count (Done n) = refl
+line_quiet h entry at count Wait = refl
+line_quiet h entry at count Fault = refl
+
 abbrev read_as : Handed → ℕ → ℕ → ℕ → ℕ → Bool → Did
-read_as h entry at count now waits =
+read_as h entry at count now console =
     let m : Moving Image = read_of h entry at count now in
-    if waits then waits_for_keys (with_read h entry m) entry at count else gives_count (with_read h entry m) m.done m.error
+    if console then reads_line (with_read h entry m) entry at count else gives_count (with_read h entry m) m.done m.error
 
 abbrev read_if : Handed → ℕ → ℕ → ℕ → ℕ → Bool → Did
 read_if h entry at count now reading = check h (must EBADF reading) (λ may. reads_from h entry at count now)
@@ -35,9 +71,9 @@ read_if h entry at count now reading = check h (must EBADF reading) (λ may. rea
 abbrev read_found : Handed → ℕ → ℕ → ℕ → Result ℕ Errno → Did
 read_found h at count now found = check h found (λ entry. read_if h entry at count now (file_of h entry).kind.reading)
 
-pub read_waits : (h : Handed) (entry at count now : ℕ) (file : OpenFile) → file ≡ file_of h entry → true ≡ is_console (node_at h file.ino)
-    → waits_for_keys (with_read h entry (read_of h entry at count now)) entry at count ≡ reads_from h entry at count now
-read_waits h entry at count now file is console = ap (read_as h entry at count now) (console ∙ ap (λ (x : OpenFile). is_console (node_at h x.ino)) is)
+pub read_of_line : (h : Handed) (entry at count now : ℕ) (file : OpenFile) → file ≡ file_of h entry → true ≡ is_console (node_at h file.ino)
+    → reads_line (with_read h entry (read_of h entry at count now)) entry at count ≡ reads_from h entry at count now
+read_of_line h entry at count now file is console = ap (read_as h entry at count now) (console ∙ ap (λ (x : OpenFile). is_console (node_at h x.ino)) is)
 
 pub read_gives : (h : Handed) (entry at count now : ℕ) (file : OpenFile) → file ≡ file_of h entry → false ≡ is_console (node_at h file.ino)
     → gives_count (with_read h entry (read_of h entry at count now)) (read_of h entry at count now).done (read_of h entry at count now).error
@@ -60,10 +96,16 @@ read_done h at count now entry file found is reading =
 abbrev read_place : Handed → ℕ → ℕ → ℕ → ℕ → ℕ
 read_place h entry at count now = ((file_of h entry).offset + (read_of h entry at count now).done) % 2 ^ 32
 
-kept_as : (h : Handed) (entry at count now : ℕ) (waits : Bool) → IsSound h → IsKept h (read_as h entry at count now waits).state
+kept_took : (h : Handed) (entry at count now : ℕ) (r : Reading) (took : Took) → IsSound h
+    → IsKept h (takes_line (with_line_read (with_read h entry (read_of h entry at count now)) r) entry at count took).state
+kept_took h entry at count now r (Done n) sound = kept_moved h _ entry (read_place h entry at count now) sound refl refl refl refl refl
+kept_took h entry at count now r Wait sound = kept_moved h _ entry (read_place h entry at count now) sound refl refl refl refl refl
+kept_took h entry at count now r Fault sound = kept_moved h _ entry (read_place h entry at count now) sound refl refl refl refl refl
+
+kept_as : (h : Handed) (entry at count now : ℕ) (console : Bool) → IsSound h → IsKept h (read_as h entry at count now console).state
 kept_as h entry at count now true sound =
-    kept_moved h (waits_for_keys (with_read h entry (read_of h entry at count now)) entry at count).state entry (read_place h entry at count now) sound
-    refl refl refl refl refl
+    let r : Reading = line_read (with_read h entry (read_of h entry at count now)) at count in
+    kept_took h entry at count now r r.took sound
 kept_as h entry at count now false sound =
     let m : Moving Image = read_of h entry at count now in
     subst (IsKept h) (sym (gives_state (with_read h entry m) m.done m.error))
@@ -84,8 +126,10 @@ pub kept_by_read : (h new : Handed) (at count now : ℕ) → IsSound h → new �
 kept_by_read h new at count now sound is = subst (IsKept h) (sym is) (read_kept h at count now sound)
 
 -- A read shows nothing.
-none_as : (h : Handed) (entry at count now : ℕ) (waits : Bool) → (read_as h entry at count now waits).items ≡ []
-none_as h entry at count now true = refl
+none_as : (h : Handed) (entry at count now : ℕ) (console : Bool) → (read_as h entry at count now console).items ≡ []
+none_as h entry at count now true =
+    let r : Reading = line_read (with_read h entry (read_of h entry at count now)) at count in
+    line_quiet (with_line_read (with_read h entry (read_of h entry at count now)) r) entry at count r.took
 none_as h entry at count now false =
     let m : Moving Image = read_of h entry at count now in
     gives_items (with_read h entry m) m.done m.error
@@ -98,5 +142,23 @@ none_found : (h : Handed) (at count now : ℕ) (found : Result ℕ Errno) → (r
 none_found h at count now (Ok entry) = none_if h entry at count now (file_of h entry).kind.reading
 none_found h at count now (Err e) = refl
 
-pub took_by_read : (h : Handed) (at count now : ℕ) (t : Taken) → Took t (read_file_of h at count now).items t
+pub took_by_read : (h : Handed) (at count now : ℕ) (t : Taken) → items.Took t (read_file_of h at count now).items t
 took_by_read h at count now t = took_nothing t (read_file_of h at count now).items (none_found h at count now (open_entry h (r0 h)))
+
+-- A read that is taken up again keeps all that is counted, and shows nothing.
+resumed_took : (h : Handed) (r : Reading) (entry at count : ℕ) (took : Took) → IsSound h
+    → IsKept h (takes_line (with_line_read (without_pending h) r) entry at count took).state
+resumed_took h r entry at count (Done n) sound = kept_same h _ sound refl refl refl refl refl
+resumed_took h r entry at count Wait sound = kept_same h _ sound refl refl refl refl refl
+resumed_took h r entry at count Fault sound = kept_same h _ sound refl refl refl refl refl
+
+pub kept_by_resume : (h new : Handed) → IsSound h → new ≡ (resume_read h).state → IsKept h new
+kept_by_resume h new sound is =
+    let r : Reading = line_read (without_pending h) (slice_index h.u.call 1) (slice_index h.u.call 2) in
+    subst (IsKept h) (sym is) (resumed_took h r (slice_index h.u.call 0) (slice_index h.u.call 1) (slice_index h.u.call 2) r.took sound)
+
+pub took_by_resume : (h : Handed) (t : Taken) → items.Took t (resume_read h).items t
+took_by_resume h t =
+    let r : Reading = line_read (without_pending h) (slice_index h.u.call 1) (slice_index h.u.call 2) in
+    took_nothing t (resume_read h).items
+    (line_quiet (with_line_read (without_pending h) r) (slice_index h.u.call 0) (slice_index h.u.call 1) (slice_index h.u.call 2) r.took)

@@ -11,7 +11,7 @@ use Rattle.fs_tree.specs.Name.{readable}
 use Rattle.sys_files.specs.Handed.{Handed, r0, node_at, file_of, is_console}
 use Rattle.sys_files.specs.Did.{Did, fails, returns, check, must}
 use Rattle.sys_files.specs.Descriptors.{open_entry}
-use Rattle.sys_files.specs.Console.{shown_bytes, column_after_all}
+use Rattle.tty_line.specs.Output.{shows, after_shown}
 use Rattle.sys_files.specs.Moving.{with_moved, gives_count, write_of, shows_bytes, writes_to, write_file_of}
 use Rattle.sys_files.specs.Sound.{IsSound, IsKept}
 use Rattle.sys_files.proofs.KeptLemmas.{kept_same}
@@ -20,11 +20,11 @@ use Rattle.sys_files.proofs.ReadLemmas.{gives_state, gives_items}
 
 -- the parts after bytes were shown
 abbrev pub with_shown : Handed → List ℕ → Handed
-with_shown h bytes = record h { line = record { column = column_after_all h.line.column (shown_bytes h.line.column bytes) } }
+with_shown h bytes = record h { line = after_shown h.line bytes }
 
 abbrev shown_if : Handed → ℕ → List ℕ → Bool → Did
 shown_if h count bytes all =
-    record (if all then returns (with_shown h bytes) count else fails (with_shown h bytes) EFAULT) { items = sent 0 (shown_bytes h.line.column bytes) }
+    record (if all then returns (with_shown h bytes) count else fails (with_shown h bytes) EFAULT) { items = sent 0 (shows h.line bytes) }
 
 shown_by : (h : Handed) (count : ℕ) (bytes : List ℕ) (all : Bool) → (shown_if h count bytes all).state ≡ with_shown h bytes
 shown_by h count bytes true = refl
@@ -57,11 +57,11 @@ write_gives h entry at count now file is console = ap (write_as h entry at count
 
 -- what is shown of the same parts
 pub took_shown : (a b : Taken) (k h : Handed) (entry at count now : ℕ) (file : OpenFile) → file ≡ file_of h entry → true ≡ is_console (node_at h file.ino)
-    → k ≡ with_moved h entry (write_of h entry at count now) → Took a (sent 0 (shown_bytes k.line.column (readable h.image at count))) b
+    → k ≡ with_moved h entry (write_of h entry at count now) → Took a (sent 0 (shows k.line (readable h.image at count))) b
     → Took a (writes_to h entry at count now).items b
 took_shown a b k h entry at count now file is console parts took =
     subst (λ (items : List Item). Took a items b)
-    (ap (λ (j : Handed). sent 0 (shown_bytes j.line.column (readable h.image at count))) parts
+    (ap (λ (j : Handed). sent 0 (shows j.line (readable h.image at count))) parts
     ∙ ap (λ (d : Did). d.items) (write_shows h entry at count now file is console))
     took
 

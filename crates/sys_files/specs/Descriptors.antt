@@ -11,6 +11,7 @@ use Rattle.open_files.specs.declared.file.OpenFile.{OpenFile}
 use Rattle.open_files.specs.declared.file.Closed.{Closed}
 use Rattle.open_files.specs.declared.file.Closed.TheVariants.{Still, Last}
 use Rattle.open_files.specs.Files.{file_at, entry_of, free_number, with_more, with_change, closed, left}
+use Rattle.tty_line.specs.Terminal as terminal
 use Rattle.sys_files.specs.Handed.{Handed, r0, r1, node_at, file_of, is_console, with_number, let_go}
 use Rattle.sys_files.specs.Did.{Did, returns, check, need}
 
@@ -38,10 +39,16 @@ is_of_console h (Some file) = is_console (node_at h file.ino)
 abbrev pub is_console_open : Handed → Bool
 is_console_open h = list_any (is_of_console h) h.files
 
--- With the last of its files the console is closed: who waits for its keys is woken.
+-- With the last of its files the console is closed, and what was typed is lost: who waits for its keys is woken.
+abbrev pub is_closed_by : Handed → OpenFile → Bool
+is_closed_by h file = is_console (node_at h file.ino) && not (is_console_open h)
+
+abbrev pub with_closed : Handed → OpenFile → Handed
+with_closed h file = record h { line = if is_closed_by h file then terminal.closed h.line else h.line }
+
 abbrev pub console_closed : Handed → OpenFile → List Item
 console_closed h file =
-    if is_console (node_at h file.ino) && not (is_console_open h) then Log (Wake Keys) ∷ [] else []
+    if is_closed_by h file then Log (Wake Keys) ∷ [] else []
 
 -- What closing comes to: it always goes on.
 pub record Closing : Type 0 where
@@ -51,7 +58,7 @@ pub record Closing : Type 0 where
 -- The entry is free with its last number: then the console is closed, and the reference to the inode goes.
 abbrev pub released : Handed → Closed → Closing
 released h (Still file) = record { state = h; items = [] }
-released h (Last file) = record { state = let_go h file.ino; items = console_closed h file }
+released h (Last file) = record { state = let_go (with_closed h file) file.ino; items = console_closed h file }
 
 -- what is told of the file that a number lets go
 abbrev pub told_by : Handed → ℕ → Closed

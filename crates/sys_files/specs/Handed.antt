@@ -10,13 +10,13 @@ use Rattle.open_files.specs.declared.file.OpenFile.{OpenFile}
 use Rattle.open_files.specs.Files.{file_at}
 use Rattle.fs_tree.specs.declared.user.User.{User}
 use Rattle.fs_tree.specs.Finding.{Inodes, inodes_of, put_back}
-use Rattle.sys_files.specs.declared.line.Line.{Line}
+use Rattle.tty_line.specs.Terminal.{Terminal}
 use Rattle.sys_files.specs.declared.files.Files.{Files}
 
 pub record Handed : Type 0 where
   pub inodes : Inodes  -- the store, and how often its inodes are referred to
   pub files : List (Option OpenFile)  -- the table of open files
-  pub line : Line  -- the console
+  pub line : Terminal  -- the console
   pub u : UArea  -- of the process that calls
   pub row : Row
   pub image : Image

@@ -1,10 +1,10 @@
 pub mod Handed
 pub mod Did
-pub mod Console
 pub mod Descriptors
 pub mod Opening
 pub mod Making
 pub mod Moving
+pub mod Modes
 pub mod Status
 pub mod Names
 pub mod Sound

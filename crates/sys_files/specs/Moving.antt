@@ -1,5 +1,5 @@
 -- Bytes are read and written: read(II), write(II), seek(II); Lions' Commentary, `rdwr` and `seek` in `sys2.c`.
-use Rattle.std.specs.Prelude.{◌≡◌, ◌<◌, pos, ℕ, not, ◌+◌, ◌-◌, ◌*◌, ◌%◌, ◌^◌, ◌==◌, nat_le, if◌then◌else◌, List, [], ◌∷◌, length, min, slice_index, Option, Some, None}
+use Rattle.std.specs.Prelude.{◌≡◌, ◌<◌, pos, ℕ, not, ◌+◌, ◌-◌, ◌*◌, ◌%◌, ◌^◌, ◌==◌, nat_le, if◌then◌else◌, List, [], ◌∷◌, length, min, replicate, slice_index, Option, Some, None}
 use Rattle.v6_base.specs.Image.{Image}
 use Rattle.v6_base.specs.Trace.{sent}
 use Rattle.v6_base.specs.declared.answer.Answer.TheVariants.{Sleep}
@@ -14,11 +14,14 @@ use Rattle.fs_nodes.specs.Copy.{put_into, get_from}
 use Rattle.fs_tree.specs.Name.{readable}
 use Rattle.open_files.specs.declared.file.OpenFile.{OpenFile}
 use Rattle.open_files.specs.Files.{file_at, with_change, with_offset}
+use Rattle.tty_line.specs.declared.line.Took.{Took}
+use Rattle.tty_line.specs.declared.line.Took.TheVariants.{Done, Wait, Fault}
+use Rattle.tty_line.specs.Output.{shows, after_shown}
+use Rattle.tty_line.specs.Reading.{Reading, reads}
 use Rattle.sys_files.specs.declared.files.Files.{Files}
 use Rattle.sys_files.specs.Handed.{Handed, r0, node_at, file_of, is_console, with_store}
 use Rattle.sys_files.specs.Did.{Did, fails, returns, is_done, check, must}
 use Rattle.sys_files.specs.Descriptors.{open_entry}
-use Rattle.sys_files.specs.Console.{shown_bytes, column_after_all}
 
 -- An entry is in use: this is its file, whose inode is referred to.
 pub record IsFileOf (f : Files) (entry : ℕ) (file : OpenFile) : Type 0 where
@@ -55,12 +58,29 @@ read_of h entry at count now =
 abbrev pub with_read : Handed → ℕ → Moving Image → Handed
 with_read h entry m = record (with_moved h entry m) { image = m.memory }
 
--- A read of the console waits: no keys are typed yet. The null device has no bytes.
+-- What a read of the console comes to: bytes of a line, or the process waits until one has been typed.
+abbrev pub line_read : Handed → ℕ → ℕ → Reading
+line_read h at count = reads h.line h.image at count
+
+abbrev pub with_line_read : Handed → Reading → Handed
+with_line_read h reading = record h { line = reading.terminal; image = reading.image }
+
+abbrev pub takes_line : Handed → ℕ → ℕ → ℕ → Took → Did
+takes_line h entry at count (Done n) = returns h n
+takes_line h entry at count Wait = waits_for_keys h entry at count
+takes_line h entry at count Fault = fails h EFAULT
+
+abbrev pub reads_line : Handed → ℕ → ℕ → ℕ → Did
+reads_line h entry at count =
+    let reading : Reading = line_read h at count in
+    takes_line (with_line_read h reading) entry at count reading.took
+
+-- A read of the console also sets the time of its inode. The null device has no bytes.
 abbrev pub reads_from : Handed → ℕ → ℕ → ℕ → ℕ → Did
 reads_from h entry at count now =
     let m : Moving Image = read_of h entry at count now in
     let after : Handed = with_read h entry m in
-    if is_console (node_at h (file_of h entry).ino) then waits_for_keys after entry at count
+    if is_console (node_at h (file_of h entry).ino) then reads_line after entry at count
     else gives_count after m.done m.error
 
 -- 3, read: of the number in R0, of a buffer's address and a number of bytes. R0 takes the number of bytes read.
@@ -70,12 +90,20 @@ read_file_of h at count now =
     check h (must EBADF (file_of h entry).kind.reading) (λ may.
     reads_from h entry at count now))
 
+-- A process that waited for keys goes on with its read, of the entry, address and count that were kept. It may have to wait
+-- again.
+abbrev pub without_pending : Handed → Handed
+without_pending h = record h { u = record h.u { pending = 0; call = replicate 8 0 } }
+
+abbrev pub resume_read : Handed → Did
+resume_read h =
+    reads_line (without_pending h) (slice_index h.u.call 0) (slice_index h.u.call 1) (slice_index h.u.call 2)
+
 -- What is written to the console is shown byte by byte, up to the first that cannot be read.
 abbrev pub shows_bytes : Handed → ℕ → List ℕ → Did
 shows_bytes h count bytes =
-    let shown : List ℕ = shown_bytes h.line.column bytes in
-    let after : Handed = record h { line = record { column = column_after_all h.line.column shown } } in
-    record (if length bytes == count then returns after count else fails after EFAULT) { items = sent 0 shown }
+    let after : Handed = record h { line = after_shown h.line bytes } in
+    record (if length bytes == count then returns after count else fails after EFAULT) { items = sent 0 (shows h.line bytes) }
 
 -- what a write of an entry comes to
 abbrev pub write_of : Handed → ℕ → ℕ → ℕ → ℕ → Moving (Unit {0})

@@ -11,6 +11,8 @@ use Rattle.fs_tree.specs.declared.user.User.{User}
 use Rattle.fs_tree.specs.declared.user.Want.TheVariants.{Read, Write}
 use Rattle.fs_tree.specs.Permission.{permission}
 use Rattle.fs_tree.specs.Finding.{with_reference}
+use Rattle.tty_line.specs.Terminal as terminal
+use Rattle.tty_line.specs.Terminal.{Terminal}
 use Rattle.sys_files.specs.Handed.{Handed, node_at, user_of, is_console, is_null, with_number}
 use Rattle.sys_files.specs.Did.{Did, returns, check, must, need, finds}
 
@@ -49,12 +51,17 @@ can_open node = not (is_device node.mode) || is_console node || is_null node
 abbrev pub with_terminal : Row → Node → Row
 with_terminal row node = if is_console node && (row.tty == 0) then record row { tty = 1 } else row
 
+-- The console is opened with the first of its files.
+abbrev pub with_console : Terminal → Node → Terminal
+with_console line node = if is_console node then terminal.opened line else line
+
 abbrev pub with_opened : Handed → ℕ → FileKind → ℕ → ℕ → Handed
 with_opened h ino kind fd entry = record h {
   inodes = with_reference h.inodes ino;
   files = slice_set h.files entry (Some (opened ino kind));
   u = with_number h.u fd (entry + 1);
   row = with_terminal h.row (node_at h ino);
+  line = with_console h.line (node_at h ino);
 }
 
 -- The opening itself: a number, an entry, and then the device. R0 takes the number.

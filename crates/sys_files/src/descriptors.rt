@@ -11,7 +11,7 @@ ghost use Rattle.open_files.specs.declared.file.Closed.{Closed};
 ghost use Rattle.open_files.specs.Files.{file_at, AreOpen, HaveRoom};
 ghost use Rattle.sys_files.specs.Handed.{handed, file_of, node_at, is_console};
 ghost use Rattle.sys_files.specs.Sound.{IsSound, IsKept};
-ghost use Rattle.sys_files.specs.Descriptors.{open_entry, dup_file, is_of_console, is_console_open, console_closed, released, told_by, dropped, then_closes, close_file, close_all, AreReferred};
+ghost use Rattle.sys_files.specs.Descriptors.{open_entry, dup_file, is_of_console, is_console_open, with_closed, console_closed, released, told_by, dropped, then_closes, close_file, close_all, AreReferred};
 
 use crate::devices::is_console_at;
 use crate::files::Files;
@@ -130,15 +130,19 @@ fn is_console_closed(f: &Files, ino: u16) -> bool
     is_console_at(&f.tree.nodes, ino) && !is_console_open(f)
 }
 
-/// Closes the console with the last of its files: who waits for its keys is woken.
-fn close_console<T: Trace>(f: &Files, file: OpenFile, trace: &mut T)
-    requires referenced { 0 < slice_index f.now.tree.nodes.references file.ino }
-    requires others { AreReferred f.now.table f.now.tree.nodes.references }
+/// Closes the console with the last of its files. What was typed is lost, and who waits for its keys is woken.
+fn close_console<T: Trace>(f: &mut Files, file: OpenFile, trace: &mut T)
+    requires referenced { 0 < slice_index f.old.tree.nodes.references file.ino }
+    requires others { AreReferred f.old.table f.old.tree.nodes.references }
+    ensures state { (u : UArea) (row : Row) (image : Image)
+        → handed f.new u row image ≡ with_closed (handed f.old u row image) file }
+    ensures tree { f.new.tree ≡ f.old.tree }
     ensures items { (u : UArea) (row : Row) (image : Image)
-        → Took (T.taken trace.old) (console_closed (handed f.now u row image) file) (T.taken trace.new) }
+        → Took (T.taken trace.old) (console_closed (handed f.old u row image) file) (T.taken trace.new) }
     ensures frame { T.leads_to trace.old trace.new }
 {
     if is_console_closed(f, file.ino) {
+        f.line.closed();
         trace.entry(Entry::Wake(Chan::Keys));
     }
 }

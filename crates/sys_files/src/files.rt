@@ -1,7 +1,7 @@
 //! What the calls on files share.
-use crate::line::Line;
 use fs_tree::Tree;
 use open_files::OpenTable;
+use tty_line::Line;
 
 /// The tree of names, the table of open files and the console.
 #[derive(Drop)]

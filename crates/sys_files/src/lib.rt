@@ -1,7 +1,6 @@
 //! The calls of section II on files.
 #![tactic(auto)]
 
-mod answering;
 mod answers;
 mod creating;
 mod descriptors;
@@ -9,9 +8,9 @@ mod devices;
 mod entering;
 mod files;
 mod inodes;
-mod line;
 mod linking;
 mod making;
+mod modes;
 mod moving;
 mod names;
 mod naming;
@@ -21,10 +20,10 @@ mod status;
 pub use crate::creating::creat_file;
 pub use crate::descriptors::{close_all, close_file, dup_file};
 pub use crate::files::Files;
-pub use crate::line::Line;
 pub use crate::linking::{link_file, unlink_file};
 pub use crate::making::mknod_at;
-pub use crate::moving::{read_file, seek_to, write_file};
+pub use crate::modes::{gtty_get, stty_set};
+pub use crate::moving::{read_file, resume_file, seek_to, write_file};
 pub use crate::names::{chdir_to, chmod_to, chown_to, sync_all};
 pub use crate::opening::open_file;
 pub use crate::status::{stat_file, stat_open};

@@ -10,7 +10,7 @@ ghost use Rattle.sys_files.specs.Sound.{IsSound, IsKept};
 ghost use Rattle.sys_files.specs.Making.{may_link, enters_again, links_to, link_file, empties, unlink_file};
 ghost use Rattle.sys_files.specs.Entering.{HasEntry, SameReferences, did_of};
 
-use crate::answering::answer_of;
+use crate::answers::answer_of;
 use crate::entering::{Room, empty, enter, find_room, find_to_remove, links_of, set_links};
 use crate::files::Files;
 use crate::inodes::{inode_of, let_go};
@@ -57,7 +57,7 @@ fn enter_again(f: &mut Files, u: &UArea, room: Room, ino: u16, now: u32) -> Resu
     Ok(())
 }
 
-/// OneReferenceLess a file that was found another name.
+/// Gives a file that was found another name.
 fn link_to<S: Space>(
     f: &mut Files,
     u: &UArea,
@@ -86,7 +86,7 @@ fn link_to<S: Space>(
     result
 }
 
-/// OneReferenceLess the file of a name another name.
+/// Gives the file of a name another name.
 fn link<S: Space>(
     f: &mut Files,
     u: &UArea,

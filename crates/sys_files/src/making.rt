@@ -11,7 +11,7 @@ ghost use Rattle.sys_files.specs.Did.{is_done};
 ghost use Rattle.sys_files.specs.Making.{device_in, with_device, enters_new, makes_any, mknod_at};
 ghost use Rattle.sys_files.specs.Entering.{HasEntry, SameReferences, did_of};
 
-use crate::answering::answer_of;
+use crate::answers::answer_of;
 use crate::entering::{Room, enter_new, find_room, make_inode};
 use crate::files::Files;
 use crate::inodes::{inode_of, let_go, see};

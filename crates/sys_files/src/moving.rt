@@ -1,5 +1,5 @@
 //! Bytes are read and written: `rdwr` and `seek` in Lions' Commentary, `sys2.c`.
-ghost use Rattle.std.specs.Prelude.{◌≡◌, ◌<◌, ◌≤◌, ◌+◌, ◌%◌, ◌^◌, IsSome, if◌then◌else◌, slice_index};
+ghost use Rattle.std.specs.Prelude.{◌≡◌, ◌<◌, ◌≤◌, ◌+◌, ◌%◌, ◌^◌, IsSome, ◌==◌, length, if◌then◌else◌, slice_index};
 ghost use Rattle.v6_base.specs.Trace.{Took, sent};
 ghost use Rattle.proc_tab.specs.declared.row.Row.{Row};
 ghost use Rattle.u_area.specs.declared.area.UArea.{UArea};
@@ -8,8 +8,8 @@ ghost use Rattle.fs_codec.specs.Modes.{is_device};
 ghost use Rattle.fs_nodes.specs.FileSystem.{SameRest};
 ghost use Rattle.fs_tree.specs.Name.{readable};
 ghost use Rattle.sys_files.specs.Handed.{Handed, handed, node_in};
-ghost use Rattle.sys_files.specs.Console.{shown_bytes};
-ghost use Rattle.sys_files.specs.Moving.{IsFileOf, with_moved, gives_count, waits_for_keys, read_of, with_read, reads_from, read_file_of};
+ghost use Rattle.tty_line.specs.Output.{shows, after_shown};
+ghost use Rattle.sys_files.specs.Moving.{IsFileOf, with_moved, gives_count, waits_for_keys, read_of, with_read, reads_from, reads_line, resume_read, read_file_of};
 ghost use Rattle.sys_files.specs.Moving.{write_of, shows_bytes, writes_to, write_file_of};
 ghost use Rattle.sys_files.specs.Moving.{extended, seek_mode, seek_base, seek_move, sought, seek_to};
 ghost use Rattle.sys_files.specs.Sound.{IsSound, IsKept};
@@ -18,11 +18,11 @@ use crate::descriptors::{file_of, open_entry};
 use crate::devices::is_console_at;
 use crate::files::Files;
 use crate::inodes::see;
-use crate::line::Line;
 use fs_codec::is_device;
 use fs_nodes::{Moved, Nodes};
 use open_files::{OpenFile, OpenTable};
 use proc_tab::Row;
+use tty_line::Line;
 use u_area::UArea;
 use v6_base::{Answer, Chan, Errno, Slot, Space, Trace};
 
@@ -54,15 +54,37 @@ fn give_count(u: &UArea, count: u16, error: Option<Errno>) -> Answer
 }
 
 /// Lets the process wait for keys, with what it needs to go on.
-fn wait_for_keys(u: &mut UArea, entry: u8, at: u16, count: u16) -> Answer
+fn wait_for_keys(u: &mut UArea, entry: u16, at: u16, count: u16) -> Answer
     ensures answer { (h : Handed) → h.u ≡ u.old → result ≡ (waits_for_keys h entry at count).answer }
     ensures state { (h : Handed) → h.u ≡ u.old → record h { u = u.new } ≡ (waits_for_keys h entry at count).state }
 {
     u.pending = CONSOLE_READ;
-    u.call = [u16::from(entry), at, count, 0, 0, 0, 0, 0];
+    u.call = [entry, at, count, 0, 0, 0, 0, 0];
     Answer::Sleep {
         pri: TTIPRI,
         chan: Chan::Keys,
+    }
+}
+
+/// Reads bytes of a line that was typed, or waits for keys.
+fn read_line<S: Space>(
+    line: &mut Line,
+    entry: u16,
+    u: &mut UArea,
+    space: &mut S,
+    at: u16,
+    count: u16,
+) -> Answer
+    ensures answer { (h : Handed) → h.line ≡ line.old → h.u ≡ u.old → h.image ≡ S.image space.old
+        → result ≡ (reads_line h entry at count).answer }
+    ensures state { (h : Handed) → h.line ≡ line.old → h.u ≡ u.old → h.image ≡ S.image space.old
+        → record h { line = line.new; u = u.new; image = S.image space.new } ≡ (reads_line h entry at count).state }
+    ensures memory { S.rest space.new ≡ S.rest space.old }
+{
+    match line.read(space, at, count) {
+        tty_line::Took::Done(n) => Answer::Ret { r0: n, r1: u.r[1] },
+        tty_line::Took::Wait => wait_for_keys(u, entry, at, count),
+        tty_line::Took::Fault => Answer::Fail(Errno::EFAULT),
     }
 }
 
@@ -77,22 +99,26 @@ fn read_bytes<S: Space>(
     now: u32,
 ) -> Moved
     requires file { IsFileOf f.old entry file.now }
-    ensures done { (u : UArea) (row : Row) → result.done ≡ (read_of (handed f.old u row (S.image space.old)) entry at count now).done }
-    ensures error { (u : UArea) (row : Row) → result.error ≡ (read_of (handed f.old u row (S.image space.old)) entry at count now).error }
-    ensures state { (u : UArea) (row : Row) → handed f.new u row (S.image space.new) ≡ with_read (handed f.old u row (S.image space.old)) entry (read_of (handed f.old u row (S.image space.old)) entry at count now) }
+    ensures done { (u : UArea) (row : Row) → result.done
+        ≡ (read_of (handed f.old u row (S.image space.old)) entry at count now).done }
+    ensures error { (u : UArea) (row : Row) → result.error
+        ≡ (read_of (handed f.old u row (S.image space.old)) entry at count now).error }
+    ensures state { (u : UArea) (row : Row) → handed f.new u row (S.image space.new)
+        ≡ with_read (handed f.old u row (S.image space.old)) entry (read_of (handed f.old u row
+        (S.image space.old)) entry at count now) }
     ensures memory { S.rest space.new ≡ S.rest space.old }
     ensures blocks { SameRest f.old.tree.nodes.blocks f.new.tree.nodes.blocks }
 {
     see(&f.tree.nodes);
-    let moved = f
+    let read = f
         .tree
         .nodes
         .read_at(file.ino, file.offset, space, at, count, now);
-    move_on(&mut f.table, entry, file, moved.done);
-    moved
+    move_on(&mut f.table, entry, file, read.done);
+    read
 }
 
-/// Reads from an open file, or waits for keys.
+/// Reads from an open file, or a line of the console.
 fn read_from<S: Space>(
     f: &mut Files,
     entry: u8,
@@ -104,15 +130,17 @@ fn read_from<S: Space>(
     now: u32,
 ) -> Answer
     requires file { IsFileOf f.old entry file.now }
-    ensures answer { (row : Row) → result ≡ (reads_from (handed f.old u.old row (S.image space.old)) entry at count now).answer }
-    ensures state { (row : Row) → handed f.new u.new row (S.image space.new) ≡ (reads_from (handed f.old u.old row (S.image space.old)) entry at count now).state }
+    ensures answer { (row : Row) → result
+        ≡ (reads_from (handed f.old u.old row (S.image space.old)) entry at count now).answer }
+    ensures state { (row : Row) → handed f.new u.new row (S.image space.new)
+        ≡ (reads_from (handed f.old u.old row (S.image space.old)) entry at count now).state }
     ensures memory { S.rest space.new ≡ S.rest space.old }
     ensures blocks { SameRest f.old.tree.nodes.blocks f.new.tree.nodes.blocks }
 {
-    let waits = is_console_at(&f.tree.nodes, file.ino);
+    let console = is_console_at(&f.tree.nodes, file.ino);
     let moved = read_bytes(f, entry, file, space, at, count, now);
-    if waits {
-        wait_for_keys(u, entry, at, count)
+    if console {
+        read_line(&mut f.line, u16::from(entry), u, space, at, count)
     } else {
         give_count(u, moved.done, moved.error)
     }
@@ -138,10 +166,16 @@ pub fn read_file<S: Space, T: Trace>(
     trace: &mut T,
 ) -> Answer
     requires sound { IsSound (handed f.old u.old row.old (S.image space.old)) }
-    ensures answer { result ≡ (read_file_of (handed f.old u.old row.old (S.image space.old)) (slice_index args 0) (slice_index args 1) now).answer }
-    ensures state { handed f.new u.new row.new (S.image space.new) ≡ (read_file_of (handed f.old u.old row.old (S.image space.old)) (slice_index args 0) (slice_index args 1) now).state }
-    ensures items { Took (T.taken trace.old) (read_file_of (handed f.old u.old row.old (S.image space.old)) (slice_index args 0) (slice_index args 1) now).items (T.taken trace.new) }
-    ensures kept { IsKept (handed f.old u.old row.old (S.image space.old)) (handed f.new u.new row.new (S.image space.new)) }
+    ensures answer { result
+        ≡ (read_file_of (handed f.old u.old row.old (S.image space.old)) (slice_index args 0)
+        (slice_index args 1) now).answer }
+    ensures state { handed f.new u.new row.new (S.image space.new)
+        ≡ (read_file_of (handed f.old u.old row.old (S.image space.old)) (slice_index args 0)
+        (slice_index args 1) now).state }
+    ensures items { Took (T.taken trace.old) (read_file_of (handed f.old u.old row.old (S.image space.old))
+        (slice_index args 0) (slice_index args 1) now).items (T.taken trace.new) }
+    ensures kept { IsKept (handed f.old u.old row.old (S.image space.old)) (handed f.new u.new row.new
+        (S.image space.new)) }
     ensures frame { T.leads_to trace.old trace.new }
     ensures memory { S.rest space.new ≡ S.rest space.old }
     ensures blocks { SameRest f.old.tree.nodes.blocks f.new.tree.nodes.blocks }
@@ -155,6 +189,39 @@ pub fn read_file<S: Space, T: Trace>(
         return Answer::Fail(Errno::EBADF);
     }
     read_from(f, entry, &file, u, space, args[0], args[1], now)
+}
+
+/// Takes up a read of the console again that waited for keys, as the per-process area keeps it. It may wait again.
+///
+/// # Errors
+///
+/// `EFAULT`: an address of the buffer cannot be written. The byte for it is lost, and those before it were written.
+pub fn resume_file<S: Space, T: Trace>(
+    f: &mut Files,
+    _slot: Slot,
+    u: &mut UArea,
+    row: &mut Row,
+    space: &mut S,
+    _now: u32,
+    trace: &mut T,
+) -> Answer
+    requires sound { IsSound (handed f.old u.old row.old (S.image space.old)) }
+    requires pending { u.old.pending ≡ 1 }
+    ensures answer { result ≡ (resume_read (handed f.old u.old row.old (S.image space.old))).answer }
+    ensures state { handed f.new u.new row.new (S.image space.new)
+        ≡ (resume_read (handed f.old u.old row.old (S.image space.old))).state }
+    ensures items { Took (T.taken trace.old) (resume_read (handed f.old u.old row.old (S.image space.old))).items
+        (T.taken trace.new) }
+    ensures kept { IsKept (handed f.old u.old row.old (S.image space.old)) (handed f.new u.new row.new
+        (S.image space.new)) }
+    ensures frame { T.leads_to trace.old trace.new }
+    ensures memory { S.rest space.new ≡ S.rest space.old }
+    ensures blocks { SameRest f.old.tree.nodes.blocks f.new.tree.nodes.blocks }
+{
+    let call = u.call;
+    u.pending = 0;
+    u.call = [0; 8];
+    read_line(&mut f.line, call[0], u, space, call[1], call[2])
 }
 
 /// Whether the inode of a number, which is referred to, is a device's.
@@ -172,6 +239,30 @@ fn taken(device: bool, count: u16, done: u16) -> u16
     if device { count } else { done }
 }
 
+/// Shows bytes of a memory, so many from an address on, one after another, up to the first that cannot be read. The answer
+/// says whether all could be. Addresses wrap round.
+fn show_all<S: Space, T: Trace>(
+    line: &mut Line,
+    space: &S,
+    at: u16,
+    count: u16,
+    trace: &mut T,
+) -> bool
+    ensures all { result ≡ (length (readable (S.image space.now) at count) == count) }
+    ensures line { line.new ≡ after_shown line.old (readable (S.image space.now) at count) }
+    ensures items { Took (T.taken trace.old) (sent 0 (shows line.old (readable (S.image space.now) at count)))
+        (T.taken trace.new) }
+    ensures frame { T.leads_to trace.old trace.new }
+{
+    for i in 0..count {
+        match space.load_byte(at.wrapping_add(i)) {
+            Ok(byte) => line.write(&[byte], trace),
+            Err(_) => return false,
+        }
+    }
+    true
+}
+
 /// Shows bytes of a memory on the console.
 fn show_bytes<S: Space, T: Trace>(
     line: &mut Line,
@@ -181,12 +272,15 @@ fn show_bytes<S: Space, T: Trace>(
     count: u16,
     trace: &mut T,
 ) -> Answer
-    ensures answer { (h : Handed) → h.u ≡ u.now → result ≡ (shows_bytes h count (readable (S.image space.now) at count)).answer }
-    ensures state { (h : Handed) → h.line ≡ line.old → record h { line = line.new } ≡ (shows_bytes h count (readable (S.image space.now) at count)).state }
-    ensures items { Took (T.taken trace.old) (sent 0 (shown_bytes line.old.column (readable (S.image space.now) at count))) (T.taken trace.new) }
+    ensures answer { (h : Handed) → h.u ≡ u.now → result
+        ≡ (shows_bytes h count (readable (S.image space.now) at count)).answer }
+    ensures state { (h : Handed) → h.line ≡ line.old → record h { line = line.new }
+        ≡ (shows_bytes h count (readable (S.image space.now) at count)).state }
+    ensures items { Took (T.taken trace.old) (sent 0 (shows line.old (readable (S.image space.now) at count)))
+        (T.taken trace.new) }
     ensures frame { T.leads_to trace.old trace.new }
 {
-    if line.show(space, at, count, trace) {
+    if show_all(line, space, at, count, trace) {
         Answer::Ret {
             r0: count,
             r1: u.r[1],
@@ -207,9 +301,13 @@ fn write_bytes<S: Space>(
     now: u32,
 ) -> Moved
     requires file { IsFileOf f.old entry file.now }
-    ensures done { (u : UArea) (row : Row) → result.done ≡ (write_of (handed f.old u row (S.image space.now)) entry at count now).done }
-    ensures error { (u : UArea) (row : Row) → result.error ≡ (write_of (handed f.old u row (S.image space.now)) entry at count now).error }
-    ensures state { (u : UArea) (row : Row) → handed f.new u row (S.image space.now) ≡ with_moved (handed f.old u row (S.image space.now)) entry (write_of (handed f.old u row (S.image space.now)) entry at count now) }
+    ensures done { (u : UArea) (row : Row) → result.done
+        ≡ (write_of (handed f.old u row (S.image space.now)) entry at count now).done }
+    ensures error { (u : UArea) (row : Row) → result.error
+        ≡ (write_of (handed f.old u row (S.image space.now)) entry at count now).error }
+    ensures state { (u : UArea) (row : Row) → handed f.new u row (S.image space.now)
+        ≡ with_moved (handed f.old u row (S.image space.now)) entry (write_of (handed f.old u row
+        (S.image space.now)) entry at count now) }
     ensures blocks { SameRest f.old.tree.nodes.blocks f.new.tree.nodes.blocks }
 {
     see(&f.tree.nodes);
@@ -234,9 +332,13 @@ fn write_to<S: Space, T: Trace>(
     trace: &mut T,
 ) -> Answer
     requires file { IsFileOf f.old entry file.now }
-    ensures answer { (row : Row) → result ≡ (writes_to (handed f.old u.now row (S.image space.now)) entry at count now).answer }
-    ensures state { (row : Row) → handed f.new u.now row (S.image space.now) ≡ (writes_to (handed f.old u.now row (S.image space.now)) entry at count now).state }
-    ensures items { (row : Row) → Took (T.taken trace.old) (writes_to (handed f.old u.now row (S.image space.now)) entry at count now).items (T.taken trace.new) }
+    ensures answer { (row : Row) → result
+        ≡ (writes_to (handed f.old u.now row (S.image space.now)) entry at count now).answer }
+    ensures state { (row : Row) → handed f.new u.now row (S.image space.now)
+        ≡ (writes_to (handed f.old u.now row (S.image space.now)) entry at count now).state }
+    ensures items { (row : Row)
+        → Took (T.taken trace.old) (writes_to (handed f.old u.now row (S.image space.now)) entry at count now).items
+        (T.taken trace.new) }
     ensures frame { T.leads_to trace.old trace.new }
     ensures blocks { SameRest f.old.tree.nodes.blocks f.new.tree.nodes.blocks }
 {
@@ -272,10 +374,16 @@ pub fn write_file<S: Space, T: Trace>(
     trace: &mut T,
 ) -> Answer
     requires sound { IsSound (handed f.old u.old row.old (S.image space.old)) }
-    ensures answer { result ≡ (write_file_of (handed f.old u.old row.old (S.image space.old)) (slice_index args 0) (slice_index args 1) now).answer }
-    ensures state { handed f.new u.new row.new (S.image space.new) ≡ (write_file_of (handed f.old u.old row.old (S.image space.old)) (slice_index args 0) (slice_index args 1) now).state }
-    ensures items { Took (T.taken trace.old) (write_file_of (handed f.old u.old row.old (S.image space.old)) (slice_index args 0) (slice_index args 1) now).items (T.taken trace.new) }
-    ensures kept { IsKept (handed f.old u.old row.old (S.image space.old)) (handed f.new u.new row.new (S.image space.new)) }
+    ensures answer { result
+        ≡ (write_file_of (handed f.old u.old row.old (S.image space.old)) (slice_index args 0)
+        (slice_index args 1) now).answer }
+    ensures state { handed f.new u.new row.new (S.image space.new)
+        ≡ (write_file_of (handed f.old u.old row.old (S.image space.old)) (slice_index args 0)
+        (slice_index args 1) now).state }
+    ensures items { Took (T.taken trace.old) (write_file_of (handed f.old u.old row.old (S.image space.old))
+        (slice_index args 0) (slice_index args 1) now).items (T.taken trace.new) }
+    ensures kept { IsKept (handed f.old u.old row.old (S.image space.old)) (handed f.new u.new row.new
+        (S.image space.new)) }
     ensures frame { T.leads_to trace.old trace.new }
     ensures memory { S.rest space.new ≡ S.rest space.old }
     ensures blocks { SameRest f.old.tree.nodes.blocks f.new.tree.nodes.blocks }
@@ -364,10 +472,14 @@ pub fn seek_to<S: Space, T: Trace>(
     trace: &mut T,
 ) -> Answer
     requires sound { IsSound (handed f.old u.old row.old (S.image space.old)) }
-    ensures answer { result ≡ (seek_to (handed f.old u.old row.old (S.image space.old)) (slice_index args 0) (slice_index args 1)).answer }
-    ensures state { handed f.new u.new row.new (S.image space.new) ≡ (seek_to (handed f.old u.old row.old (S.image space.old)) (slice_index args 0) (slice_index args 1)).state }
-    ensures items { Took (T.taken trace.old) (seek_to (handed f.old u.old row.old (S.image space.old)) (slice_index args 0) (slice_index args 1)).items (T.taken trace.new) }
-    ensures kept { IsKept (handed f.old u.old row.old (S.image space.old)) (handed f.new u.new row.new (S.image space.new)) }
+    ensures answer { result
+        ≡ (seek_to (handed f.old u.old row.old (S.image space.old)) (slice_index args 0) (slice_index args 1)).answer }
+    ensures state { handed f.new u.new row.new (S.image space.new)
+        ≡ (seek_to (handed f.old u.old row.old (S.image space.old)) (slice_index args 0) (slice_index args 1)).state }
+    ensures items { Took (T.taken trace.old) (seek_to (handed f.old u.old row.old (S.image space.old))
+        (slice_index args 0) (slice_index args 1)).items (T.taken trace.new) }
+    ensures kept { IsKept (handed f.old u.old row.old (S.image space.old)) (handed f.new u.new row.new
+        (S.image space.new)) }
     ensures frame { T.leads_to trace.old trace.new }
     ensures memory { S.rest space.new ≡ S.rest space.old }
     ensures blocks { SameRest f.old.tree.nodes.blocks f.new.tree.nodes.blocks }

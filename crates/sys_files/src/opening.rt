@@ -11,7 +11,7 @@ ghost use Rattle.proc_tab.specs.declared.row.Row.{Row};
 ghost use Rattle.open_files.specs.Files.{AreOpen, opened};
 ghost use Rattle.sys_files.specs.Did.{check, must, fails, returns};
 ghost use Rattle.sys_files.specs.Handed.{handed, node_in, node_at, user_of, with_number};
-ghost use Rattle.sys_files.specs.Opening.{opens_to_read, opens_to_write, or_earlier, last_failure, open_tests, can_open, with_terminal, with_opened, opens, opens_named, open_file};
+ghost use Rattle.sys_files.specs.Opening.{opens_to_read, opens_to_write, or_earlier, last_failure, open_tests, can_open, with_terminal, with_console, with_opened, opens, opens_named, open_file};
 ghost use Rattle.sys_files.specs.Sound.{IsSound, IsKept};
 
 use crate::devices::{is_console, is_console_at, is_null};
@@ -23,6 +23,7 @@ use fs_nodes::Nodes;
 use fs_tree::{Tree, User, Want};
 use open_files::FileKind;
 use proc_tab::Row;
+use tty_line::Line;
 use u_area::UArea;
 use v6_base::{Answer, Errno, Slot, Space, Trace};
 
@@ -106,6 +107,16 @@ fn take_terminal(nodes: &Nodes, row: &mut Row, ino: u16)
     }
 }
 
+/// Opens the line of the console with the first of its files.
+fn open_console(nodes: &Nodes, line: &mut Line, ino: u16)
+    requires { 0 < slice_index nodes.now.references ino }
+    ensures { line.new ≡ with_console line.old (node_in nodes.now.store ino) }
+{
+    if is_console_at(nodes, ino) {
+        line.opened();
+    }
+}
+
 /// Puts an open file into the table, where the file of its inode can be opened, under the lowest number that is free.
 ///
 /// # Errors
@@ -158,6 +169,7 @@ pub(crate) fn open_found(
     match add_number(f, u, ino, kind) {
         Ok(fd) => {
             take_terminal(&f.tree.nodes, row, ino);
+            open_console(&f.tree.nodes, &mut f.line, ino);
             refer_again(&mut f.tree.nodes, ino);
             Answer::Ret {
                 r0: u16::from(fd),

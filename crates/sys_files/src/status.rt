@@ -46,7 +46,7 @@ fn without_addresses(node: &DiskNode) -> DiskNode
 }
 
 /// Sees that bytes are below 256.
-fn see_bytes(bytes: &[u8])
+pub(crate) fn see_bytes(bytes: &[u8])
     ensures { (k : ℕ) → slice_index bytes.now k < 256 }
 {
     let _ = bytes;

@@ -14,7 +14,7 @@ returns-clause-done g c u row =
     let image : Image = g.S.Space.image c.args.space.now in
     let store : Store = c.args.f.now.tree.nodes.store in
     let node = node_there store c.args.file.now.ino (c.see.ensures.used c.args.file.now.ino c.requires.file.referred) in
-    let moves = c.read_at-moved.ensures.moved (node_in store c.args.file.now.ino) node in
+    let moves = c.read_at-read.ensures.moved (node_in store c.args.file.now.ino) node in
     moves.done ∙ ap (λ (x : OpenFile). (read_file (put_into c.args.at) (node_in store x.ino) store.room image x.offset c.args.count c.args.now).done) (file_is c.args.f.now c.args.entry c.args.file.now c.requires.file u row image)
 
 pub returns-clause-error : goal.returns-clause-error
@@ -22,7 +22,7 @@ returns-clause-error g c u row =
     let image : Image = g.S.Space.image c.args.space.now in
     let store : Store = c.args.f.now.tree.nodes.store in
     let node = node_there store c.args.file.now.ino (c.see.ensures.used c.args.file.now.ino c.requires.file.referred) in
-    let moves = c.read_at-moved.ensures.moved (node_in store c.args.file.now.ino) node in
+    let moves = c.read_at-read.ensures.moved (node_in store c.args.file.now.ino) node in
     moves.error ∙ ap (λ (x : OpenFile). (read_file (put_into c.args.at) (node_in store x.ino) store.room image x.offset c.args.count c.args.now).error) (file_is c.args.f.now c.args.entry c.args.file.now c.requires.file u row image)
 
 pub returns-clause-state : goal.returns-clause-state
@@ -34,7 +34,7 @@ returns-clause-state g c u row =
     let is = file_is c.args.f.now c.args.entry c.args.file.now c.requires.file u row image in
     let m : OpenFile → Moving Image = λ x. read_file (put_into c.args.at) (node_in store x.ino) store.room image x.offset c.args.count c.args.now in
     let node = node_there store file.ino (c.see.ensures.used file.ino c.requires.file.referred) in
-    let moves = c.read_at-moved.ensures.moved (node_in store file.ino) node in
-    let parts = moved_state h c.args.entry c.read_at-moved.result.done file m c.read_at-moved.new.self c.move_on.new.table is moves.store c.read_at-moved.ensures.references c.move_on.ensures moves.done in
-    ap (λ (k : Handed). record k { image = g.S.Space.image c.read_at-moved.new.space }) parts
+    let moves = c.read_at-read.ensures.moved (node_in store file.ino) node in
+    let parts = moved_state h c.args.entry c.read_at-read.result.done file m c.read_at-read.new.self c.move_on.new.table is moves.store c.read_at-read.ensures.references c.move_on.ensures moves.done in
+    ap (λ (k : Handed). record k { image = g.S.Space.image c.read_at-read.new.space }) parts
     ∙ ap (λ memory. record (with_moved h c.args.entry (m (file_of h c.args.entry))) { image = memory }) (moves.memory ∙ ap (λ x. (m x).memory) is)

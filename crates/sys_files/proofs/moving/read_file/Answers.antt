@@ -20,6 +20,12 @@ returns-in-Err-clause-state g c =
     ap (λ (d : Did). d.state) (read_refused h (slice_index c.args.args 0) (slice_index c.args.args 1) c.args.now c.in-Err.e
     (c.in-Err.ensures.entry c.args.row.now image))
 
+pub returns-in-Err-clause-items : goal.returns-in-Err-clause-items
+returns-in-Err-clause-items g c =
+    let image : Image = g.S.Space.image c.args.space.now in
+    let h : Handed = handed c.args.f.now c.args.u.now c.args.row.now image in
+    took_by_read h (slice_index c.args.args 0) (slice_index c.args.args 1) c.args.now _
+
 pub returns-then-not-file-clause-answer : goal.returns-then-not-file-clause-answer
 returns-then-not-file-clause-answer g c =
     let image : Image = g.S.Space.image c.args.space.now in

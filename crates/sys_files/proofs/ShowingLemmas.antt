@@ -1,35 +1,26 @@
--- What is shown of bytes one after another.
-use Rattle.std.proofs.Common.{◌≡◌, ◌<◌, ℕ, zero, suc, List, [], ◌∷◌, ◌++◌, ◌+◌, ◌%◌, ◌==◌, false, length, Result, Ok, Err, refl, sym, ◌∙◌, ap, subst, append_assoc, replicate, arith}
+-- What is shown of the bytes of a memory, one after another.
+use Rattle.std.proofs.Common.{◌≡◌, ◌<◌, ℕ, zero, suc, List, [], ◌∷◌, ◌++◌, ◌+◌, ◌%◌, ◌==◌, false, length, Result, Ok, Err, refl, sym, ◌∙◌, ap, subst, arith}
 use Rattle.std.proofs.lemmas.Bool.{ne_eqb}
-use Rattle.std.proofs.lemmas.List.{replicate-append-replicate, append-nil}
-use Rattle.std.proofs.lemmas.List.Sums.{fold-append}
 use Rattle.v6_base.specs.Image.{Image}
 use Rattle.v6_base.specs.Access.{load_byte}
 use Rattle.v6_base.specs.declared.space.Trap.{Trap}
 use Rattle.v6_base.specs.Trace.{Taken, Took, sent}
 use Rattle.fs_tree.specs.Name.{read_then, readable}
-use Rattle.sys_files.specs.Console.{column_after, column_after_all, shown_byte, shown_bytes}
+use Rattle.tty_line.specs.Terminal.{Terminal, flags}
+use Rattle.tty_line.specs.Output.{column_after_all, shows, after_shown}
+use Rattle.tty_line.proofs.OutputLemmas.{column_after_all-append, shown_bytes-append}
 
-pub replicate_more : (n x : ℕ) → replicate n x ++ x ∷ [] ≡ replicate (n + 1) x
-replicate_more n x = replicate-append-replicate n 1 x
+-- bytes that are shown after others
+pub shows_more : (t : Terminal) (xs ys : List ℕ) → shows t xs ++ shows (after_shown t xs) ys ≡ shows t (xs ++ ys)
+shows_more t xs ys = sym (shown_bytes-append (flags t) t.column xs ys)
 
-pub column_after_all-append : (column : ℕ) (xs ys : List ℕ) → column_after_all column (xs ++ ys) ≡ column_after_all (column_after_all column xs) ys
-column_after_all-append column xs ys = fold-append column_after column xs ys
+abbrev with_column : Terminal → ℕ → Terminal
+with_column t column = record t { column = column }
 
-pub shown_bytes-append : (column : ℕ) (xs ys : List ℕ)
-    → shown_bytes column (xs ++ ys) ≡ shown_bytes column xs ++ shown_bytes (column_after_all column (shown_bytes column xs)) ys
-shown_bytes-append column [] ys = refl
-shown_bytes-append column (x ∷ xs) ys =
-    let first : List ℕ = shown_byte column x in
-    let at : ℕ = column_after_all column first in
-    ap (λ l. first ++ l) (shown_bytes-append at xs ys)
-    ∙ ap (λ k. first ++ (shown_bytes at xs ++ shown_bytes k ys)) (sym (column_after_all-append column first (shown_bytes at xs)))
-    ∙ sym (append_assoc first (shown_bytes at xs) (shown_bytes (column_after_all column (first ++ shown_bytes at xs)) ys))
-
--- one byte more
-pub shown_bytes_then : (column : ℕ) (xs : List ℕ) (x : ℕ) → shown_bytes column (xs ++ x ∷ []) ≡ shown_bytes column xs ++ shown_byte (column_after_all column (shown_bytes column xs)) x
-shown_bytes_then column xs x =
-    shown_bytes-append column xs (x ∷ []) ∙ ap (λ l. shown_bytes column xs ++ l) (append-nil (shown_byte (column_after_all column (shown_bytes column xs)) x))
+pub after_more : (t : Terminal) (xs ys : List ℕ) → after_shown (after_shown t xs) ys ≡ after_shown t (xs ++ ys)
+after_more t xs ys =
+    ap (λ (k : ℕ). with_column t k)
+    (sym (column_after_all-append t.column (shows t xs) (shows (after_shown t xs) ys)) ∙ ap (column_after_all t.column) (shows_more t xs ys))
 
 -- An address after some others: the first of these, and then the others.
 next_place : (at i : ℕ) → ((at + 1) % 65536 + i) % 65536 ≡ (at + suc i) % 65536
@@ -80,5 +71,5 @@ are_fewer image at i n long more is =
     sym (ne_eqb (length (readable image at n)) n (λ e. omega (arith, more, all, e)))
 
 -- What is shown of the same bytes.
-pub took_of : (a b : Taken) (column : ℕ) (xs ys : List ℕ) → xs ≡ ys → Took a (sent 0 (shown_bytes column xs)) b → Took a (sent 0 (shown_bytes column ys)) b
-took_of a b column xs ys is took = subst (λ l. Took a (sent 0 (shown_bytes column l)) b) is took
+pub took_of : (a b : Taken) (t : Terminal) (xs ys : List ℕ) → xs ≡ ys → Took a (sent 0 (shows t xs)) b → Took a (sent 0 (shows t ys)) b
+took_of a b t xs ys is took = subst (λ l. Took a (sent 0 (shows t l)) b) is took

@@ -1,0 +1,186 @@
+//! The modes of a terminal: `gtty`, `stty` and `sgtty` in Lions' Commentary, `tty.c`.
+ghost use Rattle.std.specs.Prelude.{◌≡◌, ◌<◌, not, [], ◌∷◌, slice_index};
+ghost use Rattle.v6_base.specs.Image.{Image};
+ghost use Rattle.v6_base.specs.Trace.{Took, Log};
+ghost use Rattle.v6_base.specs.declared.entry.Chan.TheVariants.{Keys};
+ghost use Rattle.v6_base.specs.declared.entry.Entry.TheVariants.{Wake};
+ghost use Rattle.proc_tab.specs.declared.row.Row.{Row};
+ghost use Rattle.fs_codec.specs.Bytes.{bytes_of};
+ghost use Rattle.fs_codec.specs.Words.{word};
+ghost use Rattle.fs_nodes.specs.FileSystem.{SameRest};
+ghost use Rattle.tty_line.specs.Terminal.{with_modes};
+ghost use Rattle.v6_base.specs.declared.errno.Errno.TheVariants.{ENOTTY, ENODEV};
+ghost use Rattle.fs_codec.specs.Modes.{is_character_device};
+ghost use Rattle.sys_files.specs.Handed.{Handed, handed, node_in, is_null};
+ghost use Rattle.sys_files.specs.Did.{Did, check, must};
+ghost use Rattle.sys_files.specs.Opening.{or_earlier};
+ghost use Rattle.sys_files.specs.Modes.{of_terminal, words_at, sets_modes, tells_modes, stty_set, gtty_get};
+ghost use Rattle.sys_files.specs.Sound.{IsSound, IsKept};
+
+use crate::answers::done;
+use crate::descriptors::{file_of, open_entry};
+use crate::devices::is_null;
+use crate::files::Files;
+use crate::inodes::inode_of;
+use crate::status::see_bytes;
+use fs_codec::{is_character_device, put_words, word_at};
+use fs_nodes::Nodes;
+use proc_tab::Row;
+use tty_line::Line;
+use u_area::UArea;
+use v6_base::{Answer, Chan, Entry, Errno, Slot, Space, Trace, copy_in, copy_out};
+
+/// Sees that the file of an inode, which is referred to, is a terminal.
+///
+/// # Errors
+///
+/// `ENOTTY`: it is no character device. `ENODEV`: it is the null device.
+fn test_device(nodes: &Nodes, ino: u16) -> Result<(), Errno>
+    requires referenced { 0 < slice_index nodes.now.references ino }
+    ensures { result ≡ or_earlier (must ENOTTY (is_character_device (node_in nodes.now.store ino).mode))
+        (must ENODEV (not (is_null (node_in nodes.now.store ino)))) }
+{
+    let inode = inode_of(nodes, ino);
+    if !is_character_device(inode.mode) {
+        return Err(Errno::ENOTTY);
+    }
+    if is_null(&inode) {
+        return Err(Errno::ENODEV);
+    }
+    Ok(())
+}
+
+/// Sees that the number in R0 names a terminal.
+///
+/// # Errors
+///
+/// `EBADF`: the number is not open. Else those of `test_device`.
+fn test_terminal(f: &Files, u: &UArea) -> Result<(), Errno>
+    requires sound { (row : Row) (image : Image) → IsSound (handed f.now u.now row image) }
+    ensures { (row : Row) (image : Image) (does : Did) → of_terminal (handed f.now u.now row image) does
+        ≡ check (handed f.now u.now row image) result (λ is. does) }
+{
+    let entry = open_entry(f, u, u.r[0])?;
+    let file = file_of(f, entry);
+    test_device(&f.tree.nodes, file.ino)
+}
+
+/// The bytes of three words at an even address.
+fn words_at<S: Space>(space: &S, at: u16) -> Option<[u8; 6]>
+    ensures { (h : Handed) → h.image ≡ S.image space.now → result ≡ words_at h at }
+{
+    let mut bytes = [0; 6];
+    if at % 2 == 1 || !copy_in(space, at, &mut bytes) {
+        return None;
+    }
+    Some(bytes)
+}
+
+/// Sets the modes of a line, from the bytes of three words. What was typed is lost, and who waits for keys is woken.
+fn set_modes<T: Trace>(line: &mut Line, bytes: &[u8; 6], trace: &mut T)
+    ensures line { line.new ≡ with_modes line.old (word bytes.now 0 ∷ word bytes.now 2 ∷ word bytes.now 4 ∷ []) }
+    ensures items { Took (T.taken trace.old) (Log (Wake Keys) ∷ []) (T.taken trace.new) }
+    ensures frame { T.leads_to trace.old trace.new }
+{
+    line.set_modes([word_at(bytes, 0), word_at(bytes, 2), word_at(bytes, 4)]);
+    trace.entry(Entry::Wake(Chan::Keys));
+}
+
+/// The bytes of three words.
+fn bytes_of(modes: [u16; 3]) -> [u8; 6]
+    ensures { result ≡ bytes_of modes }
+{
+    let mut bytes = [0; 6];
+    put_words(&mut bytes, 0, &modes);
+    see_bytes(&bytes);
+    bytes
+}
+
+/// Puts the modes of a line to an even address, all three words or none.
+fn put_modes<S: Space>(line: &Line, u: &UArea, space: &mut S, at: u16) -> Answer
+    ensures answer { (h : Handed) → h.line ≡ line.now → h.u ≡ u.now → h.image ≡ S.image space.old
+        → result ≡ (tells_modes h at).answer }
+    ensures state { (h : Handed) → h.line ≡ line.now → h.u ≡ u.now → h.image ≡ S.image space.old
+        → record h { image = S.image space.new } ≡ (tells_modes h at).state }
+    ensures memory { S.rest space.new ≡ S.rest space.old }
+{
+    if at % 2 == 1 || !copy_out(space, at, &bytes_of(line.modes())) {
+        return Answer::Fail(Errno::EFAULT);
+    }
+    done(u)
+}
+
+/// 31, stty(II): sets the modes of the terminal that the number in R0 names, from three words at an address, `args[0]`: the
+/// speeds; the character that erases, in the low byte, and the one that kills; the flags. What was typed is lost.
+///
+/// # Errors
+///
+/// `EBADF`: the number is not open. `ENOTTY`: it is no character device. `ENODEV`: it is the null device. `EFAULT`: the
+/// address is odd, or one of the words cannot be read. Nothing has changed then.
+pub fn stty_set<S: Space, T: Trace>(
+    f: &mut Files,
+    _slot: Slot,
+    u: &mut UArea,
+    row: &mut Row,
+    space: &mut S,
+    args: [u16; 4],
+    _now: u32,
+    trace: &mut T,
+) -> Answer
+    requires sound { IsSound (handed f.old u.old row.old (S.image space.old)) }
+    ensures answer { result ≡ (stty_set (handed f.old u.old row.old (S.image space.old)) (slice_index args 0)).answer }
+    ensures state { handed f.new u.new row.new (S.image space.new)
+        ≡ (stty_set (handed f.old u.old row.old (S.image space.old)) (slice_index args 0)).state }
+    ensures items { Took (T.taken trace.old) (stty_set (handed f.old u.old row.old (S.image space.old))
+        (slice_index args 0)).items
+        (T.taken trace.new) }
+    ensures kept { IsKept (handed f.old u.old row.old (S.image space.old)) (handed f.new u.new row.new
+        (S.image space.new)) }
+    ensures frame { T.leads_to trace.old trace.new }
+    ensures memory { S.rest space.new ≡ S.rest space.old }
+    ensures blocks { SameRest f.old.tree.nodes.blocks f.new.tree.nodes.blocks }
+{
+    if let Err(e) = test_terminal(f, u) {
+        return Answer::Fail(e);
+    }
+    let Some(bytes) = words_at(space, args[0]) else {
+        return Answer::Fail(Errno::EFAULT);
+    };
+    set_modes(&mut f.line, &bytes, trace);
+    done(u)
+}
+
+/// 32, gtty(II): tells the modes of the terminal that the number in R0 names, as three words to an address, `args[0]`.
+///
+/// # Errors
+///
+/// `EBADF`: the number is not open. `ENOTTY`: it is no character device. `ENODEV`: it is the null device. `EFAULT`: the
+/// address is odd, or one of the words cannot be written. None of them is then.
+pub fn gtty_get<S: Space, T: Trace>(
+    f: &mut Files,
+    _slot: Slot,
+    u: &mut UArea,
+    row: &mut Row,
+    space: &mut S,
+    args: [u16; 4],
+    _now: u32,
+    trace: &mut T,
+) -> Answer
+    requires sound { IsSound (handed f.old u.old row.old (S.image space.old)) }
+    ensures answer { result ≡ (gtty_get (handed f.old u.old row.old (S.image space.old)) (slice_index args 0)).answer }
+    ensures state { handed f.new u.new row.new (S.image space.new)
+        ≡ (gtty_get (handed f.old u.old row.old (S.image space.old)) (slice_index args 0)).state }
+    ensures items { Took (T.taken trace.old) (gtty_get (handed f.old u.old row.old (S.image space.old))
+        (slice_index args 0)).items
+        (T.taken trace.new) }
+    ensures kept { IsKept (handed f.old u.old row.old (S.image space.old)) (handed f.new u.new row.new
+        (S.image space.new)) }
+    ensures frame { T.leads_to trace.old trace.new }
+    ensures memory { S.rest space.new ≡ S.rest space.old }
+    ensures blocks { SameRest f.old.tree.nodes.blocks f.new.tree.nodes.blocks }
+{
+    if let Err(e) = test_terminal(f, u) {
+        return Answer::Fail(e);
+    }
+    put_modes(&f.line, u, space, args[0])
+}
