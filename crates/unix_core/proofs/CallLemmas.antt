@@ -2,18 +2,19 @@
 use Rattle.std.proofs.Common.{◌≡◌, ℕ, List, [], Option, Some, None, refl, sym, ap, ◌∙◌}
 use Rattle.std.specs.Prelude.{unwrap_or, if◌then◌else◌}
 use Rattle.std.specs.Option.{option_map}
-use Rattle.std.proofs.lemmas.Bool.{ne_eqb}
+use Rattle.std.proofs.lemmas.Bool.{eq-eqb, ne_eqb}
 use Rattle.v6_base.specs.declared.answer.Answer.{Answer}
 use Rattle.sys_files.specs.Did.{Did}
+use Rattle.sys_files.specs.Moving.{resume_read}
 use Rattle.unix_core.specs.declared.world.World.{World}
 use Rattle.unix_core.specs.Unix.{Process, Unix}
 use Rattle.unix_core.specs.Steps.{Steps, not_built}
-use Rattle.unix_core.specs.Calls.{FileCall, file_call, handed_of, with_handed, arguments_of, entered, answers, did_by, does_if_built, exit_now, system_call}
+use Rattle.unix_core.specs.Calls.{FileCall, file_call, handed_of, with_handed, arguments_of, entered, answers, did_by, does_if_built, exit_now, system_call, resumed}
 use Rattle.unix_core.specs.Parts.{unix_with, row_of}
 
 -- what a call of process 1 that has been entered does by its row
 abbrev pub done_by : World → Option FileCall → List ℕ → Process → Did
-done_by w o args p = row_of o (handed_of (unix_with p w) p) args w.time
+done_by w o args p = row_of o (handed_of (unix_with p w) p) args w.table.now
 
 is_built : (w : World) (p : Process) (o : Option FileCall) (count : ℕ) → option_map (λ (c : FileCall). c.count) o ≡ Some count
     → did_by (unix_with (entered count p) w) 1 (done_by w o (arguments_of p) (entered count p)) ≡ does_if_built (unix_with p w) 1 o
@@ -42,3 +43,12 @@ pub shows_nothing : (u : Unix) (number : ℕ) → (number ≡ 1 → ⊥) → opt
 shows_nothing u number other is =
     ap (λ b. (if b then exit_now u 1 else does_if_built u 1 (file_call number)).items) (ne_eqb number 1 other)
     ∙ ap (λ (s : Steps). s.items) (is_not_built u (file_call number) is)
+
+-- A call in which the process slept is concluded.
+pub call_resumed : (w w' : World) (p p' : Process) (answer : Answer) → p.u.pending ≡ 1
+    → unix_with p' w' ≡ with_handed (unix_with p w) 1 (resume_read (handed_of (unix_with p w) p)).state
+    → answer ≡ (resume_read (handed_of (unix_with p w) p)).answer
+    → record (answers (unix_with p' w') 1 answer) { items = (resume_read (handed_of (unix_with p w) p)).items } ≡ resumed (unix_with p w) 1
+call_resumed w w' p p' answer pending state answered =
+    (λ i. record (answers (state i) 1 (answered i)) { items = (resume_read (handed_of (unix_with p w) p)).items })
+    ∙ ap (λ b. if b then did_by (unix_with p w) 1 (resume_read (handed_of (unix_with p w) p)) else not_built (unix_with p w)) (sym (eq-eqb p.u.pending 1 pending))

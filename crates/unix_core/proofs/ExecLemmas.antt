@@ -122,26 +122,26 @@ module _ (init : ℕ) (p : Process) (w : World) (form : IsFileSystem w.files.tre
 
   -- and is a program
   pub exec_does : exec_init here 1 ≡ returns (record here {
-    processes = slice_set here.processes 1 (Some (with_program p (data_clicks (header (node_in nodes.store init))) (program_read (node_in nodes.store init) nodes.store.room w.time).memory));
-    store = (after_exec (inodes_of nodes) init (node_in nodes.store init) w.time).store;
+    processes = slice_set here.processes 1 (Some (with_program p (data_clicks (header (node_in nodes.store init))) (program_read (node_in nodes.store init) nodes.store.room w.table.now).memory));
+    store = (after_exec (inodes_of nodes) init (node_in nodes.store init) w.table.now).store;
   })
   exec_does = exec_is ∙ ap (λ b. if b then returns (record here {
-    processes = slice_set here.processes 1 (Some (with_program p (data_clicks (header (node_in nodes.store init))) (program_read (node_in nodes.store init) nodes.store.room w.time).memory));
-    store = (after_exec (inodes_of nodes) init (node_in nodes.store init) w.time).store;
+    processes = slice_set here.processes 1 (Some (with_program p (data_clicks (header (node_in nodes.store init))) (program_read (node_in nodes.store init) nodes.store.room w.table.now).memory));
+    store = (after_exec (inodes_of nodes) init (node_in nodes.store init) w.table.now).store;
   }) else not_built here) fresh.program
 
   module _ (p' : Process) (w' : World) (table : w'.files.table ≡ w.files.table)
-      (inodes : inodes_of w'.files.tree.nodes ≡ after_exec (inodes_of nodes) init (node_in nodes.store init) w.time) where
+      (inodes : inodes_of w'.files.tree.nodes ≡ after_exec (inodes_of nodes) init (node_in nodes.store init) w.table.now) where
     pub exec_unix : (row : Row) (u : UArea) (image : Image) (clicks : ℕ) (codes : 0 < 16) (r : List ℕ) (cc : ℕ) (before : Image) (old_codes : cc < 16)
         → p ≡ process_with row before (record u { r = r; cc = cc; codes = old_codes })
         → p' ≡ process_with row image (record u { r = 0 ∷ 0 ∷ 0 ∷ 0 ∷ 0 ∷ 0 ∷ first_stack ∷ 0 ∷ []; cc = 0; text_size = 0; data_size = clicks; stack_size = 20; codes = codes })
-        → clicks ≡ data_clicks (header (node_in nodes.store init)) → image ≡ (program_read (node_in nodes.store init) nodes.store.room w.time).memory
-        → w'.files.line ≡ w.files.line → w'.time ≡ w.time → w'.limit ≡ w.limit
+        → clicks ≡ data_clicks (header (node_in nodes.store init)) → image ≡ (program_read (node_in nodes.store init) nodes.store.room w.table.now).memory
+        → w'.files.line ≡ w.files.line → w'.table ≡ w.table → w'.switches ≡ w.switches → w'.limit ≡ w.limit
         → exec_init here 1 ≡ returns (unix_with p' w')
-    exec_unix row u image clicks codes r cc before old_codes was is clicks_are image_is line time limit =
+    exec_unix row u image clicks codes r cc before old_codes was is clicks_are image_is line rows switches limit =
         let sized : UArea = record u { text_size = 0; data_size = clicks; stack_size = 20 } in
-        let made : with_program p (data_clicks (header (node_in nodes.store init))) (program_read (node_in nodes.store init) nodes.store.room w.time).memory ≡ p' =
-        ap (λ (q : Process). with_program q (data_clicks (header (node_in nodes.store init))) (program_read (node_in nodes.store init) nodes.store.room w.time).memory) was
+        let made : with_program p (data_clicks (header (node_in nodes.store init))) (program_read (node_in nodes.store init) nodes.store.room w.table.now).memory ≡ p' =
+        ap (λ (q : Process). with_program q (data_clicks (header (node_in nodes.store init))) (program_read (node_in nodes.store init) nodes.store.room w.table.now).memory) was
         ∙ (λ i. with_program (process_with row before (record u { r = r; cc = cc; codes = old_codes })) (sym clicks_are i) (sym image_is i))
         ∙ sym (is ∙ ap (process_with row image) (state_is sized (0 ∷ 0 ∷ 0 ∷ 0 ∷ 0 ∷ 0 ∷ first_stack ∷ 0 ∷ []) 0 codes)) in
         exec_does ∙ (λ i. returns (record here {
@@ -149,7 +149,8 @@ module _ (init : ℕ) (p : Process) (w : World) (form : IsFileSystem w.files.tre
           store = (sym inodes i).store;
           files = sym table i;
           line = sym line i;
-          clock = record { time = sym time i; ticks = 0; tout = 0 };
+          clock = record { time = (sym rows i).now; ticks = (sym rows i).ticks; tout = (sym rows i).tout };
+          switches = sym switches i;
           limit = sym limit i;
         }))
 

@@ -1,5 +1,5 @@
 -- A kernel that is about to execute the first program.
-use Rattle.std.proofs.Common.{◌≡◌, ◌<◌, ◌+◌, ℕ, Bool, true, false, List, [], length, replicate, map, get_or, min, count_by, Option, Some, None, Ok, refl, sym, ap, ◌∙◌, subst, arith, inl, inr}
+use Rattle.std.proofs.Common.{◌≡◌, ◌<◌, ◌≤◌, ◌+◌, ℕ, zero, suc, Bool, true, false, List, [], length, replicate, map, get_or, min, count_by, Option, Some, None, Ok, refl, sym, ap, ◌∙◌, subst, arith, inl, inr}
 use Rattle.std.specs.Prelude.{◌==◌, if◌then◌else◌, slice_index, slice_index_or, slice_set, unwrap_or, is_some}
 use Rattle.std.specs.List.{range_with_len}
 use Rattle.std.proofs.lemmas.Bool.{eq-eqb, ne_eqb, cases_lt}
@@ -12,6 +12,8 @@ use Rattle.fs_codec.specs.Disk.{disk_of}
 use Rattle.fs_codec.specs.Faults.{image_fault}
 use Rattle.fs_codec.specs.Stands.{store_of}
 use Rattle.fs_codec.specs.Store.{Store}
+use Rattle.tty_line.specs.Terminal.{first_terminal}
+use Rattle.pick_rules.specs.Table.{empty_row, row_at, first_table}
 use Rattle.fs_nodes.specs.FileSystem.{FileSystem, IsFileSystem}
 use Rattle.fs_tree.specs.Name.{name_at}
 use Rattle.fs_tree.specs.Finding.{Inodes, inodes_of, with_reference}
@@ -20,14 +22,14 @@ use Rattle.sys_files.specs.Handed.{no_node, node_in}
 use Rattle.sys_files.specs.Sound.{is_of, numbers_of}
 use Rattle.sys_files.proofs.NamingLemmas.{found_more, found_node}
 use Rattle.unix_core.specs.declared.world.World.{World}
-use Rattle.unix_core.specs.declared.kernel.Stage.{Stage}
-use Rattle.unix_core.specs.declared.kernel.Stage.TheVariants as stage
+use Rattle.unix_core.specs.declared.machine.Stage.{Stage}
+use Rattle.unix_core.specs.declared.machine.Stage.TheVariants as stage
 use Rattle.unix_core.specs.Unix.{Process, Unix, System, no_texts, slots_with}
 use Rattle.unix_core.specs.References.{is_in, is_text_of, referrers, references_of}
 use Rattle.unix_core.specs.Form.{is_program}
 use Rattle.unix_core.specs.Exec.{init_name, init_in, inodes_in, is_found, leads_to_program}
 use Rattle.unix_core.specs.Runs.{fresh_process, first_unix, system_with, booted, boots}
-use Rattle.unix_core.specs.Parts.{unix_with, IsCounted, IsFresh, IsKernel}
+use Rattle.unix_core.specs.Parts.{unix_with, IsCounted, IsFresh, IsRunning, IsAlone, IsKernel}
 use Rattle.unix_core.proofs.NodeLemmas.{node_there, number_within}
 use Rattle.unix_core.proofs.ReferenceLemmas.{count_none, slots_refer, texts_refer, references_are}
 use Rattle.unix_core.proofs.ExecLemmas.{one_more, no_more}
@@ -116,8 +118,8 @@ module _ (old new : FileSystem) (core init : ℕ) (form : IsFileSystem old) (ref
         get_or-set_other old.references init ino (slice_index old.references init + 1) 0 other.1 ∙ referred ino ∙ sym (no_more ino init (if ino == 1 then 2 else 0) other.1)
   ]
 
-  module _ (w : World) (nodes : w.files.tree.nodes ≡ new) (table : w.files.table ≡ no_files) (line : w.files.line ≡ record { column = 0 })
-      (time : w.time ≡ old.store.stamp) (limit : w.limit ≡ min core 2048) where
+  module _ (w : World) (nodes : w.files.tree.nodes ≡ new) (table : w.files.table ≡ no_files) (line : w.files.line ≡ first_terminal)
+      (slots : w.table ≡ first_table old.store.stamp) (switches : w.switches ≡ 0) (limit : w.limit ≡ min core 2048) where
     pub unix_is : unix_with fresh_process w ≡ first_unix old.store core
     unix_is = λ i. record {
       store = (ap (λ (f : FileSystem). f.store) nodes ∙ store_same) i;
@@ -126,8 +128,8 @@ module _ (old new : FileSystem) (core init : ℕ) (form : IsFileSystem old) (ref
       pipes = [];
       texts = no_texts;
       line = line i;
-      clock = record { time = time i; ticks = 0; tout = 0 };
-      switches = 0;
+      clock = record { time = (slots i).now; ticks = (slots i).ticks; tout = (slots i).tout };
+      switches = switches i;
       last_pid = 1;
       limit = limit i;
     }
@@ -145,23 +147,43 @@ module _ (old new : FileSystem) (core init : ℕ) (form : IsFileSystem old) (ref
     }
 
     -- What it holds is the system that is booted.
-    pub is_booted : booted (system_with old.store core) ≡ Some (record { unix = unix_with fresh_process w; is_fresh = true })
+    pub is_booted : booted (system_with old.store core) ≡ Some (record { unix = unix_with fresh_process w; table = w.table; is_fresh = true })
     is_booted =
         ap (λ b. if b then Some (system_with old.store core) else None)
         (ap (λ (n : Inodes). is_found (init_in n)) (sym (first_inodes old core form referred))
         ∙ ap (leads_to_program (init_in (inodes_of old))) answer
         ∙ ap (λ (n : Inodes). is_program (node_in n.store init)) (sym inodes) ∙ program)
-        ∙ ap (λ (u : Unix). Some (record { unix = u; is_fresh = true })) (sym unix_is)
+        ∙ (λ i. Some (record { unix = sym unix_is i; table = sym slots i; is_fresh = true }))
+
+-- The first table has two slots in use.
+first_free : (time s : ℕ) → 2 ≤ s → row_at (first_table time) s ≡ empty_row
+first_free time zero high = absurd (omega (arith, high))
+first_free time (suc zero) high = absurd (omega (arith, high))
+first_free time (suc (suc s)) high = everywhere 48 empty_row s
+
+pub first_alone : (time : ℕ) → IsAlone (first_table time)
+first_alone time = record {
+  table = record { last = omega arith; running = omega arith; ticks = omega arith };
+  others = record { rows = first_free time };
+  runs = omega arith;
+}
 
 abbrev init_of : Stage → ℕ
 init_of (stage.Fresh init) = init
 init_of stage.Running = 0
+init_of stage.Waiting = 0
 init_of stage.Ended = 0
 
-pub begins_fresh : (init : ℕ) (p : Process) (w : World) → IsFresh init p w → IsKernel (stage.Fresh init) p w
-begins_fresh init p w fresh = record {
-  fresh = λ other is. subst (λ i. IsFresh i p w) (ap init_of is) fresh;
-  running = λ is. absurd (cc);
+pub begins_fresh : (init time : ℕ) (p : Process) (w : World) → w.table ≡ first_table time → IsFresh init p w → IsKernel (stage.Fresh init) p w
+begins_fresh init time p w slots fresh = record {
+  machine = record {
+    alone = subst IsAlone (sym slots) (first_alone time);
+    fresh = λ other is. subst (λ i. IsFresh i p w) (ap init_of is) fresh;
+    running = λ is. absurd (cc);
+    ended = λ is. absurd (cc);
+  };
+  user = λ is. absurd (cc);
+  waiting = λ is. absurd (cc);
 }
 
 -- The super-block that is written says nothing of inodes.
@@ -203,15 +225,56 @@ module _ (p : Process) (w : World) (new : FileSystem) (time : ℕ)
     program = ap (λ l. is_program (unwrap_or (slice_index_or l init None) no_node)) nodes_same ∙ fresh.program;
   }
 
+  synced_running : IsRunning p w → IsRunning p now
+  synced_running runs = record {
+    counted = record { is_open = runs.counted.is_open; numbers = runs.counted.numbers; no_pipe = runs.counted.no_pipe };
+    referred = λ ino. ap (λ l. slice_index l ino) references ∙ runs.referred ino;
+  }
+
   pub synced_kernel : (at : Stage) → IsKernel at p w → IsKernel at p now
   synced_kernel at kernel = record {
-    fresh = λ init is. synced_fresh init (kernel.fresh init is);
-    running = λ is.
-        let runs = kernel.running is in
-        record {
-          counted = record { is_open = runs.counted.is_open; numbers = runs.counted.numbers; no_pipe = runs.counted.no_pipe };
-          referred = λ ino. ap (λ l. slice_index l ino) references ∙ runs.referred ino;
-        };
+    machine = record {
+      alone = kernel.machine.alone;
+      fresh = λ init is. synced_fresh init (kernel.machine.fresh init is);
+      running = λ is. synced_running (kernel.machine.running is);
+      ended = kernel.machine.ended;
+    };
+    user = kernel.user;
+    waiting = kernel.waiting;
+  }
+
+-- Nothing of the kernel's parts but the Unix itself knows of the switches.
+module _ (p : Process) (w : World) (switches : ℕ) where
+  abbrev other : World
+  other = record w { switches = switches }
+
+  switched_fresh : (init : ℕ) → IsFresh init p w → IsFresh init p other
+  unfolding references_of
+  switched_fresh init fresh = record {
+    no_data = fresh.no_data;
+    no_stack = fresh.no_stack;
+    counted = record { is_open = fresh.counted.is_open; numbers = fresh.counted.numbers; no_pipe = fresh.counted.no_pipe };
+    referred = fresh.referred;
+    found = fresh.found;
+    program = fresh.program;
+  }
+
+  switched_running : IsRunning p w → IsRunning p other
+  switched_running runs = record {
+    counted = record { is_open = runs.counted.is_open; numbers = runs.counted.numbers; no_pipe = runs.counted.no_pipe };
+    referred = runs.referred;
+  }
+
+  pub switched_kernel : (at : Stage) → IsKernel at p w → IsKernel at p other
+  switched_kernel at kernel = record {
+    machine = record {
+      alone = kernel.machine.alone;
+      fresh = λ init is. switched_fresh init (kernel.machine.fresh init is);
+      running = λ is. switched_running (kernel.machine.running is);
+      ended = kernel.machine.ended;
+    };
+    user = kernel.user;
+    waiting = kernel.waiting;
   }
 
 -- An image without a fault is booted where its file system has the form.

@@ -10,7 +10,7 @@ use Rattle.open_files.specs.declared.file.OpenFile.{OpenFile}
 use Rattle.open_files.specs.Files.{file_at, times}
 use Rattle.fs_nodes.specs.FileSystem.{FileSystem, IsFileSystem}
 use Rattle.fs_tree.specs.Finding.{inodes_of, put_back}
-use Rattle.sys_files.specs.declared.line.Line.{Line}
+use Rattle.tty_line.specs.Terminal.{Terminal}
 use Rattle.sys_files.specs.Handed.{Handed, handed, let_go}
 use Rattle.sys_files.specs.Descriptors.{Closing}
 use Rattle.sys_files.proofs.OwedLemmas.{owed_directory}
@@ -150,18 +150,17 @@ directory_kept old new sound kept =
     omega (arith, least, most, counts)
 
 -- A process has ended when all that it has open is closed and its directory has been let go.
-pub exited : (w w' : World) (p : Process) (row : Row) (image : Image) (u : UArea) (table : List (Option OpenFile)) (line : Line) (nodes : FileSystem) (closed : Closing)
-    → w'.time ≡ w.time → w'.limit ≡ w.limit → w'.files.table ≡ table → w'.files.line ≡ line
+pub exited : (w w' : World) (p : Process) (row : Row) (image : Image) (u : UArea) (table : List (Option OpenFile)) (line : Terminal) (nodes : FileSystem) (closed : Closing)
+    → w' ≡ record w { files = w'.files } → w'.files.table ≡ table → w'.files.line ≡ line
     → inodes_of w'.files.tree.nodes ≡ put_back (inodes_of nodes) u.dir
     → record { inodes = inodes_of nodes; files = table; line = line; u = u; row = row; image = image } ≡ closed.state
     → unix_of None w' ≡ without_process (with_handed (unix_with p w) 1 (let_go_all closed)) 1
-exited w w' p row image u table line nodes closed time limit files console inodes state =
+exited w w' p row image u table line nodes closed world files console inodes state =
     let before : Handed → Unix = λ h. without_process (with_handed (unix_with p w) 1 (let_go h h.u.dir)) 1 in
-    (λ i. record (unix_of None w') {
+    ap (unix_of None) world
+    ∙ (λ i. record (unix_of None (record w { files = w'.files })) {
       store = (inodes i).store;
       files = files i;
       line = console i;
-      clock = record { time = time i; ticks = 0; tout = 0 };
-      limit = limit i;
     })
     ∙ ap before state

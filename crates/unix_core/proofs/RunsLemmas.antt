@@ -1,5 +1,5 @@
 -- How a run over a list of events is made of runs over its parts.
-use Rattle.std.proofs.Common.{◌≡◌, ℕ, Bool, true, false, List, [], ◌∷◌, ◌++◌, Option, Some, None, refl, sym, ◌∙◌, ap, append_assoc}
+use Rattle.std.proofs.Common.{◌≡◌, ℕ, zero, suc, Bool, true, false, List, [], ◌∷◌, ◌++◌, Option, Some, None, refl, sym, ◌∙◌, ap, append_assoc}
 use Rattle.std.proofs.lemmas.List.{append-nil}
 use Rattle.v6_base.specs.Trace.{Item}
 use Rattle.unix_core.specs.declared.process.Ending.{Ending}
@@ -8,8 +8,8 @@ use Rattle.unix_core.specs.declared.turned.Unbuilt.{Unbuilt}
 use Rattle.unix_core.specs.declared.turned.Unbuilt.TheVariants as unbuilt
 use Rattle.unix_core.specs.declared.turned.Turned.TheVariants.{NotBuilt}
 use Rattle.unix_core.specs.Unix.{System, register, process_of}
-use Rattle.unix_core.specs.Turn.{Turn, ending_at, running, slot_of, turn, turned_by, turned}
-use Rattle.unix_core.specs.Runs.{Event, Slot, Course, begun, event_of, goes_on_by, unless_ended, after_event, course, after_items}
+use Rattle.unix_core.specs.Turn.{Turn, ending_at, slot_of, turn, turned_by, turned}
+use Rattle.unix_core.specs.Runs.{Event, Slot, Tick, Byte, Switch, Course, begun, event_of, start_of, goes_on_by, unless_ended, after_event, course, started, after_items}
 
 -- first these events and then those
 pub course-append : (c : Course) (xs ys : List Event) → course c (xs ++ ys) ≡ course (course c xs) ys
@@ -81,16 +81,22 @@ IsAt (Some (unbuilt.Line n)) = ⊥
 IsAt (Some (unbuilt.At pc)) = Unit {0}
 
 ending_is : (pc : ℕ) (e : Ending) → IsAt (ending_at pc e)
-ending_is pc came.Returned = tt
+ending_is pc came.Next = tt
+ending_is pc came.Trapped = tt
+ending_is pc (came.Slept pri chan) = tt
 ending_is pc came.Ended = tt
 ending_is pc came.NotBuilt = tt
 
 slot_is : (m : System) (slot : Option ℕ) → IsAt (slot_of m slot).ending
 slot_is m None = tt
-slot_is m (Some slot) = ending_is (register (process_of m.unix slot) 7) (turn m slot).ending
+slot_is m (Some zero) = tt
+slot_is m (Some (suc s)) = ending_is (register (process_of m.unix (suc s)) 7) (turn m (suc s)).ending
 
 event_is : (event : Event) (m : System) → IsAt (event_of event m).ending
-event_is Slot m = slot_is m (running m.unix)
+event_is Slot m = slot_is m m.table.running
+event_is Tick m = tt
+event_is (Byte byte) m = tt
+event_is (Switch word) m = tt
 
 step_is : (c : Course) (ended : Option Unbuilt) (event : Event) → IsAt c.ending → IsAt (unless_ended ended c event).ending
 step_is c None event at = event_is event c.system
@@ -99,3 +105,27 @@ step_is c (Some place) event at = at
 pub course_is : (c : Course) (events : List Event) → IsAt c.ending → IsAt (course c events).ending
 course_is c [] at = at
 course_is c (event ∷ events) at = course_is (after_event c event) events (step_is c c.ending event at)
+
+-- a tick, a byte and the switches end no run
+pub tick_goes : (m : System) → (event_of Tick m).ending ≡ None
+tick_goes m = refl
+
+pub typed_goes : (m : System) (byte : ℕ) → (event_of (Byte byte) m).ending ≡ None
+typed_goes m byte = refl
+
+pub switched_goes : (m : System) (word : ℕ) → (event_of (Switch word) m).ending ≡ None
+switched_goes m word = refl
+
+-- A run of one event, which begins at a system.
+pub course_one : (m : System) (event : Event) → course (begun m) (event ∷ []) ≡ goes_on_by (begun m) (event_of event m)
+course_one m event = refl
+
+-- The start of a run shows its items, and the run begins at the system then.
+pub start_goes : (m : System) → (start_of m).ending ≡ None
+start_goes m = refl
+
+pub started_goes : (m : System) → (started m).ending ≡ None
+started_goes m = refl
+
+pub course_started : (m : System) (events : List Event) → course (started m) events ≡ after_items (start_of m).items (course (begun (start_of m).next) events)
+course_started m events = course_goes (started m) (start_of m).next events refl refl

@@ -8,14 +8,15 @@ use Rattle.sys_files.specs.Handed.{Handed, let_go}
 use Rattle.sys_files.specs.Did.{Did}
 use Rattle.sys_files.specs.Descriptors.{Closing, dup_file, close_file, close_all}
 use Rattle.sys_files.specs.Making.{creat_file, mknod_at, link_file, unlink_file}
-use Rattle.sys_files.specs.Moving.{read_file_of, write_file_of, seek_to}
+use Rattle.sys_files.specs.Modes.{stty_set, gtty_get}
+use Rattle.sys_files.specs.Moving.{read_file_of, write_file_of, seek_to, resume_read}
 use Rattle.sys_files.specs.Names.{chdir_to, chmod_to, chown_to, sync_all}
 use Rattle.sys_files.specs.Opening.{open_file}
 use Rattle.sys_files.specs.Status.{stat_file, stat_open}
 use Rattle.unix_core.specs.Unix.{Process, Unix, with_state, register, with_register, process_of, with_process, without_process, image_of}
 use Rattle.unix_core.specs.References.{references_of}
 use Rattle.unix_core.specs.Errors.{error_number}
-use Rattle.unix_core.specs.Steps.{Steps, returns, ends, not_built}
+use Rattle.unix_core.specs.Steps.{Steps, returns, sleeps, ends, not_built}
 
 -- the parts of a Unix that a call of a process is handed
 abbrev pub handed_of : Unix → Process → Handed
@@ -69,11 +70,11 @@ abbrev pub refuses : Unix → ℕ → ℕ → Steps
 refuses u slot number =
     if nat_lt number 100 then returns (with_process u slot (with_error number (process_of u slot))) else not_built u
 
--- What a call answers. Waiting isn't built.
+-- What a call answers.
 abbrev pub answers : Unix → ℕ → Answer → Steps
 answers u slot (Ret r0 r1) = returns (with_process u slot (with_results r0 r1 (process_of u slot)))
 answers u slot (Fail e) = refuses u slot (error_number e)
-answers u slot (Sleep pri chan) = not_built u
+answers u slot (Sleep pri chan) = sleeps u pri chan
 
 -- a call on files: its number, how many arguments follow its word, and its row, over what it is handed, its arguments
 -- and the time
@@ -101,6 +102,8 @@ file_calls =
     ∷ call 18 2 (λ h a now. stat_file h (slice_index a 0) (slice_index a 1))
     ∷ call 19 2 (λ h a now. seek_to h (slice_index a 0) (slice_index a 1))
     ∷ call 28 1 (λ h a now. stat_open h (slice_index a 0))
+    ∷ call 31 1 (λ h a now. stty_set h (slice_index a 0))
+    ∷ call 32 1 (λ h a now. gtty_get h (slice_index a 0))
     ∷ call 36 0 (λ h a now. sync_all h now)
     ∷ call 41 0 (λ h a now. dup_file h)
     ∷ []
@@ -134,3 +137,12 @@ exit_now u slot =
 abbrev pub system_call : ℕ → Unix → ℕ → Steps
 system_call number u slot =
     if number == 1 then exit_now u slot else does_if_built u slot (file_call number)
+
+-- A process that slept in a call goes on with it: 1 is a read of the console. The others aren't built.
+abbrev pub pending_read : ℕ
+pending_read = 1
+
+abbrev pub resumed : Unix → ℕ → Steps
+resumed u slot =
+    if (process_of u slot).u.pending == pending_read then did_by u slot (resume_read (handed_of u (process_of u slot)))
+    else not_built u

@@ -9,4 +9,5 @@ pub mod References
 pub mod Runs
 pub mod Steps
 pub mod Turn
+pub mod Outside
 pub mod Unix

@@ -7,10 +7,13 @@ use Rattle.fs_codec.specs.Disk.{disk_of}
 use Rattle.fs_codec.specs.Store.{Store}
 use Rattle.fs_codec.specs.Stands.{store_of}
 use Rattle.fs_laws.specs.Numbers.{synced}
+use Rattle.tty_line.specs.Terminal.{first_terminal}
+use Rattle.pick_rules.specs.Table.{first_table}
 use Rattle.unix_core.specs.declared.turned.Unbuilt.{Unbuilt}
 use Rattle.unix_core.specs.Unix.{Process, Unix, System, no_area, no_row, no_texts, slots_with}
 use Rattle.unix_core.specs.Exec.{init_in, inodes_in, is_found}
-use Rattle.unix_core.specs.Turn.{Turn, running, slot_of}
+use Rattle.unix_core.specs.Turn.{Turn, pass_of, slot_of}
+use Rattle.unix_core.specs.Outside.{tick_of, typed_of, switched_of}
 
 -- process 1, about to execute `/etc/init`: it has no parent, and the root as its directory
 abbrev pub fresh_process : Process
@@ -23,8 +26,8 @@ fresh_process = record {
   is_zombie = false;
 }
 
--- The Unix of a file system with so many clicks of core. No file is open, and the carriage stands in front. The time is that
--- of the super-block.
+-- The Unix of a file system with so many clicks of core. No file is open, and nobody has opened the console. The time
+-- is that of the super-block.
 abbrev pub first_unix : Store → ℕ → Unix
 first_unix store core = record {
   store = store;
@@ -32,7 +35,7 @@ first_unix store core = record {
   files = replicate 100 None;
   pipes = [];
   texts = no_texts;
-  line = record { column = 0 };
+  line = first_terminal;
   clock = record { time = store.stamp; ticks = 0; tout = 0 };
   switches = 0;
   last_pid = 1;
@@ -41,7 +44,7 @@ first_unix store core = record {
 
 -- the system before its first turn
 abbrev pub system_with : Store → ℕ → System
-system_with store core = record { unix = first_unix store core; is_fresh = true }
+system_with store core = record { unix = first_unix store core; table = first_table store.stamp; is_fresh = true }
 
 -- `/etc/init` leads to a program
 abbrev pub has_form : System → Bool
@@ -63,10 +66,16 @@ finished m = let u : Unix = m.unix in record m { unix = record u { store = synce
 -- what comes to a kernel from outside
 pub data Event : Type 0 where
   Slot : Event  -- one slot of the processor: a turn of the running process
+  Tick : Event  -- a sixtieth of a second has passed
+  Byte : ℕ → Event  -- a byte is typed at the console
+  Switch : ℕ → Event  -- the switches of the console are set to a word
 
 -- what an event comes to
 abbrev pub event_of : Event → System → Turn
-event_of Slot m = slot_of m (running m.unix)
+event_of Slot m = slot_of m m.table.running
+event_of Tick m = tick_of m
+event_of (Byte byte) m = typed_of m byte
+event_of (Switch word) m = switched_of m word
 
 -- a run up to some point: what it has shown, the system there, and how it has ended, where it has
 pub record Course : Type 0 where
@@ -76,6 +85,10 @@ pub record Course : Type 0 where
 
 abbrev pub begun : System → Course
 begun m = record { items = []; system = m; ending = None }
+
+-- The swapper makes a pass before the first event, and then there is a choice.
+abbrev pub start_of : System → Turn
+start_of m = pass_of m
 
 abbrev pub goes_on_by : Course → Turn → Course
 goes_on_by c turn = record { items = c.items ++ turn.items; system = turn.next; ending = turn.ending }
@@ -93,10 +106,14 @@ abbrev pub course : Course → List Event → Course
 course c [] = c
 course c (event ∷ events) = course (after_event c event) events
 
+-- a run that has started
+abbrev pub started : System → Course
+started m = goes_on_by (begun m) (start_of m)
+
 -- a course that has shown these items before its own
 abbrev pub after_items : List Item → Course → Course
 after_items items c = record c { items = items ++ c.items }
 
 -- the run of an image in so much core over some events, where the image has the form that is built
 abbrev pub runs : List ℕ → ℕ → List Event → Option Course
-runs image core events = option_map (λ m. course (begun m) events) (boots image core)
+runs image core events = option_map (λ m. course (started m) events) (boots image core)

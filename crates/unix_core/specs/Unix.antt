@@ -7,7 +7,8 @@ use Rattle.u_area.specs.declared.area.UArea.{UArea}
 use Rattle.proc_tab.specs.declared.row.Row.{Row}
 use Rattle.open_files.specs.declared.file.OpenFile.{OpenFile}
 use Rattle.fs_codec.specs.Store.{Store}
-use Rattle.sys_files.specs.declared.line.Line.{Line}
+use Rattle.tty_line.specs.Terminal.{Terminal}
+use Rattle.pick_rules.specs.declared.table.Table.{Table}
 
 pub record Process : Type 0 where
   pub row : Row
@@ -40,15 +41,16 @@ pub record Unix : Type 0 where
   pub files : List (Option OpenFile)  -- the table of open files, with 100 entries
   pub pipes : List PipeMarks
   pub texts : List (Option Text)  -- 40 entries
-  pub line : Line  -- the console
+  pub line : Terminal  -- the console
   pub clock : Clock
   pub switches : ℕ  -- the console's
   pub last_pid : ℕ  -- the number that was given last to a process
   pub limit : ℕ  -- the most clicks of an image
 
--- all that a kernel holds
+-- all that a kernel holds: what programs can see, and the table by which it chooses who runs
 pub record System : Type 0 where
   pub unix : Unix
+  pub table : Table
   pub is_fresh : Bool  -- whether the first turn, the exec of `/etc/init`, is still to come
 
 -- a system and the blocks of its disk

@@ -1,4 +1,5 @@
-//! The system calls that are built, by their numbers: section II of the manual; `sysent` in Lions' Commentary, `sysent.c`.
+//! The system calls that are built, by their numbers: section II of the manual; `sysent` in Lions' Commentary,
+//! `sysent.c`.
 ghost use Rattle.std.specs.Prelude.{◌≡◌, List, Option, None};
 ghost use Rattle.std.specs.Option.{option_map};
 ghost use Rattle.v6_base.specs.Trace.{Took};
@@ -11,8 +12,9 @@ ghost use Rattle.unix_core.specs.Parts.{row_of};
 
 use proc_tab::Row;
 use sys_files::{
-    Files, chdir_to, chmod_to, chown_to, close_file, creat_file, dup_file, link_file, mknod_at,
-    open_file, read_file, seek_to, stat_file, stat_open, sync_all, unlink_file, write_file,
+    Files, chdir_to, chmod_to, chown_to, close_file, creat_file, dup_file, gtty_get, link_file,
+    mknod_at, open_file, read_file, seek_to, stat_file, stat_open, stty_set, sync_all, unlink_file,
+    write_file,
 };
 use u_area::UArea;
 use v6_base::{Answer, Errno, Slot, Space, Trace};
@@ -48,6 +50,10 @@ const SEEK: u8 = 19;
 
 const FSTAT: u8 = 28;
 
+const STTY: u8 = 31;
+
+const GTTY: u8 = 32;
+
 const SYNC: u8 = 36;
 
 const DUP: u8 = 41;
@@ -66,7 +72,7 @@ pub(crate) fn count_of(number: u8) -> Option<u8>
 {
     match number {
         CLOSE | SYNC | DUP => Some(0),
-        UNLINK | CHDIR | FSTAT => Some(1),
+        UNLINK | CHDIR | FSTAT | STTY | GTTY => Some(1),
         READ | WRITE | OPEN | CREAT | LINK | CHMOD | CHOWN | STAT | SEEK => Some(2),
         MKNOD => Some(3),
         _ => None,
@@ -87,12 +93,15 @@ pub(crate) fn do_call<S: Space, T: Trace>(
     trace: &mut T,
 ) -> Answer
     requires sound { IsSound (handed files.old u.old row.old (S.image space.old)) }
-    ensures answer { result ≡ (row_of (file_call number) (handed files.old u.old row.old (S.image space.old)) args now).answer }
+    ensures answer { result
+        ≡ (row_of (file_call number) (handed files.old u.old row.old (S.image space.old)) args now).answer }
     ensures state { handed files.new u.new row.new (S.image space.new)
         ≡ (row_of (file_call number) (handed files.old u.old row.old (S.image space.old)) args now).state }
     ensures items { Took (T.taken trace.old)
-        (row_of (file_call number) (handed files.old u.old row.old (S.image space.old)) args now).items (T.taken trace.new) }
-    ensures kept { IsKept (handed files.old u.old row.old (S.image space.old)) (handed files.new u.new row.new (S.image space.new)) }
+        (row_of (file_call number) (handed files.old u.old row.old (S.image space.old)) args now).items
+        (T.taken trace.new) }
+    ensures kept { IsKept (handed files.old u.old row.old (S.image space.old))
+        (handed files.new u.new row.new (S.image space.new)) }
     ensures frame { T.leads_to trace.old trace.new }
     ensures blocks { SameRest files.old.tree.nodes.blocks files.new.tree.nodes.blocks }
 {
@@ -111,6 +120,8 @@ pub(crate) fn do_call<S: Space, T: Trace>(
         STAT => stat_file(files, slot, u, row, space, args, now, trace),
         SEEK => seek_to(files, slot, u, row, space, args, now, trace),
         FSTAT => stat_open(files, slot, u, row, space, args, now, trace),
+        STTY => stty_set(files, slot, u, row, space, args, now, trace),
+        GTTY => gtty_get(files, slot, u, row, space, args, now, trace),
         SYNC => sync_all(files, slot, u, row, space, args, now, trace),
         DUP => dup_file(files, slot, u, row, space, args, now, trace),
         _ => Answer::Ret {

@@ -1,45 +1,37 @@
 //! The kernel, which takes one event a call.
-ghost use Rattle.std.specs.Prelude.{◌≡◌, ◌≢◌, ◌==◌, ◌<◌, ℕ, [], slice_index, None, Some, MatchOption, if◌then◌else◌};
+ghost use Rattle.std.specs.Prelude.{◌≡◌, ◌≢◌, ◌==◌, ◌<◌, ℕ, [], slice_index, None, Some, MatchOption, if◌then◌else◌, Ok, false};
 ghost use Rattle.v6_base.specs.Trace.{Took};
 ghost use Rattle.fs_codec.specs.Stands.{StandsFor};
 ghost use Rattle.buf_cache.specs.Blocks.{block_at, IsDisk};
 ghost use Rattle.fs_laws.specs.Rest.{SameRest};
 ghost use Rattle.unix_core.specs.Turn.{turned};
-ghost use Rattle.unix_core.specs.Parts.{IsKernel, system_at, turn_at};
+ghost use Rattle.unix_core.specs.Outside.{is_signal_key};
 
 use crate::files::see_nodes;
 use crate::init::find_init;
+use crate::machine::{Machine, Stage};
 use crate::memory::Memory;
-use crate::process::{Ending, Process};
+use crate::process::Process;
 use crate::turned::{Turned, Unbuilt};
 use crate::world::World;
 use fs_codec::DISK_BLOCKS;
 use fs_nodes::Nodes;
 use fs_tree::Tree;
 use open_files::OpenTable;
+use pdp_step::Outcome;
+use pick_rules::Table;
 use std::marker::Model;
-use sys_files::{Files, Line};
+use sys_files::Files;
+use tty_line::Line;
 use v6_base::Trace;
 
 /// The most clicks of an image, where there is core for them.
 const MOST_CLICKS: u16 = 2048;
 
-/// How far process 1 has come.
-#[derive(Clone, Copy, Debug, PartialEq, Eq)]
-pub enum Stage {
-    /// Its first turn will be the exec of `/etc/init`, which is this inode.
-    Fresh(u16),
-    Running,
-    /// It has exited.
-    Ended,
-}
-
 /// The kernel with its one process and its disk: the abstract Unix, in fixed memory.
 #[derive(Drop)]
 pub struct Kernel {
-    stage: Stage,
-    process: Process,
-    world: World,
+    machine: Machine,
 }
 
 impl Model for Kernel {
@@ -49,15 +41,15 @@ impl Model for Kernel {
     ghost Value = { SystemOnDisk };
 
     ghost view = { λ k. record {
-      system = system_at k.stage k.process k.world;
-      blocks = k.world.files.tree.nodes.blocks;
+      system = system_at k.machine.stage k.machine.process k.machine.world;
+      blocks = k.machine.world.files.tree.nodes.blocks;
     } };
 
-    ghost invariant = { λ k. IsKernel k.stage k.process k.world };
+    ghost invariant = { λ k. IsKernel k.machine.stage k.machine.process k.machine.world };
 }
 
 impl Kernel {
-    ghost use Rattle.unix_core.specs.Runs.{Slot, event_of, system_with, booted, finished};
+    ghost use Rattle.unix_core.specs.Runs.{Slot, Tick, Byte, Switch, start_of, event_of, system_with, booted, finished};
 
     /// A kernel that is about to execute the first program of a file system, where that has the form that is built, in a
     /// memory that has nothing and with so many clicks of core. Inode 1 is referred to as the root and as a directory.
@@ -73,31 +65,39 @@ impl Kernel {
         let Some(init) = find_init(&mut tree) else {
             return None;
         };
+        let files = Files {
+            tree,
+            table: OpenTable::new(),
+            line: Line::new(),
+        };
+        let world = World {
+            files,
+            table: Table::new(time),
+            switches: 0,
+            limit: core.min(MOST_CLICKS),
+        };
         Some(Kernel {
-            stage: Stage::Fresh(init),
-            process: Process::new(memory),
-            world: World {
-                files: Files {
-                    tree,
-                    table: OpenTable::new(),
-                    line: Line::new(),
-                },
-                time,
-                limit: core.min(MOST_CLICKS),
+            machine: Machine {
+                stage: Stage::Fresh(init),
+                process: Process::new(memory),
+                world,
             },
         })
     }
 
-    /// Takes the start of a run, once, before the first turn. Nothing changes, and nothing is shown yet.
+    /// Takes the start of a run, once, before the first event: the swapper finds nobody to bring in, and there is a choice.
+    /// `main` and `sched` in Lions' Commentary, `main.c` and `slp.c`.
     pub fn start<T: Trace>(&mut self, trace: &mut T)
-        ensures next { self.new ≡ self.old }
-        ensures items { Took (T.taken trace.old) [] (T.taken trace.new) }
+        ensures next { self.new.system ≡ (start_of self.old.system).next }
+        ensures rest { SameRest self.old.blocks self.new.blocks }
+        ensures items { Took (T.taken trace.old) (start_of self.old.system).items (T.taken trace.new) }
         ensures frame { T.leads_to trace.old trace.new }
     {
-        let _ = trace;
+        self.machine.pass(trace);
     }
 
-    /// Takes one slot: the turn of the running process, which is one instruction with its call.
+    /// Takes one slot: the turn of the running process, which is one instruction with its call, or the rest of a call in which
+    /// it slept.
     pub fn turn<T: Trace>(&mut self, trace: &mut T) -> Turned
         ensures answer { result ≡ turned (event_of Slot self.old.system) }
         ensures next { self.new.system ≡ (event_of Slot self.old.system).next }
@@ -105,24 +105,50 @@ impl Kernel {
         ensures items { Took (T.taken trace.old) (event_of Slot self.old.system).items (T.taken trace.new) }
         ensures frame { T.leads_to trace.old trace.new }
     {
-        match self.stage {
+        match self.machine.stage {
             Stage::Running => {}
-            Stage::Fresh(_) | Stage::Ended => {
-                if begin(&mut self.stage, &mut self.process, &mut self.world) {
-                    return Turned::Ran;
-                }
-                return Turned::Idle;
+            Stage::Fresh(_) | Stage::Waiting | Stage::Ended => {
+                return self.machine.other_slot(trace);
             }
         }
-        let at = self.process.pc();
-        match self.process.run(&mut self.world, trace) {
-            Ending::Returned => Turned::Ran,
-            Ending::Ended => {
-                self.stage = Stage::Ended;
-                Turned::Ran
-            }
-            Ending::NotBuilt => Turned::NotBuilt(Unbuilt::At(at)),
+        let at = self.machine.process.pc();
+        match self.machine.process.step() {
+            Outcome::Next => Turned::Ran,
+            outcome => self.machine.after_step(outcome, at, trace),
         }
+    }
+
+    /// Takes one tick of the clock, a sixtieth of a second: `clock` in Lions' Commentary, `clock.c`. What isn't built never
+    /// comes of it yet.
+    pub fn tick<T: Trace>(&mut self, trace: &mut T) -> Result<(), Unbuilt>
+        ensures answer { result ≡ Ok tt }
+        ensures next { self.new.system ≡ (event_of Tick self.old.system).next }
+        ensures rest { SameRest self.old.blocks self.new.blocks }
+        ensures items { Took (T.taken trace.old) (event_of Tick self.old.system).items (T.taken trace.new) }
+        ensures frame { T.leads_to trace.old trace.new }
+    {
+        self.machine.tick(trace);
+        Ok(())
+    }
+
+    /// Takes a byte that is typed at the console: `klrint` in Lions' Commentary, `kl.c`; tty(IV) of the manual. A key that
+    /// makes a signal isn't built: 0177 and 034, by the low seven bits.
+    pub fn typed<T: Trace>(&mut self, b: u8, trace: &mut T)
+        requires { is_signal_key b ≡ false }
+        ensures next { self.new.system ≡ (event_of (Byte b) self.old.system).next }
+        ensures rest { SameRest self.old.blocks self.new.blocks }
+        ensures items { Took (T.taken trace.old) (event_of (Byte b) self.old.system).items (T.taken trace.new) }
+        ensures frame { T.leads_to trace.old trace.new }
+    {
+        self.machine.typed(b, trace);
+    }
+
+    /// Sets the switches of the console, 16 bits: switch(II) of the manual.
+    pub fn set_switches(&mut self, w: u16)
+        ensures next { self.new.system ≡ (event_of (Switch w) self.old.system).next }
+        ensures blocks { self.new.blocks ≡ self.old.blocks }
+    {
+        self.machine.world.switches = w;
     }
 
     /// Ends a run: writes to the disk what has changed, and the super-block with the time where that has. sync(II) of
@@ -133,8 +159,13 @@ impl Kernel {
         ensures rest { SameRest self.old.blocks self.new.blocks }
         ensures form { IsDisk self.new.blocks }
     {
-        self.world.files.tree.nodes.update_all(self.world.time);
-        see_nodes(&self.world.files.tree.nodes);
+        self.machine
+            .world
+            .files
+            .tree
+            .nodes
+            .update_all(self.machine.world.table.now);
+        see_nodes(&self.machine.world.files.tree.nodes);
     }
 
     /// Block `n` of the disk, as a run that has been finished leaves it.
@@ -142,29 +173,6 @@ impl Kernel {
         requires { n < DISK_BLOCKS }
         ensures { result ≡ block_at self.now.blocks n }
     {
-        *self.world.files.tree.nodes.on_disk(n)
-    }
-}
-
-/// Takes the first turn of a process that is fresh, and says whether there was one: there is none where it has ended. It
-/// stands out of line, so that every other turn asks for the stage once.
-#[cold]
-#[inline(never)]
-fn begin(stage: &mut Stage, process: &mut Process, world: &mut World) -> bool
-    requires kernel { IsKernel stage.old process.old world.old }
-    requires other { stage.old ≢ Stage.Running }
-    ensures kernel { IsKernel stage.new process.new world.new }
-    ensures answer { (if result then Turned.Ran else Turned.Idle) ≡ turned (turn_at stage.old process.old world.old) }
-    ensures next { system_at stage.new process.new world.new ≡ (turn_at stage.old process.old world.old).next }
-    ensures items { (turn_at stage.old process.old world.old).items ≡ [] }
-    ensures rest { SameRest world.old.files.tree.nodes.blocks world.new.files.tree.nodes.blocks }
-{
-    match *stage {
-        Stage::Fresh(init) => {
-            process.exec(init, world);
-            *stage = Stage::Running;
-            true
-        }
-        Stage::Running | Stage::Ended => false,
+        *self.machine.world.files.tree.nodes.on_disk(n)
     }
 }

@@ -7,9 +7,11 @@ mod files;
 mod form;
 mod init;
 mod kernel;
+mod machine;
 mod memory;
 mod process;
 mod program;
+mod settling;
 mod turned;
 mod world;
 

@@ -7,9 +7,11 @@ ghost use Rattle.fs_laws.specs.Rest.{SameRest};
 ghost use Rattle.unix_core.specs.Unix.{no_row, no_area, register};
 ghost use Rattle.unix_core.specs.declared.world.World.{World};
 ghost use Rattle.unix_core.specs.Steps.{returns};
-ghost use Rattle.unix_core.specs.Calls.{FileCall, file_call, handed_of, with_handed, argument, arguments_of, entered, refuses, answers, does_if_built, exit_now, system_call};
+ghost use Rattle.unix_core.specs.Calls.{FileCall, file_call, handed_of, with_handed, argument, arguments_of, entered, refuses, answers, does_if_built, exit_now, system_call, resumed};
+ghost use Rattle.sys_files.specs.Moving.{resume_read};
+ghost use Rattle.unix_core.specs.Outside.{timed};
 ghost use Rattle.unix_core.specs.Exec.{exec_init};
-ghost use Rattle.unix_core.specs.Turn.{machine_of, with_machine, comes_to, instruction};
+ghost use Rattle.unix_core.specs.Turn.{machine_of, with_machine, comes_to, instruction, is_user};
 ghost use Rattle.unix_core.specs.Runs.{fresh_process};
 ghost use Rattle.unix_core.specs.Parts.{unix_of, unix_with, unix_after, row_of, IsRunning, IsFresh};
 
@@ -19,17 +21,21 @@ use crate::memory::Memory;
 use crate::program::{STACK, read_init};
 use crate::world::World;
 use pdp_step::{Outcome, Regs, step};
+use pick_rules::Mode;
 use proc_tab::Row;
 use std::marker::Model;
-use sys_files::close_all;
+use sys_files::{close_all, resume_file};
 use u_area::UArea;
-use v6_base::{Answer, Slot, Space, Trace};
+use v6_base::{Answer, Chan, Slot, Space, Trace};
 
 /// Where the stack begins that holds `/etc/init` as the only argument: 16 bytes below the end.
 const FIRST_STACK: u16 = 65520;
 
 /// The slot of process 1.
-const SLOT: Slot = 1;
+pub(crate) const SLOT: Slot = 1;
+
+/// The pending call that is a read of the console.
+const PENDING_READ: u8 = 1;
 
 /// What a word counts as that can't be read.
 const ONES: u16 = 0o177777;
@@ -40,8 +46,12 @@ const FIRST_SIGNAL: u16 = 100;
 /// How a turn of a process ended.
 #[derive(Clone, Copy, Debug, PartialEq, Eq)]
 pub(crate) enum Ending {
-    /// The process goes on.
-    Returned,
+    /// An instruction is done.
+    Next,
+    /// A call is done, and the process goes on.
+    Trapped,
+    /// The process sleeps in a call, at this priority, for this channel.
+    Slept { pri: i8, chan: Chan },
     /// The process has exited.
     Ended,
     /// It came to what isn't built.
@@ -120,6 +130,24 @@ impl Process {
         }
     }
 
+    /// Whether the process executes instructions: it is in no call.
+    pub(crate) fn is_user(&self) -> bool
+        ensures { result ≡ is_user self.now }
+    {
+        self.u.pending == 0
+    }
+
+    /// Charges the process with a tick: times(II).
+    pub(crate) fn charge(&mut self, mode: Mode)
+        ensures { self.new ≡ timed mode self.old }
+    {
+        match mode {
+            Mode::User => self.u.user_time = self.u.user_time.wrapping_add(1),
+            Mode::Kernel => self.u.system_time = self.u.system_time.wrapping_add(1),
+            Mode::Idle => {}
+        }
+    }
+
     pub(crate) fn pc(&self) -> u16
         ensures { result ≡ register self.now 7 }
     {
@@ -131,6 +159,7 @@ impl Process {
         requires { IsFresh init self.old world.old }
         ensures turn { exec_init (unix_with self.old world.old) 1 ≡ returns (unix_with self.new world.new) }
         ensures running { IsRunning self.new world.new }
+        ensures table { world.new.table ≡ world.old.table }
         ensures rest { SameRest world.old.files.tree.nodes.blocks world.new.files.tree.nodes.blocks }
     {
         see_nodes(&world.files.tree.nodes);
@@ -138,7 +167,7 @@ impl Process {
             &mut world.files.tree.nodes,
             init,
             &mut self.memory,
-            world.time,
+            world.table.now,
         );
         self.regs = Regs {
             r: [0, 0, 0, 0, 0, 0, FIRST_STACK, 0],
@@ -149,23 +178,9 @@ impl Process {
         self.u.stack_size = STACK;
     }
 
-    /// One instruction, with its call.
-    #[inline]
-    pub(crate) fn run<T: Trace>(&mut self, world: &mut World, trace: &mut T) -> Ending
-        requires { IsRunning self.old world.old }
-        ensures ending { result ≡ (instruction (unix_with self.old world.old) 1).ending }
-        ensures unix { unix_after result self.new world.new ≡ (instruction (unix_with self.old world.old) 1).unix }
-        ensures running { result ≢ Ending.Ended → IsRunning self.new world.new }
-        ensures rest { SameRest world.old.files.tree.nodes.blocks world.new.files.tree.nodes.blocks }
-        ensures items { Took (T.taken trace.old) (instruction (unix_with self.old world.old) 1).items (T.taken trace.new) }
-        ensures frame { T.leads_to trace.old trace.new }
-    {
-        let outcome = self.step();
-        self.come_to(outcome, world, trace)
-    }
-
+    /// One instruction, but for what it comes to.
     #[inline(always)]
-    fn step(&mut self) -> Outcome
+    pub(crate) fn step(&mut self) -> Outcome
         ensures outcome { result ≡ (instr (machine_of self.old)).outcome }
         ensures process { self.new ≡ with_machine self.old (instr (machine_of self.old)).machine }
     {
@@ -174,17 +189,25 @@ impl Process {
 
     /// What an instruction comes to.
     #[inline]
-    fn come_to<T: Trace>(&mut self, outcome: Outcome, world: &mut World, trace: &mut T) -> Ending
+    pub(crate) fn come_to<T: Trace>(
+        &mut self,
+        outcome: Outcome,
+        world: &mut World,
+        trace: &mut T,
+    ) -> Ending
         requires { IsRunning self.old world.old }
         ensures ending { result ≡ (comes_to (unix_with self.old world.old) 1 outcome).ending }
         ensures unix { unix_after result self.new world.new ≡ (comes_to (unix_with self.old world.old) 1 outcome).unix }
         ensures running { result ≢ Ending.Ended → IsRunning self.new world.new }
+        ensures table { world.new.table ≡ world.old.table }
+        ensures user { result ≡ Ending.Next → self.new.u.pending ≡ self.old.u.pending }
         ensures rest { SameRest world.old.files.tree.nodes.blocks world.new.files.tree.nodes.blocks }
-        ensures items { Took (T.taken trace.old) (comes_to (unix_with self.old world.old) 1 outcome).items (T.taken trace.new) }
+        ensures items { Took (T.taken trace.old) (comes_to (unix_with self.old world.old) 1 outcome).items
+            (T.taken trace.new) }
         ensures frame { T.leads_to trace.old trace.new }
     {
         match outcome {
-            Outcome::Next => Ending::Returned,
+            Outcome::Next => Ending::Next,
             Outcome::Call(number) => self.call(number, world, trace),
             Outcome::Fault(_) => Ending::NotBuilt,
         }
@@ -195,10 +218,14 @@ impl Process {
     fn call<T: Trace>(&mut self, number: u8, world: &mut World, trace: &mut T) -> Ending
         requires { IsRunning self.old world.old }
         ensures ending { result ≡ (system_call number (unix_with self.old world.old) 1).ending }
-        ensures unix { unix_after result self.new world.new ≡ (system_call number (unix_with self.old world.old) 1).unix }
+        ensures unix { unix_after result self.new world.new
+            ≡ (system_call number (unix_with self.old world.old) 1).unix }
         ensures running { result ≢ Ending.Ended → IsRunning self.new world.new }
+        ensures table { world.new.table ≡ world.old.table }
+        ensures trap { result ≢ Ending.Next }
         ensures rest { SameRest world.old.files.tree.nodes.blocks world.new.files.tree.nodes.blocks }
-        ensures items { Took (T.taken trace.old) (system_call number (unix_with self.old world.old) 1).items (T.taken trace.new) }
+        ensures items { Took (T.taken trace.old) (system_call number (unix_with self.old world.old) 1).items
+            (T.taken trace.new) }
         ensures frame { T.leads_to trace.old trace.new }
     {
         if number == EXIT {
@@ -222,8 +249,12 @@ impl Process {
         requires running { IsRunning self.old world.old }
         requires count { option_map (λ (c : FileCall). c.count) (file_call number) ≡ Some count }
         ensures ending { result ≡ (does_if_built (unix_with self.old world.old) 1 (file_call number)).ending }
-        ensures unix { unix_with self.new world.new ≡ (does_if_built (unix_with self.old world.old) 1 (file_call number)).unix }
+        ensures unix { unix_with self.new world.new
+            ≡ (does_if_built (unix_with self.old world.old) 1 (file_call number)).unix }
         ensures running { IsRunning self.new world.new }
+        ensures table { world.new.table ≡ world.old.table }
+        ensures trap { result ≢ Ending.Next }
+        ensures alive { result ≢ Ending.Ended }
         ensures rest { SameRest world.old.files.tree.nodes.blocks world.new.files.tree.nodes.blocks }
         ensures items { Took (T.taken trace.old)
             (does_if_built (unix_with self.old world.old) 1 (file_call number)).items (T.taken trace.new) }
@@ -275,13 +306,15 @@ impl Process {
     ) -> Answer
         requires { IsRunning self.old world.old }
         ensures answer { result ≡ (row_of (file_call number)
-            (handed_of (unix_with self.old world.old) self.old) args world.old.time).answer }
-        ensures unix { unix_with self.new world.new ≡ with_handed (unix_with self.old world.old) 1 (row_of (file_call number)
-            (handed_of (unix_with self.old world.old) self.old) args world.old.time).state }
+            (handed_of (unix_with self.old world.old) self.old) args world.old.table.now).answer }
+        ensures unix { unix_with self.new world.new
+            ≡ with_handed (unix_with self.old world.old) 1 (row_of (file_call number)
+            (handed_of (unix_with self.old world.old) self.old) args world.old.table.now).state }
         ensures running { IsRunning self.new world.new }
+        ensures table { world.new.table ≡ world.old.table }
         ensures rest { SameRest world.old.files.tree.nodes.blocks world.new.files.tree.nodes.blocks }
         ensures items { Took (T.taken trace.old) (row_of (file_call number)
-            (handed_of (unix_with self.old world.old) self.old) args world.old.time).items (T.taken trace.new) }
+            (handed_of (unix_with self.old world.old) self.old) args world.old.table.now).items (T.taken trace.new) }
         ensures frame { T.leads_to trace.old trace.new }
     {
         see_nodes(&world.files.tree.nodes);
@@ -297,7 +330,62 @@ impl Process {
             &mut self.row,
             &mut self.memory,
             args,
-            world.time,
+            world.table.now,
+            trace,
+        );
+        self.regs = Regs {
+            r: self.u.r,
+            cc: self.u.cc,
+        };
+        answer
+    }
+
+    /// Goes on with the call in which the process slept: a read of the console.
+    #[inline(never)]
+    pub(crate) fn resume<T: Trace>(&mut self, world: &mut World, trace: &mut T) -> Ending
+        requires { IsRunning self.old world.old }
+        ensures ending { result ≡ (resumed (unix_with self.old world.old) 1).ending }
+        ensures unix { unix_with self.new world.new ≡ (resumed (unix_with self.old world.old) 1).unix }
+        ensures running { IsRunning self.new world.new }
+        ensures table { world.new.table ≡ world.old.table }
+        ensures alive { result ≢ Ending.Ended }
+        ensures rest { SameRest world.old.files.tree.nodes.blocks world.new.files.tree.nodes.blocks }
+        ensures items { Took (T.taken trace.old) (resumed (unix_with self.old world.old) 1).items (T.taken trace.new) }
+        ensures frame { T.leads_to trace.old trace.new }
+    {
+        if self.u.pending != PENDING_READ {
+            return Ending::NotBuilt;
+        }
+        let answer = self.read_on(world, trace);
+        self.conclude(answer)
+    }
+
+    /// Goes on with a read of the console.
+    fn read_on<T: Trace>(&mut self, world: &mut World, trace: &mut T) -> Answer
+        requires running { IsRunning self.old world.old }
+        requires pending { self.old.u.pending ≡ 1 }
+        ensures answer { result ≡ (resume_read (handed_of (unix_with self.old world.old) self.old)).answer }
+        ensures unix { unix_with self.new world.new ≡ with_handed (unix_with self.old world.old) 1
+            (resume_read (handed_of (unix_with self.old world.old) self.old)).state }
+        ensures running { IsRunning self.new world.new }
+        ensures table { world.new.table ≡ world.old.table }
+        ensures rest { SameRest world.old.files.tree.nodes.blocks world.new.files.tree.nodes.blocks }
+        ensures items { Took (T.taken trace.old)
+            (resume_read (handed_of (unix_with self.old world.old) self.old)).items (T.taken trace.new) }
+        ensures frame { T.leads_to trace.old trace.new }
+    {
+        see_nodes(&world.files.tree.nodes);
+        see_table(&world.files.table);
+        see_numbers(&self.u.files);
+        self.u.r = self.regs.r;
+        self.u.cc = self.regs.cc;
+        let answer = resume_file(
+            &mut world.files,
+            SLOT,
+            &mut self.u,
+            &mut self.row,
+            &mut self.memory,
+            world.table.now,
             trace,
         );
         self.regs = Regs {
@@ -310,6 +398,8 @@ impl Process {
     /// A call ends: the registers take what it answers.
     fn conclude(&mut self, answer: Answer) -> Ending
         ensures ending { (w : World) → result ≡ (answers (unix_with self.old w) 1 answer).ending }
+        ensures trap { result ≢ Ending.Next }
+        ensures alive { result ≢ Ending.Ended }
         ensures unix { (w : World) → unix_with self.new w ≡ (answers (unix_with self.old w) 1 answer).unix }
         ensures running { (w : World) → IsRunning self.old w → IsRunning self.new w }
     {
@@ -317,16 +407,18 @@ impl Process {
             Answer::Ret { r0, r1 } => {
                 self.regs.r[0] = r0;
                 self.regs.r[1] = r1;
-                Ending::Returned
+                Ending::Trapped
             }
             Answer::Fail(error) => self.fail(error_number(error)),
-            Answer::Sleep { .. } => Ending::NotBuilt,
+            Answer::Sleep { pri, chan } => Ending::Slept { pri, chan },
         }
     }
 
     /// A call is refused.
     fn fail(&mut self, number: u16) -> Ending
         ensures ending { (w : World) → result ≡ (refuses (unix_with self.old w) 1 number).ending }
+        ensures trap { result ≢ Ending.Next }
+        ensures alive { result ≢ Ending.Ended }
         ensures unix { (w : World) → unix_with self.new w ≡ (refuses (unix_with self.old w) 1 number).unix }
         ensures running { (w : World) → IsRunning self.old w → IsRunning self.new w }
     {
@@ -335,12 +427,13 @@ impl Process {
         }
         self.regs.cc = self.regs.cc - self.regs.cc % 2 + 1;
         self.regs.r[0] = number;
-        Ending::Returned
+        Ending::Trapped
     }
 
     /// Ends the process: exit(II). Its files are closed, and its directory is let go.
     fn exit<T: Trace>(&mut self, world: &mut World, trace: &mut T)
         requires { IsRunning self.old world.old }
+        ensures table { world.new.table ≡ world.old.table }
         ensures unix { unix_of None world.new ≡ (exit_now (unix_with self.old world.old) 1).unix }
         ensures rest { SameRest world.old.files.tree.nodes.blocks world.new.files.tree.nodes.blocks }
         ensures items { Took (T.taken trace.old) (exit_now (unix_with self.old world.old) 1).items (T.taken trace.new) }
@@ -351,7 +444,7 @@ impl Process {
         see_numbers(&self.u.files);
         self.u.r = self.regs.r;
         self.u.cc = self.regs.cc;
-        close_all(&mut world.files, &mut self.u, world.time, trace);
-        let_go(&mut world.files.tree.nodes, self.u.dir, world.time);
+        close_all(&mut world.files, &mut self.u, world.table.now, trace);
+        let_go(&mut world.files.tree.nodes, self.u.dir, world.table.now);
     }
 }

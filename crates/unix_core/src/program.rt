@@ -24,7 +24,8 @@ const ARGUMENTS: [u8; 16] = *b"\x01\x00\xf6\xff\xff\xff/etc/init\0";
 fn put_arguments(memory: &mut Memory)
     requires data { length memory.old.whole.image.data ≤ 1792 }
     requires stack { length memory.old.whole.image.stack ≡ 1280 }
-    ensures { memory.new.whole.image ≡ record memory.old.whole.image { stack = take 1264 memory.old.whole.image.stack ++ first_arguments } }
+    ensures { memory.new.whole.image
+        ≡ record memory.old.whole.image { stack = take 1264 memory.old.whole.image.stack ++ first_arguments } }
 {
     for i in 0..16 {
         let _ = memory.store_byte(65520 + i as u16, ARGUMENTS[i]);
@@ -61,7 +62,8 @@ fn read_program(nodes: &mut Nodes, ino: u16, memory: &mut Memory, filled: u16, t
     requires referred { 0 < slice_index nodes.old.references ino }
     requires image { memory.old.whole.image ≡ program_image (data_clicks (header (node_in nodes.old.store ino))) }
     requires filled { filled ≡ filled_size (header (node_in nodes.old.store ino)) }
-    ensures image { memory.new.whole.image ≡ (program_read (node_in nodes.old.store ino) nodes.old.store.room time).memory }
+    ensures image { memory.new.whole.image
+        ≡ (program_read (node_in nodes.old.store ino) nodes.old.store.room time).memory }
     ensures store { nodes.new.store ≡ after_reads nodes.old.store ino (node_in nodes.old.store ino) time }
     ensures references { nodes.new.references ≡ nodes.old.references }
     ensures rest { SameRest nodes.old.blocks nodes.new.blocks }
@@ -71,14 +73,15 @@ fn read_program(nodes: &mut Nodes, ino: u16, memory: &mut Memory, filled: u16, t
     let _ = nodes.read_at(ino, 16, memory, 0, filled, time);
 }
 
-/// Reads the first program, which is referred to and has the form that is built, and gives the reference to it back. The
-/// answer is the clicks of its data.
+/// Reads the first program, which is referred to and has the form that is built, and gives the reference to it back.
+/// The answer is the clicks of its data.
 pub(crate) fn read_init(nodes: &mut Nodes, ino: u16, memory: &mut Memory, time: u32) -> u16
     requires referred { 0 < slice_index nodes.old.references ino }
     requires program { is_program (node_in nodes.old.store ino) ≡ true }
     requires empty { memory.old.whole.image ≡ record { text = []; «data» = []; stack = [] } }
     ensures clicks { result ≡ data_clicks (header (node_in nodes.old.store ino)) }
-    ensures image { memory.new.whole.image ≡ (program_read (node_in nodes.old.store ino) nodes.old.store.room time).memory }
+    ensures image { memory.new.whole.image
+        ≡ (program_read (node_in nodes.old.store ino) nodes.old.store.room time).memory }
     ensures inodes { inodes_of nodes.new ≡ after_exec (inodes_of nodes.old) ino (node_in nodes.old.store ino) time }
     ensures rest { SameRest nodes.old.blocks nodes.new.blocks }
 {

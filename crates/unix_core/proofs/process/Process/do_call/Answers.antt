@@ -18,7 +18,7 @@ returns-clause-answer g c =
     let w = c.args.world.now in
     let running = subst (λ (p : Process). IsRunning p w) (sym c.self.view_is) c.requires in
     c.do_call-answer.ensures.answer
-    ∙ ap (λ (h : Handed). (row_of (file_call c.args.number) h c.args.args w.time).answer)
+    ∙ ap (λ (h : Handed). (row_of (file_call c.args.number) h c.args.args w.table.now).answer)
     (handed_same w i.row i.memory.whole.image i.u i.regs.r i.regs.cc i.regs.cc_in_range _ c.see_nodes.ensures i.memory.no_text running ∙ ap (λ (p : Process). handed_of (unix_with p w) p) c.self.view_is)
 
 pub returns-clause-unix : goal.returns-clause-unix
@@ -29,7 +29,7 @@ returns-clause-unix g c =
     let running = subst (λ (p : Process). IsRunning p w) (sym c.self.view_is) c.requires in
     handed_back w (record w { files = after.files }) c.args.self.now after.row after.space.whole.image after.u _ _ (sym (ap (λ (p : Process). p.text) c.self.view_is)) (sym (ap (λ (p : Process). p.is_zombie) c.self.view_is)) refl
     (c.do_call-answer.ensures.state
-    ∙ ap (λ (h : Handed). (row_of (file_call c.args.number) h c.args.args w.time).state)
+    ∙ ap (λ (h : Handed). (row_of (file_call c.args.number) h c.args.args w.table.now).state)
     (handed_same w i.row i.memory.whole.image i.u i.regs.r i.regs.cc i.regs.cc_in_range _ c.see_nodes.ensures i.memory.no_text running ∙ ap (λ (p : Process). handed_of (unix_with p w) p) c.self.view_is))
 
 pub returns-clause-running : goal.returns-clause-running
@@ -42,7 +42,7 @@ returns-clause-items g c =
     let i = c.self.inside in
     let w = c.args.world.now in
     let running = subst (λ (p : Process). IsRunning p w) (sym c.self.view_is) c.requires in
-    let Takes : Handed → Type 0 = λ h. Took (g.T.Trace.taken c.args.trace.now) (row_of (file_call c.args.number) h c.args.args w.time).items (g.T.Trace.taken c.do_call-answer.new.trace) in
+    let Takes : Handed → Type 0 = λ h. Took (g.T.Trace.taken c.args.trace.now) (row_of (file_call c.args.number) h c.args.args w.table.now).items (g.T.Trace.taken c.do_call-answer.new.trace) in
     subst Takes
     (handed_same w i.row i.memory.whole.image i.u i.regs.r i.regs.cc i.regs.cc_in_range _ c.see_nodes.ensures i.memory.no_text running ∙ ap (λ (p : Process). handed_of (unix_with p w) p) c.self.view_is)
     c.do_call-answer.ensures.items

@@ -11,7 +11,7 @@ returns-clause-turn c =
     let w' : World = record w { files = record { tree = record { nodes = c.read_init-clicks.new.nodes }; table = w.files.table; line = w.files.line } } in
     exec_unix c.args.init c.args.self.now w c.see_nodes.ensures c.requires _ w' refl c.read_init-clicks.ensures.inodes
     i.row i.u c.read_init-clicks.new.memory.whole.image c.read_init-clicks.result _ i.regs.r i.regs.cc i.memory.whole.image i.regs.cc_in_range
-    (sym c.self.view_is) refl c.read_init-clicks.ensures.clicks c.read_init-clicks.ensures.image refl refl refl
+    (sym c.self.view_is) refl c.read_init-clicks.ensures.clicks c.read_init-clicks.ensures.image refl refl refl refl
 
 pub returns-clause-running : goal.returns-clause-running
 returns-clause-running c =

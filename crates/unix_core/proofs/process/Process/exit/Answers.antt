@@ -30,7 +30,7 @@ returns-clause-unix g c =
     let after = c.close_all.new.f in
     let running = subst (λ (p : Process). IsRunning p w) (sym c.self.view_is) c.requires in
     exited w (record w { files = record { tree = record { nodes = c.let_go.new.nodes }; table = after.table; line = after.line } }) c.args.self.now i.row i.memory.whole.image
-    c.close_all.new.u after.table after.line after.tree.nodes (close_all (handed_of (unix_with c.args.self.now w) c.args.self.now)) refl refl refl refl c.let_go.ensures.inodes
+    c.close_all.new.u after.table after.line after.tree.nodes (close_all (handed_of (unix_with c.args.self.now w) c.args.self.now)) refl refl refl c.let_go.ensures.inodes
     (c.close_all.ensures.state i.row i.memory.whole.image
     ∙ ap (λ (h : Handed). (close_all h).state)
     (handed_same w i.row i.memory.whole.image i.u i.regs.r i.regs.cc i.regs.cc_in_range _ c.see_nodes.ensures i.memory.no_text running ∙ ap (λ (p : Process). handed_of (unix_with p w) p) c.self.view_is))

@@ -1,0 +1,87 @@
+-- What comes from outside: ticks of the clock, keys and the switches of the console. `clock` and `klrint` in Lions'
+-- Commentary, `clock.c` and `kl.c`.
+use Rattle.std.specs.Prelude.{ℕ, ◌+◌, ◌%◌, ◌^◌, ◌==◌, ◌&&◌, ◌||◌, Bool, true, false, [], ◌∷◌, Option, Some, None, if◌then◌else◌}
+use Rattle.v6_base.specs.Trace.{Log, sent}
+use Rattle.v6_base.specs.declared.entry.Chan.{Chan}
+use Rattle.v6_base.specs.declared.entry.Chan.TheVariants.{Tout, Keys}
+use Rattle.v6_base.specs.declared.entry.Entry.{Entry}
+use Rattle.v6_base.specs.declared.entry.Entry.TheVariants.{TickUser, TickKernel, TickIdle, Wake}
+use Rattle.tty_line.specs.declared.line.Keyed.{Keyed}
+use Rattle.tty_line.specs.declared.line.Keyed.TheVariants.{Nothing, Ready, Flushed, Signal}
+use Rattle.tty_line.specs.Input.{Typed, typed}
+use Rattle.pick_rules.specs.declared.row.Mode.{Mode}
+use Rattle.pick_rules.specs.declared.row.Mode.TheVariants.{User, Kernel, Idle}
+use Rattle.pick_rules.specs.declared.table.Table.{Table}
+use Rattle.pick_rules.specs.Sleepers.{wakeup}
+use Rattle.pick_rules.specs.Clock.{tick}
+use Rattle.unix_core.specs.Unix.{Process, Clock, Unix, System, process_of, with_process}
+use Rattle.unix_core.specs.Turn.{Logged, Turn, is_user, settles}
+
+-- where a tick comes
+abbrev pub mode_by : Unix → Option ℕ → Mode
+mode_by u None = Idle
+mode_by u (Some slot) = if slot == 0 then Kernel else (if is_user (process_of u slot) then User else Kernel)
+
+abbrev pub mode_of : System → Mode
+mode_of m = mode_by m.unix m.table.running
+
+abbrev pub tick_entry : Mode → Entry
+tick_entry User = TickUser
+tick_entry Kernel = TickKernel
+tick_entry Idle = TickIdle
+
+-- A process has one tick more of its own time, or of the system's for it: times(II).
+abbrev pub timed : Mode → Process → Process
+timed User p = record p { u = record p.u { user_time = (p.u.user_time + 1) % 65536 } }
+timed Kernel p = record p { u = record p.u { system_time = (p.u.system_time + 1) % 65536 } }
+timed Idle p = p
+
+-- the swapper has no times
+abbrev pub charged : Unix → Mode → Option ℕ → Unix
+charged u mode None = u
+charged u mode (Some slot) = if slot == 0 then u else with_process u slot (timed mode (process_of u slot))
+
+-- sixty ticks are a second
+abbrev pub is_second : Clock → Bool
+is_second clock = clock.ticks == 59
+
+abbrev pub clock_after : Clock → Clock
+clock_after clock =
+    if is_second clock then record clock { ticks = 0; time = (clock.time + 1) % 2 ^ 32 }
+    else record clock { ticks = clock.ticks + 1 }
+
+-- a second has brought the time at which sleepers are woken
+abbrev pub is_due : Clock → Bool
+is_due clock = is_second clock && ((clock.time + 1) % 2 ^ 32 == clock.tout)
+
+abbrev pub ticked : System → Unix
+ticked m = let u : Unix = charged m.unix (mode_of m) m.table.running in record u { clock = clock_after m.unix.clock }
+
+-- who sleeps for a channel is woken, where that is called for
+abbrev pub wakes : Bool → Chan → Table → Logged
+wakes true chan t = record { items = Log (Wake chan) ∷ []; table = wakeup t chan }
+wakes false chan t = record { items = []; table = t }
+
+abbrev pub tick_of : System → Turn
+tick_of m =
+    settles m (ticked m) (Log (tick_entry (mode_of m)) ∷ []) (wakes (is_due m.unix.clock) Tout (tick (mode_of m) m.table))
+
+-- The keys that make signals, by their low seven bits. What they do to processes isn't built.
+abbrev pub is_signal_key : ℕ → Bool
+is_signal_key byte = (byte % 128 == 0o177) || (byte % 128 == 0o034)
+
+-- a key that calls for who waits for keys
+abbrev pub calls : Keyed → Bool
+calls Nothing = false
+calls Ready = true
+calls Flushed = true
+calls (Signal n) = true
+
+abbrev pub typed_of : System → ℕ → Turn
+typed_of m byte =
+    let k : Typed = typed m.unix.line byte in
+    settles m (record m.unix { line = k.terminal }) (sent 0 k.shown) (wakes (calls k.keyed) Keys m.table)
+
+abbrev pub switched_of : System → ℕ → Turn
+switched_of m word =
+    record { items = []; next = record m { unix = record m.unix { switches = word } }; is_idle = false; ending = None }
