@@ -14,6 +14,7 @@ use Rattle.v6_run.specs.declared.files.ReadError.{ReadError}
 use Rattle.v6_run.specs.declared.files.ReadError.TheVariants as reading
 use Rattle.v6_run.specs.declared.image.ImageError.{ImageError}
 use Rattle.v6_run.specs.declared.image.ImageError.TheVariants as image_error
+use Rattle.script_text.specs.declared.script.ScriptFault.TheVariants as script_fault
 use Rattle.v6_run.specs.declared.script.ScriptError.TheVariants as script_error
 use Rattle.v6_run.specs.declared.run.BootError.TheVariants as boot_error
 use Rattle.v6_run.specs.declared.outputs.Output.TheVariants as output
@@ -134,8 +135,11 @@ module _ (done : List ℕ) where
   error_line error.CoreSize = refl
   error_line (error.Run (run_error.Image e)) = image_line e
   error_line (error.Run (run_error.Script e)) = read_line in_port.Script e
-  error_line (error.Run (run_error.Line (script_error.Line n))) = refl
-  error_line (error.Run (run_error.Line script_error.NoMemory)) = refl
+  error_line (error.Run (run_error.Refused (script_error.Faulty script_fault.TooLong))) = refl
+  error_line (error.Run (run_error.Refused (script_error.Faulty (script_fault.BadLine n)))) = refl
+  error_line (error.Run (run_error.Refused (script_error.Faulty (script_fault.TooManySlots n)))) = refl
+  error_line (error.Run (run_error.Refused (script_error.Faulty script_fault.NoMemory))) = refl
+  error_line (error.Run (run_error.Refused (script_error.Unbuilt n))) = refl
   error_line (error.Run (run_error.Boot boot_error.Form)) = refl
   error_line (error.Run (run_error.Boot boot_error.NoMemory)) = refl
   error_line (error.Run (run_error.Write output.Term)) = refl

@@ -38,7 +38,8 @@ flat_byte f a (suc n) (suc i) k each h small =
     get_or-append_right (f a) (flat_map f (range_with_len (a + 1) n)) 512 (512 * suc i + k) 0 (each a (omega arith)) (omega arith)
     ∙ ap (slice_index (flat_map f (range_with_len (a + 1) n))) there ∙ flat_byte f (a + 1) n i k (λ j low. each j (omega (arith, low))) (omega (arith, h)) small ∙ ap (λ j. slice_index (f j) k) next
 
-flat_split : (f : ℕ → List ℕ) (a n m : ℕ) → flat_map f (range_with_len a (n + m)) ≡ flat_map f (range_with_len a n) ++ flat_map f (range_with_len (a + n) m)
+-- a list made from numbers is made of that from the first n of them and that from the others
+pub flat_split : {X : Type 0} (f : ℕ → List X) (a n m : ℕ) → flat_map f (range_with_len a (n + m)) ≡ flat_map f (range_with_len a n) ++ flat_map f (range_with_len (a + n) m)
 flat_split f a zero m =
     let none : zero + m ≡ m = omega arith in
     let first : a ≡ a + zero = omega arith in

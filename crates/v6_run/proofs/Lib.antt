@@ -1,11 +1,10 @@
-pub mod NumberLemmas
-pub mod LineLemmas
-pub mod ScriptLemmas
 pub mod PortLemmas
 pub mod SlotLemmas
 pub mod FileLemmas
 pub mod FrontLemmas
 pub mod FinalLemmas
+pub mod ClockLemmas
+pub mod ScriptLemmas
 pub mod OutputLemmas
 pub mod ShownLemmas
 pub mod ResultLemmas

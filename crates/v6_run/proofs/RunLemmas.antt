@@ -1,5 +1,5 @@
 -- What `run` answers, exit by exit.
-use Rattle.std.proofs.Common.{◌≡◌, ℕ, Bool, true, false, Option, Some, None, List, take, refl, sym, ◌∙◌, ap, subst}
+use Rattle.std.proofs.Common.{◌≡◌, ℕ, Bool, true, false, Option, Some, None, List, take, refl, sym, Result, Ok, Err, ◌∙◌, ap, subst}
 use Rattle.std.specs.Option.{option_map}
 use Rattle.v6_port.specs.declared.host.InPort.TheVariants as in_port
 use Rattle.v6_port.specs.declared.host.OutPort.{OutPort}
@@ -11,11 +11,11 @@ use Rattle.fs_codec.specs.Disk.{disk_of}
 use Rattle.fs_codec.specs.Faults.{image_fault}
 use Rattle.unix_core.specs.Unix.{System}
 use Rattle.unix_core.proofs.RunsLemmas.{IsAt, course_is}
-use Rattle.unix_core.specs.Runs.{Course, begun, boots, course}
+use Rattle.unix_core.specs.Runs.{Course, started, boots, course}
 use Rattle.v6_run.specs.declared.image.TheConstants.{IMAGE_LIMIT}
 use Rattle.v6_run.specs.declared.run.TheConstants.{SCRIPT_LIMIT}
 use Rattle.v6_run.specs.declared.status.Status.{Status}
-use Rattle.v6_run.specs.declared.status.Status.TheVariants.{ReadFault, WriteFault, NoMemory, NotBuilt}
+use Rattle.v6_run.specs.declared.status.Status.TheVariants.{ReadFault, WriteFault, ScriptFault, NoMemory, NotBuilt}
 use Rattle.unix_core.specs.declared.turned.Unbuilt.{Unbuilt}
 use Rattle.unix_core.specs.declared.turned.Unbuilt.TheVariants as unbuilt
 use Rattle.v6_run.specs.declared.files.ReadError.{ReadError}
@@ -26,7 +26,10 @@ use Rattle.v6_run.specs.declared.script.ScriptError.TheVariants as script_error
 use Rattle.v6_run.specs.declared.run.BootError.{BootError}
 use Rattle.v6_run.specs.declared.run.BootError.TheVariants as boot
 use Rattle.v6_run.specs.Words.{RunWords, Run}
-use Rattle.v6_run.specs.Script.{Slots, script_of}
+use Rattle.script_text.specs.declared.script.Event as asked
+use Rattle.script_text.specs.declared.script.ScriptFault as text
+use Rattle.script_text.specs.declared.script.ScriptFault.TheVariants as fault
+use Rattle.script_text.specs.Script.{script_of, signal_line_of}
 use Rattle.v6_run.specs.Events.{events_of}
 use Rattle.v6_run.specs.Status.{is_decided, has_written}
 use Rattle.v6_run.specs.Errors.{read_status, image_status, script_status, boot_status}
@@ -36,7 +39,7 @@ use Rattle.v6_run.specs.declared.outputs.Output.TheVariants as file
 use Rattle.v6_run.specs.Outputs.{port_of, is_output, run_writes, EndsRun, StopsRun}
 use Rattle.v6_run.specs.Causes.{IsCaused}
 use Rattle.v6_run.specs.Steps.{StopsReading, StopsImage, RefusesScript, RefusesImage}
-use Rattle.v6_run.specs.Headline.{Known, IsKnownAnd, ends_with, course_completion, boot_completion, lines_completion, script_completion, fault_completion, image_completion, command_completion, IsComplete, IsPartial, status_at, is_named, may_end, run_knows, is_known}
+use Rattle.v6_run.specs.Headline.{Known, IsKnownAnd, ends_with, course_completion, boot_completion, events_completion, lines_completion, bytes_completion, script_completion, fault_completion, image_completion, command_completion, IsComplete, IsPartial, status_at, is_named, may_end, run_knows, is_known}
 use Rattle.v6_run.specs.Answers.{Answers, HasFiles}
 use Rattle.v6_run.proofs.ImageLemmas.{fault_given}
 use Rattle.v6_run.proofs.CauseLemmas.{still_tells, only_then, calm_then, fault_then, fault_known, only_within, names_image, names_script, names_outputs}
@@ -84,14 +87,14 @@ module _ (words : RunWords) (image : List ℕ) (old middle new : Outside) (first
   }
 
 completion_is : (core : ℕ) (image_given script_given : Option (List ℕ)) (image bytes : List ℕ) → option_map (take IMAGE_LIMIT) image_given ≡ Some image → image_fault image ≡ None
-    → option_map (take SCRIPT_LIMIT) script_given ≡ Some bytes → image_completion image_given (script_completion core script_given) ≡ Known (lines_completion image core (script_of bytes))
+    → option_map (take SCRIPT_LIMIT) script_given ≡ Some bytes → image_completion image_given (script_completion core script_given) ≡ Known (bytes_completion image core bytes)
 completion_is core None script_given image bytes image_is good script_is = cc
 completion_is core (Some i) None image bytes image_is good script_is = cc
 completion_is core (Some i) (Some s) image bytes image_is good script_is =
     let same_image : take IMAGE_LIMIT i ≡ image = cc in
     let same_script : take SCRIPT_LIMIT s ≡ bytes = cc in
-    ap (λ l. fault_completion (image_fault l) (Known (lines_completion l core (script_of (take SCRIPT_LIMIT s))))) same_image
-    ∙ ap (λ f. fault_completion f (Known (lines_completion image core (script_of (take SCRIPT_LIMIT s))))) good ∙ ap (λ l. Known (lines_completion image core (script_of l))) same_script
+    ap (λ l. fault_completion (image_fault l) (Known (bytes_completion l core (take SCRIPT_LIMIT s)))) same_image
+    ∙ ap (λ f. fault_completion f (Known (bytes_completion image core (take SCRIPT_LIMIT s)))) good ∙ ap (λ l. Known (bytes_completion image core l)) same_script
 
 begun_at : (ended : Option Unbuilt) → IsAt ended → has_written (status_at ended) ≡ true
 begun_at None at = refl
@@ -115,42 +118,53 @@ not_report file.Term is = cc
 not_report file.Final is = cc
 
 module _ (words : RunWords) (image bytes : List ℕ) (old middle : Outside) (files : HasFiles words image bytes old middle) where
-  run_is : Tells old → command_completion (Run words) old.fixed ≡ Known (lines_completion image words.core (script_of bytes))
+  run_is : Tells old → command_completion (Run words) old.fixed ≡ Known (bytes_completion image words.core bytes)
   run_is told = completion_is words.core _ _ image bytes (files.image_is told) files.good (files.script_is told)
 
-  -- what is not built is this completion, and shows nothing
-  unbuilt_complete : (place : _) → lines_completion image words.core (script_of bytes) ≡ ends_with (NotBuilt place) → Tells old
-      → IsKnownAnd (command_completion (Run words) old.fixed) (IsComplete (NotBuilt place) old middle)
-  unbuilt_complete place is told = subst (λ m. IsKnownAnd m (IsComplete (NotBuilt place) old middle)) (sym (run_is told ∙ ap Known is)) (complete_unwritten (NotBuilt place) old middle files.none)
+  -- what ends a command before its run is this completion, and shows nothing
+  early_complete : (s : Status) → bytes_completion image words.core bytes ≡ ends_with s → Tells old
+      → IsKnownAnd (command_completion (Run words) old.fixed) (IsComplete s old middle)
+  early_complete s is told = subst (λ m. IsKnownAnd m (IsComplete s old middle)) (sym (run_is told ∙ ap Known is)) (complete_unwritten s old middle files.none)
 
   before_run : (s : Status) → may_end (Run words) s ≡ true → has_written s ≡ false → (s ≡ ReadFault in_port.Script → ⊥)
       → (is_decided s ≡ true → Tells old → IsKnownAnd (command_completion (Run words) old.fixed) (IsComplete s old middle)) → IsCaused (is_known (Some (Run words)) old.fixed) s old middle
       → Answers (Run words) s old middle
   before_run s ends before read complete cause = unwritten (Run words) s old middle files.only ends before files.none (λ is. absurd (read is)) complete cause
 
-  pub script_refused : (error : ScriptError) → RefusesScript (script_of bytes) error → Answers (Run words) (script_status error) old middle
-  script_refused (script_error.Line n) refused = before_run (NotBuilt (unbuilt.Line n)) refl refl (λ is. cc) (λ _. unbuilt_complete (unbuilt.Line n) (ap (lines_completion image words.core) refused)) files.calm
-  script_refused script_error.NoMemory refused = before_run NoMemory refl refl (λ is. cc) (λ decided. not_so _ decided) files.calm
+  faulty : (fault : text.ScriptFault) → may_end (Run words) (ScriptFault fault) ≡ true → script_of bytes ≡ Err fault → Answers (Run words) (ScriptFault fault) old middle
+  faulty fault ends is = before_run (ScriptFault fault) ends refl (λ is. cc)
+      (λ _. early_complete (ScriptFault fault) (ap (λ s. lines_completion image words.core s (signal_line_of bytes)) is)) files.calm
 
-  module _ (counts : List ℕ) (script_is : script_of bytes ≡ Slots counts) where
+  pub script_refused : (error : ScriptError) → RefusesScript bytes error → Answers (Run words) (script_status error) old middle
+  script_refused (script_error.Faulty fault.TooLong) refused = faulty fault.TooLong refl refused
+  script_refused (script_error.Faulty (fault.BadLine n)) refused = faulty (fault.BadLine n) refl refused
+  script_refused (script_error.Faulty (fault.TooManySlots n)) refused = faulty (fault.TooManySlots n) refl refused
+  script_refused (script_error.Faulty fault.NoMemory) refused = before_run NoMemory refl refl (λ is. cc) (λ decided. not_so _ decided) files.calm
+  script_refused (script_error.Unbuilt n) refused = before_run (NotBuilt (unbuilt.Line n)) refl refl (λ is. cc)
+      (λ _. early_complete (NotBuilt (unbuilt.Line n)) (ap (λ s. lines_completion image words.core s (signal_line_of bytes)) refused.1
+      ∙ ap (events_completion image words.core refused.0) refused.2)) files.calm
+
+  module _ (events : List asked.Event) (script_is : script_of bytes ≡ Ok events) (built : signal_line_of bytes ≡ None) where
     boots_as : (system : Option System) → boots image words.core ≡ system
-        → lines_completion image words.core (script_of bytes) ≡ boot_completion image (option_map (λ m. course (begun m) (events_of counts)) system)
-    boots_as system is = ap (lines_completion image words.core) script_is ∙ ap (λ o. boot_completion image (option_map (λ m. course (begun m) (events_of counts)) o)) is
+        → bytes_completion image words.core bytes ≡ boot_completion image (option_map (λ m. course (started m) (events_of events)) system)
+    boots_as system is =
+        ap (λ s. lines_completion image words.core s (signal_line_of bytes)) script_is ∙ ap (events_completion image words.core events) built
+        ∙ ap (λ o. boot_completion image (option_map (λ m. course (started m) (events_of events)) o)) is
 
     pub boot_refused : (error : BootError) → RefusesImage (boots image words.core) error → Answers (Run words) (boot_status error) old middle
-    boot_refused boot.Form refused = before_run (NotBuilt unbuilt.Image) refl refl (λ is. cc) (λ _. unbuilt_complete unbuilt.Image (boots_as None refused)) files.calm
+    boot_refused boot.Form refused = before_run (NotBuilt unbuilt.Image) refl refl (λ is. cc) (λ _. early_complete (NotBuilt unbuilt.Image) (boots_as None refused)) files.calm
     boot_refused boot.NoMemory refused = before_run NoMemory refl refl (λ is. cc) (λ decided. not_so _ decided) files.calm
 
     -- the run, with its files
     module _ (system : System) (boots_is : boots image words.core ≡ Some system) (new : Outside) (only : OnlyAt is_output middle new) where
       abbrev run : Course
-      run = course (begun system) (events_of counts)
+      run = course (started system) (events_of events)
 
       run_completion : Tells old → command_completion (Run words) old.fixed ≡ Known (course_completion image run)
       run_completion told = run_is told ∙ ap Known (boots_as (Some system) boots_is)
 
       run_is_at : IsAt run.ending
-      run_is_at = course_is (begun system) (events_of counts) tt
+      run_is_at = course_is (started system) (events_of events) tt
 
       only_run : OnlyAt (is_named (Run words)) old new
       only_run = only_then _ _ _ _ files.only (only_within _ _ _ _ (names_outputs words) only)

@@ -1,27 +1,26 @@
--- A run over a part of its events, then over the next one.
-use Rattle.std.proofs.Common.{◌≡◌, ◌<◌, ◌≤◌, ◌+◌, ◌-◌, ℕ, Option, Some, None, List, [], ◌∷◌, ◌++◌, refl, sym, ◌∙◌, ap, subst, take, drop, length, get_or, replicate, arith}
-use Rattle.std.proofs.lemmas.Grind.{replicate_next, flat_map-append}
-use Rattle.std.proofs.lemmas.List.{replicate-append-replicate, take_more, take-append-drop, append-nil, take_all}
+-- A run over a part of its events, then over the next ones.
+use Rattle.std.proofs.Common.{◌≡◌, ◌<◌, ◌≤◌, ◌+◌, ◌-◌, ℕ, Option, Some, None, List, [], ◌∷◌, ◌++◌, refl, sym, ◌∙◌, ap, subst, replicate, arith}
+use Rattle.std.proofs.lemmas.Grind.{replicate_next}
+use Rattle.std.proofs.lemmas.List.{replicate-append-replicate, append-nil}
 use Rattle.v6_base.specs.Trace.{Taken, Took}
 use Rattle.v6_base.proofs.Took.{took_none, took_then}
 use Rattle.unix_core.specs.declared.turned.Unbuilt.{Unbuilt}
 use Rattle.unix_core.specs.Unix.{System}
-use Rattle.unix_core.specs.Runs.{Event, Slot, Course, begun, event_of, course}
+use Rattle.unix_core.specs.Runs.{Event, Slot, Course, begun, started, start_of, event_of, course}
 use Rattle.unix_core.proofs.RunsLemmas.{course_joined, course_last}
-use Rattle.v6_run.specs.Events.{events_of}
-
--- what a run over these events has come to, and what the trace has taken of it
-pub record HasRun (from : Course) (events : List Event) (ending : Option Unbuilt) (system : System) (old new : Taken) : Type 0 where
-  pub ends : ending ≡ (course from events).ending
-  pub system_is : system ≡ (course from events).system
-  pub items : Took old (course from events).items new
+use Rattle.v6_run.specs.Courses.{HasRun}
 
 pub run_none : (m : System) (t : Taken) → HasRun (begun m) [] None m t t
 run_none m t = record { ends = refl; system_is = refl; items = took_none t }
 
-pub run_turn : (m next : System) (ending : Option Unbuilt) (old new : Taken) → next ≡ (event_of Slot m).next
-    → Took old (event_of Slot m).items new → (event_of Slot m).ending ≡ ending → HasRun (begun m) (Slot ∷ []) ending next old new
-run_turn m next ending old new goes took ends = record { ends = sym ends; system_is = goes; items = took }
+-- a run over one event
+pub run_event : (m next : System) (event : Event) (ending : Option Unbuilt) (old new : Taken) → next ≡ (event_of event m).next
+    → Took old (event_of event m).items new → (event_of event m).ending ≡ ending → HasRun (begun m) (event ∷ []) ending next old new
+run_event m next event ending old new goes took ends = record { ends = sym ends; system_is = goes; items = took }
+
+-- a run that has started
+pub run_started : (m next : System) (old new : Taken) → next ≡ (start_of m).next → Took old (start_of m).items new → HasRun (started m) [] None next old new
+run_started m next old new goes took = record { ends = refl; system_is = goes; items = took }
 
 -- a run goes on with the next events
 pub run_more : (c : Course) (m next : System) (ending : Option Unbuilt) (a b d : Taken) (xs ys all : List Event) → HasRun c xs None m a b
@@ -51,32 +50,9 @@ some_more n i inside =
     let count : n ≡ (i + 1) + (n - (i + 1)) = omega arith in
     ap (λ m. replicate m Slot) count ∙ sym (replicate-append-replicate (i + 1) (n - (i + 1)) Slot) ∙ ap (λ l. l ++ replicate (n - (i + 1)) Slot) (one_more i)
 
-pub line_more : (counts : List ℕ) (i : ℕ) → i < length counts → events_of (take (i + 1) counts) ≡ events_of (take i counts) ++ replicate (get_or counts i 0) Slot
-line_more counts i inside =
-    ap events_of (take_more counts i 0 inside) ∙ flat_map-append (λ n. replicate n Slot) (take i counts) (get_or counts i 0 ∷ [])
-    ∙ ap (λ l. events_of (take i counts) ++ l) (append-nil (replicate (get_or counts i 0) Slot))
+-- a run over as many events, given as another list
+pub run_as : (c : Course) (next : System) (ending : Option Unbuilt) (a b : Taken) (xs ys : List Event) → xs ≡ ys → HasRun c xs ending next a b → HasRun c ys ending next a b
+run_as c next ending a b xs ys is run = subst (λ l. HasRun c l ending next a b) is run
 
-pub lines_more : (counts : List ℕ) (i : ℕ) → i < length counts
-    → events_of counts ≡ (events_of (take i counts) ++ replicate (get_or counts i 0) Slot) ++ events_of (drop (i + 1) counts)
-lines_more counts i inside =
-    ap events_of (sym (take-append-drop (i + 1) counts)) ∙ flat_map-append (λ n. replicate n Slot) (take (i + 1) counts) (drop (i + 1) counts)
-    ∙ ap (λ l. l ++ events_of (drop (i + 1) counts)) (line_more counts i inside)
-
--- the same facts, as one
-pub run_piece : (m next : System) (events : List Event) (ending : Option Unbuilt) (old new : Taken) → ending ≡ (course (begun m) events).ending
-    → next ≡ (course (begun m) events).system → Took old (course (begun m) events).items new → HasRun (begun m) events ending next old new
-run_piece m next events ending old new ends goes took = record { ends = ends; system_is = goes; items = took }
-
--- the start of a kernel shows nothing and changes nothing
-pub from_start : (m first next : System) (events : List Event) (ending : Option Unbuilt) (a b d : Taken) → first ≡ m → Took a [] b
-    → HasRun (begun first) events ending next b d → HasRun (begun m) events ending next a d
-from_start m first next events ending a b d is nothing run =
-    subst (λ u. HasRun (begun u) events ending next a d) is (record {
-      ends = run.ends;
-      system_is = run.system_is;
-      items = took_then _ _ _ _ _ _ nothing run.items refl;
-    })
-
-pub all_lines : (c : Course) (counts : List ℕ) (i : ℕ) (ending : Option Unbuilt) (next : System) (a b : Taken) → HasRun c (events_of (take i counts)) ending next a b
-    → length counts ≤ i → HasRun c (events_of counts) ending next a b
-all_lines c counts i ending next a b run past = subst (λ l. HasRun c (events_of l) ending next a b) (take_all i counts past) run
+pub ends_as : (c : Course) (next : System) (e f : Option Unbuilt) (a b : Taken) (xs : List Event) → e ≡ f → HasRun c xs e next a b → HasRun c xs f next a b
+ends_as c next e f a b xs is run = subst (λ o. HasRun c xs o next a b) is run

@@ -10,6 +10,8 @@ use Rattle.v6_run.specs.declared.files.ReadError.{ReadError}
 use Rattle.v6_run.specs.declared.files.ReadError.TheVariants as reading
 use Rattle.v6_run.specs.declared.image.ImageError.{ImageError}
 use Rattle.v6_run.specs.declared.image.ImageError.TheVariants as image
+use Rattle.script_text.specs.declared.script.ScriptFault.{ScriptFault}
+use Rattle.script_text.specs.declared.script.ScriptFault.TheVariants as fault
 use Rattle.v6_run.specs.declared.script.ScriptError.{ScriptError}
 use Rattle.v6_run.specs.declared.script.ScriptError.TheVariants as script
 use Rattle.v6_run.specs.declared.run.BootError.{BootError}
@@ -30,9 +32,14 @@ abbrev pub image_status : ImageError → Status
 image_status (image.Unread error) = read_status in_port.Image error
 image_status (image.Faulty fault) = status.ImageFault fault
 
+-- want of memory is a status of its own
+abbrev pub fault_status : ScriptFault → Status
+fault_status fault.NoMemory = status.NoMemory
+fault_status fault = status.ScriptFault fault
+
 abbrev pub script_status : ScriptError → Status
-script_status (script.Line n) = status.NotBuilt (unbuilt.Line n)
-script_status script.NoMemory = status.NoMemory
+script_status (script.Faulty fault) = fault_status fault
+script_status (script.Unbuilt n) = status.NotBuilt (unbuilt.Line n)
 
 abbrev pub boot_status : BootError → Status
 boot_status boot.Form = status.NotBuilt unbuilt.Image
@@ -41,7 +48,7 @@ boot_status boot.NoMemory = status.NoMemory
 abbrev pub run_status : RunError → Status
 run_status (run.Image error) = image_status error
 run_status (run.Script error) = read_status in_port.Script error
-run_status (run.Line error) = script_status error
+run_status (run.Refused error) = script_status error
 run_status (run.Boot error) = boot_status error
 run_status (run.Write output) = status.WriteFault (port_of output)
 run_status (run.NotBuilt place) = status.NotBuilt place

@@ -1,7 +1,50 @@
--- What a script makes happen, by docs/manual/scripts.md.
-use Rattle.std.specs.Prelude.{ℕ, List, replicate, flat_map}
-use Rattle.unix_core.specs.Runs.{Event, Slot}
+-- What a script makes happen to the kernel, by docs/manual/scripts.md.
+use Rattle.std.specs.Prelude.{ℕ, Bool, not, ◌+◌, ◌%◌, ◌==◌, ◌&&◌, if◌then◌else◌, List, [], ◌∷◌, ◌++◌, flat_map}
+use Rattle.std.specs.List.{range_with_len}
+use Rattle.script_text.specs.declared.script.Event as asked
+use Rattle.script_text.specs.declared.script.Event.TheVariants as ask
+use Rattle.unix_core.specs.Runs.{Event, Slot, Tick, Byte, Switch}
 
--- so many slots for each line
-abbrev pub events_of : List ℕ → List Event
-events_of counts = flat_map (λ n. replicate n Slot) counts
+-- The clock that a script has set: a tick comes after every so manyth slot, 0 being none, and so many slots have been taken
+-- since it was set.
+pub record Clock : Type 0 where
+  pub every : ℕ
+  pub slots : ℕ
+
+-- at the start there is none
+abbrev pub first_clock : Clock
+first_clock = record { every = 0; slots = 0 }
+
+-- A tick comes after a slot of this number, the first after the clock was set being 1.
+abbrev pub is_ticked : ℕ → ℕ → Bool
+is_ticked every n = not (every == 0) && (n % every == 0)
+
+abbrev pub slot_with : Bool → List Event
+slot_with ticks = if ticks then Slot ∷ Tick ∷ [] else Slot ∷ []
+
+abbrev pub slot_numbered : ℕ → ℕ → List Event
+slot_numbered every n = slot_with (is_ticked every n)
+
+-- what one event of a script makes happen
+abbrev pub happens : Clock → asked.Event → List Event
+happens c (ask.Clock every) = []
+happens c (ask.Run n) = flat_map (slot_numbered c.every) (range_with_len (c.slots + 1) n)
+happens c ask.Tick = Tick ∷ []
+happens c (ask.Byte byte) = Byte byte ∷ []
+happens c (ask.Switch word) = Switch word ∷ []
+
+-- A line `clock N` counts slots anew, and a line `run N` goes on with the count.
+abbrev pub clock_after : Clock → asked.Event → Clock
+clock_after c (ask.Clock every) = record { every = every; slots = 0 }
+clock_after c (ask.Run n) = record c { slots = c.slots + n }
+clock_after c ask.Tick = c
+clock_after c (ask.Byte byte) = c
+clock_after c (ask.Switch word) = c
+
+abbrev pub events_from : Clock → List asked.Event → List Event
+events_from c [] = []
+events_from c (event ∷ events) = happens c event ++ events_from (clock_after c event) events
+
+-- what a whole script makes happen
+abbrev pub events_of : List asked.Event → List Event
+events_of events = events_from first_clock events

@@ -1,6 +1,7 @@
 -- What a command answers and writes, from its words and the bytes of its files, in the order of docs/manual/commands.md: the
--- words, the size of core, the image's first fault, the script's first line that isn't built, the form of the image, and the run.
-use Rattle.std.specs.Prelude.{◌≡◌, ℕ, Bool, true, false, not, Option, Some, None, IsSomeAnd, List, [], take, nat_le, ◌&&◌, ◌||◌, if◌then◌else◌}
+-- words, the size of core, the image's first fault, the script's first fault and its first line that isn't built, the form of the
+-- image, and the run.
+use Rattle.std.specs.Prelude.{◌≡◌, ℕ, Bool, true, false, not, Option, Some, None, IsSomeAnd, List, [], take, nat_le, ◌&&◌, ◌||◌, if◌then◌else◌, Result, Ok, Err}
 use Rattle.v6_port.specs.declared.host.InPort.TheVariants as in_port
 use Rattle.v6_port.specs.declared.host.OutPort.{OutPort}
 use Rattle.v6_port.specs.declared.host.OutPort.TheVariants as out_port
@@ -10,6 +11,10 @@ use Rattle.fs_codec.specs.declared.fault.ImageFault.{ImageFault}
 use Rattle.fs_codec.specs.Disk.{disk_of}
 use Rattle.fs_codec.specs.Faults.{image_fault}
 use Rattle.fs_codec.specs.Stands.{store_of}
+use Rattle.script_text.specs.declared.script.ScriptFault.{ScriptFault}
+use Rattle.script_text.specs.declared.script.ScriptFault.TheVariants.{NoMemory}
+use Rattle.script_text.specs.declared.script.Event.{Event}
+use Rattle.script_text.specs.Script.{script_of, signal_line_of}
 use Rattle.make_image.specs.Image.{build_of}
 use Rattle.unix_core.specs.Runs.{Course, runs}
 use Rattle.v6_run.specs.declared.image.TheConstants.{IMAGE_LIMIT}
@@ -19,8 +24,6 @@ use Rattle.v6_run.specs.declared.status.Status.TheVariants as status
 use Rattle.unix_core.specs.declared.turned.Unbuilt.{Unbuilt}
 use Rattle.unix_core.specs.declared.turned.Unbuilt.TheVariants as unbuilt
 use Rattle.v6_run.specs.Words.{RunWords, Command, Run, Check, Make}
-use Rattle.v6_run.specs.Script.{Script, Slots, script_of}
-use Rattle.v6_run.specs.Script as script
 use Rattle.v6_run.specs.Events.{events_of}
 use Rattle.v6_run.specs.Status.{has_written}
 use Rattle.v6_run.specs.Fronts.{HoldsSome, HoldsFrontOfSome, exactly}
@@ -74,14 +77,22 @@ abbrev pub boot_completion : List ℕ → Option Course → Completion
 boot_completion image None = ends_with (status.NotBuilt unbuilt.Image)
 boot_completion image (Some c) = course_completion image c
 
-abbrev pub lines_completion : List ℕ → ℕ → Script → Completion
-lines_completion image core (script.Unbuilt n) = ends_with (status.NotBuilt (unbuilt.Line n))
-lines_completion image core (Slots counts) = boot_completion image (runs image core (events_of counts))
+-- from a script without a fault, and its first line that types a key which makes a signal
+abbrev pub events_completion : List ℕ → ℕ → List Event → Option ℕ → Completion
+events_completion image core events (Some n) = ends_with (status.NotBuilt (unbuilt.Line n))
+events_completion image core events None = boot_completion image (runs image core (events_of events))
+
+abbrev pub lines_completion : List ℕ → ℕ → Result (List Event) ScriptFault → Option ℕ → Completion
+lines_completion image core (Err fault) signal = ends_with (status.ScriptFault fault)
+lines_completion image core (Ok events) signal = events_completion image core events signal
+
+abbrev pub bytes_completion : List ℕ → ℕ → List ℕ → Completion
+bytes_completion image core bytes = lines_completion image core (script_of bytes) (signal_line_of bytes)
 
 -- from the bytes of SCRIPT, of which at most one more is read than a script may have
 abbrev pub script_completion : ℕ → Option (List ℕ) → List ℕ → MaybeCompletion
 script_completion core None image = Unknown
-script_completion core (Some bytes) image = Known (lines_completion image core (script_of (take SCRIPT_LIMIT bytes)))
+script_completion core (Some bytes) image = Known (bytes_completion image core (take SCRIPT_LIMIT bytes))
 
 abbrev pub fault_completion : Option ImageFault → MaybeCompletion → MaybeCompletion
 fault_completion (Some fault) rest = Known (ends_with (status.ImageFault fault))
@@ -148,12 +159,18 @@ abbrev pub is_run : Command → Bool
 is_run (Run words) = true
 is_run _ = false
 
+-- want of memory is a status of its own
+abbrev pub is_script_fault : ScriptFault → Bool
+is_script_fault NoMemory = false
+is_script_fault _ = true
+
 -- The statuses that a good command may end with. A fault is one of a port for which its words have a name, or of a report that
 -- is all that the command has to say.
 abbrev pub may_end : Command → Status → Bool
 may_end command status.Done = true
 may_end command (status.ReadFault port) = is_named command (In port)
 may_end command (status.WriteFault port) = is_named command (Out port) || (is_report (Out port) && reports_done command)
+may_end command (status.ScriptFault fault) = is_run command && is_script_fault fault
 may_end command (status.ImageFault fault) = is_named command (In in_port.Image)
 may_end command status.NoMemory = true
 may_end command (status.NotBuilt place) = is_run command

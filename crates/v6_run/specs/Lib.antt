@@ -1,6 +1,4 @@
-pub mod Number
 pub mod Status
-pub mod Script
 pub mod Words
 pub mod Errors
 pub mod Causes
@@ -9,6 +7,8 @@ pub mod Fronts
 pub mod Report
 pub mod Ports
 pub mod Events
+pub mod Clocks
+pub mod Courses
 pub mod Final
 pub mod Outputs
 pub mod Headline

@@ -5,6 +5,8 @@ use Rattle.v6_port.specs.declared.host.InPort.TheVariants as in_port
 use Rattle.v6_port.specs.declared.host.OutPort.{OutPort}
 use Rattle.v6_port.specs.declared.host.OutPort.TheVariants as out_port
 use Rattle.v6_port.specs.Outside.{Out, PortState, Outside}
+use Rattle.script_text.specs.declared.script.ScriptFault.{ScriptFault}
+use Rattle.script_text.specs.declared.script.ScriptFault.TheVariants as script
 use Rattle.fs_codec.specs.declared.fault.ImageFault.{ImageFault}
 use Rattle.fs_codec.specs.declared.fault.ImageFault.TheVariants.{TooLong, BadSuper, NoSwap, FreeCount, FreeOutside, NodeOutside, BlockTwice, NoRoot}
 use Rattle.fs_codec.specs.Store.{Store}
@@ -29,6 +31,12 @@ out_name out_port.Term = codes "term"
 out_name out_port.Log = codes "log"
 out_name out_port.Final = codes "final"
 out_name out_port.Report = codes "report"
+
+abbrev pub script_line : ScriptFault → List ℕ
+script_line script.TooLong = line_of (codes "script: too long")
+script_line (script.BadLine n) = line_of (codes "script: line " ++ decimal n)
+script_line (script.TooManySlots n) = line_of (codes "script: too many slots at line " ++ decimal n)
+script_line script.NoMemory = line_of (codes "no memory")
 
 abbrev pub fault_line : ImageFault → List ℕ
 fault_line TooLong = line_of (codes "image: too long")
@@ -56,6 +64,7 @@ status_line status.Usage = line_of usage
 status_line (status.ReadFault port) = line_of (codes "read fault: " ++ in_name port)
 status_line (status.WriteFault port) = line_of (codes "write fault: " ++ out_name port)
 status_line status.CoreSize = line_of (codes "core size")
+status_line (status.ScriptFault fault) = script_line fault
 status_line (status.ImageFault fault) = fault_line fault
 status_line status.NoMemory = line_of (codes "no memory")
 status_line (status.NotBuilt place) = unbuilt_line place

@@ -2,7 +2,7 @@
 use Rattle.std.specs.Prelude.{ℕ, Bool, true, false, Option, Some, None}
 use Rattle.v6_port.specs.Outside.{Port, In, Out}
 use Rattle.v6_run.specs.declared.status.Status.{Status}
-use Rattle.v6_run.specs.declared.status.Status.TheVariants.{Done, Usage, ReadFault, WriteFault, CoreSize, ImageFault, NoMemory, NotBuilt}
+use Rattle.v6_run.specs.declared.status.Status.TheVariants.{Done, Usage, ReadFault, WriteFault, CoreSize, ScriptFault, ImageFault, NoMemory, NotBuilt}
 use Rattle.unix_core.specs.declared.turned.Unbuilt.TheVariants as unbuilt
 
 abbrev pub status_number : Status → ℕ
@@ -11,6 +11,7 @@ status_number Usage = 1
 status_number (ReadFault port) = 2
 status_number (WriteFault port) = 3
 status_number CoreSize = 4
+status_number (ScriptFault fault) = 5
 status_number (ImageFault fault) = 6
 status_number NoMemory = 8
 status_number (NotBuilt place) = 11
@@ -24,6 +25,7 @@ fault_port _ = None
 -- whether the bytes of the command's files decide that it ends so
 abbrev pub is_decided : Status → Bool
 is_decided Done = true
+is_decided (ScriptFault fault) = true
 is_decided (ImageFault fault) = true
 is_decided (NotBuilt place) = true
 is_decided _ = false

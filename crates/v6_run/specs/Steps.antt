@@ -1,10 +1,12 @@
 -- Why a step of a command stops, step by step in the order of docs/manual/commands.md.
-use Rattle.std.specs.Prelude.{◌≡◌, ⊤, ℕ, Bool, Option, Some, None, IsSomeAnd, List, take}
+use Rattle.std.specs.Prelude.{◌≡◌, ⊤, ℕ, Bool, Option, Some, None, IsSomeAnd, List, take, Ok}
 use Rattle.v6_port.specs.declared.host.InPort.TheVariants as in_port
 use Rattle.v6_port.specs.Outside.{Port, In, Outside, Tells}
 use Rattle.v6_port.specs.Causes.{Calm, FaultAt}
 use Rattle.v6_port.specs.Calls.{is_given}
 use Rattle.fs_codec.specs.Faults.{image_fault}
+use Rattle.script_text.specs.declared.script.Event.{Event}
+use Rattle.script_text.specs.Script.{script_of, signal_line_of, Refuses}
 use Rattle.unix_core.specs.Unix.{System}
 use Rattle.v6_run.specs.declared.image.TheConstants.{IMAGE_LIMIT}
 use Rattle.v6_run.specs.declared.files.ReadError.{ReadError}
@@ -15,7 +17,6 @@ use Rattle.v6_run.specs.declared.script.ScriptError.{ScriptError}
 use Rattle.v6_run.specs.declared.script.ScriptError.TheVariants as script_error
 use Rattle.v6_run.specs.declared.run.BootError.{BootError}
 use Rattle.v6_run.specs.declared.run.BootError.TheVariants as boot
-use Rattle.v6_run.specs.Script.{Script, Unbuilt}
 
 -- the reading of a file: at a fault of its port, under a name that is known or not, or for want of memory
 abbrev pub StopsReading : Port → Bool → ReadError → Outside → Outside → Type 0
@@ -28,10 +29,10 @@ StopsImage name (image.Unread error) old new = StopsReading (In in_port.Image) (
 StopsImage name (image.Faulty fault) old new =
     Calm old new × (Tells old → IsSomeAnd (old.fixed.given name) (λ bytes. image_fault (take IMAGE_LIMIT bytes) ≡ Some fault))
 
--- a script: at its first line that is not built, or for want of memory
-abbrev pub RefusesScript : Script → ScriptError → Type 0
-RefusesScript script (script_error.Line n) = script ≡ Unbuilt n
-RefusesScript script script_error.NoMemory = ⊤
+-- a script: at its first fault, or for want of memory, or without a fault at the first line that is not built
+abbrev pub RefusesScript : List ℕ → ScriptError → Type 0
+RefusesScript script (script_error.Faulty fault) = Refuses script fault
+RefusesScript script (script_error.Unbuilt n) = (events : List Event) × (script_of script ≡ Ok events) × (signal_line_of script ≡ Some n)
 
 -- an image without a fault: where it has not the form that is built, or for want of memory
 abbrev pub RefusesImage : Option System → BootError → Type 0

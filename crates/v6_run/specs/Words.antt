@@ -2,7 +2,7 @@
 use Rattle.std.specs.Prelude.{ℕ, Bool, true, false, Option, Some, None, List, [], ◌∷◌, map, nat_eq, codes, String, string_bytes}
 use Rattle.std.specs.declared.alloc.Global.{Global}
 use Rattle.std.specs.Cmp.Lexicographic.{pointwise}
-use Rattle.v6_run.specs.Number.{number_of}
+use Rattle.script_text.specs.Number.{number_of}
 use Rattle.v6_run.specs.declared.words.RunWords as words
 use Rattle.v6_run.specs.declared.words.Command as written
 use Rattle.v6_run.specs.declared.words.Command.TheVariants as variant

@@ -96,8 +96,8 @@ fn answer<H: Host>(
 ///
 /// The commands are:
 ///
-/// - `run IMAGE CORE SCRIPT TERM LOG FINAL` boots the disk IMAGE with CORE clicks of memory, gives it the slots that SCRIPT asks
-///   for, and writes to TERM what the terminal shows and to FINAL the disk that it leaves.
+/// - `run IMAGE CORE SCRIPT TERM LOG FINAL` boots the disk IMAGE with CORE clicks of memory, takes it through what SCRIPT
+///   asks for, and writes to TERM what the terminal shows and to FINAL the disk that it leaves.
 /// - `check IMAGE` tells how many nodes and free blocks the disk IMAGE has, or the first of its faults.
 /// - `make N FINAL` writes the disk image of the number N to FINAL.
 ///
@@ -109,14 +109,15 @@ pub fn v6<H: Host>(alloc: Global, words: &Vec<String>, host: &mut H) -> Status
     // No port is touched but those for which the words have a name, and Report.
     ensures only { OnlyAt (is_touched (command_in words.now.items)) (H.outside host.old) (H.outside host.new) }
 
-    // The words alone give Usage and CoreSize, exactly, and no file is opened then.
+    // The words alone give Usage and CoreSize, exactly, and no file is opened then. Else the status is one that the command may
+    // end with: want of memory is NoMemory, and never stands in a ScriptFault.
     ensures words { MatchOption (refused_by (command_in words.now.items)) (words_may_end (command_in words.now.items) result ≡ true)
         (λ refusal. result ≡ refusal) }
     ensures unopened { IsSome (refused_by (command_in words.now.items))
         → OnlyAt is_report (H.outside host.old) (H.outside host.new) }
 
-    // Done, ImageFault and NotBuilt are exactly what the command's files come to, and each file has got all of a text that may be
-    // written to it. At a write fault each has got a front of one, or nothing.
+    // Done, ScriptFault, ImageFault and NotBuilt are exactly what the command's files come to, and each file has got all of a text
+    // that may be written to it. At a write fault each has got a front of one, or nothing.
     ensures complete { is_decided result ≡ true → Tells (H.outside host.old)
         → IsKnownAnd (words_completion (command_in words.now.items) (H.outside host.old).fixed)
         (IsComplete result (H.outside host.old) (H.outside host.new)) }

@@ -1,6 +1,6 @@
 //! Why a command was not done, and the status that says so.
 ghost use Rattle.std.specs.Prelude.{◌≡◌};
-ghost use Rattle.v6_run.specs.Errors.{read_status, image_status, script_status, boot_status, run_status, make_status};
+ghost use Rattle.v6_run.specs.Errors.{read_status, image_status, fault_status, script_status, boot_status, run_status, make_status};
 
 use crate::files::ReadError;
 use crate::image::ImageError;
@@ -8,6 +8,7 @@ use crate::make::MakeError;
 use crate::run::{BootError, RunError};
 use crate::script::ScriptError;
 use crate::status::Status;
+use script_text::ScriptFault;
 use unix_core::Unbuilt;
 use v6_port::{InPort, OutPort};
 
@@ -44,12 +45,21 @@ fn image_status(error: ImageError) -> Status
     }
 }
 
+fn fault_status(fault: ScriptFault) -> Status
+    ensures { result ≡ fault_status fault }
+{
+    match fault {
+        ScriptFault::NoMemory => Status::NoMemory,
+        fault => Status::ScriptFault(fault),
+    }
+}
+
 fn script_status(error: ScriptError) -> Status
     ensures { result ≡ script_status error }
 {
     match error {
-        ScriptError::Line(line) => Status::NotBuilt(Unbuilt::Line(line)),
-        ScriptError::NoMemory => Status::NoMemory,
+        ScriptError::Faulty(fault) => fault_status(fault),
+        ScriptError::Unbuilt(line) => Status::NotBuilt(Unbuilt::Line(line)),
     }
 }
 
@@ -68,7 +78,7 @@ fn run_status(error: RunError) -> Status
     match error {
         RunError::Image(error) => image_status(error),
         RunError::Script(error) => read_status(InPort::Script, error),
-        RunError::Line(error) => script_status(error),
+        RunError::Refused(error) => script_status(error),
         RunError::Boot(error) => boot_status(error),
         RunError::Write(output) => Status::WriteFault(output.port()),
         RunError::NotBuilt(place) => Status::NotBuilt(place),

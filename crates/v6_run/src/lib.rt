@@ -3,13 +3,13 @@
 #![tactic(auto)]
 
 mod check;
+mod clock;
 mod command;
 mod error;
 mod files;
 mod image;
 mod line;
 mod make;
-mod number;
 mod outputs;
 mod ports;
 mod report;
@@ -21,5 +21,6 @@ mod words;
 
 pub use command::v6;
 pub use fs_check::ImageFault;
+pub use script_text::ScriptFault;
 pub use status::Status;
 pub use unix_core::Unbuilt;

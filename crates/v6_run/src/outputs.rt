@@ -4,6 +4,10 @@ ghost use Rattle.v6_port.specs.declared.host.OutPort.{OutPort};
 ghost use Rattle.v6_port.specs.declared.host.OutPort.TheVariants as out_port;
 ghost use Rattle.v6_port.specs.Outside.{Out, IsOpen, OnlyAt, Tells, same};
 ghost use Rattle.v6_port.specs.Causes.{Calm, FaultAt};
+ghost use Rattle.fs_codec.specs.Stands.{StandsFor};
+ghost use Rattle.buf_cache.specs.Blocks.{block_at, IsDisk};
+ghost use Rattle.fs_laws.specs.Rest.{SameRest};
+ghost use Rattle.unix_core.specs.Runs.{finished};
 ghost use Rattle.v6_run.specs.Words.{run_words_value};
 ghost use Rattle.v6_run.specs.Ports.{final_of};
 ghost use Rattle.v6_run.specs.Fronts.{HoldsFront};
@@ -59,7 +63,7 @@ pub(crate) fn open_outputs<H: Host>(words: &RunWords<'_>, host: &mut H) -> Resul
 }
 
 /// Writes all blocks of the kernel's disk.
-pub(crate) fn write_disk<H: Host>(kernel: &Kernel, host: &mut H) -> Result<(), Failed>
+fn write_disk<H: Host>(kernel: &Kernel, host: &mut H) -> Result<(), Failed>
     requires { IsOpen (H.outside host.old) (Out out_port.Final) }
     ensures only { OnlyAt (same (Out out_port.Final)) (H.outside host.old) (H.outside host.new) }
     ensures is_open { IsOpen (H.outside host.new) (Out out_port.Final) }
@@ -74,6 +78,26 @@ pub(crate) fn write_disk<H: Host>(kernel: &Kernel, host: &mut H) -> Result<(), F
         write_all(host, OutPort::Final, &kernel.final_block(n))?;
     }
     Ok(())
+}
+
+/// Finishes the run, and writes all blocks of the disk that it leaves.
+pub(crate) fn leave_disk<H: Host>(kernel: &mut Kernel, host: &mut H) -> Result<(), Failed>
+    requires { IsOpen (H.outside host.old) (Out out_port.Final) }
+    ensures system { kernel.new.system ≡ finished kernel.old.system }
+    ensures stands { StandsFor DISK_BLOCKS (block_at kernel.new.blocks) kernel.new.system.unix.store }
+    ensures rest { SameRest kernel.old.blocks kernel.new.blocks }
+    ensures form { IsDisk kernel.new.blocks }
+    ensures only { OnlyAt (same (Out out_port.Final)) (H.outside host.old) (H.outside host.new) }
+    ensures is_open { IsOpen (H.outside host.new) (Out out_port.Final) }
+    ensures whole { OnOk result (Tells (H.outside host.old)
+        → (final_of (H.outside host.new)).bytes ≡ (final_of (H.outside host.old)).bytes ++ disk_text kernel.new.blocks) }
+    ensures front { Tells (H.outside host.old)
+        → HoldsFront (final_of (H.outside host.old)).bytes (disk_text kernel.new.blocks) (final_of (H.outside host.new)).bytes }
+    ensures cause { MatchResult result (λ _. Calm (H.outside host.old) (H.outside host.new))
+        (λ _. FaultAt (Out out_port.Final) true (H.outside host.old) (H.outside host.new)) }
+{
+    kernel.finish();
+    write_disk(kernel, host)
 }
 
 /// Finishes both, the terminal's first.

@@ -4,7 +4,7 @@ ghost use Rattle.v6_port.specs.Outside.{Out, OnlyAt, Tells, same};
 ghost use Rattle.v6_port.specs.declared.host.OutPort.TheVariants.{Report};
 ghost use Rattle.v6_port.specs.Causes.{Calm, FaultAt};
 ghost use Rattle.v6_run.specs.Fronts.{HoldsFront};
-ghost use Rattle.v6_run.specs.Report.{report, status_line, unbuilt_line, fault_line, ok_line};
+ghost use Rattle.v6_run.specs.Report.{report, status_line, unbuilt_line, script_line, fault_line, ok_line};
 ghost use Rattle.v6_run.specs.Answers.{Reports};
 
 use crate::error::CommandError;
@@ -12,11 +12,23 @@ use crate::files::write_all;
 use crate::line::{Line, numbered, plain, twice_numbered};
 use crate::status::Status;
 use fs_check::{ImageFault, Tally};
+use script_text::ScriptFault;
 use unix_core::Unbuilt;
 use v6_port::{Failed, Host, InPort, OutPort};
 
 const USAGE: &str =
     "usage: v6 run IMAGE CORE SCRIPT TERM LOG FINAL, memory IMAGE CORE SCRIPT FINAL, check IMAGE, make N FINAL, demo N";
+
+fn script_line(fault: ScriptFault) -> Line
+    ensures { result.bytes ≡ script_line fault }
+{
+    match fault {
+        ScriptFault::TooLong => plain("script: too long"),
+        ScriptFault::BadLine(line) => numbered("script: line ", line, ""),
+        ScriptFault::TooManySlots(line) => numbered("script: too many slots at line ", line, ""),
+        ScriptFault::NoMemory => plain("no memory"),
+    }
+}
 
 fn fault_line(fault: ImageFault) -> Line
     ensures { result.bytes ≡ fault_line fault }
@@ -62,6 +74,7 @@ fn status_line(status: Status) -> Line
         Status::WriteFault(OutPort::Final) => plain("write fault: final"),
         Status::WriteFault(OutPort::Report) => plain("write fault: report"),
         Status::CoreSize => plain("core size"),
+        Status::ScriptFault(fault) => script_line(fault),
         Status::ImageFault(fault) => fault_line(fault),
         Status::NoMemory => plain("no memory"),
         Status::NotBuilt(place) => unbuilt_line(place),

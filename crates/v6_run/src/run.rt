@@ -1,4 +1,5 @@
 //! The command `run`.
+ghost use Rattle.std.specs.List.{list_any};
 ghost use Rattle.std.specs.Prelude.{◌≡◌, ◌<◌, ◌≤◌, ◌^◌, length, is_some, true, false, None, Some, IfOk, OnOk, IfErr, MatchResult, ◌++◌};
 ghost use Rattle.v6_base.specs.Trace.{line_bytes};
 ghost use Rattle.v6_port.specs.Outside.{Out, IsOpen, OnlyAt, Tells, same};
@@ -9,7 +10,8 @@ ghost use Rattle.fs_codec.specs.Faults.{image_fault};
 ghost use Rattle.fs_codec.specs.Disk.{head};
 ghost use Rattle.buf_cache.specs.Blocks.{block_at, blocks_of};
 ghost use Rattle.fs_laws.specs.Rest.{SameRest};
-ghost use Rattle.unix_core.specs.Runs.{boots, begun, course};
+ghost use Rattle.script_text.specs.Script.{is_signal};
+ghost use Rattle.unix_core.specs.Runs.{boots, started, course};
 ghost use Rattle.v6_run.specs.Words.{Run, run_words_value};
 ghost use Rattle.v6_run.specs.Events.{events_of};
 ghost use Rattle.v6_run.specs.Ports.{term};
@@ -22,12 +24,13 @@ ghost use Rattle.v6_run.specs.Answers.{Answers, HasFiles};
 
 use crate::files::{ReadError, read_file};
 use crate::image::{ImageError, read_image};
-use crate::outputs::{Output, finish_outputs, open_outputs, write_disk};
+use crate::outputs::{Output, finish_outputs, leave_disk, open_outputs};
 use crate::ports::Ports;
-use crate::script::{MAX_BYTES, ScriptError, read_script};
-use crate::slots::run_counts;
+use crate::script::{ScriptError, read_script};
+use crate::slots::run_script;
 use crate::words::RunWords;
 use fs_codec::SWAP_START;
+use script_text::{Event, MAX_BYTES};
 use std::alloc::Global;
 use unix_core::{BootFault, Kernel, Unbuilt};
 use v6_port::{Failed, Host, InPort};
@@ -51,8 +54,8 @@ pub(crate) enum RunError {
     Image(ImageError),
     /// The script could not be read.
     Script(ReadError),
-    /// The script asks for no slots.
-    Line(ScriptError),
+    /// The script has a fault, or a line that is not built.
+    Refused(ScriptError),
     /// The image is not booted.
     Boot(BootError),
     /// A file could not be opened, written or finished.
@@ -85,12 +88,12 @@ impl From<ReadError> for RunError {
 
 impl From<ScriptError> for RunError {
     ghost use Rattle.std.specs.Prelude.{◌≡◌};
-    ghost use Rattle.v6_run.specs.declared.run.RunError.TheVariants.{Line};
+    ghost use Rattle.v6_run.specs.declared.run.RunError.TheVariants.{Refused};
 
-    ghost from_gives = { λ error run_error. run_error ≡ Line error };
+    ghost from_gives = { λ error run_error. run_error ≡ Refused error };
 
     fn from(error: ScriptError) -> RunError {
-        RunError::Line(error)
+        RunError::Refused(error)
     }
 }
 
@@ -122,29 +125,30 @@ fn boot(alloc: Global, image: &[u8], core: u32) -> Result<Kernel, BootError>
     }
 }
 
-/// Runs the kernel over the slots of each line, with the terminal open, and gives what isn't built where it comes to that.
+/// Runs the kernel over the events of a script, with the terminal open, and gives what isn't built where it comes to that.
 fn play<H: Host>(
     kernel: &mut Kernel,
-    counts: &[u32],
+    events: &[Event],
     host: &mut H,
 ) -> Result<Option<Unbuilt>, Failed>
-    requires { IsOpen (H.outside host.old) (Out Term) }
+    requires term { IsOpen (H.outside host.old) (Out Term) }
+    requires unsignalled { list_any is_signal events.now ≡ false }
     ensures only { OnlyAt (same (Out Term)) (H.outside host.old) (H.outside host.new) }
     ensures is_open { IsOpen (H.outside host.new) (Out Term) }
-    ensures ending { IfOk result (λ ending. ending ≡ (course (begun kernel.old.system) (events_of counts.now)).ending) }
+    ensures ending { IfOk result (λ ending. ending ≡ (course (started kernel.old.system) (events_of events.now)).ending) }
     ensures shown { OnOk result (Tells (H.outside host.old)
         → (term (H.outside host.new)).bytes ≡ (term (H.outside host.old)).bytes
-        ++ line_bytes 0 (course (begun kernel.old.system) (events_of counts.now)).items) }
+        ++ line_bytes 0 (course (started kernel.old.system) (events_of events.now)).items) }
     ensures front { Tells (H.outside host.old)
-        → HoldsFront (term (H.outside host.old)).bytes (line_bytes 0 (course (begun kernel.old.system) (events_of counts.now)).items)
+        → HoldsFront (term (H.outside host.old)).bytes (line_bytes 0 (course (started kernel.old.system) (events_of events.now)).items)
         (term (H.outside host.new)).bytes }
-    ensures system { kernel.new.system ≡ (course (begun kernel.old.system) (events_of counts.now)).system }
+    ensures system { kernel.new.system ≡ (course (started kernel.old.system) (events_of events.now)).system }
     ensures rest { SameRest kernel.old.blocks kernel.new.blocks }
     ensures cause { MatchResult result (λ _. Calm (H.outside host.old) (H.outside host.new))
         (λ _. FaultAt (Out Term) true (H.outside host.old) (H.outside host.new)) }
 {
     let mut ports = Ports::new(host);
-    let ending = run_counts(kernel, counts, &mut ports);
+    let ending = run_script(kernel, events, &mut ports);
     if ports.is_cut() {
         Err(Failed)
     } else {
@@ -156,29 +160,29 @@ fn play<H: Host>(
 /// is written, and then the files are finished.
 fn run_with_outputs<H: Host>(
     kernel: &mut Kernel,
-    counts: &[u32],
+    events: &[Event],
     words: &RunWords<'_>,
     host: &mut H,
 ) -> Result<Option<Unbuilt>, Output>
     requires closed { (p : OutPort) → is_output (Out p) ≡ true → ((H.outside host.old).port (Out p)).is_open ≡ false }
     requires root { (head (block_at kernel.old.blocks)).f_size ≤ SWAP_START }
+    requires unsignalled { list_any is_signal events.now ≡ false }
     ensures only { OnlyAt is_output (H.outside host.old) (H.outside host.new) }
     ensures outcome { MatchResult result
-        (λ ending. EndsRun (block_at kernel.old.blocks) (course (begun kernel.old.system) (events_of counts.now)) ending
+        (λ ending. EndsRun (block_at kernel.old.blocks) (course (started kernel.old.system) (events_of events.now)) ending
         (H.outside host.old) (H.outside host.new))
-        (λ output. StopsRun (block_at kernel.old.blocks) (course (begun kernel.old.system) (events_of counts.now)) output
+        (λ output. StopsRun (block_at kernel.old.blocks) (course (started kernel.old.system) (events_of events.now)) output
         (run_knows (run_words_value words.now) (H.outside host.old).fixed (Out (port_of output)))
         (H.outside host.old) (H.outside host.new)) }
 {
     open_outputs(words, host)?;
-    let Ok(ending) = play(kernel, counts, host) else {
+    let Ok(ending) = play(kernel, events, host) else {
         return Err(Output::Term);
     };
     if ending.is_some() {
         return Ok(ending);
     }
-    kernel.finish();
-    if write_disk(kernel, host).is_err() {
+    if leave_disk(kernel, host).is_err() {
         return Err(Output::Final);
     }
     finish_outputs(host)?;
@@ -216,9 +220,9 @@ pub(crate) fn run<H: Host>(
     ensures { Answers (Run (run_words_value words.now)) (end_of run_status result) (H.outside host.old) (H.outside host.new) }
 {
     let files = read_files(alloc, words, host)?;
-    let counts = read_script(alloc, &files.script)?;
+    let script = read_script(alloc, &files.script)?;
     let mut kernel = boot(alloc, &files.image, words.core)?;
-    match run_with_outputs(&mut kernel, &counts, words, host) {
+    match run_with_outputs(&mut kernel, &script.events, words, host) {
         Ok(None) => Ok(()),
         Ok(Some(place)) => Err(RunError::NotBuilt(place)),
         Err(output) => Err(RunError::Write(output)),

@@ -3,6 +3,7 @@ ghost use Rattle.std.specs.Prelude.{◌≡◌};
 ghost use Rattle.v6_run.specs.Status.{status_number};
 
 use fs_check::ImageFault;
+use script_text::ScriptFault;
 use unix_core::Unbuilt;
 use v6_port::{InPort, OutPort};
 
@@ -19,6 +20,8 @@ pub enum Status {
     WriteFault(OutPort),
     /// The size of core is not 64 to 3968 clicks.
     CoreSize,
+    /// The script has this first fault. Want of memory is [`Status::NoMemory`].
+    ScriptFault(ScriptFault),
     /// The disk image has this first fault.
     ImageFault(ImageFault),
     /// There was no memory, before the first slot of a run and before anything else is written.
@@ -38,6 +41,7 @@ impl Status {
             Status::ReadFault(_) => 2,
             Status::WriteFault(_) => 3,
             Status::CoreSize => 4,
+            Status::ScriptFault(_) => 5,
             Status::ImageFault(_) => 6,
             Status::NoMemory => 8,
             Status::NotBuilt(_) => 11,

@@ -1,9 +1,9 @@
 //! The words of a command.
 ghost use Rattle.std.specs.Prelude.{◌≡◌, option_map, string_bytes, codes};
-ghost use Rattle.v6_run.specs.Number.{number_of};
+ghost use Rattle.script_text.specs.Number.{number_of};
 ghost use Rattle.v6_run.specs.Words.{command_in, run_words, check_words, make_words, is_word, command_value};
 
-use crate::number::number_of;
+use script_text::number_of;
 
 /// The files of `run` that are read or written, and the size of core in clicks of 64 bytes.
 #[derive(Clone, Copy, Debug)]

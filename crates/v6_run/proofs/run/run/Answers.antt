@@ -1,14 +1,14 @@
-use Rattle.std.proofs.Common.{◌≡◌, ◌≤◌, ◌∙◌, sym, ap, subst, Option, None, Some}
+use Rattle.std.proofs.Common.{◌≡◌, ◌≤◌, ◌∙◌, sym, ap, subst, Option, None, Some, Ok}
 use Rattle.v6_port.specs.Outside.{PortState}
 use Rattle.fs_codec.specs.Disk.{disk_of, head}
 use Rattle.fs_codec.specs.declared.layout.TheConstants.{SWAP_START}
 use Rattle.buf_cache.specs.Blocks.{block_at, blocks_of}
 use Rattle.unix_core.specs.declared.turned.Unbuilt.{Unbuilt}
-use Rattle.unix_core.specs.Runs.{boots, begun, course}
+use Rattle.unix_core.specs.Runs.{boots, started, course}
 use Rattle.v6_run.specs.Events.{events_of}
 use Rattle.v6_run.specs.Outputs.{EndsRun}
 use Rattle.v6_run.specs.Words.{Run, run_words_value}
-use Rattle.v6_run.specs.Script.{Slots, script_of}
+use Rattle.script_text.specs.Script.{script_of, signal_line_of}
 use Rattle.v6_run.specs.Steps.{RefusesScript, RefusesImage}
 use Rattle.v6_run.specs.Errors.{run_status}
 use Rattle.v6_run.specs.Answers.{Answers}
@@ -25,14 +25,14 @@ returns-in_err-files g c =
     let new = g.H.Host.outside c.read_files.new.host in
     end_passed run_status _ _ (λ s. Answers (Run words) s old new) c.from_residual.ensures.1 (error_where_err _ _ _ c.in_err-files.was c.read_files.ensures.refused)
 
-pub returns-in_err-counts : goal.returns-in_err-counts
-returns-in_err-counts g c =
+pub returns-in_err-script : goal.returns-in_err-script
+returns-in_err-script g c =
     let words = run_words_value c.args.words.now in
     let old = g.H.Host.outside c.args.host.now in
     let new = g.H.Host.outside c.read_files.new.host in
     let files = value_where_ok _ _ _ c.in_ok-files.was c.read_files.ensures.files in
-    let refused = subst (λ bytes. RefusesScript (script_of bytes) c.in_err-counts.field-0.0) c.deref.ensures.value (error_where_err _ _ _ c.in_err-counts.was c.read_script.ensures.refused) in
-    end_passed run_status _ _ (λ s. Answers (Run words) s old new) c.from_residual-in_err-counts.ensures.1 (script_refused words _ _ old new files _ refused)
+    let refused = subst (λ bytes. RefusesScript bytes c.in_err-script.field-0.0) c.deref.ensures.value (error_where_err _ _ _ c.in_err-script.was c.read_script.ensures.refused) in
+    end_passed run_status _ _ (λ s. Answers (Run words) s old new) c.from_residual-in_err-script.ensures.1 (script_refused words _ _ old new files _ refused)
 
 pub returns-in_err-kernel : goal.returns-in_err-kernel
 returns-in_err-kernel g c =
@@ -40,10 +40,11 @@ returns-in_err-kernel g c =
     let old = g.H.Host.outside c.args.host.now in
     let new = g.H.Host.outside c.read_files.new.host in
     let files = value_where_ok _ _ _ c.in_ok-files.was c.read_files.ensures.files in
-    let counts = c.in_ok-counts.counts.items in
-    let script_is = subst (λ bytes. script_of bytes ≡ Slots counts) c.deref.ensures.value (value_where_ok _ _ _ c.in_ok-counts.was c.read_script.ensures.counts) in
+    let events = c.in_ok-script.script.events.items in
+    let built = subst (λ l. signal_line_of l ≡ None) c.deref.ensures.value (value_where_ok _ _ _ c.in_ok-script.was c.read_script.ensures.built) in
+    let script_is = subst (λ bytes. script_of bytes ≡ Ok events) c.deref.ensures.value (value_where_ok _ _ _ c.in_ok-script.was c.read_script.ensures.events) in
     let refused = subst (λ image. RefusesImage (boots image words.core) c.in_err-kernel.field-0.0) c.deref-2.ensures.value (error_where_err _ _ _ c.in_err-kernel.was c.boot.ensures.refused) in
-    end_passed run_status _ _ (λ s. Answers (Run words) s old new) c.from_residual-in_err-kernel.ensures.1 (boot_refused words _ _ old new files _ script_is _ refused)
+    end_passed run_status _ _ (λ s. Answers (Run words) s old new) c.from_residual-in_err-kernel.ensures.1 (boot_refused words _ _ old new files _ script_is built _ refused)
 
 pub run_with_outputs-requires-clause-closed : goal.run_with_outputs-requires-clause-closed
 run_with_outputs-requires-clause-closed g c p out =
@@ -65,17 +66,18 @@ returns-in-Ok-None g c =
     let files = value_where_ok _ _ _ c.in_ok-files.was c.read_files.ensures.files in
     let image = c.in_ok-files.files.image.items in
     let bytes = c.in_ok-files.files.script.items in
-    let counts = c.in_ok-counts.counts.items in
+    let events = c.in_ok-script.script.events.items in
     let kernel = c.in_ok-kernel.kernel in
-    let read = subst (λ l. script_of l ≡ Slots counts) c.deref.ensures.value (value_where_ok _ _ _ c.in_ok-counts.was c.read_script.ensures.counts) in
-    let script_is = subst (λ l. script_of bytes ≡ Slots l) (sym c.deref-3.ensures.value) read in
+    let read = subst (λ l. script_of l ≡ Ok events) c.deref.ensures.value (value_where_ok _ _ _ c.in_ok-script.was c.read_script.ensures.events) in
+    let built = subst (λ l. signal_line_of l ≡ None) c.deref.ensures.value (value_where_ok _ _ _ c.in_ok-script.was c.read_script.ensures.built) in
+    let script_is = subst (λ l. script_of bytes ≡ Ok l) (sym c.deref-3.ensures.value) read in
     let boots_is = subst (λ l. boots l words.core ≡ Some kernel.system) c.deref-2.ensures.value (value_where_ok _ _ _ c.in_ok-kernel.was c.boot.ensures.system) in
     let blocks_is = subst (λ l. kernel.blocks ≡ blocks_of l) c.deref-2.ensures.value (value_where_ok _ _ _ c.in_ok-kernel.was c.boot.ensures.blocks) in
     let only = c.run_with_outputs.ensures.only in
     let field = c.in-Ok-None.field-0-is in
     let none : c.in-Ok-None.field-0 ≡ None = cc in
-    let ends = subst (λ (e : Option Unbuilt). EndsRun (block_at kernel.blocks) (course (begun kernel.system) (events_of c.deref-3.result.now)) e middle new) none c.in-Ok-None.ensures.outcome in
-    run_ended words image bytes old middle files _ script_is kernel.system boots_is new only None (ends_over (disk_of image) (block_at kernel.blocks) (same_blocks image kernel.blocks blocks_is) _ _ _ _ ends)
+    let ends = subst (λ (e : Option Unbuilt). EndsRun (block_at kernel.blocks) (course (started kernel.system) (events_of c.deref-3.result.now)) e middle new) none c.in-Ok-None.ensures.outcome in
+    run_ended words image bytes old middle files _ script_is built kernel.system boots_is new only None (ends_over (disk_of image) (block_at kernel.blocks) (same_blocks image kernel.blocks blocks_is) _ _ _ _ ends)
 
 pub returns-in-Ok-Some : goal.returns-in-Ok-Some
 returns-in-Ok-Some g c =
@@ -86,18 +88,19 @@ returns-in-Ok-Some g c =
     let files = value_where_ok _ _ _ c.in_ok-files.was c.read_files.ensures.files in
     let image = c.in_ok-files.files.image.items in
     let bytes = c.in_ok-files.files.script.items in
-    let counts = c.in_ok-counts.counts.items in
+    let events = c.in_ok-script.script.events.items in
     let kernel = c.in_ok-kernel.kernel in
-    let read = subst (λ l. script_of l ≡ Slots counts) c.deref.ensures.value (value_where_ok _ _ _ c.in_ok-counts.was c.read_script.ensures.counts) in
-    let script_is = subst (λ l. script_of bytes ≡ Slots l) (sym c.deref-3.ensures.value) read in
+    let read = subst (λ l. script_of l ≡ Ok events) c.deref.ensures.value (value_where_ok _ _ _ c.in_ok-script.was c.read_script.ensures.events) in
+    let built = subst (λ l. signal_line_of l ≡ None) c.deref.ensures.value (value_where_ok _ _ _ c.in_ok-script.was c.read_script.ensures.built) in
+    let script_is = subst (λ l. script_of bytes ≡ Ok l) (sym c.deref-3.ensures.value) read in
     let boots_is = subst (λ l. boots l words.core ≡ Some kernel.system) c.deref-2.ensures.value (value_where_ok _ _ _ c.in_ok-kernel.was c.boot.ensures.system) in
     let blocks_is = subst (λ l. kernel.blocks ≡ blocks_of l) c.deref-2.ensures.value (value_where_ok _ _ _ c.in_ok-kernel.was c.boot.ensures.blocks) in
     let only = c.run_with_outputs.ensures.only in
     let field = c.in-Ok-Some.field-0-is in
     let same = c.in-Ok-Some.place-is in
     let some : c.in-Ok-Some.field-0 ≡ Some c.in-Ok-Some.place = cc in
-    let ends = subst (λ (e : Option Unbuilt). EndsRun (block_at kernel.blocks) (course (begun kernel.system) (events_of c.deref-3.result.now)) e middle new) some c.in-Ok-Some.ensures.outcome in
-    run_ended words image bytes old middle files _ script_is kernel.system boots_is new only (Some c.in-Ok-Some.place) (ends_over (disk_of image) (block_at kernel.blocks) (same_blocks image kernel.blocks blocks_is) _ _ _ _ ends)
+    let ends = subst (λ (e : Option Unbuilt). EndsRun (block_at kernel.blocks) (course (started kernel.system) (events_of c.deref-3.result.now)) e middle new) some c.in-Ok-Some.ensures.outcome in
+    run_ended words image bytes old middle files _ script_is built kernel.system boots_is new only (Some c.in-Ok-Some.place) (ends_over (disk_of image) (block_at kernel.blocks) (same_blocks image kernel.blocks blocks_is) _ _ _ _ ends)
 
 pub returns : goal.returns
 returns g c =
@@ -108,11 +111,12 @@ returns g c =
     let files = value_where_ok _ _ _ c.in_ok-files.was c.read_files.ensures.files in
     let image = c.in_ok-files.files.image.items in
     let bytes = c.in_ok-files.files.script.items in
-    let counts = c.in_ok-counts.counts.items in
+    let events = c.in_ok-script.script.events.items in
     let kernel = c.in_ok-kernel.kernel in
-    let read = subst (λ l. script_of l ≡ Slots counts) c.deref.ensures.value (value_where_ok _ _ _ c.in_ok-counts.was c.read_script.ensures.counts) in
-    let script_is = subst (λ l. script_of bytes ≡ Slots l) (sym c.deref-3.ensures.value) read in
+    let read = subst (λ l. script_of l ≡ Ok events) c.deref.ensures.value (value_where_ok _ _ _ c.in_ok-script.was c.read_script.ensures.events) in
+    let built = subst (λ l. signal_line_of l ≡ None) c.deref.ensures.value (value_where_ok _ _ _ c.in_ok-script.was c.read_script.ensures.built) in
+    let script_is = subst (λ l. script_of bytes ≡ Ok l) (sym c.deref-3.ensures.value) read in
     let boots_is = subst (λ l. boots l words.core ≡ Some kernel.system) c.deref-2.ensures.value (value_where_ok _ _ _ c.in_ok-kernel.was c.boot.ensures.system) in
     let blocks_is = subst (λ l. kernel.blocks ≡ blocks_of l) c.deref-2.ensures.value (value_where_ok _ _ _ c.in_ok-kernel.was c.boot.ensures.blocks) in
     let only = c.run_with_outputs.ensures.only in
-    run_stopped words image bytes old middle files _ script_is kernel.system boots_is new only _ (stops_over (disk_of image) (block_at kernel.blocks) (same_blocks image kernel.blocks blocks_is) _ _ _ _ _ c.in-Err.ensures.outcome)
+    run_stopped words image bytes old middle files _ script_is built kernel.system boots_is new only _ (stops_over (disk_of image) (block_at kernel.blocks) (same_blocks image kernel.blocks blocks_is) _ _ _ _ _ c.in-Err.ensures.outcome)

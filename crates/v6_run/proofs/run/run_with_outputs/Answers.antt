@@ -1,4 +1,4 @@
-use Rattle.unix_core.specs.Runs.{begun, course}
+use Rattle.unix_core.specs.Runs.{started, course}
 use Rattle.v6_run.specs.Events.{events_of}
 use Rattle.v6_run.proofs.ResultLemmas.{match_passed}
 use Rattle.v6_run.proofs.OutputLemmas.{stopped_playing, stopped_writing, stopped_finishing, came_to_end, run_leaves, came_to_none, fault_where_err, calm_where_ok, told_where_ok}
@@ -8,42 +8,39 @@ pub returns-in_default-clause-outcome : goal.returns-in_default-clause-outcome
 returns-in_default-clause-outcome g c =
     let opened = c.in_ok-open_outputs.ensures in
     let played = c.in_default.ensures in
-    stopped_playing _ (course (begun c.args.kernel.now.system) (events_of c.args.counts.now)) _ _ _ opened.only opened.bytes played.only _ played.front opened.cause played.cause
+    stopped_playing _ (course (started c.args.kernel.now.system) (events_of c.args.events.now)) _ _ _ opened.only opened.bytes played.only _ played.front opened.cause played.cause
 
 pub returns-then-is_err-clause-outcome : goal.returns-then-is_err-clause-outcome
 returns-then-is_err-clause-outcome g c =
-    let run = course (begun c.args.kernel.now.system) (events_of c.args.counts.now) in
+    let run = course (started c.args.kernel.now.system) (events_of c.args.events.now) in
     let opened = c.in_ok-open_outputs.ensures in
     let played = c.in-Ok.ensures in
-    let ended = c.finish.ensures in
-    let written = c.write_disk.ensures in
-    let leaves = run_leaves c.args.kernel.now c.play.new.kernel c.finish.new.self run c.requires.root played.system played.rest ended.system ended.stands ended.rest ended.form in
+    let written = c.leave_disk.ensures in
+    let leaves = run_leaves c.args.kernel.now c.play.new.kernel c.leave_disk.new.kernel run c.requires.root played.system played.rest written.system written.stands written.rest written.form in
     stopped_writing _ run _ _ _ opened.only opened.bytes played.only played.shown (came_to_none _ _ c.if-is_some.ensures played.ending) _ leaves _ written.only _ written.front opened.cause played.cause
-    (fault_where_err c.write_disk.result _ _ c.if-is_err.ensures.value written.cause)
+    (fault_where_err c.leave_disk.result _ _ c.if-is_err.ensures.value written.cause)
 
 pub returns-in_err-finish_outputs-clause-outcome : goal.returns-in_err-finish_outputs-clause-outcome
 returns-in_err-finish_outputs-clause-outcome g c =
-    let run = course (begun c.args.kernel.now.system) (events_of c.args.counts.now) in
+    let run = course (started c.args.kernel.now.system) (events_of c.args.events.now) in
     let opened = c.in_ok-open_outputs.ensures in
     let played = c.in-Ok.ensures in
-    let ended = c.finish.ensures in
-    let written = c.write_disk.ensures in
+    let written = c.leave_disk.ensures in
     let finished = c.in_err-finish_outputs.ensures in
-    let leaves = run_leaves c.args.kernel.now c.play.new.kernel c.finish.new.self run c.requires.root played.system played.rest ended.system ended.stands ended.rest ended.form in
+    let leaves = run_leaves c.args.kernel.now c.play.new.kernel c.leave_disk.new.kernel run c.requires.root played.system played.rest written.system written.stands written.rest written.form in
     match_passed _ _ _ _ c.from_residual-in_err-finish_outputs.ensures.1
     (stopped_finishing _ run _ _ _ opened.only opened.bytes played.only played.shown (came_to_none _ _ c.if-is_some.ensures played.ending) _ leaves _ written.only
-    (told_where_ok c.write_disk.result _ c.if-is_err.ensures.value written.whole) _ finished.bytes _ _ opened.cause played.cause
-    (calm_where_ok c.write_disk.result _ _ c.if-is_err.ensures.value written.cause) finished.cause)
+    (told_where_ok c.leave_disk.result _ c.if-is_err.ensures.value written.whole) _ finished.bytes _ _ opened.cause played.cause
+    (calm_where_ok c.leave_disk.result _ _ c.if-is_err.ensures.value written.cause) finished.cause)
 
 pub returns-clause-outcome : goal.returns-clause-outcome
 returns-clause-outcome g c =
-    let run = course (begun c.args.kernel.now.system) (events_of c.args.counts.now) in
+    let run = course (started c.args.kernel.now.system) (events_of c.args.events.now) in
     let opened = c.in_ok-open_outputs.ensures in
     let played = c.in-Ok.ensures in
-    let ended = c.finish.ensures in
-    let written = c.write_disk.ensures in
+    let written = c.leave_disk.ensures in
     let finished = c.in_ok-finish_outputs.ensures in
-    let leaves = run_leaves c.args.kernel.now c.play.new.kernel c.finish.new.self run c.requires.root played.system played.rest ended.system ended.stands ended.rest ended.form in
+    let leaves = run_leaves c.args.kernel.now c.play.new.kernel c.leave_disk.new.kernel run c.requires.root played.system played.rest written.system written.stands written.rest written.form in
     came_to_end _ run _ _ _ opened.only opened.bytes played.only played.shown (came_to_none _ _ c.if-is_some.ensures played.ending) _ leaves _ written.only
-    (told_where_ok c.write_disk.result _ c.if-is_err.ensures.value written.whole) _ finished.bytes finished.is_open opened.cause played.cause
-    (calm_where_ok c.write_disk.result _ _ c.if-is_err.ensures.value written.cause) finished.cause
+    (told_where_ok c.leave_disk.result _ c.if-is_err.ensures.value written.whole) _ finished.bytes finished.is_open opened.cause played.cause
+    (calm_where_ok c.leave_disk.result _ _ c.if-is_err.ensures.value written.cause) finished.cause

@@ -1,0 +1,148 @@
+-- The slots of a script, by the numbers that they have since the clock was set.
+use Rattle.std.proofs.Common.{◌≡◌, ◌≢◌, ◌<◌, ◌≤◌, ◌+◌, ◌-◌, ◌%◌, ◌==◌, ◌&&◌, ℕ, zero, suc, Bool, true, false, not, Option, Some, None, List, [], ◌∷◌, ◌++◌, refl, sym, ◌∙◌, ap, subst, flat_map, append_assoc, length, drop, get_or, replicate, eqb-true, arith}
+use Rattle.std.specs.List.{range_with_len}
+use Rattle.std.proofs.Math.Nat.{mod-add-mod, mod-eq_of_lt, mod-lt}
+use Rattle.std.proofs.lemmas.List.{append-nil, drop_more, drop_all}
+use Rattle.v6_base.specs.Trace.{Taken}
+use Rattle.script_text.specs.declared.script.Event as asked
+use Rattle.script_text.specs.declared.script.Event.TheVariants as ask
+use Rattle.unix_core.specs.declared.turned.Unbuilt.{Unbuilt}
+use Rattle.unix_core.specs.Unix.{System}
+use Rattle.unix_core.specs.Runs.{Event, Slot, Tick, Byte, Switch, Course, begun}
+use Rattle.v6_run.specs.Events.{Clock, is_ticked, slot_with, slot_numbered, happens, clock_after, events_from, events_of}
+use Rattle.v6_run.specs.Clocks.{TicksAlike}
+use Rattle.v6_run.specs.Courses.{HasRun}
+use Rattle.v6_run.proofs.FinalLemmas.{flat_split}
+use Rattle.v6_run.proofs.SlotLemmas.{run_none, run_more, run_last, run_as}
+
+-- some rows: a tick after every second slot, which goes on over a line `tick`; a clock that is set anew; and one that is none
+every_second : events_of (ask.Clock 2 ∷ ask.Run 5 ∷ ask.Tick ∷ ask.Run 1 ∷ [])
+    ≡ Slot ∷ Slot ∷ Tick ∷ Slot ∷ Slot ∷ Tick ∷ Slot ∷ Tick ∷ Slot ∷ Tick ∷ []
+every_second = refl
+
+set_anew : events_of (ask.Clock 3 ∷ ask.Run 2 ∷ ask.Clock 3 ∷ ask.Run 1 ∷ ask.Run 2 ∷ []) ≡ Slot ∷ Slot ∷ Slot ∷ Slot ∷ Slot ∷ Tick ∷ []
+set_anew = refl
+
+then_none : events_of (ask.Run 2 ∷ ask.Clock 1 ∷ ask.Byte 65 ∷ ask.Run 1 ∷ ask.Clock 0 ∷ ask.Switch 7 ∷ ask.Run 2 ∷ [])
+    ≡ Slot ∷ Slot ∷ Byte 65 ∷ Slot ∷ Tick ∷ Switch 7 ∷ Slot ∷ Slot ∷ []
+then_none = refl
+
+next_alike : (every m n j : ℕ) → m % every ≡ n % every → (m + j) % every ≡ (n + j) % every
+next_alike every m n j is = sym (mod-add-mod m every j) ∙ ap (λ r. (r + j) % every) is ∙ mod-add-mod n every j
+
+-- the same ticks come after slots whose numbers leave the same rest
+ticked_alike : (every m n : ℕ) → (every ≢ 0 → m % every ≡ n % every) → is_ticked every m ≡ is_ticked every n
+ticked_alike zero m n alike = refl
+ticked_alike (suc e) m n alike = ap (λ r. not (suc e == 0) && (r == 0)) (alike (λ is. cc))
+
+slots_alike : (every a b k : ℕ) → (every ≢ 0 → a % every ≡ b % every)
+    → flat_map (slot_numbered every) (range_with_len a k) ≡ flat_map (slot_numbered every) (range_with_len b k)
+slots_alike every a b zero alike = refl
+slots_alike every a b (suc k) alike =
+    ap (λ t. slot_with t ++ flat_map (slot_numbered every) (range_with_len (a + 1) k)) (ticked_alike every a b alike)
+    ∙ ap (λ l. slot_numbered every b ++ l) (slots_alike every (a + 1) (b + 1) k (λ some. next_alike every a b 1 (alike some)))
+
+module _ (c d : Clock) (alike : TicksAlike c d) where
+  slots_alike_at : d.every ≢ 0 → c.slots % d.every ≡ d.slots % d.every
+  slots_alike_at = subst (λ k. k ≢ 0 → c.slots % k ≡ d.slots % k) alike.every alike.slots
+
+  happens_alike : (event : asked.Event) → happens c event ≡ happens d event
+  happens_alike (ask.Clock every) = refl
+  happens_alike (ask.Run n) =
+      ap (λ k. flat_map (slot_numbered k) (range_with_len (c.slots + 1) n)) alike.every
+      ∙ slots_alike d.every (c.slots + 1) (d.slots + 1) n (λ some. next_alike d.every c.slots d.slots 1 (slots_alike_at some))
+  happens_alike ask.Tick = refl
+  happens_alike (ask.Byte byte) = refl
+  happens_alike (ask.Switch word) = refl
+
+  after_alike : (event : asked.Event) → TicksAlike (clock_after c event) (clock_after d event)
+  after_alike (ask.Clock every) = record { every = refl; slots = λ _. refl }
+  after_alike (ask.Run n) = record { every = alike.every; slots = λ some. next_alike c.every c.slots d.slots n (alike.slots some) }
+  after_alike ask.Tick = alike
+  after_alike (ask.Byte byte) = alike
+  after_alike (ask.Switch word) = alike
+
+events_alike : (c d : Clock) (events : List asked.Event) → TicksAlike c d → events_from c events ≡ events_from d events
+events_alike c d [] alike = refl
+events_alike c d (event ∷ events) alike =
+    ap (λ l. l ++ events_from (clock_after c event) events) (happens_alike c d alike event)
+    ∙ ap (λ l. happens d event ++ l) (events_alike (clock_after c event) (clock_after d event) events (after_alike c d alike event))
+
+-- slots without a clock
+pub unclocked : (from n : ℕ) → flat_map (slot_numbered 0) (range_with_len from n) ≡ replicate n Slot
+unclocked from zero = refl
+unclocked from (suc n) = ap (λ l. Slot ∷ l) (unclocked (from + 1) n)
+
+pub unclocked_at : (every from n : ℕ) → every ≡ 0 → replicate n Slot ≡ flat_map (slot_numbered every) (range_with_len from n)
+unclocked_at every from n is = sym (unclocked from n) ∙ ap (λ k. flat_map (slot_numbered k) (range_with_len from n)) (sym is)
+
+-- a slot more, and the slots after it
+pub numbered_more : (every from i : ℕ) → flat_map (slot_numbered every) (range_with_len from (i + 1))
+    ≡ flat_map (slot_numbered every) (range_with_len from i) ++ slot_numbered every (from + i)
+numbered_more every from i =
+    flat_split (slot_numbered every) from i 1 ∙ ap (λ l. flat_map (slot_numbered every) (range_with_len from i) ++ l) (append-nil (slot_numbered every (from + i)))
+
+pub numbered_part : (every from count i : ℕ) → i < count → flat_map (slot_numbered every) (range_with_len from count)
+    ≡ (flat_map (slot_numbered every) (range_with_len from i) ++ slot_numbered every (from + i)) ++ flat_map (slot_numbered every) (range_with_len (from + (i + 1)) (count - (i + 1)))
+numbered_part every from count i inside =
+    let all : count ≡ (i + 1) + (count - (i + 1)) = omega (arith, inside) in
+    ap (λ n. flat_map (slot_numbered every) (range_with_len from n)) all ∙ flat_split (slot_numbered every) from (i + 1) (count - (i + 1))
+    ∙ ap (λ l. l ++ flat_map (slot_numbered every) (range_with_len (from + (i + 1)) (count - (i + 1)))) (numbered_more every from i)
+
+-- how many slots have been taken since the last tick, where some had been taken before the first of these
+pub since_first : (every since : ℕ) → since < every → since ≡ (since + 0) % every
+since_first every since less = let same : since + 0 ≡ since = omega arith in sym (mod-eq_of_lt less) ∙ ap (λ n. n % every) (sym same)
+
+pub since_more : (every since i gone next : ℕ) → gone ≡ (since + i) % every → next ≡ (gone + 1) % every → next ≡ (since + (i + 1)) % every
+since_more every since i gone next was is =
+    let same : since + i + 1 ≡ since + (i + 1) = omega arith in
+    is ∙ ap (λ n. (n + 1) % every) was ∙ mod-add-mod (since + i) every 1 ∙ ap (λ n. n % every) same
+
+pub since_below : (every since i gone : ℕ) → since < every → gone ≡ (since + i) % every → gone < every
+since_below every since i gone less is = subst (λ n. n < every) (sym is) (mod-lt (since + i) (omega (arith, less)))
+
+some_clock : (every : ℕ) (none : Bool) → (every == 0) ≡ none → 0 < every → none ≡ false
+some_clock every false is more = refl
+some_clock every true is more = let zero_is : every ≡ 0 = eqb-true every 0 is in absurd (omega (arith, more, zero_is))
+
+pub ticks_is : (every since i next : ℕ) → since < every → next ≡ (since + (i + 1)) % every → slot_with (next == 0) ≡ slot_numbered every (since + 1 + i)
+ticks_is every since i next less is =
+    let same : since + (i + 1) ≡ since + 1 + i = omega arith in
+    let some : (every == 0) ≡ false = some_clock every (every == 0) refl (omega (arith, less)) in
+    ap (λ n. slot_with (n == 0)) (is ∙ ap (λ n. n % every) same) ∙ ap (λ none. slot_with (not none && ((since + 1 + i) % every == 0))) (sym some)
+
+-- The events of a script up to one have happened, and this is its clock then.
+pub record HasTaken (all : List asked.Event) (i : ℕ) (clock : Clock) (from : Course) (system : System) (old new : Taken) : Type 0 where
+  pub happened : List Event
+  pub run : HasRun from happened None system old new
+  pub all_is : events_of all ≡ happened ++ events_from clock (drop i all)
+
+pub taken_none : (all : List asked.Event) (m : System) (clock : Clock) (t : Taken) → clock ≡ record { every = 0; slots = 0 } → HasTaken all 0 clock (begun m) m t t
+taken_none all m clock t is = record { happened = []; run = run_none m t; all_is = ap (λ c. events_from c all) (sym is) }
+
+module _ (all : List asked.Event) (i : ℕ) (clock after : Clock) (from : Course) (m next : System) (a b c : Taken) (taken : HasTaken all i clock from m a b)
+    (event d : asked.Event) (inside : i < length all) (event_is : event ≡ get_or all i d) (ticks : TicksAlike (clock_after clock event) after) where
+  split_is : events_of all ≡ (taken.happened ++ happens clock event) ++ events_from after (drop (i + 1) all)
+  split_is =
+      taken.all_is
+      ∙ ap (λ l. taken.happened ++ events_from clock l) (drop_more all i d inside ∙ ap (λ e. e ∷ drop (i + 1) all) (sym event_is))
+      ∙ ap (λ l. taken.happened ++ (happens clock event ++ l)) (events_alike (clock_after clock event) after (drop (i + 1) all) ticks)
+      ∙ sym (append_assoc taken.happened (happens clock event) (events_from after (drop (i + 1) all)))
+
+  pub taken_more : HasRun (begun m) (happens clock event) None next b c → HasTaken all (i + 1) after from next a c
+  taken_more run = record {
+    happened = taken.happened ++ happens clock event;
+    run = run_more from m next None a b c taken.happened (happens clock event) _ taken.run run refl;
+    all_is = split_is;
+  }
+
+  -- what follows the event that ends the run doesn't happen
+  pub taken_last : (place : Unbuilt) → HasRun (begun m) (happens clock event) (Some place) next b c → HasRun from (events_of all) (Some place) next a c
+  taken_last place run = run_last from m next place a b c taken.happened (happens clock event) (events_from after (drop (i + 1) all)) _ taken.run run split_is
+
+pub taken_all : (all : List asked.Event) (i : ℕ) (clock : Clock) (from : Course) (m : System) (a b : Taken) → HasTaken all i clock from m a b → length all ≤ i
+    → HasRun from (events_of all) None m a b
+taken_all all i clock from m a b taken past =
+    let same : events_of all ≡ taken.happened =
+    taken.all_is ∙ ap (λ l. taken.happened ++ events_from clock l) (drop_all i all past) ∙ append-nil taken.happened in
+    run_as from m None a b _ _ (sym same) taken.run

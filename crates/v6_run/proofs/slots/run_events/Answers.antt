@@ -1,0 +1,24 @@
+use Rattle.std.proofs.Common.{refl, Some, None}
+use Rattle.fs_laws.proofs.RestLemmas.{rest_then}
+use Rattle.v6_run.specs.Clocks.{clock_value}
+use Rattle.v6_run.proofs.SlotLemmas.{ends_as}
+use Rattle.v6_run.proofs.ClockLemmas.{taken_more, taken_last}
+use Rattle.v6_run.proofs.slots.run_events.Goals as goal
+
+pub returns-in-Some-clause-run : goal.returns-in-Some-clause-run
+returns-in-Some-clause-run g c =
+    let event = c.take_event.ensures in
+    let run = ends_as _ _ _ (Some c.in-Some.place) _ _ _ c.in-Some.is event.run in
+    taken_last c.args.events.now c.events.event-index (clock_value c.events.clock) (clock_value c.take_event.new.clock) _ _ _ _ _ _ c.events.invariant.taken
+    _ _ c.events-test.true refl event.clock c.in-Some.place run
+
+pub events-preserved : goal.events-preserved
+events-preserved g c =
+    let event = c.take_event.ensures in
+    let run = ends_as _ _ _ None _ _ _ c.in_default.is event.run in
+    record {
+      taken = taken_more c.args.events.now c.events.event-index (clock_value c.events.clock) (clock_value c.take_event.new.clock) _ _ _ _ _ _ c.events.invariant.taken
+          _ _ c.events-test.true refl event.clock run;
+      rest = rest_then _ _ _ c.events.invariant.rest event.rest;
+      frame = g.met.T.Trace.goes_on _ _ _ c.events.invariant.frame event.frame;
+    }

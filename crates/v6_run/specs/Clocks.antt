@@ -1,0 +1,12 @@
+-- What is kept of a script's clock in a run.
+use Rattle.std.specs.Prelude.{◌≡◌, ◌≢◌, ◌%◌}
+use Rattle.v6_run.specs.Events.{Clock}
+use Rattle.v6_run.specs.declared.clock.Clock as kept
+
+abbrev pub clock_value : kept.Clock → Clock
+clock_value c = record { every = c.every; slots = c.since }
+
+-- the same ticks come after both
+pub record TicksAlike (c d : Clock) : Type 0 where
+  pub every : c.every ≡ d.every
+  pub slots : c.every ≢ 0 → c.slots % c.every ≡ d.slots % c.every

@@ -1,0 +1,28 @@
+//! The clock that a script sets.
+ghost use Rattle.std.specs.Prelude.{◌≡◌, ◌≢◌, ◌<◌, ◌+◌, ◌%◌};
+
+/// The clock that a script has set.
+#[derive(Drop)]
+pub(crate) struct Clock {
+    /// A tick comes after every so manyth slot. 0 is none.
+    pub(crate) every: u32,
+    /// So many slots have been taken since the clock was set, or since its last tick. They aren't counted where it is none.
+    pub(crate) since: u32,
+    ghost counted: { every ≢ 0 → since < every },
+}
+
+/// How many slots have been taken since the last tick, or the clock was set, when one more is taken.
+pub(crate) fn since_next(every: u32, since: u32) -> u32
+    requires { since < every }
+    ensures { result ≡ (since + 1) % every }
+{
+    if since + 1 == every { 0 } else { since + 1 }
+}
+
+/// How many have been when so many more are taken.
+pub(crate) fn since_after(every: u32, since: u32, count: u32) -> u32
+    requires { every ≢ 0 }
+    ensures { result ≡ (since + count) % every }
+{
+    ((u64::from(since) + u64::from(count)) % u64::from(every)) as u32
+}
