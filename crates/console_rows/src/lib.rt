@@ -1,0 +1,9 @@
+//! The rows that judge what a terminal, the table of processes and scripts are: tests alone.
+#![tactic(auto)]
+
+#[cfg(test)]
+mod lines;
+#[cfg(test)]
+mod scripts;
+#[cfg(test)]
+mod tables;
