@@ -11,9 +11,9 @@ ghost use Rattle.call_rows.specs.Ready.{IsReady};
 use crate::world::{DATA_END, World};
 use proc_tab::Row;
 use sys_files::{
-    Files, chdir_to, chmod_to, chown_to, close_all, close_file, creat_file, dup_file, link_file,
-    mknod_at, open_file, read_file, seek_to, stat_file, stat_open, sync_all, unlink_file,
-    write_file,
+    Files, chdir_to, chmod_to, chown_to, close_all, close_file, creat_file, dup_file, gtty_get,
+    link_file, mknod_at, open_file, read_file, seek_to, stat_file, stat_open, stty_set, sync_all,
+    unlink_file, write_file,
 };
 use u_area::UArea;
 use v6_base::{Answer, Chan, Errno, Space, Tape, Whole};
@@ -30,6 +30,9 @@ pub enum Call {
     Read(u16, u16, u16),
     Write(u16, u16, u16),
     Fstat(u16, u16),
+    /// A number and the address of three words.
+    Stty(u16, u16),
+    Gtty(u16, u16),
     Open(&'static [u8], u16),
     Creat(&'static [u8], u16),
     Mknod(&'static [u8], u16, u16),
@@ -76,10 +79,11 @@ fn put_name(space: &mut Whole, name: &[u8], end: u16) -> u16 {
 }
 
 /// The number that a call has in R0.
-fn number(call: Call) -> u16 {
+pub fn number(call: Call) -> u16 {
     match call {
         Call::Dup(fd) | Call::Close(fd) | Call::Seek(fd, ..) => fd,
         Call::Read(fd, ..) | Call::Write(fd, ..) | Call::Fstat(fd, _) => fd,
+        Call::Stty(fd, _) | Call::Gtty(fd, _) => fd,
         _ => R0,
     }
 }
@@ -88,7 +92,7 @@ fn number(call: Call) -> u16 {
 fn arguments(space: &mut Whole, call: Call) -> [u16; 4] {
     match call {
         Call::Seek(_, a, b) | Call::Read(_, a, b) | Call::Write(_, a, b) => [a, b, 0, 0],
-        Call::Fstat(_, a) => [a, 0, 0, 0],
+        Call::Fstat(_, a) | Call::Stty(_, a) | Call::Gtty(_, a) => [a, 0, 0, 0],
         Call::Unlink(name) | Call::Chdir(name) => [put_name(space, name, DATA_END), 0, 0, 0],
         Call::Open(name, a)
         | Call::Creat(name, a)
@@ -126,6 +130,8 @@ fn by_number(
         Call::Read(..) => read_file(f, 1, u, row, s, args, now, t),
         Call::Write(..) => write_file(f, 1, u, row, s, args, now, t),
         Call::Fstat(..) => stat_open(f, 1, u, row, s, args, now, t),
+        Call::Stty(..) => stty_set(f, 1, u, row, s, args, now, t),
+        Call::Gtty(..) => gtty_get(f, 1, u, row, s, args, now, t),
         Call::Sync => sync_all(f, 1, u, row, s, args, now, t),
         _ => {
             close_all(f, u, now, t);
@@ -184,16 +190,10 @@ pub fn answer(w: &mut World, call: Call) -> Answer
     )
 }
 
-/// Whether an answer is this one.
-pub fn is(answer: Answer, call: Call, told: Told) -> bool {
+/// Whether an answer is this one, of a call with this word in R0.
+pub fn is(answer: Answer, r0: u16, told: Told) -> bool {
     match told {
-        Told::Done => {
-            answer
-                == Answer::Ret {
-                    r0: number(call),
-                    r1: R1,
-                }
-        }
+        Told::Done => answer == Answer::Ret { r0, r1: R1 },
         Told::Gives(r0) => answer == Answer::Ret { r0, r1: R1 },
         Told::Fails(errno) => answer == Answer::Fail(errno),
         Told::Waits => {

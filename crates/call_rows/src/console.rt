@@ -2,7 +2,7 @@
 use crate::calls::Call::{Close, Dup, Open, Read, Write};
 use crate::calls::Told::{Done, Fails, Gives, Waits};
 use crate::looks::Look::{File, Memory, Pending, Shown, Times};
-use crate::scenes::Step::{Does, Has, Now, Puts};
+use crate::scenes::Step::{Does, GoesOn, Has, Now, Puts, Types};
 use crate::scenes::{Scene, failure};
 use std::process::Abort;
 use v6_base::Errno::{EBADF, EFAULT};
@@ -86,11 +86,16 @@ const SCENES: [Scene; 5] = [
             Does(Close(0), Done),
             Does(Dup(1), Gives(0)),
             Does(Read(0, 100, 5), Waits),
-            Has(Pending(1, [1, 100, 5, 0])),
+            Has(Pending(1, [1, 100, 5, 0, 0, 0, 0, 0])),
             Has(File(0, 19, 0, 2)),
             Has(Times(19, T, 0)),
             Has(Memory(100, b"def")),
             Has(Shown(b"", 0)),
+            GoesOn(Waits),
+            Has(Pending(1, [1, 100, 5, 0, 0, 0, 0, 0])),
+            Types(b"a\n"),
+            GoesOn(Gives(2)),
+            Has(Memory(100, b"a\nf")),
         ],
     },
     Scene {
@@ -106,7 +111,7 @@ const SCENES: [Scene; 5] = [
             Does(Open(b"/tty\0", 3), Gives(2)),
             Does(Read(2, 0, 5), Fails(EBADF)),
             Does(Write(2, 0, 5), Fails(EBADF)),
-            Has(Pending(0, [0; 4])),
+            Has(Pending(0, [0; 8])),
             Has(Shown(b"", 0)),
             Has(Times(5, 0, 0)),
         ],

@@ -12,6 +12,10 @@ mod calls;
 #[cfg(test)]
 mod console;
 #[cfg(test)]
+mod console_modes;
+#[cfg(test)]
+mod console_reads;
+#[cfg(test)]
 mod descriptors;
 #[cfg(test)]
 mod disk;

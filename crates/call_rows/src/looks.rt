@@ -34,8 +34,12 @@ pub enum Look {
     Directory(u16),
     /// The terminal of the process.
     Terminal(u8),
-    /// The call that waits, and its first four words.
-    Pending(u8, [u16; 4]),
+    /// The call that waits, and its words.
+    Pending(u8, [u16; 8]),
+    /// The console's speeds, characters and flags.
+    Modes([u16; 3]),
+    /// The console is open.
+    IsOpen(bool),
     /// Bytes of the memory from an address on.
     Memory(u16, &'static [u8]),
     /// What was shown since the last such look, and how often those who wait for keys were woken.
@@ -194,7 +198,9 @@ pub fn shows(w: &mut World, look: Look) -> bool
         Look::Number(fd, number) => w.u.files.get(fd) == Some(&number),
         Look::Directory(ino) => w.u.dir == ino,
         Look::Terminal(tty) => w.row.tty == tty,
-        Look::Pending(pending, words) => w.u.pending == pending && w.u.call.starts_with(&words),
+        Look::Pending(pending, words) => w.u.pending == pending && w.u.call == words,
+        Look::Modes(modes) => w.files.line.modes() == modes,
+        Look::IsOpen(is) => w.files.line.is_open() == is,
         Look::Memory(at, bytes) => has_bytes(&w.space, at, bytes),
         Look::Shown(bytes, wakes) => has_shown(&mut w.tape, bytes, wakes),
         Look::Counts(used, free) => counts(&mut w.files.tree.nodes, used, free, w.now),

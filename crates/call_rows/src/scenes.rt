@@ -3,18 +3,22 @@ ghost use Rattle.std.specs.Prelude.{◌≡◌, true, length};
 ghost use Rattle.open_files.specs.Files.{HaveRoom};
 ghost use Rattle.call_rows.specs.Ready.{IsReady};
 
-use crate::calls::{Call, Told, answer, is};
+use crate::calls::{Call, Told, answer, is, number};
 use crate::looks::{Look, shows};
 use crate::world::{World, begin};
 use open_files::OpenTable;
 use std::alloc::{AllocError, Global};
-use v6_base::{Space, Whole};
+use sys_files::resume_file;
+use tty_line::Line;
+use v6_base::{Space, Tape, Whole};
 
 /// A step of a scene.
 #[derive(Clone, Copy, Debug)]
 pub enum Step {
     /// A call, and what it must come to.
     Does(Call, Told),
+    /// The call that waits is taken up again, and what it must come to.
+    GoesOn(Told),
     /// What must be there then.
     Has(Look),
     /// The process is this user's and this group's from now on.
@@ -29,6 +33,8 @@ pub enum Step {
     Text,
     /// Bytes stand at an address.
     Puts(u16, &'static [u8]),
+    /// These bytes are typed on the console. Whom that wakes or interrupts is no matter here.
+    Types(&'static [u8]),
     /// `/f` is opened so often, by the numbers from 0 on.
     Opens(u16),
 }
@@ -64,7 +70,34 @@ fn does(w: &mut World, call: Call, told: Told) -> bool
         return false;
     }
     let answer = answer(w, call);
-    is(answer, call, told)
+    is(answer, number(call), told)
+}
+
+fn goes_on(w: &mut World, told: Told) -> bool
+    requires { IsReady w.old.files.table w.old.u.files w.old.u.dir w.old.files.tree.nodes.references }
+    ensures { IsReady w.new.files.table w.new.u.files w.new.u.dir w.new.files.tree.nodes.references }
+{
+    if !have_room(&w.files.table) || w.u.pending != 1 {
+        return false;
+    }
+    let r0 = w.u.r[0];
+    let answer = resume_file(
+        &mut w.files,
+        1,
+        &mut w.u,
+        &mut w.row,
+        &mut w.space,
+        w.now,
+        &mut w.tape,
+    );
+    is(answer, r0, told)
+}
+
+fn types(line: &mut Line, bytes: &[u8], tape: &mut Tape) -> bool {
+    for byte in bytes {
+        let _ = line.typed(*byte, tape);
+    }
+    true
 }
 
 fn opens(w: &mut World, count: u16) -> bool
@@ -108,9 +141,11 @@ fn holds(w: &mut World, step: Step) -> bool
 {
     match step {
         Step::Does(call, told) => does(w, call, told),
+        Step::GoesOn(told) => goes_on(w, told),
         Step::Has(look) => shows(w, look),
         Step::Opens(count) => opens(w, count),
         Step::Puts(at, bytes) => puts(&mut w.space, at, bytes),
+        Step::Types(bytes) => types(&mut w.files.line, bytes, &mut w.tape),
         _ => changes(w, step),
     }
 }

@@ -15,7 +15,8 @@ use fs_tree::Tree;
 use open_files::OpenTable;
 use proc_tab::Row;
 use std::alloc::{AllocError, Global};
-use sys_files::{Files, Line};
+use sys_files::Files;
+use tty_line::Line;
 use u_area::UArea;
 use v6_base::{Space, Tape, Whole};
 
