@@ -1,5 +1,5 @@
 //! Programs that make, open, write and remove files: docs/manual/calls.md and descriptors.md.
-use crate::fixtures::{Piece, RUN, TEXT, end_over, have, host_with, put};
+use crate::fixtures::{Piece, RUN, end_over, have, host_with, put, put_program};
 use make_image::build;
 use std::alloc::{AllocError, Global};
 use std::test::Fail;
@@ -90,15 +90,6 @@ const PROGRAMS: [Program<'static>; 4] = [
         counts: b"ok 7 nodes 3933 free\n",
     },
 ];
-
-/// Puts a program into its place: the size in inode 7, the header, and the text.
-fn put_program(image: &mut [u8], text: &[u8]) {
-    let count = text.len().min(400) as u16;
-    put(image, &[(1222, (16 + count).to_le_bytes().as_slice())]);
-    put(image, &[(33794, count.to_le_bytes().as_slice())]);
-    put(image, &[(33796, b"\0\0\0\0")]);
-    put(image, &[(TEXT, text)]);
-}
 
 /// The generator's disk 0 with a program.
 fn image_with(alloc: Global, program: &Program<'_>) -> Result<Vec<u8>, AllocError> {

@@ -27,6 +27,15 @@ pub fn put(bytes: &mut [u8], pieces: &[Piece<'_>]) {
     }
 }
 
+/// Puts a program into the place of `/etc/init` on the generator's disk 0: the size in inode 7, the header, and the text.
+pub fn put_program(image: &mut [u8], text: &[u8]) {
+    let count = text.len().min(400) as u16;
+    put(image, &[(1222, (16 + count).to_le_bytes().as_slice())]);
+    put(image, &[(33794, count.to_le_bytes().as_slice())]);
+    put(image, &[(33796, b"\0\0\0\0")]);
+    put(image, &[(TEXT, text)]);
+}
+
 fn stands(bytes: &[u8], at: usize, piece: &[u8]) -> bool {
     match bytes.get(at..) {
         Some(rest) => rest.starts_with(piece),

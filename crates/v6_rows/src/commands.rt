@@ -3,7 +3,7 @@ use crate::fixtures::{HI_BYTES, Piece, RUN, Row, end_over, hi_image, holds, host
 use std::alloc::{AllocError, Global};
 use std::test::Fail;
 use v6_port::{InPort, OutPort};
-use v6_run::{ImageFault, Status, Unbuilt};
+use v6_run::{ImageFault, ScriptFault, Status, Unbuilt};
 
 const USAGE: &[u8] =
     b"usage: v6 run IMAGE CORE SCRIPT TERM LOG FINAL, memory IMAGE CORE SCRIPT FINAL, check IMAGE, make N FINAL, demo N\n";
@@ -13,7 +13,7 @@ const LEAST_DISK: [Piece<'static>; 2] = [(512, b"\x01\x00\x04\x00"), (1024, b"\x
 
 /// Words over that disk, the call of the host that fails or 0, the status, and the report. The second call is the first read
 /// of the image, the fifth that of the script. Where `check` is done, its fourth call is the report. Where the image is given
-/// as the script, its first line isn't built.
+/// as the script, its first line is none, and that comes before what isn't built of the image.
 const COMMANDS: [(&str, u32, Status, &[u8]); 29] = [
     ("", 0, Status::Usage, USAGE),
     (
@@ -119,8 +119,8 @@ const COMMANDS: [(&str, u32, Status, &[u8]); 29] = [
     (
         "run image 64 image term log final",
         0,
-        Status::NotBuilt(Unbuilt::Line(1)),
-        b"not built: line 1\n",
+        Status::ScriptFault(ScriptFault::BadLine(1)),
+        b"script: line 1\n",
     ),
     (
         "run image 64 script other log final",
@@ -174,12 +174,13 @@ fn commands_end_as_the_manual_says(rt: HostRuntime) -> Result<(), Fail> {
 }
 
 /// The numbers that a program exits with.
-const NUMBERS: [(Status, u8); 8] = [
+const NUMBERS: [(Status, u8); 9] = [
     (Status::Done, 0),
     (Status::Usage, 1),
     (Status::ReadFault(InPort::Script), 2),
     (Status::WriteFault(OutPort::Report), 3),
     (Status::CoreSize, 4),
+    (Status::ScriptFault(ScriptFault::TooLong), 5),
     (Status::ImageFault(ImageFault::TooLong), 6),
     (Status::NoMemory, 8),
     (Status::NotBuilt(Unbuilt::At(2)), 11),
@@ -193,21 +194,21 @@ fn statuses_have_their_numbers(rt: HostRuntime) {
 }
 
 /// Words over the disk of `examples/hi`, filled up to this number of bytes and changed by some pieces: status, report. Where
-/// the command is `run`, the script is the line `walk`, which isn't built, so the fault of the image comes before it.
+/// the command is `run`, the script is the line `walk`, which is none: the fault of the image comes before that.
 const DISKS: [(&str, usize, &[Piece<'static>], Status, &[u8]); 11] = [
     (
         RUN,
         2_048_000,
         &[],
-        Status::NotBuilt(Unbuilt::Line(1)),
-        b"not built: line 1\n",
+        Status::ScriptFault(ScriptFault::BadLine(1)),
+        b"script: line 1\n",
     ),
     (
         RUN,
         2_494_464,
         &[],
-        Status::NotBuilt(Unbuilt::Line(1)),
-        b"not built: line 1\n",
+        Status::ScriptFault(ScriptFault::BadLine(1)),
+        b"script: line 1\n",
     ),
     (
         RUN,

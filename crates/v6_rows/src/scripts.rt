@@ -1,13 +1,13 @@
-//! How many slots a script asks for, and which lines are none: docs/manual/scripts.md.
+//! How many slots a script asks for, and which scripts are refused: docs/manual/scripts.md.
 use crate::fixtures::{HI_BYTES, RUN, Row, TEXT, hi_image, holds, put};
 use std::alloc::{AllocError, Global};
 use std::test::Fail;
-use v6_run::{Status, Unbuilt};
+use v6_run::{ScriptFault, Status, Unbuilt};
 
 /// A script, the number of instructions RESET before the HALT of `/etc/init`, how the run ends, and its report. RESET does
 /// nothing for a user, and HALT is no instruction for one. So the first slot, which is the exec, one for each RESET, and one
 /// more bring the run to `not built`, and fewer slots don't.
-const SCRIPTS: [(&[u8], usize, Status, &[u8]); 18] = [
+const SCRIPTS: [(&[u8], usize, Status, &[u8]); 28] = [
     (b"", 0, Status::Done, b""),
     (b"run 5", 4, Status::Done, b""),
     (
@@ -43,53 +43,106 @@ const SCRIPTS: [(&[u8], usize, Status, &[u8]); 18] = [
         Status::NotBuilt(Unbuilt::At(0)),
         b"not built: pc 0\n",
     ),
-    (
-        b"\n",
-        0,
-        Status::NotBuilt(Unbuilt::Line(1)),
-        b"not built: line 1\n",
-    ),
+    // Other lines ask for no slot.
+    (b"\n", 0, Status::Done, b""),
+    (b"run 5\n\nrun 5\n", 9, Status::Done, b""),
     (
         b"run 5\n\nrun 5\n",
-        0,
-        Status::NotBuilt(Unbuilt::Line(2)),
-        b"not built: line 2\n",
+        8,
+        Status::NotBuilt(Unbuilt::At(16)),
+        b"not built: pc 16\n",
     ),
+    (
+        b"; run 5\r\nclock 1\ntick\nbyte 101\r\nswitch 177777\ntype run 5\nrun 2",
+        1,
+        Status::Done,
+        b"",
+    ),
+    (
+        b"; run 5\r\nclock 1\ntick\nbyte 101\r\nswitch 177777\ntype run 5\nrun 2",
+        0,
+        Status::NotBuilt(Unbuilt::At(0)),
+        b"not built: pc 0\n",
+    ),
+    // Lines that are none. The first counts, and what comes before it isn't done.
     (
         b"run 5\r",
         0,
-        Status::NotBuilt(Unbuilt::Line(1)),
-        b"not built: line 1\n",
+        Status::ScriptFault(ScriptFault::BadLine(1)),
+        b"script: line 1\n",
     ),
     (
         b"run 5\r\r\n",
         0,
-        Status::NotBuilt(Unbuilt::Line(1)),
-        b"not built: line 1\n",
+        Status::ScriptFault(ScriptFault::BadLine(1)),
+        b"script: line 1\n",
     ),
     (
         b"run  5\n",
         0,
-        Status::NotBuilt(Unbuilt::Line(1)),
-        b"not built: line 1\n",
+        Status::ScriptFault(ScriptFault::BadLine(1)),
+        b"script: line 1\n",
     ),
     (
         b"run 1234567890\n",
         0,
-        Status::NotBuilt(Unbuilt::Line(1)),
-        b"not built: line 1\n",
+        Status::ScriptFault(ScriptFault::BadLine(1)),
+        b"script: line 1\n",
     ),
     (
         b"run 5\nwalk\nrun\n",
+        0,
+        Status::ScriptFault(ScriptFault::BadLine(2)),
+        b"script: line 2\n",
+    ),
+    (
+        b"run 5\nwalk\n",
+        0,
+        Status::ScriptFault(ScriptFault::BadLine(2)),
+        b"script: line 2\n",
+    ),
+    (
+        b"\n;\r\ntype a\x7f\n",
+        0,
+        Status::ScriptFault(ScriptFault::BadLine(3)),
+        b"script: line 3\n",
+    ),
+    (
+        b"run 200000000\nrun 0\nrun 1\n",
+        0,
+        Status::ScriptFault(ScriptFault::TooManySlots(3)),
+        b"script: too many slots at line 3\n",
+    ),
+    (
+        b"run 200000000\n\nrun 1\nwalk\n",
+        0,
+        Status::ScriptFault(ScriptFault::TooManySlots(3)),
+        b"script: too many slots at line 3\n",
+    ),
+    (
+        b"walk\nrun 200000001\n",
+        0,
+        Status::ScriptFault(ScriptFault::BadLine(1)),
+        b"script: line 1\n",
+    ),
+    // A key that makes a signal isn't built; a fault of the script comes first, also one after it.
+    (
+        b"run 5\nbyte 034\nbyte 177\n",
         0,
         Status::NotBuilt(Unbuilt::Line(2)),
         b"not built: line 2\n",
     ),
     (
-        b"run 200000000\nrun 0\nrun 1\n",
+        b"byte 177\nwalk\n",
         0,
-        Status::NotBuilt(Unbuilt::Line(3)),
-        b"not built: line 3\n",
+        Status::ScriptFault(ScriptFault::BadLine(2)),
+        b"script: line 2\n",
+    ),
+    (
+        b"byte 034\nrun 200000001\n",
+        0,
+        Status::ScriptFault(ScriptFault::TooManySlots(2)),
+        b"script: too many slots at line 2\n",
     ),
 ];
 
@@ -145,25 +198,35 @@ const LINE: &[u8; 8] = b"run 000\n";
 /// How many there are of them: with one more they are the 1,048,576 bytes that a script may have.
 const LINES: usize = 131_071;
 
-/// What comes after those lines, how the run ends, and its report. The last line of a script of one byte too many isn't
-/// built, though it is good: its line feed and a carriage return count.
-const ENDS: [(&[u8], Status, &[u8]); 5] = [
+/// What comes after those lines, how the run ends, and its report. The line feed and a carriage return count as bytes, and a
+/// script that is too long isn't read.
+const ENDS: [(&[u8], Status, &[u8]); 7] = [
     (b"run 000\n", Status::Done, b""),
     (b"run 0000", Status::Done, b""),
     (
+        b"run 000x",
+        Status::ScriptFault(ScriptFault::BadLine(131_072)),
+        b"script: line 131072\n",
+    ),
+    (
         b"run 0000\n",
-        Status::NotBuilt(Unbuilt::Line(131_072)),
-        b"not built: line 131072\n",
+        Status::ScriptFault(ScriptFault::TooLong),
+        b"script: too long\n",
     ),
     (
         b"run 000\r\n",
-        Status::NotBuilt(Unbuilt::Line(131_072)),
-        b"not built: line 131072\n",
+        Status::ScriptFault(ScriptFault::TooLong),
+        b"script: too long\n",
     ),
     (
         b"run 000\nr",
-        Status::NotBuilt(Unbuilt::Line(131_073)),
-        b"not built: line 131073\n",
+        Status::ScriptFault(ScriptFault::TooLong),
+        b"script: too long\n",
+    ),
+    (
+        b"walk\nbyte 177\n",
+        Status::ScriptFault(ScriptFault::TooLong),
+        b"script: too long\n",
     ),
 ];
 
