@@ -14,6 +14,11 @@ use Rattle.pick_rules.proofs.Laws.{AreFree}
 use Rattle.unix_core.specs.declared.world.World.{World}
 use Rattle.unix_core.specs.declared.process.Ending.{Ending}
 use Rattle.unix_core.specs.declared.process.Ending.TheVariants.{Next, Trapped, Slept, Ended, NotBuilt}
+use Rattle.unix_core.specs.declared.machine.Went.{Went}
+use Rattle.unix_core.specs.declared.machine.Went.TheVariants as went
+use Rattle.unix_core.specs.declared.turned.Turned.{Turned}
+use Rattle.unix_core.specs.declared.turned.Turned.TheVariants as turned
+use Rattle.unix_core.specs.declared.turned.Unbuilt.TheVariants.{At}
 use Rattle.unix_core.specs.declared.machine.Stage.{Stage}
 use Rattle.unix_core.specs.declared.machine.Stage.TheVariants as stage
 use Rattle.unix_core.specs.Unix.{Process, Unix, System, slots_with, no_texts}
@@ -154,3 +159,9 @@ pub record IsKernel (at : Stage) (p : Process) (w : World) : Type 0 where
 pub record Takes (turn : Turn) (at : Stage) (p : Process) (w : World) : Type 0 where
   pub kernel : IsKernel at p w
   pub system : system_at at p w ≡ turn.next
+
+-- what a slot answers that went so, with the PC where it began
+abbrev pub turned_at : ℕ → Went → Turned
+turned_at at went.Ran = turned.Ran
+turned_at at went.Idle = turned.Idle
+turned_at at went.NotBuilt = turned.NotBuilt (At at)

@@ -9,7 +9,7 @@ ghost use Rattle.unix_core.specs.Outside.{is_signal_key};
 
 use crate::files::see_nodes;
 use crate::init::find_init;
-use crate::machine::{Machine, Stage};
+use crate::machine::{Machine, Stage, turned_at};
 use crate::memory::Memory;
 use crate::process::Process;
 use crate::turned::{Turned, Unbuilt};
@@ -105,16 +105,15 @@ impl Kernel {
         ensures items { Took (T.taken trace.old) (event_of Slot self.old.system).items (T.taken trace.new) }
         ensures frame { T.leads_to trace.old trace.new }
     {
-        match self.machine.stage {
-            Stage::Running => {}
-            Stage::Fresh(_) | Stage::Waiting | Stage::Ended => {
-                return self.machine.other_slot(trace);
-            }
-        }
         let at = self.machine.process.pc();
-        match self.machine.process.step() {
-            Outcome::Next => Turned::Ran,
-            outcome => self.machine.after_step(outcome, at, trace),
+        match self.machine.stage {
+            Stage::Running => match self.machine.process.step() {
+                Outcome::Next => Turned::Ran,
+                outcome => turned_at(self.machine.after_step(outcome, trace), at),
+            },
+            Stage::Fresh(_) | Stage::Waiting | Stage::Ended => {
+                turned_at(self.machine.other_slot(trace), at)
+            }
         }
     }
 

@@ -1,5 +1,5 @@
 //! The parts of a kernel, and what each event does to them.
-ghost use Rattle.std.specs.Prelude.{◌≡◌, ◌≢◌, ◌++◌, Bool, true, false, None, Some};
+ghost use Rattle.std.specs.Prelude.{◌≡◌, ◌≢◌, ◌++◌, ℕ, Bool, true, false, None, Some};
 ghost use Rattle.v6_base.specs.Trace.{Took};
 ghost use Rattle.fs_laws.specs.Rest.{SameRest};
 ghost use Rattle.pick_rules.specs.Choice.{settle};
@@ -7,7 +7,7 @@ ghost use Rattle.unix_core.specs.Turn.{ended_by, settled, turned, turned_by, end
 ghost use Rattle.unix_core.specs.Outside.{calls, mode_of, tick_entry, tick_of, timed, typed_of};
 ghost use Rattle.unix_core.specs.Unix as unix;
 ghost use Rattle.unix_core.specs.Unix.{register};
-ghost use Rattle.unix_core.specs.Parts.{HasStepped, IsAlone, IsRunning, IsMachine, IsKernel, Takes, system_at, turn_at, stage_after, is_running};
+ghost use Rattle.unix_core.specs.Parts.{turned_at, HasStepped, IsAlone, IsRunning, IsMachine, IsKernel, Takes, system_at, turn_at, stage_after, is_running};
 
 use crate::process::{Ending, Process, SLOT};
 use crate::settling::{end_turn, pass, settle, wake};
@@ -29,6 +29,16 @@ pub enum Stage {
     Waiting,
     /// It has exited.
     Ended,
+}
+
+/// How a slot went. It is one byte, so that a slot's answer stays in a register.
+#[derive(Clone, Copy, Debug, PartialEq, Eq)]
+pub(crate) enum Went {
+    Ran,
+    /// Nobody ran.
+    Idle,
+    /// It came to what isn't built.
+    NotBuilt,
 }
 
 /// The parts of a kernel.
@@ -91,13 +101,25 @@ fn stage_after(ending: Ending, stage: Stage) -> Stage
     }
 }
 
-/// What a turn answers that ended so, at this PC.
-fn answer_of(ending: Ending, at: u16) -> Turned
-    ensures { result ≡ turned_by (ending_at at ending) false }
+/// How a turn went that ended so.
+fn went_by(ending: Ending) -> Went
+    ensures { (at : ℕ) → turned_at at result ≡ turned_by (ending_at at ending) false }
 {
     match ending {
-        Ending::NotBuilt => Turned::NotBuilt(Unbuilt::At(at)),
-        Ending::Next | Ending::Trapped | Ending::Slept { .. } | Ending::Ended => Turned::Ran,
+        Ending::NotBuilt => Went::NotBuilt,
+        Ending::Next | Ending::Trapped | Ending::Slept { .. } | Ending::Ended => Went::Ran,
+    }
+}
+
+/// What a slot answers that went so, with the PC where it began.
+#[inline(always)]
+pub(crate) fn turned_at(went: Went, at: u16) -> Turned
+    ensures { result ≡ turned_at at went }
+{
+    match went {
+        Went::Ran => Turned::Ran,
+        Went::Idle => Turned::Idle,
+        Went::NotBuilt => Turned::NotBuilt(Unbuilt::At(at)),
     }
 }
 
@@ -187,11 +209,11 @@ impl Machine {
 
     /// Ends a turn of process 1 that has come to this, and settles. It stands out of line, beside the loop over slots.
     #[inline(never)]
-    pub(crate) fn end<T: Trace>(&mut self, ending: Ending, at: u16, trace: &mut T) -> Turned
+    pub(crate) fn end<T: Trace>(&mut self, ending: Ending, trace: &mut T) -> Went
         requires alone { IsAlone self.old.world.table }
         requires running { ending ≢ Ending.Ended → IsRunning self.old.process self.old.world }
         requires began { is_running self.old.stage ≡ true }
-        ensures answer { result ≡ turned_by (ending_at at ending) false }
+        ensures answer { (at : ℕ) → turned_at at result ≡ turned_by (ending_at at ending) false }
         ensures kernel { IsKernel self.new.stage self.new.process self.new.world }
         ensures system { system_at self.new.stage self.new.process self.new.world
             ≡ record (system_at (stage_after ending self.old.stage) self.old.process self.old.world) {
@@ -205,23 +227,18 @@ impl Machine {
         end_turn(&mut self.world.table, ending, trace);
         self.stage = stage_after(ending, self.stage);
         self.settle(trace);
-        answer_of(ending, at)
+        went_by(ending)
     }
 
     /// Takes what an instruction of process 1 comes to, where that isn't the next one, and settles. It stands out of line,
     /// beside the loop over slots.
     #[inline(never)]
-    pub(crate) fn after_step<T: Trace>(
-        &mut self,
-        outcome: Outcome,
-        at: u16,
-        trace: &mut T,
-    ) -> Turned
+    pub(crate) fn after_step<T: Trace>(&mut self, outcome: Outcome, trace: &mut T) -> Went
         requires alone { IsAlone self.old.world.table }
         requires running { IsRunning self.old.process self.old.world }
         requires stage { self.old.stage ≡ Stage.Running }
-        ensures answer { (p : unix.Process) → HasStepped p self.old.process self.old.world outcome → at ≡ register p 7
-            → result ≡ turned (turn_at Stage.Running p self.old.world) }
+        ensures answer { (p : unix.Process) → HasStepped p self.old.process self.old.world outcome
+            → turned_at (register p 7) result ≡ turned (turn_at Stage.Running p self.old.world) }
         ensures kernel { IsKernel self.new.stage self.new.process self.new.world }
         ensures system { (p : unix.Process) → HasStepped p self.old.process self.old.world outcome
             → system_at self.new.stage self.new.process self.new.world ≡ (turn_at Stage.Running p self.old.world).next }
@@ -231,17 +248,18 @@ impl Machine {
         ensures frame { T.leads_to trace.old trace.new }
     {
         let ending = self.process.come_to(outcome, &mut self.world, trace);
-        self.end(ending, at, trace)
+        self.end(ending, trace)
     }
 
     /// Takes a slot in which process 1 doesn't just execute an instruction. It stands out of line, so that every other
     /// slot asks for the stage once.
     #[cold]
     #[inline(never)]
-    pub(crate) fn other_slot<T: Trace>(&mut self, trace: &mut T) -> Turned
+    pub(crate) fn other_slot<T: Trace>(&mut self, trace: &mut T) -> Went
         requires kernel { IsKernel self.old.stage self.old.process self.old.world }
         requires other { self.old.stage ≢ Stage.Running }
-        ensures answer { result ≡ turned (turn_at self.old.stage self.old.process self.old.world) }
+        ensures answer { turned_at (register self.old.process 7) result
+            ≡ turned (turn_at self.old.stage self.old.process self.old.world) }
         ensures takes { Takes (turn_at self.old.stage self.old.process self.old.world)
             self.new.stage self.new.process self.new.world }
         ensures rest { SameRest self.old.world.files.tree.nodes.blocks self.new.world.files.tree.nodes.blocks }
@@ -250,15 +268,14 @@ impl Machine {
         ensures frame { T.leads_to trace.old trace.new }
     {
         match self.world.table.running {
-            None => Turned::Idle,
+            None => Went::Idle,
             Some(0) => {
                 self.pass(trace);
-                Turned::Ran
+                Went::Ran
             }
             Some(_) => {
-                let at = self.process.pc();
                 let ending = self.go_on(trace);
-                self.end(ending, at, trace)
+                self.end(ending, trace)
             }
         }
     }

@@ -1,7 +1,7 @@
-use Rattle.std.proofs.Common.{◌≡◌, ◌∙◌, ◌++◌, ap}
+use Rattle.std.proofs.Common.{◌≡◌, ◌∙◌, ◌++◌, refl, ap}
 use Rattle.v6_base.proofs.Took.{took_then}
 use Rattle.unix_core.specs.declared.machine.Stage.{Stage}
-use Rattle.unix_core.specs.Unix.{System}
+use Rattle.unix_core.specs.Unix.{System, register}
 use Rattle.unix_core.specs.Steps.{Steps}
 use Rattle.unix_core.specs.Turn.{ended_by, settled}
 use Rattle.unix_core.specs.Parts.{system_at, stage_after}
@@ -9,13 +9,13 @@ use Rattle.unix_core.proofs.TurnLemmas.{came, end_answer, end_system, end_items}
 use Rattle.unix_core.proofs.machine.Machine.after_step.Goals as goal
 
 pub returns-clause-answer : goal.returns-clause-answer
-returns-clause-answer g c p stepped pc =
+returns-clause-answer g c p stepped =
     let m = c.args.self.now in
     let come = c.come_to-ending.ensures in
     let same = came p m.process m.world c.args.outcome stepped.machine stepped.outcome in
-    c.end.ensures.answer
+    c.end.ensures.answer (register p 7)
     ∙ end_answer p m.world stepped.user c.come_to-ending.new.self c.come_to-ending.new.world c.come_to-ending.result (come.ending ∙ ap (λ (s : Steps). s.ending) same)
-    (come.unix ∙ ap (λ (s : Steps). s.unix) same) come.table c.args.at pc
+    (come.unix ∙ ap (λ (s : Steps). s.unix) same) come.table (register p 7) refl
 
 pub returns-clause-system : goal.returns-clause-system
 returns-clause-system g c p stepped =

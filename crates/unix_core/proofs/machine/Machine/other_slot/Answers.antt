@@ -1,5 +1,6 @@
-use Rattle.std.proofs.Common.{◌≡◌, ◌∙◌, Some, rules}
+use Rattle.std.proofs.Common.{◌≡◌, ◌∙◌, Some, refl, rules}
 use Rattle.v6_base.proofs.Took.{took_then}
+use Rattle.unix_core.specs.Unix.{register}
 use Rattle.unix_core.proofs.MachineLemmas.{one_runs, turned_answer, turned_next, turned_items}
 use Rattle.unix_core.proofs.machine.Machine.other_slot.Goals as goal
 
@@ -9,7 +10,8 @@ returns-in-Some-clause-answer g c =
     let machine = c.requires.kernel.machine in
     let runs : m.world.table.running ≡ Some 1 = one_runs m.world.table c.in-Some.field-0 machine.alone c.in-Some.is (search rules) in
     let ending = c.go_on-ending in
-    c.end.ensures.answer ∙ turned_answer m.stage m.process m.world ending.result runs ending.ensures.ending c.pc-at.result c.pc-at.ensures machine
+    c.end.ensures.answer (register m.process 7)
+    ∙ turned_answer m.stage m.process m.world ending.result runs ending.ensures.ending (register m.process 7) refl machine
 
 pub returns-in-Some-clause-takes : goal.returns-in-Some-clause-takes
 returns-in-Some-clause-takes g c =
