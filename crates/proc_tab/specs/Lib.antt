@@ -1,0 +1,3 @@
+pub mod Processes
+pub mod Pids
+pub mod Children
