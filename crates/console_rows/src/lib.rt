@@ -4,6 +4,8 @@
 #[cfg(test)]
 mod lines;
 #[cfg(test)]
+mod parents;
+#[cfg(test)]
 mod scripts;
 #[cfg(test)]
 mod tables;

@@ -1,6 +1,6 @@
 -- Of fifty-one pids one is free, and what the first of them is in words.
-use Rattle.std.proofs.Common.{◌≡◌, ◌≢◌, ◌∙◌, ℕ, zero, suc, ◌+◌, ◌%◌, ◌<◌, ◌≤◌, ◌==◌, nat_eq, Bool, true, false, not, cond, ◌||◌, List, [], ◌∷◌, map, length, get_or, Option, Some, None, is_some, IsSome, refl, sym, ap, subst, inl, inr, arith}
-use Rattle.std.specs.List.{find, list_any, range_with_len, IsDistinct, Contains}
+use Rattle.std.proofs.Common.{◌≡◌, ◌≢◌, ◌∙◌, ℕ, ◌<◌, ◌≤◌, nat_eq, Bool, true, false, not, cond, ◌||◌, List, [], ◌∷◌, map, length, get_or, Option, Some, None, is_some, IsSome, refl, sym, ap, subst, inl, inr, arith}
+use Rattle.std.specs.List.{find, range_with_len, IsDistinct}
 use Rattle.std.specs.Option.{option_map, unwrap_or}
 use Rattle.std.specs.Set.{is_member}
 use Rattle.std.proofs.lemmas.Cmp.{nat_eq_equiv}
@@ -12,7 +12,7 @@ use Rattle.std.proofs.lemmas.Map.Keys.{IsDistinct-from_apart}
 use Rattle.std.proofs.lemmas.Map.Made.{length-le_from_is_member}
 use Rattle.proc_tab.specs.declared.member.Member.{Member}
 use Rattle.proc_tab.specs.Processes.{member_at, passes, row_of}
-use Rattle.proc_tab.specs.Pids.{greatest_pid, pid_after, has_pid, is_pid, next_pids, next_free_pid, fresh_pid, IsFresh}
+use Rattle.proc_tab.specs.Pids.{pid_after, has_pid, is_pid, next_pids, next_free_pid, fresh_pid, IsFresh}
 use Rattle.proc_tab.proofs.SearchLemmas.{FindsIn, finds_in, find_mapped}
 
 -- two of the fifty-one pids are never the same
@@ -77,7 +77,7 @@ one_is_free slots last long = by (find free (next_pids last)) refl
         let many : length (next_pids last) ≡ 51 = length-map-range_with_len (pid_after last) 0 51 in
         let few : length (pids slots) ≡ length slots = length-map slots (λ (o : Option Member). (row_of o).pid) in
         let within : length (next_pids last) ≤ length (pids slots) = length-le_from_is_member nat_eq_equiv (next_pids last) (pids slots) (next_distinct last)
-            (λ q m. pid_listed slots q (not_false (is_pid slots q) (none_passes free (next_pids last) e q m))) in
+        (λ q m. pid_listed slots q (not_false (is_pid slots q) (none_passes free (next_pids last) e q m))) in
         absurd (omega (arith, many, few, within, long))
 
 -- whoever is in a slot has a pid

@@ -1,12 +1,11 @@
 -- What a search from the lowest number up finds, in words.
-use Rattle.std.proofs.Common.{◌≡◌, ◌∙◌, ℕ, zero, suc, ◌+◌, ◌<◌, ◌≤◌, Bool, true, false, cond, ◌&&◌, List, [], ◌∷◌, map, Option, Some, None, MatchOption, is_none, refl, sym, ap, subst, inl, inr, arith}
+use Rattle.std.proofs.Common.{◌≡◌, ◌∙◌, ℕ, zero, suc, ◌+◌, ◌<◌, ◌≤◌, Bool, true, false, cond, List, [], ◌∷◌, map, Option, Some, None, MatchOption, refl, sym, ap, subst, inl, inr, arith}
 use Rattle.std.specs.List.{find, range_with_len}
 use Rattle.std.specs.Option.{option_map}
 use Rattle.std.proofs.lemmas.Bool.{cases_eq}
 use Rattle.proc_tab.specs.declared.member.Member.{Member}
 use Rattle.proc_tab.specs.declared.child.Child.{Child}
-use Rattle.proc_tab.specs.declared.child.Child.TheVariants.{NoChild, Living, Dead}
-use Rattle.proc_tab.specs.Processes.{Processes, member_at, passes, lowest, IsLowest, HasNone, Finds}
+use Rattle.proc_tab.specs.Processes.{Processes, member_at, passes, lowest, Finds}
 use Rattle.proc_tab.specs.Children.{is_child_of, is_dead_child_of, told_by, child, Tells}
 
 -- the first number from a on, of n, that passes a test

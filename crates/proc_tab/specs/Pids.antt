@@ -4,10 +4,7 @@ use Rattle.std.specs.Option.{unwrap_or}
 use Rattle.std.specs.List.{list_any, range_with_len}
 use Rattle.proc_tab.specs.declared.row.Row.{Row}
 use Rattle.proc_tab.specs.declared.member.Member.{Member}
-use Rattle.proc_tab.specs.Processes.{Processes, member_at, row_at, passes}
-
-abbrev pub greatest_pid : ℕ
-greatest_pid = 32767
+use Rattle.proc_tab.specs.Processes.{Processes, greatest_pid, member_at, row_at, passes}
 
 -- pids count up from the last one, and after 32767 comes 1
 abbrev pub pid_after : ℕ → ℕ → ℕ
@@ -51,4 +48,3 @@ with_child v parent pid s = record { slots = slice_set v.slots s (Some (child_of
 abbrev pub forked : Processes → ℕ → Option ℕ → Processes
 forked v parent None = v
 forked v parent (Some s) = with_child v parent (fresh_pid v.slots v.last_pid) s
-

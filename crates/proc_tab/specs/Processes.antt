@@ -1,5 +1,5 @@
 -- The table of processes: `proc` of Lions' Commentary, `proc.h`, as far as it says who a process is and who its parent.
-use Rattle.std.specs.Prelude.{◌≡◌, ℕ, ◌<◌, Bool, true, false, List, ◌∷◌, find, length, replicate, slice_index_or, slice_set, Option, Some, None, is_none, IsSome, MatchOption}
+use Rattle.std.specs.Prelude.{◌≡◌, ℕ, ◌<◌, ◌≤◌, Bool, true, false, List, ◌∷◌, find, length, replicate, slice_index_or, slice_set, Option, Some, None, IsSome, MatchOption}
 use Rattle.std.specs.List.{range_with_len}
 use Rattle.proc_tab.specs.declared.row.Row.{Row}
 use Rattle.proc_tab.specs.declared.member.Member.{Member}
@@ -12,9 +12,15 @@ pub record Processes : Type 0 where
 abbrev pub member_at : List (Option Member) → ℕ → Option Member
 member_at slots s = slice_index_or slots s None
 
+abbrev pub greatest_pid : ℕ
+greatest_pid = 32767
+
+-- What holds of each table: nobody is in slot 0, and no pid is that of two.
 pub record AreProcesses (v : Processes) : Type 0 where
   pub long : length v.slots ≡ 50
   pub kernel : member_at v.slots 0 ≡ None
+  pub pids : (s : ℕ) (m : Member) → member_at v.slots s ≡ Some m → (1 ≤ m.row.pid) × (m.row.pid ≤ greatest_pid)
+  pub apart : (r s : ℕ) (m n : Member) → member_at v.slots r ≡ Some m → member_at v.slots s ≡ Some n → m.row.pid ≡ n.row.pid → r ≡ s
 
 abbrev pub IsUsed : Processes → ℕ → Type 0
 IsUsed v s = IsSome (member_at v.slots s)

@@ -7,6 +7,9 @@ ghost use Rattle.proc_tab.specs.Children.{is_child_of, is_dead_child_of};
 use crate::member::Member;
 use v6_base::{Pid, Slot};
 
+/// The greatest pid, after which 1 comes.
+const GREATEST_PID: u32 = 32_767;
+
 /// Whether somebody in a slot has a pid.
 fn has_pid(slot: Option<Member>, pid: Pid) -> bool
     ensures { result ≡ passes (has_pid pid) slot }
@@ -81,7 +84,7 @@ fn is_pid(slots: &[Option<Member>; 50], pid: Pid) -> bool
 fn pid_after(last: Pid, k: Pid) -> Pid
     ensures { result ≡ pid_after last k }
 {
-    ((u32::from(last) + u32::from(k)) % 32767 + 1) as Pid
+    ((u32::from(last) + u32::from(k)) % GREATEST_PID + 1) as Pid
 }
 
 /// The first of fifty-one pids after the last one that nobody has.

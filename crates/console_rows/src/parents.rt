@@ -1,0 +1,210 @@
+//! Who the processes are and who their parents, by hand from fork(II), wait(II) and exit(II) and from `newproc` of
+//! Lions' Commentary. Each scene begins with process 1 alone, in slot 1.
+use self::Step::{Adopts, At, Clears, Ends, Forks, Has, Is, Passes, Used};
+
+mod scenes;
+
+use self::scenes::{ADOPTIONS, CHILDREN, PIDS, SLOTS};
+use proc_tab::{Child, Row, Rows};
+use v6_base::{Pid, Slot};
+
+/// Something that happens to the table, or that is looked at.
+#[derive(Clone, Copy, Debug)]
+enum Step {
+    /// The process in a slot forks. The child has this slot and this pid, or there is no slot for it.
+    Forks(Slot, Option<(Slot, Pid)>),
+    /// The process in slot 1 forks so often, and each child's slot is free again at once.
+    Passes(u16),
+    /// The process in a slot ends.
+    Ends(Slot),
+    /// The slot is free again.
+    Clears(Slot),
+    /// The children of the process with this pid become those of process 1.
+    Adopts(Pid),
+    /// These are the children of the process with this pid.
+    Has(Pid, Child),
+    /// This is the slot of a pid.
+    At(Pid, Option<Slot>),
+    /// The process in a slot has this pid, and its parent that one.
+    Is(Slot, Pid, Pid),
+    /// Whether a slot is in use.
+    Used(Slot, bool),
+}
+
+/// What happens, step by step.
+#[derive(Clone, Copy, Debug)]
+struct Scene {
+    name: &'static str,
+    steps: &'static [Step],
+}
+
+/// The process in a slot forks, where there is one.
+fn fork(rows: &mut Rows, parent: Slot) -> Option<Slot> {
+    if rows.in_use(parent) {
+        rows.new_slot(parent)
+    } else {
+        None
+    }
+}
+
+/// The row of a slot, where it has one.
+fn row_of(rows: &Rows, s: Slot) -> Option<Row> {
+    if rows.in_use(s) {
+        Some(*rows.row(s))
+    } else {
+        None
+    }
+}
+
+fn has_row(rows: &Rows, s: Slot, pid: Pid, ppid: Pid) -> bool {
+    match row_of(rows, s) {
+        Some(row) => row.pid == pid && row.ppid == ppid,
+        None => false,
+    }
+}
+
+fn clear(rows: &mut Rows, s: Slot) -> bool {
+    if s >= 50 {
+        return false;
+    }
+    rows.clear_row(s);
+    true
+}
+
+fn end(rows: &mut Rows, s: Slot) -> bool {
+    if !rows.in_use(s) {
+        return false;
+    }
+    rows.end_row(s);
+    true
+}
+
+/// A fork that gives this, and leaves the child in its slot.
+fn forks(rows: &mut Rows, parent: Slot, child: Option<(Slot, Pid)>) -> bool {
+    match (fork(rows, parent), child) {
+        (Some(s), Some((slot, pid))) => match (row_of(rows, s), row_of(rows, parent)) {
+            (Some(own), Some(of_parent)) => {
+                s == slot && own.pid == pid && own.ppid == of_parent.pid
+            }
+            _ => false,
+        },
+        (None, None) => true,
+        _ => false,
+    }
+}
+
+fn passes(rows: &mut Rows, times: u16) -> bool {
+    for _ in 0..times {
+        match fork(rows, 1) {
+            Some(s) if s < 50 => rows.clear_row(s),
+            _ => return false,
+        }
+    }
+    true
+}
+
+/// Whether a step comes to what it must.
+fn holds(rows: &mut Rows, step: Step) -> bool {
+    match step {
+        Forks(parent, child) => forks(rows, parent, child),
+        Passes(times) => passes(rows, times),
+        Ends(s) => end(rows, s),
+        Clears(s) => clear(rows, s),
+        Adopts(pid) => {
+            rows.adopt(pid);
+            true
+        }
+        Has(pid, child) => rows.child(pid) == child,
+        At(pid, slot) => rows.slot_of(pid) == slot,
+        Is(s, pid, ppid) => has_row(rows, s, pid, ppid),
+        Used(s, used) => rows.in_use(s) == used,
+    }
+}
+
+/// The first step that fails, if any.
+fn first_step(steps: &[Step]) -> Option<usize> {
+    let mut rows = Rows::new();
+    for (n, step) in steps.iter().enumerate() {
+        if !holds(&mut rows, *step) {
+            return Some(n);
+        }
+    }
+    None
+}
+
+/// The first scene that fails, if any: its name and its step.
+fn first_scene(scenes: &[Scene]) -> Option<(&'static str, usize)> {
+    for scene in scenes {
+        if let Some(step) = first_step(scene.steps) {
+            return Some((scene.name, step));
+        }
+    }
+    None
+}
+
+#[test]
+fn slots_are_in_use(rt: HostRuntime) {
+    assert_eq!(rt; first_scene(&SLOTS), None);
+}
+
+#[test]
+fn pids_count_up(rt: HostRuntime) {
+    assert_eq!(rt; first_scene(&PIDS), None);
+}
+
+#[test]
+fn children_are_waited_for(rt: HostRuntime) {
+    assert_eq!(rt; first_scene(&CHILDREN), None);
+}
+
+#[test]
+fn orphans_are_adopted(rt: HostRuntime) {
+    assert_eq!(rt; first_scene(&ADOPTIONS), None);
+}
+
+#[test]
+fn there_is_room_for_48_children(rt: HostRuntime) {
+    let mut rows = Rows::new();
+    for s in 2..50 {
+        assert!(rt; forks(&mut rows, 1, Some((s, Pid::from(s)))), "slot {s}");
+    }
+    assert!(rt; forks(&mut rows, 1, None), "the 49th");
+    assert!(rt; forks(&mut rows, 49, None), "of a child");
+    assert!(rt; has_row(&rows, 1, 1, 0) && has_row(&rows, 49, 49, 1));
+    assert!(rt; clear(&mut rows, 7) && clear(&mut rows, 30));
+    assert!(rt; forks(&mut rows, 49, Some((7, 50))), "the lowest free slot");
+    assert!(rt; forks(&mut rows, 1, Some((30, 51))), "the last free slot");
+    assert!(rt; forks(&mut rows, 1, None), "none is free");
+}
+
+#[test]
+fn a_child_has_what_its_parent_has(rt: HostRuntime) {
+    let mut rows = Rows::new();
+    let first = Row {
+        pid: 1,
+        ppid: 0,
+        uid: 0,
+        sig: 0,
+        tty: 0,
+    };
+    assert_eq!(rt; row_of(&rows, 1), Some(first));
+    let own = Row {
+        uid: 7,
+        sig: 2,
+        tty: 1,
+        ..first
+    };
+    assert!(rt; rows.in_use(1) && rows.row(1).pid == own.pid && rows.row(1).ppid == own.ppid);
+    rows.set_row(1, own);
+    assert_eq!(rt; row_of(&rows, 1), Some(own));
+    assert_eq!(rt; fork(&mut rows, 1), Some(2));
+    assert_eq!(rt; row_of(&rows, 1), Some(own));
+    let child = Row {
+        pid: 2,
+        ppid: 1,
+        uid: 7,
+        sig: 0,
+        tty: 1,
+    };
+    assert_eq!(rt; row_of(&rows, 2), Some(child));
+}

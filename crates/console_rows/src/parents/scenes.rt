@@ -1,0 +1,197 @@
+//! What happens to the table of processes, one thing after another.
+use super::Scene;
+use super::Step::{Adopts, At, Clears, Ends, Forks, Has, Is, Passes, Used};
+use proc_tab::Child::{Dead, Living, NoChild};
+
+pub const SLOTS: [Scene; 3] = [
+    Scene {
+        name: "process 1 is alone",
+        steps: &[
+            Used(0, false),
+            Used(1, true),
+            Used(2, false),
+            Used(49, false),
+            Used(50, false),
+            Used(255, false),
+            Is(1, 1, 0),
+            At(1, Some(1)),
+            At(0, None),
+            At(2, None),
+            Has(1, NoChild),
+        ],
+    },
+    Scene {
+        name: "a slot is in use until it is cleared",
+        steps: &[
+            Forks(1, Some((2, 2))),
+            Used(2, true),
+            At(2, Some(2)),
+            Ends(2),
+            Used(2, true),
+            At(2, Some(2)),
+            Is(2, 2, 1),
+            Clears(2),
+            Used(2, false),
+            At(2, None),
+            Used(1, true),
+        ],
+    },
+    Scene {
+        name: "the lowest free slot is taken",
+        steps: &[
+            Forks(1, Some((2, 2))),
+            Forks(2, Some((3, 3))),
+            Forks(3, Some((4, 4))),
+            Is(4, 4, 3),
+            Clears(2),
+            Clears(3),
+            Forks(4, Some((2, 5))),
+            Is(2, 5, 4),
+            Forks(1, Some((3, 6))),
+            Forks(2, Some((5, 7))),
+            At(7, Some(5)),
+            At(3, None),
+        ],
+    },
+];
+
+pub const PIDS: [Scene; 3] = [
+    Scene {
+        name: "a pid that was given back is not given at once",
+        steps: &[
+            Forks(1, Some((2, 2))),
+            Clears(2),
+            Forks(1, Some((2, 3))),
+            Clears(2),
+            Passes(10),
+            Forks(1, Some((2, 14))),
+        ],
+    },
+    Scene {
+        name: "after 32767 comes 1, and those that live are passed over",
+        steps: &[
+            Forks(1, Some((2, 2))),
+            Forks(1, Some((3, 3))),
+            Passes(32_763),
+            Forks(1, Some((4, 32_767))),
+            Forks(1, Some((5, 4))),
+            Forks(1, Some((6, 5))),
+        ],
+    },
+    Scene {
+        name: "the dead are passed over until their slots are cleared",
+        steps: &[
+            Forks(1, Some((2, 2))),
+            Forks(1, Some((3, 3))),
+            Passes(32_763),
+            Forks(1, Some((4, 32_767))),
+            Forks(1, Some((5, 4))),
+            Ends(2),
+            Clears(3),
+            Passes(32_762),
+            Forks(1, Some((3, 3))),
+            Clears(2),
+            Passes(32_762),
+            Forks(1, Some((2, 2))),
+        ],
+    },
+];
+
+pub const CHILDREN: [Scene; 3] = [
+    Scene {
+        name: "the lowest that has ended is told",
+        steps: &[
+            Has(1, NoChild),
+            Forks(1, Some((2, 2))),
+            Has(1, Living),
+            Forks(1, Some((3, 3))),
+            Forks(1, Some((4, 4))),
+            Forks(1, Some((5, 5))),
+            Has(1, Living),
+            Ends(4),
+            Has(1, Dead(4)),
+            Ends(3),
+            Has(1, Dead(3)),
+            Ends(5),
+            Has(1, Dead(3)),
+            Clears(3),
+            Has(1, Dead(4)),
+            Clears(4),
+            Has(1, Dead(5)),
+            Clears(5),
+            Has(1, Living),
+            Clears(2),
+            Has(1, NoChild),
+        ],
+    },
+    Scene {
+        name: "the lowest slot and not the least pid",
+        steps: &[
+            Forks(1, Some((2, 2))),
+            Forks(1, Some((3, 3))),
+            Clears(2),
+            Forks(1, Some((2, 4))),
+            Ends(3),
+            Ends(2),
+            Has(1, Dead(2)),
+        ],
+    },
+    Scene {
+        name: "each has its own children",
+        steps: &[
+            Forks(1, Some((2, 2))),
+            Forks(2, Some((3, 3))),
+            Forks(3, Some((4, 4))),
+            Ends(3),
+            Has(1, Living),
+            Has(2, Dead(3)),
+            Has(3, Living),
+            Has(4, NoChild),
+            Has(0, Living),
+            Has(9, NoChild),
+        ],
+    },
+];
+
+pub const ADOPTIONS: [Scene; 2] = [
+    Scene {
+        name: "children of one who ends are process 1's, dead ones too",
+        steps: &[
+            Forks(1, Some((2, 2))),
+            Forks(2, Some((3, 3))),
+            Forks(2, Some((4, 4))),
+            Forks(3, Some((5, 5))),
+            Ends(4),
+            Ends(2),
+            Adopts(2),
+            Is(2, 2, 1),
+            Is(3, 3, 1),
+            Is(4, 4, 1),
+            Is(5, 5, 3),
+            Has(2, NoChild),
+            Has(3, Living),
+            Has(1, Dead(2)),
+            Clears(2),
+            Has(1, Dead(4)),
+            Clears(4),
+            Has(1, Living),
+        ],
+    },
+    Scene {
+        name: "who has no children has none adopted",
+        steps: &[
+            Forks(1, Some((2, 2))),
+            Forks(2, Some((3, 3))),
+            Adopts(3),
+            Adopts(9),
+            Is(1, 1, 0),
+            Is(2, 2, 1),
+            Is(3, 3, 2),
+            Adopts(1),
+            Is(1, 1, 0),
+            Is(2, 2, 1),
+            Used(0, false),
+            Forks(3, Some((4, 4))),
+        ],
+    },
+];
