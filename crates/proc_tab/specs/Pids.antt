@@ -42,7 +42,8 @@ abbrev pub child_of : Row → ℕ → Member
 child_of parent pid = record { row = record parent { pid = pid; ppid = parent.pid; sig = 0 }; is_dead = false }
 
 abbrev pub with_child : Processes → ℕ → ℕ → ℕ → Processes
-with_child v parent pid s = record { slots = slice_set v.slots s (Some (child_of (row_at v parent) pid)); last_pid = pid }
+with_child v parent pid s =
+    record { slots = slice_set v.slots s (Some (child_of (row_at v parent) pid)); last_pid = pid }
 
 -- the child in its slot, or nothing where there is no slot for it
 abbrev pub forked : Processes → ℕ → Option ℕ → Processes

@@ -15,12 +15,13 @@ member_at slots s = slice_index_or slots s None
 abbrev pub greatest_pid : ℕ
 greatest_pid = 32767
 
--- What holds of each table: nobody is in slot 0, and no pid is that of two.
+-- What holds of each table: fifty slots, of which slot 0 has nobody; pids from 1 to the greatest, no two of them the same.
 pub record AreProcesses (v : Processes) : Type 0 where
   pub long : length v.slots ≡ 50
   pub kernel : member_at v.slots 0 ≡ None
   pub pids : (s : ℕ) (m : Member) → member_at v.slots s ≡ Some m → (1 ≤ m.row.pid) × (m.row.pid ≤ greatest_pid)
-  pub apart : (r s : ℕ) (m n : Member) → member_at v.slots r ≡ Some m → member_at v.slots s ≡ Some n → m.row.pid ≡ n.row.pid → r ≡ s
+  pub apart : (r s : ℕ) (m n : Member) → member_at v.slots r ≡ Some m → member_at v.slots s ≡ Some n
+      → m.row.pid ≡ n.row.pid → r ≡ s
 
 abbrev pub IsUsed : Processes → ℕ → Type 0
 IsUsed v s = IsSome (member_at v.slots s)

@@ -11,8 +11,8 @@ use crate::search::{fresh_pid, lowest_child, lowest_dead_child, lowest_free, low
 use std::marker::Model;
 use v6_base::{Pid, Slot};
 
-/// Who the processes are, and who their parents: fifty slots, each in use or free. Slot 0 is the kernel's own, which is
-/// never given and counts as in use by nobody. Lions' Commentary, `proc.h`.
+/// Who the processes are, and who their parents: fifty slots, each in use or free. Slot 0 is the kernel's own: it is
+/// never given, and nobody is in it. Lions' Commentary, `proc.h`.
 #[derive(Clone, Copy)]
 pub struct Rows {
     slots: [Option<Member>; 50],
@@ -105,8 +105,8 @@ impl Rows {
     }
 
     /// Makes a child of the process in a slot that is in use: in the lowest free slot, with the first pid after the one
-    /// given last that nobody has, dead or alive, where 1 comes after 32767. `None` exactly where no slot from 1 to 49 is
-    /// free; then nothing has changed. fork(II); Lions' Commentary, `newproc` in `slp.c`.
+    /// given last that nobody has, dead or alive, where 1 comes after 32767. `None` exactly where no slot from 1 to 49
+    /// is free; then nothing has changed. fork(II); Lions' Commentary, `newproc` in `slp.c`.
     pub fn new_slot(&mut self, parent: Slot) -> Option<Slot>
         requires { IsUsed self.old parent }
         ensures slot { result ≡ lowest is_none self.old.slots }
@@ -122,7 +122,8 @@ impl Rows {
         Some(s)
     }
 
-    /// Whether a slot is in use, by a process that lives or by one that has ended. Slot 0 isn't, nor are those from 50 on.
+    /// Whether a slot is in use, by a process that lives or by one that has ended. Slot 0 isn't, nor are those from 50
+    /// on.
     pub fn in_use(&self, s: Slot) -> bool
         ensures used { result ≡ is_some (member_at self.now.slots s) }
         ensures table { AreProcesses self.now }
