@@ -1,0 +1,6 @@
+pub mod WordLemmas
+pub mod NumberLemmas
+pub mod DigitLemmas
+pub mod SplitLemmas
+pub mod ReadLemmas
+pub mod EntryLemmas

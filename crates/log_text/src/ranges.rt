@@ -1,0 +1,90 @@
+//! The numbers that a line of the log may have.
+ghost use Rattle.std.specs.Prelude.{◌↔◌, IsTrue};
+ghost use Rattle.log_text.specs.Ranges.{IsSlot, IsText, IsBlock, IsSignal, IsInode, IsChannel, IsPlace, IsInRange};
+
+use v6_base::{Chan, Entry, Place, Slot};
+
+/// The last slot of the table of processes.
+pub(crate) const LAST_SLOT: Slot = 49;
+
+/// The last of the texts.
+pub(crate) const LAST_TEXT: u8 = 39;
+
+/// The first block of the swap area.
+pub(crate) const SWAP_START: u16 = 4000;
+
+/// The last block of the swap area, and of the disk.
+pub(crate) const LAST_BLOCK: u16 = 4871;
+
+/// The last of the signals: signal(II).
+pub(crate) const LAST_SIGNAL: u8 = 19;
+
+fn is_slot(slot: Slot) -> bool
+    ensures { IsTrue result ↔ IsSlot slot }
+{
+    slot <= LAST_SLOT
+}
+
+fn is_text(text: u8) -> bool
+    ensures { IsTrue result ↔ IsText text }
+{
+    text <= LAST_TEXT
+}
+
+fn is_block(block: u16) -> bool
+    ensures { IsTrue result ↔ IsBlock block }
+{
+    (SWAP_START..=LAST_BLOCK).contains(&block)
+}
+
+fn is_signal(sig: u8) -> bool
+    ensures { IsTrue result ↔ IsSignal sig }
+{
+    (1..=LAST_SIGNAL).contains(&sig)
+}
+
+fn is_inode(inode: u16) -> bool
+    ensures { IsTrue result ↔ IsInode inode }
+{
+    inode != 0
+}
+
+fn is_channel(chan: Chan) -> bool
+    ensures { IsTrue result ↔ IsChannel chan }
+{
+    match chan {
+        Chan::RunIn | Chan::RunOut | Chan::Tout | Chan::Keys => true,
+        Chan::Wait(slot) => is_slot(slot),
+        Chan::Read(inode) => is_inode(inode),
+        Chan::Write(inode) => is_inode(inode),
+    }
+}
+
+fn is_place(place: Place) -> bool
+    ensures { IsTrue result ↔ IsPlace place }
+{
+    match place {
+        Place::Core(_) => true,
+        Place::Swap(block) => is_block(block),
+    }
+}
+
+/// Whether each number of an entry is in its range.
+pub(crate) fn is_in_range(entry: Entry) -> bool
+    ensures { IsTrue result ↔ IsInRange entry }
+{
+    match entry {
+        Entry::Boot { .. } | Entry::Idle | Entry::Time(_) | Entry::Panic(_) | Entry::End => true,
+        Entry::TickUser | Entry::TickKernel | Entry::TickIdle => true,
+        Entry::Go(slot) | Entry::Trap(slot) | Entry::Bare(slot) | Entry::Reap(slot) => is_slot(slot),
+        Entry::Sleep { slot, chan, .. } => is_slot(slot) && is_channel(chan),
+        Entry::Wake(chan) => is_channel(chan),
+        Entry::Signal { slot, sig } => is_slot(slot) && is_signal(sig),
+        Entry::Nice { slot, .. } | Entry::SizeKeep { slot, .. } | Entry::SwapIn { slot, .. } => is_slot(slot),
+        Entry::Size { slot, place, .. } | Entry::Image { slot, place, .. } => is_slot(slot) && is_place(place),
+        Entry::Fork { slot, child, place } => is_slot(slot) && is_slot(child) && is_place(place),
+        Entry::Leave { slot, text, .. } | Entry::Share { slot, text } => is_slot(slot) && is_text(text),
+        Entry::Text { slot, text, block, .. } => is_slot(slot) && is_text(text) && is_block(block),
+        Entry::SwapOut { slot, block } | Entry::Exit { slot, block } => is_slot(slot) && is_block(block),
+    }
+}
