@@ -22,5 +22,6 @@ digits_more old new n front large below =
     ap (λ x. x ++ (48 + n % 10) ∷ []) front ∙ append_assoc old (decimal (n / 10)) ((48 + n % 10) ∷ [])
     ∙ ap (λ x. old ++ x) (sym (last_digit n large below))
 
-pub at_most_ten_more : (old new : List ℕ) (n : ℕ) → new ≡ old ++ decimal n → n < 2 ^ 32 → length new ≤ length old + 10
+pub at_most_ten_more : (old new : List ℕ) (n : ℕ) → new ≡ old ++ decimal n → n < 2 ^ 32
+    → length new ≤ length old + 10
 at_most_ten_more old new n is below = omega (arith, simp length-append at (ap length is), ten_digits n below)

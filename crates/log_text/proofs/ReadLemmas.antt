@@ -1,4 +1,4 @@
--- The line of an entry in range is read back as this entry.
+-- Numbers and channels in their ranges are read back from their words.
 use Rattle.std.proofs.Common.{◌≡◌, ◌≤◌, ◌<◌, ◌^◌, ◌≢◌, ℕ, ℤ, pos, negsuc, suc, ◌≤ℤ◌, true, false, List, [], ◌∷◌, ◌++◌, length, get_or, Some, None, codes, leb, refl, sym, ◌∙◌, ap, arith}
 use Rattle.std.specs.Fmt.{decimal, signed_decimal}
 use Rattle.std.specs.List.{list_all}
@@ -12,20 +12,42 @@ use Rattle.std.proofs.lemmas.Str.Parse.{not_in_digits}
 use Rattle.v6_base.specs.declared.entry.Chan.{Chan}
 use Rattle.v6_base.specs.declared.entry.Chan.TheVariants.{RunIn, RunOut, Tout, Keys, Wait, Read, Write}
 use Rattle.v6_base.specs.LogLine.{channel}
-use Rattle.log_text.specs.Ranges.{IsPriority, IsChannel}
+use Rattle.log_text.specs.Ranges.{IsSlot, IsText, IsSignal, IsClicks, IsBlock, IsInode, IsTime, IsPriority, IsChannel}
 use Rattle.log_text.specs.Reading.{number_of, signed_of, negated, not_negated, channel_of}
 use Rattle.log_text.proofs.NumberLemmas.{own, number_is}
 
-pub number_back : (bits n : ℕ) → n < 2 ^ bits → n < 2 ^ 64 → number_of bits (decimal n) ≡ Some n
-number_back bits n fits below = 
+number_back : (bits n : ℕ) → n < 2 ^ bits → n < 2 ^ 64 → number_of bits (decimal n) ≡ Some n
+number_back bits n fits below =
     let numeral = decimal_is_IsNumeral n below in
     number_is bits (decimal n) n (own.from (decimal n) numeral.0.1) numeral.0.0 numeral.1 fits
 
 no_minus : (n : ℕ) → n < 2 ^ 64 → starts_with_minus (decimal n) ≡ false
 no_minus n below =
     let numeral = decimal_is_IsNumeral n below in
-    let other = not_in_digits own (decimal n) 45 (own.from (decimal n) numeral.0.1) (λ range. omega arith) 0 numeral.0.0 in
+    let digits = own.from (decimal n) numeral.0.1 in
+    let other = not_in_digits own (decimal n) 45 digits (λ range. omega arith) 0 numeral.0.0 in
     grind (arith, nat_tests)
+
+pub slot_back : (n : ℕ) → IsSlot n → number_of 8 (decimal n) ≡ Some n
+slot_back n range = number_back 8 n (omega arith) (omega arith)
+
+pub text_back : (n : ℕ) → IsText n → number_of 8 (decimal n) ≡ Some n
+text_back n range = number_back 8 n (omega arith) (omega arith)
+
+pub signal_back : (n : ℕ) → IsSignal n → number_of 8 (decimal n) ≡ Some n
+signal_back n range = number_back 8 n (omega arith) (omega arith)
+
+pub clicks_back : (n : ℕ) → IsClicks n → number_of 16 (decimal n) ≡ Some n
+clicks_back n range = number_back 16 n (omega arith) (omega arith)
+
+pub block_back : (n : ℕ) → IsBlock n → number_of 16 (decimal n) ≡ Some n
+block_back n range = number_back 16 n (omega arith) (omega arith)
+
+inode_back : (n : ℕ) → IsInode n → number_of 16 (decimal n) ≡ Some n
+inode_back n range = number_back 16 n (omega arith) (omega arith)
+
+pub time_back : (n : ℕ) → IsTime n → number_of 32 (decimal n) ≡ Some n
+time_back n range = number_back 32 n (omega arith) (omega arith)
 
 not_negated_is : (n : ℕ) → n < 128 → not_negated n ≡ Some (pos n)
 not_negated_is n below = grind (arith, nat_tests)
@@ -36,7 +58,8 @@ negated_is n below = let test : leb (suc n) 128 ≡ true = grind (arith, nat_tes
 pub signed_back : (z : ℤ) → IsPriority z → signed_of (signed_decimal z) ≡ Some z
 signed_back (pos n) range =
     let below : n < 128 = omega (arith, ints) in
-    rw (no_minus n (omega arith)) (ap (option_and_then not_negated) (number_back 8 n (omega arith) (omega arith)) ∙ not_negated_is n below)
+    let number = number_back 8 n (omega arith) (omega arith) in
+    rw (no_minus n (omega arith)) (ap (option_and_then not_negated) number ∙ not_negated_is n below)
 signed_back (negsuc n) range =
     let below : n < 128 = omega (arith, ints) in
     ap (option_and_then negated) (number_back 8 (suc n) (omega arith) (omega arith)) ∙ negated_is n below
@@ -46,6 +69,6 @@ channel_back RunIn range = refl
 channel_back RunOut range = refl
 channel_back Tout range = refl
 channel_back Keys range = refl
-channel_back (Wait slot) range = ap (option_map Wait) (number_back 8 slot (omega arith) (omega arith))
-channel_back (Read inode) range = ap (option_map Read) (number_back 16 inode (omega arith) (omega arith))
-channel_back (Write inode) range = ap (option_map Write) (number_back 16 inode (omega arith) (omega arith))
+channel_back (Wait slot) range = ap (option_map Wait) (slot_back slot range)
+channel_back (Read inode) range = ap (option_map Read) (inode_back inode range)
+channel_back (Write inode) range = ap (option_map Write) (inode_back inode range)

@@ -33,9 +33,11 @@ not_true true pass = cc
 not_true false pass = refl
 
 no_space : (word : List ℕ) → is_whole word ≡ true → All (λ byte. is_space byte ≡ false) word
-no_space word pass = λ k d inside. not_true _ (AllPass-from_list_all (λ byte. not (is_space byte)) word pass k d inside)
+no_space word pass = λ k d inside.
+    not_true _ (AllPass-from_list_all (λ byte. not (is_space byte)) word pass k d inside)
 
-comes_apart : (word : List ℕ) (words : List (List ℕ)) → is_whole word ≡ true → list_all is_whole words ≡ true
+comes_apart : (word : List ℕ) (words : List (List ℕ))
+    → is_whole word ≡ true → list_all is_whole words ≡ true
     → words_of (spaced (word ∷ words)) ≡ word ∷ words
 comes_apart word [] here there = slice_split_none is_space word (no_space word here)
 comes_apart word (next ∷ words) here there =

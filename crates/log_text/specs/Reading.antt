@@ -29,8 +29,8 @@ IsDigits word text = (list_all is_ascii_digit word ≡ true) × (text.now ≡ wo
 -- the number that decimal digits write, where it has at most so many bits
 abbrev pub number_of : ℕ → List ℕ → Option ℕ
 number_of bits word =
-    if nat_lt 0 (length word) && list_all is_ascii_digit word && nat_lt (digits_value 10 word) (2 ^ bits) then Some (digits_value 10 word)
-    else None
+    if nat_lt 0 (length word) && list_all is_ascii_digit word && nat_lt (digits_value 10 word) (2 ^ bits)
+    then Some (digits_value 10 word) else None
 
 abbrev pub negated : ℕ → Option ℤ
 negated n = if nat_le n 128 then Some (neg_ℤ (pos n)) else None
@@ -77,7 +77,8 @@ abbrev pub of_two : {A B : Type 0} → (A → B → Entry) → Option A → Opti
 of_two entry None second = None
 of_two entry (Some first) second = option_map (entry first) second
 
-abbrev pub of_three : {A B C : Type 0} → (A → B → C → Entry) → Option A → Option B → Option C → Option Entry
+abbrev pub of_three : {A B C : Type 0}
+    → (A → B → C → Entry) → Option A → Option B → Option C → Option Entry
 of_three entry None second third = None
 of_three entry (Some first) second third = of_two (entry first) second third
 
@@ -115,11 +116,14 @@ fork_of words = of_three Fork (slot_of words) (number_of 8 (word_at words 2)) (p
 
 abbrev pub leave_of : List (List ℕ) → Option Entry
 leave_of words =
-    of_two (λ slot text. Leave slot text (is_word (word_at words 3) (codes "sticky"))) (slot_of words) (number_of 8 (word_at words 2))
+    of_two (λ slot text. Leave slot text (is_word (word_at words 3) (codes "sticky")))
+    (slot_of words) (number_of 8 (word_at words 2))
 
 abbrev pub text_of : List (List ℕ) → Option Entry
 text_of words =
-    option_and_then (λ slot. of_three (Text slot) (number_of 8 (word_at words 2)) (number_of 16 (word_at words 3)) (number_of 16 (word_at words 5)))
+    option_and_then
+    (λ slot. of_three (Text slot) (number_of 8 (word_at words 2))
+    (number_of 16 (word_at words 3)) (number_of 16 (word_at words 5)))
     (slot_of words)
 
 abbrev pub share_of : List (List ℕ) → Option Entry

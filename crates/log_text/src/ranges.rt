@@ -74,17 +74,29 @@ pub(crate) fn is_in_range(entry: Entry) -> bool
     ensures { IsTrue result ↔ IsInRange entry }
 {
     match entry {
-        Entry::Boot { .. } | Entry::Idle | Entry::Time(_) | Entry::Panic(_) | Entry::End => true,
-        Entry::TickUser | Entry::TickKernel | Entry::TickIdle => true,
-        Entry::Go(slot) | Entry::Trap(slot) | Entry::Bare(slot) | Entry::Reap(slot) => is_slot(slot),
+        Entry::Boot { .. } | Entry::Time(_) => true,
+        Entry::Idle | Entry::TickUser | Entry::TickKernel | Entry::TickIdle => true,
+        Entry::Panic(_) | Entry::End => true,
+        Entry::Go(slot) | Entry::Trap(slot) => is_slot(slot),
+        Entry::Bare(slot) | Entry::Reap(slot) => is_slot(slot),
         Entry::Sleep { slot, chan, .. } => is_slot(slot) && is_channel(chan),
         Entry::Wake(chan) => is_channel(chan),
         Entry::Signal { slot, sig } => is_slot(slot) && is_signal(sig),
-        Entry::Nice { slot, .. } | Entry::SizeKeep { slot, .. } | Entry::SwapIn { slot, .. } => is_slot(slot),
-        Entry::Size { slot, place, .. } | Entry::Image { slot, place, .. } => is_slot(slot) && is_place(place),
+        Entry::Nice { slot, .. } => is_slot(slot),
+        Entry::Size { slot, place, .. } => is_slot(slot) && is_place(place),
+        Entry::SizeKeep { slot, .. } => is_slot(slot),
         Entry::Fork { slot, child, place } => is_slot(slot) && is_slot(child) && is_place(place),
-        Entry::Leave { slot, text, .. } | Entry::Share { slot, text } => is_slot(slot) && is_text(text),
-        Entry::Text { slot, text, block, .. } => is_slot(slot) && is_text(text) && is_block(block),
-        Entry::SwapOut { slot, block } | Entry::Exit { slot, block } => is_slot(slot) && is_block(block),
+        Entry::Leave { slot, text, .. } => is_slot(slot) && is_text(text),
+        Entry::Text {
+            slot,
+            text,
+            block,
+            ..
+        } => is_slot(slot) && is_text(text) && is_block(block),
+        Entry::Share { slot, text } => is_slot(slot) && is_text(text),
+        Entry::Image { slot, place, .. } => is_slot(slot) && is_place(place),
+        Entry::SwapIn { slot, .. } => is_slot(slot),
+        Entry::SwapOut { slot, block } => is_slot(slot) && is_block(block),
+        Entry::Exit { slot, block } => is_slot(slot) && is_block(block),
     }
 }

@@ -16,11 +16,11 @@ fn is_line(entry: Entry, bytes: &[u8]) -> bool
     is_in_range(entry) && line(&entry).as_slice() == bytes
 }
 
-/// The entry whose line these bytes are, without a line feed. There is one at most: the words are read loosely, and then
-/// the line of the entry that they name is compared with the bytes.
+/// The entry whose line these bytes are, without a line feed; there is one at most. The words are read loosely, and the
+/// line of the entry that they name is then compared with the bytes.
 ///
-/// None where they are no line of a log: another word, one too many or too few, more or less than one space between two,
-/// a number outside its range or with a leading zero.
+/// None where they are no line of a log: for another word, one too many or too few, other than one space between two, a
+/// number outside its range or with a leading zero.
 pub fn parse(bytes: &[u8]) -> Option<Entry>
     ensures entry { MatchOption result ((e : Entry) → IsInRange e → bytes.now ≢ entry_line e)
         (λ e. IsInRange e × (bytes.now ≡ entry_line e)) }

@@ -7,9 +7,7 @@ ghost use Rattle.log_text.specs.Reading.{word_at, words_of};
 pub(crate) fn word(line: &[u8], place: usize) -> &[u8]
     ensures { result.now ≡ word_at (words_of line.now) place }
 {
-    line.split(|byte| *byte == b' ')
-        .nth(place)
-        .unwrap_or(&[])
+    line.split(|byte| *byte == b' ').nth(place).unwrap_or(&[])
 }
 
 /// Whether a word is this one.

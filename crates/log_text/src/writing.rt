@@ -130,11 +130,11 @@ fn add_place(text: &mut Text, place: Place)
     match place {
         Place::Core(click) => {
             add_word(text, b"at");
-            add_number(text, u32::from(click));
+            add_number(text, click.into());
         }
         Place::Swap(block) => {
             add_word(text, b"swap");
-            add_number(text, u32::from(block));
+            add_number(text, block.into());
         }
     }
 }
@@ -169,16 +169,16 @@ fn add_channel(text: &mut Text, chan: Chan)
         Chan::RunOut => add_word(text, b"runout"),
         Chan::Tout => add_word(text, b"tout"),
         Chan::Keys => add_word(text, b"keys"),
-        Chan::Wait(slot) => add_numbered(text, b"wait.", u32::from(slot)),
-        Chan::Read(inode) => add_numbered(text, b"read.", u32::from(inode)),
-        Chan::Write(inode) => add_numbered(text, b"write.", u32::from(inode)),
+        Chan::Wait(slot) => add_numbered(text, b"wait.", slot.into()),
+        Chan::Read(inode) => add_numbered(text, b"read.", inode.into()),
+        Chan::Write(inode) => add_numbered(text, b"write.", inode.into()),
     }
 }
 
 fn sleep(slot: Slot, pri: i8, chan: Chan) -> Text
     ensures { result.items ≡ entry_line (Entry.Sleep slot pri chan) }
 {
-    let mut text = one(b"sleep", u32::from(slot));
+    let mut text = one(b"sleep", slot.into());
     add_signed(&mut text, pri);
     add_channel(&mut text, chan);
     text
@@ -195,34 +195,58 @@ fn wake(chan: Chan) -> Text
 fn nice(slot: Slot, nice: i8) -> Text
     ensures { result.items ≡ entry_line (Entry.Nice slot nice) }
 {
-    let mut text = one(b"nice", u32::from(slot));
+    let mut text = one(b"nice", slot.into());
     add_signed(&mut text, nice);
     text
+}
+
+fn size(slot: Slot, clicks: u16, place: Place) -> Text
+    ensures { result.items ≡ entry_line (Entry.Size slot clicks place) }
+{
+    two_and_place(b"size", slot.into(), clicks.into(), place)
+}
+
+fn size_keep(slot: Slot, clicks: u16) -> Text
+    ensures { result.items ≡ entry_line (Entry.SizeKeep slot clicks) }
+{
+    two_and_word(b"size", slot.into(), clicks.into(), b"keep")
+}
+
+fn fork(slot: Slot, child: Slot, place: Place) -> Text
+    ensures { result.items ≡ entry_line (Entry.Fork slot child place) }
+{
+    two_and_place(b"fork", slot.into(), child.into(), place)
 }
 
 fn leave(slot: Slot, text: u8, sticky: bool) -> Text
     ensures { result.items ≡ entry_line (Entry.Leave slot text sticky) }
 {
     if sticky {
-        two_and_word(b"drop", u32::from(slot), u32::from(text), b"sticky")
+        two_and_word(b"drop", slot.into(), text.into(), b"sticky")
     } else {
-        two_and_word(b"drop", u32::from(slot), u32::from(text), b"plain")
+        two_and_word(b"drop", slot.into(), text.into(), b"plain")
     }
 }
 
 fn new_text(slot: Slot, text: u8, clicks: u16, block: u16) -> Text
     ensures { result.items ≡ entry_line (Entry.Text slot text clicks block) }
 {
-    let mut line = two(b"text", u32::from(slot), u32::from(text));
-    add_number(&mut line, u32::from(clicks));
+    let mut line = two(b"text", slot.into(), text.into());
+    add_number(&mut line, clicks.into());
     add_place(&mut line, Place::Swap(block));
     line
+}
+
+fn image(slot: Slot, clicks: u16, place: Place) -> Text
+    ensures { result.items ≡ entry_line (Entry.Image slot clicks place) }
+{
+    two_and_place(b"image", slot.into(), clicks.into(), place)
 }
 
 fn exit(slot: Slot, block: u16) -> Text
     ensures { result.items ≡ entry_line (Entry.Exit slot block) }
 {
-    let mut text = one(b"exit", u32::from(slot));
+    let mut text = one(b"exit", slot.into());
     add_place(&mut text, Place::Swap(block));
     text
 }
@@ -242,30 +266,43 @@ pub fn line(entry: &Entry) -> Text
     ensures { result.items ≡ entry_line entry.now }
 {
     match *entry {
-        Entry::Boot { core, time } => two(b"boot", u32::from(core), time),
-        Entry::Go(slot) => one(b"go", u32::from(slot)),
+        Entry::Boot { core, time } => two(b"boot", core.into(), time),
+        Entry::Go(slot) => one(b"go", slot.into()),
         Entry::Idle => word(b"idle"),
-        Entry::Trap(slot) => one(b"trap", u32::from(slot)),
+        Entry::Trap(slot) => one(b"trap", slot.into()),
         Entry::TickUser => words(b"tick", b"u"),
         Entry::TickKernel => words(b"tick", b"k"),
         Entry::TickIdle => words(b"tick", b"i"),
         Entry::Sleep { slot, pri, chan } => sleep(slot, pri, chan),
         Entry::Wake(chan) => wake(chan),
-        Entry::Signal { slot, sig } => two(b"signal", u32::from(slot), u32::from(sig)),
+        Entry::Signal { slot, sig } => two(b"signal", slot.into(), sig.into()),
         Entry::Nice { slot, nice: added } => nice(slot, added),
         Entry::Time(time) => one(b"time", time),
-        Entry::Size { slot, clicks, place } => two_and_place(b"size", u32::from(slot), u32::from(clicks), place),
-        Entry::SizeKeep { slot, clicks } => two_and_word(b"size", u32::from(slot), u32::from(clicks), b"keep"),
-        Entry::Fork { slot, child, place } => two_and_place(b"fork", u32::from(slot), u32::from(child), place),
+        Entry::Size {
+            slot,
+            clicks,
+            place,
+        } => size(slot, clicks, place),
+        Entry::SizeKeep { slot, clicks } => size_keep(slot, clicks),
+        Entry::Fork { slot, child, place } => fork(slot, child, place),
         Entry::Leave { slot, text, sticky } => leave(slot, text, sticky),
-        Entry::Bare(slot) => one(b"bare", u32::from(slot)),
-        Entry::Text { slot, text, clicks, block } => new_text(slot, text, clicks, block),
-        Entry::Share { slot, text } => two(b"share", u32::from(slot), u32::from(text)),
-        Entry::Image { slot, clicks, place } => two_and_place(b"image", u32::from(slot), u32::from(clicks), place),
-        Entry::SwapIn { slot, at } => two(b"in", u32::from(slot), u32::from(at)),
-        Entry::SwapOut { slot, block } => two(b"out", u32::from(slot), u32::from(block)),
+        Entry::Bare(slot) => one(b"bare", slot.into()),
+        Entry::Text {
+            slot,
+            text,
+            clicks,
+            block,
+        } => new_text(slot, text, clicks, block),
+        Entry::Share { slot, text } => two(b"share", slot.into(), text.into()),
+        Entry::Image {
+            slot,
+            clicks,
+            place,
+        } => image(slot, clicks, place),
+        Entry::SwapIn { slot, at } => two(b"in", slot.into(), at.into()),
+        Entry::SwapOut { slot, block } => two(b"out", slot.into(), block.into()),
         Entry::Exit { slot, block } => exit(slot, block),
-        Entry::Reap(slot) => one(b"reap", u32::from(slot)),
+        Entry::Reap(slot) => one(b"reap", slot.into()),
         Entry::Panic(kind) => panic(kind),
         Entry::End => word(b"end"),
     }
