@@ -1,19 +1,14 @@
 -- The words of an entry in range hold no space, and are read back as this entry.
-use Rattle.std.proofs.Common.{◌≡◌, ◌≤◌, ◌<◌, ◌^◌, ℕ, Bool, ℤ, pos, negsuc, suc, true, false, ◌&&◌, List, [], ◌∷◌, ◌++◌, Some, None, codes, refl, sym, ◌∙◌, ap, subst, arith}
-use Rattle.std.specs.Fmt.{decimal, signed_decimal}
-use Rattle.std.proofs.lemmas.Int.{ints}
+use Rattle.std.proofs.Common.{◌≡◌, ℕ, Bool, true, false, List, Some, None, refl, sym, ◌∙◌, ap, subst}
 use Rattle.std.proofs.lemmas.Option.{none-some, same_Some}
 use Rattle.std.proofs.lemmas.Bool.{false≢true}
-use Rattle.v6_base.specs.declared.entry.Chan.{Chan}
-use Rattle.v6_base.specs.declared.entry.Chan.TheVariants.{RunIn, RunOut, Tout, Keys, Wait, Read, Write}
 use Rattle.v6_base.specs.declared.entry.PanicKind.TheVariants as panic
-use Rattle.v6_base.specs.declared.entry.Place.{Place}
 use Rattle.v6_base.specs.declared.entry.Place.TheVariants as place
 use Rattle.v6_base.specs.declared.entry.Entry.{Entry}
 use Rattle.v6_base.specs.declared.entry.Entry.TheVariants.{Boot, Go, Idle, Trap, TickUser, TickKernel, TickIdle, Sleep, Wake, Signal, Nice, Time, Size, SizeKeep, Fork, Leave, Bare, Text, Share, Image, SwapIn, SwapOut, Exit, Reap, Panic, End}
-use Rattle.v6_base.specs.LogLine.{channel, entry_words, entry_line}
-use Rattle.log_text.specs.Ranges.{IsSlot, IsText, IsClicks, IsBlock, IsTime, IsSignal, IsInode, IsPriority, IsChannel, IsPlace, IsInRange}
-use Rattle.log_text.specs.Reading.{words_of, number_of, signed_of, channel_of, entry_of}
+use Rattle.v6_base.specs.LogLine.{entry_words, entry_line}
+use Rattle.log_text.specs.Ranges.{IsInRange}
+use Rattle.log_text.specs.Reading.{words_of, entry_of}
 use Rattle.log_text.proofs.SplitLemmas.{are_words, come_apart}
 use Rattle.log_text.proofs.WholeLemmas.{slot_whole, text_whole, clicks_whole, block_whole, time_whole, signal_whole, signed_whole, channel_whole}
 use Rattle.log_text.proofs.ReadLemmas.{slot_back, text_back, clicks_back, block_back, time_back, signal_back, signed_back, channel_back}

@@ -1,6 +1,6 @@
 -- Words that were joined by spaces, and hold none, come apart again.
-use Rattle.std.proofs.Common.{◌≡◌, ◌<◌, ◌≤◌, ◌^◌, ℕ, Bool, true, false, not, ◌&&◌, List, [], ◌∷◌, ◌++◌, length, get_or, eqb, refl, ap, ◌∙◌, arith}
-use Rattle.std.specs.List.{All, list_all, slice_split}
+use Rattle.std.proofs.Common.{◌≡◌, ◌<◌, ◌^◌, ℕ, Bool, true, false, not, ◌&&◌, List, [], ◌∷◌, eqb, refl, ap, ◌∙◌, arith}
+use Rattle.std.specs.List.{All, list_all}
 use Rattle.std.specs.Fmt.{decimal}
 use Rattle.std.specs.Str.Parse.{AllDigits}
 use Rattle.std.specs.Char.{digit_value}

@@ -1,5 +1,5 @@
 -- What is seen of a word that was looked for.
-use Rattle.std.proofs.Common.{◌≡◌, ℕ, List, Some, None, Option, Bor, refl, ap}
+use Rattle.std.proofs.Common.{◌≡◌, ℕ, List, Some, None, Option, Bor, refl}
 use Rattle.std.specs.Option.{unwrap_or, option_map}
 
 pub seen : (found : Option (Bor (List ℕ))) (other : Bor (List ℕ))

@@ -1,5 +1,5 @@
 use Rattle.std.proofs.Common.{◌∙◌, length, ap, arith, lit<, length-append}
-use Rattle.log_text.proofs.DigitLemmas.{one_digit, last_digit, length-last_digit, digits_more}
+use Rattle.log_text.proofs.DigitLemmas.{one_digit, length-last_digit, digits_more}
 use Rattle.log_text.proofs.writing.+add_digits.Goals as goal
 
 pub add_digits-requires : goal.add_digits-requires
