@@ -9,5 +9,6 @@ mod rows;
 mod search;
 
 pub use child::Child;
+pub use member::Member;
 pub use row::Row;
 pub use rows::Rows;

@@ -27,3 +27,5 @@ pub mod WriteLemmas
 pub mod ShowingLemmas
 pub mod ModesLemmas
 pub mod CreatingLemmas
+pub mod Bounds
+pub mod Steady
