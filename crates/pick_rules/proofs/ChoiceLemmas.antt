@@ -118,7 +118,7 @@ passed t rows last k best e f h r =
 there : (last k : ℕ) → last < 50 → k < 50 → distance last (slot_after last k) ≡ k
 there last k l h = omega arith
 
-back : (last s : ℕ) → last < 50 → s < 50 → slot_after last (distance last s) ≡ s
+pub back : (last s : ℕ) → last < 50 → s < 50 → slot_after last (distance last s) ≡ s
 back last s l h = omega arith
 
 -- The choice among those at the distances from a to a + n.

@@ -55,7 +55,7 @@ awake_trans a b c k l = record {
 }
 
 -- a fact of each row stays where it holds of a new one
-set_each : (P : ℕ → TableRow → Type 0) (rows : List TableRow) (s : ℕ) (row : TableRow)
+pub set_each : (P : ℕ → TableRow → Type 0) (rows : List TableRow) (s : ℕ) (row : TableRow)
     → ((r : ℕ) → P r (get_or rows r empty_row)) → P s row → (r : ℕ) → P r (get_or (set rows s row) r empty_row)
 set_each P [] s row h p r = h r
 set_each P (x ∷ xs) zero row h p zero = p
@@ -125,7 +125,7 @@ ready_awake t s w e = row_awake t s (record (row_at t s) { stat = Ready; channel
 not_free : (t : Table) (s : ℕ) (w : Chan) → sleeps_on t s w ≡ true → AreFree t → 2 ≤ s → ⊥
 not_free t s w e f l = has_channel (row_at t s) w e (ap (λ r. r.channel) (f.rows s l))
 
-fold_keeps : {A X : Type 0} (P : A → Type 0) (f : A → X → A) → ((a : A) (x : X) → P a → P (f a x)) → (xs : List X) (a : A) → P a → P (fold f a xs)
+pub fold_keeps : {A X : Type 0} (P : A → Type 0) (f : A → X → A) → ((a : A) (x : X) → P a → P (f a x)) → (xs : List X) (a : A) → P a → P (fold f a xs)
 fold_keeps P f step [] a p = p
 fold_keeps P f step (x ∷ xs) a p = fold_keeps P f step xs (f a x) (step a x p)
 
@@ -136,14 +136,14 @@ pub record Stays (P : Table → Type 0) : Type 0 where
   pub runin : (t : Table) → P t → P (record t { runin = false })
 
 module _ (P : Table → Type 0) (stays : Stays P) where
-  zero_stays : (t : Table) (w : Chan) → P t → P (process_0_woken t w)
+  pub zero_stays : (t : Table) (w : Chan) → P t → P (process_0_woken t w)
   zero_stays t w p = by (sleeps_on t 0 w) refl
     where
       by : (b : Bool) → sleeps_on t 0 w ≡ b → P (cond b (made_ready t 0) t)
       by true e = stays.woken t 0 w e p
       by false e = p
 
-  runout_stays : (t : Table) → P t → P (runout_told t)
+  pub runout_stays : (t : Table) → P t → P (runout_told t)
   unfolding runout_told
   runout_stays t p = by t.runout
     where
@@ -151,7 +151,7 @@ module _ (P : Table → Type 0) (stays : Stays P) where
       by true = zero_stays (record t { runout = false }) RunOut (stays.runout t p)
       by false = p
 
-  runin_stays : (t : Table) → P t → P (runin_told t)
+  pub runin_stays : (t : Table) → P t → P (runin_told t)
   unfolding runin_told
   runin_stays t p = by t.runin
     where
@@ -159,7 +159,7 @@ module _ (P : Table → Type 0) (stays : Stays P) where
       by true = zero_stays (record t { runin = false }) RunIn (stays.runin t p)
       by false = p
 
-  setrun_stays : (t : Table) (s : ℕ) → P (made_ready t s) → P (setrun t s)
+  pub setrun_stays : (t : Table) (s : ℕ) → P (made_ready t s) → P (setrun t s)
   unfolding setrun
   setrun_stays t s p = by (is_loaded t s)
     where
@@ -167,7 +167,7 @@ module _ (P : Table → Type 0) (stays : Stays P) where
       by true = p
       by false = runout_stays (made_ready t s) p
 
-  wakeup_stays : (t : Table) (w : Chan) → P t → P (wakeup t w)
+  pub wakeup_stays : (t : Table) (w : Chan) → P t → P (wakeup t w)
   unfolding wakeup
   wakeup_stays t w p = fold_keeps P (λ now s. if sleeps_on now s w then setrun now s else now) one slots t p
     where
@@ -436,7 +436,7 @@ passed_tout t = by (t.ticks == 59)
     by true = refl
     by false = refl
 
-passed_running : (t : Table) → (time_passed t).running ≡ t.running
+pub passed_running : (t : Table) → (time_passed t).running ≡ t.running
 passed_running t = by (t.ticks == 59)
   where
     by : (b : Bool) → (cond b (timed t 0 ((t.now + 1) % 2 ^ 32)) (timed t (t.ticks + 1) t.now)).running ≡ t.running

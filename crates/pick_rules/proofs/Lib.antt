@@ -1,3 +1,10 @@
 pub mod RoundLemmas
 pub mod ChoiceLemmas
+pub mod Chosen
 pub mod Laws
+pub mod Found
+pub mod Shapes
+pub mod TickShapes
+pub mod Movers
+pub mod MoveShapes
+pub mod NoPlace

@@ -4,3 +4,10 @@ pub mod Priority
 pub mod Sleepers
 pub mod Clock
 pub mod Choice
+pub mod Board
+pub mod Apply
+pub mod Effects
+pub mod Logged
+pub mod Swapper
+pub mod Fits
+pub mod Lawful

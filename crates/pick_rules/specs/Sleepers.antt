@@ -5,9 +5,10 @@ use Rattle.v6_base.specs.declared.entry.Chan.TheVariants.{RunIn, RunOut}
 use Rattle.pick_rules.specs.declared.row.Stat.{Stat}
 use Rattle.pick_rules.specs.declared.row.Stat.TheVariants.{Sleeping, Waiting, Ready}
 use Rattle.pick_rules.specs.declared.row.TableRow.{TableRow}
+use Rattle.std.specs.Int.{int_min}
 use Rattle.pick_rules.specs.Search.{each_slot}
 use Rattle.pick_rules.specs.declared.table.Table.{Table}
-use Rattle.pick_rules.specs.Table.{row_at, with_row, is_loaded, is_on, same_chan}
+use Rattle.pick_rules.specs.Table.{row_at, with_row, is_loaded, is_on, is_waiting, same_chan}
 
 -- the slot can run, and forgets its channel; where it goes before the running one, a new choice is asked for
 unfoldable pub made_ready : Table → ℕ → Table
@@ -51,3 +52,10 @@ asleep t s pri w = record (with_row t s (record (row_at t s) { stat = sleep_stat
 -- the slot sleeps; where signals may wake it, its image may be put out of core
 unfoldable pub fall_asleep : Table → ℕ → ℤ → Chan → Table
 fall_asleep t s pri w = flagged (if int_lt pri (pos 0) then asleep t s pri w else runin_told (asleep t s pri w)) s w
+
+-- A signal is posted to a slot: Lions' Commentary, `psignal`.
+unfoldable pub signalled : Table → ℕ → Table
+signalled t s =
+    let row : TableRow = row_at t s in
+    let lowered : Table = with_row t s (record row { pri = int_min row.pri (pos 100) }) in
+    if is_waiting row.stat then setrun lowered s else lowered

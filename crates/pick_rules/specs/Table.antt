@@ -75,3 +75,28 @@ pub record IsTable (t : Table) : Type 0 where
   pub last : t.last < 50
   pub running : MatchOption t.running ⊤ (λ s. s < 50)
   pub ticks : t.ticks < 60
+
+abbrev pub is_waiting : Stat → Bool
+is_waiting Empty = false
+is_waiting Sleeping = false
+is_waiting Waiting = true
+is_waiting Ready = false
+is_waiting Zombie = false
+
+abbrev pub is_sleeping : Stat → Bool
+is_sleeping Empty = false
+is_sleeping Sleeping = true
+is_sleeping Waiting = false
+is_sleeping Ready = false
+is_sleeping Zombie = false
+
+abbrev pub is_zombie : Stat → Bool
+is_zombie Empty = false
+is_zombie Sleeping = false
+is_zombie Waiting = false
+is_zombie Ready = false
+is_zombie Zombie = true
+
+-- a new child can run; it has its parent's nice and text
+abbrev pub child_row : TableRow → TableRow
+child_row parent = record empty_row { stat = Ready; nice = parent.nice; text = parent.text }
