@@ -1,0 +1,69 @@
+-- Which places are found does not hang on what the images hold, nor on u areas beside their sizes.
+use Rattle.std.proofs.Common.{◌≡◌, ◌+◌, ℕ, zero, suc, List, [], ◌∷◌, ◌++◌, get_or, set, flat_map, Option, Some, None, refl, sym, ap, ◌∙◌}
+use Rattle.std.specs.Option.{option_map, option_or}
+use Rattle.v6_base.specs.declared.entry.Place.TheVariants.{Core, Swap}
+use Rattle.v6_base.specs.Image.{Image}
+use Rattle.u_area.specs.declared.area.UArea.{UArea}
+use Rattle.map_fit.specs.Fit.{Range, first_fit}
+use Rattle.image_keep.specs.Kept.{Keeping, Nothing, Alive, Grave, Kept, keeping, with_keeping, imaged, described, with_image, with_area, clicks_of, area_in, area_of}
+use Rattle.image_keep.specs.Places.{core_of, swap_of, core_of_place, swap_of_place, core_fit, swap_fit, placed, blocks}
+
+flat_map_set_same : (f : Keeping → List Range) (xs : List Keeping) (s : ℕ) (y : Keeping) → f y ≡ f (get_or xs s Nothing) → flat_map f (set xs s y) ≡ flat_map f xs
+flat_map_set_same f [] s y same = refl
+flat_map_set_same f (x ∷ xs) zero y same = ap (λ (l : List Range). l ++ flat_map f xs) same
+flat_map_set_same f (x ∷ xs) (suc s) y same = ap (λ (l : List Range). f x ++ l) (flat_map_set_same f xs s y same)
+
+-- Where a slot takes what it took, the same places are found.
+pub core_fit_same : (k : Kept) (s n : ℕ) (x : Keeping) → core_of x ≡ core_of (keeping k s) → core_fit (with_keeping k s x) n ≡ core_fit k n
+unfolding core_fit
+core_fit_same k s n x same = ap (λ taken. first_fit taken 1 k.core n) (flat_map_set_same core_of k.slots s x same)
+
+pub swap_fit_same : (k : Kept) (s n : ℕ) (x : Keeping) → swap_of x ≡ swap_of (keeping k s) → swap_fit (with_keeping k s x) n ≡ swap_fit k n
+unfolding swap_fit
+swap_fit_same k s n x same = ap (λ taken. first_fit taken 4000 4871 n) (flat_map_set_same swap_of k.slots s x same)
+
+placed_by : (k l : Kept) (n : ℕ) → core_fit k n ≡ core_fit l n → swap_fit k (blocks n) ≡ swap_fit l (blocks n) → placed k n ≡ placed l n
+unfolding placed
+placed_by k l n core swap = ap (λ o. option_or (option_map Core o) (option_map Swap (swap_fit k (blocks n)))) core ∙ ap (λ o. option_or (option_map Core (core_fit l n)) (option_map Swap o)) swap
+
+core_imaged : (m : Image) (x : Keeping) → core_of (imaged m x) ≡ core_of x
+core_imaged m Nothing = refl
+core_imaged m (Alive held) = refl
+core_imaged m (Grave u block) = refl
+
+swap_imaged : (m : Image) (x : Keeping) → swap_of (imaged m x) ≡ swap_of x
+swap_imaged m Nothing = refl
+swap_imaged m (Alive held) = refl
+swap_imaged m (Grave u block) = refl
+
+pub with_image_core_fit : (k : Kept) (s n : ℕ) (m : Image) → core_fit (with_image k s m) n ≡ core_fit k n
+unfolding with_image
+with_image_core_fit k s n m = core_fit_same k s n (imaged m (keeping k s)) (core_imaged m (keeping k s))
+
+pub with_image_swap_fit : (k : Kept) (s n : ℕ) (m : Image) → swap_fit (with_image k s m) n ≡ swap_fit k n
+unfolding with_image
+with_image_swap_fit k s n m = swap_fit_same k s n (imaged m (keeping k s)) (swap_imaged m (keeping k s))
+
+pub with_image_placed : (k : Kept) (s n : ℕ) (m : Image) → placed (with_image k s m) n ≡ placed k n
+with_image_placed k s n m = placed_by (with_image k s m) k n (with_image_core_fit k s n m) (with_image_swap_fit k s (blocks n) m)
+
+core_described : (u : UArea) (x : Keeping) → clicks_of u ≡ clicks_of (area_in x) → core_of (described u x) ≡ core_of x
+core_described u Nothing same = refl
+core_described u (Alive held) same = ap (core_of_place held.place) same
+core_described u (Grave v block) same = refl
+
+swap_described : (u : UArea) (x : Keeping) → clicks_of u ≡ clicks_of (area_in x) → swap_of (described u x) ≡ swap_of x
+swap_described u Nothing same = refl
+swap_described u (Alive held) same = ap (swap_of_place held.place) same
+swap_described u (Grave v block) same = refl
+
+pub with_area_core_fit : (k : Kept) (s n : ℕ) (u : UArea) → clicks_of u ≡ clicks_of (area_of k s) → core_fit (with_area k s u) n ≡ core_fit k n
+unfolding with_area
+with_area_core_fit k s n u same = core_fit_same k s n (described u (keeping k s)) (core_described u (keeping k s) same)
+
+pub with_area_swap_fit : (k : Kept) (s n : ℕ) (u : UArea) → clicks_of u ≡ clicks_of (area_of k s) → swap_fit (with_area k s u) n ≡ swap_fit k n
+unfolding with_area
+with_area_swap_fit k s n u same = swap_fit_same k s n (described u (keeping k s)) (swap_described u (keeping k s) same)
+
+pub with_area_placed : (k : Kept) (s n : ℕ) (u : UArea) → clicks_of u ≡ clicks_of (area_of k s) → placed (with_area k s u) n ≡ placed k n
+with_area_placed k s n u same = placed_by (with_area k s u) k n (with_area_core_fit k s n u same) (with_area_swap_fit k s (blocks n) u same)

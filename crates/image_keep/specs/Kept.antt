@@ -1,0 +1,119 @@
+-- What is kept of each process's image: `proc.h` and `user.h` in Lions' Commentary. An image is the u area of sixteen
+-- clicks, the data and the stack; it stands in core or in the swap area. A click is 64 bytes, a block 512.
+use Rattle.std.specs.Prelude.{◌≡◌, ℕ, ◌+◌, ◌*◌, ◌≤◌, Bool, true, false, List, [], replicate, slice_set, slice_index_or, length, Option, Some, None, take}
+use Rattle.v6_base.specs.declared.entry.Place.{Place}
+use Rattle.v6_base.specs.declared.entry.Place.TheVariants.{Swap}
+use Rattle.v6_base.specs.Image.{Image, IsImage}
+use Rattle.u_area.specs.declared.area.UArea.{UArea}
+use Rattle.u_area.specs.Area.{area_bytes}
+use Rattle.image_keep.specs.Area.{no_area}
+
+-- an image that can run
+pub record Held : Type 0 where
+  pub u : UArea
+  pub image : Image
+  pub place : Place
+
+-- what is kept for a slot
+pub data Keeping : Type 0 where
+  Nothing : Keeping
+  Alive : Held → Keeping
+  Grave : UArea → ℕ → Keeping  -- of a process that has ended: half of its u area, in this block of the swap area
+
+pub record Kept : Type 0 where
+  pub slots : List Keeping  -- fifty
+  pub core : ℕ  -- clicks
+
+abbrev pub first_kept : ℕ → Kept
+first_kept core = record { slots = replicate 50 Nothing; core = core }
+
+abbrev pub keeping : Kept → ℕ → Keeping
+keeping k s = slice_index_or k.slots s Nothing
+
+abbrev pub with_keeping : Kept → ℕ → Keeping → Kept
+with_keeping k s x = record k { slots = slice_set k.slots s x }
+
+-- the clicks of an image
+abbrev pub clicks_of : UArea → ℕ
+clicks_of u = 16 + u.data_size + u.stack_size
+
+abbrev pub place_in : Keeping → Option Place
+place_in Nothing = None
+place_in (Alive held) = Some held.place
+place_in (Grave u block) = Some (Swap block)
+
+abbrev pub place_of : Kept → ℕ → Option Place
+place_of k s = place_in (keeping k s)
+
+-- the sizes in a u area are those of the lists; no text is shared yet
+pub record HasSizes (u : UArea) (image : Image) : Type 0 where
+  pub text : image.text ≡ []
+  pub text_size : u.text_size ≡ 0
+  pub data_size : length image.data ≡ 64 * u.data_size
+  pub stack_size : length image.stack ≡ 64 * u.stack_size
+
+-- a slot has an image, this one
+abbrev pub Has : Kept → ℕ → Held → Type 0
+Has k s held = keeping k s ≡ Alive held
+
+-- a slot has an image
+abbrev pub HasImage : Kept → ℕ → Type 0
+HasImage k s = (held : Held) × Has k s held
+
+-- a slot has what is kept of a process that has ended
+abbrev pub HasGrave : Kept → ℕ → Type 0
+HasGrave k s = (u : UArea) × (block : ℕ) × (keeping k s ≡ Grave u block)
+
+abbrev pub is_alive : Keeping → Bool
+is_alive Nothing = false
+is_alive (Alive held) = true
+is_alive (Grave u block) = false
+
+-- the image and the u area of a slot; where it has none, one that is empty
+abbrev pub no_image : Image
+no_image = record { text = []; «data» = []; stack = [] }
+
+abbrev pub image_in : Keeping → Image
+image_in Nothing = no_image
+image_in (Alive held) = held.image
+image_in (Grave u block) = no_image
+
+abbrev pub area_in : Keeping → UArea
+area_in Nothing = no_area
+area_in (Alive held) = held.u
+area_in (Grave u block) = u
+
+abbrev pub image_of : Kept → ℕ → Image
+image_of k s = image_in (keeping k s)
+
+abbrev pub area_of : Kept → ℕ → UArea
+area_of k s = area_in (keeping k s)
+
+-- the slot's image is another one, or its u area
+abbrev pub imaged : Image → Keeping → Keeping
+imaged image Nothing = Nothing
+imaged image (Alive held) = Alive (record held { image = image })
+imaged image (Grave u block) = Grave u block
+
+abbrev pub described : UArea → Keeping → Keeping
+described u Nothing = Nothing
+described u (Alive held) = Alive (record held { u = u })
+described u (Grave v block) = Grave v block
+
+unfoldable pub with_image : Kept → ℕ → Image → Kept
+with_image k s image = with_keeping k s (imaged image (keeping k s))
+
+unfoldable pub with_area : Kept → ℕ → UArea → Kept
+with_area k s u = with_keeping k s (described u (keeping k s))
+
+-- what holds of all that is kept: fifty slots, a core that the kernel can begin with, and images in their form and their sizes
+pub record IsKept (k : Kept) : Type 0 where
+  pub slots : length k.slots ≡ 50
+  pub least : 64 ≤ k.core
+  pub most : k.core ≤ 3968
+  pub sizes : (s : ℕ) → HasImage k s → HasSizes (area_of k s) (image_of k s)
+  pub formed : (s : ℕ) → IsImage (image_of k s)
+
+-- the half of a u area that is kept of a process that has ended
+abbrev pub half_of : UArea → List ℕ
+half_of u = take 512 (area_bytes u)

@@ -1,0 +1,7 @@
+pub mod Area
+pub mod Kept
+pub mod Places
+pub mod Lent
+pub mod Rows
+pub mod Inside
+pub mod Copied

@@ -1,0 +1,59 @@
+-- Where images are placed: first fit, core before the swap area. `malloc` and `xalloc` in Lions' Commentary.
+use Rattle.std.specs.Prelude.{ℕ, ◌+◌, ◌/◌, List, [], ◌∷◌, replicate, flat_map, Option, Some, None, ◌*◌}
+use Rattle.std.specs.Option.{option_map, option_or}
+use Rattle.v6_base.specs.declared.entry.Place.{Place}
+use Rattle.v6_base.specs.declared.entry.Place.TheVariants.{Core, Swap}
+use Rattle.v6_base.specs.Image.{Image}
+use Rattle.u_area.specs.declared.area.UArea.{UArea}
+use Rattle.map_fit.specs.Fit.{Range, first_fit}
+use Rattle.image_keep.specs.Kept.{Keeping, Nothing, Alive, Grave, Kept, clicks_of, with_keeping}
+
+-- a block of the swap area holds eight clicks
+abbrev pub blocks : ℕ → ℕ
+blocks clicks = (clicks + 7) / 8
+
+abbrev pub range : ℕ → ℕ → List Range
+range at size = record { at = at; size = size } ∷ []
+
+-- what an image takes of core, and of the swap area
+abbrev pub core_of_place : Place → ℕ → List Range
+core_of_place (Core click) clicks = range click clicks
+core_of_place (Swap block) clicks = []
+
+abbrev pub swap_of_place : Place → ℕ → List Range
+swap_of_place (Core click) clicks = []
+swap_of_place (Swap block) clicks = range block (blocks clicks)
+
+abbrev pub core_of : Keeping → List Range
+core_of Nothing = []
+core_of (Alive held) = core_of_place held.place (clicks_of held.u)
+core_of (Grave u block) = []
+
+abbrev pub swap_of : Keeping → List Range
+swap_of Nothing = []
+swap_of (Alive held) = swap_of_place held.place (clicks_of held.u)
+swap_of (Grave u block) = range block 1
+
+-- the first clicks of core that are free, and the first blocks of the swap area, which is blocks 4000 to 4871
+unfoldable pub core_fit : Kept → ℕ → Option ℕ
+core_fit k clicks = first_fit (flat_map core_of k.slots) 1 k.core clicks
+
+unfoldable pub swap_fit : Kept → ℕ → Option ℕ
+swap_fit k count = first_fit (flat_map swap_of k.slots) 4000 4871 count
+
+-- the place of so many clicks: core where a start is found, else the swap area
+unfoldable pub placed : Kept → ℕ → Option Place
+placed k clicks = option_or (option_map Core (core_fit k clicks)) (option_map Swap (swap_fit k (blocks clicks)))
+
+-- the slot has this image at a place that was found, or nothing changes
+abbrev pub with_image_at : Kept → ℕ → UArea → Image → Option Place → Kept
+with_image_at k s u image None = k
+with_image_at k s u image (Some place) = with_keeping k s (Alive (record { u = u; image = image; place = place }))
+
+abbrev pub with_grave_at : Kept → ℕ → UArea → Option ℕ → Kept
+with_grave_at k s u None = k
+with_grave_at k s u (Some block) = with_keeping k s (Grave u block)
+
+-- an image that is cleared
+abbrev pub cleared : ℕ → ℕ → Image
+cleared d stack = record { text = []; «data» = replicate (64 * d) 0; stack = replicate (64 * stack) 0 }
