@@ -1,0 +1,361 @@
+-- The end of a process: what becomes of its slot in the table, the rows and the images, and what the log says.
+use Rattle.std.proofs.Common.{◌≡◌, ◌≢◌, ◌∙◌, ℕ, ◌*◌, ◌%◌, ◌<◌, Bool, true, false, cond, nat_eq, List, [], ◌∷◌, length, get_or, map, set, Option, Some, None, Result, Ok, Err, refl, sym, ap, subst, arith}
+use Rattle.std.specs.Option.{unwrap_or}
+use Rattle.std.proofs.lemmas.List.{length-set, length-map, get_or-map, get_or-set_same, get_or-set_other}
+use Rattle.v6_base.specs.Trace.{Log}
+use Rattle.v6_base.specs.declared.entry.Chan.{Chan}
+use Rattle.v6_base.specs.declared.entry.Chan.TheVariants.{Wait}
+use Rattle.v6_base.specs.declared.entry.Entry.{Entry}
+use Rattle.v6_base.specs.declared.entry.Entry.TheVariants as line
+use Rattle.v6_base.specs.declared.entry.PanicKind.{PanicKind}
+use Rattle.v6_base.specs.declared.entry.PanicKind.TheVariants as panic
+use Rattle.v6_base.specs.declared.answer.Answer.{Answer}
+use Rattle.v6_base.specs.declared.answer.Answer.TheVariants.{Ret}
+use Rattle.u_area.specs.declared.area.UArea.{UArea}
+use Rattle.v6_base.specs.declared.entry.Place.TheVariants.{Swap}
+use Rattle.pick_rules.specs.declared.row.Stat.TheVariants.{Zombie}
+use Rattle.pick_rules.specs.declared.row.TableRow.{TableRow}
+use Rattle.pick_rules.specs.declared.table.Table.{Table}
+use Rattle.pick_rules.specs.Table.{row_at, IsTable, empty_row}
+use Rattle.pick_rules.specs.Sleepers.{made_ready, wakeup}
+use Rattle.pick_rules.specs.Board.{Board, swap_fit}
+use Rattle.pick_rules.specs.Apply.{applied, change_row}
+use Rattle.pick_rules.specs.Effects.{Show, Exit}
+use Rattle.pick_rules.specs.Effects as effects
+use Rattle.pick_rules.specs.Logged.{Logged, Stop, logged, log_one}
+use Rattle.pick_rules.proofs.Laws.{Stays, wakeup_stays, wakeup_kept}
+use Rattle.proc_tab.specs.declared.member.Member.{Member}
+use Rattle.proc_tab.specs.declared.row.Row.{Row}
+use Rattle.proc_tab.specs.Processes.{Processes, member_at, changed, with_change, dead, passes, lowest}
+use Rattle.proc_tab.specs.Pids.{has_pid}
+use Rattle.proc_tab.specs.Processes as rows
+use Rattle.proc_tab.specs.Children.{is_child_of, orphans_adopted}
+use Rattle.proc_tab.specs.Children as rows_of
+use Rattle.image_keep.specs.Kept.{Held, Keeping, Nothing, Alive, Grave, Kept, keeping, with_keeping, area_in, area_of}
+use Rattle.image_keep.specs.Places.{with_grave_at}
+use Rattle.image_keep.specs.Places as images_of
+use Rattle.fs_nodes.specs.FileSystem.{FileSystem}
+use Rattle.fs_tree.specs.Finding.{Inodes, inodes_of}
+use Rattle.sys_procs.specs.declared.procs.Procs.{Procs}
+use Rattle.sys_procs.specs.Process.{Process, no_process, process_by, process_in}
+use Rattle.sys_procs.specs.World.{World, Clock, clock_of, process_of, processes_in, world_in}
+use Rattle.sys_procs.specs.Exit.{adopted}
+use Rattle.sys_procs.specs.Exit as exit
+use Rattle.sys_procs.specs.Agree.{kind_of_member, Agrees, Agree, board_of, answered, ended_by}
+use Rattle.sys_procs.specs.Handed.{IsAlive, AreProcs, handed, board, came, process_here}
+use Rattle.sys_procs.proofs.Slots.{process_in_slot, fifty_processes, are_processes, one_changed, own, own_alive, own_row, members_are}
+use Rattle.sys_procs.proofs.Tables.{board_woken}
+use Rattle.sys_procs.proofs.Agreement.{agree_but, agree_like, wakeup_like}
+use Rattle.sys_procs.proofs.Alive.{IsHere, is_here}
+use Rattle.sys_procs.proofs.Places.{same_swap_fit}
+
+-- What the log says of an end.
+pub logged_exit : (b : Board) (s block : ℕ) (w : World) (e f : Entry) → swap_fit b 1 ≡ Some block
+    → logged b (Exit s w ∷ Show (Log e) ∷ Show (Log f) ∷ []) ≡ record {
+      items = Log (line.Exit s block) ∷ Log e ∷ Log f ∷ [];
+      board = applied (applied (applied b (line.Exit s block)) e) f;
+      stop = None;
+    }
+unfolding log_one effects.came
+logged_exit b s block w e f fit = rw fit refl
+
+pub logged_panic : (b : Board) (s : ℕ) (w : World) (e f : Entry) → swap_fit b 1 ≡ None
+    → logged b (Exit s w ∷ Show (Log e) ∷ Show (Log f) ∷ []) ≡ record {
+      items = Log (line.Panic panic.Zombie) ∷ [];
+      board = b;
+      stop = Some (record { kind = panic.Zombie; before = w });
+    }
+unfolding log_one effects.came applied
+logged_panic b s w e f fit = rw fit refl
+
+-- Adoption, of members and of processes.
+-- who is adopted, or not, is the same in the rows and among the processes
+adopted_by : (b : Bool) (m : Member) (x : Keeping) → process_in (Some (cond b (record m { row = record m.row { ppid = 1 } }) m)) x
+    ≡ Some (cond b (record (process_by m x) { row = record (process_by m x).row { ppid = 1 } }) (process_by m x))
+adopted_by true m Nothing = refl
+adopted_by false m Nothing = refl
+adopted_by true m (Alive held) = refl
+adopted_by false m (Alive held) = refl
+adopted_by true m (Grave u block) = refl
+adopted_by false m (Grave u block) = refl
+
+pub adopted_in : (pid : ℕ) (o : Option Member) (x : Keeping) → process_in (rows_of.adopted pid o) x ≡ adopted pid (process_in o x)
+adopted_in pid None x = refl
+adopted_in pid (Some m) Nothing = adopted_by (is_child_of pid m) m Nothing
+adopted_in pid (Some m) (Alive held) = adopted_by (is_child_of pid m) m (Alive held)
+adopted_in pid (Some m) (Grave u block) = adopted_by (is_child_of pid m) m (Grave u block)
+
+pub adopted_processes : (slots : List (Option Member)) (k : Kept) (pid : ℕ) → length slots ≡ 50
+    → processes_in (map (rows_of.adopted pid) slots) k ≡ map (adopted pid) (processes_in slots k)
+adopted_processes slots k pid long = are_processes (map (rows_of.adopted pid) slots) k (map (adopted pid) (processes_in slots k))
+    (length-map (processes_in slots k) (adopted pid) ∙ fifty_processes slots k) each
+  where
+    each : (r : ℕ) → r < 50 → get_or (map (adopted pid) (processes_in slots k)) r None ≡ process_in (member_at (map (rows_of.adopted pid) slots) r) (keeping k r)
+    each r low =
+        get_or-map (adopted pid) (processes_in slots k) r None None (omega (arith, low, fifty_processes slots k))
+        ∙ (ap (adopted pid) (process_in_slot slots k r low)
+        ∙ (sym (adopted_in pid (member_at slots r) (keeping k r))
+        ∙ ap (λ o. process_in o (keeping k r)) (sym (get_or-map (rows_of.adopted pid) slots r None None (omega (arith, low, long))))))
+
+kind_adopted : (pid : ℕ) (o : Option Member) → kind_of_member (rows_of.adopted pid o) ≡ kind_of_member o
+kind_adopted pid None = refl
+kind_adopted pid (Some m) = by (is_child_of pid m)
+  where
+    by : (b : Bool) → kind_of_member (Some (cond b (record m { row = record m.row { ppid = 1 } }) m)) ≡ kind_of_member (Some m)
+    by true = refl
+    by false = refl
+
+same_kind : (m n : Option Member) (row : TableRow) (x : Keeping) → kind_of_member n ≡ kind_of_member m → Agrees m row x → Agrees n row x
+same_kind m n row x e a = record {
+  stat = a.stat ∙ sym e;
+  image = a.image ∙ sym e;
+  place = a.place;
+  size = a.size;
+  text = a.text;
+  quiet = λ f. a.quiet (λ l. f (e ∙ l));
+}
+
+pub agree_adopted : (v : Processes) (t : Table) (k : Kept) (pid : ℕ) → length v.slots ≡ 50 → Agree v t k → Agree (orphans_adopted v pid) t k
+agree_adopted v t k pid long a = record {
+  table = a.table;
+  rows = a.rows;
+  kernel = a.kernel;
+  images = a.images;
+  each = λ s above low. same_kind (member_at v.slots s) (member_at (map (rows_of.adopted pid) v.slots) s) (row_at t s) (keeping k s)
+      (ap kind_of_member (get_or-map (rows_of.adopted pid) v.slots s None None (omega (arith, low, long))) ∙ kind_adopted pid (member_at v.slots s))
+      (a.each s above low);
+}
+
+-- Waking.
+table_woken : (t : Table) (w : Chan) → IsTable t → IsTable (wakeup t w)
+unfolding made_ready
+table_woken t w good = wakeup_stays IsTable tables t w good
+  where
+    tables : Stays IsTable
+    tables = record {
+      woken = λ t s w on h. record { last = h.last; running = h.running; ticks = h.ticks };
+      runout = λ t h. record { last = h.last; running = h.running; ticks = h.ticks };
+      runin = λ t h. record { last = h.last; running = h.running; ticks = h.ticks };
+    }
+
+agree_woken : (v : Processes) (t : Table) (k : Kept) (w : Chan) → Agree v t k → Agree v (wakeup t w) k
+agree_woken v t k w a = agree_like v t (wakeup t w) k a (table_woken t w a.table) (wakeup_like t w)
+
+clock_woken : (t : Table) (w : Chan) → clock_of (wakeup t w) ≡ clock_of t
+clock_woken t w = let k = wakeup_kept t w in λ i. record { time = k.now i; ticks = k.ticks i; tout = k.tout i }
+
+-- The row of a process that ends, and those who are woken then.
+abbrev ending_row : TableRow → ℕ → TableRow
+ending_row row block = record row { stat = Zombie; channel = None; place = Some (Swap block) }
+
+abbrev ending : Table → ℕ → ℕ → Table
+ending t s block = record (change_row t s (λ row. record row { stat = Zombie; channel = None; place = Some (Swap block) })) { running = None }
+
+abbrev pub ended_table : Table → ℕ → ℕ → ℕ → Table
+ended_table t s block parent = wakeup (wakeup (ending t s block) (Wait 1)) (Wait parent)
+
+clock_ended : (t : Table) (s block parent : ℕ) → clock_of (ended_table t s block parent) ≡ clock_of t
+clock_ended t s block parent = clock_woken (wakeup (ending t s block) (Wait 1)) (Wait parent) ∙ clock_woken (ending t s block) (Wait 1)
+
+ending_board : (t : Table) (k : Kept) (s block : ℕ) → board_of (ending t s block) k ≡ applied (board_of t k) (line.Exit s block)
+unfolding applied
+ending_board t k s block = refl
+
+board_ended : (t : Table) (k : Kept) (s block parent : ℕ)
+    → board_of (ended_table t s block parent) k ≡ applied (applied (applied (board_of t k) (line.Exit s block)) (line.Wake (Wait 1))) (line.Wake (Wait parent))
+board_ended t k s block parent =
+    board_woken (wakeup (ending t s block) (Wait 1)) k (Wait parent)
+    ∙ ap (λ b. applied b (line.Wake (Wait parent)))
+    (board_woken (ending t s block) k (Wait 1) ∙ ap (λ b. applied b (line.Wake (Wait 1))) (ending_board t k s block))
+
+-- A slot whose process ends.
+module _ (v : Processes) (t : Table) (k : Kept) (s : ℕ) (m : Member) (held : Held) (block : ℕ) (low : s < 50) (slots : length v.slots ≡ 50)
+    (images : length k.slots ≡ 50) (here : member_at v.slots s ≡ Some m) (has : keeping k s ≡ Alive held) where
+  abbrev zombie : Process
+  zombie = record (own v.slots k s) { is_zombie = true; «data» = []; stack = [] }
+
+  abbrev ended_rows : Processes
+  ended_rows = with_change v s dead
+
+  abbrev ended_images : Kept
+  ended_images = with_keeping k s (Grave held.u block)
+
+  member_ended : member_at ended_rows.slots s ≡ Some (dead m)
+  member_ended = get_or-set_same v.slots s (changed dead (member_at v.slots s)) None (omega (arith, low, slots)) ∙ ap (changed dead) here
+
+  image_ended : keeping ended_images s ≡ Grave held.u block
+  image_ended = get_or-set_same k.slots s (Grave held.u block) Nothing (omega (arith, low, images))
+
+  process_ended : processes_in ended_rows.slots ended_images ≡ set (processes_in v.slots k) s (Some zombie)
+  process_ended = one_changed v.slots ended_rows.slots k ended_images s (Some zombie) low
+      (ap (λ o. process_in o (keeping ended_images s)) member_ended
+      ∙ (ap (process_in (Some (dead m))) image_ended
+      ∙ ap (λ (p : Process). Some (record p { is_zombie = true; «data» = []; stack = [] })) (sym (own_alive v.slots k s m held low here has))))
+      (λ r below other.
+      ap (λ o. process_in o (keeping ended_images r)) (get_or-set_other v.slots s r (changed dead (member_at v.slots s)) None other)
+      ∙ ap (process_in (member_at v.slots r)) (get_or-set_other k.slots s r (Grave held.u block) Nothing other))
+
+  ended_long : length ended_rows.slots ≡ 50
+  ended_long = length-set v.slots s (changed dead (member_at v.slots s)) ∙ slots
+
+  all_ended : (pid : ℕ) → pid ≡ (own v.slots k s).row.pid
+      → processes_in (orphans_adopted ended_rows pid).slots ended_images ≡ map (adopted (own v.slots k s).row.pid) (set (processes_in v.slots k) s (Some zombie))
+  all_ended pid is =
+      adopted_processes ended_rows.slots ended_images pid ended_long
+      ∙ (ap (λ q. map (adopted q) (processes_in ended_rows.slots ended_images)) is ∙ ap (map (adopted (own v.slots k s).row.pid)) process_ended)
+
+  world_ended : (pid parent switches : ℕ) (n : Inodes) → pid ≡ (own v.slots k s).row.pid
+      → world_in (orphans_adopted ended_rows pid) (ended_table t s block parent) ended_images switches n ≡ exit.dead (world_in v t k switches n) s
+  world_ended pid parent switches n is =
+      let w : World = world_in v t k switches n in
+      ap (λ (c : Clock). record w { processes = processes_in (orphans_adopted ended_rows pid).slots ended_images; clock = c }) (clock_ended t s block parent)
+      ∙ ap (λ (ps : List (Option Process)). record w { processes = ps }) (all_ended pid is)
+
+  slot_ended : Agrees (Some m) (row_at t s) (Alive held) → Agrees (Some (dead m)) (ending_row (row_at t s) block) (Grave held.u block)
+  slot_ended a = record {
+    stat = refl;
+    image = refl;
+    place = refl;
+    size = λ other is. absurd (cc is);
+    text = a.text;
+    quiet = λ f. refl;
+  }
+
+  agree_ending : 0 < s → Agree v t k → Agree ended_rows (ending t s block) ended_images
+  agree_ending above a =
+      let row : row_at (ending t s block) s ≡ ending_row (row_at t s) block = get_or-set_same t.rows s (ending_row (row_at t s) block) empty_row (omega (arith, low, a.rows)) in
+      let old : Agrees (Some m) (row_at t s) (Alive held) = subst (λ o. Agrees o (row_at t s) (Alive held)) here (subst (λ x. Agrees (member_at v.slots s) (row_at t s) x) has (a.each s above low)) in
+      agree_but v ended_rows t (ending t s block) k ended_images s a above
+      (record { last = a.table.last; running = tt; ticks = a.table.ticks })
+      (length-set t.rows s (ending_row (row_at t s) block))
+      (subst (λ o. Agrees o (row_at (ending t s block) s) (keeping ended_images s)) (sym member_ended)
+      (subst (λ (r : TableRow). Agrees (Some (dead m)) r (keeping ended_images s)) (sym row)
+      (subst (λ x. Agrees (Some (dead m)) (ending_row (row_at t s) block) x) (sym image_ended) (slot_ended old))))
+      (λ r other. get_or-set_other v.slots s r (changed dead (member_at v.slots s)) None other)
+      (λ r other. get_or-set_other t.rows s r (ending_row (row_at t s) block) empty_row other)
+      (λ r other. get_or-set_other k.slots s r (Grave held.u block) Nothing other)
+
+  agree_ended : (pid parent : ℕ) → 0 < s → Agree v t k → Agree (orphans_adopted ended_rows pid) (ended_table t s block parent) ended_images
+  agree_ended pid parent above a =
+      agree_adopted ended_rows (ended_table t s block parent) ended_images pid ended_long
+      (agree_woken ended_rows (wakeup (ending t s block) (Wait 1)) ended_images (Wait parent)
+      (agree_woken ended_rows (ending t s block) ended_images (Wait 1) (agree_ending above a)))
+
+-- Of all that a call is handed.
+pub record DidEnd (old new : Procs) (s block parent : ℕ) : Type 0 where
+  pub table : new.table ≡ ended_table old.table s block parent
+  pub rows : new.rows ≡ orphans_adopted (with_change old.rows s dead) (rows.row_at old.rows s).pid
+  pub images : new.images ≡ with_grave_at old.images s (area_of old.images s) (Some block)
+  pub switches : new.switches ≡ old.switches
+
+pub world_same : (v w : Processes) (t u : Table) (k l : Kept) (a b : ℕ) (n : Inodes) → v ≡ w → t ≡ u → k ≡ l → a ≡ b → world_in v t k a n ≡ world_in w u l b n
+world_same v w t u k l a b n e f g h = λ i. world_in (e i) (f i) (g i) (h i) n
+
+module _ (old new : Procs) (s block parent : ℕ) (alive : IsAlive old s) (slots : length old.rows.slots ≡ 50) (images : length old.images.slots ≡ 50)
+    (did : DidEnd old new s block parent) where
+  here : IsHere old s
+  here = is_here old s alive
+
+  images_are : new.images ≡ with_keeping old.images s (Grave here.held.u block)
+  images_are = did.images ∙ ap (λ x. with_keeping old.images s (Grave (area_in x) block)) here.image_is
+
+  pub end_state : (fs : FileSystem) → handed new fs ≡ exit.dead (handed old fs) s
+  end_state fs =
+      world_same new.rows (orphans_adopted (with_change old.rows s dead) (rows.row_at old.rows s).pid)
+      new.table (ended_table old.table s block parent) new.images (with_keeping old.images s (Grave here.held.u block))
+      new.switches old.switches (inodes_of fs) did.rows did.table images_are did.switches
+      ∙ world_ended old.rows old.table old.images s here.member here.held block alive.below slots images here.member_is here.image_is
+      (rows.row_at old.rows s).pid parent old.switches (inodes_of fs) (sym (ap (λ r. r.pid) (own_row old.rows.slots old.images s alive.below)))
+
+  pub end_board : board new ≡ applied (applied (applied (board old) (line.Exit s block)) (line.Wake (Wait 1))) (line.Wake (Wait parent))
+  end_board =
+      ap (λ t. board_of t new.images) did.table
+      ∙ (ap (λ k. board_of (ended_table old.table s block parent) k) images_are ∙ board_ended old.table old.images s block parent)
+
+  pub end_agree : AreProcs new
+  end_agree =
+      subst (λ v. Agree v new.table new.images) (sym did.rows)
+      (subst (λ t. Agree (orphans_adopted (with_change old.rows s dead) (rows.row_at old.rows s).pid) t new.images) (sym did.table)
+      (subst (λ k. Agree (orphans_adopted (with_change old.rows s dead) (rows.row_at old.rows s).pid) (ended_table old.table s block parent) k) (sym images_are)
+      (agree_ended old.rows old.table old.images s here.member here.held block alive.below slots images here.member_is here.image_is
+      (rows.row_at old.rows s).pid parent alive.above alive.agree)))
+
+-- the parent's slot, by the rows
+pub parent_is : (p : Procs) (s parent : ℕ) (row : Row) (fs : FileSystem) → length p.rows.slots ≡ 50 → row ≡ (process_here p s).row
+    → parent ≡ cond (nat_eq row.ppid 0) 0 (unwrap_or (lowest (passes (has_pid row.ppid)) p.rows.slots) 1)
+    → parent ≡ exit.parent_slot (handed p fs) (process_here p s).row.ppid
+parent_is p s parent row fs long is e =
+    e ∙ (ap (λ (r : Row). cond (nat_eq r.ppid 0) 0 (unwrap_or (lowest (passes (has_pid r.ppid)) p.rows.slots) 1)) is
+    ∙ ap (λ (slots : List (Option Member)). cond (nat_eq (process_here p s).row.ppid 0) 0 (unwrap_or (lowest (passes (has_pid (process_here p s).row.ppid)) slots) 1))
+    (sym (members_are p.rows.slots p.images long)))
+
+abbrev lines_of_end : Board → ℕ → World → ℕ → Logged World
+lines_of_end b s w parent = logged b (Exit s w ∷ Show (Log (line.Wake (Wait 1))) ∷ Show (Log (line.Wake (Wait parent))) ∷ [])
+
+module _ (p : Procs) (s parent : ℕ) (fs : FileSystem) (a : AreProcs p) (images : length p.images.slots ≡ 50)
+    (is : parent ≡ exit.parent_slot (handed p fs) (process_here p s).row.ppid) where
+  pub logged_end : (block : ℕ) → images_of.swap_fit p.images 1 ≡ Some block
+      → came p (exit.dies (handed p fs) s) ≡ record {
+        items = Log (line.Exit s block) ∷ Log (line.Wake (Wait 1)) ∷ Log (line.Wake (Wait parent)) ∷ [];
+        board = applied (applied (applied (board p) (line.Exit s block)) (line.Wake (Wait 1))) (line.Wake (Wait parent));
+        stop = None;
+      }
+  logged_end block fit =
+      ap (lines_of_end (board p) s (handed p fs)) (sym is)
+      ∙ logged_exit (board p) s block (handed p fs) (line.Wake (Wait 1)) (line.Wake (Wait parent)) (same_swap_fit p.rows p.table p.images a images 1 ∙ fit)
+
+  pub logged_no_end : images_of.swap_fit p.images 1 ≡ None
+      → came p (exit.dies (handed p fs) s) ≡ record {
+        items = Log (line.Panic panic.Zombie) ∷ [];
+        board = board p;
+        stop = Some (record { kind = panic.Zombie; before = handed p fs });
+      }
+  logged_no_end fit =
+      ap (lines_of_end (board p) s (handed p fs)) (sym is)
+      ∙ logged_panic (board p) s (handed p fs) (line.Wake (Wait 1)) (line.Wake (Wait parent)) (same_swap_fit p.rows p.table p.images a images 1 ∙ fit)
+
+-- What exit(II) answers, and its row.
+area_adopted : (pid : ℕ) (q : Process) → (unwrap_or (adopted pid (Some q)) no_process).u ≡ q.u
+area_adopted pid q = by (nat_eq q.row.ppid pid)
+  where
+    by : (b : Bool) → (cond b (record q { row = record q.row { ppid = 1 } }) q).u ≡ q.u
+    by true = refl
+    by false = refl
+
+area_dead : (w : World) (s : ℕ) → s < length w.processes → (process_of (exit.dead w s) s).u ≡ (process_of w s).u
+area_dead w s low =
+    let q : Process = process_of w s in
+    let zombie : Process = record q { is_zombie = true; «data» = []; stack = [] } in
+    ap (λ (o : Option Process). (unwrap_or o no_process).u)
+    (get_or-map (adopted q.row.pid) (set w.processes s (Some zombie)) s None None (omega (arith, low, length-set w.processes s (Some zombie)))
+    ∙ ap (adopted q.row.pid) (get_or-set_same w.processes s (Some zombie) None low))
+    ∙ area_adopted q.row.pid zombie
+
+registers_left : (w : World) (s status : ℕ) → s < length w.processes → (process_of (exit.dead (exit.leaves w s status) s) s).u.r ≡ (process_of w s).u.r
+registers_left w s status low =
+    let ended : Process = exit.ended status (process_of w s) in
+    ap (λ (u : UArea). u.r) (area_dead (exit.leaves w s status) s (omega (arith, low, length-set w.processes s (Some ended))))
+    ∙ ap (λ (o : Option Process). (unwrap_or o no_process).u.r) (get_or-set_same w.processes s (Some ended) None low)
+
+pub exit_row : (p : Procs) (fs : FileSystem) (s : ℕ) (u : UArea) → u ≡ (process_here p s).u
+    → exit.end_proc (handed p fs) s (256 * (get_or u.r 0 0 % 256)) ≡ exit.exit_now (handed p fs) s
+unfolding exit.exit_now
+exit_row p fs s u e = ap (λ (v : UArea). exit.end_proc (handed p fs) s (256 * (get_or v.r 0 0 % 256))) e
+
+pub exit_answer : (p : Procs) (fs : FileSystem) (s : ℕ) (u : UArea) → s < 50 → u ≡ (process_here p s).u
+    → Ret (get_or u.r 0 0) (get_or u.r 1 0) ≡ (exit.exit_now (handed p fs) s).answer
+unfolding exit.exit_now exit.end_proc
+exit_answer p fs s u low e =
+    let status : ℕ = 256 * (get_or (process_here p s).u.r 0 0 % 256) in
+    let left : u.r ≡ (process_of (exit.dead (exit.leaves (handed p fs) s status) s) s).u.r =
+    ap (λ (v : UArea). v.r) e ∙ sym (registers_left (handed p fs) s status (omega (arith, low, fifty_processes p.rows.slots p.images))) in
+    ap (λ (r : List ℕ). Ret (get_or r 0 0) (get_or r 1 0)) left
+
+-- An end that didn't panic, and one that did.
+pub not_stopped : (o : Option (Stop World)) → ended_by o ≡ Ok tt → o ≡ None
+not_stopped None e = refl
+not_stopped (Some stop) e = absurd (cc e)
+
+pub stopped : (o : Option (Stop World)) (kind : PanicKind) (answer : Answer) → ended_by o ≡ Err kind → answered o answer ≡ Err kind
+stopped None kind answer e = absurd (cc e)
+stopped (Some stop) kind answer e = let same : stop.kind ≡ kind = cc e in ap (λ k. Err k) same

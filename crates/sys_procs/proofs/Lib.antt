@@ -1,0 +1,13 @@
+pub mod Slots
+pub mod Tables
+pub mod Agreement
+pub mod Alive
+pub mod Shown
+pub mod IdsLemmas
+pub mod TimesLemmas
+pub mod MemoryLemmas
+pub mod Places
+pub mod Ends
+pub mod Graves
+pub mod Forks
+pub mod ResumeLemmas

@@ -1,0 +1,84 @@
+-- The memory of a process: what a loan of it leaves.
+use Rattle.std.proofs.Common.{◌≡◌, ◌≢◌, ◌∙◌, ℕ, ◌<◌, List, [], length, set, Option, Some, None, refl, sym, ap, subst, arith}
+use Rattle.v6_base.specs.Image.{Image}
+use Rattle.pick_rules.specs.declared.row.TableRow.{TableRow}
+use Rattle.pick_rules.specs.Table.{row_at}
+use Rattle.proc_tab.specs.declared.member.Member.{Member}
+use Rattle.proc_tab.specs.Processes.{member_at}
+use Rattle.image_keep.specs.Kept.{Held, Alive, Kept, keeping, image_in, imaged, with_image}
+use Rattle.image_keep.specs.Kept as kept
+use Rattle.image_keep.specs.Lent.{left_of}
+use Rattle.image_keep.proofs.Frames.{after, image_back, keeping_same, with_image_other, with_image_core}
+use Rattle.fs_nodes.specs.FileSystem.{FileSystem}
+use Rattle.sys_procs.specs.declared.procs.Procs.{Procs}
+use Rattle.sys_procs.specs.Process.{Process, image_of}
+use Rattle.sys_procs.specs.World.{World, processes_in, with_process}
+use Rattle.sys_procs.specs.Agree.{Agrees, board_of}
+use Rattle.sys_procs.specs.Handed.{board, handed, process_here, IsAlive}
+use Rattle.sys_procs.proofs.Slots.{image_changed}
+use Rattle.sys_procs.proofs.Agreement.{agree_but}
+use Rattle.sys_procs.proofs.Alive.{IsHere, is_here}
+
+-- the image of a process, which has no text
+pub image_here : (p : Procs) (s : ℕ) → IsAlive p s → (kept.image_of p.images s).text ≡ [] → image_of (process_here p s) ≡ kept.image_of p.images s
+image_here p s alive none =
+    let here = is_here p s alive in
+    ap image_of here.process_is
+    ∙ (ap (λ (text : List ℕ). record here.held.image { text = text }) (sym (sym (ap (λ x. (image_in x).text) here.image_is) ∙ none))
+    ∙ sym (ap image_in here.image_is))
+
+-- The slot has this image after the loan.
+module _ (p : Procs) (s : ℕ) (alive : IsAlive p s) (long : length p.images.slots ≡ 50) (m : Image) where
+  image_put : processes_in p.rows.slots (with_image p.images s m) ≡ set (processes_in p.rows.slots p.images) s (Some (record (process_here p s) { «data» = m.data; stack = m.stack }))
+  image_put =
+      let here = is_here p s alive in
+      image_changed p.rows.slots p.images s here.member here.held alive.below here.member_is here.image_is m (omega (arith, alive.below, long))
+
+  state_with : (fs : FileSystem) → handed (record p { images = with_image p.images s m }) fs ≡ with_process (handed p fs) s (record (process_here p s) { «data» = m.data; stack = m.stack })
+  state_with fs = ap (λ (ps : List (Option Process)). record (handed p fs) { processes = ps }) image_put
+
+  image_agrees : (o : Option Member) (row : TableRow) (held : Held) → Agrees o row (Alive held) → Agrees o row (Alive (record held { image = m }))
+  image_agrees o row held a = record {
+    stat = a.stat;
+    image = a.image;
+    place = a.place;
+    size = λ other is. a.size held refl ∙ ap (λ x. kept.clicks_of (kept.area_in x)) is;
+    text = a.text;
+    quiet = a.quiet;
+  }
+
+  slot_with : (held : Held) → keeping p.images s ≡ Alive held → keeping (with_image p.images s m) s ≡ Alive (record held { image = m })
+  unfolding with_image
+  slot_with held has = keeping_same p.images s (imaged m (keeping p.images s)) (omega (arith, alive.below, long)) ∙ ap (imaged m) has
+
+  alive_with : IsAlive (record p { images = with_image p.images s m }) s
+  alive_with =
+      let here = is_here p s alive in
+      let now : keeping (with_image p.images s m) s ≡ Alive (record here.held { image = m }) = slot_with here.held here.image_is in
+      let old : Agrees (member_at p.rows.slots s) (row_at p.table s) (Alive here.held) = subst (λ x. Agrees (member_at p.rows.slots s) (row_at p.table s) x) here.image_is (alive.agree.each s alive.above alive.below) in
+      record {
+        agree = agree_but p.rows p.rows p.table p.table p.images (with_image p.images s m) s alive.agree alive.above alive.agree.table refl
+            (subst (λ x. Agrees (member_at p.rows.slots s) (row_at p.table s) x) (sym now) (image_agrees (member_at p.rows.slots s) (row_at p.table s) here.held old))
+            (λ r other. refl) (λ r other. refl) (λ r other. with_image_other p.images s r m other);
+        above = alive.above;
+        below = alive.below;
+        image = (record here.held { image = m }, now);
+      }
+
+-- After a loan of the memory nothing else has changed.
+module _ (p : Procs) (s : ℕ) (alive : IsAlive p s) (long : length p.images.slots ≡ 50) (w : Kept) (left : left_of w s ≡ left_of p.images s) where
+  pub loan_state : (fs : FileSystem) → handed (record p { images = w }) fs
+      ≡ with_process (handed p fs) s (record (process_here p s) { «data» = (kept.image_of w s).data; stack = (kept.image_of w s).stack })
+  loan_state fs = ap (λ (k : Kept). handed (record p { images = k }) fs) (after p.images w s left) ∙ state_with p s alive long (kept.image_of w s) fs
+
+  pub loan_board : board_of p.table w ≡ board p
+  loan_board =
+      ap (λ (k : Kept). board_of p.table k) (after p.images w s left)
+      ∙ ap (λ (core : ℕ). record (board p) { core = core }) (with_image_core p.images s (kept.image_of w s))
+
+  pub loan_alive : IsAlive (record p { images = w }) s
+  loan_alive = subst (λ (k : Kept). IsAlive (record p { images = k }) s) (sym (after p.images w s left)) (alive_with p s alive long (kept.image_of w s))
+
+  -- where the image is the same, all is
+  pub loan_same : kept.image_of w s ≡ kept.image_of p.images s → w ≡ p.images
+  loan_same same = after p.images w s left ∙ (ap (λ m. with_image p.images s m) same ∙ image_back p.images s)

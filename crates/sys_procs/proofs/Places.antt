@@ -1,0 +1,106 @@
+-- Where a new image can stand, by the board and by the images that are kept: the same, where they agree.
+use Rattle.std.proofs.Common.{◌≡◌, ◌∙◌, ℕ, zero, suc, ◌+◌, ◌<◌, Bool, true, false, cond, List, [], ◌∷◌, ◌++◌, length, get_or, flat_map, Option, Some, None, refl, sym, ap, subst, inl, inr, arith}
+use Rattle.std.specs.Option.{option_map, option_or}
+use Rattle.std.proofs.lemmas.Bool.{cases_eq}
+use Rattle.std.proofs.lemmas.List.{append-nil}
+use Rattle.v6_base.specs.declared.entry.Place.{Place}
+use Rattle.v6_base.specs.declared.entry.Place.TheVariants.{Core, Swap}
+use Rattle.map_fit.specs.Fit.{Range, first_fit}
+use Rattle.pick_rules.specs.declared.row.Stat.{Stat}
+use Rattle.pick_rules.specs.declared.row.Stat.TheVariants.{Empty, Sleeping, Waiting, Ready, Zombie}
+use Rattle.pick_rules.specs.declared.row.TableRow.{TableRow}
+use Rattle.pick_rules.specs.declared.table.Table.{Table}
+use Rattle.pick_rules.specs.Table.{row_at, empty_row, is_zombie}
+use Rattle.pick_rules.specs.Board.{core_range, swap_range, core_of_row, swap_of_row}
+use Rattle.pick_rules.specs.Board as board
+use Rattle.proc_tab.specs.declared.member.Member.{Member}
+use Rattle.proc_tab.specs.Processes.{Processes, member_at}
+use Rattle.image_keep.specs.Kept.{Held, Keeping, Nothing, Alive, Grave, Kept, keeping, clicks_of}
+use Rattle.image_keep.specs.Places.{core_of_place, swap_of_place, core_of, swap_of, core_fit, swap_fit, placed, blocks}
+use Rattle.sys_procs.specs.Agree.{Kind, Free, Lives, Died, kind_of_stat, kind_of_member, kind_of_keeping, Agrees, Agree, board_of}
+
+-- what two lists give, element by element
+same_ranges : {A B C : Type 0} (f : A → List C) (g : B → List C) (a : A) (b : B) (xs : List A) (ys : List B) → length xs ≡ length ys
+    → ((i : ℕ) → i < length xs → f (get_or xs i a) ≡ g (get_or ys i b)) → flat_map f xs ≡ flat_map g ys
+same_ranges f g a b [] [] e h = refl
+same_ranges f g a b [] (y ∷ ys) e h = absurd (omega (arith, e))
+same_ranges f g a b (x ∷ xs) [] e h = absurd (omega (arith, e))
+same_ranges f g a b (x ∷ xs) (y ∷ ys) e h =
+    let here : f x ≡ g y = h 0 (omega arith) in
+    let there : flat_map f xs ≡ flat_map g ys = same_ranges f g a b xs ys (omega (arith, e)) (λ i l. h (suc i) (omega (arith, l))) in
+    ap (λ r. r ++ flat_map f xs) here ∙ ap (λ r. g y ++ r) there
+
+-- Of one slot.
+not_zombie : (stat : Stat) → kind_of_stat stat ≡ Lives → is_zombie stat ≡ false
+not_zombie Empty e = refl
+not_zombie Sleeping e = refl
+not_zombie Waiting e = refl
+not_zombie Ready e = refl
+not_zombie Zombie e = absurd (cc e)
+
+a_zombie : (stat : Stat) → kind_of_stat stat ≡ Died → is_zombie stat ≡ true
+a_zombie Empty e = absurd (cc e)
+a_zombie Sleeping e = absurd (cc e)
+a_zombie Waiting e = absurd (cc e)
+a_zombie Ready e = absurd (cc e)
+a_zombie Zombie e = refl
+
+core_of_held : (place : Place) (clicks : ℕ) → core_range (Some place) clicks ≡ core_of_place place clicks
+core_of_held (Core c) clicks = refl
+core_of_held (Swap block) clicks = refl
+
+swap_of_held : (place : Place) (clicks : ℕ) → swap_range (Some place) (blocks clicks) ≡ swap_of_place place clicks
+swap_of_held (Core c) clicks = refl
+swap_of_held (Swap block) clicks = refl
+
+core_same : (m : Option Member) (row : TableRow) (x : Keeping) → Agrees m row x → core_of_row row ≡ core_of x
+core_same m row Nothing a = ap (λ p. core_range p row.size) a.place
+core_same m row (Alive held) a =
+    ap (λ p. core_range p row.size) a.place ∙ (ap (λ n. core_range (Some held.place) n) (a.size held refl) ∙ core_of_held held.place (clicks_of held.u))
+core_same m row (Grave u block) a = ap (λ p. core_range p row.size) a.place
+
+swap_same : (m : Option Member) (row : TableRow) (x : Keeping) → Agrees m row x → swap_of_row row ≡ swap_of x
+swap_same m row Nothing a = ap (λ p. swap_range p (cond (is_zombie row.stat) 1 (blocks row.size))) a.place
+swap_same m row (Alive held) a =
+    let lives : kind_of_stat row.stat ≡ Lives = a.stat ∙ sym a.image in
+    ap (λ p. swap_range p (cond (is_zombie row.stat) 1 (blocks row.size))) a.place
+    ∙ (ap (λ b. swap_range (Some held.place) (cond b 1 (blocks row.size))) (not_zombie row.stat lives)
+    ∙ (ap (λ n. swap_range (Some held.place) (blocks n)) (a.size held refl) ∙ swap_of_held held.place (clicks_of held.u)))
+swap_same m row (Grave u block) a =
+    let died : kind_of_stat row.stat ≡ Died = a.stat ∙ sym a.image in
+    ap (λ p. swap_range p (cond (is_zombie row.stat) 1 (blocks row.size))) a.place
+    ∙ ap (λ b. swap_range (Some (Swap block)) (cond b 1 (blocks row.size))) (a_zombie row.stat died)
+
+-- Of all slots.
+module _ (v : Processes) (t : Table) (k : Kept) (a : Agree v t k) (long : length k.slots ≡ 50) where
+  core_at : (i : ℕ) → i < length t.rows → core_of_row (row_at t i) ≡ core_of (keeping k i)
+  core_at zero l = ap (λ p. core_range p (row_at t 0).size) a.kernel ∙ ap core_of (sym a.images)
+  core_at (suc i) l = core_same (member_at v.slots (suc i)) (row_at t (suc i)) (keeping k (suc i)) (a.each (suc i) (omega arith) (omega (arith, l, a.rows)))
+
+  swap_at : (i : ℕ) → i < length t.rows → swap_of_row (row_at t i) ≡ swap_of (keeping k i)
+  swap_at zero l = ap (λ p. swap_range p (cond (is_zombie (row_at t 0).stat) 1 (blocks (row_at t 0).size))) a.kernel ∙ ap swap_of (sym a.images)
+  swap_at (suc i) l = swap_same (member_at v.slots (suc i)) (row_at t (suc i)) (keeping k (suc i)) (a.each (suc i) (omega arith) (omega (arith, l, a.rows)))
+
+  core_ranges : flat_map core_of_row t.rows ≡ flat_map core_of k.slots
+  core_ranges = same_ranges core_of_row core_of empty_row Nothing t.rows k.slots (a.rows ∙ sym long) core_at
+
+  swap_ranges : flat_map swap_of_row t.rows ≡ flat_map swap_of k.slots
+  swap_ranges = same_ranges swap_of_row swap_of empty_row Nothing t.rows k.slots (a.rows ∙ sym long) swap_at
+
+  pub same_core_fit : (clicks : ℕ) → board.core_fit (board_of t k) clicks ≡ core_fit k clicks
+  unfolding core_fit
+  same_core_fit clicks = ap (λ taken. first_fit taken 1 k.core clicks) (append-nil (flat_map core_of_row t.rows) ∙ core_ranges)
+
+  pub same_swap_fit : (count : ℕ) → board.swap_fit (board_of t k) count ≡ swap_fit k count
+  unfolding swap_fit
+  same_swap_fit count = ap (λ taken. first_fit taken 4000 4871 count) (append-nil (flat_map swap_of_row t.rows) ∙ swap_ranges)
+
+  -- no process has a text
+  pub same_placed : (s clicks : ℕ) → 0 < s → s < 50 → board.placed (board_of t k) s clicks ≡ placed k clicks
+  unfolding board.placed placed
+  same_placed s clicks l h =
+      let none : (row_at t s).text ≡ None = (a.each s l h).text in
+      ap (λ x. option_or (cond (board.may_load (board_of t k) x) (option_map Core (board.core_fit (board_of t k) clicks)) None)
+      (option_map Swap (board.swap_fit (board_of t k) (blocks clicks)))) none
+      ∙ (ap (λ o. option_or (option_map Core o) (option_map Swap (board.swap_fit (board_of t k) (blocks clicks)))) (same_core_fit clicks)
+      ∙ ap (λ o. option_or (option_map Core (core_fit k clicks)) (option_map Swap o)) (same_swap_fit (blocks clicks)))

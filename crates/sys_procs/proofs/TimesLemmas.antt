@@ -1,0 +1,58 @@
+-- stime and sleep by the tests that they make, and what waking leaves of the clock.
+use Rattle.std.proofs.Common.{◌≡◌, ◌∙◌, ℕ, ◌+◌, ◌*◌, ◌%◌, ◌^◌, ◌<◌, ◌≤◌, ◌==◌, Bool, true, false, cond, nat_le, get_or, [], refl, sym, ap}
+use Rattle.std.proofs.lemmas.Bool.{lt-leb, le-leb, eq-eqb}
+use Rattle.v6_base.specs.declared.entry.Chan.{Chan}
+use Rattle.v6_base.specs.declared.entry.Chan.TheVariants.{Tout}
+use Rattle.v6_base.specs.declared.entry.Entry.TheVariants as line
+use Rattle.v6_base.specs.declared.errno.Errno.TheVariants.{EPERM}
+use Rattle.u_area.specs.declared.area.UArea.{UArea}
+use Rattle.pick_rules.specs.declared.table.Table.{Table}
+use Rattle.pick_rules.specs.Priority.{pslep}
+use Rattle.pick_rules.specs.Sleepers.{wakeup}
+use Rattle.pick_rules.proofs.Laws.{wakeup_kept}
+use Rattle.sys_procs.specs.Process.{register}
+use Rattle.sys_procs.specs.World.{Clock, World, process_of, change, clock_of}
+use Rattle.sys_procs.specs.Comes.{Comes, returns, fails, sleeps, logs}
+use Rattle.sys_procs.specs.Times.{with_time, set_time, sleeping_until, tout_with, sleep_until, sleep_for}
+
+-- waking leaves the clock
+pub clock_woken : (t : Table) (w : Chan) → clock_of (wakeup t w) ≡ clock_of t
+clock_woken t w =
+    let k = wakeup_kept t w in
+    ap (λ n. record { time = n; ticks = (wakeup t w).ticks; tout = (wakeup t w).tout }) k.now
+    ∙ (ap (λ n. record { time = t.now; ticks = n; tout = (wakeup t w).tout }) k.ticks
+    ∙ ap (λ n. record { time = t.now; ticks = t.ticks; tout = n }) k.tout)
+
+-- the super-user sets the time
+pub time_set : (w : World) (s : ℕ) (u : UArea) → u ≡ (process_of w s).u → u.uid ≡ 0
+    → set_time w s ≡ logs (line.Time (65536 * get_or u.r 0 0 + get_or u.r 1 0)) (logs (line.Wake Tout) (returns (with_time w (65536 * get_or u.r 0 0 + get_or u.r 1 0)) s))
+unfolding set_time
+time_set w s u is super =
+    ap (λ (v : UArea). by v (v.uid == 0)) (sym is) ∙ ap (by u) (eq-eqb u.uid 0 super)
+  where
+    by : UArea → Bool → Comes
+    by v b = cond b (logs (line.Time (65536 * get_or v.r 0 0 + get_or v.r 1 0)) (logs (line.Wake Tout) (returns (with_time w (65536 * get_or v.r 0 0 + get_or v.r 1 0)) s))) (fails w EPERM)
+
+-- a sleep by whether its time has come
+abbrev pub sleeps_on : World → ℕ → ℕ → Comes
+sleeps_on w s until = sleeps (change (record w { clock = record w.clock { tout = tout_with w.clock until } }) s (sleeping_until until)) pslep Tout
+
+pub sleep_over : (w : World) (s until : ℕ) → until ≤ w.clock.time → sleep_until w s until ≡ returns w s
+unfolding sleep_until
+sleep_over w s until past = ap (λ b. cond b (returns w s) (sleeps_on w s until)) (le-leb until w.clock.time past)
+
+pub sleep_goes_on : (w : World) (s until : ℕ) → w.clock.time < until → sleep_until w s until ≡ sleeps_on w s until
+unfolding sleep_until
+sleep_goes_on w s until ahead = ap (λ b. cond b (returns w s) (sleeps_on w s until)) (lt-leb until w.clock.time ahead)
+
+pub sleep_shows_none : (w : World) (s until : ℕ) → (sleep_until w s until).effects ≡ []
+unfolding sleep_until
+sleep_shows_none w s until = by (nat_le until w.clock.time)
+  where
+    by : (b : Bool) → (cond b (returns w s) (sleeps_on w s until)).effects ≡ []
+    by true = refl
+    by false = refl
+
+pub sleep_is : (w : World) (s : ℕ) (u : UArea) → u ≡ (process_of w s).u → sleep_for w s ≡ sleep_until w s ((w.clock.time + get_or u.r 0 0) % 2 ^ 32)
+unfolding sleep_for
+sleep_is w s u is = ap (λ (v : UArea). sleep_until w s ((w.clock.time + get_or v.r 0 0) % 2 ^ 32)) (sym is)

@@ -1,0 +1,13 @@
+use Rattle.std.proofs.Common.{◌∙◌, ap}
+use Rattle.u_area.specs.declared.area.UArea.{UArea}
+use Rattle.sys_procs.specs.declared.procs.Procs.{Procs}
+use Rattle.sys_procs.specs.World.{with_process}
+use Rattle.sys_procs.specs.Handed.{handed, process_here}
+use Rattle.sys_procs.proofs.ids.set_group.Goals as goal
+
+pub returns-clause-state : goal.returns-clause-state
+returns-clause-state c = λ fs.
+    let p : Procs = c.args.p.now in
+    c.put_area.ensures.state fs
+    ∙ ap (λ (u : UArea). with_process (handed p fs) c.args.s (record (process_here p c.args.s) { u = u }))
+    (c.with_group.ensures ∙ ap (λ (u : UArea). record u { gid = c.args.id; rgid = c.args.id }) c.area-u.ensures)

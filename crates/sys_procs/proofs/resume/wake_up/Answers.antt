@@ -1,0 +1,44 @@
+use Rattle.std.proofs.Common.{◌≡◌, ◌∙◌, ℕ, ◌<◌, true, replicate, slice_index, ap, subst, sym}
+use Rattle.u_area.specs.declared.area.UArea.{UArea}
+use Rattle.pick_rules.specs.declared.table.Table.{Table}
+use Rattle.pick_rules.specs.Table.{is_loaded}
+use Rattle.image_keep.specs.Kept.{Held, Has, area_in}
+use Rattle.fs_nodes.specs.FileSystem.{FileSystem}
+use Rattle.sys_procs.specs.declared.procs.Procs.{Procs}
+use Rattle.sys_procs.specs.Process.{Process}
+use Rattle.sys_procs.specs.World.{with_process}
+use Rattle.sys_procs.specs.Handed.{Calls, handed, process_here}
+use Rattle.sys_procs.proofs.Alive.{IsHere, is_here, area_here}
+use Rattle.sys_procs.proofs.resume.wake_up.Goals as goal
+
+pub returns-clause-state : goal.returns-clause-state
+returns-clause-state c = λ fs.
+    let p : Procs = c.args.p.now in
+    c.put_area.ensures.state fs
+    ∙ ap (λ (u : UArea). with_process (handed p fs) c.args.s (record (process_here p c.args.s) { u = u }))
+    (c.awake.ensures ∙ ap (λ (u : UArea). record u { pending = 0; call = replicate 8 0 }) c.area-u.ensures)
+
+-- the directory is the one of before
+same_dir : (c : goal.After-put_area) (held : Held) → Has c.put_area.new.self.images c.args.s held → held.u.dir ≡ (process_here c.args.p.now c.args.s).u.dir
+same_dir c held has =
+    let of : Process → ℕ = λ q. q.u.dir in
+    sym (ap (λ x. (area_in x).dir) has)
+    ∙ (ap (λ (u : UArea). u.dir) (area_here c.put_area.new.self c.args.s c.put_area.ensures.alive)
+    ∙ (ap of c.put_area.ensures.here
+    ∙ (ap (λ (u : UArea). u.dir) c.awake.ensures ∙ ap (λ (u : UArea). u.dir) c.area-u.ensures)))
+
+pub returns-clause-calls : goal.returns-clause-calls
+returns-clause-calls c = λ fs calls.
+    let p : Procs = c.args.p.now in
+    let here = is_here p c.args.s c.requires in
+    let old : (process_here p c.args.s).u.dir ≡ here.held.u.dir = ap (λ (q : Process). q.u.dir) here.process_is in
+    let same = c.put_area.ensures.table in
+    record {
+      agree = c.put_area.ensures.alive.agree;
+      runs = ap (λ (t : Table). t.running) same ∙ calls.runs;
+      user = calls.user;
+      image = c.put_area.ensures.alive.image;
+      loaded = ap (λ (t : Table). is_loaded t c.args.s) same ∙ calls.loaded;
+      directory = λ held has. subst (λ ino. 0 < slice_index fs.references ino) (sym (same_dir c held has ∙ old)) (calls.directory here.held here.image_is);
+      few = calls.few;
+    }

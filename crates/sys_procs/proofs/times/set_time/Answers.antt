@@ -1,0 +1,45 @@
+use Rattle.std.proofs.Common.{◌≡◌, ◌∙◌, ◌+◌, ◌*◌, ℕ, [], ◌∷◌, get_or, ap, sym}
+use Rattle.v6_base.specs.Trace.{Log}
+use Rattle.v6_base.specs.declared.entry.Chan.TheVariants.{Tout}
+use Rattle.v6_base.specs.declared.entry.Entry.TheVariants.{Time, Wake}
+use Rattle.v6_base.specs.declared.answer.Answer.TheVariants.{Ret}
+use Rattle.u_area.specs.declared.area.UArea.{UArea}
+use Rattle.pick_rules.specs.Apply.{applied}
+use Rattle.sys_procs.specs.World.{World}
+use Rattle.sys_procs.specs.Comes.{comes, returns, logs}
+use Rattle.sys_procs.specs.Handed.{board, handed}
+use Rattle.sys_procs.specs.Times.{with_time, set_time}
+use Rattle.sys_procs.proofs.Shown.{Says, says_lines, its_answer, its_state, its_board, its_items}
+use Rattle.sys_procs.proofs.TimesLemmas.{time_set}
+use Rattle.sys_procs.proofs.times.set_time.Given as given
+use Rattle.sys_procs.proofs.times.set_time.Goals as goal
+
+-- the time as the two registers give it
+abbrev told : (g : given.Over) → goal.After-result-2-1 g → ℕ
+told g c = 65536 * c.from.result + c.from-2.result
+
+says : (g : given.Over) (c : goal.After-result-2-1 g)
+    → let w : World = handed c.args.p.now c.args.tree.now.nodes in
+    Says c.args.p.now (set_time w c.args.s) (Log (Time (told g c)) ∷ Log (Wake Tout) ∷ []) (applied (applied (board c.args.p.now) (Time (told g c))) (Wake Tout))
+    (with_time w (told g c)) (Ret (get_or c.area-u.result.r 0 0) (get_or c.area-u.result.r 1 0))
+says g c =
+    let w : World = handed c.args.p.now c.args.tree.now.nodes in
+    let at : ℕ → ℕ → ℕ = λ a b. 65536 * a + b in
+    let is : at (get_or c.area-u.result.r 0 0) (get_or c.area-u.result.r 1 0) ≡ told g c =
+    ap (λ n. at n (get_or c.area-u.result.r 1 0)) (sym c.from.ensures) ∙ ap (at c.from.result) (sym c.from-2.ensures) in
+    says_lines c.args.p.now (set_time w c.args.s) (Time (told g c)) (Wake Tout) (with_time w (told g c)) _
+    (time_set w c.args.s c.area-u.result c.area-u.ensures c.if-u-ne0.false
+    ∙ (ap (λ n. logs (Time n) (logs (Wake Tout) (returns (with_time w n) c.args.s))) is
+    ∙ ap (λ (u : UArea). logs (Time (told g c)) (logs (Wake Tout) (comes (with_time w (told g c)) (Ret (get_or u.r 0 0) (get_or u.r 1 0))))) (sym c.area-u.ensures)))
+
+pub returns-clause-answer : goal.returns-clause-answer
+returns-clause-answer g c = its_answer (says g c)
+
+pub returns-clause-state : goal.returns-clause-state
+returns-clause-state g c = c.put_time.ensures.state c.args.tree.now.nodes ∙ its_state (says g c)
+
+pub returns-clause-board : goal.returns-clause-board
+returns-clause-board g c = c.put_time.ensures.board ∙ its_board (says g c)
+
+pub returns-clause-items : goal.returns-clause-items
+returns-clause-items g c = its_items (says g c) _ _ c.put_time.ensures.items

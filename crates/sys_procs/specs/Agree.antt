@@ -1,0 +1,88 @@
+-- How the table of processes, the table of slots and what is kept of images belong together.
+use Rattle.std.specs.Prelude.{◌≡◌, ◌≢◌, ℕ, ◌<◌, ◌≤◌, Bool, true, false, length, replicate, slice_index, Option, Some, None, Result, Ok, Err}
+use Rattle.v6_base.specs.declared.entry.PanicKind.{PanicKind}
+use Rattle.v6_base.specs.declared.answer.Answer.{Answer}
+use Rattle.pick_rules.specs.declared.row.Stat.{Stat}
+use Rattle.pick_rules.specs.declared.row.Stat.TheVariants.{Empty, Sleeping, Waiting, Ready, Zombie}
+use Rattle.pick_rules.specs.declared.row.TableRow.{TableRow}
+use Rattle.pick_rules.specs.declared.table.Table.{Table}
+use Rattle.pick_rules.specs.Table.{row_at, is_loaded, IsTable}
+use Rattle.pick_rules.specs.Board.{Board}
+use Rattle.pick_rules.specs.Logged.{Logged, Stop, logged}
+use Rattle.proc_tab.specs.declared.member.Member.{Member}
+use Rattle.proc_tab.specs.Processes.{Processes, member_at}
+use Rattle.image_keep.specs.Kept.{Held, Keeping, Nothing, Alive, Grave, Kept, Has, HasImage, keeping, place_in, clicks_of}
+use Rattle.sys_procs.specs.World.{World}
+use Rattle.sys_procs.specs.Comes.{Comes}
+
+-- The board of the log: it doesn't tell the time at which sleepers are woken.
+abbrev pub untimed : Table → Table
+untimed t = record t { tout = 0 }
+
+abbrev pub board_of : Table → Kept → Board
+board_of t k = record { table = untimed t; texts = replicate 40 None; core = k.core }
+
+-- whether a slot is free, has a process, or one that has ended
+pub data Kind : Type 0 where
+  Free : Kind
+  Lives : Kind
+  Died : Kind
+
+abbrev pub kind_by : Bool → Kind
+kind_by true = Died
+kind_by false = Lives
+
+abbrev pub kind_of_member : Option Member → Kind
+kind_of_member None = Free
+kind_of_member (Some m) = kind_by m.is_dead
+
+abbrev pub kind_of_stat : Stat → Kind
+kind_of_stat Empty = Free
+kind_of_stat Sleeping = Lives
+kind_of_stat Waiting = Lives
+kind_of_stat Ready = Lives
+kind_of_stat Zombie = Died
+
+abbrev pub kind_of_keeping : Keeping → Kind
+kind_of_keeping Nothing = Free
+kind_of_keeping (Alive held) = Lives
+kind_of_keeping (Grave u block) = Died
+
+-- one slot
+pub record Agrees (m : Option Member) (row : TableRow) (x : Keeping) : Type 0 where
+  pub stat : kind_of_stat row.stat ≡ kind_of_member m
+  pub image : kind_of_keeping x ≡ kind_of_member m
+  pub place : row.place ≡ place_in x
+  pub size : (held : Held) → x ≡ Alive held → row.size ≡ clicks_of held.u
+  pub text : row.text ≡ None
+  pub quiet : kind_of_member m ≢ Lives → row.channel ≡ None
+
+pub record Agree (v : Processes) (t : Table) (k : Kept) : Type 0 where
+  pub table : IsTable t
+  pub rows : length t.rows ≡ 50
+  pub kernel : (row_at t 0).place ≡ None
+  pub images : keeping k 0 ≡ Nothing
+  pub each : (s : ℕ) → 0 < s → s < 50 → Agrees (member_at v.slots s) (row_at t s) (keeping k s)
+
+-- A process calls: it runs, and its image is in core.
+pub record IsCalling (v : Processes) (t : Table) (k : Kept) (references : ℕ → ℕ) (s : ℕ) : Type 0 where
+  pub agree : Agree v t k
+  pub runs : t.running ≡ Some s
+  pub user : 0 < s
+  pub image : HasImage k s
+  pub loaded : is_loaded t s ≡ true
+  pub directory : (held : Held) → Has k s held → 0 < references held.u.dir
+  pub few : (ino : ℕ) → references ino ≤ 65500
+
+-- what a call answers by its row, unless an effect of it panics
+abbrev pub answered : Option (Stop World) → Answer → Result Answer PanicKind
+answered None answer = Ok answer
+answered (Some stop) answer = Err stop.kind
+
+-- the same of the end of a process, which has no answer
+abbrev pub ended_by : Option (Stop World) → Result (Unit {0}) PanicKind
+ended_by None = Ok tt
+ended_by (Some stop) = Err stop.kind
+
+abbrev pub logged_of : Board → Comes → Logged World
+logged_of b c = logged b c.effects

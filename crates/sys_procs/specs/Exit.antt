@@ -1,0 +1,51 @@
+-- exit(II) of the UNIX Programmer's Manual; `exit` in Lions' Commentary, `sys1.c`. The files of the process are closed
+-- before.
+use Rattle.std.specs.Prelude.{ℕ, ◌*◌, ◌%◌, ◌==◌, ◌∷◌, map, true, [], replicate, if◌then◌else◌, Option, Some, None}
+use Rattle.std.specs.Option.{unwrap_or}
+use Rattle.v6_base.specs.declared.entry.Chan.TheVariants.{Wait}
+use Rattle.v6_base.specs.declared.entry.Entry.TheVariants.{Wake}
+use Rattle.proc_tab.specs.declared.row.Row.{Row}
+use Rattle.proc_tab.specs.Processes.{lowest, passes}
+use Rattle.proc_tab.specs.Pids.{has_pid}
+use Rattle.fs_tree.specs.Finding.{put_back}
+use Rattle.pick_rules.specs.Effects.{Exit}
+use Rattle.sys_procs.specs.Process.{Process, register}
+use Rattle.sys_procs.specs.World.{World, process_of, with_process, change, members}
+use Rattle.sys_procs.specs.Comes.{Comes, returns, does, logs}
+
+-- all signals are ignored, the directory is left, and this is what wait(II) tells
+abbrev pub ended : ℕ → Process → Process
+ended status p = record p { u = record p.u { handlers = 0 ∷ replicate 19 1; dir = 0; status = status } }
+
+abbrev pub leaves : World → ℕ → ℕ → World
+leaves w s status = record (change w s (ended status)) { inodes = put_back w.inodes (process_of w s).u.dir }
+
+-- process 0 has the pid 0; where no slot has the parent's pid, process 1 is the parent
+abbrev pub parent_slot : World → ℕ → ℕ
+parent_slot w ppid = if ppid == 0 then 0 else unwrap_or (lowest (passes (has_pid ppid)) (members w)) 1
+
+abbrev pub adopted : ℕ → Option Process → Option Process
+adopted pid None = None
+adopted pid (Some p) = Some (if p.row.ppid == pid then record p { row = record p.row { ppid = 1 } } else p)
+
+-- a zombie, and its children are process 1's
+abbrev pub dead : World → ℕ → World
+dead w s =
+    let p : Process = process_of w s in
+    let zombie : World = with_process w s (record p { is_zombie = true; «data» = []; stack = [] }) in
+    record zombie { processes = map (adopted p.row.pid) zombie.processes }
+
+abbrev pub dies : World → ℕ → Comes
+dies w s =
+    does (Exit s w) (
+    logs (Wake (Wait 1)) (
+    logs (Wake (Wait (parent_slot w (process_of w s).row.ppid))) (
+    returns (dead w s) s)))
+
+-- the end with a status
+unfoldable pub end_proc : World → ℕ → ℕ → Comes
+end_proc w s status = dies (leaves w s status) s
+
+-- 1, exit: the low byte of R0 is the high byte of the status
+unfoldable pub exit_now : World → ℕ → Comes
+exit_now w s = end_proc w s (256 * (register (process_of w s) 0 % 256))

@@ -1,0 +1,12 @@
+pub mod Process
+pub mod World
+pub mod Comes
+pub mod Ids
+pub mod Times
+pub mod Fork
+pub mod Wait
+pub mod Exit
+pub mod Resume
+pub mod Agree
+pub mod Handed
+pub mod Seats

@@ -1,0 +1,56 @@
+-- A process: `proc.h` and `user.h` in Lions' Commentary.
+use Rattle.std.specs.Prelude.{ℕ, ◌%◌, ◌==◌, Bool, true, false, List, [], Option, Some, None, slice_index, slice_set}
+use Rattle.std.proofs.Math.Nat.{mod-lt}
+use Rattle.std.proofs.Common.{lit<}
+use Rattle.v6_base.specs.Image.{Image}
+use Rattle.u_area.specs.declared.area.UArea.{UArea}
+use Rattle.proc_tab.specs.declared.row.Row.{Row}
+use Rattle.proc_tab.specs.declared.member.Member.{Member}
+use Rattle.proc_tab.specs.Processes.{no_row}
+use Rattle.image_keep.specs.Area.{no_area}
+use Rattle.image_keep.specs.Kept.{Held, Keeping, Nothing, Alive, Grave}
+
+pub record Process : Type 0 where
+  pub row : Row
+  pub u : UArea  -- its r and cc are the registers and the condition codes
+  pub «data» : List ℕ
+  pub stack : List ℕ
+  pub text : Option ℕ  -- the entry of the text that it shares
+  pub is_zombie : Bool  -- it has ended; data and stack are gone, and its u area keeps their sizes
+
+-- what stands for a process where there is none
+abbrev pub no_process : Process
+no_process = record { row = no_row; u = no_area; «data» = []; stack = []; text = None; is_zombie = false }
+
+-- a process as its row and what is kept of its image make it
+abbrev pub process_by : Member → Keeping → Process
+process_by m Nothing = record no_process { row = m.row; is_zombie = m.is_dead }
+process_by m (Alive held) =
+    record { row = m.row; u = held.u; «data» = held.image.data; stack = held.image.stack; text = None; is_zombie = m.is_dead }
+process_by m (Grave u block) = record { row = m.row; u = u; «data» = []; stack = []; text = None; is_zombie = m.is_dead }
+
+abbrev pub process_in : Option Member → Keeping → Option Process
+process_in None x = None
+process_in (Some m) x = Some (process_by m x)
+
+-- who is in a slot, by its process
+abbrev pub member_of : Option Process → Option Member
+member_of None = None
+member_of (Some p) = Some (record { row = p.row; is_dead = p.is_zombie })
+
+-- the area with these registers and these condition codes, which are four bits
+abbrev pub with_state : UArea → List ℕ → ℕ → UArea
+with_state u r cc = record u { r = r; cc = cc % 16; codes = mod-lt cc (lit< tt) }
+
+abbrev pub register : Process → ℕ → ℕ
+register p r = slice_index p.u.r r
+
+abbrev pub with_register : Process → ℕ → ℕ → Process
+with_register p r value = record p { u = record p.u { r = slice_set p.u.r r value } }
+
+-- no process has a text yet
+abbrev pub image_of : Process → Image
+image_of p = record { text = []; «data» = p.data; stack = p.stack }
+
+abbrev pub is_super : Process → Bool
+is_super p = p.u.uid == 0

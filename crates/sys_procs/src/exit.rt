@@ -1,0 +1,217 @@
+//! exit(II).
+ghost use Rattle.std.specs.Prelude.{◌≡◌, ◌+◌, ◌*◌, ◌%◌, ◌<◌, ◌∷◌, [], ◌==◌, if◌then◌else◌, replicate, slice_index, Some, None};
+ghost use Rattle.std.specs.Option.{unwrap_or};
+ghost use Rattle.v6_base.specs.Trace.{Took, Log};
+ghost use Rattle.fs_nodes.specs.FileSystem.{FileSystem, SameRest};
+ghost use Rattle.pick_rules.specs.Table.{IsTable};
+ghost use Rattle.pick_rules.specs.Sleepers.{wakeup};
+ghost use Rattle.pick_rules.specs.Apply.{change_row};
+ghost use Rattle.pick_rules.specs.Logged.{left_by};
+ghost use Rattle.proc_tab.specs.Processes.{IsUsed, row_at, passes, lowest, with_change, dead};
+ghost use Rattle.proc_tab.specs.Pids.{has_pid};
+ghost use Rattle.proc_tab.specs.Children.{orphans_adopted};
+ghost use Rattle.sys_procs.specs.Process.{register};
+ghost use Rattle.sys_procs.specs.Exit.{leaves, dies, end_proc, exit_now};
+ghost use Rattle.sys_procs.specs.Agree.{answered, ended_by};
+ghost use Rattle.sys_procs.specs.Handed.{AreProcs, Calls, IsAlive, board, came, handed, process_here};
+
+use crate::inodes::let_go;
+use crate::procs::Procs;
+use crate::seen::see;
+use fs_tree::Tree;
+use pick_rules::{Stat, Table};
+use proc_tab::Rows;
+use u_area::UArea;
+use v6_base::{Answer, Chan, Entry, PanicKind, Pid, Place, Slot, Trace};
+
+/// The slot of process 1, whose children those become whose parent has ended.
+const INIT: Slot = 1;
+
+/// What each signal does to a process that has ended: nothing. There is no signal 0.
+const IGNORED: [u16; 20] = [0, 1, 1, 1, 1, 1, 1, 1, 1, 1, 1, 1, 1, 1, 1, 1, 1, 1, 1, 1];
+
+/// The u area of a process that has left its directory and ends with a status.
+fn ended(u: UArea, status: u16) -> UArea
+    ensures { result ≡ record u { handlers = 0 ∷ replicate 19 1; dir = 0; status = status } }
+{
+    let mut u = u;
+    u.handlers = IGNORED;
+    u.dir = 0;
+    u.status = status;
+    u
+}
+
+/// Leaves the directory of a process, ignores all its signals, and keeps the status for its parent.
+fn leave(p: &mut Procs, tree: &mut Tree, s: Slot, status: u16)
+    requires { Calls p.old tree.old.nodes s }
+    ensures state { handed p.new tree.new.nodes ≡ leaves (handed p.old tree.old.nodes) s status }
+    ensures board { board p.new ≡ board p.old }
+    ensures alive { IsAlive p.new s }
+    ensures blocks { SameRest tree.old.nodes.blocks tree.new.nodes.blocks }
+{
+    let u = p.area(s);
+    let_go(&mut tree.nodes, u.dir, p.table.now);
+    p.put_area(s, &ended(u, status));
+}
+
+/// The slot of a process by its pid: process 0 has the pid 0, and where no slot has the pid it is that of process 1.
+fn parent_slot(rows: &Rows, pid: Pid) -> Slot
+    ensures { result ≡ (if pid == 0 then 0 else unwrap_or (lowest (passes (has_pid pid)) rows.now.slots) 1) }
+{
+    if pid == 0 {
+        return 0;
+    }
+    rows.slot_of(pid).unwrap_or(INIT)
+}
+
+/// Makes the row of a slot that of a process that has ended, of which a block of the swap area is kept. Nobody runs then.
+fn end_slot(table: &mut Table, s: Slot, block: u16)
+    requires table { IsTable table.old }
+    requires slot { s < 50 }
+    ensures table { table.new ≡ record (change_row table.old s (λ row. record row {
+      stat = Stat.Zombie;
+      channel = None;
+      place = Some (Place.Swap block);
+    })) { running = None } }
+    ensures good { IsTable table.new }
+{
+    let row = &mut table.rows[s as usize];
+    row.stat = Stat::Zombie;
+    row.channel = None;
+    row.place = Some(Place::Swap(block));
+    table.running = None;
+}
+
+/// Wakes those who sleep for a channel.
+fn wake<T: Trace>(table: &mut Table, chan: Chan, trace: &mut T)
+    requires { IsTable table.old }
+    ensures table { table.new ≡ wakeup table.old chan }
+    ensures good { IsTable table.new }
+    ensures items { Took (T.taken trace.old) (Log (Entry.Wake chan) ∷ []) (T.taken trace.new) }
+    ensures frame { T.leads_to trace.old trace.new }
+{
+    table.wakeup(chan);
+    trace.entry(Entry::Wake(chan));
+}
+
+/// Makes the process in a slot one that has ended, of which a block of the swap area is kept; wakes process 1 and the
+/// parent, where they wait for a child; and gives its children to process 1.
+#[tactic(auto, using(v6_base::proofs::Took::takes))]
+fn end_row<T: Trace>(p: &mut Procs, s: Slot, block: u16, parent: Slot, trace: &mut T)
+    requires table { IsTable p.old.table }
+    requires used { IsUsed p.old.rows s }
+    requires slot { s < 50 }
+    ensures table { p.new.table ≡ wakeup (wakeup (record (change_row p.old.table s (λ row. record row {
+      stat = Stat.Zombie;
+      channel = None;
+      place = Some (Place.Swap block);
+    })) { running = None })
+        (Chan.Wait 1)) (Chan.Wait parent) }
+    ensures rows { p.new.rows ≡ orphans_adopted (with_change p.old.rows s dead) (row_at p.old.rows s).pid }
+    ensures images { p.new.images ≡ p.old.images }
+    ensures switches { p.new.switches ≡ p.old.switches }
+    ensures items { Took (T.taken trace.old) (Log (Entry.Exit s block) ∷ Log (Entry.Wake (Chan.Wait 1))
+        ∷ Log (Entry.Wake (Chan.Wait parent)) ∷ []) (T.taken trace.new) }
+    ensures frame { T.leads_to trace.old trace.new }
+{
+    let pid = p.rows.row(s).pid;
+    end_slot(&mut p.table, s, block);
+    p.rows.end_row(s);
+    trace.entry(Entry::Exit { slot: s, block });
+    wake(&mut p.table, Chan::Wait(INIT), trace);
+    wake(&mut p.table, Chan::Wait(parent), trace);
+    p.rows.adopt(pid);
+}
+
+/// Makes the process in a slot a zombie: its image is given back, and half of its u area is kept in a block of the swap
+/// area, where there is one.
+#[tactic(auto, using(v6_base::proofs::Took::takes))]
+fn die<T: Trace>(p: &mut Procs, s: Slot, trace: &mut T) -> Result<(), PanicKind>
+    requires { IsAlive p.old s }
+    ensures result { (fs : FileSystem) → result ≡ ended_by (came p.old (dies (handed p.old fs) s)).stop }
+    ensures state { (fs : FileSystem) → handed p.new fs
+        ≡ left_by (came p.old (dies (handed p.old fs) s)).stop (dies (handed p.old fs) s).state }
+    ensures board { (fs : FileSystem) → board p.new ≡ (came p.old (dies (handed p.old fs) s)).board }
+    ensures items { (fs : FileSystem) → Took (T.taken trace.old) (came p.old (dies (handed p.old fs) s)).items
+        (T.taken trace.new) }
+    ensures frame { T.leads_to trace.old trace.new }
+    ensures agree { AreProcs p.new }
+{
+    see(p, s);
+    let row = p.row(s);
+    let parent = parent_slot(&p.rows, row.ppid);
+    match p.images.end(s) {
+        Ok(block) => {
+            end_row(p, s, block, parent, trace);
+            Ok(())
+        }
+        Err(_) => {
+            trace.entry(Entry::Panic(PanicKind::Zombie));
+            Err(PanicKind::Zombie)
+        }
+    }
+}
+
+/// Ends a process with a status, which wait(II) gives its parent; its files are closed already. exit(II); Lions'
+/// Commentary, `exit` in `sys1.c`.
+///
+/// # Errors
+///
+/// `Zombie`: the swap area has no block for what is kept of the process. The system stops.
+pub fn end_proc<T: Trace>(
+    p: &mut Procs,
+    tree: &mut Tree,
+    s: Slot,
+    status: u16,
+    trace: &mut T,
+) -> Result<(), PanicKind>
+    requires { Calls p.old tree.old.nodes s }
+    ensures result { result ≡ ended_by (came p.old (end_proc (handed p.old tree.old.nodes) s status)).stop }
+    ensures state { handed p.new tree.new.nodes
+        ≡ left_by (came p.old (end_proc (handed p.old tree.old.nodes) s status)).stop
+        (end_proc (handed p.old tree.old.nodes) s status).state }
+    ensures board { board p.new ≡ (came p.old (end_proc (handed p.old tree.old.nodes) s status)).board }
+    ensures items { Took (T.taken trace.old) (came p.old (end_proc (handed p.old tree.old.nodes) s status)).items
+        (T.taken trace.new) }
+    ensures frame { T.leads_to trace.old trace.new }
+    ensures agree { AreProcs p.new }
+    ensures blocks { SameRest tree.old.nodes.blocks tree.new.nodes.blocks }
+{
+    leave(p, tree, s, status);
+    die(p, s, trace)
+}
+
+/// exit(II): ends the process with a status whose high byte is the low byte of R0; its files are closed already.
+///
+/// # Errors
+///
+/// `Zombie`: the swap area has no block for what is kept of the process. The system stops.
+pub fn exit_now<T: Trace>(
+    p: &mut Procs,
+    tree: &mut Tree,
+    s: Slot,
+    _args: [u16; 4],
+    trace: &mut T,
+) -> Result<Answer, PanicKind>
+    requires { Calls p.old tree.old.nodes s }
+    ensures answer { result ≡ answered (came p.old (exit_now (handed p.old tree.old.nodes) s)).stop
+        (exit_now (handed p.old tree.old.nodes) s).answer }
+    ensures state { handed p.new tree.new.nodes
+        ≡ left_by (came p.old (exit_now (handed p.old tree.old.nodes) s)).stop
+        (exit_now (handed p.old tree.old.nodes) s).state }
+    ensures board { board p.new ≡ (came p.old (exit_now (handed p.old tree.old.nodes) s)).board }
+    ensures items { Took (T.taken trace.old) (came p.old (exit_now (handed p.old tree.old.nodes) s)).items
+        (T.taken trace.new) }
+    ensures frame { T.leads_to trace.old trace.new }
+    ensures agree { AreProcs p.new }
+    ensures blocks { SameRest tree.old.nodes.blocks tree.new.nodes.blocks }
+{
+    let u = p.area(s);
+    match end_proc(p, tree, s, 256 * (u.r[0] % 256), trace) {
+        Ok(()) => Ok(Answer::Ret {
+            r0: u.r[0],
+            r1: u.r[1],
+        }),
+        Err(kind) => Err(kind),
+    }
+}

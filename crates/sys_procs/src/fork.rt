@@ -1,0 +1,229 @@
+//! fork(II).
+ghost use Rattle.std.specs.Prelude.{◌≡◌, ◌≢◌, ◌+◌, ◌%◌, ◌<◌, ◌≤◌, ℕ, is_none, slice_index, slice_set, Some};
+ghost use Rattle.v6_base.specs.Trace.{Took};
+ghost use Rattle.fs_nodes.specs.FileSystem.{FileSystem, SameRest};
+ghost use Rattle.fs_tree.specs.Finding.{inodes_of, with_reference};
+ghost use Rattle.pick_rules.specs.Table.{IsTable, row_at, child_row, is_on};
+ghost use Rattle.pick_rules.specs.Sleepers.{runout_told};
+ghost use Rattle.pick_rules.specs.Logged.{left_by};
+ghost use Rattle.proc_tab.specs.Processes.{lowest};
+ghost use Rattle.proc_tab.specs.Pids.{forked};
+ghost use Rattle.sys_procs.specs.Process.{register, with_register};
+ghost use Rattle.sys_procs.specs.World.{change};
+ghost use Rattle.sys_procs.specs.Fork.{past_word, fork_into, fork_one};
+ghost use Rattle.sys_procs.specs.Agree.{answered};
+ghost use Rattle.sys_procs.specs.Seats.{with_image_row};
+ghost use Rattle.sys_procs.specs.Handed.{AreProcs, Calls, IsAlive, board, came, handed, process_here};
+
+use crate::inodes::refer_again;
+use crate::procs::Procs;
+use crate::seen::see;
+use fs_tree::Tree;
+use pick_rules::{Stat, Table, TableRow};
+use proc_tab::Rows;
+use u_area::UArea;
+use v6_base::{Answer, Chan, Entry, Errno, PanicKind, Pid, Place, Slot, Trace};
+
+/// The u area of a child as it begins: R0 is the pid of its parent, and it has used no time.
+fn begun(u: UArea, parent: Pid) -> UArea
+    ensures { result ≡ record u {
+      r = slice_set u.r 0 parent;
+      user_time = 0;
+      system_time = 0;
+      child_user = 0;
+      child_system = 0;
+    } }
+{
+    let mut u = u;
+    u.r[0] = parent;
+    u.user_time = 0;
+    u.system_time = 0;
+    u.child_user = 0;
+    u.child_system = 0;
+    u
+}
+
+/// The u area of a parent, which passes the word in which its child begins.
+fn past_word(u: UArea) -> UArea
+    ensures { result ≡ record u { r = slice_set u.r 7 ((slice_index u.r 7 + 2) % 65536) } }
+{
+    let mut u = u;
+    u.r[7] = u.r[7].wrapping_add(2);
+    u
+}
+
+/// Whether a process sleeps until somebody out of core can run.
+fn waits_for_work(channel: Option<Chan>) -> bool
+    ensures { result ≡ is_on channel Chan.RunOut }
+{
+    matches!(channel, Some(Chan::RunOut))
+}
+
+/// Tells the swapper that somebody out of core can run, where it waits for that: `setrun` in Lions' Commentary.
+#[tactic(auto, unfolding(pick_rules::specs::Sleepers::runout_told, pick_rules::specs::Sleepers::setrun))]
+fn tell_swapper(table: &mut Table)
+    requires { IsTable table.old }
+    ensures table { table.new ≡ runout_told table.old }
+    ensures good { IsTable table.new }
+{
+    if table.runout {
+        table.runout = false;
+        let swapper = table.rows[0];
+        if waits_for_work(swapper.channel) {
+            table.setrun(0);
+        }
+    }
+}
+
+/// The row of a new child, whose image stands at a place: it can run, and has its parent's nice, text and size.
+fn child_row(parent: TableRow, place: Place) -> TableRow
+    ensures { result ≡ record (child_row parent) { size = parent.size; place = Some place } }
+{
+    TableRow {
+        stat: Stat::Ready,
+        pri: 0,
+        cpu: 0,
+        time: 0,
+        nice: parent.nice,
+        size: parent.size,
+        text: parent.text,
+        place: Some(place),
+        channel: None,
+        calling: false,
+    }
+}
+
+/// Gives the child of a slot its own slot in the table. Where its image is in the swap area, the swapper is told.
+fn add_row(table: &mut Table, s: Slot, child: Slot, place: Place)
+    requires table { IsTable table.old }
+    requires slot { s < 50 }
+    requires child { child < 50 }
+    ensures table { table.new ≡ with_image_row table.old child
+        (record (child_row (row_at table.old s)) { size = (row_at table.old s).size; place = Some place }) place }
+    ensures good { IsTable table.new }
+{
+    let parent = table.rows[s as usize];
+    table.rows[child as usize] = child_row(parent, place);
+    if let Place::Swap(_) = place {
+        tell_swapper(table);
+    }
+}
+
+/// Lets a child and its parent go on: each in its own u area, and both in the same directory. R0 is the child's pid.
+fn go_on(p: &mut Procs, tree: &mut Tree, s: Slot, child: Slot) -> Answer
+    requires parent { IsAlive p.old s }
+    requires child { IsAlive p.old child }
+    requires apart { s ≢ child }
+    requires referenced { 0 < slice_index tree.old.nodes.references (process_here p.old s).u.dir }
+    requires few { (ino : ℕ) → slice_index tree.old.nodes.references ino ≤ 65500 }
+    ensures answer { result ≡ Answer.Ret (process_here p.old child).row.pid (register (process_here p.old s) 1) }
+    ensures state { handed p.new tree.new.nodes
+        ≡ record (change (change (handed p.old tree.old.nodes) child (λ q.
+        record (with_register q 0 (process_here p.old s).row.pid) {
+          u = record (with_register q 0 (process_here p.old s).row.pid).u {
+            user_time = 0;
+            system_time = 0;
+            child_user = 0;
+            child_system = 0;
+          };
+        })) s past_word) {
+          inodes = with_reference (inodes_of tree.old.nodes) (process_here p.old s).u.dir;
+        } }
+    ensures board { board p.new ≡ board p.old }
+    ensures agree { AreProcs p.new }
+    ensures blocks { SameRest tree.old.nodes.blocks tree.new.nodes.blocks }
+{
+    let u = p.area(s);
+    let row = p.row(s);
+    let own = p.area(child);
+    let r0 = p.row(child).pid;
+    p.put_area(child, &begun(own, row.pid));
+    p.put_area(s, &past_word(u));
+    refer_again(&mut tree.nodes, u.dir);
+    Answer::Ret { r0, r1: u.r[1] }
+}
+
+/// Makes a child in a free slot, with the rows that it gives.
+#[tactic(auto, using(v6_base::proofs::Took::takes))]
+fn fork_into<T: Trace>(
+    p: &mut Procs,
+    tree: &mut Tree,
+    s: Slot,
+    child: Slot,
+    rows: &Rows,
+    trace: &mut T,
+) -> Result<Answer, PanicKind>
+    requires calls { Calls p.old tree.old.nodes s }
+    requires free { lowest is_none p.old.rows.slots ≡ Some child }
+    requires rows { rows.now ≡ forked p.old.rows s (Some child) }
+    ensures answer { result
+        ≡ answered (came p.old (fork_into (handed p.old tree.old.nodes) s (Some child))).stop
+        (fork_into (handed p.old tree.old.nodes) s (Some child)).answer }
+    ensures state { handed p.new tree.new.nodes
+        ≡ left_by (came p.old (fork_into (handed p.old tree.old.nodes) s (Some child))).stop
+        (fork_into (handed p.old tree.old.nodes) s (Some child)).state }
+    ensures board { board p.new ≡ (came p.old (fork_into (handed p.old tree.old.nodes) s (Some child))).board }
+    ensures items { Took (T.taken trace.old)
+        (came p.old (fork_into (handed p.old tree.old.nodes) s (Some child))).items (T.taken trace.new) }
+    ensures frame { T.leads_to trace.old trace.new }
+    ensures agree { AreProcs p.new }
+    ensures blocks { SameRest tree.old.nodes.blocks tree.new.nodes.blocks }
+{
+    see(p, s);
+    match p.images.copy_for_fork(s, child) {
+        Ok(place) => {
+            add_row(&mut p.table, s, child, place);
+            p.rows = *rows;
+            trace.entry(Entry::Fork {
+                slot: s,
+                child,
+                place,
+            });
+            Ok(go_on(p, tree, s, child))
+        }
+        Err(_) => {
+            trace.entry(Entry::Panic(PanicKind::Swap));
+            Err(PanicKind::Swap)
+        }
+    }
+}
+
+/// fork(II): makes a copy of the process in the lowest free slot. R0 is the child's pid for the parent, which passes the
+/// word after the call, and the parent's pid for the child, which begins there. The caller shares the open files. Lions'
+/// Commentary, `newproc` in `slp.c`.
+///
+/// # Errors
+///
+/// `EAGAIN`: all slots are used; the parent passes the word all the same. `Swap`: neither core nor the swap area has
+/// room for the child. The system stops.
+pub fn fork_one<T: Trace>(
+    p: &mut Procs,
+    tree: &mut Tree,
+    s: Slot,
+    _args: [u16; 4],
+    trace: &mut T,
+) -> Result<Answer, PanicKind>
+    requires { Calls p.old tree.old.nodes s }
+    ensures answer { result ≡ answered (came p.old (fork_one (handed p.old tree.old.nodes) s)).stop
+        (fork_one (handed p.old tree.old.nodes) s).answer }
+    ensures state { handed p.new tree.new.nodes
+        ≡ left_by (came p.old (fork_one (handed p.old tree.old.nodes) s)).stop
+        (fork_one (handed p.old tree.old.nodes) s).state }
+    ensures board { board p.new ≡ (came p.old (fork_one (handed p.old tree.old.nodes) s)).board }
+    ensures items { Took (T.taken trace.old) (came p.old (fork_one (handed p.old tree.old.nodes) s)).items
+        (T.taken trace.new) }
+    ensures frame { T.leads_to trace.old trace.new }
+    ensures agree { AreProcs p.new }
+    ensures blocks { SameRest tree.old.nodes.blocks tree.new.nodes.blocks }
+{
+    see(p, s);
+    let mut rows = p.rows;
+    match rows.new_slot(s) {
+        Some(child) => fork_into(p, tree, s, child, &rows, trace),
+        None => {
+            let u = p.area(s);
+            p.put_area(s, &past_word(u));
+            Ok(Answer::Fail(Errno::EAGAIN))
+        }
+    }
+}

@@ -1,0 +1,68 @@
+//! Calls that go on when their process wakes: sleep(II), wait(II).
+ghost use Rattle.std.specs.Prelude.{◌≡◌, ◌+◌, ◌*◌, slice_index, replicate};
+ghost use Rattle.v6_base.specs.Trace.{Took};
+ghost use Rattle.fs_laws.specs.Rest.{SameRest};
+ghost use Rattle.fs_nodes.specs.FileSystem.{FileSystem};
+ghost use Rattle.pick_rules.specs.Logged.{left_by};
+ghost use Rattle.sys_procs.specs.World.{change};
+ghost use Rattle.sys_procs.specs.Agree.{answered};
+ghost use Rattle.sys_procs.specs.Handed.{Calls, AreProcs, IsAlive, handed, board, came, process_here};
+ghost use Rattle.sys_procs.specs.Resume.{awake, resume_proc};
+
+use crate::procs::Procs;
+use crate::times::{SLEEP, sleep_until};
+use crate::wait::wait_child;
+use fs_tree::Tree;
+use u_area::UArea;
+use v6_base::{Answer, PanicKind, Slot, Trace};
+
+/// The u area of a process with no pending call.
+fn awake(u: UArea) -> UArea
+    ensures { result ≡ record u { pending = 0; call = replicate 8 0 } }
+{
+    let mut u = u;
+    u.pending = 0;
+    u.call = [0; 8];
+    u
+}
+
+/// Says that no call of a process is pending.
+fn wake_up(p: &mut Procs, s: Slot)
+    requires { IsAlive p.old s }
+    ensures state { (fs : FileSystem) → handed p.new fs ≡ change (handed p.old fs) s awake }
+    ensures board { board p.new ≡ board p.old }
+    ensures calls { (fs : FileSystem) → Calls p.old fs s → Calls p.new fs s }
+{
+    let u = p.area(s);
+    p.put_area(s, &awake(u));
+}
+
+/// Goes on with the call of a process that has woken: sleep(II) or wait(II), from its beginning.
+#[tactic(auto, using(crate::proofs::Alive::calls), unfolding(crate::specs::Resume::resume_proc))]
+pub fn resume_proc<T: Trace>(
+    p: &mut Procs,
+    tree: &mut Tree,
+    s: Slot,
+    trace: &mut T,
+) -> Result<Answer, PanicKind>
+    requires { Calls p.old tree.old.nodes s }
+    ensures answer { result ≡ answered (came p.old (resume_proc (handed p.old tree.old.nodes) s)).stop
+        (resume_proc (handed p.old tree.old.nodes) s).answer }
+    ensures state { handed p.new tree.new.nodes
+        ≡ left_by (came p.old (resume_proc (handed p.old tree.old.nodes) s)).stop
+        (resume_proc (handed p.old tree.old.nodes) s).state }
+    ensures board { board p.new ≡ (came p.old (resume_proc (handed p.old tree.old.nodes) s)).board }
+    ensures items { Took (T.taken trace.old) (came p.old (resume_proc (handed p.old tree.old.nodes) s)).items
+        (T.taken trace.new) }
+    ensures frame { T.leads_to trace.old trace.new }
+    ensures agree { AreProcs p.new }
+    ensures blocks { SameRest tree.old.nodes.blocks tree.new.nodes.blocks }
+{
+    let u = p.area(s);
+    wake_up(p, s);
+    if u.pending == SLEEP {
+        let until = 65536 * u32::from(u.call[4]) + u32::from(u.call[5]);
+        return Ok(sleep_until(p, s, until));
+    }
+    wait_child(p, tree, s, [0; 4], trace)
+}

@@ -1,0 +1,285 @@
+//! The time, and the times of processes: time(II), stime(II), times(II), sleep(II).
+ghost use Rattle.std.specs.Prelude.{◌≡◌, ℕ, ◌+◌, ◌*◌, ◌/◌, ◌%◌, ◌<◌, [], ◌∷◌, slice_index, is_some};
+ghost use Rattle.v6_base.specs.Trace.{Took, Log};
+ghost use Rattle.v6_base.specs.Copy.{store_bytes};
+ghost use Rattle.fs_codec.specs.Bytes.{bytes_of};
+ghost use Rattle.u_area.specs.Area.{times};
+ghost use Rattle.sys_procs.specs.Process.{image_of};
+ghost use Rattle.fs_laws.specs.Rest.{SameRest};
+ghost use Rattle.fs_nodes.specs.FileSystem.{FileSystem};
+ghost use Rattle.pick_rules.specs.Apply.{applied};
+ghost use Rattle.pick_rules.specs.Logged.{left_by};
+ghost use Rattle.sys_procs.specs.World.{World, change};
+ghost use Rattle.sys_procs.specs.Agree.{answered};
+ghost use Rattle.sys_procs.specs.Handed.{Calls, AreProcs, IsAlive, handed, board, came, process_here};
+ghost use Rattle.sys_procs.specs.Times.{time_now, set_time, pending_sleep, sleep_until, sleep_for, sleeping_until, tout_with, with_time, stored, times_to};
+
+use crate::procs::Procs;
+use fs_codec::put_words;
+use fs_tree::Tree;
+use u_area::UArea;
+use v6_base::{Answer, Chan, Entry, Errno, PanicKind, Slot, Trace, copy_out};
+
+/// Among the calls that can be pending this is sleep(II).
+pub(crate) const SLEEP: u8 = 5;
+
+/// What a process sleeps at until a time: `PSLEP` of `param.h` in Lions' Commentary.
+const PSLEP: i8 = 90;
+
+/// time(II): R0 and R1 are the high and the low word of the time, in seconds since the beginning of 1970 in Greenwich.
+#[tactic(auto, using(crate::proofs::Alive::calls), unfolding(crate::specs::Times::time_now))]
+pub fn time_now<T: Trace>(
+    p: &mut Procs,
+    tree: &mut Tree,
+    s: Slot,
+    _args: [u16; 4],
+    trace: &mut T,
+) -> Result<Answer, PanicKind>
+    requires { Calls p.old tree.old.nodes s }
+    ensures answer { result ≡ answered (came p.old (time_now (handed p.old tree.old.nodes) s)).stop
+        (time_now (handed p.old tree.old.nodes) s).answer }
+    ensures state { handed p.new tree.new.nodes
+        ≡ left_by (came p.old (time_now (handed p.old tree.old.nodes) s)).stop
+        (time_now (handed p.old tree.old.nodes) s).state }
+    ensures board { board p.new ≡ (came p.old (time_now (handed p.old tree.old.nodes) s)).board }
+    ensures items { Took (T.taken trace.old) (came p.old (time_now (handed p.old tree.old.nodes) s)).items
+        (T.taken trace.new) }
+    ensures frame { T.leads_to trace.old trace.new }
+    ensures agree { AreProcs p.new }
+    ensures blocks { SameRest tree.old.nodes.blocks tree.new.nodes.blocks }
+{
+    Ok(Answer::Ret {
+        r0: (p.table.now / 65536) as u16,
+        r1: (p.table.now % 65536) as u16,
+    })
+}
+
+/// Sets the time, and wakes those who sleep until a time: they look at the new one.
+#[tactic(auto, using(v6_base::proofs::Took::takes))]
+fn put_time<T: Trace>(p: &mut Procs, s: Slot, time: u32, trace: &mut T)
+    requires { IsAlive p.old s }
+    ensures state { (fs : FileSystem) → handed p.new fs ≡ with_time (handed p.old fs) time }
+    ensures board { board p.new ≡ applied (applied (board p.old) (Entry.Time time)) (Entry.Wake Chan.Tout) }
+    ensures items { Took (T.taken trace.old) (Log (Entry.Time time) ∷ Log (Entry.Wake Chan.Tout) ∷ [])
+        (T.taken trace.new) }
+    ensures frame { T.leads_to trace.old trace.new }
+    ensures alive { IsAlive p.new s }
+{
+    p.table.now = time;
+    trace.entry(Entry::Time(time));
+    p.table.wakeup(Chan::Tout);
+    trace.entry(Entry::Wake(Chan::Tout));
+}
+
+/// stime(II): R0 and R1 are the high and the low word of the new time, for the super-user. Those who sleep until a time
+/// look at the new one.
+///
+/// # Errors
+///
+/// `EPERM`: another user calls. Nothing has changed then.
+#[tactic(auto, using(crate::proofs::Alive::calls), unfolding(crate::specs::Times::set_time))]
+pub fn set_time<T: Trace>(
+    p: &mut Procs,
+    tree: &mut Tree,
+    s: Slot,
+    _args: [u16; 4],
+    trace: &mut T,
+) -> Result<Answer, PanicKind>
+    requires { Calls p.old tree.old.nodes s }
+    ensures answer { result ≡ answered (came p.old (set_time (handed p.old tree.old.nodes) s)).stop
+        (set_time (handed p.old tree.old.nodes) s).answer }
+    ensures state { handed p.new tree.new.nodes
+        ≡ left_by (came p.old (set_time (handed p.old tree.old.nodes) s)).stop
+        (set_time (handed p.old tree.old.nodes) s).state }
+    ensures board { board p.new ≡ (came p.old (set_time (handed p.old tree.old.nodes) s)).board }
+    ensures items { Took (T.taken trace.old) (came p.old (set_time (handed p.old tree.old.nodes) s)).items
+        (T.taken trace.new) }
+    ensures frame { T.leads_to trace.old trace.new }
+    ensures agree { AreProcs p.new }
+    ensures blocks { SameRest tree.old.nodes.blocks tree.new.nodes.blocks }
+{
+    let u = p.area(s);
+    if u.uid != 0 {
+        return Ok(Answer::Fail(Errno::EPERM));
+    }
+    put_time(p, s, 65536 * u32::from(u.r[0]) + u32::from(u.r[1]), trace);
+    Ok(Answer::Ret {
+        r0: u.r[0],
+        r1: u.r[1],
+    })
+}
+
+/// The first time at which a sleeper is due, with one more sleeper.
+fn tout_with(p: &Procs, until: u32) -> u32
+    ensures { (fs : FileSystem) → result ≡ tout_with (handed p.now fs).clock until }
+{
+    if p.table.tout <= p.table.now || until < p.table.tout {
+        return until;
+    }
+    p.table.tout
+}
+
+/// The u area of a process that sleeps until a time.
+fn sleeping(u: UArea, until: u32) -> UArea
+    ensures { result ≡ record u {
+      pending = pending_sleep;
+      call = 0 ∷ 0 ∷ 0 ∷ 0 ∷ until / 65536 ∷ until % 65536 ∷ 0 ∷ 0 ∷ [];
+    } }
+{
+    let high = (until / 65536) as u16;
+    let low = (until % 65536) as u16;
+    let mut u = u;
+    u.pending = SLEEP;
+    u.call = [0, 0, 0, 0, high, low, 0, 0];
+    u
+}
+
+/// Keeps for how long a process sleeps.
+fn keep_sleep(p: &mut Procs, s: Slot, until: u32)
+    requires { IsAlive p.old s }
+    ensures state { (fs : FileSystem) → handed p.new fs ≡ change (handed p.old fs) s (sleeping_until until) }
+    ensures board { board p.new ≡ board p.old }
+    ensures alive { IsAlive p.new s }
+{
+    let u = p.area(s);
+    p.put_area(s, &sleeping(u, until));
+}
+
+/// Sleeps until a time, from the call and from each time that it goes on. sleep(II); Lions' Commentary, `sslep` in
+/// `sys2.c`.
+#[tactic(auto, unfolding(crate::specs::Times::sleep_until))]
+pub(crate) fn sleep_until(p: &mut Procs, s: Slot, until: u32) -> Answer
+    requires { IsAlive p.old s }
+    ensures answer { (fs : FileSystem) → result ≡ (sleep_until (handed p.old fs) s until).answer }
+    ensures state { (fs : FileSystem) → handed p.new fs ≡ (sleep_until (handed p.old fs) s until).state }
+    ensures board { board p.new ≡ board p.old }
+    ensures alive { IsAlive p.new s }
+{
+    if until <= p.table.now {
+        let u = p.area(s);
+        return Answer::Ret {
+            r0: u.r[0],
+            r1: u.r[1],
+        };
+    }
+    p.table.tout = tout_with(p, until);
+    keep_sleep(p, s, until);
+    Answer::Sleep {
+        pri: PSLEP,
+        chan: Chan::Tout,
+    }
+}
+
+/// sleep(II): R0 is for how many seconds.
+#[tactic(auto, using(crate::proofs::Alive::calls), unfolding(crate::specs::Times::sleep_for))]
+pub fn sleep_for<T: Trace>(
+    p: &mut Procs,
+    tree: &mut Tree,
+    s: Slot,
+    _args: [u16; 4],
+    trace: &mut T,
+) -> Result<Answer, PanicKind>
+    requires { Calls p.old tree.old.nodes s }
+    ensures answer { result ≡ answered (came p.old (sleep_for (handed p.old tree.old.nodes) s)).stop
+        (sleep_for (handed p.old tree.old.nodes) s).answer }
+    ensures state { handed p.new tree.new.nodes
+        ≡ left_by (came p.old (sleep_for (handed p.old tree.old.nodes) s)).stop
+        (sleep_for (handed p.old tree.old.nodes) s).state }
+    ensures board { board p.new ≡ (came p.old (sleep_for (handed p.old tree.old.nodes) s)).board }
+    ensures items { Took (T.taken trace.old) (came p.old (sleep_for (handed p.old tree.old.nodes) s)).items
+        (T.taken trace.new) }
+    ensures frame { T.leads_to trace.old trace.new }
+    ensures agree { AreProcs p.new }
+    ensures blocks { SameRest tree.old.nodes.blocks tree.new.nodes.blocks }
+{
+    let u = p.area(s);
+    let until = p.table.now.wrapping_add(u32::from(u.r[0]));
+    Ok(sleep_until(p, s, until))
+}
+
+/// The times of a process and of its children in their bytes: six words, those of the children with their high word
+/// first.
+fn times_bytes(u: &UArea) -> [u8; 12]
+    ensures { result ≡ bytes_of (times u.now) }
+{
+    let u = *u;
+    let mut bytes = [0; 12];
+    let user = [(u.child_user / 65536) as u16, (u.child_user % 65536) as u16];
+    let system = [
+        (u.child_system / 65536) as u16,
+        (u.child_system % 65536) as u16,
+    ];
+    let words = [
+        u.user_time,
+        u.system_time,
+        user[0],
+        user[1],
+        system[0],
+        system[1],
+    ];
+    put_words(&mut bytes, 0, &words);
+    see_bytes(&bytes);
+    bytes
+}
+
+/// Sees that bytes are below 256.
+fn see_bytes(bytes: &[u8])
+    ensures { (k : ℕ) → slice_index bytes.now k < 256 }
+{
+    let _ = bytes;
+}
+
+/// Puts bytes into the memory of a process, from an address on: all of them, or none where one can't be written.
+fn put_bytes(p: &mut Procs, s: Slot, at: u16, bytes: &[u8; 12]) -> bool
+    requires { IsAlive p.old s }
+    ensures done { result ≡ is_some (store_bytes (image_of (process_here p.old s)) at bytes.now) }
+    ensures state { (fs : FileSystem) → handed p.new fs
+        ≡ (stored (handed p.old fs) s (store_bytes (image_of (process_here p.old s)) at bytes.now)).state }
+    ensures board { board p.new ≡ board p.old }
+    ensures alive { IsAlive p.new s }
+{
+    let _area = p.images.area(s);
+    let mut space = p.images.space(s);
+    copy_out(&mut space, at, bytes)
+}
+
+/// times(II): the ticks of the process and of its children, in user mode and in the kernel, go to an address, `args[0]`,
+/// as six words, or none of them.
+///
+/// # Errors
+///
+/// `EFAULT`: the address is odd, or one of the words cannot be written there. Nothing has changed then.
+#[tactic(auto, using(crate::proofs::Alive::calls), unfolding(crate::specs::Times::times_to))]
+pub fn times_to<T: Trace>(
+    p: &mut Procs,
+    tree: &mut Tree,
+    s: Slot,
+    args: [u16; 4],
+    trace: &mut T,
+) -> Result<Answer, PanicKind>
+    requires { Calls p.old tree.old.nodes s }
+    ensures answer { result ≡ answered (came p.old (times_to (handed p.old tree.old.nodes) s (slice_index args 0))).stop
+        (times_to (handed p.old tree.old.nodes) s (slice_index args 0)).answer }
+    ensures state { handed p.new tree.new.nodes
+        ≡ left_by (came p.old (times_to (handed p.old tree.old.nodes) s (slice_index args 0))).stop
+        (times_to (handed p.old tree.old.nodes) s (slice_index args 0)).state }
+    ensures board { board p.new ≡ (came p.old (times_to (handed p.old tree.old.nodes) s (slice_index args 0))).board }
+    ensures items { Took (T.taken trace.old)
+        (came p.old (times_to (handed p.old tree.old.nodes) s (slice_index args 0))).items (T.taken trace.new) }
+    ensures frame { T.leads_to trace.old trace.new }
+    ensures agree { AreProcs p.new }
+    ensures blocks { SameRest tree.old.nodes.blocks tree.new.nodes.blocks }
+{
+    let at = args[0];
+    let u = p.area(s);
+    if at % 2 == 1 {
+        return Ok(Answer::Fail(Errno::EFAULT));
+    }
+    if !put_bytes(p, s, at, &times_bytes(&u)) {
+        return Ok(Answer::Fail(Errno::EFAULT));
+    }
+    Ok(Answer::Ret {
+        r0: u.r[0],
+        r1: u.r[1],
+    })
+}

@@ -1,0 +1,183 @@
+//! wait(II).
+ghost use Rattle.std.specs.Prelude.{◌≡◌, ◌<◌, ◌∷◌, [], replicate};
+ghost use Rattle.v6_base.specs.Trace.{Took, Log};
+ghost use Rattle.fs_nodes.specs.FileSystem.{FileSystem, SameRest};
+ghost use Rattle.u_area.specs.declared.area.UArea.{UArea};
+ghost use Rattle.u_area.specs.Area.{IsSized};
+ghost use Rattle.image_keep.specs.Kept.{half_of, with_keeping, HasGrave, IsKept, Nothing};
+ghost use Rattle.pick_rules.specs.Table.{IsTable, empty_row, with_row};
+ghost use Rattle.pick_rules.specs.Apply.{applied};
+ghost use Rattle.pick_rules.specs.Logged.{left_by};
+ghost use Rattle.proc_tab.specs.Processes.{AreProcesses};
+ghost use Rattle.sys_procs.specs.World.{without_process};
+ghost use Rattle.sys_procs.specs.Wait.{with_times_of, pending_wait, buries, wait_child};
+ghost use Rattle.sys_procs.specs.Agree.{answered};
+ghost use Rattle.sys_procs.specs.Handed.{AreProcs, Calls, IsAlive, board, came, handed, process_here};
+
+use crate::procs::Procs;
+use crate::seen::see;
+use fs_codec::{long_at, word_at};
+use fs_tree::Tree;
+use pick_rules::{Stat, Table, TableRow};
+use proc_tab::Child;
+use u_area::{STATUS, TIMES, UArea};
+use v6_base::{Answer, Chan, Entry, Errno, PanicKind, Slot, Trace};
+
+/// What a process sleeps at that waits for a child: Lions' Commentary, `param.h`.
+const PWAIT: i8 = 40;
+
+/// The pending call of a process that waits for a child.
+const PENDING_WAIT: u8 = 6;
+
+/// A slot with no process.
+const EMPTY: TableRow = TableRow {
+    stat: Stat::Empty,
+    pri: 0,
+    cpu: 0,
+    time: 0,
+    nice: 0,
+    size: 0,
+    text: None,
+    place: None,
+    channel: None,
+    calling: false,
+};
+
+/// The u area of a process whose pending call is a wait.
+fn waiting(u: UArea) -> UArea
+    ensures { result ≡ record u { pending = pending_wait; call = replicate 8 0 } }
+{
+    let mut u = u;
+    u.pending = PENDING_WAIT;
+    u.call = [0; 8];
+    u
+}
+
+/// The u area of a process that has waited for a child, of whose own u area half is kept: the times of the child and of
+/// its children are added, modulo 2^32.
+fn with_times_of(own: UArea, half: &[u8; 512]) -> UArea
+    ensures { (dead : UArea) → IsSized dead → half.now ≡ half_of dead → result ≡ with_times_of own dead }
+{
+    let user_time = word_at(half, TIMES);
+    let system_time = word_at(half, TIMES + 2);
+    let child_user = long_at(half, TIMES + 4);
+    let child_system = long_at(half, TIMES + 8);
+    let mut u = own;
+    u.child_user = u
+        .child_user
+        .wrapping_add(u32::from(user_time))
+        .wrapping_add(child_user);
+    u.child_system = u
+        .child_system
+        .wrapping_add(u32::from(system_time))
+        .wrapping_add(child_system);
+    u
+}
+
+/// The status with which a process has ended, of whose u area half is kept.
+fn status_of(half: &[u8; 512]) -> u16
+    ensures { (dead : UArea) → IsSized dead → half.now ≡ half_of dead → result ≡ dead.status }
+{
+    word_at(half, STATUS)
+}
+
+/// Empties a slot of the table.
+fn clear_slot(table: &mut Table, s: Slot)
+    requires table { IsTable table.old }
+    requires slot { s < 50 }
+    ensures table { table.new ≡ with_row table.old s empty_row }
+    ensures good { IsTable table.new }
+{
+    table.rows[s as usize] = EMPTY;
+}
+
+/// Makes the slot of a process that has ended free. Half of its u area was kept for its parent.
+fn clear(p: &mut Procs, dead: Slot) -> [u8; 512]
+    requires agree { AreProcs p.old }
+    requires above { 0 < dead }
+    requires low { dead < 50 }
+    requires grave { HasGrave p.old.images dead }
+    requires rows { AreProcesses p.old.rows }
+    requires images { IsKept p.old.images }
+    ensures half { result ≡ half_of (process_here p.old dead).u }
+    ensures sized { IsSized (process_here p.old dead).u }
+    ensures state { (fs : FileSystem) → handed p.new fs ≡ without_process (handed p.old fs) dead }
+    ensures board { board p.new ≡ applied (board p.old) (Entry.Reap dead) }
+    ensures images { p.new.images ≡ with_keeping p.old.images dead Nothing }
+    ensures agree { AreProcs p.new }
+{
+    let half = p.images.reap(dead);
+    p.rows.clear_row(dead);
+    clear_slot(&mut p.table, dead);
+    half
+}
+
+/// Tells a process of a child that has ended: R0 is the child's pid, R1 its status. The child is gone then.
+#[tactic(auto, using(v6_base::proofs::Took::takes))]
+fn bury<T: Trace>(p: &mut Procs, s: Slot, dead: Slot, trace: &mut T) -> Answer
+    requires alive { IsAlive p.old s }
+    requires above { 0 < dead }
+    requires low { dead < 50 }
+    requires grave { HasGrave p.old.images dead }
+    ensures answer { (fs : FileSystem) → result ≡ (buries (handed p.old fs) s dead).answer }
+    ensures state { (fs : FileSystem) → handed p.new fs ≡ (buries (handed p.old fs) s dead).state }
+    ensures board { board p.new ≡ applied (board p.old) (Entry.Reap dead) }
+    ensures items { Took (T.taken trace.old) (Log (Entry.Reap dead) ∷ []) (T.taken trace.new) }
+    ensures frame { T.leads_to trace.old trace.new }
+    ensures agree { AreProcs p.new }
+{
+    see(p, s);
+    let pid = p.rows.row(dead).pid;
+    let half = clear(p, dead);
+    let u = p.area(s);
+    p.put_area(s, &with_times_of(u, &half));
+    trace.entry(Entry::Reap(dead));
+    Answer::Ret {
+        r0: pid,
+        r1: status_of(&half),
+    }
+}
+
+/// wait(II): for the lowest of the children that have ended. R0 is its pid, R1 its status, and its times and those of its
+/// children are added to those of its parent's children. Where no child has ended yet, the process sleeps until one does.
+/// Lions' Commentary, `wait` in `sys1.c`.
+///
+/// # Errors
+///
+/// `ECHILD`: the process has no child.
+#[tactic(auto, using(v6_base::proofs::Took::takes, fs_laws::proofs::RestLemmas::rest_stays, crate::proofs::Alive::calls_alive))]
+pub fn wait_child<T: Trace>(
+    p: &mut Procs,
+    tree: &mut Tree,
+    s: Slot,
+    _args: [u16; 4],
+    trace: &mut T,
+) -> Result<Answer, PanicKind>
+    requires { Calls p.old tree.old.nodes s }
+    ensures answer { result ≡ answered (came p.old (wait_child (handed p.old tree.old.nodes) s)).stop
+        (wait_child (handed p.old tree.old.nodes) s).answer }
+    ensures state { handed p.new tree.new.nodes
+        ≡ left_by (came p.old (wait_child (handed p.old tree.old.nodes) s)).stop
+        (wait_child (handed p.old tree.old.nodes) s).state }
+    ensures board { board p.new ≡ (came p.old (wait_child (handed p.old tree.old.nodes) s)).board }
+    ensures items { Took (T.taken trace.old) (came p.old (wait_child (handed p.old tree.old.nodes) s)).items
+        (T.taken trace.new) }
+    ensures frame { T.leads_to trace.old trace.new }
+    ensures agree { AreProcs p.new }
+    ensures blocks { SameRest tree.old.nodes.blocks tree.new.nodes.blocks }
+{
+    see(p, s);
+    let pid = p.row(s).pid;
+    match p.rows.child(pid) {
+        Child::NoChild => Ok(Answer::Fail(Errno::ECHILD)),
+        Child::Living => {
+            let u = p.area(s);
+            p.put_area(s, &waiting(u));
+            Ok(Answer::Sleep {
+                pri: PWAIT,
+                chan: Chan::Wait(s),
+            })
+        }
+        Child::Dead(dead) => Ok(bury(p, s, dead, trace)),
+    }
+}
