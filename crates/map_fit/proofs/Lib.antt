@@ -1,2 +1,3 @@
 pub mod Fits
 pub mod LessRoom
+pub mod OneUnit

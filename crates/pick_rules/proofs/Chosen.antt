@@ -1,9 +1,8 @@
 -- The choice as a function and in words is the same.
-use Rattle.std.proofs.Common.{◌≡◌, ◌∙◌, ◌⊎◌, inl, inr, ℕ, ◌<◌, ◌≤◌, ◌<ℤ◌, Bool, true, false, Option, Some, None, refl, sym, ap, subst, arith}
+use Rattle.std.proofs.Common.{◌≡◌, ◌∙◌, inl, inr, ℕ, ◌<◌, Bool, true, false, Option, Some, None, refl, sym, ap, subst, arith}
 use Rattle.std.proofs.lemmas.Int.{ints}
 use Rattle.pick_rules.specs.declared.table.Table.{Table}
-use Rattle.pick_rules.specs.Table.{row_at}
-use Rattle.pick_rules.specs.Choice.{can_run, chosen, distance, GoesFirst, IsLeast, IsChoice}
+use Rattle.pick_rules.specs.Choice.{chosen, distance, GoesFirst, IsChoice}
 use Rattle.pick_rules.proofs.ChoiceLemmas.{slot_after, all_round, is_choice, back}
 
 -- the function has what the words say

@@ -443,7 +443,7 @@ passed_running t = by (t.ticks == 59)
     by true = refl
     by false = refl
 
-passed_rows : (t : Table) → (time_passed t).rows ≡ t.rows
+pub passed_rows : (t : Table) → (time_passed t).rows ≡ t.rows
 passed_rows t = by (t.ticks == 59)
   where
     by : (b : Bool) → (cond b (timed t 0 ((t.now + 1) % 2 ^ 32)) (timed t (t.ticks + 1) t.now)).rows ≡ t.rows

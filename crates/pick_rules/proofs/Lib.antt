@@ -6,5 +6,6 @@ pub mod Found
 pub mod Shapes
 pub mod TickShapes
 pub mod Movers
-pub mod MoveShapes
+pub mod Placing
 pub mod NoPlace
+pub mod OneBlock

@@ -1,5 +1,5 @@
 -- An image for which there is no place: the swap area has no room for the largest one either.
-use Rattle.std.proofs.Common.{◌≡◌, ◌≤◌, ◌+◌, ◌/◌, ℕ, min, cond, Option, Some, None, option_map, refl, arith}
+use Rattle.std.proofs.Common.{◌≡◌, ◌≤◌, ℕ, cond, Option, Some, None, option_map, refl, arith}
 use Rattle.std.specs.Option.{option_or}
 use Rattle.v6_base.specs.declared.entry.Place.{Place}
 use Rattle.v6_base.specs.declared.entry.Place.TheVariants.{Core, Swap}
@@ -17,8 +17,10 @@ no_swap b s clicks e = by (cond (may_load b (row_at b.table s).text) (option_map
     by None None f = refl
 
 -- where fewer blocks have none, the limit's have none
-pub no_blocks : (b : Board) (clicks : ℕ) → clicks ≤ limit b.core → swap_fit b (blocks clicks) ≡ None → swap_fit b (blocks (limit b.core)) ≡ None
+pub no_blocks : (b : Board) (clicks : ℕ) → clicks ≤ limit b.core → swap_fit b (blocks clicks) ≡ None
+    → swap_fit b (blocks (limit b.core)) ≡ None
 no_blocks b clicks l e = no_more _ 4000 4871 (blocks clicks) (blocks (limit b.core)) (omega (arith, l)) e
 
-pub no_place : (b : Board) (s clicks : ℕ) → clicks ≤ limit b.core → placed b s clicks ≡ None → swap_fit b (blocks (limit b.core)) ≡ None
+pub no_place : (b : Board) (s clicks : ℕ) → clicks ≤ limit b.core → placed b s clicks ≡ None
+    → swap_fit b (blocks (limit b.core)) ≡ None
 no_place b s clicks l e = no_blocks b clicks l (no_swap b s clicks e)

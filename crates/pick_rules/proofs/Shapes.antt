@@ -1,14 +1,15 @@
--- What most lines leave of each row: whether it is empty, whether it is a zombie, whether it calls, its text, whether it has a
--- place, and its size.
-use Rattle.std.proofs.Common.{◌≡◌, ◌∙◌, ◌⊎◌, inl, inr, ℕ, zero, suc, pos, Bool, true, false, cond, List, [], ◌∷◌, Option, None, is_some, get_or, set, length, length-set, refl, ap}
+-- What most lines leave of each row: whether it is empty, whether it is a zombie, whether it calls, its text, its place
+-- and its size.
+use Rattle.std.proofs.Common.{◌≡◌, ◌∙◌, ◌⊎◌, inl, inr, ℕ, zero, suc, pos, Bool, true, false, cond, List, [], ◌∷◌, Option, None, get_or, set, length, length-set, refl, ap}
 use Rattle.std.specs.Int.{int_min}
 use Rattle.v6_base.specs.declared.entry.Chan.{Chan}
+use Rattle.v6_base.specs.declared.entry.Place.{Place}
 use Rattle.pick_rules.specs.declared.row.Stat.{Stat}
 use Rattle.pick_rules.specs.declared.row.Stat.TheVariants.{Empty, Sleeping, Waiting, Ready, Zombie}
 use Rattle.pick_rules.specs.declared.row.TableRow.{TableRow}
 use Rattle.pick_rules.specs.declared.table.Table.{Table}
 use Rattle.pick_rules.specs.Table.{empty_row, row_at, with_row, is_empty, is_waiting, is_zombie, is_on}
-use Rattle.pick_rules.specs.Sleepers.{made_ready, sleeps_on, runout_told, runin_told, setrun, wakeup, signalled}
+use Rattle.pick_rules.specs.Sleepers.{made_ready, runout_told, runin_told, setrun, wakeup, signalled}
 use Rattle.pick_rules.proofs.Laws.{Stays, runout_stays, runin_stays, setrun_stays, wakeup_stays}
 
 pub record Shape : Type 0 where
@@ -16,7 +17,7 @@ pub record Shape : Type 0 where
   pub zombie : Bool
   pub calling : Bool
   pub text : Option ℕ
-  pub placed : Bool
+  pub place : Option Place
   pub size : ℕ
 
 abbrev pub shape : TableRow → Shape
@@ -25,7 +26,7 @@ shape row = record {
   zombie = is_zombie row.stat;
   calling = row.calling;
   text = row.text;
-  placed = is_some row.place;
+  place = row.place;
   size = row.size;
 }
 
@@ -61,7 +62,8 @@ shape_set (x ∷ xs) (suc s) row e zero = refl
 shape_set (x ∷ xs) (suc s) row e (suc r) = shape_set xs s row e r
 
 -- what a slot does, where its row is another that does it
-stat_set : (rows : List TableRow) (s : ℕ) (row : TableRow) → row.stat ≡ (get_or rows s empty_row).stat → (get_or (set rows s row) s empty_row).stat ≡ (get_or rows s empty_row).stat
+stat_set : (rows : List TableRow) (s : ℕ) (row : TableRow) → row.stat ≡ (get_or rows s empty_row).stat
+    → (get_or (set rows s row) s empty_row).stat ≡ (get_or rows s empty_row).stat
 stat_set [] s row e = refl
 stat_set (x ∷ xs) zero row e = e
 stat_set (x ∷ xs) (suc s) row e = stat_set xs s row e
@@ -88,10 +90,12 @@ same_trans a b c k l = record {
   rows = l.rows ∙ k.rows;
 }
 
-ready_shape : (row : TableRow) → is_asleep row.stat ≡ true → shape (record row { stat = Ready; channel = None }) ≡ shape row
+ready_shape : (row : TableRow) → is_asleep row.stat ≡ true
+    → shape (record row { stat = Ready; channel = None }) ≡ shape row
 ready_shape row e = by row.stat e
   where
-    by : (stat : Stat) → is_asleep stat ≡ true → shape (record row { stat = Ready; channel = None }) ≡ shape (record row { stat = stat })
+    by : (stat : Stat) → is_asleep stat ≡ true
+        → shape (record row { stat = Ready; channel = None }) ≡ shape (record row { stat = stat })
     by Empty f = absurd (cc f)
     by Sleeping f = refl
     by Waiting f = refl
@@ -104,7 +108,8 @@ sleeper_asleep row w (inr e) f = e
 
 module _ (old : Table) where
   -- another row of the same shape
-  pub row_same : (t : Table) (s : ℕ) (row : TableRow) (runrun : Bool) → shape row ≡ shape_at t s → Sleeps row → SameShapes old t
+  pub row_same : (t : Table) (s : ℕ) (row : TableRow) (runrun : Bool) → shape row ≡ shape_at t s → Sleeps row
+      → SameShapes old t
       → SameShapes old (record (with_row t s row) { runrun = runrun })
   row_same t s row runrun e l k = record {
     sleeps = each_set Sleeps t.rows s row k.sleeps l;
@@ -116,7 +121,8 @@ module _ (old : Table) where
   }
 
   -- a sleeper becomes ready
-  pub ready_same : (t : Table) (s : ℕ) → is_asleep (row_at t s).stat ≡ true → SameShapes old t → SameShapes old (made_ready t s)
+  pub ready_same : (t : Table) (s : ℕ) → is_asleep (row_at t s).stat ≡ true → SameShapes old t
+      → SameShapes old (made_ready t s)
   unfolding made_ready
   ready_same t s e k = row_same t s _ _ (ready_shape (row_at t s) e) (inl refl) k
 
@@ -143,7 +149,8 @@ module _ (old : Table) where
   waiting_asleep Ready e = absurd (cc e)
   waiting_asleep Zombie e = absurd (cc e)
 
-  setrun_same : (t : Table) (s : ℕ) → is_asleep (row_at t s).stat ≡ true → SameShapes old t → SameShapes old (setrun t s)
+  setrun_same : (t : Table) (s : ℕ) → is_asleep (row_at t s).stat ≡ true → SameShapes old t
+      → SameShapes old (setrun t s)
   setrun_same t s e k = setrun_stays (SameShapes old) same_stays t s (ready_same t s e k)
 
   -- a signal is posted to a slot
@@ -155,11 +162,14 @@ module _ (old : Table) where
       lowered = with_row t s (record (row_at t s) { pri = int_min (row_at t s).pri (pos 100) })
 
       same : SameShapes old lowered
-      same = row_same t s (record (row_at t s) { pri = int_min (row_at t s).pri (pos 100) }) t.runrun refl (k.sleeps s) k
+      same =
+          row_same t s (record (row_at t s) { pri = int_min (row_at t s).pri (pos 100) }) t.runrun refl (k.sleeps s) k
 
       -- the slot sleeps as before
       asleep : is_waiting (row_at t s).stat ≡ true → is_asleep (row_at lowered s).stat ≡ true
-      asleep e = ap is_asleep (stat_set t.rows s (record (row_at t s) { pri = int_min (row_at t s).pri (pos 100) }) refl) ∙ waiting_asleep _ e
+      asleep e =
+          ap is_asleep (stat_set t.rows s (record (row_at t s) { pri = int_min (row_at t s).pri (pos 100) }) refl)
+          ∙ waiting_asleep _ e
 
       by : (x : Bool) → is_waiting (row_at t s).stat ≡ x → SameShapes old (cond x (setrun lowered s) lowered)
       by true e = setrun_same lowered s (asleep e) same

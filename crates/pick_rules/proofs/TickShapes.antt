@@ -1,5 +1,5 @@
 -- What a tick leaves of each row: its shape.
-use Rattle.std.proofs.Common.{◌≡◌, ◌+◌, ◌-◌, ◌%◌, ◌^◌, ◌==◌, ◌||◌, ℕ, min, pos, int_lt, if◌then◌else◌, Bool, true, false, cond, fold, refl}
+use Rattle.std.proofs.Common.{◌+◌, ◌-◌, ◌%◌, ◌^◌, ◌==◌, ◌||◌, ℕ, min, pos, int_lt, Bool, true, false, cond, fold, refl}
 use Rattle.pick_rules.specs.declared.row.Mode.{Mode}
 use Rattle.pick_rules.specs.declared.row.Mode.TheVariants.{User, Kernel, Idle}
 use Rattle.pick_rules.specs.declared.table.Table.{Table}
@@ -29,7 +29,10 @@ module _ (old : Table) where
       older = with_row t s (record (row_at t s) { time = min ((row_at t s).time + 1) 127; cpu = (row_at t s).cpu - 10 })
 
       same : SameShapes old older
-      same = row_same old t s (record (row_at t s) { time = min ((row_at t s).time + 1) 127; cpu = (row_at t s).cpu - 10 }) t.runrun refl (k.sleeps s) k
+      same =
+          row_same old t s
+          (record (row_at t s) { time = min ((row_at t s).time + 1) 127; cpu = (row_at t s).cpu - 10 }) t.runrun refl
+          (k.sleeps s) k
 
       by : (x y : Bool) → SameShapes old (cond x t (cond y (setpri older s) older))
       by true y = k
@@ -50,7 +53,8 @@ second_same t l = runin_same begun (fold aged told slots)
     told = record begun { runrun = t.runrun || ((t.now + 1) % 2 ^ 32 % 4 == 0) }
 
 timed_same : (t u : Table) (ticks now : ℕ) → SameShapes t u → SameShapes (timed t ticks now) (timed u ticks now)
-timed_same t u ticks now k = record { sleeps = k.sleeps; same = k.same; running = k.running; now = refl; ticks = refl; rows = k.rows }
+timed_same t u ticks now k =
+    record { sleeps = k.sleeps; same = k.same; running = k.running; now = refl; ticks = refl; rows = k.rows }
 
 ticked_same : (t : Table) → ((s : ℕ) → Sleeps (row_at t s)) → SameShapes (time_passed t) (ticked t)
 unfolding ticked
@@ -59,7 +63,8 @@ ticked_same t l = by (t.ticks == 59)
     paid : SameShapes t (charged t)
     paid = charged_same t t (same_none t l)
 
-    by : (b : Bool) → SameShapes (cond b (timed t 0 ((t.now + 1) % 2 ^ 32)) (timed t (t.ticks + 1) t.now)) (cond b (second (charged t)) (record (charged t) { ticks = t.ticks + 1 }))
+    by : (b : Bool)
+        → SameShapes (cond b (timed t 0 ((t.now + 1) % 2 ^ 32)) (timed t (t.ticks + 1) t.now)) (cond b (second (charged t)) (record (charged t) { ticks = t.ticks + 1 }))
     by true = same_trans (timed t 0 ((t.now + 1) % 2 ^ 32)) (timed (charged t) 0 ((t.now + 1) % 2 ^ 32)) (second (charged t))
         (timed_same t (charged t) 0 ((t.now + 1) % 2 ^ 32) paid) (second_same (charged t) paid.sleeps)
     by false = timed_same t (charged t) (t.ticks + 1) t.now paid

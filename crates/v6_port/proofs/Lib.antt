@@ -1,3 +1,4 @@
 pub mod BufferLemmas
 pub mod KeptLemmas
 pub mod MemoryLemmas
+pub mod CauseLemmas
