@@ -1,6 +1,7 @@
 -- A volume on the disk of an image is what a kernel begins with.
-use Rattle.std.proofs.Common.{◌≡◌, ℕ, false, List, None, sym, ap, ◌∙◌, subst, arith}
+use Rattle.std.proofs.Common.{◌≡◌, if◌then◌else◌, ℕ, false, List, Option, None, is_some, sym, ap, ◌∙◌, subst, arith}
 use Rattle.fs_codec.specs.Fields.{super_of}
+use Rattle.fs_codec.specs.Store.{Store}
 use Rattle.fs_codec.specs.Disk.{disk_of, head}
 use Rattle.fs_codec.specs.Faults.{disk_fault, image_fault}
 use Rattle.fs_codec.specs.Stands.{store_of}
@@ -15,6 +16,8 @@ use Rattle.fs_laws.proofs.SyncLemmas.{alike_fault, alike_store}
 use Rattle.fs_laws.proofs.AgreeLemmas.{files_store}
 use Rattle.fs_blocks.specs.State.{State, disk, opened}
 use Rattle.fs_blocks.specs.Store.{store_now}
+use Rattle.unix_core.specs.Unix.{System}
+use Rattle.unix_core.specs.Runs.{system_with, booted, boots}
 
 clean_store : (volume : State) → volume.changed ≡ false → store_now volume ≡ store_of (disk volume)
 unfolding store_now store_of
@@ -40,3 +43,9 @@ module _ (bytes : List ℕ) (good : image_fault bytes ≡ None) where
     pub volume_stamp : volume.head ≡ opened (super_of (block_at (blocks_of bytes) 1)) → volume.head.time ≡ (store_of (disk_of bytes)).stamp
     unfolding store_of
     volume_stamp is = volume_time is
+
+-- An image without a fault is booted where its file system has the form.
+pub boots_as : (image : List ℕ) (core : ℕ) (store : Store) (o : Option System) → image_fault image ≡ None → store ≡ store_of (disk_of image)
+    → booted (system_with store core) ≡ o → boots image core ≡ o
+boots_as image core store o none is boot =
+    ap (λ f. if is_some f then None else booted (system_with (store_of (disk_of image)) core)) none ∙ ap (λ (s : Store). booted (system_with s core)) (sym is) ∙ boot

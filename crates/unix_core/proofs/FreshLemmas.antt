@@ -1,41 +1,70 @@
 -- A kernel that is about to execute the first program.
-use Rattle.std.proofs.Common.{◌≡◌, ◌<◌, ◌≤◌, ◌+◌, ℕ, zero, suc, Bool, true, false, List, [], length, replicate, map, get_or, min, count_by, Option, Some, None, Ok, refl, sym, ap, ◌∙◌, subst, arith, inl, inr}
-use Rattle.std.specs.Prelude.{◌==◌, if◌then◌else◌, slice_index, slice_index_or, slice_set, unwrap_or, is_some}
-use Rattle.std.specs.List.{range_with_len}
-use Rattle.std.proofs.lemmas.Bool.{eq-eqb, ne_eqb, cases_lt}
+use Rattle.std.proofs.Common.{◌≡◌, ◌≢◌, ◌<◌, ◌≤◌, ◌+◌, ◌*◌, ◌==◌, if◌then◌else◌, cond, ℕ, zero, suc, Bool, true, false, List, [], ◌∷◌, length, replicate, get_or, min, count_by, sum_by, Option, Some, None, Ok, slice_index, refl, sym, ap, ◌∙◌, subst, arith, inl, inr}
+use Rattle.std.specs.Prelude.{slice_set}
+use Rattle.std.proofs.lemmas.Bool.{eq-eqb, ne_eqb, cases_lt, cases_eq}
 use Rattle.std.proofs.lemmas.Bool.Decides.{eqb_tells}
 use Rattle.std.proofs.lemmas.List.{get_or-set_same, get_or-set_other, get_or-replicate, get_or_past, length-replicate}
+use Rattle.std.proofs.lemmas.List.Folds.{sum_by-replicate}
+use Rattle.std.proofs.lemmas.List.Sums.{sum_by-cons}
 use Rattle.v6_base.specs.Image.{text_alone}
 use Rattle.open_files.specs.declared.file.OpenFile.{OpenFile}
-use Rattle.open_files.specs.Files.{file_at, times}
-use Rattle.fs_codec.specs.Disk.{disk_of}
-use Rattle.fs_codec.specs.Faults.{image_fault}
-use Rattle.fs_codec.specs.Stands.{store_of}
+use Rattle.open_files.specs.Files.{file_at}
 use Rattle.fs_codec.specs.Store.{Store}
 use Rattle.tty_line.specs.Terminal.{first_terminal}
-use Rattle.pick_rules.specs.Table.{empty_row, row_at, first_table}
+use Rattle.pick_rules.specs.declared.table.Table.{Table}
+use Rattle.pick_rules.specs.Table.{empty_row, row_at, first_table, is_in_core, IsTable}
 use Rattle.fs_nodes.specs.FileSystem.{FileSystem, IsFileSystem}
 use Rattle.fs_tree.specs.Name.{name_at}
 use Rattle.fs_tree.specs.Finding.{Inodes, inodes_of, with_reference}
-use Rattle.fs_tree.proofs.SearchLemmas.{find_same}
-use Rattle.sys_files.specs.Handed.{no_node, node_in}
+use Rattle.sys_files.specs.Handed.{node_in}
 use Rattle.sys_files.specs.Sound.{is_of, numbers_of}
 use Rattle.sys_files.proofs.NamingLemmas.{found_more, found_node}
+use Rattle.proc_tab.specs.Processes.{first_processes, member_at}
+use Rattle.image_keep.specs.Kept.{Held, Keeping, Nothing, Alive, Grave, Kept, Has, keeping, first_kept, with_keeping, area_in, clicks_of}
+use Rattle.image_keep.proofs.Frames.{keeping_same, keeping_other}
+use Rattle.sys_procs.specs.Process.{Process, process_in}
+use Rattle.sys_procs.specs.World.{processes_in, clock_of}
+use Rattle.sys_procs.specs.Agree.{Agrees, Agree, board_of}
+use Rattle.sys_procs.proofs.Slots.{are_processes}
 use Rattle.unix_core.specs.declared.world.World.{World}
 use Rattle.unix_core.specs.declared.machine.Stage.{Stage}
 use Rattle.unix_core.specs.declared.machine.Stage.TheVariants as stage
-use Rattle.unix_core.specs.Unix.{Process, Unix, System, no_texts, slots_with}
-use Rattle.unix_core.specs.References.{is_in, is_text_of, referrers, references_of}
+use Rattle.unix_core.specs.Unix.{Unix, no_texts}
+use Rattle.unix_core.specs.References.{is_in, is_text_of, referrers}
 use Rattle.unix_core.specs.Form.{is_program}
 use Rattle.unix_core.specs.Exec.{init_name, init_in, inodes_in, is_found, leads_to_program}
-use Rattle.unix_core.specs.Runs.{fresh_process, first_unix, system_with, booted, boots}
-use Rattle.unix_core.specs.Parts.{unix_with, IsCounted, IsFresh, IsRunning, IsAlone, IsKernel}
+use Rattle.unix_core.specs.Runs.{fresh_process, first_unix, system_with, booted}
+use Rattle.pdp_step.specs.declared.regs.Regs.{Regs}
+use Rattle.pick_rules.specs.Choice.{settle}
+use Rattle.unix_core.proofs.BoardLemmas.{settle_none}
+use Rattle.unix_core.specs.Parts.{unix_of, system_at, named, numbers_in, one_more, first_held, IsGood, IsFresh, IsKernel}
 use Rattle.unix_core.proofs.NodeLemmas.{node_there, number_within}
-use Rattle.unix_core.proofs.ReferenceLemmas.{count_none, slots_refer, texts_refer, references_are}
-use Rattle.unix_core.proofs.ExecLemmas.{one_more, no_more}
+use Rattle.unix_core.proofs.ReferenceLemmas.{references_are, one_in}
+use Rattle.unix_core.proofs.ExecLemmas as exec
 
 abbrev no_files : List (Option OpenFile)
 no_files = replicate 100 None
+
+abbrev first_slots : List (Option Process)
+first_slots = None ∷ Some fresh_process ∷ replicate 48 None
+
+count_none : {X : Type 0} (p : X → Bool) (n : ℕ) (x : X) → p x ≡ false → count_by p (replicate n x) ≡ 0
+count_none p n x fails =
+    let each : cond {A = ℕ} (p x) 1 0 ≡ 0 = ap (λ b. cond b 1 0) fails in
+    sum_by-replicate (λ y. cond (p y) 1 0) n x ∙ ap (λ k. n * k) each ∙ omega arith
+
+texts_refer : (ino : ℕ) → count_by (is_text_of ino) no_texts ≡ 0
+unfolding no_texts
+texts_refer ino = count_none (is_text_of ino) 40 None refl
+
+-- one slot of fifty counts
+slots_sum : (f : Option Process → ℕ) → f None ≡ 0 → sum_by f first_slots ≡ f (Some fresh_process)
+slots_sum f none =
+    let rest : List (Option Process) = replicate 48 None in
+    let others : sum_by f rest ≡ 48 * f None = sum_by-replicate f 48 None in
+    let second : sum_by f (Some fresh_process ∷ rest) ≡ f (Some fresh_process) + sum_by f rest = sum_by-cons f (Some fresh_process) rest in
+    let first : sum_by f first_slots ≡ f None + sum_by f (Some fresh_process ∷ rest) = sum_by-cons f None (Some fresh_process ∷ rest) in
+    omega (arith, none, others, second, first)
 
 both_ones : (ino : ℕ) → (if 1 == ino then 1 else 0) + (if ino == 1 then 1 else 0) ≡ (if ino == 1 then 2 else 0)
 both_ones ino = elim (eqb_tells ino 1) [
@@ -49,9 +78,9 @@ both_ones ino = elim (eqb_tells ino 1) [
 first_referrers : (store : Store) (core ino : ℕ) → referrers (first_unix store core) ino ≡ (if ino == 1 then 2 else 0)
 first_referrers store core ino =
     let files : count_by (is_of ino) no_files ≡ 0 = count_none (is_of ino) 100 None refl in
-    let slots = slots_refer ino fresh_process in
+    let slots : count_by (is_in ino) first_slots ≡ (if 1 == ino then 1 else 0) = slots_sum (one_in ino) refl in
     let texts = texts_refer ino in
-    ap (λ k. k + count_by (is_in ino) (slots_with (Some fresh_process)) + count_by (is_text_of ino) no_texts + (if ino == 1 then 1 else 0)) files
+    ap (λ k. k + count_by (is_in ino) first_slots + count_by (is_text_of ino) no_texts + (if ino == 1 then 1 else 0)) files
     ∙ ap (λ k. 0 + k + count_by (is_text_of ino) no_texts + (if ino == 1 then 1 else 0)) slots
     ∙ ap (λ k. 0 + (if 1 == ino then 1 else 0) + k + (if ino == 1 then 1 else 0)) texts
     ∙ omega arith ∙ both_ones ino
@@ -77,18 +106,92 @@ everywhere n x i = elim (cases_lt i n) [
 none_open : (entry : ℕ) → file_at no_files entry ≡ None
 none_open entry = everywhere 100 None entry
 
-no_number : (fd : ℕ) → slice_index (replicate 15 0) fd ≡ 0
-no_number fd = everywhere 15 0 fd
+none_named : (entry : ℕ) → named first_slots entry ≡ 0
+unfolding named
+none_named entry = slots_sum (numbers_in entry) refl ∙ count_none (λ number. number == entry + 1) 15 0 (ne_eqb 0 (entry + 1) (λ is. omega (arith, is)))
 
-none_counted : (entry : ℕ) → times (replicate 15 0) entry ≡ 0
-none_counted entry = count_none (λ number. number == entry + 1) 15 0 (ne_eqb 0 (entry + 1) (λ is. omega (arith, is)))
+-- Process 1 alone has an image.
+abbrev first_images : ℕ → Kept
+first_images core = with_keeping (first_kept core) 1 (Alive first_held)
 
-pub first_counted : (w : World) → w.files.table ≡ no_files → IsCounted fresh_process w
-first_counted w table = record {
-  is_open = λ fd open_. let none = no_number fd in absurd (omega (arith, open_, none));
-  numbers = λ entry. ap (λ l. numbers_of (file_at l entry)) table ∙ ap numbers_of (none_open entry) ∙ sym (none_counted entry);
-  no_pipe = λ entry file is. (let none : file_at w.files.table entry ≡ None = ap (λ l. file_at l entry) table ∙ none_open entry in absurd (cc));
+first_image : (core : ℕ) → Has (first_images core) 1 first_held
+first_image core = keeping_same (first_kept core) 1 (Alive first_held) (let long = length-replicate 50 Nothing in omega (arith, long))
+
+first_alone : (core s : ℕ) → s ≢ 1 → keeping (first_images core) s ≡ Nothing
+first_alone core s other = keeping_other (first_kept core) 1 s (Alive first_held) other ∙ everywhere 50 Nothing s
+
+abbrev held_in : Held → Keeping → Held
+held_in other Nothing = other
+held_in other (Alive held) = held
+held_in other (Grave u block) = other
+
+first_each : (core : ℕ) (P : Held → Type 0) → P first_held → (s : ℕ) (held : Held) → Has (first_images core) s held → P held
+first_each core P own s held has = elim (cases_eq s 1) [
+  | inl here ↦ subst P (ap (held_in first_held) (sym (first_image core) ∙ ap (keeping (first_images core)) (sym here) ∙ has)) own
+  | inr other ↦ absurd (let none = first_alone core s other in cc (none, has))
+]
+
+first_free : (time s : ℕ) → 2 ≤ s → row_at (first_table time) s ≡ empty_row
+first_free time zero high = absurd (omega (arith, high))
+first_free time (suc zero) high = absurd (omega (arith, high))
+first_free time (suc (suc s)) high = everywhere 48 empty_row s
+
+no_member : (s : ℕ) → 2 ≤ s → member_at first_processes.slots s ≡ None
+no_member zero high = absurd (omega (arith, high))
+no_member (suc zero) high = absurd (omega (arith, high))
+no_member (suc (suc s)) high = everywhere 48 None s
+
+free_agrees : Agrees None empty_row Nothing
+free_agrees = record { stat = refl; image = refl; place = refl; size = λ held is. absurd (cc is); text = refl; quiet = λ f. refl }
+
+own_agrees : (time : ℕ) → Agrees (member_at first_processes.slots 1) (row_at (first_table time) 1) (Alive first_held)
+own_agrees time = record {
+  stat = refl;
+  image = refl;
+  place = refl;
+  size = λ held is. ap (λ x. clicks_of (area_in x)) is;
+  text = refl;
+  quiet = λ f. absurd (f refl);
 }
+
+first_agree : (core time : ℕ) → IsTable (first_table time) → Agree first_processes (first_table time) (first_images core)
+first_agree core time table = record {
+  table = table;
+  rows = let long = length-replicate 48 empty_row in omega (arith, long);
+  kernel = refl;
+  images = first_alone core 0 (λ e. omega (arith, e));
+  each = λ s above below. elim (cases_eq s 1) [
+    | inl here ↦ subst (λ r. Agrees (member_at first_processes.slots r) (row_at (first_table time) r) (keeping (first_images core) r)) (sym here)
+        (subst (λ x. Agrees (member_at first_processes.slots 1) (row_at (first_table time) 1) x) (sym (first_image core)) (own_agrees time))
+    | inr other ↦
+        let high : 2 ≤ s = omega (arith, above, other) in
+        subst (λ m. Agrees m (row_at (first_table time) s) (keeping (first_images core) s)) (sym (no_member s high))
+        (subst (λ row. Agrees None row (keeping (first_images core) s)) (sym (first_free time s high))
+        (subst (λ x. Agrees None empty_row x) (sym (first_alone core s other)) free_agrees))
+  ];
+}
+
+nobody : (s : ℕ) → 2 ≤ s → get_or first_slots s None ≡ None
+nobody zero high = absurd (omega (arith, high))
+nobody (suc zero) high = absurd (omega (arith, high))
+nobody (suc (suc s)) high = everywhere 48 None s
+
+first_processes_are : (core : ℕ) → processes_in first_processes.slots (first_images core) ≡ first_slots
+first_processes_are core = are_processes first_processes.slots (first_images core) first_slots
+    (let none : Option Process = None in let long = length-replicate 48 none in omega (arith, long)) each
+  where
+    own : (s : ℕ) → s ≢ 1 → get_or first_slots s None ≡ process_in (member_at first_processes.slots s) (keeping (first_images core) s)
+    own zero other = refl
+    own (suc s) other =
+        let high : 2 ≤ suc s = omega (arith, other) in
+        nobody (suc s) high ∙ ap (λ m. process_in m (keeping (first_images core) (suc s))) (sym (no_member (suc s) high))
+
+    each : (s : ℕ) → s < 50 → get_or first_slots s None ≡ process_in (member_at first_processes.slots s) (keeping (first_images core) s)
+    each s low = elim (cases_eq s 1) [
+      | inl here ↦ subst (λ r. get_or first_slots r None ≡ process_in (member_at first_processes.slots r) (keeping (first_images core) r)) (sym here)
+          (ap (process_in (member_at first_processes.slots 1)) (sym (first_image core)))
+      | inr other ↦ own s other
+    ]
 
 -- The program is found, and referred to.
 module _ (old new : FileSystem) (core init : ℕ) (form : IsFileSystem old) (referred : (ino : ℕ) → slice_index old.references ino ≡ (if ino == 1 then 2 else 0))
@@ -113,172 +216,84 @@ module _ (old new : FileSystem) (core init : ℕ) (form : IsFileSystem old) (ref
     | inl same ↦
         ap (slice_index (slice_set old.references init (slice_index old.references init + 1))) same.1
         ∙ get_or-set_same old.references init (slice_index old.references init + 1) 0 init_low
-        ∙ ap (λ k. slice_index old.references k + 1) (sym same.1) ∙ ap (λ n. n + 1) (referred ino) ∙ sym (one_more ino init (if ino == 1 then 2 else 0) same.1)
+        ∙ ap (λ k. slice_index old.references k + 1) (sym same.1) ∙ ap (λ n. n + 1) (referred ino) ∙ sym (exec.one_more ino init (if ino == 1 then 2 else 0) same.1)
     | inr other ↦
-        get_or-set_other old.references init ino (slice_index old.references init + 1) 0 other.1 ∙ referred ino ∙ sym (no_more ino init (if ino == 1 then 2 else 0) other.1)
+        get_or-set_other old.references init ino (slice_index old.references init + 1) 0 other.1 ∙ referred ino ∙ sym (exec.no_more ino init (if ino == 1 then 2 else 0) other.1)
   ]
 
+  -- The world that a kernel begins with.
   module _ (w : World) (nodes : w.files.tree.nodes ≡ new) (table : w.files.table ≡ no_files) (line : w.files.line ≡ first_terminal)
-      (slots : w.table ≡ first_table old.store.stamp) (switches : w.switches ≡ 0) (limit : w.limit ≡ min core 2048) where
-    pub unix_is : unix_with fresh_process w ≡ first_unix old.store core
+      (rows : w.procs.rows ≡ first_processes) (slots : w.procs.table ≡ first_table old.store.stamp) (good : IsTable w.procs.table)
+      (images : w.procs.images ≡ first_images core) (switches : w.procs.switches ≡ 0)
+      (entries : w.tape.entry_room ≡ 64) (bytes : w.tape.byte_room ≡ 524288) (clicks : w.core ≡ core) (least : 64 ≤ core) where
+    processes_are : (unix_of w).processes ≡ first_slots
+    processes_are = (λ i. processes_in (rows i).slots (images i)) ∙ first_processes_are core
+
+    pub unix_is : unix_of w ≡ first_unix old.store core
     unix_is = λ i. record {
       store = (ap (λ (f : FileSystem). f.store) nodes ∙ store_same) i;
-      processes = slots_with (Some fresh_process);
+      processes = processes_are i;
       files = table i;
       pipes = [];
       texts = no_texts;
       line = line i;
-      clock = record { time = (slots i).now; ticks = (slots i).ticks; tout = (slots i).tout };
+      clock = clock_of (slots i);
       switches = switches i;
-      last_pid = 1;
-      limit = limit i;
+      last_pid = (rows i).last_pid;
+      limit = min (images i).core 2048;
     }
 
-    pub is_fresh_ : IsFresh init fresh_process w
-    is_fresh_ = record {
-      no_data = refl;
-      no_stack = refl;
-      counted = first_counted w table;
+    pub good_first : IsGood w (one_more init)
+    good_first = record {
+      agree = let begun : Agree first_processes (first_table old.store.stamp) (first_images core) = first_agree core old.store.stamp (subst IsTable slots good) in
+          subst (λ v. Agree v w.procs.table w.procs.images) (sym rows)
+          (subst (λ t. Agree first_processes t w.procs.images) (sym slots) (subst (λ k. Agree first_processes (first_table old.store.stamp) k) (sym images) begun));
+      in_core = λ s held has. first_each core (λ h. is_in_core (Some h.place) ≡ true) refl s held (ap (λ k. keeping k s) (sym images) ∙ has);
+      fifteen = λ s held has. first_each core (λ h. length h.u.files ≡ 15) (let none : ℕ = 0 in length-replicate 15 none) s held (ap (λ k. keeping k s) (sym images) ∙ has);
+      numbers = λ entry. ap (λ l. numbers_of (file_at l entry)) table ∙ ap numbers_of (none_open entry) ∙ sym (ap (λ l. named l entry) processes_are ∙ none_named entry);
+      no_pipe = λ entry file is. (let none : file_at w.files.table entry ≡ None = ap (λ l. file_at l entry) table ∙ none_open entry in absurd (cc (none, is)));
       referred = λ ino.
           ap (λ (f : FileSystem). slice_index f.references ino) nodes ∙ now_referred ino
           ∙ ap (λ k. k + (if ino == init then 1 else 0)) (sym (ap (λ (u : Unix). referrers u ino) unix_is ∙ first_referrers old.store core ino));
+      running = λ s runs above. absurd (let zero_ : Some 0 ≡ Some s = sym (ap (λ (t : Table). t.running) slots) ∙ runs in
+          let same : 0 ≡ s = cc zero_ in omega (arith, same, above));
+      entries = entries;
+      bytes = bytes;
+      core = clicks ∙ sym (ap (λ (k : Kept). k.core) images);
+    }
+
+    pub fresh_first : IsFresh init w
+    fresh_first = record {
+      good = good_first;
+      alone = λ s other. ap (λ k. keeping k s) images ∙ first_alone core s other;
+      image = (first_held, ap (λ k. keeping k 1) images ∙ first_image core);
+      core = subst (λ (k : Kept). 64 ≤ k.core) (sym images) least;
       found = ap (λ (u : Unix). (init_in (inodes_in u)).answer) unix_is ∙ ap (λ (n : Inodes). (init_in n).answer) (sym (first_inodes old core form referred)) ∙ answer;
       program = ap (λ (f : FileSystem). is_program (node_in f.store init)) nodes ∙ program;
     }
 
     -- What it holds is the system that is booted.
-    pub is_booted : booted (system_with old.store core) ≡ Some (record { unix = unix_with fresh_process w; table = w.table; is_fresh = true })
-    is_booted =
+    pub is_booted : (regs : Regs) → booted (system_with old.store core) ≡ Some (system_at (stage.Fresh init) regs w)
+    is_booted regs =
         ap (λ b. if b then Some (system_with old.store core) else None)
         (ap (λ (n : Inodes). is_found (init_in n)) (sym (first_inodes old core form referred))
         ∙ ap (leads_to_program (init_in (inodes_of old))) answer
         ∙ ap (λ (n : Inodes). is_program (node_in n.store init)) (sym inodes) ∙ program)
-        ∙ (λ i. Some (record { unix = sym unix_is i; table = sym slots i; is_fresh = true }))
-
--- The first table has two slots in use.
-first_free : (time s : ℕ) → 2 ≤ s → row_at (first_table time) s ≡ empty_row
-first_free time zero high = absurd (omega (arith, high))
-first_free time (suc zero) high = absurd (omega (arith, high))
-first_free time (suc (suc s)) high = everywhere 48 empty_row s
-
-pub first_alone : (time : ℕ) → IsAlone (first_table time)
-first_alone time = record {
-  table = record { last = omega arith; running = omega arith; ticks = omega arith };
-  others = record { rows = first_free time };
-  runs = omega arith;
-}
+        ∙ (λ i. Some (record { unix = sym unix_is i; board = board_of (sym slots i) (sym images i); is_fresh = true }))
 
 abbrev init_of : Stage → ℕ
 init_of (stage.Fresh init) = init
-init_of stage.Running = 0
-init_of stage.Waiting = 0
-init_of stage.Ended = 0
+init_of (stage.Running s) = 0
+init_of stage.Resting = 0
 
-pub begins_fresh : (init time : ℕ) (p : Process) (w : World) → w.table ≡ first_table time → IsFresh init p w → IsKernel (stage.Fresh init) p w
-begins_fresh init time p w slots fresh = record {
-  machine = record {
-    alone = subst IsAlone (sym slots) (first_alone time);
-    fresh = λ other is. subst (λ i. IsFresh i p w) (ap init_of is) fresh;
-    running = λ is. absurd (cc);
-    ended = λ is. absurd (cc);
-  };
-  user = λ is. absurd (cc);
-  waiting = λ is. absurd (cc);
+first_settled : (time s : ℕ) → settle (first_table time) ≡ None
+first_settled time s = settle_none (first_table time) refl
+
+pub begins_fresh : (init time : ℕ) (w : World) → w.procs.table ≡ first_table time → IsFresh init w → IsKernel (stage.Fresh init) w
+begins_fresh init time w slots fresh = record {
+  fresh = λ other e. subst (λ i. IsFresh i w) (ap init_of e) fresh;
+  running = λ s e. absurd (cc e);
+  resting = λ e. absurd (cc e);
+  settled = λ s runs. ap settle slots ∙ first_settled time s;
+  calls = λ s e. absurd (cc e);
 }
-
--- The super-block that is written says nothing of inodes.
-stamped_nodes : (b : Bool) (s : Store) (time : ℕ) → (if b then record s { stamp = time; mark = false } else s).nodes ≡ s.nodes
-stamped_nodes true s time = refl
-stamped_nodes false s time = refl
-
-stamped_count : (b : Bool) (s : Store) (time : ℕ) → (if b then record s { stamp = time; mark = false } else s).count ≡ s.count
-stamped_count true s time = refl
-stamped_count false s time = refl
-
-module _ (p : Process) (w : World) (new : FileSystem) (time : ℕ)
-    (store : new.store ≡ (if w.files.tree.nodes.store.mark then record w.files.tree.nodes.store { stamp = time; mark = false } else w.files.tree.nodes.store))
-    (references : new.references ≡ w.files.tree.nodes.references) where
-  abbrev old_store : Store
-  old_store = w.files.tree.nodes.store
-
-  -- the world with this file system
-  abbrev now : World
-  now = record w { files = record { tree = record { nodes = new }; table = w.files.table; line = w.files.line } }
-
-  nodes_same : new.store.nodes ≡ old_store.nodes
-  nodes_same = ap (λ (s : Store). s.nodes) store ∙ stamped_nodes old_store.mark old_store time
-
-  references_same : references_of (unix_with p now) ≡ references_of (unix_with p w)
-  unfolding references_of
-  references_same =
-      ap (λ k. map (referrers (unix_with p w)) (range_with_len 0 (k + 1))) (ap (λ (s : Store). s.count) store ∙ stamped_count old_store.mark old_store time)
-
-  synced_fresh : (init : ℕ) → IsFresh init p w → IsFresh init p now
-  synced_fresh init fresh = record {
-    no_data = fresh.no_data;
-    no_stack = fresh.no_stack;
-    counted = record { is_open = fresh.counted.is_open; numbers = fresh.counted.numbers; no_pipe = fresh.counted.no_pipe };
-    referred = λ ino. ap (λ l. slice_index l ino) references ∙ fresh.referred ino;
-    found =
-        ap (λ (l : List ℕ). (init_in (record { store = new.store; references = l })).answer) references_same
-        ∙ find_same new.store old_store (references_of (unix_with p w)) (record { uid = 0; gid = 0 }) 1 (name_at (text_alone init_name) 0) nodes_same ∙ fresh.found;
-    program = ap (λ l. is_program (unwrap_or (slice_index_or l init None) no_node)) nodes_same ∙ fresh.program;
-  }
-
-  synced_running : IsRunning p w → IsRunning p now
-  synced_running runs = record {
-    counted = record { is_open = runs.counted.is_open; numbers = runs.counted.numbers; no_pipe = runs.counted.no_pipe };
-    referred = λ ino. ap (λ l. slice_index l ino) references ∙ runs.referred ino;
-  }
-
-  pub synced_kernel : (at : Stage) → IsKernel at p w → IsKernel at p now
-  synced_kernel at kernel = record {
-    machine = record {
-      alone = kernel.machine.alone;
-      fresh = λ init is. synced_fresh init (kernel.machine.fresh init is);
-      running = λ is. synced_running (kernel.machine.running is);
-      ended = kernel.machine.ended;
-    };
-    user = kernel.user;
-    waiting = kernel.waiting;
-  }
-
--- Nothing of the kernel's parts but the Unix itself knows of the switches.
-module _ (p : Process) (w : World) (switches : ℕ) where
-  abbrev other : World
-  other = record w { switches = switches }
-
-  switched_fresh : (init : ℕ) → IsFresh init p w → IsFresh init p other
-  unfolding references_of
-  switched_fresh init fresh = record {
-    no_data = fresh.no_data;
-    no_stack = fresh.no_stack;
-    counted = record { is_open = fresh.counted.is_open; numbers = fresh.counted.numbers; no_pipe = fresh.counted.no_pipe };
-    referred = fresh.referred;
-    found = fresh.found;
-    program = fresh.program;
-  }
-
-  switched_running : IsRunning p w → IsRunning p other
-  switched_running runs = record {
-    counted = record { is_open = runs.counted.is_open; numbers = runs.counted.numbers; no_pipe = runs.counted.no_pipe };
-    referred = runs.referred;
-  }
-
-  pub switched_kernel : (at : Stage) → IsKernel at p w → IsKernel at p other
-  switched_kernel at kernel = record {
-    machine = record {
-      alone = kernel.machine.alone;
-      fresh = λ init is. switched_fresh init (kernel.machine.fresh init is);
-      running = λ is. switched_running (kernel.machine.running is);
-      ended = kernel.machine.ended;
-    };
-    user = kernel.user;
-    waiting = kernel.waiting;
-  }
-
--- An image without a fault is booted where its file system has the form.
-pub boots_as : (image : List ℕ) (core : ℕ) (store : Store) (o : Option System) → image_fault image ≡ None → store ≡ store_of (disk_of image)
-    → booted (system_with store core) ≡ o → boots image core ≡ o
-boots_as image core store o none is boot =
-    ap (λ f. if is_some f then None else booted (system_with (store_of (disk_of image)) core)) none ∙ ap (λ (s : Store). booted (system_with s core)) (sym is) ∙ boot

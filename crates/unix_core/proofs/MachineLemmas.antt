@@ -1,315 +1,191 @@
--- The parts of a kernel and its system, where an event has changed its table, its console or its process.
-use Rattle.std.proofs.Common.{◌≡◌, ◌≢◌, ◌∙◌, ℕ, zero, suc, ◌+◌, ◌%◌, ◌^◌, ◌<◌, Bool, true, false, List, ◌∷◌, ◌++◌, [], Option, Some, None, refl, sym, ap, subst, append_assoc, arith}
-use Rattle.std.specs.Prelude.{◌==◌, ◌&&◌, if◌then◌else◌}
-use Rattle.v6_base.specs.Trace.{Item, Log, sent}
-use Rattle.v6_base.specs.declared.entry.Chan.{Chan}
-use Rattle.v6_base.specs.declared.entry.Chan.TheVariants.{Tout, Keys}
-use Rattle.v6_base.specs.declared.entry.Entry.{Entry}
-use Rattle.tty_line.specs.Terminal.{Terminal}
-use Rattle.tty_line.specs.declared.line.Keyed.{Keyed}
-use Rattle.tty_line.specs.Input.{Typed, typed}
+-- What the parts of a kernel are while the registers of the process that executes instructions stand apart, and when they have
+-- been put back into its u area.
+use Rattle.std.proofs.Common.{◌≡◌, ◌<◌, ◌==◌, if◌then◌else◌, ℕ, Bool, false, set, Option, Some, None, refl, sym, ap, ◌∙◌, subst, arith}
+use Rattle.std.specs.Prelude.{⊤, MatchOption}
+use Rattle.std.proofs.lemmas.Bool.{ne_eqb}
+use Rattle.std.proofs.lemmas.List.{set-get_or}
+use Rattle.u_area.specs.declared.area.UArea.{UArea}
+use Rattle.u_area.proofs.AreaLemmas.{one_area}
+use Rattle.pdp_step.specs.declared.regs.Regs.{Regs}
 use Rattle.pick_rules.specs.declared.row.Mode.{Mode}
 use Rattle.pick_rules.specs.declared.row.Mode.TheVariants.{User, Kernel, Idle}
-use Rattle.pick_rules.specs.declared.row.Second.{Second}
-use Rattle.pick_rules.specs.declared.row.Second.TheVariants.{No, Yes}
-use Rattle.pick_rules.specs.declared.table.Table.{Table}
-use Rattle.pick_rules.specs.Table.{IsTable}
-use Rattle.pick_rules.specs.Clock.{tick, told}
+use Rattle.pick_rules.specs.Choice.{settle}
+use Rattle.image_keep.specs.Kept.{Kept, with_area, area_of}
+use Rattle.sys_procs.specs.Process.{Process}
+use Rattle.sys_procs.specs.Handed.{IsAlive}
+use Rattle.sys_procs.proofs.Alive.{area_here}
 use Rattle.unix_core.specs.declared.world.World.{World}
-use Rattle.unix_core.specs.declared.process.Ending.{Ending}
-use Rattle.unix_core.specs.declared.process.Ending.TheVariants as ending
 use Rattle.unix_core.specs.declared.machine.Stage.{Stage}
 use Rattle.unix_core.specs.declared.machine.Stage.TheVariants as stage
-use Rattle.unix_core.specs.Unix.{Process, Clock, Unix, System, register, process_of}
-use Rattle.unix_core.specs.References.{references_of}
-use Rattle.unix_core.specs.Steps.{Steps, returns}
-use Rattle.unix_core.specs.Exec.{exec_init}
-use Rattle.unix_core.specs.Turn.{turn, ended_by, settled, ending_at, slot_of, turned, turned_by}
-use Rattle.unix_core.specs.Outside.{mode_of, tick_entry, timed, charged, clock_after, is_due, wakes, tick_of, calls, typed_of}
-use Rattle.unix_core.specs.Parts.{unix_of, unix_with, process_in, is_fresh, system_at, turn_at, IsFresh, IsRunning, IsAlone, IsGone, is_running, stage_after, IsMachine}
-use Rattle.unix_core.proofs.SettlingLemmas.{clock_in, RunsLow, ended_clock, ended_alone, left_gone, wakes_clock, wakes_alone, wakes_gone, ticks_clock, ticks_alone, ticks_gone}
+use Rattle.unix_core.specs.Unix.{process_of, with_process}
+use Rattle.unix_core.specs.Turn.{is_user}
+use Rattle.unix_core.specs.Outside.{mode_by, mode_of, timed_area, timed, charged}
+use Rattle.unix_core.specs.Parts.{unix_of, board_in, holding, with_regs, system_at, none_more, one_more, IsGood, IsReady, IsFresh, IsUser, IsRested, IsKernel}
+use Rattle.unix_core.proofs.LoanLemmas.{area_core}
+use Rattle.unix_core.proofs.PutLemmas.{IsLikeArea, with_images, alive_slot, unix_put, good_put, fresh_put}
 
--- What process 1 rests on looks neither at the table nor at the console.
-abbrev pub with_line : World → Terminal → World
-with_line w line = record w { files = record w.files { line = line } }
+-- Where no registers stand apart, the Unix is the world's.
+pub rested_unix : (at : Stage) (regs : Regs) (w : World) → IsRested at w → with_regs at regs (unix_of w) ≡ unix_of w
+rested_unix (stage.Fresh init) regs w r = refl
+rested_unix (stage.Running s) regs w r = absurd (r.apart s refl)
+rested_unix stage.Resting regs w r = refl
 
-fresh_with : (init : ℕ) (p : Process) (w : World) (line : Terminal) (t : Table) → IsFresh init p w → IsFresh init p (record (with_line w line) { table = t })
-unfolding references_of
-fresh_with init p w line t f = record {
-  no_data = f.no_data;
-  no_stack = f.no_stack;
-  counted = record { is_open = f.counted.is_open; numbers = f.counted.numbers; no_pipe = f.counted.no_pipe };
-  referred = f.referred;
-  found = f.found;
-  program = f.program;
+pub some_good : (at : Stage) (w : World) → IsRested at w → (more : ℕ → ℕ) × IsGood w more
+some_good (stage.Fresh init) w r = (one_more init, (r.fresh init refl).good)
+some_good (stage.Running s) w r = absurd (r.apart s refl)
+some_good stage.Resting w r = (none_more, r.good refl)
+
+-- who runs lives
+pub good_alive : (w : World) (more : ℕ → ℕ) (s : ℕ) → IsGood w more → w.procs.table.running ≡ Some s → 0 < s → IsAlive w.procs s
+good_alive w more s good runs user = record {
+  agree = good.agree;
+  above = user;
+  below = subst (λ o. MatchOption o ⊤ (λ r. r < 50)) runs good.agree.table.running;
+  image = good.running s runs user;
 }
 
-running_with : (p : Process) (w : World) (line : Terminal) (t : Table) → IsRunning p w → IsRunning p (record (with_line w line) { table = t })
-running_with p w line t r = record {
-  counted = record { is_open = r.counted.is_open; numbers = r.counted.numbers; no_pipe = r.counted.no_pipe };
-  referred = r.referred;
+pub rested_alive : (at : Stage) (w : World) (s : ℕ) → IsRested at w → w.procs.table.running ≡ Some s → 0 < s → IsAlive w.procs s
+rested_alive at w s r runs user = let good = some_good at w r in good_alive w good.0 s good.1 runs user
+
+-- The registers go back.
+pub put_is : (v : UArea) (regs : Regs) (codes : regs.cc < 16) (p : Process) → v ≡ p.u
+    → ◌≡◌ {A = UArea} (record v { r = regs.r; cc = regs.cc; codes = codes }) (holding regs p).u
+put_is v regs codes p is =
+    ap (λ (x : UArea). record x { r = regs.r; cc = regs.cc; codes = codes }) is
+    ∙ one_area (record p.u { r = regs.r; cc = regs.cc; codes = codes }) (holding regs p).u
+    refl refl refl refl refl refl refl refl refl refl refl refl refl refl refl refl refl refl refl
+
+like_held : (u : UArea) (regs : Regs) (p : Process) → u ≡ (holding regs p).u → IsLikeArea u p.u
+like_held u regs p is = record {
+  sizes = record {
+    text = ap (λ (v : UArea). v.text_size) is;
+    «data» = ap (λ (v : UArea). v.data_size) is;
+    stack = ap (λ (v : UArea). v.stack_size) is;
+  };
+  files = ap (λ (v : UArea). v.files) is;
+  dir = ap (λ (v : UArea). v.dir) is;
 }
 
-machine_with : (at : Stage) (p : Process) (w : World) (line : Terminal) (t : Table) → IsAlone t → (at ≡ stage.Ended → IsGone t)
-    → IsMachine at p w → IsMachine at p (record (with_line w line) { table = t })
-machine_with at p w line t alone gone m = record {
-  alone = alone;
-  fresh = λ init is. fresh_with init p w line t (m.fresh init is);
-  running = λ is. running_with p w line t (m.running is);
-  ended = gone;
-}
+module _ (w : World) (s : ℕ) (regs : Regs) (ready : IsReady w s) (u : UArea) (is : u ≡ (holding regs (process_of (unix_of w) s)).u)
+    (k : Kept) (kept : k ≡ with_area w.procs.images s u) where
+  abbrev p : Process
+  p = process_of (unix_of w) s
 
-pub machine_typed : (at : Stage) (p : Process) (w : World) (line : Terminal) → IsMachine at p w → IsMachine at p (with_line w line)
-machine_typed at p w line m = machine_with at p w line w.table m.alone m.ended m
+  alive : IsAlive w.procs s
+  alive = good_alive w none_more s ready.good ready.runs ready.user
 
--- the table is this one now
-pub machine_as : (at : Stage) (p : Process) (w : World) (t u : Table) → t ≡ u → (IsTable u → IsAlone u) → (at ≡ stage.Ended → IsGone u) → IsTable t
-    → IsMachine at p w → IsMachine at p (record w { table = t })
-machine_as at p w t u is alone gone table m =
-    machine_with at p w w.files.line t (subst IsAlone (sym is) (alone (subst IsTable is table))) (λ e. subst IsGone (sym is) (gone e)) m
+  pub back_system : system_at stage.Resting regs (with_images w k) ≡ system_at (stage.Running s) regs w
+  back_system =
+      let unix : unix_of (with_images w (with_area w.procs.images s u)) ≡ with_process (unix_of w) s (holding regs p) =
+      unix_put w s u alive ∙ ap (λ (v : UArea). with_process (unix_of w) s (record p { u = v })) is in
+      ap (λ l. system_at stage.Resting regs (with_images w l)) kept
+      ∙ (λ i. record { unix = unix i; board = record (board_in w) { core = area_core w.procs.images s u i }; is_fresh = false })
 
--- The system with another table whose clock is the same.
-with_table : (at : Stage) (p : Process) (w : World) (t : Table) → clock_in t ≡ clock_in w.table
-    → system_at at p (record w { table = t }) ≡ record (system_at at p w) { table = t }
-with_table at p w t same = ap (λ (c : Clock). record { unix = record (unix_of (process_in at p) w) { clock = c }; table = t; is_fresh = is_fresh at }) same
-
--- the system when the kernel has settled after that
-pub settled_next : (at : Stage) (p : Process) (w : World) (t u : Table) → t ≡ u → clock_in u ≡ clock_in w.table
-    → record (system_at at p (record w { table = t })) { table = (settled t).table } ≡ record (system_at at p w) { table = (settled u).table }
-settled_next at p w t u is clock =
-    ap (λ (m : System). record m { table = (settled t).table }) (with_table at p w t (ap clock_in is ∙ clock))
-    ∙ ap (λ (v : Table). record (system_at at p w) { table = (settled v).table }) is
-
--- A turn ends.
-goes_as : (at : Stage) (p : Process) (w : World) (t : Table) → is_running at ≡ true → IsAlone t → IsRunning p w → IsMachine at p (record w { table = t })
-goes_as at p w t began alone r = record {
-  alone = alone;
-  fresh = λ init is. let other : is_running at ≡ false = ap is_running is in absurd (cc (began, other));
-  running = λ is. running_with p w w.files.line t r;
-  ended = λ is. let other : is_running at ≡ false = ap is_running is in absurd (cc (began, other));
-}
-
-ended_as : (e : Ending) (at : Stage) (p : Process) (w : World) (t : Table) → is_running at ≡ true → IsAlone t → (e ≡ ending.Ended → IsGone t)
-    → (e ≢ ending.Ended → IsRunning p w) → IsMachine (stage_after e at) p (record w { table = t })
-ended_as ending.Next at p w t began alone gone r = goes_as at p w t began alone (r (λ is. cc is))
-ended_as ending.Trapped at p w t began alone gone r = goes_as at p w t began alone (r (λ is. cc is))
-ended_as (ending.Slept pri chan) at p w t began alone gone r = goes_as at p w t began alone (r (λ is. cc is))
-ended_as ending.Ended at p w t began alone gone r = record { alone = alone; fresh = λ init is. absurd (cc is); running = λ is. absurd (cc is); ended = λ is. gone refl }
-ended_as ending.NotBuilt at p w t began alone gone r = goes_as at p w t began alone (r (λ is. cc is))
-
-pub machine_ended : (e : Ending) (at at' : Stage) (p : Process) (w : World) (t : Table) → at' ≡ stage_after e at → is_running at ≡ true
-    → t ≡ (ended_by e w.table 1).table → IsTable t → IsAlone w.table → (e ≢ ending.Ended → IsRunning p w) → IsMachine at' p (record w { table = t })
-machine_ended e at at' p w t stage began is table alone r =
-    subst (λ s. IsMachine s p (record w { table = t })) (sym stage)
-    (ended_as e at p w t began (subst IsAlone (sym is) (ended_alone e w.table (subst IsTable is table) alone))
-    (λ ended. subst IsGone (sym (is ∙ ap (λ d. (ended_by d w.table 1).table) ended)) (left_gone w.table)) r)
-
-pub ended_next : (e : Ending) (at at' : Stage) (p : Process) (w : World) (t : Table) → at' ≡ stage_after e at → t ≡ (ended_by e w.table 1).table
-    → record (system_at at' p (record w { table = t })) { table = (settled t).table }
-    ≡ record (system_at (stage_after e at) p w) { table = (settled (ended_by e w.table 1).table).table }
-ended_next e at at' p w t stage is =
-    settled_next at' p w t (ended_by e w.table 1).table is (ended_clock e w.table)
-    ∙ ap (λ s. record (system_at s p w) { table = (settled (ended_by e w.table 1).table).table }) stage
-
-pub alive_after : (e : Ending) (at : Stage) → e ≢ ending.Ended → stage_after e at ≡ at
-alive_after ending.Next at alive = refl
-alive_after ending.Trapped at alive = refl
-alive_after (ending.Slept pri chan) at alive = refl
-alive_after ending.Ended at alive = absurd (alive refl)
-alive_after ending.NotBuilt at alive = refl
-
--- The first turn shows nothing.
-pub fresh_items : (init : ℕ) (at : Stage) (p : Process) (w : World) (u : Unix) → at ≡ stage.Fresh init → exec_init (unix_with p w) 1 ≡ returns u
-    → (turn (system_at at p w) 1).items ≡ []
-fresh_items init at p w u is exec = ap (λ s. (turn (system_at s p w) 1).items) is ∙ ap (λ (s : Steps). s.items) exec
-
-pub one_runs : (t : Table) (s : ℕ) → IsAlone t → t.running ≡ Some s → s ≢ 0 → t.running ≡ Some 1
-one_runs t s alone is other = by s is other (subst RunsLow is alone.runs)
-  where
-    by : (s : ℕ) → t.running ≡ Some s → s ≢ 0 → s < 2 → t.running ≡ Some 1
-    by zero is other low = absurd (other refl)
-    by (suc zero) is other low = is
-    by (suc (suc s)) is other low = absurd (omega (arith, low))
-
-process_is : (at : Stage) (p : Process) (w : World) → at ≢ stage.Ended → process_of (system_at at p w).unix 1 ≡ p
-process_is (stage.Fresh init) p w alive = refl
-process_is stage.Running p w alive = refl
-process_is stage.Waiting p w alive = refl
-process_is stage.Ended p w alive = absurd (alive refl)
-
--- A turn of process 1 has ended so, and has left these parts.
-module _ (at : Stage) (p : Process) (w : World) (e : Ending) (runs : w.table.running ≡ Some 1) (came : e ≡ (turn (system_at at p w) 1).ending) where
-  abbrev began : System
-  began = system_at at p w
-
-  pub turned_answer : (pc : ℕ) → pc ≡ register p 7 → IsMachine at p w → turned_by (ending_at pc e) false ≡ turned (turn_at at p w)
-  turned_answer pc is m =
-      ap (λ n. turned_by (ending_at n e) false) is
-      ∙ ap (λ (q : Process). turned_by (ending_at (register q 7) e) false) (sym (process_is at p w (λ ended. (m.ended ended).rests runs)))
-      ∙ ap (λ d. turned_by (ending_at (register (process_of began.unix 1) 7) d) false) came
-      ∙ ap (λ o. turned (slot_of began o)) (sym runs)
-
-  pub turned_next : (at' : Stage) (p' : Process) (w' : World) → e ≢ ending.Ended
-      → system_at at' p' w' ≡ record began { unix = (turn began 1).unix; is_fresh = false } → w'.table ≡ w.table
-      → record (system_at (stage_after e at') p' w') { table = (settled (ended_by e w'.table 1).table).table } ≡ (turn_at at p w).next
-  turned_next at' p' w' alive system table =
-      let after : Ending → Table → System = λ d t. record began { unix = (turn began 1).unix; is_fresh = false; table = (settled (ended_by d t 1).table).table } in
-      ap (λ s. record (system_at s p' w') { table = (settled (ended_by e w'.table 1).table).table }) (alive_after e at' alive)
-      ∙ ap (λ (n : System). record n { table = (settled (ended_by e w'.table 1).table).table }) system
-      ∙ ap (after e) table
-      ∙ ap (λ d. after d w.table) came
-      ∙ ap (λ o. (slot_of began o).next) (sym runs)
-
-  pub turned_items : (t : Table) → t ≡ w.table
-      → (turn began 1).items ++ ((ended_by e t 1).items ++ (settled (ended_by e t 1).table).items) ≡ (turn_at at p w).items
-  turned_items t table =
-      let shows : Ending → Table → List Item = λ d u. (turn began 1).items ++ ((ended_by d u 1).items ++ (settled (ended_by d u 1).table).items) in
-      ap (shows e) table ∙ ap (λ d. shows d w.table) came
-      ∙ sym (append_assoc (turn began 1).items _ _)
-      ∙ ap (λ o. (slot_of began o).items) (sym runs)
-
--- Sleepers are woken.
-pub machine_woken : (at : Stage) (p : Process) (w : World) (called : Bool) (chan : Chan) (t : Table) → t ≡ (wakes called chan w.table).table → IsTable t
-    → IsMachine at p w → IsMachine at p (record w { table = t })
-machine_woken at p w called chan t is table m =
-    machine_as at p w t (wakes called chan w.table).table is (λ good. wakes_alone called chan w.table good m.alone)
-    (λ e. wakes_gone called chan w.table (m.ended e)) table m
-
--- A byte is typed.
-pub typed_next : (at : Stage) (p : Process) (w : World) (byte : ℕ) (line : Terminal) (keyed : Keyed) (called : Bool) (woken : Table)
-    → line ≡ (typed w.files.line byte).terminal → keyed ≡ (typed w.files.line byte).keyed → called ≡ calls keyed
-    → woken ≡ (wakes called Keys w.table).table
-    → record (system_at at p (record (with_line w line) { table = woken })) { table = (settled woken).table } ≡ (typed_of (system_at at p w) byte).next
-typed_next at p w byte line keyed called woken terminal key call wake =
-    let m : System = system_at at p w in
-    let after : Terminal → Bool → System = λ l b. record m { unix = record m.unix { line = l }; table = (settled (wakes b Keys w.table).table).table } in
-    settled_next at p (with_line w line) woken (wakes called Keys w.table).table wake (wakes_clock called Keys w.table)
-    ∙ ap (λ l. after l called) terminal
-    ∙ ap (after (typed w.files.line byte).terminal) (call ∙ ap calls key)
-
-pub typed_items : (at : Stage) (p : Process) (w : World) (byte : ℕ) (keyed : Keyed) (called : Bool) (woken : Table)
-    → keyed ≡ (typed w.files.line byte).keyed → called ≡ calls keyed → woken ≡ (wakes called Keys w.table).table
-    → sent 0 (typed w.files.line byte).shown ++ (wakes called Keys w.table).items ++ (settled woken).items ≡ (typed_of (system_at at p w) byte).items
-typed_items at p w byte keyed called woken key call wake =
-    let k : Typed = typed w.files.line byte in
-    let shown : Bool → Table → List Item = λ b t. sent 0 k.shown ++ (wakes b Keys w.table).items ++ (settled t).items in
-    ap (shown called) wake ∙ ap (λ b. shown b (wakes b Keys w.table).table) (call ∙ ap calls key)
-
--- Process 1 is charged with a tick.
-fresh_timed : (mode : Mode) (init : ℕ) (p : Process) (w : World) → IsFresh init p w → IsFresh init (timed mode p) w
-unfolding references_of
-fresh_timed User init p w f = record {
-  no_data = f.no_data;
-  no_stack = f.no_stack;
-  counted = record { is_open = f.counted.is_open; numbers = f.counted.numbers; no_pipe = f.counted.no_pipe };
-  referred = f.referred;
-  found = f.found;
-  program = f.program;
-}
-fresh_timed Kernel init p w f = record {
-  no_data = f.no_data;
-  no_stack = f.no_stack;
-  counted = record { is_open = f.counted.is_open; numbers = f.counted.numbers; no_pipe = f.counted.no_pipe };
-  referred = f.referred;
-  found = f.found;
-  program = f.program;
-}
-fresh_timed Idle init p w f = f
-
-running_timed : (mode : Mode) (p : Process) (w : World) → IsRunning p w → IsRunning (timed mode p) w
-running_timed User p w r = record {
-  counted = record { is_open = r.counted.is_open; numbers = r.counted.numbers; no_pipe = r.counted.no_pipe };
-  referred = r.referred;
-}
-running_timed Kernel p w r = record {
-  counted = record { is_open = r.counted.is_open; numbers = r.counted.numbers; no_pipe = r.counted.no_pipe };
-  referred = r.referred;
-}
-running_timed Idle p w r = r
-
-machine_timed : (mode : Mode) (at : Stage) (p : Process) (w : World) → IsMachine at p w → IsMachine at (timed mode p) w
-machine_timed mode at p w m = record {
-  alone = m.alone;
-  fresh = λ init is. fresh_timed mode init p w (m.fresh init is);
-  running = λ is. running_timed mode p w (m.running is);
-  ended = m.ended;
-}
-
-unix_timed : (mode : Mode) (at : Stage) (p : Process) (w : World) → at ≢ stage.Ended
-    → unix_of (process_in at (timed mode p)) w ≡ charged (unix_of (process_in at p) w) mode (Some 1)
-unix_timed mode (stage.Fresh init) p w alive = refl
-unix_timed mode stage.Running p w alive = refl
-unix_timed mode stage.Waiting p w alive = refl
-unix_timed mode stage.Ended p w alive = absurd (alive refl)
-
--- a process charged where it runs
-module _ (mode : Mode) (at : Stage) (p p' : Process) (w : World) (m : IsMachine at p w)
-    (runs : w.table.running ≡ Some 1 → p' ≡ timed mode p) (rests : w.table.running ≢ Some 1 → p' ≡ p) where
-  pub machine_charged : IsMachine at p' w
-  machine_charged = by w.table.running refl m.alone.runs
-    where
-      by : (o : Option ℕ) → w.table.running ≡ o → RunsLow o → IsMachine at p' w
-      by None is low = subst (λ q. IsMachine at q w) (sym (rests (λ other. cc (is, other)))) m
-      by (Some zero) is low = subst (λ q. IsMachine at q w) (sym (rests (λ other. cc (is, other)))) m
-      by (Some (suc zero)) is low = subst (λ q. IsMachine at q w) (sym (runs is)) (machine_timed mode at p w m)
-      by (Some (suc (suc s))) is low = absurd (omega (arith, low))
-
-  pub unix_charged : unix_of (process_in at p') w ≡ charged (unix_of (process_in at p) w) mode w.table.running
-  unix_charged = by w.table.running refl m.alone.runs
-    where
-      now : Unix
-      now = unix_of (process_in at p) w
-
-      by : (o : Option ℕ) → w.table.running ≡ o → RunsLow o → unix_of (process_in at p') w ≡ charged now mode o
-      by None is low = ap (λ q. unix_of (process_in at q) w) (rests (λ other. cc (is, other)))
-      by (Some zero) is low = ap (λ q. unix_of (process_in at q) w) (rests (λ other. cc (is, other)))
-      by (Some (suc zero)) is low = ap (λ q. unix_of (process_in at q) w) (runs is) ∙ unix_timed mode at p w (λ ended. (m.ended ended).rests is)
-      by (Some (suc (suc s))) is low = absurd (omega (arith, low))
-
--- A tick comes.
-pub second_due : (t : Table) (second : Second) (due : Bool) → second ≡ told t → ((tout : Bool) → second ≡ Yes tout → due ≡ tout) → (second ≡ No → due ≡ false)
-    → due ≡ is_due (clock_in t)
-second_due t second due is ends within = by (t.ticks == 59) is
-  where
-    at_tout : Bool
-    at_tout = (t.now + 1) % 2 ^ 32 == t.tout
-
-    by : (b : Bool) → second ≡ (if b then Yes at_tout else No) → due ≡ (b && at_tout)
-    by true is = ends at_tout is
-    by false is = within is
-
-pub machine_ticked : (mode : Mode) (at : Stage) (p : Process) (w : World) (t : Table) → t ≡ tick mode w.table → IsTable t → IsMachine at p w → IsMachine at p (record w { table = t })
-machine_ticked mode at p w t is table m =
-    machine_as at p w t (tick mode w.table) is (λ good. ticks_alone mode w.table good m.alone) (λ e. ticks_gone mode w.table (m.ended e)) table m
-
-module _ (at : Stage) (p : Process) (w : World) (mode : Mode) (due : Bool) (ticked woken : Table)
-    (is_mode : mode ≡ mode_of (system_at at p w)) (now_due : due ≡ is_due (clock_in w.table)) (is_ticked : ticked ≡ tick mode w.table)
-    (is_woken : woken ≡ (wakes due Tout ticked).table) where
-  abbrev before : System
-  before = system_at at p w
-
-  abbrev after : Mode → Bool → System
-  after k d = record before {
-    unix = record (charged before.unix k w.table.running) { clock = clock_after before.unix.clock };
-    table = (settled (wakes d Tout (tick k w.table)).table).table;
+  pub back_rested : IsRested stage.Resting (with_images w k)
+  back_rested = record {
+    apart = λ r e. absurd (cc e);
+    fresh = λ init e. absurd (cc e);
+    good = λ e. subst (λ l. IsGood (with_images w l) none_more) (sym kept) (good_put w s u alive (like_held u regs p is) none_more ready.good);
   }
 
-  pub tick_next : (p' : Process) → unix_of (process_in at p') w ≡ charged (unix_of (process_in at p) w) mode w.table.running
-      → record (system_at at p' (record w { table = woken })) { table = (settled woken).table } ≡ (tick_of (system_at at p w)).next
-  tick_next p' unix =
-      let clock : clock_in woken ≡ clock_after (clock_in w.table) =
-      ap clock_in is_woken ∙ wakes_clock due Tout ticked ∙ ap clock_in is_ticked ∙ ticks_clock mode w.table in
-      ap (λ (c : Clock). record { unix = record (unix_of (process_in at p') w) { clock = c }; table = (settled woken).table; is_fresh = is_fresh at }) clock
-      ∙ ap (λ (u : Unix). record { unix = record u { clock = clock_after (clock_in w.table) }; table = (settled woken).table; is_fresh = is_fresh at }) unix
-      ∙ ap (λ (t : Table). record (after mode due) { table = (settled t).table }) (is_woken ∙ ap (λ t. (wakes due Tout t).table) is_ticked)
-      ∙ ap (λ k. after k due) is_mode ∙ ap (after (mode_of before)) now_due
+-- The registers are taken out.
+module _ (w : World) (s : ℕ) (regs : Regs) (ready : IsReady w s) (r : regs.r ≡ (area_of w.procs.images s).r) (codes : regs.cc ≡ (area_of w.procs.images s).cc) where
+  abbrev its : Process
+  its = process_of (unix_of w) s
 
-  abbrev shown : Mode → Bool → List Item
-  shown k d = Log (tick_entry k) ∷ (wakes d Tout (tick k w.table)).items ++ (settled (wakes d Tout (tick k w.table)).table).items
+  own : area_of w.procs.images s ≡ its.u
+  own = area_here w.procs s (good_alive w none_more s ready.good ready.runs ready.user)
 
-  pub tick_items : (e : Entry) → e ≡ tick_entry mode → Log e ∷ (wakes due Tout ticked).items ++ (settled woken).items ≡ (tick_of (system_at at p w)).items
-  tick_items e is =
-      ap (λ (x : Entry). Log x ∷ (wakes due Tout ticked).items ++ (settled woken).items) is
-      ∙ ap (λ (t : Table). Log (tick_entry mode) ∷ (wakes due Tout ticked).items ++ (settled t).items) is_woken
-      ∙ ap (λ (t : Table). Log (tick_entry mode) ∷ (wakes due Tout t).items ++ (settled (wakes due Tout t).table).items) is_ticked
-      ∙ ap (λ k. shown k due) is_mode ∙ ap (shown (mode_of before)) now_due
+  held_same : holding regs its ≡ its
+  held_same = ap (λ (v : UArea). record its { u = v }) (one_area (holding regs its).u its.u
+      (r ∙ ap (λ (v : UArea). v.r) own) (codes ∙ ap (λ (v : UArea). v.cc) own)
+      refl refl refl refl refl refl refl refl refl refl refl refl refl refl refl refl refl)
+
+  pub out_system : (old : Regs) → system_at (stage.Running s) regs w ≡ system_at stage.Resting old w
+  out_system old =
+      let slot = alive_slot w s (good_alive w none_more s ready.good ready.runs ready.user) in
+      let same : set (unix_of w).processes s (Some (holding regs its)) ≡ (unix_of w).processes =
+      ap (λ (q : Process). set (unix_of w).processes s (Some q)) held_same
+      ∙ ap (set (unix_of w).processes s) (sym slot) ∙ set-get_or (unix_of w).processes s None in
+      λ i. record { unix = record (unix_of w) { processes = same i }; board = board_in w; is_fresh = false }
+
+abbrev slot_or : Stage → ℕ
+slot_or (stage.Fresh init) = 0
+slot_or (stage.Running s) = s
+slot_or stage.Resting = 0
+
+pub runs_kernel : (w : World) (s : ℕ) → IsUser s w → IsKernel (stage.Running s) w
+runs_kernel w s user = record {
+  fresh = λ init e. absurd (cc e);
+  running = λ r e. subst (λ x. IsUser x w) (ap slot_or e) user;
+  resting = λ e. absurd (cc e);
+  settled = λ r e. user.settled;
+  calls = λ r e. absurd (cc e);
+}
+
+pub user_is : (w : World) (s : ℕ) (b : Bool) → IsAlive w.procs s → ((area_of w.procs.images s).pending == 0) ≡ b → is_user (process_of (unix_of w) s) ≡ b
+user_is w s b alive is = ap (λ (v : UArea). v.pending == 0) (sym (area_here w.procs s alive)) ∙ is
+
+abbrev one_of : Option ℕ → ℕ
+one_of None = 0
+one_of (Some s) = s
+
+pub calls_kernel : (w : World) (s : ℕ) → IsReady w s → settle w.procs.table ≡ None → is_user (process_of (unix_of w) s) ≡ false → IsKernel stage.Resting w
+calls_kernel w s ready settled calls = record {
+  fresh = λ init e. absurd (cc e);
+  running = λ r e. absurd (cc e);
+  resting = λ e. ready.good;
+  settled = λ r e. settled;
+  calls = λ r e runs above. subst (λ x. is_user (process_of (unix_of w) x) ≡ false) (ap one_of (sym ready.runs ∙ runs)) calls;
+}
+
+-- where a tick comes
+abbrev mode_if : Bool → Mode
+mode_if b = if b then User else Kernel
+
+pub mode_is : (at : Stage) (regs : Regs) (w : World) (s : ℕ) (b : Bool) → IsRested at w → w.procs.table.running ≡ Some s → 0 < s
+    → ((area_of w.procs.images s).pending == 0) ≡ b → mode_of (system_at at regs w) ≡ (if b then User else Kernel)
+mode_is at regs w s b rested runs above is =
+    let alive = rested_alive at w s rested runs above in
+    ap (λ x. mode_by x w.procs.table.running) (rested_unix at regs w rested)
+    ∙ ap (mode_by (unix_of w)) runs
+    ∙ ap (λ c. if c then Kernel else (mode_if (is_user (process_of (unix_of w) s)))) (ne_eqb s 0 (λ e. omega (arith, e, above)))
+    ∙ ap mode_if (user_is w s b alive is)
+
+-- The process that runs is charged with a tick.
+like_timed : (mode : Mode) (u : UArea) → IsLikeArea (timed_area mode u) u
+like_timed User u = record { sizes = record { text = refl; «data» = refl; stack = refl }; files = refl; dir = refl }
+like_timed Kernel u = record { sizes = record { text = refl; «data» = refl; stack = refl }; files = refl; dir = refl }
+like_timed Idle u = record { sizes = record { text = refl; «data» = refl; stack = refl }; files = refl; dir = refl }
+
+module _ (mode : Mode) (at : Stage) (w : World) (s : ℕ) (rested : IsRested at w) (runs : w.procs.table.running ≡ Some s) (above : 0 < s)
+    (u : UArea) (is : u ≡ timed_area mode (area_of w.procs.images s)) (k : Kept) (kept : k ≡ with_area w.procs.images s u) where
+  abbrev who : Process
+  who = process_of (unix_of w) s
+
+  lives : IsAlive w.procs s
+  lives = rested_alive at w s rested runs above
+
+  charge_is : u ≡ timed_area mode who.u
+  charge_is = is ∙ ap (timed_area mode) (area_here w.procs s lives)
+
+  charge_like : IsLikeArea u who.u
+  charge_like = subst (λ v. IsLikeArea v who.u) (sym charge_is) (like_timed mode who.u)
+
+  pub charge_unix : unix_of (with_images w k) ≡ charged (unix_of w) mode w.procs.table.running
+  charge_unix =
+      ap (λ l. unix_of (with_images w l)) kept
+      ∙ unix_put w s u lives
+      ∙ ap (λ (v : UArea). with_process (unix_of w) s (record who { u = v })) charge_is
+      ∙ sym (ap (charged (unix_of w) mode) runs
+      ∙ ap (λ c. if c then unix_of w else with_process (unix_of w) s (timed mode who)) (ne_eqb s 0 (λ e. omega (arith, e, above))))
+
+  pub charge_board : board_in (with_images w k) ≡ board_in w
+  charge_board = ap (λ l. board_in (with_images w l)) kept ∙ (λ i. record (board_in w) { core = area_core w.procs.images s u i })
+
+  pub charge_rested : IsRested at (with_images w k)
+  charge_rested = record {
+    apart = rested.apart;
+    fresh = λ init e. subst (λ l. IsFresh init (with_images w l)) (sym kept) (fresh_put w s u lives charge_like init (rested.fresh init e));
+    good = λ e. subst (λ l. IsGood (with_images w l) none_more) (sym kept) (good_put w s u lives charge_like none_more (rested.good e));
+  }

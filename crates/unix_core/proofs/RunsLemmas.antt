@@ -1,14 +1,18 @@
--- How a run over a list of events is made of runs over its parts.
+-- How a run over a list of events is made of runs over its parts, and what it may end at.
+use Rattle.std.specs.Bool.{⊤}
 use Rattle.std.proofs.Common.{◌≡◌, ℕ, zero, suc, Bool, true, false, List, [], ◌∷◌, ◌++◌, Option, Some, None, refl, sym, ◌∙◌, ap, append_assoc}
 use Rattle.std.proofs.lemmas.List.{append-nil}
 use Rattle.v6_base.specs.Trace.{Item}
-use Rattle.unix_core.specs.declared.process.Ending.{Ending}
-use Rattle.unix_core.specs.declared.process.Ending.TheVariants as came
+use Rattle.pick_rules.specs.Logged.{Stop, logged}
+use Rattle.sys_procs.specs.Process.{register}
+use Rattle.unix_core.specs.declared.ending.Ending.{Ending}
+use Rattle.unix_core.specs.declared.ending.Ending.TheVariants as came
 use Rattle.unix_core.specs.declared.turned.Unbuilt.{Unbuilt}
 use Rattle.unix_core.specs.declared.turned.Unbuilt.TheVariants as unbuilt
 use Rattle.unix_core.specs.declared.turned.Turned.TheVariants.{NotBuilt}
-use Rattle.unix_core.specs.Unix.{System, register, process_of}
-use Rattle.unix_core.specs.Turn.{Turn, ending_at, slot_of, turn, turned_by, turned}
+use Rattle.unix_core.specs.Unix.{Unix, System, process_of}
+use Rattle.unix_core.specs.Steps.{Steps}
+use Rattle.unix_core.specs.Turn.{Turn, ending_at, ending_by, end_effects, turn_of, slot_of, turn, turned_by, turned}
 use Rattle.unix_core.specs.Runs.{Event, Slot, Tick, Byte, Switch, Course, begun, event_of, start_of, goes_on_by, unless_ended, after_event, course, started, after_items}
 
 -- first these events and then those
@@ -73,38 +77,50 @@ goes_by (Some place) is_idle built = absurd (built place refl)
 pub turn_goes : (t : Turn) → ((place : Unbuilt) → turned t ≡ NotBuilt place → ⊥) → t.ending ≡ None
 turn_goes t built = goes_by t.ending t.is_idle built
 
--- a run ends at a pc, if it does before its last event
-abbrev pub IsAt : Option Unbuilt → Type 0
-IsAt None = Unit {0}
-IsAt (Some unbuilt.Image) = ⊥
-IsAt (Some (unbuilt.Line n)) = ⊥
-IsAt (Some (unbuilt.At pc)) = Unit {0}
+-- what a run may end at before its last event: a place in a program, or want of room in core
+abbrev pub IsMet : Option Unbuilt → Type 0
+IsMet None = ⊤
+IsMet (Some unbuilt.Image) = ⊥
+IsMet (Some (unbuilt.Line n)) = ⊥
+IsMet (Some (unbuilt.At pc)) = ⊤
+IsMet (Some unbuilt.Room) = ⊤
 
-ending_is : (pc : ℕ) (e : Ending) → IsAt (ending_at pc e)
+ending_is : (pc : ℕ) (e : Ending) → IsMet (ending_at pc e)
 ending_is pc came.Next = tt
 ending_is pc came.Trapped = tt
 ending_is pc (came.Slept pri chan) = tt
 ending_is pc came.Ended = tt
+ending_is pc came.NoRoom = tt
 ending_is pc came.NotBuilt = tt
 
-slot_is : (m : System) (slot : Option ℕ) → IsAt (slot_of m slot).ending
+stop_is : (pc : ℕ) (stop : Option (Stop Unix)) (e : Ending) → IsMet (ending_by pc stop e)
+stop_is pc None e = ending_is pc e
+stop_is pc (Some stop) e = tt
+
+turn_is : (m : System) (slot : ℕ) (steps : Steps) → IsMet (turn_of m slot steps).ending
+turn_is m slot steps =
+    let pc : ℕ = register (process_of m.unix slot) 7 in
+    stop_is pc (logged m.board (steps.effects ++ end_effects slot steps.ending)).stop steps.ending
+
+slot_is : (m : System) (slot : Option ℕ) → IsMet (slot_of m slot).ending
 slot_is m None = tt
 slot_is m (Some zero) = tt
-slot_is m (Some (suc s)) = ending_is (register (process_of m.unix (suc s)) 7) (turn m (suc s)).ending
+slot_is m (Some (suc s)) = turn_is m (suc s) (turn m (suc s))
 
-event_is : (event : Event) (m : System) → IsAt (event_of event m).ending
-event_is Slot m = slot_is m m.table.running
+event_is : (event : Event) (m : System) → IsMet (event_of event m).ending
+event_is Slot m = slot_is m m.board.table.running
 event_is Tick m = tt
 event_is (Byte byte) m = tt
 event_is (Switch word) m = tt
 
-step_is : (c : Course) (ended : Option Unbuilt) (event : Event) → IsAt c.ending → IsAt (unless_ended ended c event).ending
-step_is c None event at = event_is event c.system
-step_is c (Some place) event at = at
+step_is : (c : Course) (ended : Option Unbuilt) (event : Event) → IsMet c.ending
+    → IsMet (unless_ended ended c event).ending
+step_is c None event met = event_is event c.system
+step_is c (Some place) event met = met
 
-pub course_is : (c : Course) (events : List Event) → IsAt c.ending → IsAt (course c events).ending
-course_is c [] at = at
-course_is c (event ∷ events) at = course_is (after_event c event) events (step_is c c.ending event at)
+pub course_is : (c : Course) (events : List Event) → IsMet c.ending → IsMet (course c events).ending
+course_is c [] met = met
+course_is c (event ∷ events) met = course_is (after_event c event) events (step_is c c.ending event met)
 
 -- a tick, a byte and the switches end no run
 pub tick_goes : (m : System) → (event_of Tick m).ending ≡ None

@@ -1,110 +1,144 @@
--- The slot in which process 1 executes an instruction.
-use Rattle.std.proofs.Common.{◌≡◌, ◌≢◌, ◌∙◌, ◌==◌, ℕ, false, ◌++◌, [], Option, refl, sym, ap, subst, append_assoc}
-use Rattle.std.specs.Prelude.{if◌then◌else◌}
+-- The log of a turn of a process: its steps, and the line with which it ends.
+use Rattle.std.proofs.Common.{◌≡◌, ◌∙◌, ℕ, false, if◌then◌else◌, List, [], ◌∷◌, ◌++◌, fold, Option, Some, None, refl, sym, ap, subst, append_assoc}
 use Rattle.std.proofs.lemmas.List.{append-nil}
+use Rattle.std.proofs.lemmas.List.Sums.{fold-append}
+use Rattle.v6_base.specs.Trace.{Item, Log, Took, Taken}
+use Rattle.v6_base.proofs.Took.{took_then}
 use Rattle.v6_base.specs.declared.entry.Entry.{Entry}
-use Rattle.pick_rules.specs.declared.table.Table.{Table}
-use Rattle.pick_rules.specs.Choice.{settle}
-use Rattle.unix_core.specs.declared.world.World.{World}
-use Rattle.unix_core.specs.declared.process.Ending.{Ending}
-use Rattle.unix_core.specs.declared.process.Ending.TheVariants.{Next, Trapped, Slept, Ended, NotBuilt}
+use Rattle.v6_base.specs.declared.entry.Entry.TheVariants as line
+use Rattle.pick_rules.specs.Board.{Board}
+use Rattle.pick_rules.specs.Apply.{applied}
+use Rattle.pick_rules.specs.Effects.{Effect, Show, came}
+use Rattle.pick_rules.specs.Logged.{Logged, Stop, logged, log_one, with_what_came, with_item, unless_stopped, left_by}
+use Rattle.pdp_step.specs.declared.outcome.Outcome.{Outcome}
+use Rattle.pdp_step.specs.declared.regs.Regs.{Regs}
+use Rattle.pdp_step.specs.Instruction.{instr}
+use Rattle.sys_procs.specs.Process.{register}
+use Rattle.unix_core.specs.declared.ending.Ending.{Ending}
+use Rattle.unix_core.specs.declared.ending.Ending.TheVariants as ending
 use Rattle.unix_core.specs.declared.machine.Stage.TheVariants as stage
-use Rattle.unix_core.specs.declared.turned.Turned.TheVariants.{Ran}
-use Rattle.unix_core.specs.Unix.{Process, Unix, System, register}
+use Rattle.unix_core.specs.declared.world.World.{World}
+use Rattle.unix_core.specs.Unix.{Unix, System, process_of, with_process}
 use Rattle.unix_core.specs.Steps.{Steps}
 use Rattle.unix_core.specs.Calls.{resumed}
-use Rattle.pdp_step.specs.declared.outcome.Outcome.{Outcome}
-use Rattle.pdp_step.specs.Instruction.{instr}
-use Rattle.unix_core.specs.Turn.{Turn, Logged, machine_of, with_machine, comes_to, instruction, ended_by, settled, settled_as, ending_at, turn_of, turned, turned_by, slot_of}
-use Rattle.unix_core.specs.Runs.{Slot, event_of}
-use Rattle.unix_core.specs.Parts.{unix_with, unix_after, system_at, stage_after, IsRunning, IsAlone, IsUser, IsKernel}
+use Rattle.unix_core.specs.Exec.{exec_init}
+use Rattle.unix_core.specs.Turn.{machine_of, with_machine, is_user, comes_to, instruction, has_room, turn, end_effects, settled, ending_at, ending_by, turn_of, turned_by, turned}
+use Rattle.unix_core.specs.Parts.{unix_of, board_in, system_at, ended_as, HasCome, HasStepped}
+use Rattle.unix_core.proofs.BoardLemmas.{logged_line}
 
--- what a step comes to
-pub came : (p q : Process) (w : World) (o : Outcome) → q ≡ with_machine p (instr (machine_of p)).machine → o ≡ (instr (machine_of p)).outcome
-    → comes_to (unix_with q w) 1 o ≡ instruction (unix_with p w) 1
-came p q w o machine outcome =
-    ap (λ x. comes_to (unix_with x w) 1 o) machine ∙ ap (comes_to (unix_with (with_machine p (instr (machine_of p)).machine) w) 1) outcome
+-- after a panic nothing is logged
+stopped_one : (l : Logged Unix) (stop : Stop Unix) (e : Effect Unix) → l.stop ≡ Some stop → log_one l e ≡ l
+unfolding log_one
+stopped_one l stop e is = ap (λ o. unless_stopped o l (with_what_came l (came l.board e))) is
 
-module _ (p : Process) (w : World) (user : IsUser p w.table) where
-  abbrev before : System
-  before = system_at stage.Running p w
+stopped_all : (es : List (Effect Unix)) (l : Logged Unix) (stop : Stop Unix) → l.stop ≡ Some stop → fold log_one l es ≡ l
+stopped_all [] l stop is = refl
+stopped_all (e ∷ es) l stop is = ap (λ x. fold log_one x es) (stopped_one l stop e is) ∙ stopped_all es l stop is
 
-  abbrev done : Steps
-  done = instruction (unix_with p w) 1
+line_more : (l : Logged Unix) (e : Entry) → l.stop ≡ None → log_one l (Show (Log e)) ≡ record { items = l.items ++ Log e ∷ []; board = applied l.board e; stop = l.stop }
+unfolding log_one came
+line_more l e is = ap (λ o. unless_stopped o l (with_item l (Log e))) is
 
-  -- It is the turn of process 1, which is in user mode.
-  pub user_slot : event_of Slot before ≡ turn_of before 1 done
-  user_slot = ap (slot_of before) user.runs ∙ ap (λ b. turn_of before 1 (if b then done else resumed before.unix 1)) user.user
+-- a log, and what the end of the turn adds to it
+abbrev pub ended_log : Logged Unix → ℕ → Ending → Logged Unix
+ended_log l s e = record {
+  items = l.items ++ (logged {W = Unix} l.board (end_effects s e)).items;
+  board = (logged {W = Unix} l.board (end_effects s e)).board;
+  stop = l.stop;
+}
 
-  -- the table after it is that with nobody to settle for
-  stays : settled w.table ≡ record { items = []; table = w.table }
-  stays = ap (λ (o : Option Entry). settled_as o w.table) user.settled
+nothing_more : (l : Logged Unix) → l ≡ record l { items = l.items ++ [] }
+nothing_more l = ap (λ i. record l { items = i }) (sym (append-nil l.items))
 
-  module _ (p' : Process) (w' : World) (e : Ending) (ending : e ≡ done.ending) (unix : unix_after e p' w' ≡ done.unix) (table : w'.table ≡ w.table) where
-    abbrev ended : Ending → Turn
-    ended d = turn_of before 1 (record done { ending = d })
+one_more_line : (l : Logged Unix) (e : Entry) → l.stop ≡ None → log_one l (Show (Log e))
+    ≡ record l { items = l.items ++ (logged {W = Unix} l.board (Show (Log e) ∷ [])).items; board = (logged {W = Unix} l.board (Show (Log e) ∷ [])).board }
+one_more_line l e is = line_more l e is ∙ ap (λ (x : Logged Unix). record l { items = l.items ++ x.items; board = x.board }) (sym (logged_line l.board e))
 
-    ended_so : ended e ≡ event_of Slot before
-    ended_so = ap ended ending ∙ sym user_slot
+end_log : (l : Logged Unix) (s : ℕ) (e : Ending) → l.stop ≡ None → fold log_one l (end_effects s e) ≡ ended_log l s e
+end_log l s ending.Next is = nothing_more l
+end_log l s ending.Trapped is = one_more_line l (line.Trap s) is
+end_log l s (ending.Slept pri chan) is = one_more_line l (line.Sleep s pri chan) is
+end_log l s ending.Ended is = nothing_more l
+end_log l s ending.NoRoom is = nothing_more l
+end_log l s ending.NotBuilt is = nothing_more l
 
-    -- A plain instruction logs nothing, and the table stays.
-    module _ (next : e ≡ Next) where
-      went_on : ended Next ≡ event_of Slot before
-      went_on = ap ended (sym next) ∙ ended_so
+-- The log of both.
+pub turn_log : (b : Board) (es : List (Effect Unix)) (s : ℕ) (own e : Ending) → e ≡ ended_as (logged b es).stop own
+    → logged b (es ++ end_effects s own) ≡ ended_log (logged b es) s e
+turn_log b es s own e is =
+    fold-append log_one (record { items = []; board = b; stop = None }) es (end_effects s own) ∙ by (logged b es).stop refl
+  where
+    l : Logged Unix
+    l = logged b es
 
-      pub next_answer : Ran ≡ turned (event_of Slot before)
-      next_answer = ap turned went_on
+    by : (o : Option (Stop Unix)) → l.stop ≡ o → fold log_one l (end_effects s own) ≡ ended_log l s e
+    by None none = end_log l s own none ∙ ap (ended_log l s) (sym (is ∙ ap (λ o. ended_as o own) none))
+    by (Some stop) some =
+        stopped_all (end_effects s own) l stop some ∙ nothing_more l
+        ∙ ap (ended_log l s) (sym (is ∙ ap (λ o. ended_as o own) some))
 
-      pub next_system : system_at stage.Running p' w' ≡ (event_of Slot before).next
-      next_system =
-          ap (λ (t : Table). record { unix = unix_with p' w'; table = t; is_fresh = false }) table
-          ∙ ap (λ (u : Unix). record { unix = u; table = w.table; is_fresh = false }) (ap (λ d. unix_after d p' w') (sym next) ∙ unix)
-          ∙ ap (λ (l : Logged). record { unix = done.unix; table = l.table; is_fresh = false }) (sym stays)
-          ∙ ap (λ (t : Turn). t.next) went_on
+-- how a turn ends, where it panicked or not
+ending_same : (pc : ℕ) (o : Option (Stop Unix)) (own : Ending) → ending_at pc (ended_as o own) ≡ ending_by pc o own
+ending_same pc None own = refl
+ending_same pc (Some stop) own = refl
 
-      pub next_items : done.items ≡ (event_of Slot before).items
-      next_items =
-          sym (append-nil done.items) ∙ sym (append-nil (done.items ++ [])) ∙ ap (λ (l : Logged). done.items ++ [] ++ l.items) (sym stays)
-          ∙ ap (λ (t : Turn). t.items) went_on
+-- A turn has come to this, and has ended.
+module _ (m : System) (s : ℕ) (steps : Steps) (e : Ending) (w : World) (come : HasCome m.board steps e w) where
+  abbrev taken : Logged Unix
+  taken = logged m.board steps.effects
 
-      pub next_kernel : IsAlone w.table → (e ≢ Ended → IsRunning p' w') → (e ≡ Next → p'.u.pending ≡ p.u.pending) → IsKernel stage.Running p' w'
-      next_kernel alone runs pending = record {
-        machine = record {
-          alone = subst IsAlone (sym table) alone;
-          fresh = λ init is. absurd (cc is);
-          running = λ is. runs (λ over. cc (next, over));
-          ended = λ is. absurd (cc is);
-        };
-        user = λ is. record {
-          runs = ap (λ (t : Table). t.running) table ∙ user.runs;
-          user = ap (λ n. n == 0) (pending next) ∙ user.user;
-          settled = ap settle table ∙ user.settled;
-        };
-        waiting = λ is. absurd (cc is);
-      }
+  abbrev whole : Logged Unix
+  whole = logged m.board (steps.effects ++ end_effects s steps.ending)
 
-    -- Another turn ends, and the kernel settles.
-    pub end_answer : (at : ℕ) → at ≡ register p 7 → turned_by (ending_at at e) false ≡ turned (event_of Slot before)
-    end_answer at pc = ap (λ n. turned_by (ending_at n e) false) pc ∙ ap turned ended_so
+  whole_is : whole ≡ ended_log taken s e
+  whole_is = turn_log m.board steps.effects s steps.ending e come.ending
 
-    after_is : (d : Ending) → system_at (stage_after d stage.Running) p' w' ≡ record { unix = unix_after d p' w'; table = w'.table; is_fresh = false }
-    after_is Next = refl
-    after_is Trapped = refl
-    after_is (Slept pri chan) = refl
-    after_is Ended = refl
-    after_is NotBuilt = refl
+  pub turn_answer : turned_by (ending_at (register (process_of m.unix s) 7) e) false ≡ turned (turn_of m s steps)
+  turn_answer =
+      let pc : ℕ = register (process_of m.unix s) 7 in
+      ap (λ x. turned_by (ending_at pc x) false) come.ending
+      ∙ ap (λ o. turned_by o false) (ending_same pc taken.stop steps.ending)
+      ∙ ap (λ (x : Logged Unix). turned_by (ending_by pc x.stop steps.ending) false) (sym whole_is)
 
-    abbrev over : Table → Logged
-    over t = ended_by e t 1
+  pub turn_next : (now : System) → now ≡ record { unix = unix_of w; board = (settled (logged {W = Unix} (board_in w) (end_effects s e)).board).board; is_fresh = false }
+      → now ≡ (turn_of m s steps).next
+  turn_next now final =
+      final
+      ∙ (λ i. record { unix = come.unix i; board = (settled (logged {W = Unix} (come.board i) (end_effects s e)).board).board; is_fresh = false })
+      ∙ ap (λ (x : Logged Unix). record m { unix = left_by x.stop steps.unix; board = (settled x.board).board; is_fresh = false }) (sym whole_is)
 
-    pub end_system : record (system_at (stage_after e stage.Running) p' w') { table = (settled (over w'.table).table).table } ≡ (event_of Slot before).next
-    end_system =
-        ap (λ (m : System). record m { table = (settled (over w'.table).table).table }) (after_is e)
-        ∙ ap (λ (t : Table). record { unix = unix_after e p' w'; table = (settled (over t).table).table; is_fresh = false }) table
-        ∙ ap (λ (u : Unix). record { unix = u; table = (settled (over w.table).table).table; is_fresh = false }) unix
-        ∙ ap (λ (t : Turn). t.next) ended_so
+  pub turn_items : (a b c : Taken) → Took a taken.items b
+      → Took b ((logged {W = Unix} (board_in w) (end_effects s e)).items ++ (settled (logged {W = Unix} (board_in w) (end_effects s e)).board).items) c
+      → Took a (turn_of m s steps).items c
+  turn_items a b c one two =
+      let last : Board → List Item = λ x. (logged {W = Unix} x (end_effects s e)).items ++ (settled (logged {W = Unix} x (end_effects s e)).board).items in
+      took_then a b c taken.items (last (board_in w)) (turn_of m s steps).items one two
+      (ap (λ x. taken.items ++ last x) come.board
+      ∙ sym (append_assoc taken.items (logged {W = Unix} taken.board (end_effects s e)).items (settled (logged {W = Unix} taken.board (end_effects s e)).board).items)
+      ∙ ap (λ (x : Logged Unix). x.items ++ (settled x.board).items) (sym whole_is))
 
-    pub end_items : done.items ++ ((over w'.table).items ++ (settled (over w'.table).table).items) ≡ (event_of Slot before).items
-    end_items =
-        ap (λ (t : Table). done.items ++ ((over t).items ++ (settled (over t).table).items)) table
-        ∙ sym (append_assoc done.items (over w.table).items (settled (over w.table).table).items) ∙ ap (λ (t : Turn). t.items) ended_so
+-- The process that executes instructions has stepped, and its registers have been put back.
+module _ (m : System) (s : ℕ) (o : Outcome) (regs regs' : Regs) (w w' : World) (stepped : HasStepped m regs w s o)
+    (back : system_at stage.Resting regs' w' ≡ system_at (stage.Running s) regs w) where
+  abbrev stepped_to : Unix
+  stepped_to = with_process m.unix s (with_machine (process_of m.unix s) (instr (machine_of (process_of m.unix s))).machine)
+
+  unix_back : unix_of w' ≡ stepped_to
+  unix_back = ap (λ (x : System). x.unix) back ∙ stepped.unix
+
+  board_back : board_in w' ≡ m.board
+  board_back = ap (λ (x : System). x.board) back ∙ stepped.board
+
+  steps_are : comes_to (has_room (board_in w')) (unix_of w') s o ≡ turn m s
+  steps_are =
+      (λ i. comes_to (has_room (board_back i)) (unix_back i) s (stepped.outcome i))
+      ∙ sym (ap (λ b. if b then exec_init m.unix s else (if is_user (process_of m.unix s) then instruction (has_room m.board) m.unix s else resumed m.unix s)) stepped.fresh
+      ∙ ap (λ b. if b then instruction (has_room m.board) m.unix s else resumed m.unix s) stepped.user)
+
+  pub stepped_come : (e : Ending) (then_ : World) → HasCome (board_in w') (comes_to (has_room (board_in w')) (unix_of w') s o) e then_ → HasCome m.board (turn m s) e then_
+  stepped_come e then_ come = subst (λ st. HasCome m.board st e then_) steps_are (subst (λ b. HasCome b (comes_to (has_room (board_in w')) (unix_of w') s o) e then_) board_back come)
+
+  pub stepped_items : (a b : Taken) → Took a (logged (board_in w') (comes_to (has_room (board_in w')) (unix_of w') s o).effects).items b → Took a (logged m.board (turn m s).effects).items b
+  stepped_items a b took =
+      subst (λ (st : Steps). Took a (logged m.board st.effects).items b) steps_are
+      (subst (λ x. Took a (logged x (comes_to (has_room (board_in w')) (unix_of w') s o).effects).items b) board_back took)

@@ -1,7 +1,11 @@
 -- The first turn of process 1, its exec of `/etc/init`: exec(II) of the UNIX Programmer's Manual; Lions' Commentary,
 -- `sys1.c`.
-use Rattle.std.specs.Prelude.{ℕ, Bool, false, List, [], ◌∷◌, ◌++◌, Some, Result, Ok, Err, codes, if◌then◌else◌, replicate, slice_set}
+use Rattle.std.specs.Prelude.{ℕ, ◌+◌, Bool, false, List, [], ◌∷◌, ◌++◌, Some, Result, Ok, Err, codes, if◌then◌else◌, replicate, slice_set}
 use Rattle.v6_base.specs.Image.{Image, text_alone}
+use Rattle.v6_base.specs.Trace.{Log}
+use Rattle.v6_base.specs.declared.entry.Entry.TheVariants.{Bare}
+use Rattle.pick_rules.specs.Effects as effect
+use Rattle.pick_rules.specs.Effects.{Show}
 use Rattle.v6_base.specs.declared.errno.Errno.{Errno}
 use Rattle.fs_codec.specs.Store.{Node, Store}
 use Rattle.fs_laws.specs.Numbers.{with_node}
@@ -10,7 +14,9 @@ use Rattle.fs_nodes.specs.Copy.{put_into, put_kernel}
 use Rattle.fs_tree.specs.Name.{name_at}
 use Rattle.fs_tree.specs.Finding.{Inodes, Finding, find_in, put_back}
 use Rattle.sys_files.specs.Handed.{node_in}
-use Rattle.unix_core.specs.Unix.{Process, Unix, with_state, process_of}
+use Rattle.u_area.specs.declared.area.UArea.{UArea}
+use Rattle.sys_procs.specs.Process.{Process, with_state}
+use Rattle.unix_core.specs.Unix.{Unix, process_of}
 use Rattle.unix_core.specs.References.{references_of}
 use Rattle.unix_core.specs.Form.{header, filled_size, data_clicks, is_program}
 use Rattle.unix_core.specs.Program.{first_stack, program_image}
@@ -35,17 +41,17 @@ leads_to_program found (Err e) = false
 abbrev pub is_found : Finding ℕ → Bool
 is_found found = leads_to_program found found.answer
 
+-- a u area as a program with so many clicks of data begins
+abbrev pub begun_area : UArea → ℕ → UArea
+begun_area u clicks = record (with_state u (0 ∷ 0 ∷ 0 ∷ 0 ∷ 0 ∷ 0 ∷ first_stack ∷ 0 ∷ []) 0) {
+  text_size = 0;
+  data_size = clicks;
+  stack_size = 20;
+}
+
 -- a process that begins a program with so many clicks of data, in this memory
 abbrev pub with_program : Process → ℕ → Image → Process
-with_program p clicks image = record p {
-  u = record (with_state p.u (0 ∷ 0 ∷ 0 ∷ 0 ∷ 0 ∷ 0 ∷ first_stack ∷ 0 ∷ []) 0) {
-    text_size = 0;
-    data_size = clicks;
-    stack_size = 20;
-  };
-  «data» = image.data;
-  stack = image.stack;
-}
+with_program p clicks image = record p { u = begun_area p.u clicks; «data» = image.data; stack = image.stack }
 
 -- With so much room and at a time, the header is read into sixteen bytes of the kernel,
 abbrev pub header_read : Node → ℕ → ℕ → Moving (List ℕ)
@@ -71,13 +77,18 @@ after_reads store ino node time =
 abbrev pub after_exec : Inodes → ℕ → Node → ℕ → Inodes
 after_exec n ino node time = put_back (record n { store = after_reads n.store ino node time }) ino
 
+-- the image of the old program is given back, and the new one of so many clicks of data placed
+abbrev pub placing : Unix → ℕ → ℕ → Steps → Steps
+placing u slot clicks rest =
+    record rest { effects = Show (Log (Bare slot)) ∷ effect.Image slot (16 + clicks + 20) u ∷ rest.effects }
+
 abbrev pub exec_node : Unix → ℕ → Inodes → ℕ → Node → Steps
 exec_node u slot n ino node =
-    if is_program node then returns (record u {
+    if is_program node then placing u slot (data_clicks (header node)) (returns (record u {
       processes = slice_set u.processes slot (Some (with_program (process_of u slot) (data_clicks (header node))
           (program_read node n.store.room u.clock.time).memory));
       store = (after_exec n ino node u.clock.time).store;
-    })
+    }))
     else not_built u
 
 abbrev pub exec_found : Unix → ℕ → Finding ℕ → Result ℕ Errno → Steps

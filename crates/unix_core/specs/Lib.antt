@@ -10,4 +10,5 @@ pub mod Runs
 pub mod Steps
 pub mod Turn
 pub mod Outside
+pub mod Passing
 pub mod Unix

@@ -1,6 +1,6 @@
 -- What comes from outside: ticks of the clock, keys and the switches of the console. `clock` and `klrint` in Lions'
 -- Commentary, `clock.c` and `kl.c`.
-use Rattle.std.specs.Prelude.{ℕ, ◌+◌, ◌%◌, ◌^◌, ◌==◌, ◌&&◌, ◌||◌, Bool, true, false, [], ◌∷◌, Option, Some, None, if◌then◌else◌}
+use Rattle.std.specs.Prelude.{ℕ, ◌+◌, ◌%◌, ◌^◌, ◌==◌, ◌&&◌, ◌||◌, Bool, true, false, List, [], ◌∷◌, ◌++◌, map, Option, Some, None, if◌then◌else◌}
 use Rattle.v6_base.specs.Trace.{Log, sent}
 use Rattle.v6_base.specs.declared.entry.Chan.{Chan}
 use Rattle.v6_base.specs.declared.entry.Chan.TheVariants.{Tout, Keys}
@@ -11,11 +11,13 @@ use Rattle.tty_line.specs.declared.line.Keyed.TheVariants.{Nothing, Ready, Flush
 use Rattle.tty_line.specs.Input.{Typed, typed}
 use Rattle.pick_rules.specs.declared.row.Mode.{Mode}
 use Rattle.pick_rules.specs.declared.row.Mode.TheVariants.{User, Kernel, Idle}
-use Rattle.pick_rules.specs.declared.table.Table.{Table}
-use Rattle.pick_rules.specs.Sleepers.{wakeup}
-use Rattle.pick_rules.specs.Clock.{tick}
-use Rattle.unix_core.specs.Unix.{Process, Clock, Unix, System, process_of, with_process}
-use Rattle.unix_core.specs.Turn.{Logged, Turn, is_user, settles}
+use Rattle.pick_rules.specs.Effects.{Effect, Show}
+use Rattle.pick_rules.specs.Logged.{logged}
+use Rattle.u_area.specs.declared.area.UArea.{UArea}
+use Rattle.sys_procs.specs.Process.{Process}
+use Rattle.sys_procs.specs.World.{Clock}
+use Rattle.unix_core.specs.Unix.{Unix, System, process_of, with_process}
+use Rattle.unix_core.specs.Turn.{Turn, is_user, settles}
 
 -- where a tick comes
 abbrev pub mode_by : Unix → Option ℕ → Mode
@@ -23,7 +25,7 @@ mode_by u None = Idle
 mode_by u (Some slot) = if slot == 0 then Kernel else (if is_user (process_of u slot) then User else Kernel)
 
 abbrev pub mode_of : System → Mode
-mode_of m = mode_by m.unix m.table.running
+mode_of m = mode_by m.unix m.board.table.running
 
 abbrev pub tick_entry : Mode → Entry
 tick_entry User = TickUser
@@ -31,10 +33,13 @@ tick_entry Kernel = TickKernel
 tick_entry Idle = TickIdle
 
 -- A process has one tick more of its own time, or of the system's for it: times(II).
+abbrev pub timed_area : Mode → UArea → UArea
+timed_area User u = record u { user_time = (u.user_time + 1) % 65536 }
+timed_area Kernel u = record u { system_time = (u.system_time + 1) % 65536 }
+timed_area Idle u = u
+
 abbrev pub timed : Mode → Process → Process
-timed User p = record p { u = record p.u { user_time = (p.u.user_time + 1) % 65536 } }
-timed Kernel p = record p { u = record p.u { system_time = (p.u.system_time + 1) % 65536 } }
-timed Idle p = p
+timed mode p = record p { u = timed_area mode p.u }
 
 -- the swapper has no times
 abbrev pub charged : Unix → Mode → Option ℕ → Unix
@@ -55,16 +60,16 @@ abbrev pub is_due : Clock → Bool
 is_due clock = is_second clock && ((clock.time + 1) % 2 ^ 32 == clock.tout)
 
 abbrev pub ticked : System → Unix
-ticked m = let u : Unix = charged m.unix (mode_of m) m.table.running in record u { clock = clock_after m.unix.clock }
+ticked m = let u : Unix = charged m.unix (mode_of m) m.board.table.running in record u { clock = clock_after m.unix.clock }
 
 -- who sleeps for a channel is woken, where that is called for
-abbrev pub wakes : Bool → Chan → Table → Logged
-wakes true chan t = record { items = Log (Wake chan) ∷ []; table = wakeup t chan }
-wakes false chan t = record { items = []; table = t }
+abbrev pub wakes : Bool → Chan → List (Effect Unix)
+wakes true chan = Show (Log (Wake chan)) ∷ []
+wakes false chan = []
 
 abbrev pub tick_of : System → Turn
 tick_of m =
-    settles m (ticked m) (Log (tick_entry (mode_of m)) ∷ []) (wakes (is_due m.unix.clock) Tout (tick (mode_of m) m.table))
+    settles m (ticked m) (logged m.board (Show (Log (tick_entry (mode_of m))) ∷ wakes (is_due m.unix.clock) Tout))
 
 -- The keys that make signals, by their low seven bits. What they do to processes isn't built.
 abbrev pub is_signal_key : ℕ → Bool
@@ -80,7 +85,7 @@ calls (Signal n) = true
 abbrev pub typed_of : System → ℕ → Turn
 typed_of m byte =
     let k : Typed = typed m.unix.line byte in
-    settles m (record m.unix { line = k.terminal }) (sent 0 k.shown) (wakes (calls k.keyed) Keys m.table)
+    settles m (record m.unix { line = k.terminal }) (logged m.board (map Show (sent 0 k.shown) ++ wakes (calls k.keyed) Keys))
 
 abbrev pub switched_of : System → ℕ → Turn
 switched_of m word =

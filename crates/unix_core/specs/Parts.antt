@@ -1,167 +1,221 @@
--- How the parts of a kernel are the Unix: a process as it runs, the world around it, and how far process 1 has come.
-use Rattle.std.specs.Prelude.{◌≡◌, ◌≢◌, ◌<◌, ⊤, MatchOption, ◌+◌, ◌==◌, ℕ, Bool, true, false, [], Option, Some, None, Ok, if◌then◌else◌, List, slice_index}
-use Rattle.open_files.specs.Files.{AreOpen, file_at, times}
+-- How the parts of a kernel are the Unix and the board: the world of files and processes, and the registers of the process
+-- that executes instructions.
+use Rattle.std.specs.Prelude.{◌≡◌, ◌≢◌, ◌<◌, ◌≤◌, ◌+◌, ◌==◌, ℕ, min, Bool, true, false, List, [], map, length, Option, Some, None, Ok, if◌then◌else◌, slice_index}
+use Rattle.std.specs.List.{sum_by}
+use Rattle.open_files.specs.Files.{file_at, times}
 use Rattle.sys_files.specs.Handed.{Handed, node_in}
 use Rattle.sys_files.specs.Did.{Did, is_done}
 use Rattle.sys_files.specs.Sound.{numbers_of, HasNoPipe}
-use Rattle.pick_rules.specs.declared.row.Stat.TheVariants.{Empty}
 use Rattle.pdp_step.specs.declared.outcome.Outcome.{Outcome}
+use Rattle.pdp_step.specs.declared.regs.Regs.{Regs}
 use Rattle.pdp_step.specs.Instruction.{instr}
 use Rattle.pick_rules.specs.declared.table.Table.{Table}
-use Rattle.pick_rules.specs.Table.{IsTable, row_at}
+use Rattle.pick_rules.specs.Table.{is_in_core}
 use Rattle.pick_rules.specs.Choice.{settle}
-use Rattle.pick_rules.proofs.Laws.{AreFree}
-use Rattle.unix_core.specs.declared.world.World.{World}
-use Rattle.unix_core.specs.declared.process.Ending.{Ending}
-use Rattle.unix_core.specs.declared.process.Ending.TheVariants.{Next, Trapped, Slept, Ended, NotBuilt}
+use Rattle.pick_rules.specs.Board.{Board}
+use Rattle.v6_base.specs.Trace.{Item}
+use Rattle.pick_rules.specs.Effects.{Show}
+use Rattle.pick_rules.specs.Logged.{Stop, logged, left_by}
+use Rattle.v6_base.specs.declared.entry.Place.TheVariants.{Core}
+use Rattle.image_keep.specs.Area.{sized_area}
+use Rattle.image_keep.specs.Places.{cleared}
+use Rattle.image_keep.specs.Kept.{Held, Nothing, Kept, Has, HasImage, keeping}
+use Rattle.sys_procs.specs.Process.{Process, register}
+use Rattle.sys_procs.specs.World.{clock_of, processes_in, World}
+use Rattle.sys_procs.specs.Comes.{Comes, returns}
+use Rattle.sys_procs.specs.Agree.{board_of}
+use Rattle.sys_procs.specs.Handed.{AreProcs}
+use Rattle.unix_core.specs.declared.world.World as parts
+use Rattle.unix_core.specs.declared.ending.Ending.{Ending}
+use Rattle.unix_core.specs.declared.ending.Ending.TheVariants.{NotBuilt}
 use Rattle.unix_core.specs.declared.machine.Went.{Went}
 use Rattle.unix_core.specs.declared.machine.Went.TheVariants as went
 use Rattle.unix_core.specs.declared.turned.Turned.{Turned}
 use Rattle.unix_core.specs.declared.turned.Turned.TheVariants as turned
-use Rattle.unix_core.specs.declared.turned.Unbuilt.TheVariants.{At}
+use Rattle.unix_core.specs.declared.turned.Unbuilt.TheVariants.{At, Room}
 use Rattle.unix_core.specs.declared.machine.Stage.{Stage}
 use Rattle.unix_core.specs.declared.machine.Stage.TheVariants as stage
-use Rattle.unix_core.specs.Unix.{Process, Unix, System, slots_with, no_texts}
+use Rattle.unix_core.specs.Unix.{Unix, System, no_texts, process_of, with_process}
 use Rattle.unix_core.specs.References.{referrers}
 use Rattle.unix_core.specs.Form.{is_program}
-use Rattle.unix_core.specs.Calls.{FileCall}
+use Rattle.unix_core.specs.Calls.{FileCall, ProcessCall}
+use Rattle.unix_core.specs.Steps.{Steps}
+use Rattle.unix_core.specs.Passing.{shown_by, all_woken}
 use Rattle.unix_core.specs.Exec.{init_in, inodes_in}
 use Rattle.unix_core.specs.Turn.{Turn, machine_of, with_machine, is_user, slot_of}
 
--- a Unix of this world, with process 1 or none
-abbrev pub unix_of : Option Process → World → Unix
-unix_of p w = record {
+-- the Unix of a world
+abbrev pub unix_of : parts.World → Unix
+unix_of w = record {
   store = w.files.tree.nodes.store;
-  processes = slots_with p;
+  processes = processes_in w.procs.rows.slots w.procs.images;
   files = w.files.table;
   pipes = [];
   texts = no_texts;
   line = w.files.line;
-  clock = record { time = w.table.now; ticks = w.table.ticks; tout = w.table.tout };
-  switches = w.switches;
-  last_pid = 1;
-  limit = w.limit;
+  clock = clock_of w.procs.table;
+  switches = w.procs.switches;
+  last_pid = w.procs.rows.last_pid;
+  limit = min w.procs.images.core 2048;
 }
 
-abbrev pub unix_with : Process → World → Unix
-unix_with p w = unix_of (Some p) w
+abbrev pub board_in : parts.World → Board
+board_in w = board_of w.procs.table w.procs.images
 
--- the Unix after a turn of this process that ended so
-abbrev pub unix_after : Ending → Process → World → Unix
-unix_after Next p w = unix_with p w
-unix_after Trapped p w = unix_with p w
-unix_after (Slept pri chan) p w = unix_with p w
-unix_after Ended p w = unix_of None w
-unix_after NotBuilt p w = unix_with p w
+-- a process with these registers
+abbrev pub holding : Regs → Process → Process
+holding regs p = record p { u = record p.u { r = regs.r; cc = regs.cc; codes = regs.cc_in_range } }
 
--- the process, until it has ended
-abbrev pub process_in : Stage → Process → Option Process
-process_in (stage.Fresh init) p = Some p
-process_in stage.Running p = Some p
-process_in stage.Waiting p = Some p
-process_in stage.Ended p = None
+-- the Unix while the registers of the process that executes instructions stand apart
+abbrev pub with_regs : Stage → Regs → Unix → Unix
+with_regs (stage.Fresh init) regs u = u
+with_regs (stage.Running s) regs u = with_process u s (holding regs (process_of u s))
+with_regs stage.Resting regs u = u
 
 abbrev pub is_fresh : Stage → Bool
 is_fresh (stage.Fresh init) = true
-is_fresh stage.Running = false
-is_fresh stage.Waiting = false
-is_fresh stage.Ended = false
+is_fresh (stage.Running s) = false
+is_fresh stage.Resting = false
 
-abbrev pub system_at : Stage → Process → World → System
-system_at at p w = record { unix = unix_of (process_in at p) w; table = w.table; is_fresh = is_fresh at }
+abbrev pub system_at : Stage → Regs → parts.World → System
+system_at at regs w = record { unix = with_regs at regs (unix_of w); board = board_in w; is_fresh = is_fresh at }
 
 -- what the next slot comes to
-abbrev pub turn_at : Stage → Process → World → Turn
-turn_at at p w = slot_of (system_at at p w) w.table.running
+abbrev pub turn_at : Stage → Regs → parts.World → Turn
+turn_at at regs w = slot_of (system_at at regs w) w.procs.table.running
+
+-- the PC of the process that runs, or 0
+abbrev pub pc_by : Unix → Option ℕ → ℕ
+pc_by u None = 0
+pc_by u (Some s) = register (process_of u s) 7
+
+abbrev pub pc_at : Stage → Regs → parts.World → ℕ
+pc_at at regs w = pc_by (with_regs at regs (unix_of w)) w.procs.table.running
 
 -- what a call by its row does; none does nothing
 abbrev pub row_of : Option FileCall → Handed → List ℕ → ℕ → Did
 row_of None h args now = is_done h
 row_of (Some c) h args now = c.does h args now
 
+abbrev pub process_row_of : Option ProcessCall → World → ℕ → List ℕ → Comes
+process_row_of None w slot args = returns w slot
+process_row_of (Some c) w slot args = c.does w slot args
+
+-- the first image of process 1
+abbrev pub first_held : Held
+first_held = record { u = record (sized_area 1 0) { dir = 1 }; image = cleared 1 0; place = Core 1 }
+
 -- how often an inode is referred to in a world
-abbrev pub refs : World → ℕ → ℕ
+abbrev pub refs : parts.World → ℕ → ℕ
 refs w ino = slice_index w.files.tree.nodes.references ino
 
--- The numbers of the process name entries in use, and these count them.
-pub record IsCounted (p : Process) (w : World) : Type 0 where
-  pub is_open : AreOpen w.files.table p.u.files
-  pub numbers : (entry : ℕ) → numbers_of (file_at w.files.table entry) ≡ times p.u.files entry
+-- how often the numbers of a process name an entry; one that has ended has closed its files
+abbrev pub numbers_in : ℕ → Option Process → ℕ
+numbers_in entry None = 0
+numbers_in entry (Some p) = if p.is_zombie then 0 else times p.u.files entry
+
+-- how often the numbers of all processes name an entry
+unfoldable pub named : List (Option Process) → ℕ → ℕ
+named processes entry = sum_by (numbers_in entry) processes
+
+-- nothing refers to an inode beside what the Unix says; or one more reference does, to the first program
+abbrev pub none_more : ℕ → ℕ
+none_more ino = 0
+
+abbrev pub one_more : ℕ → ℕ → ℕ
+one_more init ino = if ino == init then 1 else 0
+
+-- What is so of a world between two things that the kernel does.
+pub record IsGood (w : parts.World) (more : ℕ → ℕ) : Type 0 where
+  pub agree : AreProcs w.procs
+  pub in_core : (s : ℕ) (held : Held) → Has w.procs.images s held → is_in_core (Some held.place) ≡ true
+  pub fifteen : (s : ℕ) (held : Held) → Has w.procs.images s held → length held.u.files ≡ 15
+  pub numbers : (entry : ℕ) → numbers_of (file_at w.files.table entry) ≡ named (unix_of w).processes entry
   pub no_pipe : HasNoPipe w.files.table
+  pub referred : (ino : ℕ) → refs w ino ≡ referrers (unix_of w) ino + more ino
+  pub running : (s : ℕ) → w.procs.table.running ≡ Some s → 0 < s → HasImage w.procs.images s
+  pub entries : w.tape.entry_room ≡ 64
+  pub bytes : w.tape.byte_room ≡ 524288
+  pub core : w.core ≡ w.procs.images.core
 
--- Each inode is referred to as often as the Unix says.
-pub record IsRunning (p : Process) (w : World) : Type 0 where
-  pub counted : IsCounted p w
-  pub referred : (ino : ℕ) → refs w ino ≡ referrers (unix_with p w) ino
+-- a process that isn't the swapper runs
+pub record IsReady (w : parts.World) (s : ℕ) : Type 0 where
+  pub good : IsGood w none_more
+  pub runs : w.procs.table.running ≡ Some s
+  pub user : 0 < s
 
--- Before its first turn process 1 has no memory. Its program has been found, and is referred to once more.
-pub record IsFresh (init : ℕ) (p : Process) (w : World) : Type 0 where
-  pub no_data : p.data ≡ []
-  pub no_stack : p.stack ≡ []
-  pub counted : IsCounted p w
-  pub referred : (ino : ℕ) → refs w ino ≡ referrers (unix_with p w) ino + (if ino == init then 1 else 0)
-  pub found : (init_in (inodes_in (unix_with p w))).answer ≡ Ok init
+-- Before the first turn there is process 1 alone. Its program has been found, and is referred to once more.
+pub record IsFresh (init : ℕ) (w : parts.World) : Type 0 where
+  pub good : IsGood w (one_more init)
+  pub alone : (s : ℕ) → s ≢ 1 → keeping w.procs.images s ≡ Nothing
+  pub image : HasImage w.procs.images 1
+  pub core : 64 ≤ w.procs.images.core
+  pub found : (init_in (inodes_in (unix_of w))).answer ≡ Ok init
   pub program : is_program (node_in w.files.tree.nodes.store init) ≡ true
 
--- Of the slots those of the swapper and of process 1 alone are in use.
-pub record IsAlone (t : Table) : Type 0 where
-  pub table : IsTable t
-  pub others : AreFree t
-  pub runs : MatchOption t.running ⊤ (λ s. s < 2)
+-- A call on files of a process has been done, and what it shows stands on the tape: the table is as it was.
+pub record IsReadyToShow (old new : parts.World) (s : ℕ) (items : List Item) : Type 0 where
+  pub ready : IsReady new s
+  pub table : new.procs.table ≡ old.procs.table
+  pub core : new.procs.images.core ≡ old.procs.images.core
+  pub shown : shown_by new.tape ≡ items
+  pub wakes : (t : Table) (k : Kept) → (logged {W = Unix} (board_of t k) (map Show items)).board ≡ board_of (all_woken t new.tape.entries) k
 
--- The slot of a process that has exited is empty, and nothing wakes it.
-pub record IsGone (t : Table) : Type 0 where
-  pub empty : (row_at t 1).stat ≡ Empty
-  pub channel : (row_at t 1).channel ≡ None
-  pub rests : t.running ≢ Some 1
+-- Where an effect panicked, a turn comes to what isn't built.
+abbrev pub ended_as : Option (Stop Unix) → Ending → Ending
+ended_as None e = e
+ended_as (Some stop) e = NotBuilt
 
--- process 1 has begun its program and has not exited
-abbrev pub is_running : Stage → Bool
-is_running (stage.Fresh init) = false
-is_running stage.Running = true
-is_running stage.Waiting = true
-is_running stage.Ended = false
+-- The world has taken these steps of a turn, and the turn has ended so.
+pub record HasCome (b : Board) (steps : Steps) (e : Ending) (w : parts.World) : Type 0 where
+  pub ending : e ≡ ended_as (logged b steps.effects).stop steps.ending
+  pub unix : unix_of w ≡ left_by (logged b steps.effects).stop steps.unix
+  pub board : board_in w ≡ (logged b steps.effects).board
 
--- the stage after a turn that ended so
-abbrev pub stage_after : Ending → Stage → Stage
-stage_after Next at = at
-stage_after Trapped at = at
-stage_after (Slept pri chan) at = at
-stage_after Ended at = stage.Ended
-stage_after NotBuilt at = at
+-- A process executes instructions: it runs, it is in no call, and the kernel has settled.
+pub record IsUser (s : ℕ) (w : parts.World) : Type 0 where
+  pub ready : IsReady w s
+  pub user : is_user (process_of (unix_of w) s) ≡ true
+  pub settled : settle w.procs.table ≡ None
 
--- what is so of a kernel's parts in each event
-pub record IsMachine (at : Stage) (p : Process) (w : World) : Type 0 where
-  pub alone : IsAlone w.table
-  pub fresh : (init : ℕ) → at ≡ stage.Fresh init → IsFresh init p w
-  pub running : is_running at ≡ true → IsRunning p w
-  pub ended : at ≡ stage.Ended → IsGone w.table
+-- what is so of a kernel's parts while no registers stand apart
+pub record IsRested (at : Stage) (w : parts.World) : Type 0 where
+  pub apart : (s : ℕ) → at ≢ stage.Running s
+  pub fresh : (init : ℕ) → at ≡ stage.Fresh init → IsFresh init w
+  pub good : at ≡ stage.Resting → IsGood w none_more
 
--- Process 1 executes instructions: it runs, it is in no call, and the kernel has settled.
-pub record IsUser (p : Process) (t : Table) : Type 0 where
-  pub runs : t.running ≡ Some 1
-  pub user : is_user p ≡ true
-  pub settled : settle t ≡ None
-
--- Process 1 was in user mode, and has taken this step: its registers and its memory are those after the instruction.
-pub record HasStepped (p q : Process) (w : World) (o : Outcome) : Type 0 where
-  pub user : IsUser p w.table
-  pub machine : q ≡ with_machine p (instr (machine_of p)).machine
-  pub outcome : o ≡ (instr (machine_of p)).outcome
+-- the stage when the registers have been put back
+abbrev pub rested : Stage → Stage
+rested (stage.Fresh init) = stage.Fresh init
+rested (stage.Running s) = stage.Resting
+rested stage.Resting = stage.Resting
 
 -- what is so of every kernel
-pub record IsKernel (at : Stage) (p : Process) (w : World) : Type 0 where
-  pub machine : IsMachine at p w
-  pub user : at ≡ stage.Running → IsUser p w.table
-  pub waiting : at ≡ stage.Waiting → w.table.running ≡ Some 1 → is_user p ≡ false
+pub record IsKernel (at : Stage) (w : parts.World) : Type 0 where
+  pub fresh : (init : ℕ) → at ≡ stage.Fresh init → IsFresh init w
+  pub running : (s : ℕ) → at ≡ stage.Running s → IsUser s w
+  pub resting : at ≡ stage.Resting → IsGood w none_more
+  pub settled : (s : ℕ) → w.procs.table.running ≡ Some s → settle w.procs.table ≡ None
+  pub calls : (s : ℕ) → at ≡ stage.Resting → w.procs.table.running ≡ Some s → 0 < s → is_user (process_of (unix_of w) s) ≡ false
+
+-- A system whose running process was in user mode, and of which these are the registers and the world after the instruction.
+pub record HasStepped (m : System) (regs : Regs) (w : parts.World) (s : ℕ) (o : Outcome) : Type 0 where
+  pub runs : m.board.table.running ≡ Some s
+  pub fresh : m.is_fresh ≡ false
+  pub user : is_user (process_of m.unix s) ≡ true
+  pub outcome : o ≡ (instr (machine_of (process_of m.unix s))).outcome
+  pub unix : with_regs (stage.Running s) regs (unix_of w)
+      ≡ with_process m.unix s (with_machine (process_of m.unix s) (instr (machine_of (process_of m.unix s))).machine)
+  pub board : board_in w ≡ m.board
 
 -- The parts have taken an event that comes to this.
-pub record Takes (turn : Turn) (at : Stage) (p : Process) (w : World) : Type 0 where
-  pub kernel : IsKernel at p w
-  pub system : system_at at p w ≡ turn.next
+pub record Takes (turn : Turn) (at : Stage) (regs : Regs) (w : parts.World) : Type 0 where
+  pub kernel : IsKernel at w
+  pub system : system_at at regs w ≡ turn.next
 
 -- what a slot answers that went so, with the PC where it began
 abbrev pub turned_at : ℕ → Went → Turned
 turned_at at went.Ran = turned.Ran
 turned_at at went.Idle = turned.Idle
+turned_at at went.NoRoom = turned.NotBuilt Room
 turned_at at went.NotBuilt = turned.NotBuilt (At at)

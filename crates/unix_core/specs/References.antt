@@ -1,14 +1,15 @@
 -- How often each inode of a system is referred to, which follows from the rest of it: `i_count` of `inode.h` in Lions'
 -- Commentary.
-use Rattle.std.specs.Prelude.{ℕ, Bool, false, ◌+◌, ◌==◌, if◌then◌else◌, List, Option, Some, None, map, count_by}
+use Rattle.std.specs.Prelude.{ℕ, Bool, false, ◌+◌, ◌==◌, ◌&&◌, not, if◌then◌else◌, List, Option, Some, None, map, count_by}
 use Rattle.std.specs.List.{range_with_len}
 use Rattle.sys_files.specs.Sound.{is_of}
-use Rattle.unix_core.specs.Unix.{Process, Text, Unix}
+use Rattle.sys_procs.specs.Process.{Process}
+use Rattle.unix_core.specs.Unix.{Text, Unix}
 
--- a process whose current directory is this inode
+-- a process whose current directory is this inode; one that has ended has left it
 abbrev pub is_in : ℕ → Option Process → Bool
 is_in ino None = false
-is_in ino (Some p) = p.u.dir == ino
+is_in ino (Some p) = not p.is_zombie && (p.u.dir == ino)
 
 -- a text of this inode
 abbrev pub is_text_of : ℕ → Option Text → Bool

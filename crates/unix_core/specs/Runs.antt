@@ -1,29 +1,30 @@
 -- A run as a function: from an image, a core size and a list of events to what is shown and how it ends.
-use Rattle.std.specs.Prelude.{ℕ, Bool, true, false, List, [], ◌∷◌, ◌++◌, min, is_some, replicate, if◌then◌else◌, Option, Some, None}
+use Rattle.std.specs.Prelude.{ℕ, Bool, true, List, [], ◌∷◌, ◌++◌, min, is_some, replicate, if◌then◌else◌, Option, Some, None}
 use Rattle.std.specs.Option.{option_map}
 use Rattle.fs_codec.specs.Faults.{image_fault}
-use Rattle.v6_base.specs.Trace.{Item}
+use Rattle.v6_base.specs.Trace.{Item, Log}
+use Rattle.v6_base.specs.declared.entry.Entry.TheVariants.{Boot}
 use Rattle.fs_codec.specs.Disk.{disk_of}
 use Rattle.fs_codec.specs.Store.{Store}
 use Rattle.fs_codec.specs.Stands.{store_of}
 use Rattle.fs_laws.specs.Numbers.{synced}
 use Rattle.tty_line.specs.Terminal.{first_terminal}
-use Rattle.pick_rules.specs.Table.{first_table}
+use Rattle.pick_rules.specs.Board.{first_board}
+use Rattle.proc_tab.specs.Processes.{no_row}
+use Rattle.image_keep.specs.Area.{sized_area}
+use Rattle.sys_procs.specs.Process.{Process, no_process}
 use Rattle.unix_core.specs.declared.turned.Unbuilt.{Unbuilt}
-use Rattle.unix_core.specs.Unix.{Process, Unix, System, no_area, no_row, no_texts, slots_with}
+use Rattle.unix_core.specs.Unix.{Unix, System, no_texts}
 use Rattle.unix_core.specs.Exec.{init_in, inodes_in, is_found}
 use Rattle.unix_core.specs.Turn.{Turn, pass_of, slot_of}
 use Rattle.unix_core.specs.Outside.{tick_of, typed_of, switched_of}
 
--- process 1, about to execute `/etc/init`: it has no parent, and the root as its directory
+-- process 1, about to execute `/etc/init`: it has no parent, one click of data, and the root as its directory
 abbrev pub fresh_process : Process
-fresh_process = record {
+fresh_process = record no_process {
   row = record no_row { pid = 1 };
-  u = record no_area { dir = 1 };
-  «data» = [];
-  stack = [];
-  text = None;
-  is_zombie = false;
+  u = record (sized_area 1 0) { dir = 1 };
+  «data» = replicate 64 0;
 }
 
 -- The Unix of a file system with so many clicks of core. No file is open, and nobody has opened the console. The time
@@ -31,7 +32,7 @@ fresh_process = record {
 abbrev pub first_unix : Store → ℕ → Unix
 first_unix store core = record {
   store = store;
-  processes = slots_with (Some fresh_process);
+  processes = None ∷ Some fresh_process ∷ replicate 48 None;
   files = replicate 100 None;
   pipes = [];
   texts = no_texts;
@@ -44,7 +45,7 @@ first_unix store core = record {
 
 -- the system before its first turn
 abbrev pub system_with : Store → ℕ → System
-system_with store core = record { unix = first_unix store core; table = first_table store.stamp; is_fresh = true }
+system_with store core = record { unix = first_unix store core; board = first_board core store.stamp; is_fresh = true }
 
 -- `/etc/init` leads to a program
 abbrev pub has_form : System → Bool
@@ -72,7 +73,7 @@ pub data Event : Type 0 where
 
 -- what an event comes to
 abbrev pub event_of : Event → System → Turn
-event_of Slot m = slot_of m m.table.running
+event_of Slot m = slot_of m m.board.table.running
 event_of Tick m = tick_of m
 event_of (Byte byte) m = typed_of m byte
 event_of (Switch word) m = switched_of m word
@@ -86,9 +87,11 @@ pub record Course : Type 0 where
 abbrev pub begun : System → Course
 begun m = record { items = []; system = m; ending = None }
 
--- The swapper makes a pass before the first event, and then there is a choice.
+-- The log begins with the size of core and the time; the swapper makes a pass before the first event, and then there is a
+-- choice.
 abbrev pub start_of : System → Turn
-start_of m = pass_of m
+start_of m = let pass : Turn = pass_of m in
+    record pass { items = Log (Boot m.board.core m.unix.clock.time) ∷ pass.items }
 
 abbrev pub goes_on_by : Course → Turn → Course
 goes_on_by c turn = record { items = c.items ++ turn.items; system = turn.next; ending = turn.ending }

@@ -1,19 +1,19 @@
 -- What a turn of a process comes to, and the words that rows are made of.
 use Rattle.std.specs.Prelude.{ℤ, List, []}
-use Rattle.v6_base.specs.Trace.{Item}
 use Rattle.v6_base.specs.declared.entry.Chan.{Chan}
-use Rattle.unix_core.specs.declared.process.Ending.{Ending}
-use Rattle.unix_core.specs.declared.process.Ending.TheVariants.{Next, Trapped, Slept, Ended, NotBuilt}
+use Rattle.pick_rules.specs.Effects.{Effect}
+use Rattle.unix_core.specs.declared.ending.Ending.{Ending}
+use Rattle.unix_core.specs.declared.ending.Ending.TheVariants.{Next, Trapped, Slept, NoRoom, NotBuilt}
 use Rattle.unix_core.specs.Unix.{Unix}
 
--- what is shown, the Unix then, and how it ended
+-- its effects in order, the Unix then, and how it ended
 pub record Steps : Type 0 where
-  pub items : List Item
+  pub effects : List (Effect Unix)
   pub unix : Unix
   pub ending : Ending
 
 abbrev pub quietly : Unix → Ending → Steps
-quietly u ending = record { items = []; unix = u; ending = ending }
+quietly u ending = record { effects = []; unix = u; ending = ending }
 
 -- an instruction is done
 abbrev pub steps : Unix → Steps
@@ -27,9 +27,10 @@ returns u = quietly u Trapped
 abbrev pub sleeps : Unix → ℤ → Chan → Steps
 sleeps u pri chan = quietly u (Slept pri chan)
 
-abbrev pub ends : Unix → Steps
-ends u = quietly u Ended
-
 -- what isn't built shows nothing
 abbrev pub not_built : Unix → Steps
 not_built u = quietly u NotBuilt
+
+-- there is no place in core, and images don't go to the swap area yet
+abbrev pub no_room : Unix → Steps
+no_room u = quietly u NoRoom

@@ -1,6 +1,6 @@
 -- The turn of a slot, where there is a process: first the exec of `/etc/init`, then an instruction a turn, or a call that it
 -- goes on with, until it exits. `trap` and `swtch` in Lions' Commentary, `trap.c` and `slp.c`.
-use Rattle.std.specs.Prelude.{ℕ, zero, suc, ◌==◌, Bool, true, false, List, [], ◌∷◌, ◌++◌, Option, Some, None, if◌then◌else◌}
+use Rattle.std.specs.Prelude.{ℕ, zero, suc, ◌==◌, Bool, true, false, List, [], ◌∷◌, ◌++◌, Option, Some, None, is_some, if◌then◌else◌}
 use Rattle.v6_base.specs.Trace.{Item, Log}
 use Rattle.v6_base.specs.declared.entry.Chan.TheVariants.{RunOut}
 use Rattle.v6_base.specs.declared.entry.Entry.{Entry}
@@ -9,18 +9,20 @@ use Rattle.pdp_step.specs.declared.outcome.Outcome.{Outcome}
 use Rattle.pdp_step.specs.declared.outcome.Outcome.TheVariants.{Next, Call, Fault}
 use Rattle.pdp_step.specs.Machine.{Machine}
 use Rattle.pdp_step.specs.Instruction.{Stepped, instr}
-use Rattle.pick_rules.specs.declared.table.Table.{Table}
-use Rattle.pick_rules.specs.Table.{empty_row, row_at, with_row}
-use Rattle.pick_rules.specs.Priority.{pswp, setpri}
-use Rattle.pick_rules.specs.Sleepers.{fall_asleep}
-use Rattle.pick_rules.specs.Choice.{chosen, settle, settled_by}
-use Rattle.unix_core.specs.declared.process.Ending.{Ending}
-use Rattle.unix_core.specs.declared.process.Ending.TheVariants as ending
+use Rattle.pick_rules.specs.Priority.{pswp}
+use Rattle.pick_rules.specs.Choice.{settle}
+use Rattle.pick_rules.specs.Board.{Board, core_fit}
+use Rattle.pick_rules.specs.Apply.{applied}
+use Rattle.pick_rules.specs.Effects.{Effect, Show}
+use Rattle.pick_rules.specs.Logged.{Logged, Stop, logged, left_by}
+use Rattle.sys_procs.specs.Process.{Process, with_state, register, image_of}
+use Rattle.unix_core.specs.declared.ending.Ending.{Ending}
+use Rattle.unix_core.specs.declared.ending.Ending.TheVariants as ending
 use Rattle.unix_core.specs.declared.turned.Unbuilt.{Unbuilt}
-use Rattle.unix_core.specs.declared.turned.Unbuilt.TheVariants.{At}
+use Rattle.unix_core.specs.declared.turned.Unbuilt.TheVariants.{At, Room}
 use Rattle.unix_core.specs.declared.turned.Turned.{Turned}
 use Rattle.unix_core.specs.declared.turned.Turned.TheVariants.{Ran, Idle, NotBuilt}
-use Rattle.unix_core.specs.Unix.{Process, Unix, System, with_state, register, process_of, with_process, image_of}
+use Rattle.unix_core.specs.Unix.{Unix, System, process_of, with_process}
 use Rattle.unix_core.specs.Steps as to
 use Rattle.unix_core.specs.Steps.{Steps, not_built}
 use Rattle.unix_core.specs.Calls.{system_call, resumed}
@@ -33,61 +35,51 @@ machine_of p = record { r = p.u.r; cc = p.u.cc; image = image_of p }
 abbrev pub with_machine : Process → Machine → Process
 with_machine p m = record p { u = with_state p.u m.r m.cc; «data» = m.image.data; stack = m.image.stack }
 
-abbrev pub comes_to : Unix → ℕ → Outcome → Steps
-comes_to u slot Next = to.steps u
-comes_to u slot (Call number) = system_call number u slot
-comes_to u slot (Fault kind) = not_built u
+abbrev pub comes_to : (ℕ → Bool) → Unix → ℕ → Outcome → Steps
+comes_to has_room u slot Next = to.steps u
+comes_to has_room u slot (Call number) = system_call has_room number u slot
+comes_to has_room u slot (Fault kind) = not_built u
 
-abbrev pub instruction : Unix → ℕ → Steps
-instruction u slot =
+abbrev pub instruction : (ℕ → Bool) → Unix → ℕ → Steps
+instruction has_room u slot =
     let p : Process = process_of u slot in
     let s : Stepped = instr (machine_of p) in
-    comes_to (with_process u slot (with_machine p s.machine)) slot s.outcome
+    comes_to has_room (with_process u slot (with_machine p s.machine)) slot s.outcome
 
 -- a process is in user mode, where it executes instructions, while it has no call to go on with
 abbrev pub is_user : Process → Bool
 is_user p = p.u.pending == 0
 
+-- core has a place for so many clicks
+abbrev pub has_room : Board → ℕ → Bool
+has_room b clicks = is_some (core_fit b clicks)
+
 abbrev pub turn : System → ℕ → Steps
 turn m slot =
     if m.is_fresh then exec_init m.unix slot else (
-    if is_user (process_of m.unix slot) then instruction m.unix slot else resumed m.unix slot)
+    if is_user (process_of m.unix slot) then instruction (has_room m.board) m.unix slot else resumed m.unix slot)
 
--- what is logged, and the table then
-pub record Logged : Type 0 where
+-- the lines of the log with which a turn ends
+abbrev pub end_effects : ℕ → Ending → List (Effect Unix)
+end_effects slot ending.Next = []
+end_effects slot ending.Trapped = Show (Log (entry.Trap slot)) ∷ []
+end_effects slot (ending.Slept pri chan) = Show (Log (entry.Sleep slot pri chan)) ∷ []
+end_effects slot ending.Ended = []
+end_effects slot ending.NoRoom = []
+end_effects slot ending.NotBuilt = []
+
+-- what settling shows, and the board then
+pub record Settled : Type 0 where
   pub items : List Item
-  pub table : Table
+  pub board : Board
 
-abbrev pub logs : Entry → Table → Logged
-logs e t = record { items = Log e ∷ []; table = t }
-
--- A process that comes out of its call has its priority in user mode anew.
-abbrev pub trapped : Table → ℕ → Table
-trapped t slot = setpri (with_row t slot (record (row_at t slot) { calling = false })) slot
-
--- The slot of a process that has exited is empty.
-abbrev pub left : Table → ℕ → Table
-left t slot = record (with_row t slot empty_row) { running = None }
-
--- What the end of a turn does to the table. Nobody but the process itself could wait for what its call wakes.
-abbrev pub ended_by : Ending → Table → ℕ → Logged
-ended_by ending.Next t slot = record { items = []; table = t }
-ended_by ending.Trapped t slot = logs (entry.Trap slot) (trapped t slot)
-ended_by (ending.Slept pri chan) t slot = logs (entry.Sleep slot pri chan) (fall_asleep t slot pri chan)
-ended_by ending.Ended t slot = record { items = []; table = left t slot }
-ended_by ending.NotBuilt t slot = record { items = []; table = t }
-
--- The swapper finds nobody out of core, and sleeps.
-abbrev pub swapper_sleeps : Table → Logged
-swapper_sleeps t = logs (entry.Sleep 0 pswp RunOut) (fall_asleep t 0 pswp RunOut)
+abbrev pub settled_as : Option Entry → Board → Settled
+settled_as None b = record { items = []; board = b }
+settled_as (Some e) b = record { items = Log e ∷ []; board = applied b e }
 
 -- The kernel settles after each event: who must gives up, and with nobody running there is a choice.
-abbrev pub settled_as : Option Entry → Table → Logged
-settled_as None t = record { items = []; table = t }
-settled_as (Some e) t = logs e (settled_by t (chosen t))
-
-abbrev pub settled : Table → Logged
-settled t = settled_as (settle t) t
+abbrev pub settled : Board → Settled
+settled b = settled_as (settle b.table) b
 
 -- what an event comes to: what is shown, the system then, whether nobody was there to run, and how the run ends, where it
 -- ends here
@@ -97,13 +89,13 @@ pub record Turn : Type 0 where
   pub is_idle : Bool
   pub ending : Option Unbuilt
 
--- An event shows these items, leaves this Unix and logs this; and then the kernel settles.
-abbrev pub settles : System → Unix → List Item → Logged → Turn
-settles m u items logged =
-    let now : Logged = settled logged.table in
+-- An event leaves this Unix and this log; and then the kernel settles. A panic leaves the Unix that stood before it.
+abbrev pub settles : System → Unix → Logged Unix → Turn
+settles m u l =
+    let now : Settled = settled l.board in
     record {
-      items = items ++ logged.items ++ now.items;
-      next = record m { unix = u; table = now.table };
+      items = l.items ++ now.items;
+      next = record m { unix = left_by l.stop u; board = now.board };
       is_idle = false;
       ending = None;
     }
@@ -114,17 +106,27 @@ ending_at pc ending.Next = None
 ending_at pc ending.Trapped = None
 ending_at pc (ending.Slept pri chan) = None
 ending_at pc ending.Ended = None
+ending_at pc ending.NoRoom = Some Room
 ending_at pc ending.NotBuilt = Some (At pc)
+
+-- a panic isn't built, either
+abbrev pub ending_by : ℕ → Option (Stop Unix) → Ending → Option Unbuilt
+ending_by pc None ending = ending_at pc ending
+ending_by pc (Some stop) ending = Some (At pc)
 
 abbrev pub turn_of : System → ℕ → Steps → Turn
 turn_of m slot steps =
-    record (settles (record m { is_fresh = false }) steps.unix steps.items (ended_by steps.ending m.table slot)) {
-      ending = ending_at (register (process_of m.unix slot) 7) steps.ending;
+    let l : Logged Unix = logged m.board (steps.effects ++ end_effects slot steps.ending) in
+    record (settles (record m { is_fresh = false }) steps.unix l) {
+      ending = ending_by (register (process_of m.unix slot) 7) l.stop steps.ending;
     }
 
--- the pass of the swapper
+-- The pass of the swapper: it finds nobody out of core, and sleeps.
+abbrev pub pass_effects : List (Effect Unix)
+pass_effects = Show (Log (entry.Sleep 0 pswp RunOut)) ∷ []
+
 abbrev pub pass_of : System → Turn
-pass_of m = settles m m.unix [] (swapper_sleeps m.table)
+pass_of m = settles m m.unix (logged m.board pass_effects)
 
 abbrev pub slot_by : System → ℕ → Turn
 slot_by m zero = pass_of m

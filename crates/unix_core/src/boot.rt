@@ -7,12 +7,18 @@ ghost use Rattle.buf_cache.specs.Blocks.{blocks_of};
 
 use crate::files::take_root;
 use crate::kernel::Kernel;
-use crate::memory::Memory;
 use buf_cache::{Cache, Disk};
 use fs_blocks::Volume;
 use fs_check::{ImageFault, accept};
 use fs_nodes::Nodes;
+use image_keep::Images;
 use std::alloc::{AllocError, Global};
+use v6_base::Tape;
+
+/// The room of the tape for what a call on files shows: none has so many lines, or so many bytes.
+const TAPE_ENTRIES: usize = 64;
+
+const TAPE_BYTES: usize = 524288;
 
 /// Why there is no kernel for an image.
 #[derive(Clone, Copy, Debug, PartialEq, Eq)]
@@ -61,10 +67,13 @@ impl Kernel {
             return Err(BootFault::NoMemory);
         };
         take_root(&mut nodes);
-        let Ok(memory) = Memory::new(alloc) else {
+        let Ok(images) = Images::new(alloc, core) else {
             return Err(BootFault::NoMemory);
         };
-        match Kernel::new(memory, nodes, time, core) {
+        let Ok(tape) = Tape::new(alloc, TAPE_ENTRIES, TAPE_BYTES) else {
+            return Err(BootFault::NoMemory);
+        };
+        match Kernel::new(images, tape, nodes, time, core) {
             Some(kernel) => Ok(kernel),
             None => Err(BootFault::NotBuilt),
         }

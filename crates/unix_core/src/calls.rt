@@ -1,26 +1,30 @@
 //! The system calls that are built, by their numbers: section II of the manual; `sysent` in Lions' Commentary,
 //! `sysent.c`.
-ghost use Rattle.std.specs.Prelude.{◌≡◌, List, Option, None};
-ghost use Rattle.std.specs.Option.{option_map};
+ghost use Rattle.std.specs.Prelude.{◌≡◌, is_some};
 ghost use Rattle.v6_base.specs.Trace.{Took};
 ghost use Rattle.fs_laws.specs.Rest.{SameRest};
-ghost use Rattle.sys_files.specs.Handed.{handed};
+ghost use Rattle.sys_files.specs.Handed as parts;
+ghost use Rattle.pick_rules.specs.Logged.{left_by};
+ghost use Rattle.sys_procs.specs.Agree.{answered};
+ghost use Rattle.sys_procs.specs.Handed.{handed, board, came, AreProcs, Calls};
 ghost use Rattle.sys_files.specs.Sound.{IsSound, IsKept};
 ghost use Rattle.unix_core.specs.Errors.{error_number};
-ghost use Rattle.unix_core.specs.Calls.{FileCall, file_call};
-ghost use Rattle.unix_core.specs.Parts.{row_of};
+ghost use Rattle.unix_core.specs.Calls.{file_call, process_call, count_of};
+ghost use Rattle.unix_core.specs.Parts.{row_of, process_row_of};
 
+use fs_tree::Tree;
 use proc_tab::Row;
 use sys_files::{
     Files, chdir_to, chmod_to, chown_to, close_file, creat_file, dup_file, gtty_get, link_file,
     mknod_at, open_file, read_file, seek_to, stat_file, stat_open, stty_set, sync_all, unlink_file,
     write_file,
 };
+use sys_procs::{
+    Procs, get_gid, get_uid, nice_to, no_op, pid_of, set_gid, set_time, set_uid, sleep_for,
+    switches, time_now, times_to, wait_child,
+};
 use u_area::UArea;
-use v6_base::{Answer, Errno, Slot, Space, Trace};
-
-/// exit(II), which ends a process.
-pub(crate) const EXIT: u8 = 1;
+use v6_base::{Answer, Errno, PanicKind, Slot, Space, Trace};
 
 const READ: u8 = 3;
 
@@ -58,6 +62,32 @@ const SYNC: u8 = 36;
 
 const DUP: u8 = 41;
 
+const WAIT: u8 = 7;
+
+const TIME: u8 = 13;
+
+const GETPID: u8 = 20;
+
+const SETUID: u8 = 23;
+
+const GETUID: u8 = 24;
+
+const STIME: u8 = 25;
+
+const SMDATE: u8 = 30;
+
+const NICE: u8 = 34;
+
+const SLEEP: u8 = 35;
+
+const CSW: u8 = 38;
+
+const TIMES: u8 = 43;
+
+const SETGID: u8 = 46;
+
+const GETGID: u8 = 47;
+
 /// The number of an error: INTRO(II).
 pub(crate) fn error_number(error: Errno) -> u16
     ensures { result ≡ error_number error }
@@ -65,23 +95,55 @@ pub(crate) fn error_number(error: Errno) -> u16
     error as u16
 }
 
-/// How many arguments follow the word of a call on files, or `None` where there is no call of this number.
+/// Whether a call is one on files that is built.
 #[tactic(auto, unfolding(crate::specs::Calls::file_call))]
+pub(crate) fn is_file_call(number: u8) -> bool
+    ensures { result ≡ is_some (file_call number) }
+{
+    matches!(
+        number,
+        READ | WRITE
+            | OPEN
+            | CLOSE
+            | CREAT
+            | LINK
+            | UNLINK
+            | CHDIR
+            | MKNOD
+            | CHMOD
+            | CHOWN
+            | STAT
+            | SEEK
+            | FSTAT
+            | STTY
+            | GTTY
+            | SYNC
+            | DUP
+    )
+}
+
+/// How many arguments a call has, or `None` where it isn't built.
+#[tactic(auto, unfolding(crate::specs::Calls::file_call, crate::specs::Calls::process_call))]
 pub(crate) fn count_of(number: u8) -> Option<u8>
-    ensures { result ≡ option_map (λ (c : FileCall). c.count) (file_call number) }
+    ensures { result ≡ count_of number }
 {
     match number {
+        0..=2 => Some(0),
         CLOSE | SYNC | DUP => Some(0),
         UNLINK | CHDIR | FSTAT | STTY | GTTY => Some(1),
         READ | WRITE | OPEN | CREAT | LINK | CHMOD | CHOWN | STAT | SEEK => Some(2),
         MKNOD => Some(3),
+        SMDATE | TIMES => Some(1),
+        WAIT | TIME | GETPID | SETUID | GETUID | STIME | NICE | SLEEP | CSW | SETGID | GETGID => {
+            Some(0)
+        }
         _ => None,
     }
 }
 
 /// Does a call on files. One that isn't built does nothing.
 #[tactic(auto, unfolding(crate::specs::Calls::file_call))]
-pub(crate) fn do_call<S: Space, T: Trace>(
+pub(crate) fn do_file_call<S: Space, T: Trace>(
     number: u8,
     files: &mut Files,
     slot: Slot,
@@ -92,17 +154,18 @@ pub(crate) fn do_call<S: Space, T: Trace>(
     now: u32,
     trace: &mut T,
 ) -> Answer
-    requires sound { IsSound (handed files.old u.old row.old (S.image space.old)) }
+    requires sound { IsSound (parts.handed files.old u.old row.old (S.image space.old)) }
     ensures answer { result
-        ≡ (row_of (file_call number) (handed files.old u.old row.old (S.image space.old)) args now).answer }
-    ensures state { handed files.new u.new row.new (S.image space.new)
-        ≡ (row_of (file_call number) (handed files.old u.old row.old (S.image space.old)) args now).state }
+        ≡ (row_of (file_call number) (parts.handed files.old u.old row.old (S.image space.old)) args now).answer }
+    ensures state { parts.handed files.new u.new row.new (S.image space.new)
+        ≡ (row_of (file_call number) (parts.handed files.old u.old row.old (S.image space.old)) args now).state }
     ensures items { Took (T.taken trace.old)
-        (row_of (file_call number) (handed files.old u.old row.old (S.image space.old)) args now).items
+        (row_of (file_call number) (parts.handed files.old u.old row.old (S.image space.old)) args now).items
         (T.taken trace.new) }
-    ensures kept { IsKept (handed files.old u.old row.old (S.image space.old))
-        (handed files.new u.new row.new (S.image space.new)) }
+    ensures kept { IsKept (parts.handed files.old u.old row.old (S.image space.old))
+        (parts.handed files.new u.new row.new (S.image space.new)) }
     ensures frame { T.leads_to trace.old trace.new }
+    ensures memory { S.rest space.new ≡ S.rest space.old }
     ensures blocks { SameRest files.old.tree.nodes.blocks files.new.tree.nodes.blocks }
 {
     match number {
@@ -128,5 +191,46 @@ pub(crate) fn do_call<S: Space, T: Trace>(
             r0: u.r[0],
             r1: u.r[1],
         },
+    }
+}
+
+/// Does a call on processes. One that isn't built does nothing.
+#[tactic(auto, unfolding(crate::specs::Calls::process_call))]
+pub(crate) fn do_process_call<T: Trace>(
+    number: u8,
+    p: &mut Procs,
+    tree: &mut Tree,
+    s: Slot,
+    args: [u16; 4],
+    trace: &mut T,
+) -> Result<Answer, PanicKind>
+    requires { Calls p.old tree.old.nodes s }
+    ensures answer { result ≡ answered (came p.old (process_row_of (process_call number) (handed p.old tree.old.nodes) s args)).stop
+        (process_row_of (process_call number) (handed p.old tree.old.nodes) s args).answer }
+    ensures state { handed p.new tree.new.nodes
+        ≡ left_by (came p.old (process_row_of (process_call number) (handed p.old tree.old.nodes) s args)).stop
+        (process_row_of (process_call number) (handed p.old tree.old.nodes) s args).state }
+    ensures board { board p.new
+        ≡ (came p.old (process_row_of (process_call number) (handed p.old tree.old.nodes) s args)).board }
+    ensures items { Took (T.taken trace.old)
+        (came p.old (process_row_of (process_call number) (handed p.old tree.old.nodes) s args)).items (T.taken trace.new) }
+    ensures frame { T.leads_to trace.old trace.new }
+    ensures agree { AreProcs p.new }
+    ensures blocks { SameRest tree.old.nodes.blocks tree.new.nodes.blocks }
+{
+    match number {
+        WAIT => wait_child(p, tree, s, args, trace),
+        TIME => time_now(p, tree, s, args, trace),
+        GETPID => pid_of(p, tree, s, args, trace),
+        SETUID => set_uid(p, tree, s, args, trace),
+        GETUID => get_uid(p, tree, s, args, trace),
+        STIME => set_time(p, tree, s, args, trace),
+        NICE => nice_to(p, tree, s, args, trace),
+        SLEEP => sleep_for(p, tree, s, args, trace),
+        CSW => switches(p, tree, s, args, trace),
+        TIMES => times_to(p, tree, s, args, trace),
+        SETGID => set_gid(p, tree, s, args, trace),
+        GETGID => get_gid(p, tree, s, args, trace),
+        _ => no_op(p, tree, s, args, trace),
     }
 }

@@ -1,11 +1,13 @@
 //! The inodes that the kernel and its process refer to.
-ghost use Rattle.std.specs.Prelude.{◌≡◌, ℕ, ◌+◌, ◌<◌, ◌==◌, if◌then◌else◌, IsSome, slice_index, replicate, length};
+ghost use Rattle.std.specs.Prelude.{◌≡◌, ℕ, ◌+◌, ◌<◌, ◌≤◌, ◌==◌, if◌then◌else◌, IsSome, slice_index, replicate, length};
 ghost use Rattle.fs_codec.specs.Store.{node_numbered};
 ghost use Rattle.fs_laws.specs.Rest.{SameRest};
 ghost use Rattle.fs_nodes.specs.FileSystem.{IsFileSystem};
 ghost use Rattle.fs_tree.specs.Finding.{inodes_of, put_back};
+ghost use Rattle.image_keep.specs.Kept.{IsKept};
 
 use fs_nodes::Nodes;
+use image_keep::Images;
 use open_files::OpenTable;
 
 /// The inode of the root.
@@ -25,11 +27,32 @@ pub(crate) fn see_table(table: &OpenTable)
     let _used = table.in_use(0);
 }
 
+/// Sees how many slots have images.
+pub(crate) fn see_images(images: &Images)
+    ensures { length images.now.slots ≡ 50 }
+{
+    let _place = images.place(0);
+}
+
+/// Sees what holds of all images that are kept.
+pub(crate) fn see_kept(images: &Images)
+    ensures { IsKept images.now }
+{
+    let _place = images.place(0);
+}
+
 /// Sees how many numbers a process has for its files.
 pub(crate) fn see_numbers(numbers: &[u8; 15])
     ensures { length numbers.now ≡ 15 }
 {
     let _ = numbers;
+}
+
+/// Sees that the second argument of a call is a word of 16 bits.
+pub(crate) fn see_count(args: &[u16; 4])
+    ensures { slice_index args.now 1 ≤ 65535 }
+{
+    let _count = args[1];
 }
 
 /// Takes inode 1 as the root and as the directory of process 1.

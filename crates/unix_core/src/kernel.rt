@@ -1,34 +1,54 @@
 //! The kernel, which takes one event a call.
-ghost use Rattle.std.specs.Prelude.{◌≡◌, ◌≢◌, ◌==◌, ◌<◌, ℕ, [], slice_index, None, Some, MatchOption, if◌then◌else◌, Ok, false};
+ghost use Rattle.std.specs.Prelude.{◌≡◌, ◌≢◌, ◌==◌, ◌<◌, ◌≤◌, ℕ, [], slice_index, None, Some, MatchOption, if◌then◌else◌, Ok, false};
 ghost use Rattle.v6_base.specs.Trace.{Took};
 ghost use Rattle.fs_codec.specs.Stands.{StandsFor};
 ghost use Rattle.buf_cache.specs.Blocks.{block_at, IsDisk};
 ghost use Rattle.fs_laws.specs.Rest.{SameRest};
+ghost use Rattle.image_keep.specs.Kept.{Alive, first_kept, with_keeping};
+ghost use Rattle.unix_core.specs.Parts.{first_held};
 ghost use Rattle.unix_core.specs.Turn.{turned};
 ghost use Rattle.unix_core.specs.Outside.{is_signal_key};
 
-use crate::files::see_nodes;
+use crate::exec::{MOST_CLICKS, SLOT};
+use crate::files::{ROOT, see_kept, see_nodes};
 use crate::init::find_init;
 use crate::machine::{Machine, Stage, turned_at};
-use crate::memory::Memory;
-use crate::process::Process;
 use crate::turned::{Turned, Unbuilt};
 use crate::world::World;
 use fs_codec::DISK_BLOCKS;
 use fs_nodes::Nodes;
 use fs_tree::Tree;
+use image_keep::Images;
 use open_files::OpenTable;
-use pdp_step::Outcome;
+use pdp_step::{Outcome, Regs, step};
 use pick_rules::Table;
+use proc_tab::Rows;
+use seg_regs::Proto;
 use std::marker::Model;
 use sys_files::Files;
+use sys_procs::Procs;
 use tty_line::Line;
-use v6_base::Trace;
+use v6_base::{Entry, Tape, Trace};
 
-/// The most clicks of an image, where there is core for them.
-const MOST_CLICKS: u16 = 2048;
+/// The first image of process 1: one click of data, at the front of core.
+fn first_image(mut images: Images) -> Option<Images>
+    requires least { 64 ≤ images.core }
+    requires empty { images ≡ first_kept images.core }
+    ensures { MatchOption result ⊥ (λ kept. kept ≡ with_keeping images 1 (Alive first_held)) }
+{
+    let Ok(proto) = Proto::make(0, 1, 0, MOST_CLICKS) else {
+        return None;
+    };
+    if images.replace(SLOT, proto, None).is_err() {
+        return None;
+    }
+    let mut u = images.area(SLOT);
+    u.dir = ROOT;
+    images.set_area(SLOT, &u);
+    Some(images)
+}
 
-/// The kernel with its one process and its disk: the abstract Unix, in fixed memory.
+/// The kernel with its processes and its disk: the abstract Unix, in fixed memory.
 #[derive(Drop)]
 pub struct Kernel {
     machine: Machine,
@@ -41,20 +61,29 @@ impl Model for Kernel {
     ghost Value = { SystemOnDisk };
 
     ghost view = { λ k. record {
-      system = system_at k.machine.stage k.machine.process k.machine.world;
+      system = system_at k.machine.stage k.machine.regs k.machine.world;
       blocks = k.machine.world.files.tree.nodes.blocks;
     } };
 
-    ghost invariant = { λ k. IsKernel k.machine.stage k.machine.process k.machine.world };
+    ghost invariant = { λ k. IsKernel k.machine.stage k.machine.world };
 }
 
 impl Kernel {
     ghost use Rattle.unix_core.specs.Runs.{Slot, Tick, Byte, Switch, start_of, event_of, system_with, booted, finished};
 
-    /// A kernel that is about to execute the first program of a file system, where that has the form that is built, in a
-    /// memory that has nothing and with so many clicks of core. Inode 1 is referred to as the root and as a directory.
-    pub(crate) fn new(memory: Memory, nodes: Nodes, time: u32, core: u16) -> Option<Self>
-        requires empty { memory.whole.image ≡ record { text = []; «data» = []; stack = [] } }
+    /// A kernel that is about to execute the first program of a file system, where that has the form that is built, with
+    /// images and a tape of which nothing is used. Inode 1 is referred to as the root and as a directory.
+    pub(crate) fn new(
+        images: Images,
+        tape: Tape,
+        nodes: Nodes,
+        time: u32,
+        core: u16,
+    ) -> Option<Self>
+        requires least { 64 ≤ core }
+        requires most { core ≤ 3968 }
+        requires images { images ≡ first_kept core }
+        requires tape { tape ≡ record { entries = []; bytes = []; entry_room = 64; byte_room = 524288 } }
         requires referred { (ino : ℕ) → slice_index nodes.references ino ≡ (if ino == 1 then 2 else 0) }
         requires time { time ≡ nodes.store.stamp }
         ensures { MatchOption result (booted (system_with nodes.store core) ≡ None)
@@ -62,25 +91,29 @@ impl Kernel {
     {
         see_nodes(&nodes);
         let mut tree = Tree::new(nodes);
-        let Some(init) = find_init(&mut tree) else {
-            return None;
-        };
+        let init = find_init(&mut tree)?;
+        let images = first_image(images)?;
         let files = Files {
             tree,
             table: OpenTable::new(),
             line: Line::new(),
         };
-        let world = World {
-            files,
+        let procs = Procs {
+            rows: Rows::new(),
             table: Table::new(time),
+            images,
             switches: 0,
-            limit: core.min(MOST_CLICKS),
         };
         Some(Kernel {
             machine: Machine {
                 stage: Stage::Fresh(init),
-                process: Process::new(memory),
-                world,
+                regs: Regs { r: [0; 8], cc: 0 },
+                world: World {
+                    files,
+                    procs,
+                    tape,
+                    core,
+                },
             },
         })
     }
@@ -93,6 +126,10 @@ impl Kernel {
         ensures items { Took (T.taken trace.old) (start_of self.old.system).items (T.taken trace.new) }
         ensures frame { T.leads_to trace.old trace.new }
     {
+        trace.entry(Entry::Boot {
+            core: self.machine.world.core,
+            time: self.machine.world.procs.table.now,
+        });
         self.machine.pass(trace);
     }
 
@@ -105,13 +142,21 @@ impl Kernel {
         ensures items { Took (T.taken trace.old) (event_of Slot self.old.system).items (T.taken trace.new) }
         ensures frame { T.leads_to trace.old trace.new }
     {
-        let at = self.machine.process.pc();
         match self.machine.stage {
-            Stage::Running => match self.machine.process.step() {
-                Outcome::Next => Turned::Ran,
-                outcome => turned_at(self.machine.after_step(outcome, trace), at),
-            },
-            Stage::Fresh(_) | Stage::Waiting | Stage::Ended => {
+            Stage::Running(s) => {
+                let at = self.machine.regs.r[7];
+                see_kept(&self.machine.world.procs.images);
+                let outcome = {
+                    let mut space = self.machine.world.procs.images.space(s);
+                    step(&mut self.machine.regs, &mut space)
+                };
+                match outcome {
+                    Outcome::Next => Turned::Ran,
+                    outcome => turned_at(self.machine.after_step(s, outcome, trace), at),
+                }
+            }
+            Stage::Fresh(_) | Stage::Resting => {
+                let at = self.machine.pc();
                 turned_at(self.machine.other_slot(trace), at)
             }
         }
@@ -147,7 +192,7 @@ impl Kernel {
         ensures next { self.new.system ≡ (event_of (Switch w) self.old.system).next }
         ensures blocks { self.new.blocks ≡ self.old.blocks }
     {
-        self.machine.world.switches = w;
+        self.machine.world.procs.switches = w;
     }
 
     /// Ends a run: writes to the disk what has changed, and the super-block with the time where that has. sync(II) of
@@ -163,7 +208,7 @@ impl Kernel {
             .files
             .tree
             .nodes
-            .update_all(self.machine.world.table.now);
+            .update_all(self.machine.world.procs.table.now);
         see_nodes(&self.machine.world.files.tree.nodes);
     }
 

@@ -1,14 +1,18 @@
-//! The kernel: the abstract Unix of one process, taking one event a call.
+//! The kernel: the abstract Unix, taking one event a call.
 #![tactic(auto)]
 
+mod asked;
 mod boot;
 mod calls;
+mod ending;
+mod exec;
 mod files;
 mod form;
 mod init;
 mod kernel;
 mod machine;
-mod memory;
+mod onfiles;
+mod passing;
 mod process;
 mod program;
 mod settling;

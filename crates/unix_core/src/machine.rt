@@ -1,34 +1,36 @@
 //! The parts of a kernel, and what each event does to them.
-ghost use Rattle.std.specs.Prelude.{◌≡◌, ◌≢◌, ◌++◌, ℕ, Bool, true, false, None, Some};
+ghost use Rattle.std.specs.Prelude.{◌≡◌, ◌≢◌, ◌<◌, ◌++◌, ℕ, Bool, true, false, None, Some};
 ghost use Rattle.v6_base.specs.Trace.{Took};
 ghost use Rattle.fs_laws.specs.Rest.{SameRest};
 ghost use Rattle.pick_rules.specs.Choice.{settle};
-ghost use Rattle.unix_core.specs.Turn.{ended_by, settled, turned, turned_by, ending_at, turn, pass_of};
-ghost use Rattle.unix_core.specs.Outside.{calls, mode_of, tick_entry, tick_of, timed, typed_of};
-ghost use Rattle.unix_core.specs.Unix as unix;
-ghost use Rattle.unix_core.specs.Unix.{register};
-ghost use Rattle.unix_core.specs.Parts.{turned_at, HasStepped, IsAlone, IsRunning, IsMachine, IsKernel, Takes, system_at, turn_at, stage_after, is_running};
+ghost use Rattle.pick_rules.specs.Logged.{logged};
+ghost use Rattle.sys_procs.specs.Process.{register};
+ghost use Rattle.unix_core.specs.Unix.{Unix, System, process_of};
+ghost use Rattle.unix_core.specs.Turn.{turned, turned_by, ending_at, turn, turn_of, end_effects, settled, pass_of};
+ghost use Rattle.unix_core.specs.Outside.{calls, charged, mode_of, tick_entry, timed_area, tick_of, typed_of};
+ghost use Rattle.unix_core.specs.Parts.{unix_of, board_in, system_at, turn_at, turned_at, pc_at, rested, IsGood, IsReady, IsUser, IsRested, IsKernel, HasCome, HasStepped, Takes, none_more};
 
-use crate::process::{Ending, Process, SLOT};
+use crate::ending::Ending;
+use crate::exec::exec;
+use crate::process::{come_to, resume};
 use crate::settling::{end_turn, pass, settle, wake};
 use crate::turned::{Turned, Unbuilt};
 use crate::world::World;
-use pdp_step::Outcome;
+use pdp_step::{Outcome, Regs};
 use pick_rules::{Mode, Second};
 use tty_line::Keyed;
+use u_area::UArea;
 use v6_base::{Chan, Entry, Slot, Trace};
 
-/// How far process 1 has come.
+/// What the next slot finds.
 #[derive(Clone, Copy, Debug, PartialEq, Eq)]
 pub enum Stage {
-    /// Its first turn will be the exec of `/etc/init`, which is this inode.
+    /// Process 1 will make its first turn, the exec of `/etc/init`, which is this inode.
     Fresh(u16),
-    /// It runs, and executes instructions.
-    Running,
-    /// It is in a call, or isn't chosen to run.
-    Waiting,
-    /// It has exited.
-    Ended,
+    /// The process in this slot executes instructions. Its registers stand apart from its u area.
+    Running(Slot),
+    /// A process goes on with a call, or nobody runs but the swapper, or nobody.
+    Resting,
 }
 
 /// How a slot went. It is one byte, so that a slot's answer stays in a register.
@@ -37,6 +39,8 @@ pub(crate) enum Went {
     Ran,
     /// Nobody ran.
     Idle,
+    /// An image wants a place in core, and there is none.
+    NoRoom,
     /// It came to what isn't built.
     NotBuilt,
 }
@@ -45,7 +49,7 @@ pub(crate) enum Went {
 #[derive(Drop)]
 pub(crate) struct Machine {
     pub(crate) stage: Stage,
-    pub(crate) process: Process,
+    pub(crate) regs: Regs,
     pub(crate) world: World,
 }
 
@@ -58,6 +62,25 @@ fn tick_entry(mode: Mode) -> Entry
         Mode::Kernel => Entry::TickKernel,
         Mode::Idle => Entry::TickIdle,
     }
+}
+
+/// A u area with one tick more of the process's own time, or of the system's for it.
+fn timed(old: UArea, mode: Mode) -> UArea
+    ensures { result ≡ timed_area mode old }
+{
+    let mut u = old;
+    match mode {
+        Mode::User => {
+            u.user_time = u.user_time.wrapping_add(1);
+            return u;
+        }
+        Mode::Kernel => {
+            u.system_time = u.system_time.wrapping_add(1);
+            return u;
+        }
+        Mode::Idle => {}
+    }
+    u
 }
 
 /// Whether a second that ends calls for those who sleep for a time.
@@ -81,31 +104,12 @@ fn calls(keyed: Keyed) -> bool
     }
 }
 
-/// Charges process 1 with a tick, where it runs.
-fn charge(process: &mut Process, mode: Mode, running: Option<Slot>)
-    ensures runs { running ≡ Some 1 → process.new ≡ timed mode process.old }
-    ensures rests { running ≢ Some 1 → process.new ≡ process.old }
-{
-    if running == Some(SLOT) {
-        process.charge(mode);
-    }
-}
-
-/// The stage after a turn that ended so.
-fn stage_after(ending: Ending, stage: Stage) -> Stage
-    ensures { result ≡ stage_after ending stage }
-{
-    match ending {
-        Ending::Ended => Stage::Ended,
-        Ending::Next | Ending::Trapped | Ending::Slept { .. } | Ending::NotBuilt => stage,
-    }
-}
-
 /// How a turn went that ended so.
 fn went_by(ending: Ending) -> Went
     ensures { (at : ℕ) → turned_at at result ≡ turned_by (ending_at at ending) false }
 {
     match ending {
+        Ending::NoRoom => Went::NoRoom,
         Ending::NotBuilt => Went::NotBuilt,
         Ending::Next | Ending::Trapped | Ending::Slept { .. } | Ending::Ended => Went::Ran,
     }
@@ -119,177 +123,218 @@ pub(crate) fn turned_at(went: Went, at: u16) -> Turned
     match went {
         Went::Ran => Turned::Ran,
         Went::Idle => Turned::Idle,
+        Went::NoRoom => Turned::NotBuilt(Unbuilt::Room),
         Went::NotBuilt => Turned::NotBuilt(Unbuilt::At(at)),
     }
 }
 
 impl Machine {
-    /// Sees whether process 1 executes instructions, when the kernel has settled.
-    fn refresh(&mut self)
-        requires machine { IsMachine self.old.stage self.old.process self.old.world }
-        requires settled { self.old.world.table.running ≡ Some 1 → settle self.old.world.table ≡ None }
-        ensures kernel { IsKernel self.new.stage self.new.process self.new.world }
-        ensures system { system_at self.new.stage self.new.process self.new.world
-            ≡ system_at self.old.stage self.old.process self.old.world }
+    /// Puts the registers of the process that executes instructions, where there is one, back into its u area.
+    fn put_back(&mut self)
+        requires { IsKernel self.old.stage self.old.world }
+        ensures stage { self.new.stage ≡ rested self.old.stage }
+        ensures system { system_at self.new.stage self.new.regs self.new.world
+            ≡ system_at self.old.stage self.old.regs self.old.world }
+        ensures table { self.new.world.procs.table ≡ self.old.world.procs.table }
+        ensures rested { IsRested self.new.stage self.new.world }
         ensures blocks { self.new.world.files.tree.nodes.blocks ≡ self.old.world.files.tree.nodes.blocks }
     {
-        match self.stage {
-            Stage::Fresh(_) | Stage::Ended => {}
-            Stage::Running | Stage::Waiting => {
-                self.stage = if self.world.table.running == Some(SLOT) && self.process.is_user() {
-                    Stage::Running
-                } else {
-                    Stage::Waiting
-                };
-            }
+        if let Stage::Running(s) = self.stage {
+            let mut u = self.world.procs.images.area(s);
+            let r = self.regs.r;
+            u.r = r;
+            u.cc = self.regs.cc;
+            self.world.procs.images.set_area(s, &u);
+            self.stage = Stage::Resting;
         }
     }
 
-    /// Settles.
+    /// Sees whether a process executes instructions, when the kernel has settled: its registers then stand apart.
+    fn refresh(&mut self)
+        requires rested { IsRested self.old.stage self.old.world }
+        requires settled { (s : ℕ) → self.old.world.procs.table.running ≡ Some s → settle self.old.world.procs.table ≡ None }
+        ensures kernel { IsKernel self.new.stage self.new.world }
+        ensures system { system_at self.new.stage self.new.regs self.new.world
+            ≡ system_at self.old.stage self.old.regs self.old.world }
+        ensures blocks { self.new.world.files.tree.nodes.blocks ≡ self.old.world.files.tree.nodes.blocks }
+    {
+        match (self.stage, self.world.procs.table.running) {
+            (Stage::Resting, Some(s)) if s != 0 => self.take_out(s),
+            _ => {}
+        }
+    }
+
+    /// Takes the registers of a process that runs out of its u area, where it executes instructions.
+    fn take_out(&mut self, s: Slot)
+        requires stage { self.old.stage ≡ Stage.Resting }
+        requires ready { IsReady self.old.world s }
+        requires settled { settle self.old.world.procs.table ≡ None }
+        ensures kernel { IsKernel self.new.stage self.new.world }
+        ensures system { system_at self.new.stage self.new.regs self.new.world
+            ≡ system_at self.old.stage self.old.regs self.old.world }
+        ensures blocks { self.new.world.files.tree.nodes.blocks ≡ self.old.world.files.tree.nodes.blocks }
+    {
+        let u = self.world.procs.images.area(s);
+        if u.pending == 0 {
+            let r = u.r;
+            self.regs = Regs { r, cc: u.cc };
+            self.stage = Stage::Running(s);
+        }
+    }
+
+    /// Settles, after an event that has left the registers in their u areas.
     fn settle<T: Trace>(&mut self, trace: &mut T)
-        requires { IsMachine self.old.stage self.old.process self.old.world }
-        ensures kernel { IsKernel self.new.stage self.new.process self.new.world }
-        ensures system { system_at self.new.stage self.new.process self.new.world
-            ≡ record (system_at self.old.stage self.old.process self.old.world) {
-              table = (settled self.old.world.table).table;
+        requires { IsRested self.old.stage self.old.world }
+        ensures kernel { IsKernel self.new.stage self.new.world }
+        ensures system { system_at self.new.stage self.new.regs self.new.world
+            ≡ record (system_at self.old.stage self.old.regs self.old.world) {
+              board = (settled (board_in self.old.world)).board;
             } }
         ensures blocks { self.new.world.files.tree.nodes.blocks ≡ self.old.world.files.tree.nodes.blocks }
-        ensures items { Took (T.taken trace.old) (settled self.old.world.table).items (T.taken trace.new) }
+        ensures items { Took (T.taken trace.old) (settled (board_in self.old.world)).items (T.taken trace.new) }
         ensures frame { T.leads_to trace.old trace.new }
     {
-        settle(&mut self.world.table, trace);
+        settle(&mut self.world.procs.table, trace);
         self.refresh();
     }
 
     /// Takes a pass of the swapper.
     pub(crate) fn pass<T: Trace>(&mut self, trace: &mut T)
-        requires { IsKernel self.old.stage self.old.process self.old.world }
-        ensures takes { Takes (pass_of (system_at self.old.stage self.old.process self.old.world))
-            self.new.stage self.new.process self.new.world }
+        requires { IsKernel self.old.stage self.old.world }
+        ensures takes { Takes (pass_of (system_at self.old.stage self.old.regs self.old.world))
+            self.new.stage self.new.regs self.new.world }
         ensures rest { SameRest self.old.world.files.tree.nodes.blocks self.new.world.files.tree.nodes.blocks }
         ensures items { Took (T.taken trace.old)
-            (pass_of (system_at self.old.stage self.old.process self.old.world)).items (T.taken trace.new) }
+            (pass_of (system_at self.old.stage self.old.regs self.old.world)).items (T.taken trace.new) }
         ensures frame { T.leads_to trace.old trace.new }
     {
-        pass(&mut self.world.table, trace);
+        self.put_back();
+        pass(&mut self.world.procs.table, trace);
         self.settle(trace);
     }
 
-    /// Takes a turn of process 1 as far as its call goes: the exec of the first program, or a call in which it slept.
-    fn go_on<T: Trace>(&mut self, trace: &mut T) -> Ending
-        requires kernel { IsKernel self.old.stage self.old.process self.old.world }
-        requires runs { self.old.world.table.running ≡ Some 1 }
-        requires other { self.old.stage ≢ Stage.Running }
-        ensures machine { IsMachine self.new.stage self.new.process self.new.world }
-        ensures ending { result ≡ (turn (system_at self.old.stage self.old.process self.old.world) 1).ending }
-        ensures alive { result ≢ Ending.Ended }
-        ensures system { system_at self.new.stage self.new.process self.new.world
-            ≡ record (system_at self.old.stage self.old.process self.old.world) {
-              unix = (turn (system_at self.old.stage self.old.process self.old.world) 1).unix;
-              is_fresh = false;
-            } }
-        ensures table { self.new.world.table ≡ self.old.world.table }
-        ensures stage { is_running self.new.stage ≡ true }
+    /// Takes a turn of a process as far as its call goes: the exec of the first program, or a call in which it slept.
+    fn go_on<T: Trace>(&mut self, s: Slot, trace: &mut T) -> Ending
+        requires kernel { IsKernel self.old.stage self.old.world }
+        requires runs { self.old.world.procs.table.running ≡ Some s }
+        requires user { 0 < s }
+        requires other { (r : ℕ) → self.old.stage ≢ Stage.Running r }
+        ensures come { HasCome (board_in self.old.world)
+            (turn (system_at self.old.stage self.old.regs self.old.world) s) result self.new.world }
+        ensures stage { self.new.stage ≡ Stage.Resting }
+        ensures good { IsGood self.new.world none_more }
+        ensures runs { result ≢ Ending.Ended → self.new.world.procs.table.running ≡ Some s }
         ensures rest { SameRest self.old.world.files.tree.nodes.blocks self.new.world.files.tree.nodes.blocks }
-        ensures items { Took (T.taken trace.old)
-            (turn (system_at self.old.stage self.old.process self.old.world) 1).items (T.taken trace.new) }
+        ensures items { Took (T.taken trace.old) (logged (board_in self.old.world)
+            (turn (system_at self.old.stage self.old.regs self.old.world) s).effects).items (T.taken trace.new) }
         ensures frame { T.leads_to trace.old trace.new }
     {
         match self.stage {
             Stage::Fresh(init) => {
-                self.process.exec(init, &mut self.world);
-                self.stage = Stage::Waiting;
-                Ending::Trapped
+                self.stage = Stage::Resting;
+                exec(&mut self.world, init, trace)
             }
-            Stage::Running | Stage::Waiting | Stage::Ended => {
-                self.process.resume(&mut self.world, trace)
-            }
+            Stage::Running(_) | Stage::Resting => resume(&mut self.world, s, trace),
         }
     }
 
-    /// Ends a turn of process 1 that has come to this, and settles. It stands out of line, beside the loop over slots.
+    /// Ends a turn of a process that has come to this, and settles. It stands out of line, beside the loop over slots.
     #[inline(never)]
-    pub(crate) fn end<T: Trace>(&mut self, ending: Ending, trace: &mut T) -> Went
-        requires alone { IsAlone self.old.world.table }
-        requires running { ending ≢ Ending.Ended → IsRunning self.old.process self.old.world }
-        requires began { is_running self.old.stage ≡ true }
+    fn end<T: Trace>(&mut self, s: Slot, ending: Ending, trace: &mut T) -> Went
+        requires good { IsGood self.old.world none_more }
+        requires user { 0 < s }
+        requires slot { s < 50 }
+        requires runs { ending ≢ Ending.Ended → self.old.world.procs.table.running ≡ Some s }
+        requires stage { self.old.stage ≡ Stage.Resting }
         ensures answer { (at : ℕ) → turned_at at result ≡ turned_by (ending_at at ending) false }
-        ensures kernel { IsKernel self.new.stage self.new.process self.new.world }
-        ensures system { system_at self.new.stage self.new.process self.new.world
-            ≡ record (system_at (stage_after ending self.old.stage) self.old.process self.old.world) {
-              table = (settled (ended_by ending self.old.world.table 1).table).table;
-            } }
+        ensures kernel { IsKernel self.new.stage self.new.world }
+        ensures system { system_at self.new.stage self.new.regs self.new.world ≡ record {
+          unix = unix_of self.old.world;
+          board = (settled (logged {W = Unix} (board_in self.old.world) (end_effects s ending)).board).board;
+          is_fresh = false;
+        } }
         ensures blocks { self.new.world.files.tree.nodes.blocks ≡ self.old.world.files.tree.nodes.blocks }
-        ensures items { Took (T.taken trace.old) ((ended_by ending self.old.world.table 1).items
-            ++ (settled (ended_by ending self.old.world.table 1).table).items) (T.taken trace.new) }
+        ensures items { Took (T.taken trace.old) ((logged {W = Unix} (board_in self.old.world) (end_effects s ending)).items
+            ++ (settled (logged {W = Unix} (board_in self.old.world) (end_effects s ending)).board).items) (T.taken trace.new) }
         ensures frame { T.leads_to trace.old trace.new }
     {
-        end_turn(&mut self.world.table, ending, trace);
-        self.stage = stage_after(ending, self.stage);
+        end_turn(&mut self.world.procs.table, s, ending, trace);
         self.settle(trace);
         went_by(ending)
     }
 
-    /// Takes what an instruction of process 1 comes to, where that isn't the next one, and settles. It stands out of line,
-    /// beside the loop over slots.
+    /// Takes what an instruction comes to, where that isn't the next one, and settles. It stands out of line, beside the loop
+    /// over slots.
     #[inline(never)]
-    pub(crate) fn after_step<T: Trace>(&mut self, outcome: Outcome, trace: &mut T) -> Went
-        requires alone { IsAlone self.old.world.table }
-        requires running { IsRunning self.old.process self.old.world }
-        requires stage { self.old.stage ≡ Stage.Running }
-        ensures answer { (p : unix.Process) → HasStepped p self.old.process self.old.world outcome
-            → turned_at (register p 7) result ≡ turned (turn_at Stage.Running p self.old.world) }
-        ensures kernel { IsKernel self.new.stage self.new.process self.new.world }
-        ensures system { (p : unix.Process) → HasStepped p self.old.process self.old.world outcome
-            → system_at self.new.stage self.new.process self.new.world ≡ (turn_at Stage.Running p self.old.world).next }
+    pub(crate) fn after_step<T: Trace>(&mut self, s: Slot, outcome: Outcome, trace: &mut T) -> Went
+        requires stage { self.old.stage ≡ Stage.Running s }
+        requires user { IsUser s self.old.world }
+        ensures answer { (m : System) → HasStepped m self.old.regs self.old.world s outcome
+            → turned_at (register (process_of m.unix s) 7) result ≡ turned (turn_of m s (turn m s)) }
+        ensures kernel { IsKernel self.new.stage self.new.world }
+        ensures system { (m : System) → HasStepped m self.old.regs self.old.world s outcome
+            → system_at self.new.stage self.new.regs self.new.world ≡ (turn_of m s (turn m s)).next }
         ensures rest { SameRest self.old.world.files.tree.nodes.blocks self.new.world.files.tree.nodes.blocks }
-        ensures items { (p : unix.Process) → HasStepped p self.old.process self.old.world outcome
-            → Took (T.taken trace.old) (turn_at Stage.Running p self.old.world).items (T.taken trace.new) }
+        ensures items { (m : System) → HasStepped m self.old.regs self.old.world s outcome
+            → Took (T.taken trace.old) (turn_of m s (turn m s)).items (T.taken trace.new) }
         ensures frame { T.leads_to trace.old trace.new }
     {
-        let ending = self.process.come_to(outcome, &mut self.world, trace);
-        self.end(ending, trace)
+        self.put_back();
+        let ending = come_to(&mut self.world, s, outcome, trace);
+        self.end(s, ending, trace)
     }
 
-    /// Takes a slot in which process 1 doesn't just execute an instruction. It stands out of line, so that every other
-    /// slot asks for the stage once.
+    /// Takes a slot in which no process just executes an instruction. It stands out of line, so that every other slot asks for
+    /// the stage once.
     #[cold]
     #[inline(never)]
     pub(crate) fn other_slot<T: Trace>(&mut self, trace: &mut T) -> Went
-        requires kernel { IsKernel self.old.stage self.old.process self.old.world }
-        requires other { self.old.stage ≢ Stage.Running }
-        ensures answer { turned_at (register self.old.process 7) result
-            ≡ turned (turn_at self.old.stage self.old.process self.old.world) }
-        ensures takes { Takes (turn_at self.old.stage self.old.process self.old.world)
-            self.new.stage self.new.process self.new.world }
+        requires kernel { IsKernel self.old.stage self.old.world }
+        requires other { (r : ℕ) → self.old.stage ≢ Stage.Running r }
+        ensures answer { turned_at (pc_at self.old.stage self.old.regs self.old.world) result
+            ≡ turned (turn_at self.old.stage self.old.regs self.old.world) }
+        ensures takes { Takes (turn_at self.old.stage self.old.regs self.old.world)
+            self.new.stage self.new.regs self.new.world }
         ensures rest { SameRest self.old.world.files.tree.nodes.blocks self.new.world.files.tree.nodes.blocks }
         ensures items { Took (T.taken trace.old)
-            (turn_at self.old.stage self.old.process self.old.world).items (T.taken trace.new) }
+            (turn_at self.old.stage self.old.regs self.old.world).items (T.taken trace.new) }
         ensures frame { T.leads_to trace.old trace.new }
     {
-        match self.world.table.running {
+        match self.world.procs.table.running {
             None => Went::Idle,
             Some(0) => {
                 self.pass(trace);
                 Went::Ran
             }
-            Some(_) => {
-                let ending = self.go_on(trace);
-                self.end(ending, trace)
+            Some(s) => {
+                let ending = self.go_on(s, trace);
+                self.end(s, ending, trace)
             }
         }
     }
 
-    /// Where a tick comes.
-    fn mode(&self) -> Mode
-        requires { IsKernel self.now.stage self.now.process self.now.world }
-        ensures { result ≡ mode_of (system_at self.now.stage self.now.process self.now.world) }
+    /// The PC of the process that runs, or 0.
+    pub(crate) fn pc(&self) -> u16
+        requires { IsKernel self.now.stage self.now.world }
+        ensures { result ≡ pc_at self.now.stage self.now.regs self.now.world }
     {
-        match self.world.table.running {
+        match (self.stage, self.world.procs.table.running) {
+            (Stage::Running(_), _) => self.regs.r[7],
+            (_, Some(s)) if s != 0 => self.world.procs.images.area(s).r[7],
+            _ => 0,
+        }
+    }
+
+    /// Where a tick comes, when the registers have been put back.
+    fn mode(&self) -> Mode
+        requires { IsRested self.now.stage self.now.world }
+        ensures { result ≡ mode_of (system_at self.now.stage self.now.regs self.now.world) }
+    {
+        match self.world.procs.table.running {
             None => Mode::Idle,
             Some(0) => Mode::Kernel,
-            Some(_) => {
-                if self.process.is_user() {
+            Some(s) => {
+                if self.world.procs.images.area(s).pending == 0 {
                     Mode::User
                 } else {
                     Mode::Kernel
@@ -298,36 +343,63 @@ impl Machine {
         }
     }
 
+    /// Charges the process that runs with a tick: times(II).
+    fn charge(&mut self, mode: Mode)
+        requires { IsRested self.old.stage self.old.world }
+        ensures rested { IsRested self.new.stage self.new.world }
+        ensures stage { self.new.stage ≡ self.old.stage }
+        ensures unix { unix_of self.new.world ≡ charged (unix_of self.old.world) mode self.old.world.procs.table.running }
+        ensures table { self.new.world.procs.table ≡ self.old.world.procs.table }
+        ensures board { board_in self.new.world ≡ board_in self.old.world }
+        ensures blocks { self.new.world.files.tree.nodes.blocks ≡ self.old.world.files.tree.nodes.blocks }
+    {
+        let Some(s) = self.world.procs.table.running else {
+            return;
+        };
+        if s == 0 {
+            return;
+        }
+        let u = timed(self.world.procs.images.area(s), mode);
+        self.world.procs.images.set_area(s, &u);
+    }
+
     /// Takes a tick of the clock.
     pub(crate) fn tick<T: Trace>(&mut self, trace: &mut T)
-        requires { IsKernel self.old.stage self.old.process self.old.world }
-        ensures takes { Takes (tick_of (system_at self.old.stage self.old.process self.old.world))
-            self.new.stage self.new.process self.new.world }
+        requires { IsKernel self.old.stage self.old.world }
+        ensures takes { Takes (tick_of (system_at self.old.stage self.old.regs self.old.world))
+            self.new.stage self.new.regs self.new.world }
         ensures rest { SameRest self.old.world.files.tree.nodes.blocks self.new.world.files.tree.nodes.blocks }
         ensures items { Took (T.taken trace.old)
-            (tick_of (system_at self.old.stage self.old.process self.old.world)).items (T.taken trace.new) }
+            (tick_of (system_at self.old.stage self.old.regs self.old.world)).items (T.taken trace.new) }
         ensures frame { T.leads_to trace.old trace.new }
     {
+        self.put_back();
         let mode = self.mode();
-        charge(&mut self.process, mode, self.world.table.running);
-        let second = self.world.table.tick_ageing(mode);
+        self.charge(mode);
+        let second = self.world.procs.table.tick_ageing(mode);
         trace.entry(tick_entry(mode));
-        wake(&mut self.world.table, is_due(second), Chan::Tout, trace);
+        wake(
+            &mut self.world.procs.table,
+            is_due(second),
+            Chan::Tout,
+            trace,
+        );
         self.settle(trace);
     }
 
     /// Takes a byte that is typed at the console.
     pub(crate) fn typed<T: Trace>(&mut self, byte: u8, trace: &mut T)
-        requires { IsKernel self.old.stage self.old.process self.old.world }
-        ensures takes { Takes (typed_of (system_at self.old.stage self.old.process self.old.world) byte)
-            self.new.stage self.new.process self.new.world }
+        requires { IsKernel self.old.stage self.old.world }
+        ensures takes { Takes (typed_of (system_at self.old.stage self.old.regs self.old.world) byte)
+            self.new.stage self.new.regs self.new.world }
         ensures rest { SameRest self.old.world.files.tree.nodes.blocks self.new.world.files.tree.nodes.blocks }
         ensures items { Took (T.taken trace.old)
-            (typed_of (system_at self.old.stage self.old.process self.old.world) byte).items (T.taken trace.new) }
+            (typed_of (system_at self.old.stage self.old.regs self.old.world) byte).items (T.taken trace.new) }
         ensures frame { T.leads_to trace.old trace.new }
     {
+        self.put_back();
         let keyed = self.world.files.line.typed(byte, trace);
-        wake(&mut self.world.table, calls(keyed), Chan::Keys, trace);
+        wake(&mut self.world.procs.table, calls(keyed), Chan::Keys, trace);
         self.settle(trace);
     }
 }

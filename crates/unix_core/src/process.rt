@@ -1,450 +1,416 @@
-//! A process: its memory, its registers and what the kernel keeps of it; its turns and its calls.
-ghost use Rattle.std.specs.Prelude.{◌≡◌, ◌≢◌, ◌<◌, ℕ, [], None, Some};
-ghost use Rattle.std.specs.Option.{option_map};
+//! Turns and calls of a process: what an instruction comes to, and how a call goes on. `trap` in Lions' Commentary, `trap.c`.
+ghost use Rattle.std.specs.Prelude.{◌≡◌, ◌≢◌, ◌||◌, Some, true, is_some, is_none};
 ghost use Rattle.v6_base.specs.Trace.{Took};
-ghost use Rattle.pdp_step.specs.Instruction.{instr};
 ghost use Rattle.fs_laws.specs.Rest.{SameRest};
-ghost use Rattle.unix_core.specs.Unix.{no_row, no_area, register};
-ghost use Rattle.unix_core.specs.declared.world.World.{World};
-ghost use Rattle.unix_core.specs.Steps.{returns};
-ghost use Rattle.unix_core.specs.Calls.{FileCall, file_call, handed_of, with_handed, argument, arguments_of, entered, refuses, answers, does_if_built, exit_now, system_call, resumed};
+ghost use Rattle.pick_rules.specs.Logged.{logged};
+ghost use Rattle.image_keep.specs.Kept.{HasImage, area_of, clicks_of, with_area};
+ghost use Rattle.open_files.specs.Files.{AreOpen, HaveRoom};
+ghost use Rattle.proc_tab.specs.Processes.{lowest, IsUsed};
 ghost use Rattle.sys_files.specs.Moving.{resume_read};
-ghost use Rattle.unix_core.specs.Outside.{timed};
-ghost use Rattle.unix_core.specs.Exec.{exec_init};
-ghost use Rattle.unix_core.specs.Turn.{machine_of, with_machine, comes_to, instruction, is_user};
-ghost use Rattle.unix_core.specs.Runs.{fresh_process};
-ghost use Rattle.unix_core.specs.Parts.{unix_of, unix_with, unix_after, row_of, IsRunning, IsFresh};
+ghost use Rattle.sys_procs.specs.Resume.{resume_proc};
+ghost use Rattle.unix_core.specs.Unix.{process_of};
+ghost use Rattle.unix_core.specs.Calls.{world_of, words_passed, entered_area, given_area, refused_area, file_call, process_call, count_of, system_call, does_call, did_by, came_by, shares, is_full, fork_if_room, exits, resumed, answers, handed_of};
+ghost use Rattle.unix_core.specs.Turn.{comes_to, has_room};
+ghost use Rattle.unix_core.specs.Parts.{unix_of, board_in, IsGood, IsReady, HasCome, none_more, row_of, process_row_of};
 
-use crate::calls::{EXIT, count_of, do_call, error_number};
-use crate::files::{ROOT, let_go, see_nodes, see_numbers, see_table};
-use crate::memory::Memory;
-use crate::program::{STACK, read_init};
+use crate::asked::{Asked, ask};
+use crate::calls::{count_of, do_process_call, error_number, is_file_call};
+use crate::ending::Ending;
+use crate::files::{see_images, see_kept, see_nodes, see_table};
+use crate::onfiles::{close_files, do_on_files, read_on};
+use crate::passing::pass_on;
 use crate::world::World;
-use pdp_step::{Outcome, Regs, step};
-use pick_rules::Mode;
-use proc_tab::Row;
-use std::marker::Model;
-use sys_files::{close_all, resume_file};
-use u_area::UArea;
-use v6_base::{Answer, Chan, Slot, Space, Trace};
+use image_keep::Images;
+use open_files::OpenTable;
+use pdp_step::Outcome;
+use proc_tab::Rows;
+use sys_procs::{exit_now, fork_one, resume_proc};
+use v6_base::{Answer, Slot, Trace};
 
-/// Where the stack begins that holds `/etc/init` as the only argument: 16 bytes below the end.
-const FIRST_STACK: u16 = 65520;
+/// Calls that have no row of their own in the tables: indir(II), exit(II), fork(II).
+const INDIRECT: u8 = 0;
 
-/// The slot of process 1.
-pub(crate) const SLOT: Slot = 1;
+const EXIT: u8 = 1;
 
-/// The pending call that is a read of the console.
+const FORK: u8 = 2;
+
+/// The pending call that is a read of the console, a sleep, or a wait.
 const PENDING_READ: u8 = 1;
 
-/// What a word counts as that can't be read.
-const ONES: u16 = 0o177777;
+const PENDING_SLEEP: u8 = 5;
+
+const PENDING_WAIT: u8 = 6;
 
 /// The first number of an error that makes a signal.
 const FIRST_SIGNAL: u16 = 100;
 
-/// How a turn of a process ended.
-#[derive(Clone, Copy, Debug, PartialEq, Eq)]
-pub(crate) enum Ending {
-    /// An instruction is done.
-    Next,
-    /// A call is done, and the process goes on.
-    Trapped,
-    /// The process sleeps in a call, at this priority, for this channel.
-    Slept { pri: i8, chan: Chan },
-    /// The process has exited.
-    Ended,
-    /// It came to what isn't built.
-    NotBuilt,
-}
+/// The clicks of a u area.
+const AREA: u16 = 16;
 
-/// Process 1 as it runs. Its registers and codes stand apart from its per-process area, which has them in calls.
-#[derive(Drop)]
-pub(crate) struct Process {
-    memory: Memory,
-    regs: Regs,
-    u: UArea,
-    row: Row,
-}
-
-impl Model for Process {
-    ghost use Rattle.unix_core.specs.Unix as unix;
-    ghost use Rattle.std.specs.Prelude.{false, None};
-
-    ghost Value = { unix.Process };
-
-    ghost view = { λ p. record {
-      row = p.row;
-      u = record p.u { r = p.regs.r; cc = p.regs.cc; codes = p.regs.cc_in_range };
-      «data» = p.memory.whole.image.data;
-      stack = p.memory.whole.image.stack;
-      text = None;
-      is_zombie = false;
-    } };
-}
-
-/// The per-process area of process 1, before its first turn.
-fn first_area() -> UArea
-    ensures { result ≡ record no_area { dir = 1 } }
+/// A call begins: C is cleared, and the PC passes so many words.
+fn enter(images: &mut Images, s: Slot, words: u8)
+    requires { HasImage images.old s }
+    ensures { images.new ≡ with_area images.old s (entered_area words (area_of images.old s)) }
 {
-    UArea {
-        r: [0; 8],
-        cc: 0,
-        uid: 0,
-        gid: 0,
-        ruid: 0,
-        rgid: 0,
-        dir: ROOT,
-        text_size: 0,
-        data_size: 0,
-        stack_size: 0,
-        pending: 0,
-        call: [0; 8],
-        user_time: 0,
-        system_time: 0,
-        child_user: 0,
-        child_system: 0,
-        status: 0,
-        handlers: [0; 20],
-        files: [0; 15],
+    let mut u = images.area(s);
+    u.cc -= u.cc % 2;
+    u.r[7] = u.r[7].wrapping_add(2 * u16::from(words));
+    images.set_area(s, &u);
+}
+
+/// R0 and R1 take what a call gives.
+fn give(images: &mut Images, s: Slot, r0: u16, r1: u16)
+    requires { HasImage images.old s }
+    ensures { images.new ≡ with_area images.old s (given_area r0 r1 (area_of images.old s)) }
+{
+    let mut u = images.area(s);
+    u.r[0] = r0;
+    u.r[1] = r1;
+    images.set_area(s, &u);
+}
+
+/// A call is refused: C is set, and R0 takes the number of the error.
+fn refuse(images: &mut Images, s: Slot, number: u16)
+    requires { HasImage images.old s }
+    ensures { images.new ≡ with_area images.old s (refused_area number (area_of images.old s)) }
+{
+    let mut u = images.area(s);
+    u.cc = u.cc - u.cc % 2 + 1;
+    u.r[0] = number;
+    images.set_area(s, &u);
+}
+
+/// A call ends: the registers take what it answers.
+fn conclude(world: &mut World, s: Slot, answer: Answer) -> Ending
+    requires { IsReady world.old s }
+    ensures ending { result ≡ (answers (unix_of world.old) s answer).ending }
+    ensures unix { unix_of world.new ≡ (answers (unix_of world.old) s answer).unix }
+    ensures board { board_in world.new ≡ board_in world.old }
+    ensures ready { IsReady world.new s }
+    ensures blocks { world.new.files.tree.nodes.blocks ≡ world.old.files.tree.nodes.blocks }
+{
+    match answer {
+        Answer::Ret { r0, r1 } => {
+            give(&mut world.procs.images, s, r0, r1);
+            Ending::Trapped
+        }
+        Answer::Fail(error) => {
+            let number = error_number(error);
+            if number >= FIRST_SIGNAL {
+                return Ending::NotBuilt;
+            }
+            refuse(&mut world.procs.images, s, number);
+            Ending::Trapped
+        }
+        Answer::Sleep { pri, chan } => Ending::Slept { pri, chan },
     }
 }
 
-impl Process {
-    /// Process 1, in a memory that has nothing.
-    pub(crate) fn new(memory: Memory) -> Self
-        requires { memory.whole.image ≡ record { text = []; «data» = []; stack = [] } }
-        ensures { result ≡ fresh_process }
-    {
-        Process {
-            memory,
-            regs: Regs { r: [0; 8], cc: 0 },
-            u: first_area(),
-            row: Row {
-                pid: 1,
-                ppid: 0,
-                uid: 0,
-                sig: 0,
-                tty: 0,
-            },
+/// Whether all slots are in use, one of which is this.
+fn is_full(rows: &Rows, s: Slot) -> bool
+    requires { IsUsed rows.now s }
+    ensures { result ≡ is_none (lowest is_none rows.now.slots) }
+{
+    let mut copy = *rows;
+    copy.new_slot(s).is_none()
+}
+
+/// A call on files by its number, which has been entered.
+fn call_files<T: Trace>(
+    world: &mut World,
+    s: Slot,
+    number: u8,
+    args: [u16; 4],
+    trace: &mut T,
+) -> Ending
+    requires { IsReady world.old s }
+    ensures come { HasCome (board_in world.old) (did_by (unix_of world.old) s (row_of (file_call number)
+        (handed_of (unix_of world.old) (process_of (unix_of world.old) s)) args world.old.procs.table.now)) result world.new }
+    ensures ready { IsReady world.new s }
+    ensures items { Took (T.taken trace.old) (logged (board_in world.old) (did_by (unix_of world.old) s (row_of (file_call number)
+        (handed_of (unix_of world.old) (process_of (unix_of world.old) s)) args world.old.procs.table.now)).effects).items
+        (T.taken trace.new) }
+    ensures frame { T.leads_to trace.old trace.new }
+    ensures rest { SameRest world.old.files.tree.nodes.blocks world.new.files.tree.nodes.blocks }
+{
+    let answer = do_on_files(world, s, number, args);
+    pass_on(&world.tape, &mut world.procs.table, trace);
+    conclude(world, s, answer)
+}
+
+/// A call on processes by its number, which has been entered.
+fn call_processes<T: Trace>(
+    world: &mut World,
+    s: Slot,
+    number: u8,
+    args: [u16; 4],
+    trace: &mut T,
+) -> Ending
+    requires { IsReady world.old s }
+    ensures come { HasCome (board_in world.old) (came_by (unix_of world.old) s (process_row_of (process_call number)
+        (world_of (unix_of world.old)) s args)) result world.new }
+    ensures ready { IsReady world.new s }
+    ensures items { Took (T.taken trace.old) (logged (board_in world.old) (came_by (unix_of world.old) s (process_row_of
+        (process_call number) (world_of (unix_of world.old)) s args)).effects).items (T.taken trace.new) }
+    ensures frame { T.leads_to trace.old trace.new }
+    ensures rest { SameRest world.old.files.tree.nodes.blocks world.new.files.tree.nodes.blocks }
+{
+    see_nodes(&world.files.tree.nodes);
+    see_table(&world.files.table);
+    match do_process_call(
+        number,
+        &mut world.procs,
+        &mut world.files.tree,
+        s,
+        args,
+        trace,
+    ) {
+        Ok(answer) => {
+            see_images(&world.procs.images);
+            conclude(world, s, answer)
         }
+        Err(_) => Ending::NotBuilt,
     }
+}
 
-    /// Whether the process executes instructions: it is in no call.
-    pub(crate) fn is_user(&self) -> bool
-        ensures { result ≡ is_user self.now }
-    {
-        self.u.pending == 0
+/// Whether core has a place for the image of a child. Where all slots are used there is no child, and none is wanted.
+fn can_fork(world: &World, s: Slot) -> bool
+    requires { IsReady world.now s }
+    ensures { result ≡ (is_full (unix_of world.now)
+        || has_room (board_in world.now) (clicks_of (process_of (unix_of world.now) s).u)) }
+{
+    see_kept(&world.procs.images);
+    let u = world.procs.images.area(s);
+    is_full(&world.procs.rows, s)
+        || world
+            .procs
+            .images
+            .has_room(AREA + u.data_size + u.stack_size)
+}
+
+/// The child of a process that forked names the same files; a fork that was refused shares none.
+fn share_files(table: &mut OpenTable, mine: &[u8; 15], answer: Answer)
+    requires open { AreOpen table.old mine.now }
+    requires few { HaveRoom table.old }
+    ensures { table.new ≡ shares table.old mine.now answer }
+{
+    if let Answer::Ret { .. } = answer {
+        table.share(mine);
     }
+}
 
-    /// Charges the process with a tick: times(II).
-    pub(crate) fn charge(&mut self, mode: Mode)
-        ensures { self.new ≡ timed mode self.old }
-    {
-        match mode {
-            Mode::User => self.u.user_time = self.u.user_time.wrapping_add(1),
-            Mode::Kernel => self.u.system_time = self.u.system_time.wrapping_add(1),
-            Mode::Idle => {}
+/// fork(II): the child has its parent's open files.
+fn fork<T: Trace>(world: &mut World, s: Slot, trace: &mut T) -> Ending
+    requires { IsReady world.old s }
+    ensures come { HasCome (board_in world.old) (fork_if_room (has_room (board_in world.old)) (unix_of world.old) s) result
+        world.new }
+    ensures ready { IsReady world.new s }
+    ensures items { Took (T.taken trace.old) (logged (board_in world.old) (fork_if_room (has_room (board_in world.old))
+        (unix_of world.old) s).effects).items (T.taken trace.new) }
+    ensures frame { T.leads_to trace.old trace.new }
+    ensures rest { SameRest world.old.files.tree.nodes.blocks world.new.files.tree.nodes.blocks }
+{
+    if !can_fork(world, s) {
+        return Ending::NoRoom;
+    }
+    let u = world.procs.images.area(s);
+    see_nodes(&world.files.tree.nodes);
+    see_table(&world.files.table);
+    match fork_one(&mut world.procs, &mut world.files.tree, s, [0; 4], trace) {
+        Ok(answer) => {
+            see_images(&world.procs.images);
+            share_files(&mut world.files.table, &u.files, answer);
+            conclude(world, s, answer)
         }
+        Err(_) => Ending::NotBuilt,
     }
+}
 
-    pub(crate) fn pc(&self) -> u16
-        ensures { result ≡ register self.now 7 }
-    {
-        self.regs.r[7]
-    }
-
-    /// Executes the first program: exec(II).
-    pub(crate) fn exec(&mut self, init: u16, world: &mut World)
-        requires { IsFresh init self.old world.old }
-        ensures turn { exec_init (unix_with self.old world.old) 1 ≡ returns (unix_with self.new world.new) }
-        ensures running { IsRunning self.new world.new }
-        ensures table { world.new.table ≡ world.old.table }
-        ensures rest { SameRest world.old.files.tree.nodes.blocks world.new.files.tree.nodes.blocks }
-    {
-        see_nodes(&world.files.tree.nodes);
-        let clicks = read_init(
-            &mut world.files.tree.nodes,
-            init,
-            &mut self.memory,
-            world.table.now,
-        );
-        self.regs = Regs {
-            r: [0, 0, 0, 0, 0, 0, FIRST_STACK, 0],
-            cc: 0,
-        };
-        self.u.text_size = 0;
-        self.u.data_size = clicks;
-        self.u.stack_size = STACK;
-    }
-
-    /// One instruction, but for what it comes to.
-    #[inline(always)]
-    pub(crate) fn step(&mut self) -> Outcome
-        ensures outcome { result ≡ (instr (machine_of self.old)).outcome }
-        ensures process { self.new ≡ with_machine self.old (instr (machine_of self.old)).machine }
-    {
-        step(&mut self.regs, &mut self.memory)
-    }
-
-    /// What an instruction comes to.
-    #[inline]
-    pub(crate) fn come_to<T: Trace>(
-        &mut self,
-        outcome: Outcome,
-        world: &mut World,
-        trace: &mut T,
-    ) -> Ending
-        requires { IsRunning self.old world.old }
-        ensures ending { result ≡ (comes_to (unix_with self.old world.old) 1 outcome).ending }
-        ensures unix { unix_after result self.new world.new ≡ (comes_to (unix_with self.old world.old) 1 outcome).unix }
-        ensures running { result ≢ Ending.Ended → IsRunning self.new world.new }
-        ensures table { world.new.table ≡ world.old.table }
-        ensures user { result ≡ Ending.Next → self.new.u.pending ≡ self.old.u.pending }
-        ensures rest { SameRest world.old.files.tree.nodes.blocks world.new.files.tree.nodes.blocks }
-        ensures items { Took (T.taken trace.old) (comes_to (unix_with self.old world.old) 1 outcome).items
-            (T.taken trace.new) }
-        ensures frame { T.leads_to trace.old trace.new }
-    {
-        match outcome {
-            Outcome::Next => Ending::Next,
-            Outcome::Call(number) => self.call(number, world, trace),
-            Outcome::Fault(_) => Ending::NotBuilt,
+/// exit(II): the files of the process are closed, and it has ended.
+fn exit<T: Trace>(world: &mut World, s: Slot, trace: &mut T) -> Ending
+    requires { IsReady world.old s }
+    ensures come { HasCome (board_in world.old) (exits (unix_of world.old) s) result world.new }
+    ensures good { IsGood world.new none_more }
+    ensures runs { result ≢ Ending.Ended → world.new.procs.table.running ≡ Some s }
+    ensures items { Took (T.taken trace.old) (logged (board_in world.old) (exits (unix_of world.old) s).effects).items
+        (T.taken trace.new) }
+    ensures frame { T.leads_to trace.old trace.new }
+    ensures rest { SameRest world.old.files.tree.nodes.blocks world.new.files.tree.nodes.blocks }
+{
+    close_files(world, s);
+    pass_on(&world.tape, &mut world.procs.table, trace);
+    see_nodes(&world.files.tree.nodes);
+    see_table(&world.files.table);
+    match exit_now(&mut world.procs, &mut world.files.tree, s, [0; 4], trace) {
+        Ok(_) => {
+            see_images(&world.procs.images);
+            Ending::Ended
         }
+        Err(_) => Ending::NotBuilt,
     }
+}
 
-    /// A call by its number.
-    #[inline(never)]
-    fn call<T: Trace>(&mut self, number: u8, world: &mut World, trace: &mut T) -> Ending
-        requires { IsRunning self.old world.old }
-        ensures ending { result ≡ (system_call number (unix_with self.old world.old) 1).ending }
-        ensures unix { unix_after result self.new world.new
-            ≡ (system_call number (unix_with self.old world.old) 1).unix }
-        ensures running { result ≢ Ending.Ended → IsRunning self.new world.new }
-        ensures table { world.new.table ≡ world.old.table }
-        ensures trap { result ≢ Ending.Next }
-        ensures rest { SameRest world.old.files.tree.nodes.blocks world.new.files.tree.nodes.blocks }
-        ensures items { Took (T.taken trace.old) (system_call number (unix_with self.old world.old) 1).items
-            (T.taken trace.new) }
-        ensures frame { T.leads_to trace.old trace.new }
-    {
-        if number == EXIT {
-            self.exit(world, trace);
-            return Ending::Ended;
+/// A call by its number, which is built and has been entered.
+fn does_call<T: Trace>(
+    world: &mut World,
+    s: Slot,
+    number: u8,
+    args: [u16; 4],
+    trace: &mut T,
+) -> Ending
+    requires ready { IsReady world.old s }
+    requires built { is_some (count_of number) ≡ true }
+    ensures come { HasCome (board_in world.old)
+        (does_call (has_room (board_in world.old)) (unix_of world.old) s number args) result world.new }
+    ensures good { IsGood world.new none_more }
+    ensures runs { result ≢ Ending.Ended → world.new.procs.table.running ≡ Some s }
+    ensures call { result ≢ Ending.Next }
+    ensures items { Took (T.taken trace.old) (logged (board_in world.old) (does_call (has_room (board_in world.old))
+        (unix_of world.old) s number args).effects).items (T.taken trace.new) }
+    ensures frame { T.leads_to trace.old trace.new }
+    ensures rest { SameRest world.old.files.tree.nodes.blocks world.new.files.tree.nodes.blocks }
+{
+    if number == INDIRECT {
+        return Ending::Trapped;
+    }
+    if number == EXIT {
+        return exit(world, s, trace);
+    }
+    if number == FORK {
+        return fork(world, s, trace);
+    }
+    if is_file_call(number) {
+        return call_files(world, s, number, args, trace);
+    }
+    call_processes(world, s, number, args, trace)
+}
+
+/// The words that the PC passes, for a call of so many arguments.
+fn words_passed(asked: &Asked, count: u8) -> u8
+    ensures { result ≡ words_passed asked.now count }
+{
+    if asked.is_indirect { 1 } else { count }
+}
+
+/// A call by its number, where the PC has passed its word.
+fn call<T: Trace>(world: &mut World, s: Slot, number: u8, trace: &mut T) -> Ending
+    requires { IsReady world.old s }
+    ensures come { HasCome (board_in world.old)
+        (system_call (has_room (board_in world.old)) number (unix_of world.old) s) result world.new }
+    ensures good { IsGood world.new none_more }
+    ensures runs { result ≢ Ending.Ended → world.new.procs.table.running ≡ Some s }
+    ensures call { result ≢ Ending.Next }
+    ensures items { Took (T.taken trace.old) (logged (board_in world.old)
+        (system_call (has_room (board_in world.old)) number (unix_of world.old) s).effects).items
+        (T.taken trace.new) }
+    ensures frame { T.leads_to trace.old trace.new }
+    ensures rest { SameRest world.old.files.tree.nodes.blocks world.new.files.tree.nodes.blocks }
+{
+    let asked = ask(&mut world.procs.images, s, number);
+    match count_of(asked.number) {
+        Some(count) => {
+            enter(&mut world.procs.images, s, words_passed(&asked, count));
+            does_call(world, s, asked.number, asked.args, trace)
         }
-        match count_of(number) {
-            Some(count) => self.call_files(number, count, world, trace),
-            None => Ending::NotBuilt,
+        None => Ending::NotBuilt,
+    }
+}
+
+/// What an instruction comes to that isn't just done.
+#[inline(never)]
+pub(crate) fn come_to<T: Trace>(
+    world: &mut World,
+    s: Slot,
+    outcome: Outcome,
+    trace: &mut T,
+) -> Ending
+    requires { IsReady world.old s }
+    ensures come { HasCome (board_in world.old)
+        (comes_to (has_room (board_in world.old)) (unix_of world.old) s outcome) result world.new }
+    ensures good { IsGood world.new none_more }
+    ensures runs { result ≢ Ending.Ended → world.new.procs.table.running ≡ Some s }
+    ensures items { Took (T.taken trace.old) (logged (board_in world.old) (comes_to (has_room (board_in world.old))
+        (unix_of world.old) s outcome).effects).items (T.taken trace.new) }
+    ensures frame { T.leads_to trace.old trace.new }
+    ensures rest { SameRest world.old.files.tree.nodes.blocks world.new.files.tree.nodes.blocks }
+{
+    match outcome {
+        Outcome::Next => Ending::Next,
+        Outcome::Call(number) => call(world, s, number, trace),
+        Outcome::Fault(_) => Ending::NotBuilt,
+    }
+}
+
+/// The call that a process has to go on with.
+fn pending_of(images: &Images, s: Slot) -> u8
+    requires { HasImage images.now s }
+    ensures { result ≡ (area_of images.now s).pending }
+{
+    images.area(s).pending
+}
+
+/// Goes on with a read of the console.
+fn go_on_reading<T: Trace>(world: &mut World, s: Slot, trace: &mut T) -> Ending
+    requires ready { IsReady world.old s }
+    requires pending { (area_of world.old.procs.images s).pending ≡ 1 }
+    ensures come { HasCome (board_in world.old) (did_by (unix_of world.old) s
+        (resume_read (handed_of (unix_of world.old) (process_of (unix_of world.old) s)))) result world.new }
+    ensures ready { IsReady world.new s }
+    ensures items { Took (T.taken trace.old) (logged (board_in world.old) (did_by (unix_of world.old) s
+        (resume_read (handed_of (unix_of world.old) (process_of (unix_of world.old) s)))).effects).items
+        (T.taken trace.new) }
+    ensures frame { T.leads_to trace.old trace.new }
+    ensures rest { SameRest world.old.files.tree.nodes.blocks world.new.files.tree.nodes.blocks }
+{
+    let answer = read_on(world, s);
+    pass_on(&world.tape, &mut world.procs.table, trace);
+    conclude(world, s, answer)
+}
+
+/// Goes on with a sleep or a wait.
+fn go_on_waiting<T: Trace>(world: &mut World, s: Slot, trace: &mut T) -> Ending
+    requires { IsReady world.old s }
+    ensures come { HasCome (board_in world.old) (came_by (unix_of world.old) s
+        (resume_proc (world_of (unix_of world.old)) s)) result world.new }
+    ensures ready { IsReady world.new s }
+    ensures items { Took (T.taken trace.old) (logged (board_in world.old) (came_by (unix_of world.old) s
+        (resume_proc (world_of (unix_of world.old)) s)).effects).items (T.taken trace.new) }
+    ensures frame { T.leads_to trace.old trace.new }
+    ensures rest { SameRest world.old.files.tree.nodes.blocks world.new.files.tree.nodes.blocks }
+{
+    see_nodes(&world.files.tree.nodes);
+    see_table(&world.files.table);
+    match resume_proc(&mut world.procs, &mut world.files.tree, s, trace) {
+        Ok(answer) => {
+            see_images(&world.procs.images);
+            conclude(world, s, answer)
         }
+        Err(_) => Ending::NotBuilt,
     }
+}
 
-    /// A call on files that is built, with so many arguments.
-    fn call_files<T: Trace>(
-        &mut self,
-        number: u8,
-        count: u8,
-        world: &mut World,
-        trace: &mut T,
-    ) -> Ending
-        requires running { IsRunning self.old world.old }
-        requires count { option_map (λ (c : FileCall). c.count) (file_call number) ≡ Some count }
-        ensures ending { result ≡ (does_if_built (unix_with self.old world.old) 1 (file_call number)).ending }
-        ensures unix { unix_with self.new world.new
-            ≡ (does_if_built (unix_with self.old world.old) 1 (file_call number)).unix }
-        ensures running { IsRunning self.new world.new }
-        ensures table { world.new.table ≡ world.old.table }
-        ensures trap { result ≢ Ending.Next }
-        ensures alive { result ≢ Ending.Ended }
-        ensures rest { SameRest world.old.files.tree.nodes.blocks world.new.files.tree.nodes.blocks }
-        ensures items { Took (T.taken trace.old)
-            (does_if_built (unix_with self.old world.old) 1 (file_call number)).items (T.taken trace.new) }
-        ensures frame { T.leads_to trace.old trace.new }
-    {
-        let args = self.arguments();
-        self.enter(count);
-        let answer = self.do_call(number, args, world, trace);
-        self.conclude(answer)
+/// Goes on with the call in which the process slept.
+#[inline(never)]
+pub(crate) fn resume<T: Trace>(world: &mut World, s: Slot, trace: &mut T) -> Ending
+    requires { IsReady world.old s }
+    ensures come { HasCome (board_in world.old) (resumed (unix_of world.old) s) result world.new }
+    ensures good { IsGood world.new none_more }
+    ensures runs { world.new.procs.table.running ≡ Some s }
+    ensures alive { result ≢ Ending.Ended }
+    ensures items { Took (T.taken trace.old) (logged (board_in world.old) (resumed (unix_of world.old) s).effects).items
+        (T.taken trace.new) }
+    ensures frame { T.leads_to trace.old trace.new }
+    ensures rest { SameRest world.old.files.tree.nodes.blocks world.new.files.tree.nodes.blocks }
+{
+    let pending = pending_of(&world.procs.images, s);
+    if pending == PENDING_READ {
+        return go_on_reading(world, s, trace);
     }
-
-    /// The arguments of a call, which stand after its word, and whatever stands after them.
-    fn arguments(&self) -> [u16; 4]
-        ensures { result ≡ arguments_of self.now }
-    {
-        [
-            self.argument(0),
-            self.argument(1),
-            self.argument(2),
-            self.argument(3),
-        ]
+    if pending == PENDING_SLEEP {
+        return go_on_waiting(world, s, trace);
     }
-
-    fn argument(&self, k: u16) -> u16
-        requires { k < 4 }
-        ensures { result ≡ argument self.now k }
-    {
-        match self.memory.load_word(self.regs.r[7].wrapping_add(2 * k)) {
-            Ok(word) => word,
-            Err(_) => ONES,
-        }
+    if pending == PENDING_WAIT {
+        return go_on_waiting(world, s, trace);
     }
-
-    /// A call begins: C is cleared, and the PC passes the arguments.
-    fn enter(&mut self, count: u8)
-        ensures { self.new ≡ entered count self.old }
-    {
-        self.regs.cc -= self.regs.cc % 2;
-        self.regs.r[7] = self.regs.r[7].wrapping_add(2 * u16::from(count));
-    }
-
-    /// Does a call on files by its row.
-    fn do_call<T: Trace>(
-        &mut self,
-        number: u8,
-        args: [u16; 4],
-        world: &mut World,
-        trace: &mut T,
-    ) -> Answer
-        requires { IsRunning self.old world.old }
-        ensures answer { result ≡ (row_of (file_call number)
-            (handed_of (unix_with self.old world.old) self.old) args world.old.table.now).answer }
-        ensures unix { unix_with self.new world.new
-            ≡ with_handed (unix_with self.old world.old) 1 (row_of (file_call number)
-            (handed_of (unix_with self.old world.old) self.old) args world.old.table.now).state }
-        ensures running { IsRunning self.new world.new }
-        ensures table { world.new.table ≡ world.old.table }
-        ensures rest { SameRest world.old.files.tree.nodes.blocks world.new.files.tree.nodes.blocks }
-        ensures items { Took (T.taken trace.old) (row_of (file_call number)
-            (handed_of (unix_with self.old world.old) self.old) args world.old.table.now).items (T.taken trace.new) }
-        ensures frame { T.leads_to trace.old trace.new }
-    {
-        see_nodes(&world.files.tree.nodes);
-        see_table(&world.files.table);
-        see_numbers(&self.u.files);
-        self.u.r = self.regs.r;
-        self.u.cc = self.regs.cc;
-        let answer = do_call(
-            number,
-            &mut world.files,
-            SLOT,
-            &mut self.u,
-            &mut self.row,
-            &mut self.memory,
-            args,
-            world.table.now,
-            trace,
-        );
-        self.regs = Regs {
-            r: self.u.r,
-            cc: self.u.cc,
-        };
-        answer
-    }
-
-    /// Goes on with the call in which the process slept: a read of the console.
-    #[inline(never)]
-    pub(crate) fn resume<T: Trace>(&mut self, world: &mut World, trace: &mut T) -> Ending
-        requires { IsRunning self.old world.old }
-        ensures ending { result ≡ (resumed (unix_with self.old world.old) 1).ending }
-        ensures unix { unix_with self.new world.new ≡ (resumed (unix_with self.old world.old) 1).unix }
-        ensures running { IsRunning self.new world.new }
-        ensures table { world.new.table ≡ world.old.table }
-        ensures alive { result ≢ Ending.Ended }
-        ensures rest { SameRest world.old.files.tree.nodes.blocks world.new.files.tree.nodes.blocks }
-        ensures items { Took (T.taken trace.old) (resumed (unix_with self.old world.old) 1).items (T.taken trace.new) }
-        ensures frame { T.leads_to trace.old trace.new }
-    {
-        if self.u.pending != PENDING_READ {
-            return Ending::NotBuilt;
-        }
-        let answer = self.read_on(world, trace);
-        self.conclude(answer)
-    }
-
-    /// Goes on with a read of the console.
-    fn read_on<T: Trace>(&mut self, world: &mut World, trace: &mut T) -> Answer
-        requires running { IsRunning self.old world.old }
-        requires pending { self.old.u.pending ≡ 1 }
-        ensures answer { result ≡ (resume_read (handed_of (unix_with self.old world.old) self.old)).answer }
-        ensures unix { unix_with self.new world.new ≡ with_handed (unix_with self.old world.old) 1
-            (resume_read (handed_of (unix_with self.old world.old) self.old)).state }
-        ensures running { IsRunning self.new world.new }
-        ensures table { world.new.table ≡ world.old.table }
-        ensures rest { SameRest world.old.files.tree.nodes.blocks world.new.files.tree.nodes.blocks }
-        ensures items { Took (T.taken trace.old)
-            (resume_read (handed_of (unix_with self.old world.old) self.old)).items (T.taken trace.new) }
-        ensures frame { T.leads_to trace.old trace.new }
-    {
-        see_nodes(&world.files.tree.nodes);
-        see_table(&world.files.table);
-        see_numbers(&self.u.files);
-        self.u.r = self.regs.r;
-        self.u.cc = self.regs.cc;
-        let answer = resume_file(
-            &mut world.files,
-            SLOT,
-            &mut self.u,
-            &mut self.row,
-            &mut self.memory,
-            world.table.now,
-            trace,
-        );
-        self.regs = Regs {
-            r: self.u.r,
-            cc: self.u.cc,
-        };
-        answer
-    }
-
-    /// A call ends: the registers take what it answers.
-    fn conclude(&mut self, answer: Answer) -> Ending
-        ensures ending { (w : World) → result ≡ (answers (unix_with self.old w) 1 answer).ending }
-        ensures trap { result ≢ Ending.Next }
-        ensures alive { result ≢ Ending.Ended }
-        ensures unix { (w : World) → unix_with self.new w ≡ (answers (unix_with self.old w) 1 answer).unix }
-        ensures running { (w : World) → IsRunning self.old w → IsRunning self.new w }
-    {
-        match answer {
-            Answer::Ret { r0, r1 } => {
-                self.regs.r[0] = r0;
-                self.regs.r[1] = r1;
-                Ending::Trapped
-            }
-            Answer::Fail(error) => self.fail(error_number(error)),
-            Answer::Sleep { pri, chan } => Ending::Slept { pri, chan },
-        }
-    }
-
-    /// A call is refused.
-    fn fail(&mut self, number: u16) -> Ending
-        ensures ending { (w : World) → result ≡ (refuses (unix_with self.old w) 1 number).ending }
-        ensures trap { result ≢ Ending.Next }
-        ensures alive { result ≢ Ending.Ended }
-        ensures unix { (w : World) → unix_with self.new w ≡ (refuses (unix_with self.old w) 1 number).unix }
-        ensures running { (w : World) → IsRunning self.old w → IsRunning self.new w }
-    {
-        if number >= FIRST_SIGNAL {
-            return Ending::NotBuilt;
-        }
-        self.regs.cc = self.regs.cc - self.regs.cc % 2 + 1;
-        self.regs.r[0] = number;
-        Ending::Trapped
-    }
-
-    /// Ends the process: exit(II). Its files are closed, and its directory is let go.
-    fn exit<T: Trace>(&mut self, world: &mut World, trace: &mut T)
-        requires { IsRunning self.old world.old }
-        ensures table { world.new.table ≡ world.old.table }
-        ensures unix { unix_of None world.new ≡ (exit_now (unix_with self.old world.old) 1).unix }
-        ensures rest { SameRest world.old.files.tree.nodes.blocks world.new.files.tree.nodes.blocks }
-        ensures items { Took (T.taken trace.old) (exit_now (unix_with self.old world.old) 1).items (T.taken trace.new) }
-        ensures frame { T.leads_to trace.old trace.new }
-    {
-        see_nodes(&world.files.tree.nodes);
-        see_table(&world.files.table);
-        see_numbers(&self.u.files);
-        self.u.r = self.regs.r;
-        self.u.cc = self.regs.cc;
-        close_all(&mut world.files, &mut self.u, world.table.now, trace);
-        let_go(&mut world.files.tree.nodes, self.u.dir, world.table.now);
-    }
+    Ending::NotBuilt
 }

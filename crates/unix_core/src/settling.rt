@@ -1,58 +1,58 @@
 //! What the end of a turn does to the table, and how the kernel settles: `trap` and `swtch` in Lions' Commentary,
 //! `trap.c` and `slp.c`.
-ghost use Rattle.std.specs.Prelude.{◌≡◌, ◌==◌, ◌||◌, ◌&&◌, not};
+ghost use Rattle.std.specs.Prelude.{◌≡◌, ◌==◌, ◌||◌, ◌&&◌, not, ◌<◌, MatchOption, ⊤};
 ghost use Rattle.v6_base.specs.Trace.{Took};
 ghost use Rattle.pick_rules.specs.Table.{IsTable, is_in_core};
-ghost use Rattle.unix_core.specs.Turn.{ended_by, settled, swapper_sleeps};
+ghost use Rattle.pick_rules.specs.declared.table.Table.{Table};
+ghost use Rattle.pick_rules.specs.Choice.{gives_up};
+ghost use Rattle.pick_rules.specs.Board.{Board};
+ghost use Rattle.pick_rules.specs.Logged.{logged};
+ghost use Rattle.image_keep.specs.Kept.{Kept};
+ghost use Rattle.sys_procs.specs.Agree.{board_of};
+ghost use Rattle.unix_core.specs.Unix.{Unix};
+ghost use Rattle.unix_core.specs.Turn.{end_effects, settled, pass_effects};
 ghost use Rattle.unix_core.specs.Outside.{wakes};
+ghost use Rattle.pick_rules.specs.Priority.{pswp};
+ghost use Rattle.pick_rules.specs.Sleepers.{fall_asleep};
+ghost use Rattle.unix_core.specs.Passing.{trapped, ended_table, called_table, settled_table};
 
-use crate::process::{Ending, SLOT};
-use pick_rules::{Stat, Table, TableRow};
+use crate::ending::Ending;
+use pick_rules::{Table, TableRow};
 use v6_base::{Chan, Entry, Place, Slot, Trace};
 
 /// The priority of the swapper: `PSWP` in Lions' Commentary, `param.h`.
 const PSWP: i8 = -100;
 
-/// A slot with no process.
-const EMPTY: TableRow = TableRow {
-    stat: Stat::Empty,
-    pri: 0,
-    cpu: 0,
-    time: 0,
-    nice: 0,
-    size: 0,
-    text: None,
-    place: None,
-    channel: None,
-    calling: false,
-};
-
-/// Ends a turn of process 1.
-pub(crate) fn end_turn<T: Trace>(table: &mut Table, ending: Ending, trace: &mut T)
-    requires { IsTable table.old }
-    ensures table { table.new ≡ (ended_by ending table.old 1).table }
+/// A process comes out of its call.
+fn trap(table: &mut Table, s: Slot)
+    requires table { IsTable table.old }
+    requires slot { s < 50 }
+    ensures table { table.new ≡ trapped table.old s }
     ensures good { IsTable table.new }
-    ensures items { Took (T.taken trace.old) (ended_by ending table.old 1).items (T.taken trace.new) }
+{
+    table.rows[s as usize].calling = false;
+    table.setpri(s);
+}
+
+/// Ends a turn of a slot.
+pub(crate) fn end_turn<T: Trace>(table: &mut Table, s: Slot, ending: Ending, trace: &mut T)
+    requires table { IsTable table.old }
+    requires slot { s < 50 }
+    ensures board { (k : Kept) → board_of table.new k ≡ (logged {W = Unix} (board_of table.old k) (end_effects s ending)).board }
+    ensures table { table.new ≡ ended_table table.old s ending }
+    ensures good { IsTable table.new }
+    ensures items { (b : Board) → Took (T.taken trace.old) (logged {W = Unix} b (end_effects s ending)).items (T.taken trace.new) }
     ensures frame { T.leads_to trace.old trace.new }
 {
     match ending {
-        Ending::Next | Ending::NotBuilt => {}
+        Ending::Next | Ending::Ended | Ending::NoRoom | Ending::NotBuilt => {}
         Ending::Trapped => {
-            trace.entry(Entry::Trap(SLOT));
-            table.rows[1].calling = false;
-            table.setpri(SLOT);
+            trace.entry(Entry::Trap(s));
+            trap(table, s);
         }
         Ending::Slept { pri, chan } => {
-            trace.entry(Entry::Sleep {
-                slot: SLOT,
-                pri,
-                chan,
-            });
-            table.sleep(SLOT, pri, chan);
-        }
-        Ending::Ended => {
-            table.rows[1] = EMPTY;
-            table.running = None;
+            trace.entry(Entry::Sleep { slot: s, pri, chan });
+            table.sleep(s, pri, chan);
         }
     }
 }
@@ -60,9 +60,10 @@ pub(crate) fn end_turn<T: Trace>(table: &mut Table, ending: Ending, trace: &mut 
 /// The swapper finds nobody out of core, and sleeps: `sched` in Lions' Commentary, `slp.c`.
 pub(crate) fn pass<T: Trace>(table: &mut Table, trace: &mut T)
     requires { IsTable table.old }
-    ensures table { table.new ≡ (swapper_sleeps table.old).table }
+    ensures board { (k : Kept) → board_of table.new k ≡ (logged {W = Unix} (board_of table.old k) pass_effects).board }
+    ensures table { table.new ≡ fall_asleep table.old 0 pswp Chan.RunOut }
     ensures good { IsTable table.new }
-    ensures items { Took (T.taken trace.old) (swapper_sleeps table.old).items (T.taken trace.new) }
+    ensures items { (b : Board) → Took (T.taken trace.old) (logged {W = Unix} b pass_effects).items (T.taken trace.new) }
     ensures frame { T.leads_to trace.old trace.new }
 {
     trace.entry(Entry::Sleep {
@@ -76,9 +77,10 @@ pub(crate) fn pass<T: Trace>(table: &mut Table, trace: &mut T)
 /// Wakes those who sleep for a channel, where that is called for.
 pub(crate) fn wake<T: Trace>(table: &mut Table, called: bool, chan: Chan, trace: &mut T)
     requires { IsTable table.old }
-    ensures table { table.new ≡ (wakes called chan table.old).table }
+    ensures board { (k : Kept) → board_of table.new k ≡ (logged {W = Unix} (board_of table.old k) (wakes called chan)).board }
+    ensures table { table.new ≡ called_table called chan table.old }
     ensures good { IsTable table.new }
-    ensures items { Took (T.taken trace.old) (wakes called chan table.old).items (T.taken trace.new) }
+    ensures items { (b : Board) → Took (T.taken trace.old) (logged {W = Unix} b (wakes called chan)).items (T.taken trace.new) }
     ensures frame { T.leads_to trace.old trace.new }
 {
     if called {
@@ -95,19 +97,28 @@ fn must_give_up(s: Slot, row: TableRow, runrun: bool) -> bool
     !loaded || (s != 0 && !row.calling && runrun)
 }
 
+/// Whether the running slot gives up; with nobody running there is always a choice.
+fn gives_up(running: Option<Slot>, rows: &[TableRow; 50], runrun: bool) -> bool
+    requires { MatchOption running ⊤ (λ s. s < 50) }
+    ensures { (t : Table) → t.rows ≡ rows.now → t.runrun ≡ runrun → gives_up t running ≡ result }
+{
+    match running {
+        None => true,
+        Some(s) => must_give_up(s, rows[s as usize], runrun),
+    }
+}
+
 /// Settles: who must gives up, and with nobody running there is a choice.
-#[tactic(auto, unfolding(pick_rules::specs::Choice::settle))]
 pub(crate) fn settle<T: Trace>(table: &mut Table, trace: &mut T)
     requires { IsTable table.old }
-    ensures table { table.new ≡ (settled table.old).table }
+    ensures board { (k : Kept) → board_of table.new k ≡ (settled (board_of table.old k)).board }
+    ensures table { table.new ≡ settled_table table.old }
     ensures good { IsTable table.new }
-    ensures items { Took (T.taken trace.old) (settled table.old).items (T.taken trace.new) }
+    ensures items { (k : Kept) → Took (T.taken trace.old) (settled (board_of table.old k)).items (T.taken trace.new) }
     ensures frame { T.leads_to trace.old trace.new }
 {
-    if let Some(s) = table.running {
-        if !must_give_up(s, table.rows[s as usize], table.runrun) {
-            return;
-        }
+    if !gives_up(table.running, &table.rows, table.runrun) {
+        return;
     }
     match table.pick() {
         Some(s) => trace.entry(Entry::Go(s)),

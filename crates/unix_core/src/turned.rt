@@ -19,4 +19,6 @@ pub enum Unbuilt {
     Line(u32),
     /// What the running process has at this PC: an instruction that comes to a fault, or a call.
     At(u16),
+    /// An image wants a place in core, and there is none: images don't go to the swap area yet.
+    Room,
 }

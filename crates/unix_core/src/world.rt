@@ -1,15 +1,15 @@
-//! What a system has beside its process.
+//! What a kernel has beside the registers of the process that executes instructions.
 
-use pick_rules::Table;
 use sys_files::Files;
+use sys_procs::Procs;
+use v6_base::Tape;
 
-/// The files with the console, the table with the clock, the console's switches and the size of core.
+/// The files with the console, the processes with their images and the table, and a tape for what a call on files shows.
 #[derive(Drop)]
 pub(crate) struct World {
     pub(crate) files: Files,
-    pub(crate) table: Table,
-    /// The switches of the console: switch(II) of the manual.
-    pub(crate) switches: u16,
-    /// The most clicks of an image.
-    pub(crate) limit: u16,
+    pub(crate) procs: Procs,
+    pub(crate) tape: Tape,
+    /// The clicks of core.
+    pub(crate) core: u16,
 }

@@ -4,8 +4,9 @@ use Rattle.unix_core.proofs.MemoryLemmas.{IsWritten}
 use Rattle.unix_core.proofs.program.put_arguments.Given as goal
 
 abbrev pub invariant-loop-i : goal.invariant-loop-i
-invariant-loop-i l = record {
-  text : l.memory.whole.image.text ≡ l.initial.memory.whole.image.text;
-  same_data : l.memory.whole.image.data ≡ l.initial.memory.whole.image.data;
-  written : IsWritten (1264 + l.i) (take 1264 l.initial.memory.whole.image.stack ++ first_arguments) l.initial.memory.whole.image.stack l.memory.whole.image.stack;
+invariant-loop-i g l = record {
+  text : (g.S.Space.image l.space).text ≡ (g.S.Space.image l.initial.space).text;
+  same_data : (g.S.Space.image l.space).data ≡ (g.S.Space.image l.initial.space).data;
+  rest : g.S.Space.rest l.space ≡ g.S.Space.rest l.initial.space;
+  written : IsWritten (1264 + l.i) (take 1264 (g.S.Space.image l.initial.space).stack ++ first_arguments) (g.S.Space.image l.initial.space).stack (g.S.Space.image l.space).stack;
 }

@@ -1,5 +1,5 @@
 use Rattle.std.proofs.Common.{◌∙◌}
-use Rattle.unix_core.proofs.FreshLemmas.{boots_as}
+use Rattle.unix_core.proofs.BootLemmas.{boots_as}
 use Rattle.unix_core.proofs.kernel.Kernel.boot.Goals as goal
 
 pub returns-in-Some-clause-system : goal.returns-in-Some-clause-system

@@ -1,5 +1,13 @@
-use Rattle.unix_core.proofs.FreshLemmas.{switched_kernel}
+use Rattle.std.proofs.Common.{◌∙◌, ap}
+use Rattle.unix_core.specs.Unix.{SystemOnDisk}
+use Rattle.unix_core.specs.Runs.{event_of, Switch}
+use Rattle.unix_core.proofs.BootKernelLemmas.{switched_kernel, switched_system}
 use Rattle.unix_core.proofs.kernel.Kernel.set_switches.Goals as goal
 
 pub invariant_of-self : goal.invariant_of-self
-invariant_of-self c = let i = c.self.inside.machine in switched_kernel i.process i.world c.args.w i.stage c.self.invariant
+invariant_of-self c = let m = c.self.inside.machine in switched_kernel m.world c.args.w m.stage c.self.invariant
+
+pub returns-clause-next : goal.returns-clause-next
+returns-clause-next c =
+    let m = c.self.inside.machine in
+    switched_system m.world c.args.w m.stage m.regs ∙ ap (λ (v : SystemOnDisk). (event_of (Switch c.args.w) v.system).next) c.self.view_is

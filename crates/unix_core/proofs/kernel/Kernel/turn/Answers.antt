@@ -1,27 +1,183 @@
-use Rattle.std.proofs.Common.{List, ◌≡◌, sym, ◌∙◌, ap, subst}
+use Rattle.std.proofs.Common.{◌≡◌, ◌∙◌, ap, sym, subst}
+use Rattle.v6_base.specs.Image.{Image}
+use Rattle.v6_base.specs.Trace.{Took}
+use Rattle.v6_base.proofs.Took.{took_nothing}
 use Rattle.fs_laws.specs.Rest.{SameRest}
+use Rattle.image_keep.specs.Kept.{Kept, image_of, with_image}
+use Rattle.sys_procs.specs.Process.{Process, register}
+use Rattle.unix_core.specs.declared.world.World.{World}
 use Rattle.unix_core.specs.declared.machine.Stage.{Stage}
 use Rattle.unix_core.specs.declared.machine.Stage.TheVariants as stage
-use Rattle.v6_base.specs.Trace.{Item, Took}
-use Rattle.unix_core.specs.Unix.{SystemOnDisk}
+use Rattle.unix_core.specs.Unix.{System, SystemOnDisk}
 use Rattle.unix_core.specs.Turn.{Turn, turned}
 use Rattle.unix_core.specs.Runs.{Slot, event_of}
-use Rattle.unix_core.specs.Parts.{turned_at, system_at, HasStepped, IsUser}
+use Rattle.unix_core.specs.Parts.{turned_at, system_at, HasStepped, IsKernel, IsUser}
+use Rattle.unix_core.proofs.WorldLemmas.{ready_alive}
+use Rattle.unix_core.proofs.LoanLemmas.{lent_back}
+use Rattle.unix_core.proofs.PutLemmas.{with_images}
+use Rattle.unix_core.proofs.MachineLemmas.{runs_kernel}
+use Rattle.unix_core.proofs.TurnSteps.{lent_stepped, lent_user, apart_process, user_slot, quiet_system, plain_answer, plain_next, plain_items}
 use Rattle.unix_core.proofs.kernel.Kernel.turn.Goals as goal
+
+pub space-space-requires : goal.space-space-requires
+space-space-requires g c =
+    let m = c.self.inside.machine in
+    let s = c.in-Running.s in
+    (ready_alive m.world s (c.self.invariant.running s c.in-Running.is).ready).image
+
+pub invariant_of-self : goal.invariant_of-self
+invariant_of-self g c =
+    let m = c.self.inside.machine in
+    let w : World = m.world in
+    let s = c.in-Running.s in
+    let user : IsUser s w = c.self.invariant.running s c.in-Running.is in
+    let lent = c.space-space in
+    let step = c.step-outcome in
+    let k : Kept = step.new.space.images.now in
+    let image : Image = image_of k step.new.space.slot in
+    let back : k ≡ with_image w.procs.images s image =
+    lent_back w.procs.images lent.result.images.now k s lent.result.slot step.new.space.slot _ _ lent.ensures.images lent.ensures.slot step.ensures.rest in
+    let was : image_of lent.result.images.now lent.result.slot ≡ image_of w.procs.images s =
+    ap (λ (x : Kept). image_of x lent.result.slot) lent.ensures.images ∙ ap (image_of w.procs.images) lent.ensures.slot in
+    let text = (c.see_kept.ensures.sizes s (ready_alive w s user.ready).image).text in
+    subst (λ (at : Stage). IsKernel at (with_images w k)) (sym c.in-Running.is)
+    (runs_kernel (with_images w k) s (lent_user w s user text m.regs step.new.regs step.result image _ was step.ensures.step k back))
+
+pub after_step-requires : goal.after_step-requires
+after_step-requires g c =
+    let m = c.self.inside.machine in
+    let w : World = m.world in
+    let s = c.in-Running.s in
+    let user : IsUser s w = c.self.invariant.running s c.in-Running.is in
+    let lent = c.space-space in
+    let step = c.step-outcome in
+    let k : Kept = step.new.space.images.now in
+    let image : Image = image_of k step.new.space.slot in
+    let back : k ≡ with_image w.procs.images s image =
+    lent_back w.procs.images lent.result.images.now k s lent.result.slot step.new.space.slot _ _ lent.ensures.images lent.ensures.slot step.ensures.rest in
+    let was : image_of lent.result.images.now lent.result.slot ≡ image_of w.procs.images s =
+    ap (λ (x : Kept). image_of x lent.result.slot) lent.ensures.images ∙ ap (image_of w.procs.images) lent.ensures.slot in
+    let text = (c.see_kept.ensures.sizes s (ready_alive w s user.ready).image).text in
+    record {
+      stage = c.in-Running.is;
+      user = lent_user w s user text m.regs step.new.regs step.result image _ was step.ensures.step k back;
+    }
+
+pub returns-in-Next-clause-answer : goal.returns-in-Next-clause-answer
+returns-in-Next-clause-answer g c =
+    let m = c.self.inside.machine in
+    let w : World = m.world in
+    let s = c.in-Running.s in
+    let user : IsUser s w = c.self.invariant.running s c.in-Running.is in
+    let lent = c.space-space in
+    let step = c.step-outcome in
+    let k : Kept = step.new.space.images.now in
+    let image : Image = image_of k step.new.space.slot in
+    let back : k ≡ with_image w.procs.images s image =
+    lent_back w.procs.images lent.result.images.now k s lent.result.slot step.new.space.slot _ _ lent.ensures.images lent.ensures.slot step.ensures.rest in
+    let was : image_of lent.result.images.now lent.result.slot ≡ image_of w.procs.images s =
+    ap (λ (x : Kept). image_of x lent.result.slot) lent.ensures.images ∙ ap (image_of w.procs.images) lent.ensures.slot in
+    let text = (c.see_kept.ensures.sizes s (ready_alive w s user.ready).image).text in
+    let sys : System = system_at (stage.Running s) m.regs w in
+    let done : HasStepped sys step.new.regs (with_images w k) s step.result =
+    lent_stepped w s user text m.regs step.new.regs step.result image _ was step.ensures.step k back in
+    let same : sys ≡ c.args.self.now.system =
+    ap (λ (at : Stage). system_at at m.regs w) (sym c.in-Running.is) ∙ ap (λ (x : SystemOnDisk). x.system) c.self.view_is in
+    let next = subst (λ o. HasStepped sys step.new.regs (with_images w k) s o) c.in-Next.is done in
+    plain_answer sys s user.ready.user step.new.regs (with_images w k) next (quiet_system w s m.regs user)
+    ∙ ap (λ (x : System). turned (event_of Slot x)) same
+
+pub returns-in-Next-clause-next : goal.returns-in-Next-clause-next
+returns-in-Next-clause-next g c =
+    let m = c.self.inside.machine in
+    let w : World = m.world in
+    let s = c.in-Running.s in
+    let user : IsUser s w = c.self.invariant.running s c.in-Running.is in
+    let lent = c.space-space in
+    let step = c.step-outcome in
+    let k : Kept = step.new.space.images.now in
+    let image : Image = image_of k step.new.space.slot in
+    let back : k ≡ with_image w.procs.images s image =
+    lent_back w.procs.images lent.result.images.now k s lent.result.slot step.new.space.slot _ _ lent.ensures.images lent.ensures.slot step.ensures.rest in
+    let was : image_of lent.result.images.now lent.result.slot ≡ image_of w.procs.images s =
+    ap (λ (x : Kept). image_of x lent.result.slot) lent.ensures.images ∙ ap (image_of w.procs.images) lent.ensures.slot in
+    let text = (c.see_kept.ensures.sizes s (ready_alive w s user.ready).image).text in
+    let sys : System = system_at (stage.Running s) m.regs w in
+    let done : HasStepped sys step.new.regs (with_images w k) s step.result =
+    lent_stepped w s user text m.regs step.new.regs step.result image _ was step.ensures.step k back in
+    let same : sys ≡ c.args.self.now.system =
+    ap (λ (at : Stage). system_at at m.regs w) (sym c.in-Running.is) ∙ ap (λ (x : SystemOnDisk). x.system) c.self.view_is in
+    let next = subst (λ o. HasStepped sys step.new.regs (with_images w k) s o) c.in-Next.is done in
+    ap (λ (at : Stage). system_at at step.new.regs (with_images w k)) c.in-Running.is
+    ∙ plain_next sys s user.ready.user step.new.regs (with_images w k) next (quiet_system w s m.regs user)
+    ∙ ap (λ (x : System). (event_of Slot x).next) same
+
+pub returns-in-Next-clause-items : goal.returns-in-Next-clause-items
+returns-in-Next-clause-items g c =
+    let m = c.self.inside.machine in
+    let w : World = m.world in
+    let s = c.in-Running.s in
+    let user : IsUser s w = c.self.invariant.running s c.in-Running.is in
+    let lent = c.space-space in
+    let step = c.step-outcome in
+    let k : Kept = step.new.space.images.now in
+    let image : Image = image_of k step.new.space.slot in
+    let back : k ≡ with_image w.procs.images s image =
+    lent_back w.procs.images lent.result.images.now k s lent.result.slot step.new.space.slot _ _ lent.ensures.images lent.ensures.slot step.ensures.rest in
+    let was : image_of lent.result.images.now lent.result.slot ≡ image_of w.procs.images s =
+    ap (λ (x : Kept). image_of x lent.result.slot) lent.ensures.images ∙ ap (image_of w.procs.images) lent.ensures.slot in
+    let text = (c.see_kept.ensures.sizes s (ready_alive w s user.ready).image).text in
+    let sys : System = system_at (stage.Running s) m.regs w in
+    let done : HasStepped sys step.new.regs (with_images w k) s step.result =
+    lent_stepped w s user text m.regs step.new.regs step.result image _ was step.ensures.step k back in
+    let same : sys ≡ c.args.self.now.system =
+    ap (λ (at : Stage). system_at at m.regs w) (sym c.in-Running.is) ∙ ap (λ (x : SystemOnDisk). x.system) c.self.view_is in
+    let next = subst (λ o. HasStepped sys step.new.regs (with_images w k) s o) c.in-Next.is done in
+    took_nothing _ _ (ap (λ (x : System). (event_of Slot x).items) (sym same)
+    ∙ plain_items sys s user.ready.user step.new.regs (with_images w k) next (quiet_system w s m.regs user))
 
 pub returns-in_default : goal.returns-in_default
 returns-in_default g c =
     let m = c.self.inside.machine in
-    let step = c.step.ensures in
-    let after = c.after_step.ensures in
-    let user : IsUser m.process m.world.table = c.self.invariant.user c.in-Running.is in
-    let stepped : HasStepped m.process c.step.new.self m.world c.step.result = record { user = user; machine = step.process; outcome = step.outcome } in
-    let same : event_of Slot (system_at stage.Running m.process m.world) ≡ event_of Slot c.args.self.now.system =
-    ap (λ (s : Stage). event_of Slot (system_at s m.process m.world)) (sym c.in-Running.is) ∙ ap (λ (k : SystemOnDisk). event_of Slot k.system) c.self.view_is in
+    let w : World = m.world in
+    let s = c.in-Running.s in
+    let user : IsUser s w = c.self.invariant.running s c.in-Running.is in
+    let lent = c.space-space in
+    let step = c.step-outcome in
+    let k : Kept = step.new.space.images.now in
+    let image : Image = image_of k step.new.space.slot in
+    let back : k ≡ with_image w.procs.images s image =
+    lent_back w.procs.images lent.result.images.now k s lent.result.slot step.new.space.slot _ _ lent.ensures.images lent.ensures.slot step.ensures.rest in
+    let was : image_of lent.result.images.now lent.result.slot ≡ image_of w.procs.images s =
+    ap (λ (x : Kept). image_of x lent.result.slot) lent.ensures.images ∙ ap (image_of w.procs.images) lent.ensures.slot in
+    let text = (c.see_kept.ensures.sizes s (ready_alive w s user.ready).image).text in
+    let sys : System = system_at (stage.Running s) m.regs w in
+    let done : HasStepped sys step.new.regs (with_images w k) s step.result =
+    lent_stepped w s user text m.regs step.new.regs step.result image _ was step.ensures.step k back in
+    let same : sys ≡ c.args.self.now.system =
+    ap (λ (at : Stage). system_at at m.regs w) (sym c.in-Running.is) ∙ ap (λ (x : SystemOnDisk). x.system) c.self.view_is in
+    let after = c.after_step in
+    let slot = sym (user_slot sys s user.ready.runs user.ready.user) ∙ ap (event_of Slot) same in
     record {
-      answer = c.turned_at.ensures ∙ ap (λ n. turned_at n c.after_step.result) c.pc-at.ensures ∙ after.answer m.process stepped ∙ ap turned same;
-      next = after.system m.process stepped ∙ ap (λ (t : Turn). t.next) same;
-      rest = subst (λ b. SameRest b c.after_step.new.self.world.files.tree.nodes.blocks) (ap (λ (k : SystemOnDisk). k.blocks) c.self.view_is) after.rest;
-      items = subst (λ (l : List Item). Took (g.T.Trace.taken c.args.trace.now) l (g.T.Trace.taken c.after_step.new.trace)) (ap (λ (t : Turn). t.items) same) (after.items m.process stepped);
-      frame = after.frame;
+      answer = c.turned_at.ensures
+          ∙ ap (λ (p : Process). turned_at (register p 7) after.result) (sym (apart_process w s m.regs user.ready))
+          ∙ after.ensures.answer sys done ∙ ap turned slot;
+      next = after.ensures.system sys done ∙ ap (λ (t : Turn). t.next) slot;
+      rest = subst (λ b. SameRest b after.new.self.world.files.tree.nodes.blocks) (ap (λ (x : SystemOnDisk). x.blocks) c.self.view_is) after.ensures.rest;
+      items = subst (λ (t : Turn). Took (g.T.Trace.taken c.args.trace.now) t.items (g.T.Trace.taken after.new.trace)) slot (after.ensures.items sys done);
+      frame = after.ensures.frame;
+    }
+
+pub returns-in-Fresh : goal.returns-in-Fresh
+returns-in-Fresh g c =
+    let m = c.self.inside.machine in
+    let other = c.other_slot in
+    let same : event_of Slot (system_at m.stage m.regs m.world) ≡ event_of Slot c.args.self.now.system =
+    ap (λ (x : SystemOnDisk). event_of Slot x.system) c.self.view_is in
+    record {
+      answer = c.turned_at-in-Fresh.ensures ∙ ap (λ n. turned_at n other.result) c.pc-at.ensures ∙ other.ensures.answer ∙ ap turned same;
+      next = other.ensures.takes.system ∙ ap (λ (t : Turn). t.next) same;
+      rest = subst (λ b. SameRest b other.new.self.world.files.tree.nodes.blocks) (ap (λ (x : SystemOnDisk). x.blocks) c.self.view_is) other.ensures.rest;
+      items = subst (λ (t : Turn). Took (g.T.Trace.taken c.args.trace.now) t.items (g.T.Trace.taken other.new.trace)) same other.ensures.items;
+      frame = other.ensures.frame;
     }

@@ -1,44 +1,63 @@
-use Rattle.std.proofs.Common.{◌≡◌, ◌∙◌, ◌++◌, refl, ap}
-use Rattle.v6_base.proofs.Took.{took_then}
+use Rattle.std.proofs.Common.{◌≡◌, ◌∙◌, ap, sym, subst}
+use Rattle.pick_rules.specs.declared.table.Table.{Table}
+use Rattle.sys_procs.specs.Process.{register}
+use Rattle.unix_core.specs.declared.world.World.{World}
 use Rattle.unix_core.specs.declared.machine.Stage.{Stage}
-use Rattle.unix_core.specs.Unix.{System, register}
-use Rattle.unix_core.specs.Steps.{Steps}
-use Rattle.unix_core.specs.Turn.{ended_by, settled}
-use Rattle.unix_core.specs.Parts.{system_at, stage_after}
-use Rattle.unix_core.proofs.TurnLemmas.{came, end_answer, end_system, end_items}
+use Rattle.unix_core.specs.declared.machine.Stage.TheVariants as stage
+use Rattle.unix_core.specs.Unix.{process_of}
+use Rattle.unix_core.specs.Turn.{turn}
+use Rattle.unix_core.specs.Parts.{system_at, rested, HasCome, IsKernel}
+use Rattle.unix_core.proofs.MachineLemmas.{runs_kernel}
+use Rattle.unix_core.proofs.TurnLemmas.{turn_answer, turn_next, turn_items, stepped_come, stepped_items}
 use Rattle.unix_core.proofs.machine.Machine.after_step.Goals as goal
+
+pub put_back-requires : goal.put_back-requires
+put_back-requires g c =
+    subst (λ (at : Stage). IsKernel at c.args.self.now.world) (sym c.requires.stage) (runs_kernel c.args.self.now.world c.args.s c.requires.user)
+
+pub come_to-ending-requires : goal.come_to-ending-requires
+come_to-ending-requires g c = record {
+  good = c.put_back.ensures.rested.good (c.put_back.ensures.stage ∙ ap rested c.requires.stage);
+  runs = ap (λ (t : Table). t.running) c.put_back.ensures.table ∙ c.requires.user.ready.runs;
+  user = c.requires.user.ready.user;
+}
 
 pub returns-clause-answer : goal.returns-clause-answer
 returns-clause-answer g c p stepped =
     let m = c.args.self.now in
-    let come = c.come_to-ending.ensures in
-    let same = came p m.process m.world c.args.outcome stepped.machine stepped.outcome in
-    c.end.ensures.answer (register p 7)
-    ∙ end_answer p m.world stepped.user c.come_to-ending.new.self c.come_to-ending.new.world c.come_to-ending.result (come.ending ∙ ap (λ (s : Steps). s.ending) same)
-    (come.unix ∙ ap (λ (s : Steps). s.unix) same) come.table (register p 7) refl
+    let n = c.put_back.new.self in
+    let s = c.args.s in
+    let e = c.come_to-ending.result in
+    let w' : World = c.come_to-ending.new.world in
+    let resting : n.stage ≡ stage.Resting = c.put_back.ensures.stage ∙ ap rested c.requires.stage in
+    let back : system_at stage.Resting n.regs n.world ≡ system_at (stage.Running s) m.regs m.world =
+    ap (λ at. system_at at n.regs n.world) (sym resting) ∙ c.put_back.ensures.system ∙ ap (λ at. system_at at m.regs m.world) c.requires.stage in
+    let come : HasCome p.board (turn p s) e w' = stepped_come p s c.args.outcome m.regs n.regs m.world n.world stepped back e w' c.come_to-ending.ensures.come in
+    c.end.ensures.answer (register (process_of p.unix s) 7) ∙ turn_answer p s (turn p s) e w' come
 
 pub returns-clause-system : goal.returns-clause-system
 returns-clause-system g c p stepped =
     let m = c.args.self.now in
-    let come = c.come_to-ending.ensures in
+    let n = c.put_back.new.self in
+    let s = c.args.s in
     let e = c.come_to-ending.result in
-    let p' = c.come_to-ending.new.self in
-    let w' = c.come_to-ending.new.world in
-    let same = came p m.process m.world c.args.outcome stepped.machine stepped.outcome in
-    let left : Stage → System = λ s. record (system_at (stage_after e s) p' w') { table = (settled (ended_by e w'.table 1).table).table } in
-    c.end.ensures.system ∙ ap left c.requires.stage
-    ∙ end_system p m.world stepped.user p' w' e (come.ending ∙ ap (λ (s : Steps). s.ending) same)
-    (come.unix ∙ ap (λ (s : Steps). s.unix) same) come.table
+    let w' : World = c.come_to-ending.new.world in
+    let resting : n.stage ≡ stage.Resting = c.put_back.ensures.stage ∙ ap rested c.requires.stage in
+    let back : system_at stage.Resting n.regs n.world ≡ system_at (stage.Running s) m.regs m.world =
+    ap (λ at. system_at at n.regs n.world) (sym resting) ∙ c.put_back.ensures.system ∙ ap (λ at. system_at at m.regs m.world) c.requires.stage in
+    let come : HasCome p.board (turn p s) e w' = stepped_come p s c.args.outcome m.regs n.regs m.world n.world stepped back e w' c.come_to-ending.ensures.come in
+    turn_next p s (turn p s) e w' come _ c.end.ensures.system
 
 pub returns-clause-items : goal.returns-clause-items
 returns-clause-items g c p stepped =
     let m = c.args.self.now in
-    let come = c.come_to-ending.ensures in
+    let n = c.put_back.new.self in
+    let s = c.args.s in
     let e = c.come_to-ending.result in
-    let p' = c.come_to-ending.new.self in
-    let w' = c.come_to-ending.new.world in
-    let same = came p m.process m.world c.args.outcome stepped.machine stepped.outcome in
-    took_then _ _ _ _ _ _ come.items c.end.ensures.items
-    (ap (λ (s : Steps). s.items ++ ((ended_by e w'.table 1).items ++ (settled (ended_by e w'.table 1).table).items)) same
-    ∙ end_items p m.world stepped.user p' w' e (come.ending ∙ ap (λ (s : Steps). s.ending) same)
-    (come.unix ∙ ap (λ (s : Steps). s.unix) same) come.table)
+    let w' : World = c.come_to-ending.new.world in
+    let resting : n.stage ≡ stage.Resting = c.put_back.ensures.stage ∙ ap rested c.requires.stage in
+    let back : system_at stage.Resting n.regs n.world ≡ system_at (stage.Running s) m.regs m.world =
+    ap (λ at. system_at at n.regs n.world) (sym resting) ∙ c.put_back.ensures.system ∙ ap (λ at. system_at at m.regs m.world) c.requires.stage in
+    let come : HasCome p.board (turn p s) e w' = stepped_come p s c.args.outcome m.regs n.regs m.world n.world stepped back e w' c.come_to-ending.ensures.come in
+    turn_items p s (turn p s) e w' come _ _ _
+    (stepped_items p s c.args.outcome m.regs n.regs m.world n.world stepped back _ _ c.come_to-ending.ensures.items) c.end.ensures.items

@@ -1,37 +1,52 @@
-use Rattle.std.proofs.Common.{◌≡◌, ◌∙◌, Some, refl, rules}
-use Rattle.v6_base.proofs.Took.{took_then}
-use Rattle.unix_core.specs.Unix.{register}
-use Rattle.unix_core.proofs.MachineLemmas.{one_runs, turned_answer, turned_next, turned_items}
+use Rattle.std.proofs.Common.{◌<◌, ◌∙◌, false, rules, ap, sym, subst}
+use Rattle.v6_base.specs.Trace.{Took}
+use Rattle.unix_core.specs.Unix.{System}
+use Rattle.unix_core.specs.Turn.{Turn, turn, turned, turned_by, ending_at}
+use Rattle.unix_core.specs.Parts.{system_at, pc_by, pc_at}
+use Rattle.unix_core.proofs.MachineLemmas.{rested_alive}
+use Rattle.unix_core.proofs.TurnLemmas.{turn_answer, turn_next, turn_items}
+use Rattle.unix_core.proofs.TurnSteps.{user_slot}
+use Rattle.unix_core.proofs.SlotLemmas.{kernel_rested}
 use Rattle.unix_core.proofs.machine.Machine.other_slot.Goals as goal
+
+pub end-requires-clause-slot : goal.end-requires-clause-slot
+end-requires-clause-slot g c =
+    let m = c.args.self.now in
+    let above : 0 < c.in-Some.s = search rules in
+    (rested_alive m.stage m.world c.in-Some.s (kernel_rested m.stage m.world c.requires.kernel c.requires.other) c.in-Some.is above).below
 
 pub returns-in-Some-clause-answer : goal.returns-in-Some-clause-answer
 returns-in-Some-clause-answer g c =
-    let m = c.args.self.now in
-    let machine = c.requires.kernel.machine in
-    let runs : m.world.table.running ≡ Some 1 = one_runs m.world.table c.in-Some.field-0 machine.alone c.in-Some.is (search rules) in
-    let ending = c.go_on-ending in
-    c.end.ensures.answer (register m.process 7)
-    ∙ turned_answer m.stage m.process m.world ending.result runs ending.ensures.ending (register m.process 7) refl machine
+    let n = c.args.self.now in
+    let s = c.in-Some.s in
+    let above : 0 < s = search rules in
+    let m : System = system_at n.stage n.regs n.world in
+    let e = c.go_on-ending.result in
+    c.end.ensures.answer (pc_at n.stage n.regs n.world)
+    ∙ ap (λ o. turned_by (ending_at (pc_by m.unix o) e) false) c.in-Some.is
+    ∙ turn_answer m s (turn m s) e c.go_on-ending.new.self.world c.go_on-ending.ensures.come
+    ∙ ap turned (sym (user_slot m s c.in-Some.is above))
 
 pub returns-in-Some-clause-takes : goal.returns-in-Some-clause-takes
 returns-in-Some-clause-takes g c =
-    let m = c.args.self.now in
-    let runs : m.world.table.running ≡ Some 1 = one_runs m.world.table c.in-Some.field-0 c.requires.kernel.machine.alone c.in-Some.is (search rules) in
-    let ending = c.go_on-ending in
-    let after = ending.new.self in record {
+    let n = c.args.self.now in
+    let s = c.in-Some.s in
+    let above : 0 < s = search rules in
+    let m : System = system_at n.stage n.regs n.world in record {
       kernel = c.end.ensures.kernel;
-      system = c.end.ensures.system
-          ∙ turned_next m.stage m.process m.world ending.result runs ending.ensures.ending after.stage after.process after.world
-          ending.ensures.alive ending.ensures.system ending.ensures.table;
+      system = turn_next m s (turn m s) c.go_on-ending.result c.go_on-ending.new.self.world c.go_on-ending.ensures.come _ c.end.ensures.system
+          ∙ ap (λ (t : Turn). t.next) (sym (user_slot m s c.in-Some.is above));
     }
 
 pub returns-in-Some-clause-items : goal.returns-in-Some-clause-items
 returns-in-Some-clause-items g c =
-    let m = c.args.self.now in
-    let runs : m.world.table.running ≡ Some 1 = one_runs m.world.table c.in-Some.field-0 c.requires.kernel.machine.alone c.in-Some.is (search rules) in
-    let ending = c.go_on-ending in
-    took_then _ _ _ _ _ _ ending.ensures.items c.end.ensures.items
-    (turned_items m.stage m.process m.world ending.result runs ending.ensures.ending ending.new.self.world.table ending.ensures.table)
+    let n = c.args.self.now in
+    let s = c.in-Some.s in
+    let above : 0 < s = search rules in
+    let m : System = system_at n.stage n.regs n.world in
+    subst (λ (t : Turn). Took (g.T.Trace.taken c.args.trace.now) t.items (g.T.Trace.taken c.end.new.trace)) (sym (user_slot m s c.in-Some.is above))
+    (turn_items m s (turn m s) c.go_on-ending.result c.go_on-ending.new.self.world c.go_on-ending.ensures.come _ _ _
+    c.go_on-ending.ensures.items c.end.ensures.items)
 
 pub returns-in-Some-clause-frame : goal.returns-in-Some-clause-frame
 returns-in-Some-clause-frame g c = g.met.T.Trace.goes_on _ _ _ c.go_on-ending.ensures.frame c.end.ensures.frame

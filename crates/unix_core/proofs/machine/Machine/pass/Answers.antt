@@ -1,27 +1,29 @@
-use Rattle.std.proofs.Common.{◌++◌, ◌∙◌, ap}
-use Rattle.v6_base.proofs.Took.{took_then}
-use Rattle.pick_rules.specs.declared.table.Table.{Table}
-use Rattle.unix_core.specs.Turn.{swapper_sleeps, settled}
-use Rattle.unix_core.proofs.SettlingLemmas.{sleeps_clock, sleeps_alone, sleeps_gone}
-use Rattle.unix_core.proofs.MachineLemmas.{machine_as, settled_next}
+use Rattle.std.proofs.Common.{◌∙◌, ap}
+use Rattle.unix_core.specs.Unix.{System}
+use Rattle.unix_core.specs.Turn.{pass_of}
+use Rattle.unix_core.proofs.MachineLemmas.{some_good}
+use Rattle.unix_core.proofs.EventLemmas.{pass_rested, pass_next, pass_items}
 use Rattle.unix_core.proofs.machine.Machine.pass.Goals as goal
+
+pub pass-requires : goal.pass-requires
+pass-requires g c = let m = c.put_back.new.self in (some_good m.stage m.world c.put_back.ensures.rested).1.agree.table
 
 pub settle-requires : goal.settle-requires
 settle-requires g c =
-    let m = c.args.self.now in
-    let t : Table = m.world.table in
-    machine_as m.stage m.process m.world c.pass.new.table (swapper_sleeps t).table c.pass.ensures.table
-    (λ table. sleeps_alone t table c.requires.machine.alone) (λ is. sleeps_gone t (c.requires.machine.ended is)) c.pass.ensures.good c.requires.machine
+    let m = c.put_back.new.self in
+    pass_rested m.stage m.regs m.world c.put_back.ensures.rested c.pass.new.table c.pass.ensures.table c.pass.ensures.good (c.pass.ensures.board m.world.procs.images)
 
 pub returns-clause-takes : goal.returns-clause-takes
 returns-clause-takes g c =
-    let m = c.args.self.now in
-    let t : Table = m.world.table in record {
+    let m = c.put_back.new.self in record {
       kernel = c.settle.ensures.kernel;
-      system = c.settle.ensures.system ∙ settled_next m.stage m.process m.world c.pass.new.table (swapper_sleeps t).table c.pass.ensures.table (sleeps_clock t);
+      system = pass_next m.stage m.regs m.world c.put_back.ensures.rested c.pass.new.table c.pass.ensures.table c.pass.ensures.good (c.pass.ensures.board m.world.procs.images)
+          _ c.settle.ensures.system
+          ∙ ap (λ (s : System). (pass_of s).next) c.put_back.ensures.system;
     }
 
 pub returns-clause-items : goal.returns-clause-items
 returns-clause-items g c =
-    let t : Table = c.args.self.now.world.table in
-    took_then _ _ _ _ _ _ c.pass.ensures.items c.settle.ensures.items (ap (λ (u : Table). (swapper_sleeps t).items ++ (settled u).items) c.pass.ensures.table)
+    let m = c.put_back.new.self in
+    pass_items m.stage m.regs m.world c.put_back.ensures.rested c.pass.new.table c.pass.ensures.table c.pass.ensures.good (c.pass.ensures.board m.world.procs.images)
+    _ c.put_back.ensures.system _ _ _ (c.pass.ensures.items _) c.settle.ensures.items

@@ -1,18 +1,39 @@
-use Rattle.std.proofs.Common.{◌≡◌, Some, None, sym, subst}
+use Rattle.std.proofs.Common.{◌∙◌, ap}
 use Rattle.pick_rules.specs.declared.table.Table.{Table}
-use Rattle.pick_rules.specs.Choice.{settle}
-use Rattle.unix_core.specs.Turn.{settled}
-use Rattle.unix_core.proofs.SettlingLemmas.{settled_alone, settled_gone, settled_settles}
-use Rattle.unix_core.proofs.MachineLemmas.{machine_as}
+use Rattle.pick_rules.specs.Board.{Board}
+use Rattle.sys_procs.specs.World.{clock_of}
+use Rattle.unix_core.specs.declared.world.World.{World}
+use Rattle.unix_core.specs.Parts.{system_at}
+use Rattle.unix_core.proofs.MachineLemmas.{some_good}
+use Rattle.unix_core.proofs.TableLemmas.{rested_table, settled_agree, settled_image, settled_settles, settled_clock, table_system}
 use Rattle.unix_core.proofs.machine.Machine.settle.Goals as goal
 
-pub refresh-requires-clause-machine : goal.refresh-requires-clause-machine
-refresh-requires-clause-machine g c =
+pub settle-requires : goal.settle-requires
+settle-requires g c = let m = c.args.self.now in (some_good m.stage m.world c.requires).1.agree.table
+
+pub refresh-requires-clause-rested : goal.refresh-requires-clause-rested
+refresh-requires-clause-rested g c =
     let m = c.args.self.now in
-    let t : Table = m.world.table in
-    machine_as m.stage m.process m.world c.settle.new.table (settled t).table c.settle.ensures.table
-    (λ table. settled_alone t table c.requires.alone) (λ is. settled_gone t (c.requires.ended is)) c.settle.ensures.good c.requires
+    let w : World = m.world in
+    let t : Table = w.procs.table in
+    let u : Table = c.settle.new.table in
+    let good = (some_good m.stage w c.requires).1 in
+    rested_table w u (settled_agree w.procs.rows w.procs.images t u c.settle.ensures.table c.settle.ensures.good good.agree)
+    (settled_image w.procs.rows w.procs.images t u c.settle.ensures.table c.settle.ensures.good good.agree good.running) m.stage c.requires
 
 pub refresh-requires-clause-settled : goal.refresh-requires-clause-settled
 refresh-requires-clause-settled g c =
-    subst (λ (t : Table). t.running ≡ Some 1 → settle t ≡ None) (sym c.settle.ensures.table) (settled_settles c.args.self.now.world.table)
+    let w : World = c.args.self.now.world in
+    settled_settles w.procs.rows w.procs.images w.procs.table c.settle.new.table c.settle.ensures.table
+
+pub returns-clause-system : goal.returns-clause-system
+returns-clause-system g c =
+    let m = c.args.self.now in
+    let w : World = m.world in
+    let t : Table = w.procs.table in
+    c.refresh.ensures.system
+    ∙ table_system m.stage m.regs w c.settle.new.table (ap clock_of c.settle.ensures.table ∙ settled_clock w.procs.rows w.procs.images t)
+    ∙ ap (λ (b : Board). record (system_at m.stage m.regs w) { board = b }) (c.settle.ensures.board w.procs.images)
+
+pub returns-clause-items : goal.returns-clause-items
+returns-clause-items g c = c.settle.ensures.items c.args.self.now.world.procs.images

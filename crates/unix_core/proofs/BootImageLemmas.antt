@@ -1,0 +1,64 @@
+-- The first image of process 1 stands at the front of a core in which nothing stands.
+use Rattle.std.proofs.Common.{◌≡◌, ◌<◌, ◌≤◌, ◌+◌, ℕ, true, length, replicate, get_or, Some, None, Option, refl, ap, ◌∙◌, inl, inr, arith}
+use Rattle.std.specs.Prelude.{Result, Ok, Err, is_err, MatchResult}
+use Rattle.std.proofs.lemmas.Bool.{cases_lt}
+use Rattle.std.proofs.lemmas.List.{get_or-replicate, get_or_past, length-replicate}
+use Rattle.v6_base.specs.declared.entry.Place.TheVariants.{Core}
+use Rattle.u_area.specs.declared.area.UArea.{UArea}
+use Rattle.u_area.proofs.AreaLemmas.{one_area}
+use Rattle.image_keep.specs.Area.{sized_area}
+use Rattle.image_keep.specs.Kept.{Held, Nothing, Alive, Kept, HasImage, keeping, first_kept, with_keeping, with_area, described, area_in, area_of}
+use Rattle.image_keep.specs.Places.{placed, with_image_at, cleared}
+use Rattle.image_keep.proofs.Frames.{keeping_same, keeping_twice}
+use Rattle.unix_core.specs.Parts.{first_held}
+use Rattle.unix_core.proofs.PlaceLemmas.{placed_first}
+
+empty_slots : (s : ℕ) → get_or (replicate 50 Nothing) s Nothing ≡ Nothing
+empty_slots s = elim (cases_lt s 50) [
+  | inl low ↦ get_or-replicate 50 s Nothing Nothing low
+  | inr past ↦ get_or_past (replicate 50 Nothing) s Nothing (let long = length-replicate 50 Nothing in omega (arith, long, past))
+]
+
+pub none_by : {A E : Type 0} (r : Result A E) (o : Option A) → is_err r ≡ true → MatchResult r (λ a. o ≡ Some a) (λ e. o ≡ None) → o ≡ None
+none_by (Ok a) o err is = absurd (cc err)
+none_by (Err e) o err is = is
+
+-- the image as it is made, before its directory is set
+abbrev pub made_held : Held
+made_held = record { u = sized_area 1 0; image = cleared 1 0; place = Core 1 }
+
+module _ (k : Kept) (empty : k ≡ first_kept k.core) (least : 64 ≤ k.core) where
+  pub keeps_nothing : (s : ℕ) → keeping k s ≡ Nothing
+  keeps_nothing s = ap (λ l. keeping l s) empty ∙ empty_slots s
+
+  slot_within : 1 < length k.slots
+  slot_within = let long = ap (λ (l : Kept). length l.slots) empty in let fifty = length-replicate 50 Nothing in omega (arith, long, fifty)
+
+  pub first_place : (d stack : ℕ) → d ≡ 1 → stack ≡ 0 → placed k (16 + d + stack) ≡ Some (Core 1)
+  first_place d stack one none =
+      (λ i. placed k (16 + one i + none i)) ∙ placed_first k 17 keeps_nothing (omega arith) (omega (arith, least))
+
+  module _ (made : Kept) (d stack : ℕ) (one : d ≡ 1) (none : stack ≡ 0)
+      (is : made ≡ with_image_at k 1 (sized_area d stack) (cleared d stack) (placed k (16 + d + stack))) where
+    made_is : made ≡ with_keeping k 1 (Alive made_held)
+    made_is =
+        is ∙ ap (with_image_at k 1 (sized_area d stack) (cleared d stack)) (first_place d stack one none)
+        ∙ (λ i. with_keeping k 1 (Alive (record { u = sized_area (one i) (none i); image = cleared (one i) (none i); place = Core 1 })))
+
+    made_keeping : keeping made 1 ≡ Alive made_held
+    made_keeping = ap (λ l. keeping l 1) made_is ∙ keeping_same k 1 (Alive made_held) slot_within
+
+    pub made_image : HasImage made 1
+    made_image = (made_held, made_keeping)
+
+    -- its directory is the root
+    pub first_made : (u : UArea) (codes : u.cc < 16) (now : Kept) → u ≡ area_of made 1 → now ≡ with_area made 1 (record u { dir = 1; codes = codes })
+        → now ≡ with_keeping k 1 (Alive first_held)
+    unfolding with_area
+    first_made u codes now area set =
+        let own : u ≡ sized_area 1 0 = area ∙ ap area_in made_keeping in
+        let same : ◌≡◌ {A = UArea} (record u { dir = 1; codes = codes }) (record u { dir = 1 }) =
+        one_area (record u { dir = 1; codes = codes }) (record u { dir = 1 }) refl refl refl refl refl refl refl refl refl refl refl refl refl refl refl refl refl refl refl in
+        set ∙ ap (λ (v : UArea). with_keeping made 1 (described v (keeping made 1))) same
+        ∙ (λ i. with_keeping (made_is i) 1 (described (record (own i) { dir = 1 }) (made_keeping i)))
+        ∙ keeping_twice k 1 (Alive made_held) (Alive first_held)

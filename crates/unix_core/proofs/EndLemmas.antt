@@ -1,0 +1,137 @@
+-- A turn ends: what belongs together still does, whether the process goes on, sleeps or has exited.
+use Rattle.std.proofs.Common.{◌≡◌, ◌≢◌, ◌<◌, ◌==◌, cond, ℕ, Bool, true, false, ℤ, int_lt, pos, Some, refl, sym, ap, ◌∙◌, subst, arith}
+use Rattle.std.proofs.lemmas.List.{get_or-set_same, get_or-set_other, length-set}
+use Rattle.v6_base.specs.declared.entry.Chan.{Chan}
+use Rattle.v6_base.specs.declared.entry.Chan.TheVariants.{RunIn}
+use Rattle.pick_rules.specs.declared.row.Stat.TheVariants.{Sleeping, Waiting}
+use Rattle.pick_rules.specs.declared.row.TableRow.{TableRow}
+use Rattle.pick_rules.specs.declared.table.Table.{Table}
+use Rattle.pick_rules.specs.Table.{empty_row, row_at, same_chan, IsTable}
+use Rattle.pick_rules.specs.Priority.{setpri}
+use Rattle.pick_rules.specs.Sleepers.{sleep_stat, runin_told, asleep, flagged, fall_asleep}
+use Rattle.pick_rules.specs.Board.{Board}
+use Rattle.pick_rules.proofs.Laws.{sleep_now, sleep_ticks, sleep_tout, sleep_running}
+use Rattle.pdp_step.specs.declared.regs.Regs.{Regs}
+use Rattle.image_keep.specs.Kept.{Kept, HasImage, keeping}
+use Rattle.proc_tab.specs.Processes.{Processes, member_at}
+use Rattle.sys_procs.specs.World.{clock_of}
+use Rattle.sys_procs.specs.Agree.{Lives, kind_of_stat, kind_of_member, kind_of_keeping, Agrees, Agree}
+use Rattle.sys_procs.proofs.Agreement.{AreLike, agree_like, agree_but, tables_same}
+use Rattle.unix_core.specs.declared.world.World.{World}
+use Rattle.unix_core.specs.declared.machine.Stage.TheVariants as stage
+use Rattle.unix_core.specs.declared.ending.Ending.{Ending}
+use Rattle.unix_core.specs.declared.ending.Ending.TheVariants as ending
+use Rattle.unix_core.specs.Unix.{System}
+use Rattle.unix_core.specs.Passing.{trapped, ended_table}
+use Rattle.unix_core.specs.Turn.{settled}
+use Rattle.unix_core.specs.Parts.{unix_of, board_in, system_at, none_more, IsGood, IsRested}
+use Rattle.unix_core.proofs.TableLemmas.{RunsImage, with_table, good_table}
+use Rattle.unix_core.proofs.TickLemmas.{trapped_like, runin_like}
+
+asleep_lives : (x : ℤ) → kind_of_stat (sleep_stat x) ≡ Lives
+asleep_lives x = by (int_lt x (pos 0))
+  where
+    by : (c : Bool) → kind_of_stat (cond c Sleeping Waiting) ≡ Lives
+    by true = refl
+    by false = refl
+
+flagged_like : (first t : Table) (s : ℕ) (w : Chan) → AreLike first t → AreLike first (flagged t s w)
+flagged_like first t s w l = by (s == 0) (same_chan w RunIn)
+  where
+    by : (a b : Bool) → AreLike first (cond a (cond b (record t { runin = true }) (record t { runout = true })) t)
+    by true true = record { long = l.long; each = l.each }
+    by true false = record { long = l.long; each = l.each }
+    by false b = l
+
+lain_like : (t : Table) (s : ℕ) (pri : ℤ) (w : Chan) → AreLike (asleep t s pri w) (fall_asleep t s pri w)
+unfolding fall_asleep
+lain_like t s pri w = by (int_lt pri (pos 0))
+  where
+    lain : Table
+    lain = asleep t s pri w
+
+    same : AreLike lain lain
+    same = tables_same lain lain refl
+
+    by : (b : Bool) → AreLike lain (flagged (cond b lain (runin_told lain)) s w)
+    by true = flagged_like lain lain s w same
+    by false = flagged_like lain (runin_told lain) s w (runin_like lain lain same)
+
+abbrev lain_row : Table → ℕ → ℤ → Chan → TableRow
+lain_row t s pri w = record (row_at t s) { stat = sleep_stat pri; pri = pri; channel = Some w; calling = true }
+
+module _ (v : Processes) (k : Kept) (t : Table) (s : ℕ) (agree : Agree v t k) (above : 0 < s) (low : s < 50) where
+  lain_agree : (pri : ℤ) (w : Chan) → HasImage k s → Agree v (asleep t s pri w) k
+  lain_agree pri w has =
+      let old = agree.each s above low in
+      let kind : kind_of_member (member_at v.slots s) ≡ Lives = sym old.image ∙ ap kind_of_keeping has.1 in
+      let new : Agrees (member_at v.slots s) (lain_row t s pri w) (keeping k s) = record {
+        stat = asleep_lives pri ∙ sym kind;
+        image = old.image;
+        place = old.place;
+        size = old.size;
+        text = old.text;
+        quiet = λ f. absurd (f kind);
+      } in
+      let here : row_at (asleep t s pri w) s ≡ lain_row t s pri w =
+      get_or-set_same t.rows s (lain_row t s pri w) empty_row (let long = agree.rows in omega (arith, long, low)) in
+      agree_but v v t (asleep t s pri w) k k s agree above
+      (record { last = agree.table.last; running = tt; ticks = agree.table.ticks })
+      (length-set t.rows s (lain_row t s pri w))
+      (subst (λ row. Agrees (member_at v.slots s) row (keeping k s)) (sym here) new)
+      (λ r other. refl) (λ r other. get_or-set_other t.rows s r (lain_row t s pri w) empty_row other) (λ r other. refl)
+
+  pub ended_agree : (u : Table) (e : Ending) → u ≡ ended_table t s e → IsTable u → (e ≢ ending.Ended → HasImage k s) → Agree v u k
+  ended_agree u ending.Next is good has = subst (λ x. Agree v x k) (sym is) agree
+  ended_agree u ending.Trapped is good has = agree_like v t u k agree good (subst (AreLike t) (sym is) (trapped_like t t s (tables_same t t refl)))
+  ended_agree u (ending.Slept pri chan) is good has =
+      agree_like v (asleep t s pri chan) u k (lain_agree pri chan (has (λ e. cc e))) good (subst (AreLike (asleep t s pri chan)) (sym is) (lain_like t s pri chan))
+  ended_agree u ending.Ended is good has = subst (λ x. Agree v x k) (sym is) agree
+  ended_agree u ending.NoRoom is good has = subst (λ x. Agree v x k) (sym is) agree
+  ended_agree u ending.NotBuilt is good has = subst (λ x. Agree v x k) (sym is) agree
+
+trapped_running : (t : Table) (s : ℕ) → (trapped t s).running ≡ t.running
+unfolding setpri
+trapped_running t s = refl
+
+trapped_clock : (t : Table) (s : ℕ) → clock_of (trapped t s) ≡ clock_of t
+unfolding setpri
+trapped_clock t s = refl
+
+-- nobody else runs then
+ended_runs : (t : Table) (s : ℕ) (e : Ending) (r : ℕ) → (ended_table t s e).running ≡ Some r → t.running ≡ Some r
+ended_runs t s ending.Next r is = is
+ended_runs t s ending.Trapped r is = sym (trapped_running t s) ∙ is
+ended_runs t s (ending.Slept pri chan) r is = absurd (let none = sleep_running t s pri chan in cc (none, is))
+ended_runs t s ending.Ended r is = is
+ended_runs t s ending.NoRoom r is = is
+ended_runs t s ending.NotBuilt r is = is
+
+pub ended_image : (k : Kept) (t u : Table) (s : ℕ) (e : Ending) → u ≡ ended_table t s e → RunsImage t k → RunsImage u k
+ended_image k t u s e is runs r now above = runs r (ended_runs t s e r (ap (λ (x : Table). x.running) (sym is) ∙ now)) above
+
+pub ended_clock : (t : Table) (s : ℕ) (e : Ending) → clock_of (ended_table t s e) ≡ clock_of t
+ended_clock t s ending.Next = refl
+ended_clock t s ending.Trapped = trapped_clock t s
+ended_clock t s (ending.Slept pri chan) = λ i. record { time = sleep_now t s pri chan i; ticks = sleep_ticks t s pri chan i; tout = sleep_tout t s pri chan i }
+ended_clock t s ending.Ended = refl
+ended_clock t s ending.NoRoom = refl
+ended_clock t s ending.NotBuilt = refl
+
+module _ (w : World) (good : IsGood w none_more) (s : ℕ) (above : 0 < s) (low : s < 50) (e : Ending) (runs : e ≢ ending.Ended → w.procs.table.running ≡ Some s)
+    (t : Table) (is : t ≡ ended_table w.procs.table s e) (table : IsTable t) where
+  pub ended_rested : IsRested stage.Resting (with_table w t)
+  ended_rested = record {
+    apart = λ r x. absurd (cc x);
+    fresh = λ init x. absurd (cc x);
+    good = λ x. good_table w t
+        (ended_agree w.procs.rows w.procs.images w.procs.table s good.agree above low t e is table (λ alive. good.running s (runs alive) above))
+        (ended_image w.procs.images w.procs.table t s e is good.running) none_more good;
+  }
+
+  pub ended_system : (regs : Regs) (b : Board) → board_in (with_table w t) ≡ b → (now : System)
+      → now ≡ record (system_at stage.Resting regs (with_table w t)) { board = (settled (board_in (with_table w t))).board }
+      → now ≡ record { unix = unix_of w; board = (settled b).board; is_fresh = false }
+  ended_system regs b board now final =
+      let clock : clock_of t ≡ clock_of w.procs.table = ap clock_of is ∙ ended_clock w.procs.table s e in
+      final ∙ (λ i. record { unix = record (unix_of w) { clock = clock i }; board = (settled (board i)).board; is_fresh = false })

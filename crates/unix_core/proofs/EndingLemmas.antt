@@ -1,0 +1,90 @@
+-- How a call ends: never as an instruction does that is just done, and only exit ends a process.
+use Rattle.std.proofs.Common.{◌≡◌, ◌≢◌, ◌∙◌, ℕ, Bool, true, false, ◌||◌, nat_lt, if◌then◌else◌, List, Option, Some, None, refl, sym, subst}
+use Rattle.v6_base.specs.declared.answer.Answer.{Answer}
+use Rattle.v6_base.specs.declared.answer.Answer.TheVariants.{Ret, Fail, Sleep}
+use Rattle.image_keep.specs.Kept.{clicks_of}
+use Rattle.pick_rules.specs.Board.{Board}
+use Rattle.pick_rules.specs.Logged.{Stop, logged}
+use Rattle.sys_files.specs.Did.{Did}
+use Rattle.sys_procs.specs.Comes.{Comes}
+use Rattle.sys_procs.specs.Fork.{fork_one}
+use Rattle.unix_core.specs.declared.world.World.{World}
+use Rattle.unix_core.specs.declared.ending.Ending.{Ending}
+use Rattle.unix_core.specs.declared.ending.Ending.TheVariants.{Next, Ended}
+use Rattle.unix_core.specs.Unix.{Unix, process_of}
+use Rattle.unix_core.specs.Steps.{Steps, returns, not_built, no_room}
+use Rattle.unix_core.specs.Errors.{error_number}
+use Rattle.unix_core.specs.Calls.{answers, came_by, did_by, does_call, exits, fork_if_room, forks, is_full, refused_area, with_area, with_handed, with_world, world_of}
+use Rattle.unix_core.specs.Parts.{HasCome, ended_as}
+
+refused_end : (u : Unix) (s n : ℕ) (b : Bool) →
+    (if b then returns (with_area u s (refused_area n)) else not_built u).ending ≢ Next
+refused_end u s n true e = absurd (cc e)
+refused_end u s n false e = absurd (cc e)
+
+pub answers_end : (u : Unix) (s : ℕ) (a : Answer) → (answers u s a).ending ≢ Next
+answers_end u s (Ret r0 r1) e = absurd (cc e)
+answers_end u s (Fail x) e = refused_end u s (error_number x) (nat_lt (error_number x) 100) e
+answers_end u s (Sleep pri chan) e = absurd (cc e)
+
+pub did_next : (u : Unix) (s : ℕ) (d : Did) → (did_by u s d).ending ≢ Next
+did_next u s d = answers_end (with_handed u s d.state) s d.answer
+
+pub came_next : (u : Unix) (s : ℕ) (c : Comes) → (came_by u s c).ending ≢ Next
+came_next u s c = answers_end (with_world u c.state) s c.answer
+
+-- an answer doesn't end the process
+refused_lives : (u : Unix) (s n : ℕ) (b : Bool) →
+    (if b then returns (with_area u s (refused_area n)) else not_built u).ending ≢ Ended
+refused_lives u s n true e = absurd (cc e)
+refused_lives u s n false e = absurd (cc e)
+
+pub answers_live : (u : Unix) (s : ℕ) (a : Answer) → (answers u s a).ending ≢ Ended
+answers_live u s (Ret r0 r1) e = absurd (cc e)
+answers_live u s (Fail x) e = refused_lives u s (error_number x) (nat_lt (error_number x) 100) e
+answers_live u s (Sleep pri chan) e = absurd (cc e)
+
+pub did_lives : (u : Unix) (s : ℕ) (d : Did) → (did_by u s d).ending ≢ Ended
+did_lives u s d = answers_live (with_handed u s d.state) s d.answer
+
+pub came_lives : (u : Unix) (s : ℕ) (c : Comes) → (came_by u s c).ending ≢ Ended
+came_lives u s c = answers_live (with_world u c.state) s c.answer
+
+room_end : (u : Unix) (s : ℕ) (b : Bool) → (if b then forks u s else no_room u).ending ≢ Next
+room_end u s true e =
+    let c : Comes = fork_one (world_of u) s in
+    answers_end (with_world u c.state) s c.answer e
+room_end u s false e = absurd (cc e)
+
+pub fork_end : (has_room : ℕ → Bool) (u : Unix) (s : ℕ) → (fork_if_room has_room u s).ending ≢ Next
+fork_end has_room u s e = room_end u s (is_full u || has_room (clicks_of (process_of u s).u)) e
+
+pub exit_end : (u : Unix) (s : ℕ) → (exits u s).ending ≢ Next
+exit_end u s e = absurd (cc e)
+
+as_next : (o : Option (Stop Unix)) (e : Ending) → e ≢ Next → ended_as o e ≢ Next
+as_next None e other is = other is
+as_next (Some stop) e other is = absurd (cc is)
+
+pub never_next : (b : Board) (steps : Steps) (e : Ending) (w : World) → HasCome b steps e w → steps.ending ≢ Next
+    → e ≢ Next
+never_next b steps e w come other is = as_next (logged b steps.effects).stop steps.ending other (sym come.ending ∙ is)
+
+as_ended : (o : Option (Stop Unix)) (e : Ending) → e ≢ Ended → ended_as o e ≢ Ended
+as_ended None e other is = other is
+as_ended (Some stop) e other is = absurd (cc is)
+
+pub never_ended : (b : Board) (steps : Steps) (e : Ending) (w : World) → HasCome b steps e w → steps.ending ≢ Ended
+    → e ≢ Ended
+never_ended b steps e w come other is = as_ended (logged b steps.effects).stop steps.ending other (sym come.ending ∙ is)
+
+-- the calls that have no row of their own
+module _ (has_room : ℕ → Bool) (u : Unix) (s number : ℕ) (args : List ℕ) where
+  pub is_indirect : number ≡ 0 → returns u ≡ does_call has_room u s number args
+  is_indirect e = subst (λ n. returns u ≡ does_call has_room u s n args) (sym e) refl
+
+  pub is_exit : number ≡ 1 → exits u s ≡ does_call has_room u s number args
+  is_exit e = subst (λ n. exits u s ≡ does_call has_room u s n args) (sym e) refl
+
+  pub is_fork : number ≡ 2 → fork_if_room has_room u s ≡ does_call has_room u s number args
+  is_fork e = subst (λ n. fork_if_room has_room u s ≡ does_call has_room u s n args) (sym e) refl

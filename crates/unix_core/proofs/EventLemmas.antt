@@ -1,0 +1,250 @@
+-- What comes from outside, and the pass of the swapper: what they leave of the table, and of the log.
+use Rattle.std.proofs.Common.{◌≡◌, ◌<◌, ℕ, Bool, true, false, List, [], ◌∷◌, ◌++◌, length, get_or, set, map, fold, Some, None, refl, sym, ap, ◌∙◌, subst, arith}
+use Rattle.std.proofs.lemmas.List.{get_or-set_same, get_or-set_other, length-set}
+use Rattle.v6_base.specs.Trace.{sent, Took, Taken}
+use Rattle.v6_base.proofs.Took.{took_then}
+use Rattle.v6_base.specs.declared.entry.Chan.{Chan}
+use Rattle.v6_base.specs.declared.entry.Chan.TheVariants.{RunOut, Keys}
+use Rattle.v6_base.specs.declared.entry.Entry.TheVariants as line
+use Rattle.pick_rules.specs.declared.row.TableRow.{TableRow}
+use Rattle.pick_rules.specs.declared.table.Table.{Table}
+use Rattle.pick_rules.specs.Table.{empty_row, row_at, IsTable}
+use Rattle.pick_rules.specs.Priority.{pswp}
+use Rattle.pick_rules.specs.Sleepers.{fall_asleep, sleep_stat}
+use Rattle.pick_rules.specs.Board.{Board}
+use Rattle.pick_rules.specs.Effects.{Effect, Show}
+use Rattle.pick_rules.specs.Logged.{Logged, logged, left_by, board_after}
+use Rattle.pick_rules.proofs.Laws.{wakeup_kept}
+use Rattle.tty_line.specs.Terminal.{Terminal}
+use Rattle.tty_line.specs.Input.{typed}
+use Rattle.pdp_step.specs.declared.regs.Regs.{Regs}
+use Rattle.image_keep.specs.Kept.{Kept}
+use Rattle.proc_tab.specs.Processes.{Processes}
+use Rattle.sys_procs.specs.World.{clock_of}
+use Rattle.sys_procs.specs.Agree as kind
+use Rattle.sys_procs.specs.Agree.{Agree, untimed, board_of}
+use Rattle.sys_procs.proofs.Agreement.{AreLike, agree_like, tables_same, wakeup_like}
+use Rattle.unix_core.specs.declared.world.World.{World}
+use Rattle.unix_core.specs.declared.machine.Stage.{Stage}
+use Rattle.unix_core.specs.Unix.{Unix, System}
+use Rattle.unix_core.specs.References.{references_of}
+use Rattle.unix_core.specs.Passing.{called_table}
+use Rattle.unix_core.specs.Turn.{Turn, settled, settles, pass_effects, pass_of}
+use Rattle.unix_core.specs.Outside as outside
+use Rattle.unix_core.specs.Outside.{wakes, typed_of}
+use Rattle.unix_core.specs.Parts.{unix_of, board_in, with_regs, is_fresh, system_at, one_more, IsGood, IsFresh, IsRested}
+use Rattle.unix_core.proofs.BoardLemmas.{logged_line}
+use Rattle.unix_core.proofs.LoggedLemmas.{after_items, logged_shown, logged_after}
+use Rattle.unix_core.proofs.MachineLemmas.{rested_unix, some_good}
+use Rattle.unix_core.proofs.TableLemmas.{RunsImage, with_table, rested_table, table_system}
+
+-- An event has left this Unix and this log, and the kernel has settled.
+module _ (m was now : System) (u : Unix) (l : Logged Unix) (stop : l.stop ≡ None) (is : was ≡ record m { unix = u; board = l.board }) where
+  pub settles_next : now ≡ record was { board = (settled was.board).board } → now ≡ (settles m u l).next
+  settles_next final =
+      final ∙ ap (λ (s : System). record s { board = (settled s.board).board }) is
+      ∙ ap (λ o. record m { unix = left_by o u; board = (settled l.board).board }) (sym stop)
+
+  pub settles_items : (a b c : Taken) → Took a l.items b → Took b (settled was.board).items c → Took a (settles m u l).items c
+  settles_items a b c first second =
+      took_then a b c l.items (settled was.board).items (settles m u l).items first second (ap (λ (s : System). l.items ++ (settled s.board).items) is)
+
+-- The pass of the swapper.
+pub pass_stop : (b : Board) → (logged {W = Unix} b pass_effects).stop ≡ None
+pass_stop b = ap (λ (l : Logged Unix). l.stop) (logged_line b (line.Sleep 0 pswp RunOut))
+
+pub pass_clock : (t : Table) → clock_of (fall_asleep t 0 pswp RunOut) ≡ clock_of t
+unfolding fall_asleep
+pass_clock t = refl
+
+pub pass_nobody : (t : Table) → (fall_asleep t 0 pswp RunOut).running ≡ None
+unfolding fall_asleep
+pass_nobody t = refl
+
+pass_rows : (t : Table) → (row : TableRow) × (((fall_asleep t 0 pswp RunOut).rows ≡ set t.rows 0 row) × (row.place ≡ (row_at t 0).place))
+unfolding fall_asleep
+pass_rows t = (record (row_at t 0) { stat = sleep_stat pswp; pri = pswp; channel = Some RunOut; calling = true }, (refl, refl))
+
+pub pass_agree : (v : Processes) (k : Kept) (t u : Table) → u ≡ fall_asleep t 0 pswp RunOut → IsTable u → Agree v t k → Agree v u k
+pass_agree v k t u is good a =
+    let rows = pass_rows t in
+    let all : u.rows ≡ set t.rows 0 rows.0 = ap (λ (x : Table). x.rows) is ∙ rows.1.0 in
+    let low : 0 < length t.rows = let long = a.rows in omega (arith, long) in
+    record {
+      table = good;
+      rows = ap length all ∙ length-set t.rows 0 rows.0 ∙ a.rows;
+      kernel = ap (λ l. (get_or l 0 empty_row).place) all ∙ ap (λ (row : TableRow). row.place) (get_or-set_same t.rows 0 rows.0 empty_row low) ∙ rows.1.1 ∙ a.kernel;
+      images = a.images;
+      each = λ s above below.
+          let same : row_at u s ≡ row_at t s = ap (λ l. get_or l s empty_row) all ∙ get_or-set_other t.rows 0 s rows.0 empty_row (λ e. omega (arith, e, above)) in
+          let old = a.each s above below in record {
+            stat = ap (λ (row : TableRow). kind.kind_of_stat row.stat) same ∙ old.stat;
+            image = old.image;
+            place = ap (λ (row : TableRow). row.place) same ∙ old.place;
+            size = λ held e. ap (λ (row : TableRow). row.size) same ∙ old.size held e;
+            text = ap (λ (row : TableRow). row.text) same ∙ old.text;
+            quiet = λ f. ap (λ (row : TableRow). row.channel) same ∙ old.quiet f;
+          };
+    }
+
+-- Sleepers are woken.
+pub wakes_stop : (b : Board) (called : Bool) (chan : Chan) → (logged {W = Unix} b (wakes called chan)).stop ≡ None
+wakes_stop b true chan = ap (λ (l : Logged Unix). l.stop) (logged_line b (line.Wake chan))
+wakes_stop b false chan = refl
+
+called_like : (t : Table) (called : Bool) (chan : Chan) → AreLike t (called_table called chan t)
+called_like t true chan = wakeup_like t chan
+called_like t false chan = tables_same t t refl
+
+pub called_agree : (v : Processes) (k : Kept) (t u : Table) (called : Bool) (chan : Chan) → u ≡ called_table called chan t → IsTable u → Agree v t k → Agree v u k
+called_agree v k t u called chan is good a = agree_like v t u k a good (subst (AreLike t) (sym is) (called_like t called chan))
+
+called_running : (t : Table) (called : Bool) (chan : Chan) → (called_table called chan t).running ≡ t.running
+called_running t true chan = (wakeup_kept t chan).running
+called_running t false chan = refl
+
+pub called_clock : (t : Table) (called : Bool) (chan : Chan) → clock_of (called_table called chan t) ≡ clock_of t
+called_clock t true chan = λ i. record { time = (wakeup_kept t chan).now i; ticks = (wakeup_kept t chan).ticks i; tout = (wakeup_kept t chan).tout i }
+called_clock t false chan = refl
+
+pub called_image : (k : Kept) (t u : Table) (called : Bool) (chan : Chan) → u ≡ called_table called chan t → RunsImage t k → RunsImage u k
+called_image k t u called chan is runs s e above = runs s (sym (called_running t called chan) ∙ (ap (λ (x : Table). x.running) (sym is) ∙ e)) above
+
+-- Bytes say nothing of the board.
+bytes_board : (b : Board) (bytes : List ℕ) → fold board_after b (sent 0 bytes) ≡ b
+bytes_board b [] = refl
+bytes_board b (byte ∷ bytes) = bytes_board b bytes
+
+-- The log of bytes that are shown, and of who is woken then.
+pub bytes_logged : (b : Board) (bytes : List ℕ) (es : List (Effect Unix))
+    → logged b (map Show (sent 0 bytes) ++ es) ≡ record (logged b es) { items = sent 0 bytes ++ (logged b es).items }
+bytes_logged b bytes es =
+    logged_after b (sent 0 bytes) es
+    ∙ ap (λ x. after_items (sent 0 bytes) (logged x es)) (ap (λ (l : Logged Unix). l.board) (logged_shown b (sent 0 bytes)) ∙ bytes_board b bytes)
+
+-- A byte is typed.
+module _ (at : Stage) (regs : Regs) (w : World) (byte : ℕ) (rested : IsRested at w) (line : Terminal) (line_is : line ≡ (typed w.files.line byte).terminal) where
+  abbrev w1 : World
+  w1 = record w { files = record w.files { line = line } }
+
+  typed_fresh : (init : ℕ) → IsFresh init w → IsFresh init w1
+  unfolding references_of
+  typed_fresh init fresh = record {
+    good = typed_good (one_more init) fresh.good;
+    alone = fresh.alone;
+    image = fresh.image;
+    core = fresh.core;
+    found = fresh.found;
+    program = fresh.program;
+  }
+    where
+      typed_good : (more : ℕ → ℕ) → IsGood w more → IsGood w1 more
+      typed_good more good = record {
+        agree = good.agree;
+        in_core = good.in_core;
+        fifteen = good.fifteen;
+        numbers = good.numbers;
+        no_pipe = good.no_pipe;
+        referred = good.referred;
+        running = good.running;
+        entries = good.entries;
+        bytes = good.bytes;
+        core = good.core;
+      }
+
+  pub typed_rested : IsRested at w1
+  typed_rested = record {
+    apart = rested.apart;
+    fresh = λ init e. typed_fresh init (rested.fresh init e);
+    good = λ e. let good = rested.good e in record {
+      agree = good.agree;
+      in_core = good.in_core;
+      fifteen = good.fifteen;
+      numbers = good.numbers;
+      no_pipe = good.no_pipe;
+      referred = good.referred;
+      running = good.running;
+      entries = good.entries;
+      bytes = good.bytes;
+      core = good.core;
+    };
+  }
+
+  module _ (called : Bool) (called_is : called ≡ outside.calls (typed w.files.line byte).keyed) (t : Table) (table_is : t ≡ called_table called Keys w.procs.table) (good : IsTable t)
+      (board_is : board_of t w.procs.images ≡ (logged {W = Unix} (board_in w) (wakes called Keys)).board) where
+    pub typed_woken : IsRested at (with_table w1 t)
+    typed_woken =
+        let was = (some_good at w rested).1 in
+        rested_table w1 t (called_agree w.procs.rows w.procs.images w.procs.table t called Keys table_is good was.agree)
+        (called_image w.procs.images w.procs.table t called Keys table_is was.running) at typed_rested
+
+    abbrev m : System
+    m = system_at at regs w
+
+    abbrev shown : List ℕ
+    shown = (typed w.files.line byte).shown
+
+    abbrev l : Logged Unix
+    l = logged m.board (map Show (sent 0 shown) ++ wakes (outside.calls (typed w.files.line byte).keyed) Keys)
+
+    l_is : l ≡ record (logged {W = Unix} (board_in w) (wakes called Keys)) { items = sent 0 shown ++ (logged {W = Unix} (board_in w) (wakes called Keys)).items }
+    l_is = ap (λ c. logged m.board (map Show (sent 0 shown) ++ wakes c Keys)) (sym called_is) ∙ bytes_logged (board_in w) shown (wakes called Keys)
+
+    typed_stop : l.stop ≡ None
+    typed_stop = ap (λ (x : Logged Unix). x.stop) l_is ∙ wakes_stop (board_in w) called Keys
+
+    typed_is : system_at at regs (with_table w1 t) ≡ record m { unix = record m.unix { line = (typed w.files.line byte).terminal }; board = l.board }
+    typed_is =
+        let clock : clock_of t ≡ clock_of w.procs.table = ap clock_of table_is ∙ called_clock w.procs.table called Keys in
+        let unix : with_regs at regs (unix_of (with_table w1 t)) ≡ record m.unix { line = (typed w.files.line byte).terminal } =
+        rested_unix at regs (with_table w1 t) typed_woken
+        ∙ (λ i. record (unix_of w) { line = line_is i; clock = clock i })
+        ∙ ap (λ (u : Unix). record u { line = (typed w.files.line byte).terminal }) (sym (rested_unix at regs w rested)) in
+        let board : board_of t w.procs.images ≡ l.board = board_is ∙ ap (λ (x : Logged Unix). x.board) (sym l_is) in
+        λ i. record { unix = unix i; board = board i; is_fresh = is_fresh at }
+
+    abbrev turn_by : Terminal → Turn
+    turn_by line = settles m (record m.unix { line = (typed line byte).terminal })
+        (logged m.board (map Show (sent 0 (typed line byte).shown) ++ wakes (outside.calls (typed line byte).keyed) Keys))
+
+    turn_is : turn_by w.files.line ≡ typed_of m byte
+    turn_is = ap turn_by (sym (ap (λ (u : Unix). u.line) (rested_unix at regs w rested)))
+
+    pub typed_next : (now : System) → now ≡ record (system_at at regs (with_table w1 t)) { board = (settled (board_in (with_table w1 t))).board }
+        → now ≡ (typed_of m byte).next
+    typed_next now final =
+        settles_next m (system_at at regs (with_table w1 t)) now (record m.unix { line = (typed w.files.line byte).terminal }) l typed_stop typed_is final
+        ∙ ap (λ (x : Turn). x.next) turn_is
+
+    pub typed_items : (n : System) → m ≡ n → (a b c d : Taken) → Took a (sent 0 shown) b → Took b (logged {W = Unix} (board_in w) (wakes called Keys)).items c
+        → Took c (settled (board_in (with_table w1 t))).items d → Took a (typed_of n byte).items d
+    typed_items n same a b c d one two three =
+        subst (λ (x : Turn). Took a x.items d) (turn_is ∙ ap (λ x. typed_of x byte) same)
+        (settles_items m (system_at at regs (with_table w1 t)) (system_at at regs (with_table w1 t)) (record m.unix { line = (typed w.files.line byte).terminal }) l typed_stop typed_is a c d
+        (took_then a b c (sent 0 shown) (logged {W = Unix} (board_in w) (wakes called Keys)).items l.items one two (ap (λ (x : Logged Unix). x.items) (sym l_is))) three)
+
+-- The pass of the swapper.
+module _ (at : Stage) (regs : Regs) (w : World) (rested : IsRested at w) (t : Table) (table_is : t ≡ fall_asleep w.procs.table 0 pswp RunOut) (good : IsTable t)
+    (board_is : board_of t w.procs.images ≡ (logged {W = Unix} (board_in w) pass_effects).board) where
+  pub pass_rested : IsRested at (with_table w t)
+  pass_rested =
+      let was = (some_good at w rested).1 in
+      rested_table w t (pass_agree w.procs.rows w.procs.images w.procs.table t table_is good was.agree)
+      (λ s e above. let none : t.running ≡ None = ap (λ (x : Table). x.running) table_is ∙ pass_nobody w.procs.table in absurd (cc (none, e))) at rested
+
+  abbrev began : System
+  began = system_at at regs w
+
+  pass_is : system_at at regs (with_table w t) ≡ record began { unix = began.unix; board = (logged {W = Unix} began.board pass_effects).board }
+  pass_is =
+      table_system at regs w t (ap clock_of table_is ∙ pass_clock w.procs.table)
+      ∙ ap (λ (b : Board). record began { board = b }) board_is
+
+  pub pass_next : (now : System) → now ≡ record (system_at at regs (with_table w t)) { board = (settled (board_in (with_table w t))).board } → now ≡ (pass_of began).next
+  pass_next now final = settles_next began (system_at at regs (with_table w t)) now began.unix (logged began.board pass_effects) (pass_stop began.board) pass_is final
+
+  pub pass_items : (n : System) → began ≡ n → (a b c : Taken) → Took a (logged {W = Unix} (board_in w) pass_effects).items b → Took b (settled (board_in (with_table w t))).items c
+      → Took a (pass_of n).items c
+  pass_items n same a b c one two =
+      subst (λ (s : System). Took a (pass_of s).items c) same
+      (settles_items began (system_at at regs (with_table w t)) (system_at at regs (with_table w t)) began.unix (logged began.board pass_effects) (pass_stop began.board) pass_is a b c one two)

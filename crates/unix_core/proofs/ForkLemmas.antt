@@ -1,0 +1,158 @@
+-- fork(II): the place of the child's image, the files that it shares, and the directory to which it refers.
+use Rattle.std.proofs.Common.{◌≡◌, ◌<◌, ◌≤◌, ◌+◌, ◌∙◌, ℕ, suc, Bool, true, false, cond, ◌==◌, if◌then◌else◌, List, [], ◌∷◌, length, get_or, set, fold, count_by, Option, Some, None, option_map, is_some, slice_index, refl, sym, ap, inl, inr, arith}
+use Rattle.std.specs.Option.{option_or}
+use Rattle.std.proofs.lemmas.Bool.{cases_lt, cases_eq, ne_eqb, eq-eqb}
+use Rattle.std.proofs.lemmas.List.{get_or_past, get_or-set_same, get_or-set_other}
+use Rattle.std.proofs.lemmas.List.FromFn.{get_or-map-range_with_len, length-map-range_with_len}
+use Rattle.v6_base.specs.declared.entry.Place.TheVariants.{Core, Swap}
+use Rattle.pick_rules.specs.Table.{row_at}
+use Rattle.pick_rules.specs.Board.{Board, blocks, core_fit, swap_fit, may_load, placed}
+use Rattle.image_keep.specs.Kept.{Kept, HasImage, HasSizes, IsKept, clicks_of, image_of}
+use Rattle.u_area.specs.declared.area.UArea.{UArea}
+use Rattle.open_files.specs.declared.file.OpenFile.{OpenFile}
+use Rattle.open_files.specs.Files.{AreOpen, file_at, times, changed, with_more, shared}
+use Rattle.sys_files.specs.Sound.{is_of, numbers_of, HasNoPipe}
+use Rattle.sys_files.proofs.NumberLemmas.{free_times}
+use Rattle.sys_procs.specs.Process.{Process}
+use Rattle.sys_procs.proofs.Alive.{is_here}
+use Rattle.unix_core.specs.declared.world.World.{World}
+use Rattle.unix_core.specs.Unix.{process_of}
+use Rattle.unix_core.specs.References.{is_in}
+use Rattle.unix_core.specs.Parts.{unix_of, board_in, numbers_in, named, IsReady}
+use Rattle.unix_core.proofs.ReferenceLemmas.{named_set, in_set, numbers_living, in_living}
+use Rattle.unix_core.proofs.WorldLemmas.{ready_alive}
+
+-- Where core has a place for the parent's image once more, the child's image is in core.
+in_core_by : (core : Option ℕ) (swap : Option ℕ) → is_some core ≡ true → (c : ℕ) × (option_or (option_map Core core) (option_map Swap swap) ≡ Some (Core c))
+in_core_by None swap e = absurd (cc e)
+in_core_by (Some c) swap e = (c, refl)
+
+pub fork_place : (w : World) (s : ℕ) → IsReady w s → is_some (core_fit (board_in w) (clicks_of (process_of (unix_of w) s).u)) ≡ true
+    → (c : ℕ) × (placed (board_in w) s (row_at (board_in w).table s).size ≡ Some (Core c))
+unfolding placed
+fork_place w s ready room =
+    let b : Board = board_in w in
+    let alive = ready_alive w s ready in
+    let here = is_here w.procs s alive in
+    let slot = alive.agree.each s alive.above alive.below in
+    let size : (row_at b.table s).size ≡ clicks_of (process_of (unix_of w) s).u =
+    slot.size here.held here.image_is ∙ ap (λ (p : Process). clicks_of p.u) (sym here.process_is) in
+    let found = in_core_by (core_fit b (clicks_of (process_of (unix_of w) s).u)) (swap_fit b (blocks (clicks_of (process_of (unix_of w) s).u))) room in (
+      found.0,
+      ap (λ n. option_or (cond (may_load b (row_at b.table s).text) (option_map Core (core_fit b n)) None) (option_map Swap (swap_fit b (blocks n)))) size
+          ∙ ap (λ x. option_or (cond (may_load b x) (option_map Core (core_fit b (clicks_of (process_of (unix_of w) s).u))) None)
+          (option_map Swap (swap_fit b (blocks (clicks_of (process_of (unix_of w) s).u))))) slot.text
+          ∙ found.1,
+    )
+
+-- An image has not so many clicks that they can't be counted in a word.
+pub few_clicks : (k : Kept) (s : ℕ) (u : UArea) → IsKept k → HasImage k s → HasSizes u (image_of k s) → 16 + u.data_size + u.stack_size ≤ 2064
+few_clicks k s u kept has sizes =
+    let segments = (kept.formed s).segments in
+    let a = sizes.data_size in
+    let b = sizes.stack_size in
+    omega (arith, segments, a, b)
+
+-- The files that are shared: each is named once more by each number of the parent.
+more_numbers : (n : ℕ) (o : Option OpenFile) → (o ≡ None → n ≡ 0) → numbers_of (changed (with_more n) o) ≡ numbers_of o + n
+more_numbers n None none = let zero = none refl in omega (arith, zero)
+more_numbers n (Some file) none = refl
+
+shared_at : (files : List (Option OpenFile)) (mine : List ℕ) (entry : ℕ) → entry < length files
+    → file_at (shared files mine) entry ≡ changed (with_more (times mine entry)) (file_at files entry)
+unfolding shared
+shared_at files mine entry low =
+    get_or-map-range_with_len (λ entry. changed (with_more (times mine entry)) (file_at files entry)) 0 (length files) entry entry None low (omega arith)
+
+pub shared_length : (files : List (Option OpenFile)) (mine : List ℕ) → length (shared files mine) ≡ length files
+unfolding shared
+shared_length files mine = length-map-range_with_len (λ entry. changed (with_more (times mine entry)) (file_at files entry)) 0 (length files)
+
+pub shared_numbers : (files : List (Option OpenFile)) (mine : List ℕ) (entry : ℕ) → AreOpen files mine
+    → numbers_of (file_at (shared files mine) entry) ≡ numbers_of (file_at files entry) + times mine entry
+shared_numbers files mine entry are = elim (cases_lt entry (length files)) [
+  | inl low ↦
+      ap numbers_of (shared_at files mine entry low)
+      ∙ more_numbers (times mine entry) (file_at files entry) (λ none. free_times files mine entry are none)
+  | inr past ↦
+      let none : file_at files entry ≡ None = get_or_past files entry None past in
+      let after : file_at (shared files mine) entry ≡ None = get_or_past (shared files mine) entry None (let same = shared_length files mine in omega (arith, past, same)) in
+      let zero = free_times files mine entry are none in
+      let a : numbers_of (file_at files entry) ≡ 0 = ap numbers_of none in
+      let b : numbers_of (file_at (shared files mine) entry) ≡ 0 = ap numbers_of after in
+      omega (arith, zero, a, b)
+]
+
+-- A file that is shared is the same but for its count.
+is_of_more : (ino n : ℕ) (o : Option OpenFile) → is_of ino (changed (with_more n) o) ≡ is_of ino o
+is_of_more ino n None = refl
+is_of_more ino n (Some file) = refl
+
+counts_like : (f : Option OpenFile → Bool) (xs ys : List (Option OpenFile)) (n : ℕ) → length xs ≡ length ys
+    → ((i : ℕ) → i < length xs → f (get_or xs i None) ≡ f (get_or ys i None)) → fold (λ a x. a + cond (f x) 1 0) n xs ≡ fold (λ a x. a + cond (f x) 1 0) n ys
+counts_like f [] [] n long each = refl
+counts_like f [] (y ∷ ys) n long each = absurd (omega (arith, long))
+counts_like f (x ∷ xs) [] n long each = absurd (omega (arith, long))
+counts_like f (x ∷ xs) (y ∷ ys) n long each =
+    let here : f x ≡ f y = each 0 (omega arith) in
+    counts_like f xs ys (n + cond (f x) 1 0) (omega (arith, long)) (λ i low. each (suc i) (omega (arith, low)))
+    ∙ ap (λ b. fold (λ a x. a + cond (f x) 1 0) (n + cond b 1 0) ys) here
+
+pub shared_inodes : (files : List (Option OpenFile)) (mine : List ℕ) (ino : ℕ) → count_by (is_of ino) (shared files mine) ≡ count_by (is_of ino) files
+shared_inodes files mine ino =
+    counts_like (is_of ino) (shared files mine) files 0 (shared_length files mine)
+    (λ i low. ap (is_of ino) (shared_at files mine i (let same = shared_length files mine in omega (arith, low, same))) ∙ is_of_more ino (times mine i) (file_at files i))
+
+-- no end of a pipe is among them
+no_pipe_more : (n : ℕ) (o : Option OpenFile) → ((file : OpenFile) → o ≡ Some file → file.kind.pipe ≡ false)
+    → (file : OpenFile) → changed (with_more n) o ≡ Some file → file.kind.pipe ≡ false
+no_pipe_more n None each file e = absurd (cc e)
+no_pipe_more n (Some old) each file e =
+    let same : with_more n old ≡ file = cc e in ap (λ (x : OpenFile). x.kind.pipe) (sym same) ∙ each old refl
+
+pub shared_no_pipe : (files : List (Option OpenFile)) (mine : List ℕ) → HasNoPipe files → HasNoPipe (shared files mine)
+shared_no_pipe files mine none entry file is = elim (cases_lt entry (length files)) [
+  | inl low ↦
+      no_pipe_more (times mine entry) (file_at files entry) (λ old there. none entry old there) file (sym (shared_at files mine entry low) ∙ is)
+  | inr past ↦ absurd (
+      let empty : file_at (shared files mine) entry ≡ None = get_or_past (shared files mine) entry None (let same = shared_length files mine in omega (arith, past, same)) in
+      let never : ◌≡◌ {A = Option OpenFile} None (Some file) = sym empty ∙ is in
+      cc never)
+]
+
+-- A reference is taken.
+pub more_refs : (l : List ℕ) (d ino : ℕ) → 0 < slice_index l d → slice_index (set l d (slice_index l d + 1)) ino ≡ slice_index l ino + (if d == ino then 1 else 0)
+more_refs l d ino some =
+    let within : d < length l = elim (cases_lt d (length l)) [
+      | inl low ↦ low
+      | inr high ↦ absurd (let none = get_or_past l d 0 high in omega (arith, none, some))
+    ] in
+    elim (cases_eq ino d) [
+      | inl here ↦
+          let now : slice_index (set l d (slice_index l d + 1)) ino ≡ slice_index l d + 1 =
+          ap (slice_index (set l d (slice_index l d + 1))) here ∙ get_or-set_same l d (slice_index l d + 1) 0 within in
+          let was : slice_index l ino ≡ slice_index l d = ap (slice_index l) here in
+          let one : ◌≡◌ {A = ℕ} (if d == ino then 1 else 0) 1 = ap (λ b. cond {A = ℕ} b 1 0) (eq-eqb d ino (sym here)) in
+          omega (arith, now, was, one)
+      | inr other ↦
+          let same : slice_index (set l d (slice_index l d + 1)) ino ≡ slice_index l ino = get_or-set_other l d ino (slice_index l d + 1) 0 other in
+          let none : ◌≡◌ {A = ℕ} (if d == ino then 1 else 0) 0 = ap (λ b. cond {A = ℕ} b 1 0) (ne_eqb d ino (λ e. other (sym e))) in
+          omega (arith, same, none)
+    ]
+
+-- The child, in a slot that was empty, names what its parent does, and is where it is.
+module _ (ps : List (Option Process)) (c : ℕ) (p q : Process) (low : c < length ps) (empty : get_or ps c None ≡ None) (living : q.is_zombie ≡ false) (alive : p.is_zombie ≡ false)
+    (files : q.u.files ≡ p.u.files) (dir : q.u.dir ≡ p.u.dir) where
+  pub child_numbers : (entry : ℕ) → named (set ps c (Some q)) entry ≡ named ps entry + times p.u.files entry
+  child_numbers entry =
+      let change = named_set ps c None (Some q) entry low empty in
+      let own : numbers_in entry (Some q) ≡ times p.u.files entry = numbers_living entry q living ∙ ap (λ l. times l entry) files in
+      let none : numbers_in entry None ≡ 0 = refl in
+      omega (arith, change, own, none)
+
+  pub child_inside : (ino : ℕ) → count_by (is_in ino) (set ps c (Some q)) ≡ count_by (is_in ino) ps + (if p.u.dir == ino then 1 else 0)
+  child_inside ino =
+      let change = in_set ps c None (Some q) ino low empty in
+      let own : cond {A = ℕ} (is_in ino (Some q)) 1 0 ≡ cond {A = ℕ} (p.u.dir == ino) 1 0 = in_living ino q living ∙ ap (λ d. cond {A = ℕ} (d == ino) 1 0) dir in
+      let none : cond {A = ℕ} (is_in ino None) 1 0 ≡ 0 = refl in
+      omega (arith, change, own, none)

@@ -1,0 +1,147 @@
+-- What a call on files leaves, by what it has done to the parts that were lent to it.
+use Rattle.std.proofs.Common.{◌≡◌, ◌∙◌, ◌+◌, ℕ, List, [], length, refl, sym, ap, subst, arith}
+use Rattle.v6_base.specs.Image.{Image}
+use Rattle.v6_base.specs.Tape.{Recording, taken_on}
+use Rattle.v6_base.specs.declared.answer.Answer.TheVariants.{Ret}
+use Rattle.v6_base.specs.Trace.{Item, Took}
+use Rattle.u_area.specs.declared.area.UArea.{UArea}
+use Rattle.proc_tab.specs.declared.row.Row.{Row}
+use Rattle.proc_tab.specs.Processes.{Processes, member_at, row_at, with_change, with_row}
+use Rattle.image_keep.specs.Kept.{Kept, keeping, with_image, with_area, area_of, image_of, clicks_of}
+use Rattle.fs_nodes.specs.FileSystem.{IsFileSystem}
+use Rattle.sys_files.specs.Handed.{Handed, handed}
+use Rattle.sys_files.specs.Sound.{IsKept}
+use Rattle.sys_files.proofs.Bounds.{Fits, HasAll, never_filled}
+use Rattle.sys_files.proofs.Steady.{Steady, Confined, close_all_fits, close_all_steady}
+use Rattle.sys_files.specs.Did.{Did}
+use Rattle.sys_files.specs.Descriptors.{close_all}
+use Rattle.sys_files.specs.declared.files.Files.{Files}
+use Rattle.sys_procs.proofs.Alive.{SameSizes, area_here}
+use Rattle.unix_core.specs.declared.world.World.{World}
+use Rattle.unix_core.specs.Unix.{process_of}
+use Rattle.unix_core.specs.Calls.{handed_of, with_handed}
+use Rattle.unix_core.specs.Parts.{unix_of, IsReady, IsReadyToShow}
+use Rattle.unix_core.proofs.WorldLemmas.{ready_alive, handed_is, IsAfter, unix_after, ready_to_show}
+use Rattle.unix_core.proofs.LoanLemmas.{area_now, area_other, area_core, image_now, image_other, image_core, row_now, row_other}
+
+-- the parts that the process in a slot is handed
+abbrev pub given : World → ℕ → Handed
+given w s = handed_of (unix_of w) (process_of (unix_of w) s)
+
+-- the u area of the process
+pub area_is : (w : World) (s : ℕ) (u : UArea) → IsReady w s → u ≡ area_of w.procs.images s → u ≡ (process_of (unix_of w) s).u
+area_is w s u ready is = is ∙ area_here w.procs s (ready_alive w s ready)
+
+-- what is lent is what is given
+pub lent_is : (w : World) (s : ℕ) (u : UArea) → IsReady w s → IsFileSystem w.files.tree.nodes → (image_of w.procs.images s).text ≡ [] → u ≡ area_of w.procs.images s
+    → handed w.files u (row_at w.procs.rows s) (image_of w.procs.images s) ≡ given w s
+lent_is w s u ready form none is =
+    ap (λ (v : UArea). handed w.files v (row_at w.procs.rows s) (image_of w.procs.images s)) is ∙ handed_is w s ready form none
+
+-- A call on files has left the parts in this state, and has shown these items.
+pub record Leaves (w w' : World) (s : ℕ) (u : UArea) (row : Row) (image : Image) (state : Handed) (items : List Item) : Type 0 where
+  pub kept : IsKept (given w s) (handed w'.files u row image)
+  pub is : handed w'.files u row image ≡ state
+  pub steady : Steady (given w s) state
+  pub fits : Fits items
+  pub took : Took (taken_on (record w.tape { entries = []; bytes = [] })) items (taken_on w'.tape)
+  pub rooms : (w'.tape.entry_room ≡ w.tape.entry_room) × (w'.tape.byte_room ≡ w.tape.byte_room)
+  pub fifteen : length u.files ≡ 15
+  pub rows : w'.procs.rows ≡ with_change w.procs.rows s (with_row row)
+  pub images : w'.procs.images ≡ with_area (with_image w.procs.images s image) s u
+  pub table : w'.procs.table ≡ w.procs.table
+  pub switches : w'.procs.switches ≡ w.procs.switches
+  pub core : w'.core ≡ w.core
+
+module _ (w w' : World) (s : ℕ) (u : UArea) (row : Row) (image : Image) (state : Handed) (items : List Item)
+    (ready : IsReady w s) (leaves : Leaves w w' s u row image state items) where
+  is_after : IsAfter w w' s u row image
+  is_after =
+      let v : Processes = w.procs.rows in
+      let k : Kept = w.procs.images in
+      let same : u ≡ state.u = ap (λ (h : Handed). h.u) leaves.is in
+      record {
+        kept = leaves.kept;
+        clicks = ap clicks_of same
+            ∙ (ap (λ n. 16 + n + state.u.stack_size) leaves.steady.area.data_size
+            ∙ ap (λ n. 16 + (given w s).u.data_size + n) leaves.steady.area.stack_size);
+        fifteen = leaves.fifteen;
+        member = λ m there. ap (λ (x : Processes). member_at x.slots s) leaves.rows ∙ row_now v s row m there;
+        members = λ r other. ap (λ (x : Processes). member_at x.slots r) leaves.rows ∙ row_other v s row r other;
+        memory = λ held has.
+            ap (λ x. keeping x s) leaves.images ∙ area_now (with_image k s image) s u (record held { image = image }) (image_now k s image held has);
+        others = λ r other.
+            ap (λ x. keeping x r) leaves.images ∙ (area_other (with_image k s image) s u r other ∙ image_other k s image r other);
+        table = leaves.table;
+        core = ap (λ (x : Kept). x.core) leaves.images ∙ (area_core (with_image k s image) s u ∙ image_core k s image);
+        last_pid = ap (λ (x : Processes). x.last_pid) leaves.rows;
+        switches = leaves.switches;
+        entry_room = leaves.rooms.0;
+        byte_room = leaves.rooms.1;
+        world_core = leaves.core;
+      }
+
+  pub leaves_unix : unix_of w' ≡ with_handed (unix_of w) s state
+  leaves_unix = unix_after w w' s ready u row image is_after ∙ ap (with_handed (unix_of w) s) leaves.is
+
+  has_all : HasAll w'.tape items
+  has_all =
+      let entries = ready.good.entries in
+      let bytes = ready.good.bytes in
+      never_filled (record w.tape { entries = []; bytes = [] }) w'.tape items leaves.fits
+      (record { entries = refl; bytes = refl; entry_room = omega (arith, entries); byte_room = omega (arith, bytes) })
+      leaves.rooms.0 leaves.rooms.1 leaves.took
+
+  pub leaves_shown : IsFileSystem w.files.tree.nodes → IsReadyToShow w w' s items
+  leaves_shown form = ready_to_show w w' s ready u row image is_after form items leaves.fits has_all
+
+-- A call on files, which works on what was lent to it, has left this u area, this row and this memory.
+module _ (w : World) (s : ℕ) (u : UArea) (r : Row) (m : Image) (ready : IsReady w s) (form : IsFileSystem w.files.tree.nodes) (none : (image_of w.procs.images s).text ≡ [])
+    (area : u ≡ area_of w.procs.images s) (row_is : r ≡ row_at w.procs.rows s) (image_is : m ≡ image_of w.procs.images s) where
+  pub lent_parts : handed w.files u r m ≡ given w s
+  lent_parts =
+      ap (λ (x : Row). handed w.files u x m) row_is
+      ∙ (ap (λ (x : Image). handed w.files u (row_at w.procs.rows s) x) image_is ∙ lent_is w s u ready form none area)
+
+  pub call_leaves : (does : Handed → Did) (f : Files) (v : UArea) (row : Row) (image : Image) (cleared tape : Recording) (rows : Processes) (k : Kept)
+      → cleared ≡ record w.tape { entries = []; bytes = [] } → Confined (given w s) (does (given w s))
+      → handed f v row image ≡ (does (handed w.files u r m)).state
+      → Took (taken_on cleared) (does (handed w.files u r m)).items (taken_on tape)
+      → IsKept (handed w.files u r m) (handed f v row image)
+      → (tape.entry_room ≡ cleared.entry_room) × (tape.byte_room ≡ cleared.byte_room) → length v.files ≡ 15
+      → rows ≡ with_change w.procs.rows s (with_row row) → k ≡ with_area (with_image w.procs.images s image) s v
+      → Leaves w (record w { files = f; procs = record w.procs { rows = rows; images = k }; tape = tape }) s v row image
+      (does (given w s)).state (does (given w s)).items
+  call_leaves does f v row image cleared tape rows k clear confined state took kept rooms fifteen rows_are images = record {
+    kept = subst (λ (h : Handed). IsKept h (handed f v row image)) lent_parts kept;
+    is = state ∙ ap (λ h. (does h).state) lent_parts;
+    steady = confined.steady;
+    fits = confined.fits;
+    took = subst (λ (t : Recording). Took (taken_on t) (does (given w s)).items (taken_on tape)) clear
+        (subst (λ (h : Handed). Took (taken_on cleared) (does h).items (taken_on tape)) lent_parts took);
+    rooms = (rooms.0 ∙ ap (λ (t : Recording). t.entry_room) clear, rooms.1 ∙ ap (λ (t : Recording). t.byte_room) clear);
+    fifteen = fifteen;
+    rows = rows_are;
+    images = images;
+    table = refl;
+    switches = refl;
+    core = refl;
+  }
+
+  -- the sizes that are put back
+  pub sizes_left : (does : Handed → Did) (h : Handed) → Confined (given w s) (does (given w s)) → h ≡ (does (handed w.files u r m)).state → SameSizes h.u (area_of w.procs.images s)
+  sizes_left does h confined state =
+      let is : h ≡ (does (given w s)).state = state ∙ ap (λ x. (does x).state) lent_parts in
+      let old : (given w s).u ≡ area_of w.procs.images s = sym (ap (λ (x : Handed). x.u) lent_parts) ∙ area in
+      record {
+        text = ap (λ (x : Handed). x.u.text_size) is ∙ (confined.steady.area.text_size ∙ ap (λ (x : UArea). x.text_size) old);
+        «data» = ap (λ (x : Handed). x.u.data_size) is ∙ (confined.steady.area.data_size ∙ ap (λ (x : UArea). x.data_size) old);
+        stack = ap (λ (x : Handed). x.u.stack_size) is ∙ (confined.steady.area.stack_size ∙ ap (λ (x : UArea). x.stack_size) old);
+      }
+
+-- Files that are closed, as what a call does. It answers nothing.
+abbrev pub closing : Handed → Did
+closing h = record { answer = Ret 0 0; state = (close_all h).state; items = (close_all h).items }
+
+pub closing_confined : (h : Handed) → Confined h (closing h)
+closing_confined h = record { fits = close_all_fits h; steady = close_all_steady h }

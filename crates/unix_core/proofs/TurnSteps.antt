@@ -1,0 +1,275 @@
+-- An instruction of the process that runs: its memory is another one, what belongs together still does, and the process has
+-- stepped.
+use Rattle.std.proofs.Common.{◌≡◌, ◌<◌, ◌∙◌, ◌==◌, if◌then◌else◌, ℕ, zero, suc, false, List, [], length, set, min, Option, Some, None, refl, sym, ap, subst, inl, inr, arith}
+use Rattle.std.proofs.lemmas.Bool.{cases_eq}
+use Rattle.std.proofs.lemmas.List.{set-set}
+use Rattle.v6_base.specs.Image.{Image}
+use Rattle.u_area.specs.declared.area.UArea.{UArea}
+use Rattle.pdp_step.specs.declared.outcome.Outcome.{Outcome}
+use Rattle.pdp_step.specs.declared.outcome.Outcome.TheVariants as came
+use Rattle.pdp_step.specs.declared.regs.Regs.{Regs}
+use Rattle.pdp_step.specs.Machine as pdp
+use Rattle.pdp_step.specs.Machine.{Machine}
+use Rattle.pdp_step.specs.Instruction.{Stepped, stepped, instr}
+use Rattle.pick_rules.specs.declared.row.TableRow.{TableRow}
+use Rattle.pick_rules.specs.Table.{row_at, is_in_core}
+use Rattle.pick_rules.specs.Choice.{settle}
+use Rattle.proc_tab.specs.declared.member.Member.{Member}
+use Rattle.proc_tab.specs.Processes.{member_at}
+use Rattle.image_keep.specs.Kept.{Held, Alive, Kept, Has, keeping, with_image, image_in, image_of, area_in, clicks_of}
+use Rattle.open_files.specs.Files.{times}
+use Rattle.sys_procs.specs.Process as one
+use Rattle.sys_procs.specs.Process.{Process, process_by, process_in, register}
+use Rattle.sys_procs.specs.Agree.{Agrees}
+use Rattle.sys_procs.proofs.Slots.{one_changed}
+use Rattle.sys_procs.proofs.Agreement.{agree_but}
+use Rattle.sys_procs.proofs.Alive.{is_here, put_here}
+use Rattle.unix_core.specs.declared.turned.Turned.TheVariants.{Ran}
+use Rattle.unix_core.specs.declared.machine.Stage.TheVariants as stage
+use Rattle.unix_core.specs.declared.world.World.{World}
+use Rattle.unix_core.specs.Unix.{Unix, System, process_of, with_process}
+use Rattle.unix_core.specs.References.{referrers}
+use Rattle.unix_core.specs.Steps.{steps}
+use Rattle.unix_core.specs.Calls.{resumed}
+use Rattle.unix_core.specs.Exec.{exec_init}
+use Rattle.unix_core.specs.Turn.{Turn, machine_of, with_machine, is_user, comes_to, instruction, has_room, turn, turn_of, slot_by, slot_of, settled_as, turned}
+use Rattle.unix_core.specs.Runs.{Slot, event_of}
+use Rattle.unix_core.specs.Parts.{unix_of, board_in, holding, with_regs, system_at, named, numbers_in, IsReady, IsUser, HasStepped}
+use Rattle.unix_core.proofs.ReferenceLemmas.{numbers_living, one_in, in_living, named_set, in_set, slot_within}
+use Rattle.unix_core.proofs.WorldLemmas.{ready_alive, slot_is, is_living}
+use Rattle.unix_core.proofs.LoanLemmas.{image_now, image_other, image_core}
+use Rattle.unix_core.proofs.PutLemmas.{with_images}
+use Rattle.unix_core.proofs.BoardLemmas.{settle_same}
+use Rattle.unix_core.proofs.AreaLemmas.{state_is}
+
+-- whoever has an image then had one before, with the same place and the same area
+image_had : (k : Kept) (s : ℕ) (image : Image) (held : Held) → Has k s held → (r : ℕ) (now : Held) → Has (with_image k s image) r now
+    → (old : Held) × (Has k r old × ((now.place ≡ old.place) × (now.u ≡ old.u)))
+image_had k s image held has r now is = elim (cases_eq r s) [
+  | inl here ↦
+      let same : Alive now ≡ Alive (record held { image = image }) = sym is ∙ ap (keeping (with_image k s image)) here ∙ image_now k s image held has in
+      let now_is : now ≡ record held { image = image } = cc (same) in
+      (held, (ap (keeping k) here ∙ has, (ap (λ (h : Held). h.place) now_is, ap (λ (h : Held). h.u) now_is)))
+  | inr other ↦ (now, (sym (image_other k s image r other) ∙ is, (refl, refl)))
+]
+
+image_agrees : (m : Option Member) (row : TableRow) (held : Held) (image : Image) → Agrees m row (Alive held) → Agrees m row (Alive (record held { image = image }))
+image_agrees m row held image a = record {
+  stat = a.stat;
+  image = a.image;
+  place = a.place;
+  size = λ other is. a.size held refl ∙ ap (λ x. clicks_of (area_in x)) is;
+  text = a.text;
+  quiet = a.quiet;
+}
+
+-- The memory of the process is another one.
+module _ (w : World) (s : ℕ) (ready : IsReady w s) (image : Image) where
+  abbrev pub with_memory : World
+  with_memory = with_images w (with_image w.procs.images s image)
+
+  abbrev p : Process
+  p = process_of (unix_of w) s
+
+  abbrev q : Process
+  q = record p { «data» = image.data; stack = image.stack }
+
+  pub memory_unix : unix_of with_memory ≡ with_process (unix_of w) s q
+  memory_unix =
+      let alive = ready_alive w s ready in
+      let here = is_here w.procs s alive in
+      let k : Kept = w.procs.images in
+      let now : Process → Process = λ x. record x { «data» = image.data; stack = image.stack } in
+      let changed = one_changed w.procs.rows.slots w.procs.rows.slots k (with_image k s image) s (Some q) alive.below
+      (ap (λ o. process_in o (keeping (with_image k s image) s)) here.member_is
+      ∙ (ap (λ x. process_in (Some here.member) x) (image_now k s image here.held here.image_is)
+      ∙ ap (λ (x : Process). Some (now x)) (sym here.process_is)))
+      (λ r below other. ap (λ x. process_in (member_at w.procs.rows.slots r) x) (image_other k s image r other)) in
+      λ i. record (unix_of w) { processes = changed i; limit = min (image_core k s image i) 2048 }
+
+  pub memory_board : board_in with_memory ≡ board_in w
+  memory_board = λ i. record (board_in w) { core = image_core w.procs.images s image i }
+
+  pub memory_process : process_of (unix_of with_memory) s ≡ q
+  memory_process =
+      let ps : List (Option Process) = (unix_of w).processes in
+      ap (λ (x : Unix). process_of x s) memory_unix ∙ put_here ps s q (slot_within ps s p (slot_is w s ready))
+
+  pub memory_ready : IsReady with_memory s
+  memory_ready =
+      let alive = ready_alive w s ready in
+      let here = is_here w.procs s alive in
+      let k : Kept = w.procs.images in
+      let now = image_now k s image here.held here.image_is in
+      let old : Agrees (member_at w.procs.rows.slots s) (row_at w.procs.table s) (Alive here.held) =
+      subst (λ x. Agrees (member_at w.procs.rows.slots s) (row_at w.procs.table s) x) here.image_is (alive.agree.each s alive.above alive.below) in
+      let slot = slot_is w s ready in
+      let lives = is_living w s ready in
+      let ps : List (Option Process) = (unix_of w).processes in
+      let within = slot_within ps s p slot in
+      let unix = memory_unix in
+      record {
+        good = record {
+          agree = agree_but w.procs.rows w.procs.rows w.procs.table w.procs.table k (with_image k s image) s alive.agree alive.above alive.agree.table refl
+              (subst (λ x. Agrees (member_at w.procs.rows.slots s) (row_at w.procs.table s) x) (sym now)
+              (image_agrees (member_at w.procs.rows.slots s) (row_at w.procs.table s) here.held image old))
+              (λ r other. refl) (λ r other. refl) (image_other k s image);
+          in_core = λ r held has.
+              let had = image_had k s image here.held here.image_is r held has in
+              ap (λ place. is_in_core (Some place)) had.1.1.0 ∙ ready.good.in_core r had.0 had.1.0;
+          fifteen = λ r held has.
+              let had = image_had k s image here.held here.image_is r held has in
+              ap (λ (u : UArea). length u.files) had.1.1.1 ∙ ready.good.fifteen r had.0 had.1.0;
+          numbers = λ entry.
+              let before = ready.good.numbers entry in
+              let was = numbers_living entry p lives in
+              let new : numbers_in entry (Some q) ≡ times p.u.files entry = numbers_living entry q lives in
+              let change = named_set ps s (Some p) (Some q) entry within slot in
+              let after : named (unix_of with_memory).processes entry ≡ named (set ps s (Some q)) entry = ap (λ (x : Unix). named x.processes entry) unix in
+              omega (arith, before, was, new, change, after);
+          no_pipe = ready.good.no_pipe;
+          referred = λ ino.
+              let before = ready.good.referred ino in
+              let was = in_living ino p lives in
+              let new : one_in ino (Some q) ≡ (if p.u.dir == ino then 1 else 0) = in_living ino q lives in
+              let change = in_set ps s (Some p) (Some q) ino within slot in
+              let after : referrers (unix_of with_memory) ino ≡ referrers (with_process (unix_of w) s q) ino = ap (λ (x : Unix). referrers x ino) unix in
+              omega (arith, before, was, new, change, after);
+          running = λ r is above. elim (cases_eq r s) [
+            | inl there ↦ (record here.held { image = image }, ap (keeping (with_image k s image)) there ∙ now)
+            | inr other ↦ let had = ready.good.running r is above in (had.0, image_other k s image r other ∙ had.1)
+          ];
+          entries = ready.good.entries;
+          bytes = ready.good.bytes;
+          core = ready.good.core ∙ sym (image_core k s image);
+        };
+        runs = ready.runs;
+        user = ready.user;
+      }
+
+  pub memory_user : IsUser s w → IsUser s with_memory
+  memory_user user = record {
+    ready = memory_ready;
+    user = ap is_user memory_process ∙ user.user;
+    settled = user.settled;
+  }
+
+-- The process while its registers stand apart.
+pub apart_process : (w : World) (s : ℕ) (regs : Regs) → IsReady w s
+    → process_of (with_regs (stage.Running s) regs (unix_of w)) s ≡ holding regs (process_of (unix_of w) s)
+apart_process w s regs ready =
+    let ps : List (Option Process) = (unix_of w).processes in
+    let p : Process = process_of (unix_of w) s in
+    put_here ps s (holding regs p) (slot_within ps s p (slot_is w s ready))
+
+-- what an instruction works on
+machine_is : (w : World) (s : ℕ) (regs : Regs) → IsReady w s → (image_of w.procs.images s).text ≡ []
+    → machine_of (process_of (with_regs (stage.Running s) regs (unix_of w)) s) ≡ pdp.machine_of regs (image_of w.procs.images s)
+machine_is w s regs ready text =
+    let here = is_here w.procs s (ready_alive w s ready) in
+    let image : Image = image_of w.procs.images s in
+    let own : one.image_of (process_of (unix_of w) s) ≡ record { text = []; «data» = image.data; stack = image.stack } =
+    ap one.image_of here.process_is ∙ ap (λ x. one.image_of (process_by here.member (Alive (record here.held { image = image_in x })))) (sym here.image_is) in
+    ap machine_of (apart_process w s regs ready)
+    ∙ (λ i. record { r = regs.r; cc = regs.cc; image = own i })
+    ∙ (λ i. record { r = regs.r; cc = regs.cc; image = record image { text = sym text i } })
+
+-- The process has stepped, and left these registers and this memory.
+module _ (w : World) (s : ℕ) (user : IsUser s w) (text : (image_of w.procs.images s).text ≡ []) (regs regs' : Regs) (o : Outcome) (image : Image)
+    (step : stepped o (pdp.machine_of regs' image) ≡ instr (pdp.machine_of regs (image_of w.procs.images s))) where
+  abbrev before : System
+  before = system_at (stage.Running s) regs w
+
+  abbrev old : Process
+  old = process_of (unix_of w) s
+
+  abbrev its : Machine
+  its = machine_of (process_of before.unix s)
+
+  comes : instr its ≡ stepped o (pdp.machine_of regs' image)
+  comes = ap instr (machine_is w s regs user.ready text) ∙ sym step
+
+  process_is : with_machine (holding regs old) (pdp.machine_of regs' image) ≡ holding regs' (record old { «data» = image.data; stack = image.stack })
+  process_is =
+      ap (λ (u : UArea). record old { u = u; «data» = image.data; stack = image.stack }) (sym (state_is old.u regs'.r regs'.cc regs'.cc_in_range))
+
+  unix_then : with_regs (stage.Running s) regs' (unix_of (with_memory w s user.ready image))
+      ≡ with_process before.unix s (with_machine (process_of before.unix s) (instr its).machine)
+  unix_then =
+      let ps : List (Option Process) = (unix_of w).processes in
+      let q : Process = record old { «data» = image.data; stack = image.stack } in
+      let put : Unix → Process → Unix = λ u x. with_process u s (holding regs' x) in
+      (λ i. put (memory_unix w s user.ready image i) (memory_process w s user.ready image i))
+      ∙ ap (λ l. record (unix_of w) { processes = l }) (set-set ps s (Some q) (Some (holding regs' q)) ∙ sym (set-set ps s (Some (holding regs old)) (Some (holding regs' q))))
+      ∙ ap (with_process before.unix s) (sym process_is)
+      ∙ (λ i. with_process before.unix s (with_machine (sym (apart_process w s regs user.ready) i) (sym comes i).machine))
+
+  pub has_stepped : HasStepped before regs' (with_memory w s user.ready image) s o
+  has_stepped = record {
+    runs = user.ready.runs;
+    fresh = refl;
+    user = ap is_user (apart_process w s regs user.ready) ∙ user.user;
+    outcome = sym (ap (λ (x : Stepped). x.outcome) comes);
+    unix = unix_then;
+    board = memory_board w s user.ready image;
+  }
+
+-- the slot of a process that isn't the swapper
+pub user_slot : (m : System) (s : ℕ) → m.board.table.running ≡ Some s → 0 < s → event_of Slot m ≡ turn_of m s (turn m s)
+user_slot m s runs above = ap (slot_of m) runs ∙ by s above
+  where
+    by : (s : ℕ) → 0 < s → slot_by m s ≡ turn_of m s (turn m s)
+    by zero above = absurd (omega (arith, above))
+    by (suc r) above = refl
+
+-- An instruction has been done, and the kernel needn't settle.
+module _ (m : System) (s : ℕ) (above : 0 < s) (regs' : Regs) (w' : World) (done : HasStepped m regs' w' s came.Next) (quiet : settle m.board.table ≡ None) where
+  abbrev u : Unix
+  u = with_process m.unix s (with_machine (process_of m.unix s) (instr (machine_of (process_of m.unix s))).machine)
+
+  turn_is : turn m s ≡ steps u
+  turn_is =
+      ap (λ b. if b then exec_init m.unix s else (if is_user (process_of m.unix s) then instruction (has_room m.board) m.unix s else resumed m.unix s)) done.fresh
+      ∙ ap (λ b. if b then instruction (has_room m.board) m.unix s else resumed m.unix s) done.user
+      ∙ ap (comes_to (has_room m.board) u s) (sym done.outcome)
+
+  abbrev plain : Turn
+  plain = record { items = []; next = record m { unix = u; is_fresh = false }; is_idle = false; ending = None }
+
+  plain_is : event_of Slot m ≡ plain
+  plain_is =
+      user_slot m s done.runs above
+      ∙ ap (turn_of m s) turn_is
+      ∙ ap (λ o. record {
+        items = (settled_as o m.board).items;
+        next = record m { unix = u; board = (settled_as o m.board).board; is_fresh = false };
+        is_idle = false;
+        ending = None;
+      }) quiet
+
+  pub plain_answer : Ran ≡ turned (event_of Slot m)
+  plain_answer = ap turned (sym plain_is)
+
+  pub plain_next : system_at (stage.Running s) regs' w' ≡ (event_of Slot m).next
+  plain_next =
+      (λ i. record { unix = done.unix i; board = done.board i; is_fresh = false })
+      ∙ ap (λ (t : Turn). t.next) (sym plain_is)
+
+  pub plain_items : (event_of Slot m).items ≡ []
+  plain_items = ap (λ (t : Turn). t.items) plain_is
+
+-- the kernel has settled, also by the board of its log
+pub quiet_system : (w : World) (s : ℕ) (regs : Regs) → IsUser s w → settle (system_at (stage.Running s) regs w).board.table ≡ None
+quiet_system w s regs user = settle_same w.procs.table ∙ user.settled
+
+-- The same where the memory has been lent, and has come back.
+module _ (w : World) (s : ℕ) (user : IsUser s w) (text : (image_of w.procs.images s).text ≡ []) (regs regs' : Regs) (o : Outcome) (image lent : Image)
+    (lent_is : lent ≡ image_of w.procs.images s) (step : stepped o (pdp.machine_of regs' image) ≡ instr (pdp.machine_of regs lent))
+    (k : Kept) (back : k ≡ with_image w.procs.images s image) where
+  pub lent_stepped : HasStepped (system_at (stage.Running s) regs w) regs' (with_images w k) s o
+  lent_stepped =
+      subst (λ l. HasStepped (system_at (stage.Running s) regs w) regs' (with_images w l) s o) (sym back)
+      (has_stepped w s user text regs regs' o image (step ∙ ap (λ m. instr (pdp.machine_of regs m)) lent_is))
+
+  pub lent_user : IsUser s (with_images w k)
+  lent_user = subst (λ l. IsUser s (with_images w l)) (sym back) (memory_user w s user.ready image user)

@@ -1,0 +1,115 @@
+use Rattle.std.proofs.Common.{◌≡◌, ◌∙◌, ℕ, length, refl, sym, ap, subst}
+use Rattle.v6_base.specs.Trace.{Took}
+use Rattle.pick_rules.specs.declared.table.Table.{Table}
+use Rattle.pick_rules.specs.Table.{IsTable}
+use Rattle.unix_core.specs.declared.world.World.{World}
+use Rattle.open_files.specs.Files.{times}
+use Rattle.sys_procs.specs.Process.{Process}
+use Rattle.unix_core.specs.Unix.{Unix, process_of}
+use Rattle.unix_core.specs.Calls.{closes_all, with_handed}
+use Rattle.unix_core.specs.Parts.{unix_of, board_in, none_more, IsReady}
+use Rattle.unix_core.proofs.ReferenceLemmas.{slot_within}
+use Rattle.unix_core.proofs.WorldLemmas.{slot_is, is_living, fifteen_each}
+use Rattle.unix_core.proofs.ShowingLemmas.{with_woken, woken_ready, woken_unix, shown_board}
+use Rattle.unix_core.proofs.CameLemmas.{ready_calls}
+use Rattle.unix_core.proofs.ExitLemmas.{end_answer, end_state, exit_took, exit_come}
+use Rattle.unix_core.proofs.EndedLemmas.{all_closed, ended_unix, ended_good}
+use Rattle.unix_core.proofs.process.exit.Goals as goal
+
+-- a world with another table
+abbrev with_table : World → Table → World
+with_table w t = record w { procs = record w.procs { table = t } }
+
+ready_then : (w : World) (s : ℕ) (t : Table) → IsReady w s → t ≡ (with_woken w w.tape.entries).procs.table → IsTable t → IsReady (with_table w t) s
+ready_then w s t ready is good =
+    subst (λ t. IsReady (with_table w t) s) (sym is) (woken_ready w w.tape.entries s ready (subst IsTable is good))
+
+unix_then : (w new : World) (s : ℕ) (t : Table) → unix_of new ≡ with_handed (unix_of w) s (closes_all (unix_of w) s).state → t ≡ (with_woken new new.tape.entries).procs.table
+    → unix_of (with_table new t) ≡ with_handed (unix_of w) s (closes_all (unix_of w) s).state
+unix_then w new s t unix is = ap (λ t. unix_of (with_table new t)) is ∙ woken_unix new new.tape.entries ∙ unix
+
+closed_then : (w w1 : World) (s : ℕ) → IsReady w s → IsReady w1 s → unix_of w1 ≡ with_handed (unix_of w) s (closes_all (unix_of w) s).state
+    → (entry : ℕ) → times (process_of (unix_of w1) s).u.files entry ≡ 0
+closed_then w w1 s ready then unix entry =
+    let p : Process = process_of (unix_of w) s in
+    let low = slot_within (unix_of w).processes s p (slot_is w s ready) in
+    let long : length (process_of (unix_of w1) s).u.files ≡ 15 =
+    fifteen_each w1 none_more then.good s (process_of (unix_of w1) s) (slot_is w1 s then) (is_living w1 s then) in
+    ap (λ (u : Unix). times (process_of u s).u.files entry) unix
+    ∙ all_closed (unix_of w) s entry low (sym (ap (λ (u : Unix). length (process_of u s).u.files) unix) ∙ long)
+
+pub exit_now-requires : goal.exit_now-requires
+exit_now-requires g c =
+    let new : World = c.close_files.new.world in
+    let ready = ready_then new c.args.s c.pass_on.new.table c.close_files.ensures.shown.ready c.pass_on.ensures.table c.pass_on.ensures.good in
+    ready_calls (with_table new c.pass_on.new.table) c.args.s ready c.see_table.ensures
+
+pub returns-in-Ok-clause-come : goal.returns-in-Ok-clause-come
+returns-in-Ok-clause-come g c =
+    let w : World = c.args.world.now in
+    let new : World = c.close_files.new.world in
+    let w1 : World = with_table new c.pass_on.new.table in
+    let s = c.args.s in
+    let ready = ready_then new s c.pass_on.new.table c.close_files.ensures.shown.ready c.pass_on.ensures.table c.pass_on.ensures.good in
+    let now : World = record w1 { files = record w1.files { tree = c.exit_now.new.tree }; procs = c.exit_now.new.p } in
+    let unix = unix_then w new s c.pass_on.new.table c.close_files.ensures.unix c.pass_on.ensures.table in
+    let closed = closed_then w w1 s c.requires ready unix in
+    let state = end_state w1 s ready _ c.exit_now.ensures.state in
+    exit_come w w1 now s ready c.see_nodes.ensures unix
+    (ap (λ t. board_in (with_table new t)) c.pass_on.ensures.table ∙ shown_board w new s _ c.close_files.ensures.shown)
+    (ended_unix w1 now s ready closed c.exit_now.ensures.agree state c.exit_now.ensures.board c.see_images.ensures refl refl refl refl)
+    c.exit_now.ensures.board
+
+pub returns-in-Ok-clause-good : goal.returns-in-Ok-clause-good
+returns-in-Ok-clause-good g c =
+    let w : World = c.args.world.now in
+    let new : World = c.close_files.new.world in
+    let w1 : World = with_table new c.pass_on.new.table in
+    let s = c.args.s in
+    let ready = ready_then new s c.pass_on.new.table c.close_files.ensures.shown.ready c.pass_on.ensures.table c.pass_on.ensures.good in
+    let now : World = record w1 { files = record w1.files { tree = c.exit_now.new.tree }; procs = c.exit_now.new.p } in
+    let unix = unix_then w new s c.pass_on.new.table c.close_files.ensures.unix c.pass_on.ensures.table in
+    let closed = closed_then w w1 s c.requires ready unix in
+    let state = end_state w1 s ready _ c.exit_now.ensures.state in
+    ended_good w1 now s ready closed c.exit_now.ensures.agree state c.exit_now.ensures.board c.see_images.ensures refl refl refl refl
+
+pub returns-in-Ok-clause-items : goal.returns-in-Ok-clause-items
+returns-in-Ok-clause-items g c =
+    let w : World = c.args.world.now in
+    let new : World = c.close_files.new.world in
+    let w1 : World = with_table new c.pass_on.new.table in
+    let s = c.args.s in
+    let ready = ready_then new s c.pass_on.new.table c.close_files.ensures.shown.ready c.pass_on.ensures.table c.pass_on.ensures.good in
+    exit_took w w1 w1 s ready c.see_nodes.ensures
+    (ap (λ t. unix_of (with_table new t)) c.pass_on.ensures.table ∙ woken_unix new new.tape.entries ∙ c.close_files.ensures.unix)
+    (ap (λ t. board_in (with_table new t)) c.pass_on.ensures.table ∙ shown_board w new s _ c.close_files.ensures.shown)
+    _ _ _ (subst (λ l. Took (g.T.Trace.taken c.args.trace.now) l (g.T.Trace.taken c.pass_on.new.trace)) c.close_files.ensures.shown.shown c.pass_on.ensures.items)
+    c.exit_now.ensures.items
+
+pub returns-in-Err-clause-come : goal.returns-in-Err-clause-come
+returns-in-Err-clause-come g c =
+    let new : World = c.close_files.new.world in
+    let ready = ready_then new c.args.s c.pass_on.new.table c.close_files.ensures.shown.ready c.pass_on.ensures.table c.pass_on.ensures.good in
+    let no = sym (end_answer (with_table new c.pass_on.new.table) c.args.s ready _ c.exit_now.ensures.answer) ∙ c.in-Err.is in
+    absurd (cc no)
+
+pub returns-in-Err-clause-good : goal.returns-in-Err-clause-good
+returns-in-Err-clause-good g c =
+    let new : World = c.close_files.new.world in
+    let ready = ready_then new c.args.s c.pass_on.new.table c.close_files.ensures.shown.ready c.pass_on.ensures.table c.pass_on.ensures.good in
+    let no = sym (end_answer (with_table new c.pass_on.new.table) c.args.s ready _ c.exit_now.ensures.answer) ∙ c.in-Err.is in
+    absurd (cc no)
+
+pub returns-in-Err-clause-runs : goal.returns-in-Err-clause-runs
+returns-in-Err-clause-runs g c =
+    let new : World = c.close_files.new.world in
+    let ready = ready_then new c.args.s c.pass_on.new.table c.close_files.ensures.shown.ready c.pass_on.ensures.table c.pass_on.ensures.good in
+    let no = sym (end_answer (with_table new c.pass_on.new.table) c.args.s ready _ c.exit_now.ensures.answer) ∙ c.in-Err.is in
+    absurd (cc no)
+
+pub returns-in-Err-clause-items : goal.returns-in-Err-clause-items
+returns-in-Err-clause-items g c =
+    let new : World = c.close_files.new.world in
+    let ready = ready_then new c.args.s c.pass_on.new.table c.close_files.ensures.shown.ready c.pass_on.ensures.table c.pass_on.ensures.good in
+    let no = sym (end_answer (with_table new c.pass_on.new.table) c.args.s ready _ c.exit_now.ensures.answer) ∙ c.in-Err.is in
+    absurd (cc no)

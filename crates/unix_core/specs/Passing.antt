@@ -1,0 +1,47 @@
+-- What a call on files has shown, as the kernel's tape tells it.
+use Rattle.std.specs.Prelude.{ℕ, Bool, false, List, ◌++◌, map, fold, if◌then◌else◌}
+use Rattle.v6_base.specs.Trace.{Item, Log, sent}
+use Rattle.v6_base.specs.Tape.{Recording}
+use Rattle.v6_base.specs.declared.entry.Chan.{Chan}
+use Rattle.v6_base.specs.declared.entry.Entry.{Entry}
+use Rattle.v6_base.specs.declared.entry.Entry.TheVariants.{Wake}
+use Rattle.pick_rules.specs.declared.table.Table.{Table}
+use Rattle.pick_rules.specs.Priority.{setpri}
+use Rattle.pick_rules.specs.Sleepers.{wakeup, fall_asleep}
+use Rattle.pick_rules.specs.Choice.{chosen, gives_up, settled_by}
+use Rattle.pick_rules.specs.Apply.{change_row}
+use Rattle.unix_core.specs.declared.ending.Ending.{Ending}
+use Rattle.unix_core.specs.declared.ending.Ending.TheVariants as ending
+
+-- A process that comes out of its call has its priority in user mode anew.
+abbrev pub trapped : Table → ℕ → Table
+trapped t s = setpri (change_row t s (λ row. record row { calling = false })) s
+
+-- the table when a turn of a slot has ended so
+abbrev pub ended_table : Table → ℕ → Ending → Table
+ended_table t s ending.Next = t
+ended_table t s ending.Trapped = trapped t s
+ended_table t s (ending.Slept pri chan) = fall_asleep t s pri chan
+ended_table t s ending.Ended = t
+ended_table t s ending.NoRoom = t
+ended_table t s ending.NotBuilt = t
+
+-- who sleeps for a channel is woken, where that is called for
+abbrev pub called_table : Bool → Chan → Table → Table
+called_table called chan t = if called then wakeup t chan else t
+
+-- the table when the kernel has settled
+abbrev pub settled_table : Table → Table
+settled_table t = if gives_up t t.running then settled_by t (chosen t) else t
+
+-- a line that wakes sleepers; a call on files has no others
+abbrev pub woken_by : Table → Entry → Table
+woken_by t (Wake chan) = wakeup t chan
+woken_by t e = t
+
+abbrev pub all_woken : Table → List Entry → Table
+all_woken t entries = fold woken_by t entries
+
+-- the bytes, and then the lines
+abbrev pub shown_by : Recording → List Item
+shown_by r = sent 0 r.bytes ++ map Log r.entries

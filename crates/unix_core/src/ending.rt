@@ -1,0 +1,19 @@
+//! How a turn of a process ended.
+use v6_base::Chan;
+
+/// How a turn of a process ended.
+#[derive(Clone, Copy, Debug, PartialEq, Eq)]
+pub(crate) enum Ending {
+    /// An instruction is done.
+    Next,
+    /// A call is done, and the process goes on.
+    Trapped,
+    /// The process sleeps in a call, at this priority, for this channel.
+    Slept { pri: i8, chan: Chan },
+    /// The process has exited.
+    Ended,
+    /// An image wants a place in core, and there is none.
+    NoRoom,
+    /// It came to what isn't built.
+    NotBuilt,
+}
