@@ -1,0 +1,167 @@
+-- A fork: its line fits, or there is no place for the child and the panic fits.
+use Rattle.std.proofs.Common.{◌≡◌, ◌≢◌, ◌∙◌, ◌<◌, ◌≤◌, ◌==◌, ◌+◌, ℕ, zero, suc, Bool, true, false, List, ◌∷◌, Option, Some, None, is_none, find, length, get_or-set_other, refl, sym, ap, inl, arith}
+use Rattle.std.specs.List.{range_with_len}
+use Rattle.v6_base.specs.declared.entry.Place.{Place}
+use Rattle.v6_base.specs.declared.entry.Place.TheVariants.{Core, Swap}
+use Rattle.v6_base.specs.declared.entry.PanicKind.TheVariants as panic
+use Rattle.v6_base.specs.declared.entry.Entry.TheVariants as line
+use Rattle.pick_rules.specs.Search.{slots_above_0}
+use Rattle.pick_rules.specs.declared.row.TableRow.{TableRow}
+use Rattle.pick_rules.specs.Table.{child_row, row_at, with_row}
+use Rattle.pick_rules.specs.Sleepers.{runout_told}
+use Rattle.pick_rules.specs.Board.{Board, placed}
+use Rattle.pick_rules.specs.Apply.{in_table, change_row, joins, applied}
+use Rattle.pick_rules.specs.Effects.{Effect, Came, Lets, at_fit, came}
+use Rattle.pick_rules.specs.Effects as effect
+use Rattle.pick_rules.specs.Fits.{IsRunning, FitsBoard, free_slot}
+use Rattle.pick_rules.specs.Lawful.{Seen, seen_after}
+use Rattle.pick_rules.proofs.Found.{IsFound, found_in}
+use Rattle.pick_rules.proofs.NoPlace.{no_place}
+use Rattle.pick_rules.proofs.Shapes.{Shape, shape_at, same_none, runout_same}
+use Rattle.pick_rules.proofs.Placing.{text_table, text_core, again_row, core_table, core_core}
+use Rattle.log_laws.proofs.Fitting.{going_fits, Apt, AptCame}
+use Rattle.log_laws.proofs.Seats.{Seat, Seats, seat_at, with_seat, Rule, rule_of, AgreesAt, Agrees, InTurn, InCall, runs_in, not_busy, own, same_board, kept_agrees, change_agrees}
+
+-- the lowest slot in which nobody sits
+abbrev pub free_seat : Seats → Option ℕ
+free_seat v = find (λ r. is_none (seat_at v r)) slots_above_0
+
+-- a slot is empty on the board exactly where nobody sits in it
+same_empty : (busy : Bool) (rule : Rule) (o : Option Seat) (row : Shape) → AgreesAt busy rule o row
+    → is_none o ≡ row.empty
+same_empty busy rule None row a = sym a
+same_empty busy rule (Some seat) row a = sym a.used
+
+find_same : (p q : ℕ → Bool) (a n : ℕ) → ((r : ℕ) → a ≤ r → p r ≡ q r)
+    → find p (range_with_len a n) ≡ find q (range_with_len a n)
+find_same p q a zero h = refl
+find_same p q a (suc n) h = rw (h a (omega arith), find_same p q (a + 1) n (λ r l. h r (omega (arith, l)))) refl
+
+same_free : (busy : ℕ) (v : Seats) (b : Board) → Agrees busy v b → free_seat v ≡ free_slot b
+same_free busy v b a =
+    find_same _ _ 1 49
+    (λ r l. same_empty (r == busy) (rule_of v b) (seat_at v r) (shape_at b.table r) (a.each r (omega (arith, l))))
+
+-- the running slot's process sits as it did
+unfoldable pub other_turn : (s c : ℕ) (v : Seats) (b d : Board) (o : Option Seat) → (t : InTurn s v b) → s ≢ c
+    → d.table.running ≡ b.table.running → InTurn s (with_seat v c o) d
+other_turn s c v b d o t n running = record {
+  seat = t.seat;
+  at = get_or-set_other v.slots c s o None n ∙ t.at;
+  runs = running ∙ t.runs;
+  user = t.user;
+  small = t.small;
+  alive = t.alive;
+}
+
+-- the child's row, at its place
+abbrev born : TableRow → Place → TableRow
+born parent place = record (child_row parent) { size = parent.size; place = Some place }
+
+abbrev with_child_row : Board → ℕ → ℕ → Place → Board
+with_child_row b s child place = in_table b (λ t. with_row t child (born (row_at t s) place))
+
+-- where the child's row comes to stand on the board
+module _ (b : Board) (s child : ℕ) (l : child < length b.table.rows) where
+  abbrev parent : TableRow
+  parent = row_at b.table s
+
+  abbrev cradle : Board
+  cradle = joins (in_table b (λ t. with_row t child (child_row parent))) parent.text
+
+  born_in : (c : ℕ) → (applied b (line.Fork s child (Core c))).table ≡ (with_child_row b s child (Core c)).table
+  unfolding applied
+  born_in c =
+      core_table cradle child parent.size c
+      ∙ ap (λ t. change_row t child (λ row. record row { size = parent.size; place = Some (Core c) })) (text_table _ parent.text _)
+      ∙ again_row b.table child (child_row parent) (λ row. record row { size = parent.size; place = Some (Core c) }) l
+
+  core_in : (c : ℕ) → (applied b (line.Fork s child (Core c))).core ≡ b.core
+  unfolding applied
+  core_in c = core_core cradle child parent.size c ∙ text_core _ parent.text _
+
+  born_out : (k : ℕ)
+      → (applied b (line.Fork s child (Swap k))).table ≡ runout_told (with_child_row b s child (Swap k)).table
+  unfolding applied
+  born_out k =
+      ap runout_told (ap (λ t. change_row t child (λ row. record row { size = parent.size; place = Some (Swap k); time = 0 })) (text_table _ parent.text _)
+      ∙ again_row b.table child (child_row parent) (λ row. record row { size = parent.size; place = Some (Swap k); time = 0 }) l)
+
+  core_out : (k : ℕ) → (applied b (line.Fork s child (Swap k))).core ≡ b.core
+  unfolding applied
+  core_out k = text_core _ parent.text _
+
+module _ (s : ℕ) (v : Seats) (seen : Seen) (child : ℕ) (i : InCall s false v seen) (l : child < 50) (h : 0 < child) (d : s ≢ child) where
+  -- the child sits as its parent does
+  abbrev grown : Seats
+  grown = with_seat v child (Some i.turn.seat)
+
+  not_same : (child == s) ≡ false
+  not_same = not_busy s child (λ e. d (sym e))
+
+  child_agrees : (place : Place) → v.may place ≡ true → Agrees s grown (with_child_row seen.board s child place)
+  child_agrees place m = let o = own s s v seen.board i.agrees i.turn in
+      change_agrees s s child v grown.slots seen.board _ (Some i.turn.seat) (born (row_at seen.board.table s) place) (λ f. refl) i.agrees l refl refl
+      i.agrees.time i.agrees.ticks
+      (record { used = refl; zombie = sym i.turn.alive; calling = λ f g. sym i.calls; text = o.text; place = λ f. m; size = o.size; most = o.most }) (inl refl)
+
+  inside : child < length seen.board.table.rows
+  inside = rw i.agrees.rows l
+
+  fork_in : (place : Place) → v.may place ≡ true → InCall s false grown (seen_after seen (line.Fork s child place))
+  unfolding other_turn
+  fork_in (Core c) m =
+      let b : Board = seen.board in
+      let e = born_in b s child inside c in
+      record {
+        going = tt;
+        agrees = same_board s grown (with_child_row b s child (Core c)) (applied b (line.Fork s child (Core c))) e (core_in b s child inside c) (child_agrees (Core c) m);
+        turn = other_turn s child v b (applied b (line.Fork s child (Core c))) (Some i.turn.seat) i.turn d (ap (λ t. t.running) e);
+        calls = i.calls;
+      }
+  fork_in (Swap k) m =
+      let b : Board = seen.board in
+      let e = born_out b s child inside k in
+      let a : Agrees s grown (with_child_row b s child (Swap k)) = child_agrees (Swap k) m in
+      let told = runout_same (with_child_row b s child (Swap k)).table _ (same_none _ a.sleeps) in
+      let after : Board = record b { table = runout_told (with_child_row b s child (Swap k)).table } in
+      record {
+        going = tt;
+        agrees = same_board s grown after (applied b (line.Fork s child (Swap k))) e (core_out b s child inside k)
+            (kept_agrees s grown (with_child_row b s child (Swap k)) after told refl a);
+        turn = other_turn s child v b (applied b (line.Fork s child (Swap k))) (Some i.turn.seat) i.turn d (ap (λ t. t.running) e ∙ told.running);
+        calls = i.calls;
+      }
+
+-- the lowest free slot is not the running one
+free_other : (s : ℕ) (v : Seats) (b : Board) (child : ℕ) → InTurn s v b → is_none (seat_at v child) ≡ true → s ≢ child
+free_other s v b child t e f = absurd (
+    let g : is_none (seat_at v s) ≡ true = ap (λ r. is_none (seat_at v r)) f ∙ e in
+    let h : is_none (seat_at v s) ≡ false = ap is_none t.at in cc (g, h)
+    )
+
+-- the rest is to be apt whatever place the child gets
+pub fork_apt : {W : Type 0}
+    → (Q : Seen → Type 0) (s : ℕ) (v : Seats) (seen : Seen) (child : ℕ) (before : W) (es : List (Effect W))
+    → (i : InCall s false v seen) → free_seat v ≡ Some child
+    → ((place : Place) → placed seen.board s (row_at seen.board.table s).size ≡ Some place → v.may place ≡ true)
+    → ((now : Seen) → InCall s false (with_seat v child (Some i.turn.seat)) now → Apt Q now es)
+    → Apt Q seen (effect.Fork s child before ∷ es)
+unfolding Apt came FitsBoard
+fork_apt Q s v seen child before es i f may rest = by (placed seen.board s (row_at seen.board.table s).size) refl
+  where
+    running : IsRunning seen.board s
+    running = runs_in s v seen.board i.turn
+
+    found : IsFound (λ r. is_none (seat_at v r)) 1 49 child
+    found = found_in _ 1 49 child f
+
+    by : (o : Option Place) → placed seen.board s (row_at seen.board.table s).size ≡ o
+        → AptCame seen (at_fit panic.Swap before o (λ place. line.Fork s child place)) (λ now. Apt Q now es)
+    by (Some place) e = (
+      going_fits seen.stage seen.board (line.Fork s child place) i.going (running, sym (same_free s v seen.board i.agrees) ∙ f, e),
+      rest (seen_after seen (line.Fork s child place))
+          (fork_in s v seen child i (let l = found.below in omega (arith, l)) found.least (free_other s v seen.board child i.turn found.passes) place (may place e)),
+    )
+    by None e = going_fits seen.stage seen.board (line.Panic panic.Swap) i.going
+        (inl ((s, running), no_place seen.board s _ (own s s v seen.board i.agrees i.turn).most e))

@@ -1,0 +1,284 @@
+-- The lines of images: a size, and an exec, whose new image takes the place of the old one.
+use Rattle.std.proofs.Common.{◌≡◌, ◌≢◌, ◌∙◌, ◌≤◌, ◌<◌, ◌==◌, ℕ, nat_le, Bool, true, false, cond, List, ◌∷◌, Option, Some, None, set, set-set, length, get_or-set_same, refl, sym, ap, subst, inl}
+use Rattle.std.proofs.lemmas.Bool.{leb-true, leb-false}
+use Rattle.v6_base.specs.Trace.{Log}
+use Rattle.v6_base.specs.declared.entry.Place.{Place}
+use Rattle.v6_base.specs.declared.entry.Place.TheVariants.{Core, Swap}
+use Rattle.v6_base.specs.declared.entry.PanicKind.TheVariants as panic
+use Rattle.v6_base.specs.declared.entry.Entry.{Entry}
+use Rattle.v6_base.specs.declared.entry.Entry.TheVariants as line
+use Rattle.pick_rules.specs.declared.row.TableRow.{TableRow}
+use Rattle.pick_rules.specs.declared.table.Table.{Table}
+use Rattle.pick_rules.specs.Table.{empty_row, row_at, with_row}
+use Rattle.pick_rules.specs.Sleepers.{runout_told}
+use Rattle.pick_rules.specs.Board.{Board, limit, placed}
+use Rattle.pick_rules.specs.Apply.{change_row, applied}
+use Rattle.pick_rules.specs.Effects.{Effect, Show, Lets, at_fit, came}
+use Rattle.pick_rules.specs.Effects as effect
+use Rattle.pick_rules.specs.Fits.{FitsBoard, IsRunning, IsSize}
+use Rattle.pick_rules.specs.Lawful.{Bared, Seen, FitsStage, seen_after}
+use Rattle.pick_rules.proofs.NoPlace.{no_place}
+use Rattle.pick_rules.proofs.Shapes.{shape, shape_at, Sleeps, same_none, runout_same}
+use Rattle.pick_rules.proofs.Placing.{again_row, row_in, row_out, core_table, core_core, bare_table, bare_core, moved_in, moved_out, moved_core}
+use Rattle.log_laws.proofs.Fitting.{going_fits, Apt, AptCame}
+use Rattle.log_laws.proofs.Seats.{Seat, Seats, stands, Same, rule_of, Agrees, InTurn, InCall, runs_in, own, same_board, kept_agrees, change_agrees}
+use Rattle.log_laws.proofs.Lines.{same_turn}
+use Rattle.log_laws.proofs.Deaths.{with_own, own_turn}
+
+-- the table with an image of so many clicks at a place
+abbrev placed_table : Table → ℕ → TableRow → ℕ → Place → Table
+placed_table t s row clicks (Core c) = with_row t s (row_in row clicks c)
+placed_table t s row clicks (Swap block) = runout_told (with_row t s (row_out row clicks block))
+
+-- A slot is to have an image: with each row of its own that has a place the board agrees.
+pub record Houses (s : ℕ) (v : Seats) (b : Board) (row : TableRow) : Type 0 where
+  pub seat : Seat
+  pub agrees : (next : Seat) (new : TableRow) → Same (s == s) (rule_of v b) next (shape new) → Sleeps new
+      → Agrees s (with_own s v next) (record b { table = with_row b.table s new })
+  pub same : (place : Place) (clicks : ℕ) → v.may place ≡ true → clicks ≤ limit b.core
+      → Same (s == s) (rule_of v b) (record seat { size = clicks }) (shape (record row { size = clicks; place = Some place }))
+  pub sleeps : Sleeps row
+
+-- a seat with an image of so many clicks
+abbrev pub sized : Seat → ℕ → Seat
+sized seat clicks = record seat { size = clicks }
+
+module _ (s : ℕ) (v : Seats) (b : Board) (row : TableRow) (h : Houses s v b row) (clicks : ℕ) (l : clicks ≤ limit b.core) where
+  gone_out : (block : ℕ) → v.may (Swap block) ≡ true
+      → Agrees s (with_own s v (sized h.seat clicks)) (record b { table = with_row b.table s (row_out row clicks block) })
+  gone_out block m =
+      let o = h.same (Swap block) clicks m l in
+      h.agrees (sized h.seat clicks) (row_out row clicks block)
+      (record { used = o.used; zombie = o.zombie; calling = o.calling; text = o.text; place = o.place; size = o.size; most = o.most }) h.sleeps
+
+  housed : (place : Place) → v.may place ≡ true
+      → Agrees s (with_own s v (sized h.seat clicks)) (record b { table = placed_table b.table s row clicks place })
+  housed (Core c) m = h.agrees (sized h.seat clicks) (row_in row clicks c) (h.same (Core c) clicks m l) h.sleeps
+  housed (Swap block) m =
+      kept_agrees s (with_own s v (sized h.seat clicks)) (record b { table = with_row b.table s (row_out row clicks block) }) _
+      (runout_same (with_row b.table s (row_out row clicks block)) _ (same_none _ (gone_out block m).sleeps)) refl (gone_out block m)
+
+  placed_running : (place : Place) → v.may place ≡ true
+      → (placed_table b.table s row clicks place).running ≡ b.table.running
+  placed_running (Core c) m = refl
+  placed_running (Swap block) m =
+      (runout_same (with_row b.table s (row_out row clicks block)) _ (same_none _ (gone_out block m).sleeps)).running
+
+-- a call that goes on with an image of its own
+module _ (s : ℕ) (calling : Bool) (v : Seats) (seen : Seen) (i : InCall s calling v seen) where
+  running : IsRunning seen.board s
+  running = runs_in s v seen.board i.turn
+
+  houses : Houses s v seen.board (row_at seen.board.table s)
+  houses = record {
+    seat = i.turn.seat;
+    agrees = λ next new k sleeps. change_agrees s s s v (set v.slots s (Some next)) seen.board (with_row seen.board.table s new) (Some next) new (λ f. refl)
+        i.agrees i.turn.small refl refl i.agrees.time i.agrees.ticks k sleeps;
+    same = λ place clicks m l. let o = own s s v seen.board i.agrees i.turn in
+        record { used = o.used; zombie = o.zombie; calling = o.calling; text = o.text; place = λ f. m; size = λ f. refl; most = l };
+    sleeps = i.agrees.sleeps s;
+  }
+
+  -- the size
+  keep_in : (clicks : ℕ) → clicks ≤ limit seen.board.core
+      → InCall s calling (with_own s v (sized i.turn.seat clicks)) (seen_after seen (line.SizeKeep s clicks))
+  unfolding applied own_turn
+  keep_in clicks l =
+      let row : TableRow = record (row_at seen.board.table s) { size = clicks } in
+      let now : Board = record seen.board { table = with_row seen.board.table s row } in
+      let o = own s s v seen.board i.agrees i.turn in
+      record {
+        going = tt;
+        agrees = change_agrees s s s v (set v.slots s (Some (sized i.turn.seat clicks))) seen.board now.table (Some (sized i.turn.seat clicks)) row (λ f. refl)
+            i.agrees i.turn.small refl refl i.agrees.time i.agrees.ticks
+            (record { used = o.used; zombie = o.zombie; calling = o.calling; text = o.text; place = o.place; size = λ f. refl; most = l }) (i.agrees.sleeps s);
+        turn = own_turn s v seen.board now (sized i.turn.seat clicks) i.agrees.seats i.turn i.turn.alive refl;
+        calls = i.calls;
+      }
+
+  sized_table : (clicks : ℕ) (place : Place)
+      → (applied seen.board (line.Size s clicks place)).table ≡ placed_table seen.board.table s (row_at seen.board.table s) clicks place
+  unfolding applied
+  sized_table clicks (Core c) = moved_in seen.board s clicks c (rw i.agrees.rows i.turn.small)
+  sized_table clicks (Swap block) = moved_out seen.board s clicks block (rw i.agrees.rows i.turn.small)
+
+  sized_core : (clicks : ℕ) (place : Place) → (applied seen.board (line.Size s clicks place)).core ≡ seen.board.core
+  unfolding applied
+  sized_core clicks place = moved_core seen.board s clicks place
+
+  size_in : (clicks : ℕ) (place : Place) → v.may place ≡ true → clicks ≤ limit seen.board.core
+      → InCall s calling (with_own s v (sized i.turn.seat clicks)) (seen_after seen (line.Size s clicks place))
+  unfolding own_turn houses
+  size_in clicks place m l =
+      let row : TableRow = row_at seen.board.table s in
+      let newer : Board = record seen.board { table = placed_table seen.board.table s row clicks place } in
+      let now : Board = applied seen.board (line.Size s clicks place) in
+      let e : now.table ≡ newer.table = sized_table clicks place in
+      record {
+        going = tt;
+        agrees = same_board s (with_own s v (sized i.turn.seat clicks)) newer now e (sized_core clicks place) (housed s v seen.board row houses clicks l place m);
+        turn = own_turn s v seen.board now (sized i.turn.seat clicks) i.agrees.seats i.turn i.turn.alive
+            (ap (λ t. t.running) e ∙ placed_running s v seen.board row houses clicks l place m);
+        calls = i.calls;
+      }
+
+  -- the rest is to be apt wherever the image of another size stands
+  pub size_apt : {W : Type 0} → (Q : Seen → Type 0) (clicks : ℕ) (before : W) (es : List (Effect W))
+      → IsSize seen.board clicks
+      → ((place : Place) → placed seen.board s clicks ≡ Some place → v.may place ≡ true)
+      → ((now : Seen) → InCall s calling (with_own s v (sized i.turn.seat clicks)) now → Apt Q now es)
+      → Apt Q seen (effect.Size s clicks before ∷ es)
+  unfolding Apt came FitsBoard
+  size_apt Q clicks before es z may rest = by (nat_le clicks (row_at seen.board.table s).size) refl
+    where
+      placing : (row_at seen.board.table s).size < clicks → (o : Option Place) → placed seen.board s clicks ≡ o
+          → AptCame seen (at_fit panic.Swap before o (λ place. line.Size s clicks place)) (λ now. Apt Q now es)
+      placing l (Some place) e = (
+        going_fits seen.stage seen.board (line.Size s clicks place) i.going (running, z, l, e),
+        rest (seen_after seen (line.Size s clicks place)) (size_in clicks place (may place e) z.most),
+      )
+      placing l None e =
+          going_fits seen.stage seen.board (line.Panic panic.Swap) i.going
+          (inl ((s, running), no_place seen.board s clicks z.most e))
+
+      by : (x : Bool) → nat_le clicks (row_at seen.board.table s).size ≡ x
+          → AptCame seen (cond x (Lets (Log (line.SizeKeep s clicks))) (at_fit panic.Swap before (placed seen.board s clicks) (λ place. line.Size s clicks place))) (λ now. Apt Q now es)
+      by true e = (
+        going_fits seen.stage seen.board (line.SizeKeep s clicks) i.going (running, z, leb-true _ _ e),
+        rest (seen_after seen (line.SizeKeep s clicks)) (keep_in clicks z.most),
+      )
+      by false e = placing (leb-false _ _ e) (placed seen.board s clicks) refl
+
+-- in the middle of an exec, which has given up the old image and has no new one yet
+pub record InExec (s : ℕ) (v : Seats) (seen : Seen) : Type 0 where
+  pub stage : seen.stage ≡ Bared s
+  pub turn : InTurn s v seen.board
+  pub calls : turn.seat.calling ≡ false
+  pub place : (row_at seen.board.table s).place ≡ None
+  pub seats : length v.slots ≡ 50
+  pub houses : Houses s v seen.board (row_at seen.board.table s)
+  pub seat : houses.seat ≡ turn.seat
+
+-- the old image is given up
+module _ (s : ℕ) (v : Seats) (seen : Seen) (i : InCall s false v seen) (bare : i.turn.seat.text ≡ None) where
+  pub bare_fits : FitsStage seen.stage seen.board (line.Bare s)
+  unfolding FitsBoard
+  bare_fits = going_fits seen.stage seen.board (line.Bare s) i.going (running s false v seen i, is_placed, o.text ∙ bare)
+    where
+      o : Same (s == s) (rule_of v seen.board) i.turn.seat (shape_at seen.board.table s)
+      o = own s s v seen.board i.agrees i.turn
+
+      is_placed : (row_at seen.board.table s).place ≢ None
+      is_placed e = absurd (let f : stands v.may (row_at seen.board.table s).place ≡ true = o.place i.turn.alive in let g : stands v.may (row_at seen.board.table s).place ≡ false = rw e refl in cc (f, g))
+
+  pub bare_in : InExec s v (seen_after seen (line.Bare s))
+  unfolding applied same_turn houses
+  bare_in =
+      record {
+        stage = refl;
+        turn = same_turn s v seen.board now (ap (λ t. t.running) table) i.turn;
+        calls = i.calls;
+        place = ap (λ row. row.place) row_is;
+        seats = i.agrees.seats;
+        seat = refl;
+        houses = record {
+          seat = i.turn.seat;
+          agrees = λ next new k sleeps. same_board s (with_own s v next) (record seen.board { table = with_row seen.board.table s new }) (record now { table = with_row now.table s new })
+              (ap (λ t. with_row t s new) table ∙ ap (λ rows. record seen.board.table { rows = rows }) (set-set seen.board.table.rows s bared new)) core
+              ((houses s false v seen i).agrees next new (subst (λ n. Same (s == s) (record { most = limit n; may = v.may }) next (shape new)) core k) sleeps);
+          same = λ place clicks m l. let o = own s s v seen.board i.agrees i.turn in
+              rw row_is (record { used = o.used; zombie = o.zombie; calling = o.calling; text = o.text; place = λ f. m; size = λ f. refl; most = l });
+          sleeps = rw row_is (i.agrees.sleeps s);
+        };
+      }
+    where
+      now : Board
+      now = applied seen.board (line.Bare s)
+
+      small : s < length seen.board.table.rows
+      small = rw i.agrees.rows i.turn.small
+
+      bared : TableRow
+      bared = record (row_at seen.board.table s) { place = None; size = 0 }
+
+      table : now.table ≡ with_row seen.board.table s bared
+      table = ap (λ t. change_row t s (λ row. record row { size = 0 })) (bare_table seen.board s)
+          ∙ again_row seen.board.table s (record (row_at seen.board.table s) { place = None }) (λ row. record row { size = 0 }) small
+
+      core : now.core ≡ seen.board.core
+      core = bare_core seen.board s
+
+      row_is : row_at now.table s ≡ bared
+      row_is = ap (λ t. row_at t s) table ∙ get_or-set_same seen.board.table.rows s bared empty_row small
+
+-- the new image
+module _ (s : ℕ) (v : Seats) (seen : Seen) (i : InExec s v seen) where
+  exec_runs : IsRunning seen.board s
+  exec_runs = runs_in s v seen.board i.turn
+
+  bared_fits : (e : Entry) → FitsStage (Bared s) seen.board e → FitsStage seen.stage seen.board e
+  bared_fits e f = subst (λ stage. FitsStage stage seen.board e) (sym i.stage) f
+
+  image_table : (clicks : ℕ) (place : Place)
+      → (applied seen.board (line.Image s clicks place)).table ≡ placed_table seen.board.table s (row_at seen.board.table s) clicks place
+  unfolding applied
+  image_table clicks (Core c) = core_table seen.board s clicks c
+  image_table clicks (Swap block) = refl
+
+  image_core : (clicks : ℕ) (place : Place) → (applied seen.board (line.Image s clicks place)).core ≡ seen.board.core
+  unfolding applied
+  image_core clicks (Core c) = core_core seen.board s clicks c
+  image_core clicks (Swap block) = refl
+
+  image_in : (clicks : ℕ) (place : Place) → v.may place ≡ true → clicks ≤ limit seen.board.core
+      → InCall s false (with_own s v (sized i.turn.seat clicks)) (seen_after seen (line.Image s clicks place))
+  unfolding own_turn
+  image_in clicks place m l =
+      let row : TableRow = row_at seen.board.table s in
+      let newer : Board = record seen.board { table = placed_table seen.board.table s row clicks place } in
+      let now : Board = applied seen.board (line.Image s clicks place) in
+      let e : now.table ≡ newer.table = image_table clicks place in
+      record {
+        going = tt;
+        agrees = subst (λ seat. Agrees s (with_own s v (sized seat clicks)) now) i.seat
+            (same_board s (with_own s v (sized i.houses.seat clicks)) newer now e (image_core clicks place) (housed s v seen.board row i.houses clicks l place m));
+        turn = own_turn s v seen.board now (sized i.turn.seat clicks) i.seats i.turn i.turn.alive
+            (ap (λ t. t.running) e ∙ placed_running s v seen.board row i.houses clicks l place m);
+        calls = i.calls;
+      }
+
+  pub image_apt : {W : Type 0} → (Q : Seen → Type 0) (clicks : ℕ) (before : W) (es : List (Effect W))
+      → IsSize seen.board clicks
+      → ((place : Place) → placed seen.board s clicks ≡ Some place → v.may place ≡ true)
+      → ((now : Seen) → InCall s false (with_own s v (sized i.turn.seat clicks)) now → Apt Q now es)
+      → Apt Q seen (effect.Image s clicks before ∷ es)
+  unfolding Apt came FitsBoard
+  image_apt Q clicks before es z may rest = by (placed seen.board s clicks) refl
+    where
+      by : (o : Option Place) → placed seen.board s clicks ≡ o
+          → AptCame seen (at_fit panic.Swap before o (λ place. line.Image s clicks place)) (λ now. Apt Q now es)
+      by (Some place) e = (
+        bared_fits (line.Image s clicks place) (refl, (exec_runs, i.place, z, e)),
+        rest (seen_after seen (line.Image s clicks place)) (image_in clicks place (may place e) z.most),
+      )
+      by None e = bared_fits (line.Panic panic.Swap) (tt, inl ((s, exec_runs), no_place seen.board s clicks z.most e))
+
+-- the limit is that of the board before
+size_after : (s : ℕ) (seen : Seen) (clicks : ℕ) → IsSize seen.board clicks
+    → IsSize (applied seen.board (line.Bare s)) clicks
+unfolding applied
+size_after s seen clicks z = record { least = z.least; most = rw (bare_core seen.board s) z.most }
+
+-- an exec of a program without a text, by a process without one
+pub exec_apt : {W : Type 0}
+    → (Q : Seen → Type 0) (s : ℕ) (v : Seats) (seen : Seen) (clicks : ℕ) (before : W) (es : List (Effect W))
+    → (i : InCall s false v seen)
+    → i.turn.seat.text ≡ None → IsSize seen.board clicks
+    → ((place : Place) → placed (applied seen.board (line.Bare s)) s clicks ≡ Some place → v.may place ≡ true)
+    → ((now : Seen) → InCall s false (with_own s v (sized i.turn.seat clicks)) now → Apt Q now es)
+    → Apt Q seen (Show (Log (line.Bare s)) ∷ effect.Image s clicks before ∷ es)
+unfolding Apt came bare_in same_turn
+exec_apt Q s v seen clicks before es i bare z may rest = (
+  bare_fits s v seen i bare,
+  image_apt s v (seen_after seen (line.Bare s)) (bare_in s v seen i bare) Q clicks before es (size_after s seen clicks z) may rest,
+)

@@ -1,0 +1,169 @@
+-- exit(II): its effects are apt, and so are those of the calls on files.
+use Rattle.std.proofs.Common.{◌≡◌, ◌∙◌, ◌*◌, ◌%◌, ◌==◌, ℕ, not, Bool, true, false, cond, List, [], ◌∷◌, ◌++◌, append-nil, map, Option, Some, None, refl, sym, ap, subst}
+use Rattle.std.proofs.lemmas.Bool.{eqb-true}
+use Rattle.v6_base.specs.Trace.{Item, Byte, Log}
+use Rattle.v6_base.specs.declared.answer.Answer.{Answer}
+use Rattle.v6_base.specs.declared.answer.Answer.TheVariants.{Ret, Fail, Sleep}
+use Rattle.v6_base.specs.declared.entry.Chan.{Chan}
+use Rattle.v6_base.specs.declared.entry.Chan.TheVariants.{Wait}
+use Rattle.v6_base.specs.declared.entry.Entry.{Entry}
+use Rattle.v6_base.specs.declared.entry.Entry.TheVariants as line
+use Rattle.u_area.specs.declared.area.UArea.{UArea}
+use Rattle.pick_rules.specs.Effects.{Effect, Show, lifted, came}
+use Rattle.pick_rules.specs.Fits.{IsSleep}
+use Rattle.pick_rules.specs.Lawful.{Seen, seen_after}
+use Rattle.log_laws.proofs.Fitting.{IsGoing, Apt, apt_append, wake_apt}
+use Rattle.log_laws.proofs.Seats.{Seat, Seats, InCall, Paused}
+use Rattle.log_laws.proofs.Lines.{wake_in, wake_paused}
+use Rattle.log_laws.proofs.Deaths.{with_own, exit_apt}
+use Rattle.sys_files.specs.Handed.{Handed}
+use Rattle.sys_files.specs.Did.{Did}
+use Rattle.sys_files.specs.Descriptors.{Closing}
+use Rattle.sys_procs.specs.Process.{Process, register}
+use Rattle.sys_procs.specs.World.{World, process_of}
+use Rattle.sys_procs.specs.Comes.{Comes}
+use Rattle.sys_procs.specs.Exit.{leaves, parent_slot, adopted, dead, dies, end_proc, exit_now}
+use Rattle.unix_core.specs.Unix as unix
+use Rattle.unix_core.specs.Unix.{Unix}
+use Rattle.unix_core.specs.Calls.{handed_of, with_handed, world_of, with_world, did_by, closes_all, exits}
+use Rattle.run_laws.proofs.Sitting.{seat_for, seat_of, seats_in, seats_of, runner_seat, runner_alive, runner_text, put_in, changed_in, kept_in}
+use Rattle.run_laws.proofs.Steps.{AptSteps, Answered, apt_lifted, answers_apt}
+use Rattle.run_laws.proofs.Quiet.{AreQuiet, SameSize, SameCall, EndsIn, Calm, CalmClosing, close_all_calm}
+use Rattle.run_laws.proofs.Rows.{Calling}
+
+-- bytes and wakes leave a call as it is
+module _ (W : Type 0) (s : ℕ) (calling : Bool) (v : Seats) where
+  wake_first : (seen : Seen) (e : Entry) (items : List Item) → ((chan : Chan) × (e ≡ line.Wake chan))
+      → IsGoing seen.stage
+      → ((chan : Chan) → Apt {W = W} (InCall s calling v) (seen_after seen (line.Wake chan)) (map Show items))
+      → Apt {W = W} (InCall s calling v) seen (Show (Log e) ∷ map Show items)
+  wake_first seen e items (chan, is) going rest =
+      subst (λ x. Apt {W = W} (InCall s calling v) seen (Show (Log x) ∷ map Show items)) (sym is) (wake_apt (InCall s calling v) seen chan (map Show items) going (rest chan))
+
+  pub shown_apt : (seen : Seen) (items : List Item) → AreQuiet items → InCall s calling v seen
+      → Apt {W = W} (InCall s calling v) seen (map Show items)
+  unfolding Apt came
+  shown_apt seen [] q i = i
+  shown_apt seen (Byte line byte ∷ items) q i = shown_apt seen items q i
+  shown_apt seen (Log e ∷ items) q i =
+      wake_first seen e items q.0 i.going
+      (λ chan. shown_apt (seen_after seen (line.Wake chan)) items q.1 (wake_in s calling v seen chan i))
+
+module _ (s : ℕ) where
+  -- what a call on files leaves of the process
+  handed_in : (u : Unix) (seen : Seen) (calling : Bool) (h : Handed) (pending : ℕ) → InCall s calling (seats_of u) seen
+      → SameSize (unix.process_of u s).u h.u
+      → h.u.pending ≡ pending → InCall s (not (pending == 0)) (seats_of (with_handed u s h)) seen
+  handed_in u seen calling h pending i k e = subst (λ n. InCall s (not (n == 0)) (seats_of (with_handed u s h)) seen) e
+      (changed_in u.processes u.clock s calling seen (record (unix.process_of u s) { u = h.u; row = h.row; «data» = h.image.data; stack = h.image.stack }) i
+      (runner_alive u.processes u.clock s seen.board i.turn) (rw (k.data, k.stack) refl))
+
+  pub did_apt : (u : Unix) (seen : Seen) (calling : Bool) (old : UArea) (did : Did) → InCall s calling (seats_of u) seen
+      → SameSize (unix.process_of u s).u old
+      → old.pending ≡ 0 → Calm old did → AptSteps s seen (did_by u s did)
+  did_apt u seen calling old did i k quiet c = answers_apt s seen (with_handed u s did.state) (map Show did.items) did.answer (by did.answer c.ends)
+    where
+      same : SameSize old did.state.u → SameSize (unix.process_of u s).u did.state.u
+      same e = record { «data» = e.data ∙ k.data; stack = e.stack ∙ k.stack }
+
+      goes : SameCall old did.state.u
+          → Apt {W = Unix} (InCall s false (seats_of (with_handed u s did.state))) seen (map Show did.items)
+      goes e = shown_apt Unix s false (seats_of (with_handed u s did.state)) seen did.items c.quiet
+          (handed_in u seen calling did.state 0 i (same e.size) (e.pending ∙ quiet))
+
+      by : (answer : Answer) → EndsIn old did.state.u answer
+          → Answered {W = Unix} s (seats_of (with_handed u s did.state)) seen (map Show did.items) answer
+      by (Ret r0 r1) e = goes e
+      by (Fail x) e = goes e
+      by (Sleep pri chan) e = (
+        shown_apt Unix s true (seats_of (with_handed u s did.state)) seen did.items c.quiet (handed_in u seen calling did.state 1 i (same e.size) e.pending),
+        subst (λ w. IsSleep s w pri) (sym e.on) e.at,
+      )
+
+  -- a process in its call waits in none
+  pub no_pending : (u : Unix) (seen : Seen) → InCall s false (seats_of u) seen → (unix.process_of u s).u.pending ≡ 0
+  no_pending u seen i = eqb-true _ _ (off ((unix.process_of u s).u.pending == 0) (ap (λ x. x.calling) (runner_seat u.processes u.clock s seen.board i.turn) ∙ i.calls))
+    where
+      off : (x : Bool) → not x ≡ false → x ≡ true
+      off true e = refl
+      off false e = absurd (cc e)
+
+  -- children are adopted: they sit as they did
+  adopted_seat : (pid : ℕ) (o : Option Process) → seat_of (adopted pid o) ≡ seat_of o
+  adopted_seat pid None = refl
+  adopted_seat pid (Some p) = by (p.row.ppid == pid)
+    where
+      by : (b : Bool) → seat_of (Some (cond b (record p { row = record p.row { ppid = 1 } }) p)) ≡ seat_of (Some p)
+      by true = refl
+      by false = refl
+
+  adopted_seats : (pid : ℕ) (processes : List (Option Process))
+      → map seat_of (map (adopted pid) processes) ≡ map seat_of processes
+  adopted_seats pid [] = refl
+  adopted_seats pid (o ∷ processes) = rw (adopted_seat pid o, adopted_seats pid processes) refl
+
+  -- its seat
+  abbrev grave : World → Seat
+  grave w =
+      record { dead = true; calling = not ((process_of w s).u.pending == 0); text = None; size = (seat_for (process_of w s)).size }
+
+  dead_is : (w : World)
+      → seats_in (dead w s).processes (dead w s).clock ≡ with_own s (seats_in w.processes w.clock) (grave w)
+  dead_is w =
+      ap (λ slots. record (seats_in w.processes w.clock) { slots = slots }) (adopted_seats (process_of w s).row.pid _)
+      ∙ put_in w.processes w.clock s (record (process_of w s) { is_zombie = true; «data» = []; stack = [] })
+
+  pub dies_apt : (w : World) (seen : Seen) → Calling s w seen
+      → Apt (Paused (seats_in (dead w s).processes (dead w s).clock)) seen (dies w s).effects
+  unfolding Apt
+  dies_apt w seen i =
+      exit_apt s false v seen i (Paused now) w rest (grave w) (runner_text w.processes w.clock s seen.board i.turn) refl refl
+      (λ later p. woken later (subst (λ x. Paused x later) (sym (dead_is w)) p))
+    where
+      v : Seats
+      v = seats_in w.processes w.clock
+
+      now : Seats
+      now = seats_in (dead w s).processes (dead w s).clock
+
+      rest : List (Effect World)
+      rest =
+          Show (Log (line.Wake (Wait 1))) ∷ Show (Log (line.Wake (Wait (parent_slot w (process_of w s).row.ppid)))) ∷ []
+
+      woken : (later : Seen) → Paused now later → Apt {W = World} (Paused now) later rest
+      woken later p =
+          let first : Paused now (seen_after later (line.Wake (Wait 1))) = wake_paused now later (Wait 1) p in
+          wake_apt {W = World} (Paused now) later (Wait 1) (Show (Log (line.Wake (Wait (parent_slot w (process_of w s).row.ppid)))) ∷ []) p.going (
+          wake_apt {W = World} (Paused now) (seen_after later (line.Wake (Wait 1))) (Wait (parent_slot w (process_of w s).row.ppid)) [] first.going
+          (wake_paused now (seen_after later (line.Wake (Wait 1))) (Wait (parent_slot w (process_of w s).row.ppid)) first))
+
+  pub ends_apt : (w : World) (seen : Seen) (status : ℕ) → Calling s w seen
+      → Apt (Paused (seats_in (end_proc w s status).state.processes (end_proc w s status).state.clock)) seen (end_proc w s status).effects
+  unfolding end_proc
+  ends_apt w seen status i =
+      dies_apt (leaves w s status) seen (kept_in w.processes w.clock s false seen _ i refl refl refl)
+
+  pub exits_apt : (u : Unix) (seen : Seen) → Calling s (world_of u) seen → AptSteps s seen (exits u s)
+  unfolding exit_now
+  exits_apt u seen i = record { apt = λ pc b. by }
+    where
+      closed : Closing
+      closed = closes_all u s
+
+      calm : CalmClosing (unix.process_of u s).u closed
+      calm = close_all_calm (handed_of u (unix.process_of u s))
+
+      now : Unix
+      now = with_handed u s closed.state
+
+      status : ℕ
+      status = 256 * (register (process_of (world_of now) s) 0 % 256)
+
+      c : Comes
+      c = end_proc (world_of now) s status
+
+      by : Apt {W = Unix} (Paused (seats_in c.state.processes c.state.clock)) seen ((map Show closed.items ++ map (lifted (with_world now)) c.effects) ++ [])
+      by = rw (append-nil (map Show closed.items ++ map (lifted (with_world now)) c.effects)) (
+          apt_append (InCall s false (seats_of now)) (Paused (seats_in c.state.processes c.state.clock)) seen (map Show closed.items) (map (lifted (with_world now)) c.effects)
+          (shown_apt Unix s false (seats_of now) seen closed.items calm.quiet (handed_in u seen false closed.state 0 i calm.same.size (calm.same.pending ∙ no_pending u seen i)))
+          (λ later j. apt_lifted (with_world now) (Paused (seats_in c.state.processes c.state.clock)) later c.effects (ends_apt (world_of now) later status j)))

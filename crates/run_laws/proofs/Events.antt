@@ -1,0 +1,248 @@
+-- Each event of a run adds lines that fit, as long as the run goes on: the slots.
+use Rattle.std.proofs.Common.{◌≡◌, ◌≢◌, ◌∙◌, ◌==◌, ◌&&◌, ◌||◌, inl, inr, ℕ, zero, suc, not, Bool, true, false, cond, List, [], ◌∷◌, ◌++◌, append-nil, fold, Option, Some, None, refl, sym, ap, subst}
+use Rattle.v6_base.specs.Trace.{Item, Byte, Log, entries_of}
+use Rattle.v6_base.specs.declared.entry.Chan.TheVariants.{RunOut}
+use Rattle.v6_base.specs.declared.entry.Place.{Place}
+use Rattle.v6_base.specs.declared.entry.Place.TheVariants.{Core, Swap}
+use Rattle.v6_base.specs.declared.entry.Entry.{Entry}
+use Rattle.v6_base.specs.declared.entry.Entry.TheVariants as line
+use Rattle.pick_rules.specs.declared.table.Table.{Table}
+use Rattle.pick_rules.specs.Priority.{pswp}
+use Rattle.pick_rules.specs.Table.{row_at, is_ready, is_loaded, is_in_core}
+use Rattle.pick_rules.specs.Sleepers.{fall_asleep}
+use Rattle.pick_rules.specs.Choice.{chosen, gives_up, line_of_choice, settle}
+use Rattle.pick_rules.specs.Board.{Board}
+use Rattle.pick_rules.specs.Apply.{applied}
+use Rattle.pick_rules.specs.Effects.{Effect, Show, Size, Fork, Text, Image, Exit, came}
+use Rattle.pick_rules.specs.Logged.{Stop, Logged, log_one, logged, left_by}
+use Rattle.pick_rules.specs.Swapper.{Waits, candidate, move_for, swap_move}
+use Rattle.pick_rules.specs.Lawful.{Seen, FitAll, seen_after}
+use Rattle.pick_rules.proofs.Found.{least_in}
+use Rattle.pick_rules.proofs.Laws.{set_each}
+use Rattle.pick_rules.proofs.Movers.{Lives, candidate_lives}
+use Rattle.pick_rules.proofs.Shapes.{shape_at}
+use Rattle.log_laws.proofs.Fitting.{fit_item, seen_append, seen_items, Apt, Ends, Fitted, apt_fits, apt_more}
+use Rattle.log_laws.proofs.Seats.{Seat, Seats, seat_at, stands, rule_of, AgreesAt, Agrees, RunnerAt, Paused, Holds}
+use Rattle.log_laws.proofs.Settles.{Settled, IsSettled, settling}
+use Rattle.log_laws.proofs.Passes.{Moves, pass_ends}
+use Rattle.sys_procs.specs.Process.{register}
+use Rattle.unix_core.specs.Unix.{Unix, System, process_of}
+use Rattle.unix_core.specs.Steps.{Steps}
+use Rattle.unix_core.specs.Turn.{Turn, end_effects, ending_at, ending_by, settled_as, settled, settles, turn_of, pass_effects, pass_of, slot_of}
+use Rattle.run_laws.proofs.Sitting.{is_core, seats_of}
+use Rattle.run_laws.proofs.Steps.{AptSteps}
+use Rattle.run_laws.proofs.Starting.{IsFresh}
+use Rattle.run_laws.proofs.Turning.{turn_apt}
+
+-- the system at these lines
+abbrev pub system_at : Unix → Bool → Seen → System
+system_at u fresh seen = record { unix = u; board = seen.board; is_fresh = fresh }
+
+-- between two events: what holds of a system and of the lines so far
+pub record Stands (m : System) (seen : Seen) : Type 0 where
+  pub board : seen.board ≡ m.board
+  pub holds : Holds (seats_of m.unix) seen
+  pub fresh : m.is_fresh ≡ true → IsFresh (seats_of m.unix) seen.board
+
+-- lines that fit, and the system then
+pub record Fine (seen : Seen) (items : List Item) (m : System) : Type 0 where
+  pub fit : FitAll seen (entries_of items)
+  pub stands : Stands m (seen_items seen items)
+
+-- an event after which the run goes on
+pub record FineTurn (seen : Seen) (t : Turn) : Type 0 where
+  pub fine : t.ending ≡ None → Fine seen t.items t.next
+
+-- before the kernel settles
+pub record IsPaused (is_fresh : Bool) (u : Unix) (seen : Seen) : Type 0 where
+  pub paused : Paused (seats_of u) seen
+  pub fresh : is_fresh ≡ true → IsFresh (seats_of u) seen.board
+
+-- a choice leaves places and texts
+choice_fresh : (v : Seats) (b : Board) (o : Option ℕ) → IsFresh v b → IsFresh v (applied b (line_of_choice o))
+unfolding applied
+choice_fresh v b None f = record { slots = f.slots; places = f.places; texts = f.texts; core = f.core }
+choice_fresh v b (Some s) f = record { slots = f.slots; places = f.places; texts = f.texts; core = f.core }
+
+line_is : (t : Table) (e : Entry) → settle t ≡ Some e → line_of_choice (chosen t) ≡ e
+unfolding settle
+line_is t e f = by (gives_up t t.running) f
+  where
+    by : (x : Bool) → cond x (Some (line_of_choice (chosen t))) None ≡ Some e → line_of_choice (chosen t) ≡ e
+    by true g = cc g
+    by false g = absurd (cc g)
+
+settled_fresh : (v : Seats) (b : Board) (e : Entry) → settle b.table ≡ Some e → IsFresh v b → IsFresh v (applied b e)
+settled_fresh v b e f h =
+    subst (λ x. IsFresh v (applied b x)) (line_is b.table e f) (choice_fresh v b (chosen b.table) h)
+
+-- the kernel settles
+module _ (m : System) (u : Unix) (first : Seen) (l : Logged Unix) (fit : FitAll first (entries_of l.items)) (board : (seen_items first l.items).board ≡ l.board)
+    (p : IsPaused m.is_fresh u (seen_items first l.items)) where
+  abbrev now : Seen
+  now = seen_items first l.items
+
+  abbrev next : Board → System
+  next b = record m { unix = u; board = b }
+
+  rests_fine : Holds (seats_of u) now → Fine first l.items (next l.board)
+  rests_fine h = record { fit = fit; stands = record { board = board; holds = h; fresh = p.fresh } }
+
+  chosen_fine : (e : Entry) → settle now.board.table ≡ Some e → Settled (seats_of u) now e
+      → Fine first (l.items ++ Log e ∷ []) (next (applied l.board e))
+  unfolding FitAll
+  chosen_fine e f s =
+      let after : seen_items first (l.items ++ Log e ∷ []) ≡ seen_after now e = seen_append first l.items (Log e ∷ []) in
+      record {
+        fit = fit_item first l.items (Log e) fit (s.fits, tt);
+        stands = record {
+          board = ap (λ x. x.board) after ∙ ap (λ b. applied b e) board;
+          holds = subst (Holds (seats_of u)) (sym after) s.holds;
+          fresh = λ g. subst (λ x. IsFresh (seats_of u) x.board) (sym after) (settled_fresh (seats_of u) now.board e f (p.fresh g));
+        };
+      }
+
+  settled_fine : Fine first (l.items ++ (settled l.board).items) (next (settled l.board).board)
+  settled_fine = subst (λ b. Fine first (l.items ++ (settled_as (settle b.table) l.board).items) (next (settled_as (settle b.table) l.board).board)) board
+      (by (settle now.board.table) refl (settling (seats_of u) now p.paused))
+    where
+      by : (o : Option Entry) → settle now.board.table ≡ o → IsSettled (seats_of u) now o
+          → Fine first (l.items ++ (settled_as o l.board).items) (next (settled_as o l.board).board)
+      by None f s = rw (append-nil l.items) (rests_fine s)
+      by (Some e) f s = chosen_fine e f s
+
+  pub settles_fine : l.stop ≡ None → Fine first (settles m u l).items (settles m u l).next
+  settles_fine stop = subst (λ x. Fine first (l.items ++ (settled l.board).items) (record m { unix = x; board = (settled l.board).board }))
+      (sym (ap (λ o. left_by o u) stop)) settled_fine
+
+-- effects that name no place don't panic
+abbrev pub AreShown : List (Effect Unix) → Type 0
+AreShown [] = Unit {0}
+AreShown (Show item ∷ es) = AreShown es
+AreShown (Size s clicks before ∷ es) = ⊥
+AreShown (Fork s child before ∷ es) = ⊥
+AreShown (Text s clicks before ∷ es) = ⊥
+AreShown (Image s clicks before ∷ es) = ⊥
+AreShown (Exit s before ∷ es) = ⊥
+
+shown_on : (xs : List Item) (b : Board) (es : List (Effect Unix)) → AreShown es
+    → (fold log_one (record { items = xs; board = b; stop = None }) es).stop ≡ None
+unfolding log_one came
+shown_on xs b [] h = refl
+shown_on xs b (Show (Log e) ∷ es) h = shown_on (xs ++ Log e ∷ []) (applied b e) es h
+shown_on xs b (Show (Byte line byte) ∷ es) h = shown_on (xs ++ Byte line byte ∷ []) b es h
+shown_on xs b (Size s clicks before ∷ es) h = absurd h
+shown_on xs b (Fork s child before ∷ es) h = absurd h
+shown_on xs b (Text s clicks before ∷ es) h = absurd h
+shown_on xs b (Image s clicks before ∷ es) h = absurd h
+shown_on xs b (Exit s before ∷ es) h = absurd h
+
+pub shown_stop : (b : Board) (es : List (Effect Unix)) → AreShown es → (logged b es).stop ≡ None
+shown_stop b es h = shown_on [] b es h
+
+-- an event whose effects are apt
+ends_none : (Q : Seen → Type 0) (o : Option (Stop Unix)) (seen : Seen) → o ≡ None → Ends Q o seen → Q seen
+ends_none Q None seen e h = h
+ends_none Q (Some stop) seen e h = absurd (cc e)
+
+pub event_by : (u v : Unix) (is_fresh : Bool) (seen : Seen) (es : List (Effect Unix))
+    → Apt (IsPaused is_fresh v) seen es → (logged seen.board es).stop ≡ None
+    → Fine seen (settles (system_at u is_fresh seen) v (logged seen.board es)).items (settles (system_at u is_fresh seen) v (logged seen.board es)).next
+event_by u v is_fresh seen es a stop =
+    let l : Logged Unix = logged seen.board es in
+    let f : Fitted (IsPaused is_fresh v) seen l = apt_fits (IsPaused is_fresh v) seen es a in
+    settles_fine (system_at u is_fresh seen) v seen l f.fit f.board (ends_none (IsPaused is_fresh v) l.stop (seen_items seen l.items) stop f.ends) stop
+
+-- A turn.
+stops : (pc : ℕ) (o : Option (Stop Unix)) (steps : Steps) → ending_by pc o steps.ending ≡ None
+    → (o ≡ None) × (ending_at pc steps.ending ≡ None)
+stops pc None steps e = (refl, e)
+stops pc (Some stop) steps e = absurd (cc e)
+
+turned_fine : (s : ℕ) (u : Unix) (is_fresh : Bool) (seen : Seen) (steps : Steps) → AptSteps s seen steps
+    → FineTurn seen (turn_of (system_at u is_fresh seen) s steps)
+turned_fine s u is_fresh seen steps a = record {
+  fine = λ e. let k = stops (register (process_of u s) 7) (logged seen.board es).stop steps e in
+      event_by u steps.unix false seen es (apt_more (Paused (seats_of steps.unix)) (IsPaused false steps.unix) seen es (λ now p. record { paused = p; fresh = λ f. absurd (cc f) })
+      (a.apt (register (process_of u s) 7) k.1)) k.0;
+}
+  where
+    es : List (Effect Unix)
+    es = steps.effects ++ end_effects s steps.ending
+
+-- The pass of process 0: no image is out of core.
+loaded_by : (v : Seats) (seen : Seen) (s : ℕ) → v.may ≡ is_core → Agrees 0 v seen.board → Lives seen.board.table s
+    → is_loaded seen.board.table s ≡ true
+loaded_by v seen s core a l = by (seat_at v s) (a.each s l.user)
+  where
+    in_core : (p : Option Place) → stands is_core p ≡ true → is_in_core p ≡ true
+    in_core None e = absurd (cc e)
+    in_core (Some (Core c)) e = refl
+    in_core (Some (Swap block)) e = absurd (cc e)
+
+    either : (x y : Bool) → y ≡ true → (x || y) ≡ true
+    either true y e = refl
+    either false y e = e
+
+    by : (o : Option Seat) → AgreesAt (s == 0) (rule_of v seen.board) o (shape_at seen.board.table s)
+        → is_loaded seen.board.table s ≡ true
+    by None k = absurd (let x = l.stat.used in cc (x, k))
+    by (Some seat) k = either (s == 0) _
+        (in_core (row_at seen.board.table s).place (subst (λ may. stands may (row_at seen.board.table s).place ≡ true) core (k.place (sym k.zombie ∙ l.stat.alive))))
+
+nobody_out : (v : Seats) (seen : Seen) → v.may ≡ is_core → Agrees 0 v seen.board → candidate seen.board.table ≡ None
+nobody_out v seen core a = by (candidate t) refl
+  where
+    t : Table
+    t = seen.board.table
+
+    out : (s : ℕ) → (is_ready (row_at t s).stat && not (is_loaded t s)) ≡ true → is_loaded t s ≡ true → ⊥
+    out s e f = clash (is_ready (row_at t s).stat) (is_loaded t s) e f
+      where
+        clash : (x y : Bool) → (x && not y) ≡ true → y ≡ true → ⊥
+        clash true true e f = cc e
+        clash true false e f = cc f
+        clash false y e f = cc e
+
+    by : (o : Option ℕ) → candidate t ≡ o → o ≡ None
+    by None e = refl
+    by (Some s) e = absurd (
+        out s (least_in _ (λ r. is_ready (row_at t r).stat && not (is_loaded t r)) 1 49 s e).passes (loaded_by v seen s core a (candidate_lives t s e))
+        )
+
+pass_waits : (v : Seats) (seen : Seen) → v.may ≡ is_core → Agrees 0 v seen.board → swap_move seen.board ≡ Waits RunOut
+unfolding swap_move
+pass_waits v seen core a = ap (move_for seen.board) (nobody_out v seen core a)
+
+pass_fresh : (v : Seats) (b : Board) → IsFresh v b → IsFresh v (applied b (line.Sleep 0 pswp RunOut))
+unfolding applied fall_asleep
+pass_fresh v b f = record {
+  slots = f.slots;
+  places = set_each (λ r x. r ≢ 1 → x.place ≡ None) b.table.rows 0 _ f.places (λ n. f.places 0 n);
+  texts = f.texts;
+  core = f.core;
+}
+
+pass_fine : (u : Unix) (is_fresh : Bool) (seen : Seen) → IsPaused is_fresh u seen → seen.board.table.running ≡ Some 0
+    → FineTurn seen (pass_of (system_at u is_fresh seen))
+unfolding Apt came
+pass_fine u is_fresh seen p r = record {
+  fine = λ e. event_by u u is_fresh seen pass_effects
+      (let k : Moves (seats_of u) seen (line.Sleep 0 pswp RunOut) = pass_ends (seats_of u) seen RunOut p.paused r (pass_waits (seats_of u) seen refl p.paused.agrees) in
+      (k.fits, record { paused = k.next.paused; fresh = λ f. pass_fresh (seats_of u) seen.board (p.fresh f) })) (shown_stop seen.board pass_effects tt);
+}
+
+-- a slot
+pub slot_fine : (u : Unix) (is_fresh : Bool) (seen : Seen) → IsPaused is_fresh u seen → Holds (seats_of u) seen
+    → FineTurn seen (slot_of (system_at u is_fresh seen) seen.board.table.running)
+unfolding FitAll
+slot_fine u is_fresh seen p h = by seen.board.table.running refl h.paused.runner
+  where
+    by : (o : Option ℕ) → seen.board.table.running ≡ o → RunnerAt (seats_of u) seen.board o
+        → FineTurn seen (slot_of (system_at u is_fresh seen) o)
+    by None e r =
+        record { fine = λ f. record { fit = tt; stands = record { board = refl; holds = h; fresh = p.fresh } } }
+    by (Some zero) e r = pass_fine u is_fresh seen p e
+    by (Some (suc s)) e (inl z) = absurd (cc z)
+    by (Some (suc s)) e (inr t) =
+        turned_fine (suc s) u is_fresh seen _ (turn_apt (suc s) seen u is_fresh p.fresh p.paused t)

@@ -1,0 +1,178 @@
+-- The log of each run that comes to its script's end is lawful.
+use Rattle.std.proofs.Common.{◌≡◌, ◌∙◌, ◌<◌, ◌≤◌, ◌==◌, ℕ, zero, suc, Bool, true, false, List, [], ◌∷◌, if◌then◌else◌, Option, Some, None, is_some, option_map, get_or, refl, sym, ap, subst, inl, inr, arith}
+use Rattle.v6_base.specs.Trace.{Log}
+use Rattle.v6_base.specs.declared.entry.Chan.TheVariants.{RunOut}
+use Rattle.v6_base.specs.declared.entry.Entry.TheVariants as line
+use Rattle.fs_codec.specs.Store.{Store}
+use Rattle.fs_codec.specs.Faults.{image_fault}
+use Rattle.fs_codec.specs.Disk.{disk_of}
+use Rattle.fs_codec.specs.Stands.{store_of}
+use Rattle.pick_rules.specs.Priority.{pswp}
+use Rattle.pick_rules.specs.Table.{empty_row, row_at}
+use Rattle.pick_rules.specs.Sleepers.{fall_asleep}
+use Rattle.pick_rules.specs.Board.{Board, first_board}
+use Rattle.pick_rules.specs.Apply.{applied}
+use Rattle.pick_rules.specs.Effects.{came}
+use Rattle.pick_rules.specs.Lawful.{Booted, Seen, FitAll, Lawful, nothing_seen, seen_after}
+use Rattle.pick_rules.proofs.Shapes.{shape_at, Sleeps}
+use Rattle.log_laws.proofs.Fitting.{fit_items, fit_item, seen_append, seen_items, Apt}
+use Rattle.log_laws.proofs.Seats.{Seat, seat_at, rule_of, AgreesAt, Agrees}
+use Rattle.log_laws.proofs.Settles.{end_fits}
+use Rattle.unix_core.specs.declared.turned.Unbuilt.{Unbuilt}
+use Rattle.unix_core.specs.Unix.{Unix, System}
+use Rattle.unix_core.specs.Turn.{Turn, pass_effects, pass_of}
+use Rattle.unix_core.specs.Runs.{first_unix, system_with, Event, Slot, Tick, Byte, Switch, event_of, Course, goes_on_by, unless_ended, after_event, course, started, has_form, booted, boots}
+use Rattle.run_laws.specs.Law.{log_of, LogsAreLawful}
+use Rattle.run_laws.proofs.Sitting.{seats_of}
+use Rattle.run_laws.proofs.Starting.{IsFresh, get_replicate}
+use Rattle.run_laws.proofs.Events.{system_at, Stands, Fine, FineTurn, IsPaused, shown_stop, event_by, slot_fine}
+use Rattle.run_laws.proofs.Outside.{tick_fine, typed_fine, switched_fine}
+
+paused_at : (u : Unix) (is_fresh : Bool) (seen : Seen) → Stands (system_at u is_fresh seen) seen
+    → IsPaused is_fresh u seen
+paused_at u is_fresh seen h = record { paused = h.holds.paused; fresh = h.fresh }
+
+event_fine : (e : Event) (u : Unix) (is_fresh : Bool) (seen : Seen) → Stands (system_at u is_fresh seen) seen
+    → FineTurn seen (event_of e (system_at u is_fresh seen))
+event_fine Slot u is_fresh seen h = slot_fine u is_fresh seen (paused_at u is_fresh seen h) h.holds
+event_fine Tick u is_fresh seen h = tick_fine u is_fresh seen (paused_at u is_fresh seen h)
+event_fine (Byte byte) u is_fresh seen h = typed_fine u is_fresh seen byte (paused_at u is_fresh seen h)
+event_fine (Switch word) u is_fresh seen h = switched_fine u is_fresh seen word (paused_at u is_fresh seen h) h.holds
+
+-- a run as far as it has come
+record FineCourse (c : Course) : Type 0 where
+  fine : c.ending ≡ None → Fine nothing_seen c.items c.system
+
+further : (c : Course) (t : Turn) → Fine nothing_seen c.items c.system → FineTurn (seen_items nothing_seen c.items) t
+    → FineCourse (goes_on_by c t)
+further c t f g = record {
+  fine = λ e. let k = g.fine e in record {
+    fit = fit_items nothing_seen c.items t.items f.fit k.fit;
+    stands = subst (Stands t.next) (sym (seen_append nothing_seen c.items t.items)) k.stands;
+  };
+}
+
+event_goes : (c : Course) (e : Event) → FineCourse c → FineCourse (after_event c e)
+event_goes c e f = by c.ending refl
+  where
+    now : Seen
+    now = seen_items nothing_seen c.items
+
+    -- the system with the board that the lines give
+    at_lines : Stands c.system now → FineTurn now (event_of e c.system)
+    at_lines h = subst (λ b. FineTurn now (event_of e (record { unix = c.system.unix; board = b; is_fresh = c.system.is_fresh }))) h.board
+        (event_fine e c.system.unix c.system.is_fresh now (record { board = refl; holds = h.holds; fresh = h.fresh }))
+
+    by : (o : Option Unbuilt) → c.ending ≡ o → FineCourse (unless_ended o c e)
+    by None n = further c (event_of e c.system) (f.fine n) (at_lines (f.fine n).stands)
+    by (Some place) n = f
+
+course_fine : (events : List Event) (c : Course) → FineCourse c → FineCourse (course c events)
+course_fine [] c f = f
+course_fine (e ∷ events) c f = course_fine events (after_event c e) (event_goes c e f)
+
+-- The beginning: two lines, and a choice.
+module _ (store : Store) (core : ℕ) (low : 64 ≤ core) where
+  abbrev u : Unix
+  u = first_unix store core
+
+  abbrev booted_seen : Seen
+  booted_seen = record { stage = Booted; board = first_board core store.stamp }
+
+  first_each : (b : Board) → b ≡ applied (first_board core store.stamp) (line.Sleep 0 pswp RunOut) → (r : ℕ) → 0 < r
+      → AgreesAt (r == 0) (rule_of (seats_of u) b) (seat_at (seats_of u) r) (shape_at b.table r)
+  unfolding applied fall_asleep
+  first_each b e zero h = absurd (omega arith)
+  first_each b e (suc zero) h = rw e (record {
+    used = refl;
+    zombie = refl;
+    calling = λ f g. refl;
+    text = refl;
+    place = λ f. refl;
+    size = λ f. refl;
+    most = omega (arith, low);
+  })
+  first_each b e (suc (suc k)) h = rw (e, slots k, get_replicate empty_row 48 k) refl
+    where
+      slots : (k : ℕ) → get_or (seats_of u).slots (suc (suc k)) None ≡ None
+      slots k = get_replicate {X = Option Seat} None 48 k
+
+  first_sleeps : (r : ℕ) → Sleeps (row_at (applied (first_board core store.stamp) (line.Sleep 0 pswp RunOut)).table r)
+  unfolding applied fall_asleep
+  first_sleeps zero = inr refl
+  first_sleeps (suc zero) = inl refl
+  first_sleeps (suc (suc k)) = rw (get_replicate empty_row 48 k) (inl refl)
+
+  first_agrees : Agrees 0 (seats_of u) (applied (first_board core store.stamp) (line.Sleep 0 pswp RunOut))
+  unfolding applied fall_asleep
+  first_agrees =
+      record { each = first_each _ refl; sleeps = first_sleeps; rows = refl; seats = refl; time = refl; ticks = refl }
+
+  first_fresh : IsFresh (seats_of u) (applied (first_board core store.stamp) (line.Sleep 0 pswp RunOut))
+  unfolding applied fall_asleep
+  first_fresh = record { slots = refl; places = places; texts = refl; core = low }
+    where
+      places : (r : ℕ) → (r ≡ 1 → ⊥)
+          → (row_at (applied (first_board core store.stamp) (line.Sleep 0 pswp RunOut)).table r).place ≡ None
+      places zero n = refl
+      places (suc zero) n = absurd (n refl)
+      places (suc (suc k)) n = ap (λ x. x.place) (get_replicate empty_row 48 k)
+
+  first_paused : IsPaused true u (seen_after booted_seen (line.Sleep 0 pswp RunOut))
+  unfolding applied fall_asleep
+  first_paused = record { paused = record { going = tt; agrees = first_agrees; runner = tt }; fresh = λ f. first_fresh }
+
+  start_fine : FineTurn booted_seen (pass_of (system_at u true booted_seen))
+  unfolding Apt came
+  start_fine =
+      record { fine = λ e. event_by u u true booted_seen pass_effects (refl, first_paused) (shown_stop (first_board core store.stamp) pass_effects tt) }
+
+  started_fine : core ≤ 3968 → FineCourse (started (system_with store core))
+  unfolding FitAll applied
+  started_fine high = record {
+    fine = λ e. let k = start_fine.fine e in record { fit = ((low, high), k.fit); stands = k.stands };
+  }
+
+ends_lawful : (c : Course) → FineCourse c → c.ending ≡ None → Lawful (log_of c)
+unfolding FitAll
+ends_lawful c f e =
+    let k : Fine nothing_seen c.items c.system = f.fine e in
+    record {
+      fit = fit_item nothing_seen c.items (Log line.End) k.fit (end_fits (seats_of c.system.unix) (seen_items nothing_seen c.items) k.stands.holds, tt);
+      over = ap (λ s. s.stage) (seen_append nothing_seen c.items (Log line.End ∷ []));
+    }
+
+pub log_lawful : (store : Store) (core : ℕ) (events : List Event) → 64 ≤ core → core ≤ 3968
+    → (course (started (system_with store core)) events).ending ≡ None
+    → Lawful (log_of (course (started (system_with store core)) events))
+log_lawful store core events low high e =
+    ends_lawful (course (started (system_with store core)) events) (course_fine events (started (system_with store core)) (started_fine store core low high)) e
+
+-- the system that an image boots
+booted_is : (m n : System) → booted m ≡ Some n → m ≡ n
+booted_is m n e = by (has_form m) e
+  where
+    by : (x : Bool) → (if x then Some m else None) ≡ Some n → m ≡ n
+    by true f = cc f
+    by false f = absurd (cc f)
+
+boots_is : (image : List ℕ) (core : ℕ) (m : System) → boots image core ≡ Some m
+    → system_with (store_of (disk_of image)) core ≡ m
+boots_is image core m e = by (is_some (image_fault image)) e
+  where
+    by : (x : Bool) → (if x then None else booted (system_with (store_of (disk_of image)) core)) ≡ Some m
+        → system_with (store_of (disk_of image)) core ≡ m
+    by true f = absurd (cc f)
+    by false f = booted_is (system_with (store_of (disk_of image)) core) m f
+
+-- Each line of each log fits what the lines before it give, and the last one ends it.
+pub logs_are_lawful : LogsAreLawful
+logs_are_lawful image core events c low high e done = by (boots image core) refl e
+  where
+    by : (o : Option System) → boots image core ≡ o → option_map (λ m. course (started m) events) o ≡ Some c
+        → Lawful (log_of c)
+    by None f g = absurd (cc g)
+    by (Some m) f g =
+        let is : course (started (system_with (store_of (disk_of image)) core)) events ≡ c =
+        ap (λ n. course (started n) events) (boots_is image core m f) ∙ cc g in
+        subst (λ c. c.ending ≡ None → Lawful (log_of c)) is (log_lawful (store_of (disk_of image)) core events low high) done

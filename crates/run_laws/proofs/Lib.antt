@@ -1,0 +1,11 @@
+pub mod Sitting
+pub mod Steps
+pub mod Quiet
+pub mod Rows
+pub mod Children
+pub mod Ending
+pub mod Starting
+pub mod Turning
+pub mod Events
+pub mod Outside
+pub mod Lawfully

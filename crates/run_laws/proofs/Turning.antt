@@ -1,0 +1,295 @@
+-- The turn of each slot is apt.
+use Rattle.std.proofs.Common.{◌≡◌, ◌∙◌, ◌==◌, ◌||◌, ℕ, not, Bool, true, false, cond, if◌then◌else◌, List, [], ◌∷◌, find, Option, Some, None, is_none, is_some, slice_index, replicate, set, refl, sym, ap, subst}
+use Rattle.pdp_step.specs.declared.outcome.Outcome.{Outcome}
+use Rattle.pdp_step.specs.declared.outcome.Outcome.TheVariants as outcome
+use Rattle.pdp_step.specs.Instruction.{Stepped, instr}
+use Rattle.image_keep.specs.Kept.{clicks_of}
+use Rattle.pick_rules.specs.Board.{core_fit}
+use Rattle.pick_rules.specs.Lawful.{Seen}
+use Rattle.proc_tab.specs.Processes.{lowest}
+use Rattle.log_laws.proofs.Fitting.{Apt}
+use Rattle.log_laws.proofs.Seats.{Seats, with_seat, InTurn, InCall, Paused, busy_agrees}
+use Rattle.log_laws.proofs.Lines.{seat_stays}
+use Rattle.u_area.specs.declared.area.UArea.{UArea}
+use Rattle.sys_files.specs.Handed.{Handed}
+use Rattle.sys_procs.specs.Process.{Process, register, image_of}
+use Rattle.sys_procs.specs.World.{Clock, World, members, change}
+use Rattle.sys_procs.specs.World as world
+use Rattle.sys_procs.specs.Fork.{fork_one}
+use Rattle.sys_procs.specs.Resume.{awake, resume_proc}
+use Rattle.sys_procs.specs.Times.{until_of}
+use Rattle.unix_core.specs.Unix.{Unix, process_of, with_process}
+use Rattle.unix_core.specs.Steps.{Steps, no_room}
+use Rattle.unix_core.specs.Calls.{handed_of, world_of, with_area, entered_area, words_passed, asked, forks, is_full, fork_if_room, FileCall, file_calls, file_call, ProcessCall, process_calls, process_call, by_process_row, by_file_row, does_call, count_of, does_if_built, system_call, resumed}
+use Rattle.unix_core.specs.Exec.{exec_init}
+use Rattle.unix_core.specs.Turn.{machine_of, with_machine, comes_to, instruction, is_user, has_room, turn}
+use Rattle.run_laws.proofs.Sitting.{seat_for, seats_in, seats_of, found_in, runner_seat, runner_alive, put_in, kept_in, changed_in}
+use Rattle.run_laws.proofs.Steps.{AptSteps, unbuilt_apt, roomless_apt, returns_apt, came_apt}
+use Rattle.run_laws.proofs.Quiet.{Calm, same_call, read_calm, write_calm, open_calm, close_calm, creat_calm, link_calm, unlink_calm, chdir_calm, mknod_calm, chmod_calm, chown_calm, stat_calm, seek_calm, stat_open_calm, stty_calm, gtty_calm, sync_calm, dup_calm, resume_calm}
+use Rattle.run_laws.proofs.Rows.{FineComes, Calling, if_fine, time_fine, pid_fine, set_uid_fine, get_uid_fine, set_time_fine, no_op_fine, nice_fine, sleep_fine, switches_fine, times_fine, set_gid_fine, get_gid_fine, until_fine}
+use Rattle.run_laws.proofs.Children.{wait_fine, fork_fine}
+use Rattle.run_laws.proofs.Ending.{did_apt, no_pending, exits_apt}
+use Rattle.run_laws.proofs.Starting.{IsFresh, fresh_runs, fresh_calls, init_apt}
+
+-- a fact of each of some rows holds of the one that is found
+abbrev Each : {X : Type 0} → (X → Type 0) → List X → Type 0
+Each P [] = Unit {0}
+Each P (x ∷ xs) = P x × Each P xs
+
+found_one : {X : Type 0} (P : X → Type 0) (test : X → Bool) (xs : List X) (x : X) → Each P xs → find test xs ≡ Some x
+    → P x
+found_one P test [] x h e = absurd (cc e)
+found_one P test (y ∷ xs) x h e = by (test y) e (found_one P test xs x h.1)
+  where
+    by : (b : Bool) → cond b (Some y) (find test xs) ≡ Some x → (find test xs ≡ Some x → P x) → P x
+    by true f rest = subst P (cc f) h.0
+    by false f rest = rest f
+
+-- a row of a call on files
+IsCalm : FileCall → Type 0
+IsCalm c = (h : Handed) (args : List ℕ) (now : ℕ) → Calm h.u (c.does h args now)
+
+each_calm : Each IsCalm file_calls
+unfolding IsCalm
+each_calm = (
+  λ h a now. read_calm h (slice_index a 0) (slice_index a 1) now,
+  (
+    λ h a now. write_calm h (slice_index a 0) (slice_index a 1) now,
+    (
+      λ h a now. open_calm h (slice_index a 0) (slice_index a 1),
+      (
+        λ h a now. close_calm h,
+        (
+          λ h a now. creat_calm h (slice_index a 0) (slice_index a 1) now,
+          (
+            λ h a now. link_calm h (slice_index a 0) (slice_index a 1) now,
+            (
+              λ h a now. unlink_calm h (slice_index a 0) now,
+              (
+                λ h a now. chdir_calm h (slice_index a 0),
+                (
+                  λ h a now. mknod_calm h (slice_index a 0) (slice_index a 1) (slice_index a 2) now,
+                  (
+                    λ h a now. chmod_calm h (slice_index a 0) (slice_index a 1) now,
+                    (
+                      λ h a now. chown_calm h (slice_index a 0) (slice_index a 1) now,
+                      (
+                        λ h a now. stat_calm h (slice_index a 0) (slice_index a 1),
+                        (
+                          λ h a now. seek_calm h (slice_index a 0) (slice_index a 1),
+                          (
+                            λ h a now. stat_open_calm h (slice_index a 0),
+                            (
+                              λ h a now. stty_calm h (slice_index a 0),
+                              (λ h a now. gtty_calm h (slice_index a 0), (λ h a now. sync_calm h now, (λ h a now. dup_calm h, tt))),
+                            ),
+                          ),
+                        ),
+                      ),
+                    ),
+                  ),
+                ),
+              ),
+            ),
+          ),
+        ),
+      ),
+    ),
+  ),
+)
+
+-- a row of a call on processes
+IsFine : ProcessCall → Type 0
+IsFine c = (s : ℕ) (seen : Seen) (w : World) (args : List ℕ) → Calling s w seen → FineComes s seen (c.does w s args)
+
+each_fine : Each IsFine process_calls
+unfolding IsFine
+each_fine = (
+  λ s seen w a i. wait_fine s seen w i,
+  (
+    λ s seen w a i. time_fine s seen w i,
+    (
+      λ s seen w a i. pid_fine s seen w i,
+      (
+        λ s seen w a i. set_uid_fine s seen w i,
+        (
+          λ s seen w a i. get_uid_fine s seen w i,
+          (
+            λ s seen w a i. set_time_fine s seen w i,
+            (
+              λ s seen w a i. no_op_fine s seen w i,
+              (
+                λ s seen w a i. nice_fine s seen w i,
+                (
+                  λ s seen w a i. sleep_fine s seen w i,
+                  (
+                    λ s seen w a i. switches_fine s seen w i,
+                    (
+                      λ s seen w a i. times_fine s seen w (slice_index a 0) i,
+                      (λ s seen w a i. set_gid_fine s seen w i, (λ s seen w a i. get_gid_fine s seen w i, tt)),
+                    ),
+                  ),
+                ),
+              ),
+            ),
+          ),
+        ),
+      ),
+    ),
+  ),
+)
+
+module _ (s : ℕ) (seen : Seen) where
+  if_apt : (b : Bool) (x y : Steps) → AptSteps s seen x → AptSteps s seen y → AptSteps s seen (cond b x y)
+  if_apt true x y f g = f
+  if_apt false x y f g = g
+
+  process_row_apt : (u : Unix) (args : List ℕ) (o : Option ProcessCall) → ((c : ProcessCall) → o ≡ Some c → IsFine c)
+      → Calling s (world_of u) seen
+      → AptSteps s seen (by_process_row u s args o)
+  unfolding IsFine
+  process_row_apt u args None h i = unbuilt_apt s seen u []
+  process_row_apt u args (Some c) h i =
+      came_apt s seen u (c.does (world_of u) s args) (h c refl s seen (world_of u) args i).fine
+
+  file_row_apt : (u : Unix) (args : List ℕ) (o : Option FileCall) (p : Option ProcessCall)
+      → ((c : FileCall) → o ≡ Some c → IsCalm c)
+      → ((c : ProcessCall) → p ≡ Some c → IsFine c) → Calling s (world_of u) seen
+      → AptSteps s seen (by_file_row u s args o p)
+  unfolding IsCalm
+  file_row_apt u args None p h k i = process_row_apt u args p k i
+  file_row_apt u args (Some c) p h k i =
+      did_apt s u seen false (process_of u s).u (c.does (handed_of u (process_of u s)) args u.clock.time) i (same_call (process_of u s).u).size (no_pending s u seen i)
+      (h c refl (handed_of u (process_of u s)) args u.clock.time)
+
+  -- a fork: all slots are used, or core has room
+  forks_apt : (u : Unix) → Calling s (world_of u) seen
+      → (is_none (lowest is_none (members (world_of u))) ≡ false → is_some (core_fit seen.board (clicks_of (process_of u s).u)) ≡ true) → AptSteps s seen (forks u s)
+  forks_apt u i room =
+      record { apt = (came_apt s seen u (fork_one (world_of u) s) (fork_fine s seen (world_of u) i room).fine).apt }
+
+  either : (x y : Bool) → (x || y) ≡ true → x ≡ false → y ≡ true
+  either true y e f = absurd (cc f)
+  either false y e f = e
+
+  fork_apt : (u : Unix) → Calling s (world_of u) seen → AptSteps s seen (fork_if_room (has_room seen.board) u s)
+  fork_apt u i = by (is_full u || has_room seen.board (clicks_of (process_of u s).u)) refl
+    where
+      by : (x : Bool) → (is_full u || has_room seen.board (clicks_of (process_of u s).u)) ≡ x
+          → AptSteps s seen (cond x (forks u s) (no_room u))
+      by true e = forks_apt u i (either (is_full u) _ e)
+      by false e = roomless_apt s seen u []
+
+  call_apt : (u : Unix) (number : ℕ) (args : List ℕ) → Calling s (world_of u) seen
+      → AptSteps s seen (does_call (has_room seen.board) u s number args)
+  unfolding file_call process_call
+  call_apt u number args i =
+      if_apt (number == 0) _ _ (returns_apt s seen u i) (
+      if_apt (number == 1) _ _ (exits_apt s u seen i) (
+      if_apt (number == 2) _ _ (fork_apt u i)
+      (file_row_apt u args (file_call number) (process_call number) (λ c e. found_one IsCalm (λ (c : FileCall). c.number == number) file_calls c each_calm e)
+      (λ c e. found_one IsFine (λ (c : ProcessCall). c.number == number) process_calls c each_fine e) i)))
+
+  built_apt : (u : Unix) (count : Option ℕ) (number : ℕ) → Calling s (world_of u) seen
+      → AptSteps s seen (does_if_built (has_room seen.board) u s (asked (image_of (process_of u s)) (register (process_of u s) 7) number) count)
+  built_apt u None number i = unbuilt_apt s seen u []
+  built_apt u (Some count) number i =
+      let a = asked (image_of (process_of u s)) (register (process_of u s) 7) number in
+      call_apt (with_area u s (entered_area (words_passed a count))) a.number a.args
+      (kept_in u.processes u.clock s false seen (record (process_of u s) { u = entered_area (words_passed a count) (process_of u s).u }) i refl refl refl)
+
+  called_apt : (u : Unix) (number : ℕ) → Calling s (world_of u) seen
+      → AptSteps s seen (system_call (has_room seen.board) number u s)
+  called_apt u number i =
+      built_apt u (count_of (asked (image_of (process_of u s)) (register (process_of u s) 7) number).number) number i
+
+  -- its turn begins
+  begins : (u : Unix) → Paused (seats_of u) seen → (t : InTurn s (seats_of u) seen.board)
+      → InCall s t.seat.calling (seats_of u) seen
+  begins u p t =
+      record { going = p.going; agrees = busy_agrees s (seats_of u) seen.board p.agrees; turn = t; calls = refl }
+
+  -- no call is waited in any more
+  wakes : (u : Unix) → Paused (seats_of u) seen → (t : InTurn s (seats_of u) seen.board)
+      → Calling s (change (world_of u) s awake) seen
+  wakes u p t =
+      changed_in u.processes u.clock s t.seat.calling seen (awake (process_of u s)) (begins u p t)
+      (runner_alive u.processes u.clock s seen.board t) refl
+
+  -- a process goes on with its call
+  goes_on : (w : World) → Calling s (change w s awake) seen → FineComes s seen (resume_proc w s)
+  unfolding resume_proc
+  goes_on w i =
+      if_fine s seen _ _ _ (until_fine s seen (change w s awake) (until_of (world.process_of w s)) i)
+      (wait_fine s seen (change w s awake) i)
+
+  resumed_apt : (u : Unix) → Paused (seats_of u) seen → InTurn s (seats_of u) seen.board → AptSteps s seen (resumed u s)
+  resumed_apt u p t =
+      let old : UArea = record (process_of u s).u { pending = 0; call = replicate 8 0 } in
+      if_apt _ _ _ (did_apt s u seen t.seat.calling old _ (begins u p t) (record { «data» = refl; stack = refl }) refl (resume_calm (handed_of u (process_of u s)))) (
+      if_apt _ _ _ (came_apt s seen u (resume_proc (world_of u) s) (goes_on (world_of u) (wakes u p t)).fine)
+      (unbuilt_apt s seen u []))
+
+  -- another process that sits as this one did
+  pub same_seats : (processes : List (Option Process)) (clock : Clock) (p : Process)
+      → InTurn s (seats_in processes clock) seen.board
+      → seat_for p ≡ seat_for (found_in processes s)
+      → seats_in (set processes s (Some p)) clock ≡ seats_in processes clock
+  same_seats processes clock p t e =
+      let v : Seats = seats_in processes clock in
+      put_in processes clock s p ∙ ap (λ seat. with_seat v s (Some seat)) (e ∙ runner_seat processes clock s seen.board t)
+      ∙ ap (λ slots. record v { slots = slots }) (sym (seat_stays s v seen.board t))
+
+  -- an instruction of a process in user mode
+  instruction_apt : (u : Unix) → Paused (seats_of u) seen → InTurn s (seats_of u) seen.board
+      → is_user (process_of u s) ≡ true
+      → AptSteps s seen (instruction (has_room seen.board) u s)
+  unfolding Apt
+  instruction_apt u p t user = by step.outcome
+    where
+      step : Stepped
+      step = instr (machine_of (process_of u s))
+
+      now : Unix
+      now = with_process u s (with_machine (process_of u s) step.machine)
+
+      same : seats_of now ≡ seats_of u
+      same = same_seats u.processes u.clock (with_machine (process_of u s) step.machine) t refl
+
+      calls : t.seat.calling ≡ false
+      calls = ap (λ x. x.calling) (sym (runner_seat u.processes u.clock s seen.board t)) ∙ ap not user
+
+      i : Calling s (world_of now) seen
+      i = subst (λ v. InCall s false v seen) (sym same) (subst (λ c. InCall s c (seats_of u) seen) calls (begins u p t))
+
+      by : (o : Outcome) → AptSteps s seen (comes_to (has_room seen.board) now s o)
+      by outcome.Next = record { apt = λ pc b. subst (λ v. Paused v seen) (sym same) p }
+      by (outcome.Call number) = called_apt now number i
+      by (outcome.Fault kind) = unbuilt_apt s seen now []
+
+  user_apt : (u : Unix) → Paused (seats_of u) seen → InTurn s (seats_of u) seen.board
+      → AptSteps s seen (if is_user (process_of u s) then instruction (has_room seen.board) u s else resumed u s)
+  user_apt u p t = by (is_user (process_of u s)) refl
+    where
+      by : (x : Bool) → is_user (process_of u s) ≡ x
+          → AptSteps s seen (cond x (instruction (has_room seen.board) u s) (resumed u s))
+      by true e = instruction_apt u p t e
+      by false e = resumed_apt u p t
+
+-- the first turn is the exec of process 1
+first_apt : (s : ℕ) (seen : Seen) (u : Unix) → IsFresh (seats_of u) seen.board → Paused (seats_of u) seen
+    → InTurn s (seats_of u) seen.board → AptSteps s seen (exec_init u s)
+first_apt s seen u f p t = at s (fresh_runs s (seats_of u) seen.board f t) t
+  where
+    at : (r : ℕ) → r ≡ 1 → InTurn r (seats_of u) seen.board → AptSteps r seen (exec_init u r)
+    at r e k = subst (λ q. AptSteps q seen (exec_init u q)) (sym e) (init_apt u seen f (one (subst (λ q. InTurn q (seats_of u) seen.board) e k)))
+      where
+        one : InTurn 1 (seats_of u) seen.board → InCall 1 false (seats_of u) seen
+        one k =
+            record { going = p.going; agrees = busy_agrees 1 (seats_of u) seen.board p.agrees; turn = k; calls = fresh_calls 1 (seats_of u) seen.board f k }
+
+pub turn_apt : (s : ℕ) (seen : Seen) (u : Unix) (fresh : Bool) → (fresh ≡ true → IsFresh (seats_of u) seen.board)
+    → Paused (seats_of u) seen → InTurn s (seats_of u) seen.board
+    → AptSteps s seen (turn (record { unix = u; board = seen.board; is_fresh = fresh }) s)
+turn_apt s seen u true f p t = first_apt s seen u (f refl) p t
+turn_apt s seen u false f p t = user_apt s seen u p t
