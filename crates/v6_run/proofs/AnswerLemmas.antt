@@ -10,12 +10,12 @@ use Rattle.fs_codec.specs.Faults.{image_fault}
 use Rattle.fs_codec.specs.declared.fault.ImageFault as fault
 use Rattle.v6_run.specs.declared.image.TheConstants.{IMAGE_LIMIT}
 use Rattle.v6_run.specs.declared.status.Status.{Status}
-use Rattle.v6_run.specs.declared.status.Status.TheVariants.{Done, ReadFault, ImageFault, NoMemory}
+use Rattle.v6_run.specs.declared.status.Status.TheVariants.{Done, ReadFault, WriteFault, ImageFault, NoMemory}
 use Rattle.v6_run.specs.declared.files.ReadError.TheVariants as reading
 use Rattle.v6_run.specs.declared.image.ImageError.{ImageError}
 use Rattle.v6_run.specs.declared.image.ImageError.TheVariants as image
 use Rattle.v6_run.specs.Words.{Command}
-use Rattle.v6_run.specs.Status.{is_decided, has_written}
+use Rattle.v6_run.specs.Status.{is_decided, has_written, is_unfinished}
 use Rattle.v6_run.specs.Errors.{image_status}
 use Rattle.v6_run.specs.Causes.{IsCaused}
 use Rattle.v6_run.specs.Steps.{StopsImage}
@@ -30,6 +30,11 @@ not_so P is = absurd (cc)
 pub no_file : (s t : Status) → has_written s ≡ false → has_written t ≡ true → s ≡ t → ⊥
 no_file s t before after is = let both : has_written s ≡ true = ap has_written is ∙ after in cc
 
+written_by : (s : Status) → is_unfinished s ≡ true → has_written s ≡ true
+written_by Done is = refl
+written_by (WriteFault port) is = refl
+written_by _ is = is
+
 pub unwritten : (command : Command) (s : Status) (old new : Outside) → OnlyAt (is_named command) old new → may_end command s ≡ true → has_written s ≡ false
     → ((p : OutPort) → new.port (Out p) ≡ old.port (Out p)) → (s ≡ ReadFault in_port.Script → Tells old → IsImageGood (Some command) old.fixed)
     → (is_decided s ≡ true → Tells old → IsKnownAnd (command_completion command old.fixed) (IsComplete s old new)) → IsCaused (is_known (Some command) old.fixed) s old new
@@ -43,7 +48,7 @@ unwritten command s old new only ends before none order complete cause = record 
   order = order;
   none = λ _. none;
   closed = λ is. absurd (no_file s Done before refl is);
-  unfinished = λ pc is. absurd (no_file s _ before refl is);
+  unfinished = λ is. not_so _ (sym before ∙ written_by s is);
   cause = cause;
 }
 

@@ -1,11 +1,11 @@
 -- What any words are answered, with the report.
-use Rattle.std.proofs.Common.{◌≡◌, ◌≢◌, ℕ, zero, suc, Bool, true, false, if◌then◌else◌, Option, Some, None, is_some, IsSome, MatchOption, List, ◌++◌, refl, sym, ◌∙◌, ap, subst, Result, Ok, Err, IfOk, IsOkAnd, ◌⊎◌, inl, inr, ⊎_elim, eqb-true}
+use Rattle.std.proofs.Common.{◌≡◌, ◌≢◌, ℕ, Bool, true, false, if◌then◌else◌, Option, Some, None, is_some, IsSome, MatchOption, List, ◌++◌, refl, sym, ◌∙◌, ap, subst, Result, Ok, Err, IfOk, IsOkAnd, ◌⊎◌, inl, inr, ⊎_elim}
 use Rattle.std.specs.Option.{option_map}
 use Rattle.v6_port.specs.declared.host.InPort.{InPort}
 use Rattle.v6_port.specs.declared.host.InPort.TheVariants as in_port
 use Rattle.v6_port.specs.declared.host.OutPort.{OutPort}
 use Rattle.v6_port.specs.declared.host.OutPort.TheVariants as out_port
-use Rattle.v6_port.specs.Outside.{Port, In, Out, port_number, same, is_report, PortState, Outside, Tells, Rose, OnlyAt}
+use Rattle.v6_port.specs.Outside.{Port, Out, same, is_report, PortState, Outside, Tells, Rose, OnlyAt}
 use Rattle.v6_port.specs.Causes.{Calm, FaultAt}
 use Rattle.fs_check.specs.declared.counts.Tally.{Tally}
 use Rattle.v6_run.specs.declared.status.Status.{Status}
@@ -30,36 +30,10 @@ use Rattle.v6_run.specs.Report.{report, status_line, report_line, tally_line, an
 use Rattle.v6_run.specs.Causes.{IsCaused, IsFaultOf, IsFaultless, HasCause, MissesUnknown}
 use Rattle.v6_run.specs.Headline.{MaybeCompletion, Unknown, Known, IsKnownAnd, has_core_size, refused_by, words_completion, IsComplete, IsPartial, is_named, is_touched, reports_done, may_end, words_may_end, is_known}
 use Rattle.v6_run.specs.Answers.{Answers, AnswersWords, Reports}
-use Rattle.v6_run.proofs.CauseLemmas.{still_tells, only_then, only_within, left_false, right_false}
+use Rattle.v6_port.proofs.CauseLemmas.{same_is, still_tells, only_then}
+use Rattle.v6_run.proofs.CauseLemmas.{by_test, only_within, left_false, right_false}
 use Rattle.v6_run.proofs.FrontLemmas.{front_of_all}
 use Rattle.v6_run.proofs.AnswerLemmas.{not_so, no_file}
-
--- the port of a number
-port_at : ℕ → Port
-port_at zero = In in_port.Image
-port_at (suc zero) = In in_port.Script
-port_at (suc (suc zero)) = In in_port.Log
-port_at (suc (suc (suc zero))) = Out out_port.Term
-port_at (suc (suc (suc (suc zero)))) = Out out_port.Log
-port_at (suc (suc (suc (suc (suc zero))))) = Out out_port.Final
-port_at (suc (suc (suc (suc (suc (suc n)))))) = Out out_port.Report
-
-port_at-number : (p : Port) → port_at (port_number p) ≡ p
-unfolding port_at
-port_at-number (In in_port.Image) = refl
-port_at-number (In in_port.Script) = refl
-port_at-number (In in_port.Log) = refl
-port_at-number (Out out_port.Term) = refl
-port_at-number (Out out_port.Log) = refl
-port_at-number (Out out_port.Final) = refl
-port_at-number (Out out_port.Report) = refl
-
-same_is : (p q : Port) → same p q ≡ true → p ≡ q
-same_is p q is = sym (port_at-number p) ∙ ap port_at (eqb-true (port_number p) (port_number q) is) ∙ port_at-number q
-
-by_test : (b : Bool) (P : Type 0) → (b ≡ true → P) → (b ≡ false → P) → P
-by_test true P yes_it no_it = yes_it refl
-by_test false P yes_it no_it = no_it refl
 
 -- words are refused with one of two statuses
 refusal_is : (command : Option Command) (s : Status) (P : Status → Type 0) → refused_by command ≡ Some s → P Usage → P CoreSize → P s
@@ -143,6 +117,7 @@ module _ (done : List ℕ) where
   error_line (error.Run (run_error.Boot boot_error.Form)) = refl
   error_line (error.Run (run_error.Boot boot_error.NoMemory)) = refl
   error_line (error.Run (run_error.Write output.Term)) = refl
+  error_line (error.Run (run_error.Write output.Log)) = refl
   error_line (error.Run (run_error.Write output.Final)) = refl
   error_line (error.Run (run_error.NotBuilt place)) = refl
   error_line (error.Check e) = image_line e

@@ -1,7 +1,7 @@
 -- What has been written to the files of a run, step by step.
 use Rattle.std.proofs.Common.{◌≡◌, ◌<◌, ◌≤◌, ℕ, Bool, true, false, Option, Some, None, is_some, Result, Ok, Err, is_err, OnOk, MatchResult, List, [], ◌++◌, refl, sym, ◌∙◌, ap, subst}
 use Rattle.std.proofs.lemmas.List.{append-nil}
-use Rattle.v6_base.specs.Trace.{line_bytes}
+use Rattle.v6_base.specs.Trace.{line_bytes, text_of}
 use Rattle.v6_port.specs.declared.host.OutPort.{OutPort}
 use Rattle.v6_port.specs.declared.host.OutPort.TheVariants as out_port
 use Rattle.v6_port.specs.Outside.{Port, Out, same, PortState, Outside, Tells, OnlyAt}
@@ -17,12 +17,12 @@ use Rattle.unix_core.specs.Unix.{System, SystemOnDisk}
 use Rattle.unix_core.specs.Runs.{Course, finished}
 use Rattle.fs_laws.proofs.ImageLemmas.{block_of_image}
 use Rattle.v6_run.specs.declared.outputs.Output.{Output}
-use Rattle.v6_run.specs.declared.outputs.Output.TheVariants.{Term, Final}
-use Rattle.v6_run.specs.Ports.{term, final_of}
+use Rattle.v6_run.specs.declared.outputs.Output.TheVariants.{Final}
+use Rattle.v6_run.specs.Ports.{term, log_of, final_of, HasShown, HasShownFronts}
 use Rattle.v6_run.specs.Fronts.{HoldsFront, HoldsSome, HoldsFrontOfSome}
 use Rattle.v6_run.specs.Final.{IsFinal, disk_text}
-use Rattle.v6_run.specs.Outputs.{port_of, is_output, final_writes, run_writes, EndsRun, StopsRun}
-use Rattle.v6_run.proofs.CauseLemmas.{still_tells, calm_then, fault_then}
+use Rattle.v6_run.specs.Outputs.{port_of, is_shown, is_output, shown_by, final_writes, run_writes, EndsRun, StopsRun}
+use Rattle.v6_port.proofs.CauseLemmas.{still_tells, calm_then, fault_then}
 use Rattle.v6_run.proofs.FrontLemmas.{front_of_nothing, front_of_all}
 use Rattle.v6_run.proofs.FinalLemmas.{final_is, final_same}
 
@@ -43,37 +43,40 @@ pub stopped_opening : (first : Disk) (run : Course) (output : Output) (known : B
     → FaultAt (Out (port_of output)) known a b → StopsRun first run output known a b
 stopped_opening first run output known a b same_bytes fault = record { written = λ told p. nothing_of _ _ _ (same_bytes p); fault = fault }
 
-module _ (first : Disk) (run : Course) (a b c : Outside) (opens : OnlyAt is_output a b) (opened : (p : OutPort) → (b.port (Out p)).bytes ≡ (a.port (Out p)).bytes) (plays : OnlyAt (same (Out out_port.Term)) b c) where
+module _ (first : Disk) (run : Course) (a b c : Outside) (opens : OnlyAt is_output a b) (opened : (p : OutPort) → (b.port (Out p)).bytes ≡ (a.port (Out p)).bytes) (plays : OnlyAt is_shown b c) where
   tells_b : Tells a → Tells b
   tells_b told = still_tells _ _ _ opens told
 
   tells_c : Tells a → Tells c
   tells_c told = still_tells _ _ _ plays (tells_b told)
 
-  unplayed : (p : OutPort) → same (Out out_port.Term) (Out p) ≡ false → (c.port (Out p)).bytes ≡ (a.port (Out p)).bytes
+  unplayed : (p : OutPort) → is_shown (Out p) ≡ false → (c.port (Out p)).bytes ≡ (a.port (Out p)).bytes
   unplayed p other = ap (λ (state : PortState). state.bytes) (plays.others (Out p) other) ∙ opened p
 
   calm_c : Calm a b → Calm b c → Calm a c
   calm_c first_calm second = calm_then _ _ _ first_calm second
 
-  pub stopped_playing : (known : Bool) → (Tells b → HoldsFront (term b).bytes (line_bytes 0 run.items) (term c).bytes) → Calm a b → FaultAt (Out out_port.Term) true b c → StopsRun first run Term known a c
-  stopped_playing known front calm fault = record {
+  pub stopped_playing : (output : Output) (known : Bool) → (Tells b → HasShownFronts (shown_by run) b c) → Calm a b → FaultAt (Out (port_of output)) true b c → StopsRun first run output known a c
+  stopped_playing output known fronts calm fault = record {
     written = at;
     fault = fault_any _ known _ _ (fault_then _ _ a b c opens.fixed calm fault);
   } where
     at : Tells a → (p : OutPort) → HoldsFrontOfSome (run_writes first run p) (a.port (Out p)).bytes (c.port (Out p)).bytes
-    at told out_port.Term = record { text = line_bytes 0 run.items; fits = λ _. refl; front = subst (λ l. HoldsFront l (line_bytes 0 run.items) (term c).bytes) (opened out_port.Term) (front (tells_b told)) }
-    at told out_port.Log = nothing_of _ _ _ (unplayed out_port.Log refl)
+    at told out_port.Term = record { text = line_bytes 0 (shown_by run); fits = λ _. refl; front = subst (λ l. HoldsFront l (line_bytes 0 (shown_by run)) (term c).bytes) (opened out_port.Term) (fronts (tells_b told)).terminal }
+    at told out_port.Log = record { text = text_of (shown_by run); fits = λ _. refl; front = subst (λ l. HoldsFront l (text_of (shown_by run)) (log_of c).bytes) (opened out_port.Log) (fronts (tells_b told)).log }
     at told out_port.Final = nothing_of _ _ _ (unplayed out_port.Final refl)
     at told out_port.Report = nothing_of _ _ _ (unplayed out_port.Report refl)
 
-  module _ (shown : Tells b → (term c).bytes ≡ (term b).bytes ++ line_bytes 0 run.items) where
-    term_shown : Tells a → (term c).bytes ≡ (term a).bytes ++ line_bytes 0 run.items
-    term_shown told = shown (tells_b told) ∙ ap (λ l. l ++ line_bytes 0 run.items) (opened out_port.Term)
+  module _ (shown : Tells b → HasShown (shown_by run) b c) where
+    term_shown : Tells a → (term c).bytes ≡ (term a).bytes ++ line_bytes 0 (shown_by run)
+    term_shown told = (shown (tells_b told)).terminal ∙ ap (λ l. l ++ line_bytes 0 (shown_by run)) (opened out_port.Term)
+
+    log_shown : Tells a → (log_of c).bytes ≡ (log_of a).bytes ++ text_of (shown_by run)
+    log_shown told = (shown (tells_b told)).log ∙ ap (λ l. l ++ text_of (shown_by run)) (opened out_port.Log)
 
     pub came_to_unbuilt : (ending : Option Unbuilt) (place : Unbuilt) → ending ≡ Some place → ending ≡ run.ending → ((p : OutPort) → is_output (Out p) ≡ true → (b.port (Out p)).is_open ≡ true)
-        → (term c).is_open ≡ true → Calm a b → Calm b c → EndsRun first run ending a c
-    came_to_unbuilt ending place is ends open_b open_c calm calm_too = record {
+        → (term c).is_open ≡ true → (log_of c).is_open ≡ true → Calm a b → Calm b c → EndsRun first run ending a c
+    came_to_unbuilt ending place is ends open_b open_term open_log calm calm_too = record {
       ended = ends;
       written = at;
       is_open = λ p out. still p out ∙ sym (ap is_there is);
@@ -87,14 +90,14 @@ module _ (first : Disk) (run : Course) (a b c : Outside) (opens : OnlyAt is_outp
       no_disk = subst (λ e. final_writes first e run.system []) (sym is ∙ ends) refl
 
       at : Tells a → (p : OutPort) → HoldsSome (run_writes first run p) (a.port (Out p)).bytes (c.port (Out p)).bytes
-      at told out_port.Term = record { text = line_bytes 0 run.items; fits = refl; holds = term_shown told }
-      at told out_port.Log = empty_of _ _ _ refl (unplayed out_port.Log refl)
+      at told out_port.Term = record { text = line_bytes 0 (shown_by run); fits = refl; holds = term_shown told }
+      at told out_port.Log = record { text = text_of (shown_by run); fits = refl; holds = log_shown told }
       at told out_port.Final = empty_of _ _ _ no_disk (unplayed out_port.Final refl)
       at told out_port.Report = empty_of _ _ _ refl (unplayed out_port.Report refl)
 
       still : (p : OutPort) → is_output (Out p) ≡ true → (c.port (Out p)).is_open ≡ true
-      still out_port.Term out = open_c
-      still out_port.Log out = absurd (let no : false ≡ true = out in cc)
+      still out_port.Term out = open_term
+      still out_port.Log out = open_log
       still out_port.Final out = ap (λ (state : PortState). state.is_open) (plays.others (Out out_port.Final) refl) ∙ open_b out_port.Final refl
       still out_port.Report out = absurd (let no : false ≡ true = out in cc)
 
@@ -107,10 +110,10 @@ module _ (first : Disk) (run : Course) (a b c : Outside) (opens : OnlyAt is_outp
       unwritten_by p other = ap (λ (state : PortState). state.bytes) (writes.others (Out p) other)
 
       term_written : Tells a → HoldsSome (run_writes first run out_port.Term) (term a).bytes (term d).bytes
-      term_written told = record { text = line_bytes 0 run.items; fits = refl; holds = unwritten_by out_port.Term refl ∙ term_shown told }
+      term_written told = record { text = line_bytes 0 (shown_by run); fits = refl; holds = unwritten_by out_port.Term refl ∙ term_shown told }
 
-      log_written : HoldsSome (run_writes first run out_port.Log) (a.port (Out out_port.Log)).bytes (d.port (Out out_port.Log)).bytes
-      log_written = empty_of _ _ _ refl (unwritten_by out_port.Log refl ∙ unplayed out_port.Log refl)
+      log_written : Tells a → HoldsSome (run_writes first run out_port.Log) (log_of a).bytes (log_of d).bytes
+      log_written told = record { text = text_of (shown_by run); fits = refl; holds = unwritten_by out_port.Log refl ∙ log_shown told }
 
       report_written : HoldsSome (run_writes first run out_port.Report) (a.port (Out out_port.Report)).bytes (d.port (Out out_port.Report)).bytes
       report_written = empty_of _ _ _ refl (unwritten_by out_port.Report refl ∙ unplayed out_port.Report refl)
@@ -123,14 +126,14 @@ module _ (first : Disk) (run : Course) (a b c : Outside) (opens : OnlyAt is_outp
       } where
         at : Tells a → (p : OutPort) → HoldsFrontOfSome (run_writes first run p) (a.port (Out p)).bytes (d.port (Out p)).bytes
         at told out_port.Term = all_of _ _ _ (term_written told)
-        at told out_port.Log = all_of _ _ _ log_written
+        at told out_port.Log = all_of _ _ _ (log_written told)
         at told out_port.Final = record { text = text; fits = λ _. fits; front = subst (λ l. HoldsFront l text (final_of d).bytes) (unplayed out_port.Final refl) (front (tells_c told)) }
         at told out_port.Report = all_of _ _ _ report_written
 
       module _ (whole : Tells c → (final_of d).bytes ≡ (final_of c).bytes ++ text) (e : Outside) (finishes : (p : OutPort) → (e.port (Out p)).bytes ≡ (d.port (Out p)).bytes) where
         written_d : Tells a → (p : OutPort) → HoldsSome (run_writes first run p) (a.port (Out p)).bytes (d.port (Out p)).bytes
         written_d told out_port.Term = term_written told
-        written_d told out_port.Log = log_written
+        written_d told out_port.Log = log_written told
         written_d told out_port.Final = record { text = text; fits = fits; holds = whole (tells_c told) ∙ ap (λ l. l ++ text) (unplayed out_port.Final refl) }
         written_d told out_port.Report = report_written
 

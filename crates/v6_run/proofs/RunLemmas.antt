@@ -1,5 +1,5 @@
 -- What `run` answers, exit by exit.
-use Rattle.std.proofs.Common.{◌≡◌, ℕ, Bool, true, false, Option, Some, None, List, take, refl, sym, Result, Ok, Err, ◌∙◌, ap, subst}
+use Rattle.std.proofs.Common.{◌≡◌, ℕ, Bool, true, false, Option, Some, None, List, take, refl, sym, Ok, Err, ◌∙◌, ap, subst}
 use Rattle.std.specs.Option.{option_map}
 use Rattle.v6_port.specs.declared.host.InPort.TheVariants as in_port
 use Rattle.v6_port.specs.declared.host.OutPort.{OutPort}
@@ -10,7 +10,7 @@ use Rattle.v6_port.specs.Causes.{Calm}
 use Rattle.fs_codec.specs.Disk.{disk_of}
 use Rattle.fs_codec.specs.Faults.{image_fault}
 use Rattle.unix_core.specs.Unix.{System}
-use Rattle.unix_core.proofs.RunsLemmas.{IsAt, course_is}
+use Rattle.unix_core.proofs.RunsLemmas.{IsMet, course_is}
 use Rattle.unix_core.specs.Runs.{Course, started, boots, course}
 use Rattle.v6_run.specs.declared.image.TheConstants.{IMAGE_LIMIT}
 use Rattle.v6_run.specs.declared.run.TheConstants.{SCRIPT_LIMIT}
@@ -42,7 +42,8 @@ use Rattle.v6_run.specs.Steps.{StopsReading, StopsImage, RefusesScript, RefusesI
 use Rattle.v6_run.specs.Headline.{Known, IsKnownAnd, ends_with, course_completion, boot_completion, events_completion, lines_completion, bytes_completion, script_completion, fault_completion, image_completion, command_completion, IsComplete, IsPartial, status_at, is_named, may_end, run_knows, is_known}
 use Rattle.v6_run.specs.Answers.{Answers, HasFiles}
 use Rattle.v6_run.proofs.ImageLemmas.{fault_given}
-use Rattle.v6_run.proofs.CauseLemmas.{still_tells, only_then, calm_then, fault_then, fault_known, only_within, names_image, names_script, names_outputs}
+use Rattle.v6_port.proofs.CauseLemmas.{still_tells, only_then, calm_then, fault_then}
+use Rattle.v6_run.proofs.CauseLemmas.{fault_known, only_within, names_image, names_script, names_outputs}
 use Rattle.v6_run.proofs.AnswerLemmas.{not_so, unwritten, complete_unwritten, image_stops}
 
 -- the image could not be read, or has a fault
@@ -96,25 +97,28 @@ completion_is core (Some i) (Some s) image bytes image_is good script_is =
     ap (λ l. fault_completion (image_fault l) (Known (bytes_completion l core (take SCRIPT_LIMIT s)))) same_image
     ∙ ap (λ f. fault_completion f (Known (bytes_completion image core (take SCRIPT_LIMIT s)))) good ∙ ap (λ l. Known (bytes_completion image core l)) same_script
 
-begun_at : (ended : Option Unbuilt) → IsAt ended → has_written (status_at ended) ≡ true
-begun_at None at = refl
-begun_at (Some unbuilt.Image) at = absurd at
-begun_at (Some (unbuilt.Line n)) at = absurd at
-begun_at (Some (unbuilt.At pc)) at = refl
+has_begun : (ended : Option Unbuilt) → IsMet ended → has_written (status_at ended) ≡ true
+has_begun None met = refl
+has_begun (Some unbuilt.Image) met = absurd met
+has_begun (Some (unbuilt.Line n)) met = absurd met
+has_begun (Some (unbuilt.At pc)) met = refl
+has_begun (Some unbuilt.Room) met = refl
 
 -- the files that `run` writes are those for writing that its words name
 named_output : (words : RunWords) (p : OutPort) → is_named (Run words) (Out p) ≡ true → is_output (Out p) ≡ true
 named_output words out_port.Term named = refl
-named_output words out_port.Log named = not_so _ named
+named_output words out_port.Log named = refl
 named_output words out_port.Final named = refl
 named_output words out_port.Report named = not_so _ named
 
 may_stop : (words : RunWords) (output : Output) → may_end (Run words) (WriteFault (port_of output)) ≡ true
 may_stop words file.Term = refl
+may_stop words file.Log = refl
 may_stop words file.Final = refl
 
 not_report : (output : Output) → WriteFault (port_of output) ≡ WriteFault out_port.Report → ⊥
 not_report file.Term is = cc
+not_report file.Log is = cc
 not_report file.Final is = cc
 
 module _ (words : RunWords) (image bytes : List ℕ) (old middle : Outside) (files : HasFiles words image bytes old middle) where
@@ -163,8 +167,8 @@ module _ (words : RunWords) (image bytes : List ℕ) (old middle : Outside) (fil
       run_completion : Tells old → command_completion (Run words) old.fixed ≡ Known (course_completion image run)
       run_completion told = run_is told ∙ ap Known (boots_as (Some system) boots_is)
 
-      run_is_at : IsAt run.ending
-      run_is_at = course_is (started system) (events_of events) tt
+      run_is_met : IsMet run.ending
+      run_is_met = course_is (started system) (events_of events) tt
 
       only_run : OnlyAt (is_named (Run words)) old new
       only_run = only_then _ _ _ _ files.only (only_within _ _ _ _ (names_outputs words) only)
@@ -177,6 +181,22 @@ module _ (words : RunWords) (image bytes : List ℕ) (old middle : Outside) (fil
             (ends.written (still_tells _ _ _ files.only told) p);
       })
 
+      -- before its last event it came to what isn't built
+      unbuilt_at : (place : Unbuilt) → has_written (NotBuilt place) ≡ true
+          → EndsRun (disk_of image) run (Some place) middle new → Answers (Run words) (NotBuilt place) old new
+      unbuilt_at place begun ends = record {
+        only = only_run;
+        ends = refl;
+        unreported = λ is. cc;
+        complete = λ _. run_complete (Some place) ends;
+        partial = λ p is. absurd (cc);
+        order = λ is. absurd (cc);
+        none = λ before. not_so _ (sym before ∙ begun);
+        closed = λ is. absurd (cc);
+        unfinished = λ _ p named. ends.is_open p (named_output words p named);
+        cause = calm_then _ _ _ files.calm ends.calm;
+      }
+
       pub run_ended : (ended : Option Unbuilt) → EndsRun (disk_of image) run ended middle new → Answers (Run words) (status_at ended) old new
       run_ended None ends = record {
         only = only_run;
@@ -187,28 +207,18 @@ module _ (words : RunWords) (image bytes : List ℕ) (old middle : Outside) (fil
         order = λ is. absurd (cc);
         none = λ before. not_so _ (sym before);
         closed = λ _ p named. ends.is_open p (named_output words p named);
-        unfinished = λ pc is. absurd (cc);
+        unfinished = λ is. not_so _ is;
         cause = calm_then _ _ _ files.calm ends.calm;
       }
-      run_ended (Some unbuilt.Image) ends = absurd (subst IsAt (sym ends.ended) run_is_at)
-      run_ended (Some (unbuilt.Line n)) ends = absurd (subst IsAt (sym ends.ended) run_is_at)
-      run_ended (Some (unbuilt.At pc)) ends = record {
-        only = only_run;
-        ends = refl;
-        unreported = λ is. cc;
-        complete = λ _. run_complete (Some (unbuilt.At pc)) ends;
-        partial = λ p is. absurd (cc);
-        order = λ is. absurd (cc);
-        none = λ before. not_so _ (sym before);
-        closed = λ is. absurd (cc);
-        unfinished = λ _ _ p named. ends.is_open p (named_output words p named);
-        cause = calm_then _ _ _ files.calm ends.calm;
-      }
+      run_ended (Some unbuilt.Image) ends = absurd (subst IsMet (sym ends.ended) run_is_met)
+      run_ended (Some (unbuilt.Line n)) ends = absurd (subst IsMet (sym ends.ended) run_is_met)
+      run_ended (Some (unbuilt.At pc)) ends = unbuilt_at (unbuilt.At pc) refl ends
+      run_ended (Some unbuilt.Room) ends = unbuilt_at unbuilt.Room refl ends
 
       run_partial : (output : Output) (known : Bool) → StopsRun (disk_of image) run output known middle new → Tells old
           → IsKnownAnd (command_completion (Run words) old.fixed) (IsPartial old new)
       run_partial output known stops told = subst (λ m. IsKnownAnd m (IsPartial old new)) (sym (run_completion told)) (record {
-        begun = begun_at run.ending run_is_at;
+        begun = has_begun run.ending run_is_met;
         written = λ p _. subst (λ (state : PortState). HoldsFrontOfSome (run_writes (disk_of image) run p) state.bytes (new.port (Out p)).bytes) (files.none p)
             (stops.written (still_tells _ _ _ files.only told) p);
       })
@@ -227,6 +237,6 @@ module _ (words : RunWords) (image bytes : List ℕ) (old middle : Outside) (fil
             order = λ is. absurd (cc);
             none = λ before. not_so _ (sym before);
             closed = λ is. absurd (cc);
-            unfinished = λ pc is. absurd (cc);
+            unfinished = λ is. not_so _ is;
             cause = fault_known (Out (port_of output)) _ _ old new known (fault_then _ _ old middle new files.only.fixed files.calm stops.fault);
           }

@@ -1,54 +1,67 @@
--- What a host's terminal has got of what a run shows.
-use Rattle.std.proofs.Common.{◌≡◌, ℕ, false, Option, Some, None, is_some, List, [], ◌++◌, refl, sym, ◌∙◌, ap, subst, append_assoc}
+-- What a host's terminal and log have got of what a run shows.
+use Rattle.std.proofs.Common.{◌≡◌, ℕ, false, is_some, List, [], ◌++◌, sym, ◌∙◌, ap, subst, append_assoc}
 use Rattle.std.proofs.lemmas.List.{append-nil, append_cancel_left}
-use Rattle.std.specs.Option.{option_to_list}
-use Rattle.v6_base.specs.Trace.{Item, Took, line_bytes}
-use Rattle.v6_base.proofs.Took.{line_bytes-append}
+use Rattle.v6_base.specs.Trace.{Item, Took, line_bytes, text_of}
+use Rattle.v6_base.proofs.Took.{line_bytes-append, text_of-append}
 use Rattle.v6_port.specs.Outside.{Outside, Tells}
 use Rattle.v6_run.specs.Fronts.{HoldsFront}
-use Rattle.v6_run.specs.Ports.{term, taken_of, Goes}
+use Rattle.v6_run.specs.declared.ports.Kept.{Kept}
+use Rattle.v6_run.specs.declared.ports.Kept.TheVariants.{Nothing}
+use Rattle.v6_run.specs.Ports.{term, log_of, failed_output, kept_byte, kept_text, taken_of, Extends, Goes, HasShown, HasShownFronts}
+use Rattle.v6_run.proofs.PortLemmas.{no_byte, no_text}
 
-module _ (old new : Outside) (kept : Option ℕ) (items : List Item) (took : Took (taken_of old None) items (taken_of new kept)) (goes : Goes old None new kept) (told : Tells old) where
-  -- what was written, with the byte that was kept
-  taken_bytes : (term new).bytes ++ option_to_list kept ≡ (term old).bytes ++ line_bytes 0 took.part
+-- What was written with what was kept is what was taken: so what was written is a front of it all.
+front_written : (old new kept part rest all : List ℕ) → Extends old new → new ++ kept ≡ old ++ part → all ≡ part ++ rest → HoldsFront old all new
+front_written old new kept part rest all more taken split =
+    let whole : more.more ++ kept ≡ part = append_cancel_left old _ _ (sym (append_assoc old more.more kept) ∙ ap (λ l. l ++ kept) (sym more.is) ∙ taken) in
+    record {
+      part = more.more;
+      rest = kept ++ rest;
+      split = split ∙ ap (λ l. l ++ rest) (sym whole) ∙ append_assoc more.more kept rest;
+      holds = more.is;
+    }
+
+-- and where nothing is kept, and nothing left, it is it all
+all_written : (old new kept part rest all : List ℕ) → kept ≡ [] → rest ≡ [] → new ++ kept ≡ old ++ part → all ≡ part ++ rest → new ≡ old ++ all
+all_written old new kept part rest all none whole taken split =
+    sym (append-nil new) ∙ ap (λ l. new ++ l) (sym none) ∙ taken ∙ ap (λ l. old ++ l) (sym (append-nil part) ∙ ap (λ l. part ++ l) (sym whole) ∙ sym split)
+
+module _ (old new : Outside) (kept : Kept) (items : List Item) (took : Took (taken_of old Nothing) items (taken_of new kept)) (goes : Goes old Nothing new kept) (told : Tells old) where
+  taken_bytes : (term new).bytes ++ kept_byte kept ≡ (term old).bytes ++ line_bytes 0 took.part
   taken_bytes = took.holds.bytes told 0 ∙ ap (λ l. l ++ line_bytes 0 took.part) (append-nil (term old).bytes)
 
-  pub front_shown : HoldsFront (term old).bytes (line_bytes 0 items) (term new).bytes
-  front_shown =
-      let more = goes.grows told in
-      let part : more.more ++ option_to_list kept ≡ line_bytes 0 took.part =
-      append_cancel_left (term old).bytes _ _ (sym (append_assoc (term old).bytes more.more (option_to_list kept)) ∙ ap (λ l. l ++ option_to_list kept) (sym more.is) ∙ taken_bytes) in
-      record {
-        part = more.more;
-        rest = option_to_list kept ++ line_bytes 0 took.rest;
-        split = ap (line_bytes 0) took.split ∙ line_bytes-append 0 took.part took.rest ∙ ap (λ l. l ++ line_bytes 0 took.rest) (sym part)
-            ∙ append_assoc more.more (option_to_list kept) (line_bytes 0 took.rest);
-        holds = more.is;
-      }
+  taken_text : (log_of new).bytes ++ kept_text kept ≡ (log_of old).bytes ++ text_of took.part
+  taken_text = took.holds.text told ∙ ap (λ l. l ++ text_of took.part) (append-nil (log_of old).bytes)
 
-  whole_part : took.rest ≡ [] → line_bytes 0 took.part ≡ line_bytes 0 items
-  whole_part none = ap (line_bytes 0) (sym (append-nil took.part) ∙ ap (λ l. took.part ++ l) (sym none) ∙ sym took.split)
+  bytes_split : line_bytes 0 items ≡ line_bytes 0 took.part ++ line_bytes 0 took.rest
+  bytes_split = ap (line_bytes 0) took.split ∙ line_bytes-append 0 took.part took.rest
 
-  no_bytes : (k : Option ℕ) → is_some k ≡ false → option_to_list k ≡ []
-  no_bytes None uncut = refl
-  no_bytes (Some byte) uncut = cc
+  text_split : text_of items ≡ text_of took.part ++ text_of took.rest
+  text_split = ap text_of took.split ∙ text_of-append took.part took.rest
 
-  pub all_shown : is_some kept ≡ false → (term new).bytes ≡ (term old).bytes ++ line_bytes 0 items
-  all_shown uncut =
-      sym (append-nil (term new).bytes) ∙ ap (λ l. (term new).bytes ++ l) (sym (no_bytes kept uncut)) ∙ taken_bytes
-      ∙ ap (λ l. (term old).bytes ++ l) (whole_part (took.whole uncut))
+  pub fronts_shown : HasShownFronts items old new
+  fronts_shown = record {
+    terminal = front_written _ _ _ _ _ _ (goes.terminal.bytes told) taken_bytes bytes_split;
+    log = front_written _ _ _ _ _ _ (goes.log.bytes told) taken_text text_split;
+  }
+
+  pub all_shown : is_some (failed_output kept) ≡ false → HasShown items old new
+  all_shown uncut = record {
+    terminal = all_written _ _ _ _ _ _ (no_byte kept uncut) (ap (line_bytes 0) (took.whole uncut)) taken_bytes bytes_split;
+    log = all_written _ _ _ _ _ _ (no_text kept uncut) (ap text_of (took.whole uncut)) taken_text text_split;
+  }
 
 -- the same, where the trace began as one over the host at hand
-module _ (old start new : Outside) (start_kept kept : Option ℕ) (items : List Item) (same_start : start ≡ old) (fresh : start_kept ≡ None)
+module _ (old start new : Outside) (start_kept kept : Kept) (items : List Item) (same_start : start ≡ old) (fresh : start_kept ≡ Nothing)
     (took : Took (taken_of start start_kept) items (taken_of new kept)) (goes : Goes start start_kept new kept) where
-  took_all : Took (taken_of old None) items (taken_of new kept)
-  took_all = subst (λ s. Took (taken_of s None) items (taken_of new kept)) same_start (subst (λ k. Took (taken_of start k) items (taken_of new kept)) fresh took)
+  took_all : Took (taken_of old Nothing) items (taken_of new kept)
+  took_all = subst (λ s. Took (taken_of s Nothing) items (taken_of new kept)) same_start (subst (λ k. Took (taken_of start k) items (taken_of new kept)) fresh took)
 
-  goes_all : Goes old None new kept
-  goes_all = subst (λ s. Goes s None new kept) same_start (subst (λ k. Goes start k new kept) fresh goes)
+  goes_all : Goes old Nothing new kept
+  goes_all = subst (λ s. Goes s Nothing new kept) same_start (subst (λ k. Goes start k new kept) fresh goes)
 
-  pub front_from : Tells old → HoldsFront (term old).bytes (line_bytes 0 items) (term new).bytes
-  front_from = front_shown old new kept items took_all goes_all
+  pub fronts_from : Tells old → HasShownFronts items old new
+  fronts_from = fronts_shown old new kept items took_all goes_all
 
-  pub all_from : is_some kept ≡ false → Tells old → (term new).bytes ≡ (term old).bytes ++ line_bytes 0 items
+  pub all_from : is_some (failed_output kept) ≡ false → Tells old → HasShown items old new
   all_from uncut told = all_shown old new kept items took_all goes_all told uncut

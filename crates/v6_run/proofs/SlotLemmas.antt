@@ -1,14 +1,16 @@
 -- A run over a part of its events, then over the next ones.
-use Rattle.std.proofs.Common.{◌≡◌, ◌<◌, ◌≤◌, ◌+◌, ◌-◌, ℕ, Option, Some, None, List, [], ◌∷◌, ◌++◌, refl, sym, ◌∙◌, ap, subst, replicate, arith}
+use Rattle.std.proofs.Common.{◌≡◌, ◌<◌, ◌+◌, ◌-◌, ℕ, false, Option, Some, None, is_some, List, [], ◌∷◌, ◌++◌, refl, sym, ◌∙◌, ap, subst, replicate, arith}
 use Rattle.std.proofs.lemmas.Grind.{replicate_next}
-use Rattle.std.proofs.lemmas.List.{replicate-append-replicate, append-nil}
-use Rattle.v6_base.specs.Trace.{Taken, Took}
+use Rattle.std.proofs.lemmas.List.{replicate-append-replicate}
+use Rattle.v6_base.specs.declared.entry.Entry.TheVariants.{End}
+use Rattle.v6_base.specs.Trace.{Item, Taken, Took, Log}
 use Rattle.v6_base.proofs.Took.{took_none, took_then}
 use Rattle.unix_core.specs.declared.turned.Unbuilt.{Unbuilt}
 use Rattle.unix_core.specs.Unix.{System}
 use Rattle.unix_core.specs.Runs.{Event, Slot, Course, begun, started, start_of, event_of, course}
 use Rattle.unix_core.proofs.RunsLemmas.{course_joined, course_last}
 use Rattle.v6_run.specs.Courses.{HasRun}
+use Rattle.v6_run.specs.Outputs.{end_items, shown_by}
 
 pub run_none : (m : System) (t : Taken) → HasRun (begun m) [] None m t t
 run_none m t = record { ends = refl; system_is = refl; items = took_none t }
@@ -56,3 +58,11 @@ run_as c next ending a b xs ys is run = subst (λ l. HasRun c l ending next a b)
 
 pub ends_as : (c : Course) (next : System) (e f : Option Unbuilt) (a b : Taken) (xs : List Event) → e ≡ f → HasRun c xs e next a b → HasRun c xs f next a b
 ends_as c next e f a b xs is run = subst (λ o. HasRun c xs o next a b) is run
+
+-- What a run has shown that has come to its end, and then the last line of the log.
+pub shown_ended : (c : Course) (m : System) (ending : Option Unbuilt) (a b d : Taken) (xs : List Event)
+    → is_some ending ≡ false → HasRun c xs ending m a b → Took b (Log End ∷ []) d → Took a (shown_by (course c xs)) d
+shown_ended c m None a b d xs none run last =
+    let items : List Item = (course c xs).items in
+    took_then a b d items (Log End ∷ []) _ run.items last (ap (λ e. items ++ end_items e) run.ends)
+shown_ended c m (Some place) a b d xs none run last = absurd (cc)

@@ -1,12 +1,14 @@
 -- What a command answers and writes, from its words and the bytes of its files, in the order of docs/manual/commands.md: the
 -- words, the size of core, the image's first fault, the script's first fault and its first line that isn't built, the form of the
 -- image, and the run.
-use Rattle.std.specs.Prelude.{◌≡◌, ℕ, Bool, true, false, not, Option, Some, None, IsSomeAnd, List, [], take, nat_le, ◌&&◌, ◌||◌, if◌then◌else◌, Result, Ok, Err}
+use Rattle.std.specs.Prelude.{◌≡◌, ◌≤◌, ℕ, Bool, true, false, not, Option, Some, None, IsSomeAnd, List, [], take, nat_le, ◌&&◌, ◌||◌, if◌then◌else◌, Result, Ok, Err}
 use Rattle.v6_port.specs.declared.host.InPort.TheVariants as in_port
 use Rattle.v6_port.specs.declared.host.OutPort.{OutPort}
 use Rattle.v6_port.specs.declared.host.OutPort.TheVariants as out_port
 use Rattle.v6_port.specs.Outside.{Port, In, Out, same, is_report, Environment, Outside}
 use Rattle.v6_port.specs.Calls.{is_given, is_expected}
+use Rattle.v6_base.specs.Trace.{entries_of}
+use Rattle.pick_rules.specs.Lawful.{Lawful}
 use Rattle.fs_codec.specs.declared.fault.ImageFault.{ImageFault}
 use Rattle.fs_codec.specs.Disk.{disk_of}
 use Rattle.fs_codec.specs.Faults.{image_fault}
@@ -17,6 +19,7 @@ use Rattle.script_text.specs.declared.script.Event.{Event}
 use Rattle.script_text.specs.Script.{script_of, signal_line_of}
 use Rattle.make_image.specs.Image.{build_of}
 use Rattle.unix_core.specs.Runs.{Course, runs}
+use Rattle.unix_core.specs.Runs as kernel
 use Rattle.v6_run.specs.declared.image.TheConstants.{IMAGE_LIMIT}
 use Rattle.v6_run.specs.declared.run.TheConstants.{SCRIPT_LIMIT}
 use Rattle.v6_run.specs.declared.status.Status.{Status}
@@ -27,7 +30,7 @@ use Rattle.v6_run.specs.Words.{RunWords, Command, Run, Check, Make}
 use Rattle.v6_run.specs.Events.{events_of}
 use Rattle.v6_run.specs.Status.{has_written}
 use Rattle.v6_run.specs.Fronts.{HoldsSome, HoldsFrontOfSome, exactly}
-use Rattle.v6_run.specs.Outputs.{is_output, run_writes}
+use Rattle.v6_run.specs.Outputs.{is_output, shown_by, run_writes}
 use Rattle.v6_run.specs.Report.{store_line}
 
 abbrev pub is_core_size : ℕ → Bool
@@ -69,7 +72,7 @@ abbrev pub status_at : Option Unbuilt → Status
 status_at None = status.Done
 status_at (Some place) = status.NotBuilt place
 
--- the terminal gets what the run shows, and FINAL the disk that it leaves
+-- the terminal and LOG get what the run shows, and FINAL the disk that it leaves
 abbrev pub course_completion : List ℕ → Course → Completion
 course_completion image c = record { status = status_at c.ending; writes = run_writes (disk_of image) c }
 
@@ -123,6 +126,12 @@ done_line None fixed = []
 done_line (Some (Run words)) fixed = []
 done_line (Some (Check image)) fixed = image_line (fixed.given image)
 done_line (Some (Make number final)) fixed = []
+
+-- Each log of a run that comes to the end of its script is lawful: for every image, size of core and list of events.
+abbrev pub LogsAreLawful : Type 0
+LogsAreLawful =
+    (image : List ℕ) (core : ℕ) (events : List kernel.Event) (c : Course) → 64 ≤ core → core ≤ 3968
+    → runs image core events ≡ Some c → c.ending ≡ None → Lawful (entries_of (shown_by c))
 
 -- The command is complete: the status is its, and each file has got all of a text that may be written to it.
 pub record IsComplete (s : Status) (old new : Outside) (completion : Completion) : Type 0 where
@@ -185,6 +194,7 @@ abbrev pub run_knows : RunWords → Environment → Port → Bool
 run_knows words fixed (In in_port.Image) = is_given (fixed.given words.image)
 run_knows words fixed (In in_port.Script) = is_given (fixed.given words.script)
 run_knows words fixed (Out out_port.Term) = is_expected (fixed.expects out_port.Term) words.term
+run_knows words fixed (Out out_port.Log) = is_expected (fixed.expects out_port.Log) words.log
 run_knows words fixed (Out out_port.Final) = is_expected (fixed.expects out_port.Final) words.final_disk
 run_knows words fixed _ = true
 

@@ -6,6 +6,7 @@ pub mod Steps
 pub mod Fronts
 pub mod Report
 pub mod Ports
+pub mod PortLaws
 pub mod Events
 pub mod Clocks
 pub mod Courses

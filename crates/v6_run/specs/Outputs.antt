@@ -1,6 +1,8 @@
--- The files that `run` writes, by docs/manual/commands.md: what the terminal shows, and the disk at the end.
-use Rattle.std.specs.Prelude.{◌≡◌, ℕ, Bool, true, Option, Some, None, is_some, List, [], ◌||◌}
-use Rattle.v6_base.specs.Trace.{line_bytes}
+-- The files that `run` writes, by docs/manual/commands.md: what the terminal shows, the log, and the disk at the end.
+use Rattle.std.specs.Prelude.{◌≡◌, ℕ, Bool, true, Option, Some, None, is_some, List, [], ◌∷◌, ◌++◌, ◌||◌}
+use Rattle.v6_base.specs.declared.entry.Entry.TheVariants.{End}
+use Rattle.v6_base.specs.Trace as trace
+use Rattle.v6_base.specs.Trace.{Item, line_bytes, text_of}
 use Rattle.v6_port.specs.declared.host.OutPort.{OutPort}
 use Rattle.v6_port.specs.declared.host.OutPort.TheVariants as out_port
 use Rattle.v6_port.specs.Outside.{Port, Out, same, Outside, Tells}
@@ -10,16 +12,30 @@ use Rattle.unix_core.specs.declared.turned.Unbuilt.{Unbuilt}
 use Rattle.unix_core.specs.Unix.{System}
 use Rattle.unix_core.specs.Runs.{Course, finished}
 use Rattle.v6_run.specs.declared.outputs.Output.{Output}
-use Rattle.v6_run.specs.declared.outputs.Output.TheVariants.{Term, Final}
+use Rattle.v6_run.specs.declared.outputs.Output.TheVariants.{Term, Log, Final}
 use Rattle.v6_run.specs.Fronts.{HoldsSome, HoldsFrontOfSome, exactly}
 use Rattle.v6_run.specs.Final.{IsFinal}
 
 abbrev pub port_of : Output → OutPort
 port_of Term = out_port.Term
+port_of Log = out_port.Log
 port_of Final = out_port.Final
 
+-- what a run shows goes to these while it runs
+abbrev pub is_shown : Port → Bool
+is_shown q = same (Out out_port.Term) q || same (Out out_port.Log) q
+
 abbrev pub is_output : Port → Bool
-is_output q = same (Out out_port.Term) q || same (Out out_port.Final) q
+is_output q = is_shown q || same (Out out_port.Final) q
+
+-- the last line of the log, where a run has come to its end; one that came to what isn't built shows nothing more
+abbrev pub end_items : Option Unbuilt → List Item
+end_items None = trace.Log End ∷ []
+end_items (Some place) = []
+
+-- all that a run shows
+abbrev pub shown_by : Course → List Item
+shown_by c = c.items ++ end_items c.ending
 
 -- a run that has come to its end leaves its disk, and one that came to what isn't built nothing
 abbrev pub final_writes : Disk → Option Unbuilt → System → List ℕ → Type 0
@@ -28,8 +44,8 @@ final_writes first (Some place) m = exactly []
 
 -- the texts that a run from a disk may write to each port
 abbrev pub run_writes : Disk → Course → OutPort → List ℕ → Type 0
-run_writes first c out_port.Term = exactly (line_bytes 0 c.items)
-run_writes first c out_port.Log = exactly []
+run_writes first c out_port.Term = exactly (line_bytes 0 (shown_by c))
+run_writes first c out_port.Log = exactly (text_of (shown_by c))
 run_writes first c out_port.Final = final_writes first c.ending c.system
 run_writes first c out_port.Report = exactly []
 

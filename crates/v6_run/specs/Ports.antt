@@ -1,92 +1,83 @@
--- The terminal's port of a host as a trace of what a run shows.
-use Rattle.std.specs.Prelude.{◌≡◌, ℕ, true, false, Option, Some, None, is_some, option_to_list, List, [], ◌++◌, ◌==◌, if◌then◌else◌, refl}
-use Rattle.std.proofs.Common.{sym, ◌∙◌, ap, subst, append_assoc}
-use Rattle.std.proofs.lemmas.List.{append-nil}
-use Rattle.v6_base.specs.Trace.{Taken}
-use Rattle.v6_port.specs.declared.host.OutPort.TheVariants.{Term, Final}
-use Rattle.v6_port.specs.Outside.{Out, same, PortState, Environment, Outside, Tells, Rose, OnlyAt}
+-- The ports of a host as a trace of what a run shows: the terminal's bytes go to Term, and the lines of the log to Log.
+use Rattle.std.specs.Prelude.{◌≡◌, ℕ, true, false, Option, Some, None, is_some, MatchOption, List, [], ◌∷◌, ◌++◌, ◌==◌, if◌then◌else◌}
+use Rattle.v6_base.specs.Trace.{Taken, Item, line_bytes, text_of}
+use Rattle.v6_port.specs.declared.host.OutPort.TheVariants as out_port
+use Rattle.v6_port.specs.Outside.{Out, PortState, Outside, Tells, OnlyAt}
+use Rattle.v6_port.specs.Causes.{Calm, FaultAt}
+use Rattle.v6_run.specs.declared.outputs.Output.{Output}
+use Rattle.v6_run.specs.declared.outputs.Output.TheVariants.{Term, Log}
+use Rattle.v6_run.specs.declared.ports.Kept.{Kept}
+use Rattle.v6_run.specs.declared.ports.Kept.TheVariants as kept
+use Rattle.v6_run.specs.Fronts.{HoldsFront}
+use Rattle.v6_run.specs.Outputs.{port_of, is_shown}
 
 abbrev pub term : Outside → PortState
-term o = o.port (Out Term)
+term o = o.port (Out out_port.Term)
+
+abbrev pub log_of : Outside → PortState
+log_of o = o.port (Out out_port.Log)
 
 abbrev pub final_of : Outside → PortState
-final_of o = o.port (Out Final)
+final_of o = o.port (Out out_port.Final)
+
+-- which write has failed, where one has
+abbrev pub failed_output : Kept → Option Output
+failed_output kept.Nothing = None
+failed_output (kept.Byte byte) = Some Term
+failed_output (kept.Line rest) = Some Log
+
+-- the byte that could not be written
+abbrev pub kept_byte : Kept → List ℕ
+kept_byte (kept.Byte byte) = byte ∷ []
+kept_byte _ = []
+
+-- what was not written of a line
+abbrev pub kept_text : Kept → List ℕ
+kept_text (kept.Line rest) = rest.items
+kept_text _ = []
 
 -- these bytes are those of line 0
 abbrev pub of_line_0 : List ℕ → ℕ → List ℕ
 of_line_0 bytes line = if 0 == line then bytes else []
 
--- What has been taken are the bytes of line 0: those written to Term and, after them, the one that is kept because its writing
--- failed. With that the trace is cut. Of the log nothing is told yet.
-abbrev pub taken_of : Outside → Option ℕ → Taken
-taken_of o kept = record {
-  cut = is_some kept;
+-- What has been taken are the bytes of line 0, those written to Term, and the text of the log, what was written to Log: each
+-- with the byte, or the rest of the line, that is kept because its writing failed. With that the trace is cut.
+abbrev pub taken_of : Outside → Kept → Taken
+taken_of o k = record {
+  cut = is_some (failed_output k);
   tells_bytes = o.fixed.tells;
-  bytes = of_line_0 ((term o).bytes ++ option_to_list kept);
+  bytes = of_line_0 ((term o).bytes ++ kept_byte k);
   tells_entries = false;
   entries = [];
-  tells_text = false;
-  text = [];
+  tells_text = o.fixed.tells;
+  text = (log_of o).bytes ++ kept_text k;
 }
 
 pub record Extends (old new : List ℕ) : Type 0 where
   pub more : List ℕ
   pub is : new ≡ old ++ more
 
--- What stays while bytes go out: only Term changes; its faults stay until one rose and cut the trace, and then nothing changes.
-pub record Goes (a : Outside) (a_kept : Option ℕ) (b : Outside) (b_kept : Option ℕ) : Type 0 where
-  pub only : OnlyAt (same (Out Term)) a b
-  pub is_open : (term b).is_open ≡ (term a).is_open
-  pub missing : (term b).missing ≡ (term a).missing
-  pub quiet : b_kept ≡ None → ((term b).faults ≡ (term a).faults) × (a_kept ≡ None)
-  pub cause : a_kept ≡ None → is_some b_kept ≡ true → Rose (term a).faults (term b).faults
-  pub grows : Tells a → Extends (term a).bytes (term b).bytes
-  pub stopped : is_some a_kept ≡ true → (b ≡ a) × (b_kept ≡ a_kept)
+-- a port is open as before, and what was written there is a front of what is now, where the host tells
+pub record Grows (told : Type 0) (old new : PortState) : Type 0 where
+  pub is_open : new.is_open ≡ old.is_open
+  pub bytes : told → Extends old.bytes new.bytes
 
-pub Goes-same : (o : Outside) (kept : Option ℕ) → Goes o kept o kept
-Goes-same o kept = record {
-  only = record { fixed = refl; others = λ q other. refl };
-  is_open = refl;
-  missing = refl;
-  quiet = λ none. (refl, none);
-  cause = λ none is_cut. absurd (let both : is_some kept ≡ false = ap is_some none in cc);
-  grows = λ tells. record { more = []; is = sym (append-nil (term o).bytes) };
-  stopped = λ is_cut. (refl, refl);
-}
+-- What stays while bytes and lines go out: only Term and Log change, and more is written to them. No count changes until a write has
+-- failed: then the faults of its port have risen, and from then on nothing changes.
+pub record Goes (a : Outside) (a_kept : Kept) (b : Outside) (b_kept : Kept) : Type 0 where
+  pub only : OnlyAt is_shown a b
+  pub terminal : Grows (Tells a) (term a) (term b)
+  pub log : Grows (Tells a) (log_of a) (log_of b)
+  pub cause : failed_output a_kept ≡ None
+      → MatchOption (failed_output b_kept) (Calm a b) (λ output. FaultAt (Out (port_of output)) true a b)
+  pub stopped : is_some (failed_output a_kept) ≡ true → (b ≡ a) × (b_kept ≡ a_kept)
 
-rose_then_same : (a b c : ℕ) → Rose a b → c ≡ b → Rose a c
-rose_then_same a b c rose same = subst (Rose a) (sym same) rose
+-- the terminal and the log have got all of what is shown
+pub record HasShown (items : List Item) (old new : Outside) : Type 0 where
+  pub terminal : (term new).bytes ≡ (term old).bytes ++ line_bytes 0 items
+  pub log : (log_of new).bytes ≡ (log_of old).bytes ++ text_of items
 
-same_then_rose : (a b c : ℕ) → b ≡ a → Rose b c → Rose a c
-same_then_rose a b c same rose = subst (λ n. Rose n c) same rose
-
-cause_on : (a : Outside) (a_kept : Option ℕ) (b : Outside) (b_kept : Option ℕ) (c : Outside) (c_kept : Option ℕ)
-    → Goes a a_kept b b_kept → Goes b b_kept c c_kept → a_kept ≡ None → is_some c_kept ≡ true → Rose (term a).faults (term c).faults
-cause_on a a_kept b None c c_kept first second none is_cut =
-    same_then_rose _ _ _ (first.quiet refl).0 (second.cause refl is_cut)
-cause_on a a_kept b (Some byte) c c_kept first second none is_cut =
-    rose_then_same _ _ _ (first.cause none refl) (ap (λ (o : Outside). (term o).faults) (second.stopped refl).0)
-
-pub Goes-on : (a : Outside) (a_kept : Option ℕ) (b : Outside) (b_kept : Option ℕ) (c : Outside) (c_kept : Option ℕ)
-    → Goes a a_kept b b_kept → Goes b b_kept c c_kept → Goes a a_kept c c_kept
-Goes-on a a_kept b b_kept c c_kept first second = record {
-  only = record {
-    fixed = second.only.fixed ∙ first.only.fixed;
-    others = λ q other. second.only.others q other ∙ first.only.others q other;
-  };
-  is_open = second.is_open ∙ first.is_open;
-  missing = second.missing ∙ first.missing;
-  quiet = λ none. ((second.quiet none).0 ∙ (first.quiet (second.quiet none).1).0, (first.quiet (second.quiet none).1).1);
-  cause = cause_on a a_kept b b_kept c c_kept first second;
-  grows = λ told.
-      let one = first.grows told in
-      let two = second.grows (ap (λ (f : Environment). f.tells) first.only.fixed ∙ told) in
-      record {
-        more = one.more ++ two.more;
-        is = two.is ∙ ap (λ l. l ++ two.more) one.is ∙ append_assoc (term a).bytes one.more two.more;
-      };
-  stopped = λ is_cut.
-      let one = first.stopped is_cut in
-      let two = second.stopped (ap is_some one.1 ∙ is_cut) in
-      (two.0 ∙ one.0, two.1 ∙ one.1);
-}
+-- each has got a front of it
+pub record HasShownFronts (items : List Item) (old new : Outside) : Type 0 where
+  pub terminal : HoldsFront (term old).bytes (line_bytes 0 items) (term new).bytes
+  pub log : HoldsFront (log_of old).bytes (text_of items) (log_of new).bytes

@@ -30,9 +30,14 @@ is_decided (ImageFault fault) = true
 is_decided (NotBuilt place) = true
 is_decided _ = false
 
+-- whether it is a run that ends so before its last event, at what isn't built
+abbrev pub is_unfinished : Status → Bool
+is_unfinished (NotBuilt (unbuilt.At pc)) = true
+is_unfinished (NotBuilt unbuilt.Room) = true
+is_unfinished _ = false
+
 -- whether the command has come to write its files
 abbrev pub has_written : Status → Bool
 has_written Done = true
 has_written (WriteFault port) = true
-has_written (NotBuilt (unbuilt.At pc)) = true
-has_written _ = false
+has_written status = is_unfinished status

@@ -13,6 +13,7 @@ pub record RunWords : Type 0 where
   pub core : ℕ
   pub script : List ℕ
   pub term : List ℕ
+  pub log : List ℕ
   pub final_disk : List ℕ
 
 -- a command: what `run` is told, the image that `check` reads, or the number and the file of `make`
@@ -22,11 +23,11 @@ pub data Command : Type 0 where
   Make : ℕ → List ℕ → Command
 
 -- the words of `run` are good where CORE is a number
-abbrev pub run_words : Bool → Option ℕ → List ℕ → List ℕ → List ℕ → List ℕ → Option Command
-run_words true (Some core) image script term final_disk =
-    Some (Run (record { image = image; core = core; script = script; term = term; final_disk = final_disk }))
-run_words true None image script term final_disk = None
-run_words false core image script term final_disk = None
+abbrev pub run_words : Bool → Option ℕ → List ℕ → List ℕ → List ℕ → List ℕ → List ℕ → Option Command
+run_words true (Some core) image script term log final_disk =
+    Some (Run (record { image = image; core = core; script = script; term = term; log = log; final_disk = final_disk }))
+run_words true None image script term log final_disk = None
+run_words false core image script term log final_disk = None
 
 abbrev pub check_words : Bool → List ℕ → Option Command
 check_words true image = Some (Check image)
@@ -43,7 +44,8 @@ is_word word name = pointwise nat_eq word name
 
 -- run IMAGE CORE SCRIPT TERM LOG FINAL, check IMAGE, make N FINAL
 abbrev pub command_of : List (List ℕ) → Option Command
-command_of (verb ∷ image ∷ core ∷ script ∷ term ∷ log ∷ final ∷ []) = run_words (is_word verb (codes "run")) (number_of core) image script term final
+command_of (verb ∷ image ∷ core ∷ script ∷ term ∷ log ∷ final ∷ []) =
+    run_words (is_word verb (codes "run")) (number_of core) image script term log final
 command_of (verb ∷ image ∷ []) = check_words (is_word verb (codes "check")) image
 command_of (verb ∷ number ∷ final ∷ []) = make_words (is_word verb (codes "make")) (number_of number) final
 command_of _ = None
@@ -54,7 +56,14 @@ command_in words = command_of (map string_bytes words)
 
 -- what the words and numbers that a program holds are
 abbrev pub run_words_value : words.RunWords → RunWords
-run_words_value w = record { image = w.image.now; core = w.core; script = w.script.now; term = w.term.now; final_disk = w.final_disk.now }
+run_words_value w = record {
+  image = w.image.now;
+  core = w.core;
+  script = w.script.now;
+  term = w.term.now;
+  log = w.log.now;
+  final_disk = w.final_disk.now;
+}
 
 abbrev pub command_value : written.Command → Command
 command_value (variant.Run words) = Run (run_words_value words)

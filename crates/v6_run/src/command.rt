@@ -4,14 +4,13 @@ ghost use Rattle.std.specs.Option.{option_map};
 ghost use Rattle.v6_port.specs.Outside.{Out, IsIdle, OnlyAt, Tells, is_report};
 ghost use Rattle.v6_port.specs.declared.host.OutPort.{OutPort};
 ghost use Rattle.v6_port.specs.declared.host.InPort.TheVariants.{Script};
-ghost use Rattle.unix_core.specs.declared.turned.Unbuilt.{Unbuilt};
 ghost use Rattle.v6_run.specs.Words.{command_in, command_value};
 ghost use Rattle.v6_run.specs.Fronts.{HoldsFront};
 ghost use Rattle.v6_run.specs.Report.{report, report_line, tally_line};
-ghost use Rattle.v6_run.specs.Status.{is_decided, has_written};
+ghost use Rattle.v6_run.specs.Status.{is_decided, has_written, is_unfinished};
 ghost use Rattle.v6_run.specs.Errors.{command_status, end_of};
 ghost use Rattle.v6_run.specs.Causes.{HasCause, MissesUnknown};
-ghost use Rattle.v6_run.specs.Headline.{is_core_size, has_core_size, refused_by, reports_done, words_completion, done_line, IsKnownAnd, IsComplete, IsPartial, IsImageGood, words_may_end, is_touched, is_known};
+ghost use Rattle.v6_run.specs.Headline.{is_core_size, has_core_size, refused_by, reports_done, words_completion, done_line, IsKnownAnd, IsComplete, IsPartial, IsImageGood, words_may_end, is_touched, is_known, LogsAreLawful};
 ghost use Rattle.v6_run.specs.Answers.{Answers, AnswersWords};
 
 use crate::check::check;
@@ -97,7 +96,8 @@ fn answer<H: Host>(
 /// The commands are:
 ///
 /// - `run IMAGE CORE SCRIPT TERM LOG FINAL` boots the disk IMAGE with CORE clicks of memory, takes it through what SCRIPT
-///   asks for, and writes to TERM what the terminal shows and to FINAL the disk that it leaves.
+///   asks for, and writes to TERM what the terminal shows, to LOG what the kernel decides, and to FINAL the disk that is
+///   left.
 /// - `check IMAGE` tells how many nodes and free blocks the disk IMAGE has, or the first of its faults.
 /// - `make N FINAL` writes the disk image of the number N to FINAL.
 ///
@@ -130,9 +130,12 @@ pub fn v6<H: Host>(alloc: Global, words: &Vec<String>, host: &mut H) -> Status
         → (p : OutPort) → is_report (Out p) ≡ false → (H.outside host.new).port (Out p) ≡ (H.outside host.old).port (Out p) }
     ensures closed { result ≡ Status.Done
         → (p : OutPort) → is_report (Out p) ≡ false → ((H.outside host.new).port (Out p)).is_open ≡ false }
-    ensures unfinished { (pc : ℕ)
-        → result ≡ Status.NotBuilt (Unbuilt.At pc) → (p : OutPort) → is_touched (command_in words.now.items) (Out p) ≡ true
-        → is_report (Out p) ≡ false → ((H.outside host.new).port (Out p)).is_open ≡ true }
+    ensures unfinished { is_unfinished result ≡ true
+        → (p : OutPort) → is_touched (command_in words.now.items) (Out p) ≡ true → is_report (Out p) ≡ false
+        → ((H.outside host.new).port (Out p)).is_open ≡ true }
+
+    // The log of a run that comes to the end of its script is lawful: each choice in it is the one that the rules give.
+    ensures lawful { LogsAreLawful }
 
     // A fault is answered only where its port's faults rose, and a name is missing only where it isn't known.
     ensures cause { HasCause result (H.outside host.old) (H.outside host.new) }

@@ -1,5 +1,5 @@
 //! Whole files of a host.
-ghost use Rattle.std.specs.Prelude.{◌≡◌, ◌≢◌, ◌<◌, ◌≤◌, ◌^◌, ◌++◌, length, take, true, false, Some, IfOk, OnOk, MatchResult};
+ghost use Rattle.std.specs.Prelude.{◌≡◌, ◌≢◌, ◌<◌, ◌≤◌, ◌^◌, ◌++◌, length, take, true, false, Some, IfOk, IfErr, OnOk, MatchResult};
 ghost use Rattle.std.specs.Option.{option_map};
 ghost use Rattle.v6_port.specs.Outside.{In, Out, IsOpen, OnlyAt, Tells, same};
 ghost use Rattle.v6_port.specs.Causes.{Calm, FaultAt};
@@ -75,6 +75,29 @@ pub(crate) fn read_file<H: Host>(
     read_left(alloc, host, port, limit)
 }
 
+/// Writes all of a text, or says how many of its bytes were written before a write failed.
+pub(crate) fn write_text<H: Host>(host: &mut H, port: OutPort, text: &[u8]) -> Result<(), usize>
+    requires { IsOpen (H.outside host.old) (Out port) }
+    ensures only { OnlyAt (same (Out port)) (H.outside host.old) (H.outside host.new) }
+    ensures is_open { IsOpen (H.outside host.new) (Out port) }
+    ensures whole { OnOk result (Tells (H.outside host.old)
+        → ((H.outside host.new).port (Out port)).bytes ≡ ((H.outside host.old).port (Out port)).bytes ++ text.now) }
+    ensures front { IfErr result (λ count. Tells (H.outside host.old) → ((H.outside host.new).port (Out port)).bytes
+        ≡ ((H.outside host.old).port (Out port)).bytes ++ take count text.now) }
+    ensures short { IfErr result (λ count. count < length text.now) }
+    ensures cause { MatchResult result (λ _. Calm (H.outside host.old) (H.outside host.new))
+        (λ _. FaultAt (Out port) true (H.outside host.old) (H.outside host.new)) }
+{
+    let mut at = 0;
+    'text: while at < text.len() {
+        match host.write(port, &text[at..]) {
+            Ok(count) => at += count,
+            Err(Failed) => return Err(at),
+        }
+    }
+    Ok(())
+}
+
 /// Writes all of a text.
 pub(crate) fn write_all<H: Host>(host: &mut H, port: OutPort, text: &[u8]) -> Result<(), Failed>
     requires { IsOpen (H.outside host.old) (Out port) }
@@ -87,11 +110,10 @@ pub(crate) fn write_all<H: Host>(host: &mut H, port: OutPort, text: &[u8]) -> Re
     ensures cause { MatchResult result (λ _. Calm (H.outside host.old) (H.outside host.new))
         (λ _. FaultAt (Out port) true (H.outside host.old) (H.outside host.new)) }
 {
-    let mut at = 0;
-    'text: while at < text.len() {
-        at += host.write(port, &text[at..])?;
+    match write_text(host, port, text) {
+        Ok(()) => Ok(()),
+        Err(_) => Err(Failed),
     }
-    Ok(())
 }
 
 /// Writes a text to a port, as the file of this name.

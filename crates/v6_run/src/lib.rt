@@ -1,5 +1,6 @@
-//! The commands: `run` takes a disk image and a script, and writes what the terminal shows; `check` tells whether an image
-//! has a fault, and what it holds; `make` writes an image that is known to the last byte.
+//! The commands: `run` takes a disk image and a script, and writes what the terminal shows, the log of what the kernel
+//! decides, and the disk that is left; `check` tells whether an image has a fault, and what it holds; `make` writes an
+//! image that is known to the last byte.
 #![tactic(auto)]
 
 mod check;

@@ -26,6 +26,8 @@ use v6_port::{Failed, Host, OutPort};
 pub(crate) enum Output {
     /// What the terminal shows.
     Term,
+    /// The log of what the kernel decides.
+    Log,
     /// The disk at the end.
     Final,
 }
@@ -36,12 +38,13 @@ impl Output {
     {
         match self {
             Output::Term => OutPort::Term,
+            Output::Log => OutPort::Log,
             Output::Final => OutPort::Final,
         }
     }
 }
 
-/// Opens both, the terminal's first.
+/// Opens the terminal's file, the log and the disk's file, in this order.
 pub(crate) fn open_outputs<H: Host>(words: &RunWords<'_>, host: &mut H) -> Result<(), Output>
     requires { (p : OutPort) → is_output (Out p) ≡ true → ((H.outside host.old).port (Out p)).is_open ≡ false }
     ensures only { OnlyAt is_output (H.outside host.old) (H.outside host.new) }
@@ -55,6 +58,9 @@ pub(crate) fn open_outputs<H: Host>(words: &RunWords<'_>, host: &mut H) -> Resul
 {
     if host.open_write(OutPort::Term, words.term).is_err() {
         return Err(Output::Term);
+    }
+    if host.open_write(OutPort::Log, words.log).is_err() {
+        return Err(Output::Log);
     }
     if host.open_write(OutPort::Final, words.final_disk).is_err() {
         return Err(Output::Final);
@@ -100,7 +106,7 @@ pub(crate) fn leave_disk<H: Host>(kernel: &mut Kernel, host: &mut H) -> Result<(
     write_disk(kernel, host)
 }
 
-/// Finishes both, the terminal's first.
+/// Finishes the three, in the order in which they were opened.
 pub(crate) fn finish_outputs<H: Host>(host: &mut H) -> Result<(), Output>
     requires { (p : OutPort) → is_output (Out p) ≡ true → ((H.outside host.old).port (Out p)).is_open ≡ true }
     ensures only { OnlyAt is_output (H.outside host.old) (H.outside host.new) }
@@ -112,6 +118,9 @@ pub(crate) fn finish_outputs<H: Host>(host: &mut H) -> Result<(), Output>
 {
     if host.finish(OutPort::Term).is_err() {
         return Err(Output::Term);
+    }
+    if host.finish(OutPort::Log).is_err() {
+        return Err(Output::Log);
     }
     if host.finish(OutPort::Final).is_err() {
         return Err(Output::Final);

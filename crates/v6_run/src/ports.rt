@@ -1,41 +1,97 @@
 //! What a run shows, written to the ports of a host.
-ghost use Rattle.std.specs.Prelude.{◌≡◌, None, is_some};
+ghost use Rattle.std.specs.Prelude.{◌≡◌, ◌++◌, ◌∷◌, [], ◌≤◌, drop, length};
+ghost use Rattle.v6_base.specs.LogLine.{entry_line};
 ghost use Rattle.v6_port.specs.Outside.{Out, IsOpen};
-ghost use Rattle.v6_port.specs.declared.host.OutPort.TheVariants.{Term};
+ghost use Rattle.v6_port.specs.declared.host.OutPort.TheVariants.{Term, Log};
+ghost use Rattle.v6_run.specs.Ports.{failed_output};
 
+use crate::files::write_text;
+use crate::outputs::Output;
+use arrayvec::ArrayVec;
 use v6_base::{Entry, Trace};
 use v6_port::{Host, OutPort};
 
-/// A trace over the terminal's port. It is cut where a write fails, and keeps that byte.
+/// How many bytes a line of the log has at most, with its line feed.
+const LINE_ROOM: usize = 81;
+
+/// What could not be written.
+#[derive(Drop)]
+enum Kept {
+    Nothing,
+    /// A byte of the terminal.
+    Byte(u8),
+    /// The rest of a line of the log, with its line feed.
+    Line(ArrayVec<u8, LINE_ROOM>),
+}
+
+/// A trace over the ports of the terminal and the log. A line of the log goes out as one piece. The trace is cut where a
+/// write fails, and keeps what was not written of that byte or line.
 #[derive(Drop)]
 pub(crate) struct Ports<'a, H: Host> {
     host: &'a mut H,
-    kept: Option<u8>,
-    ghost is_open: { IsOpen (H.outside host.now) (Out Term) },
+    kept: Kept,
+    ghost term_is_open: { IsOpen (H.outside host.now) (Out Term) },
+    ghost log_is_open: { IsOpen (H.outside host.now) (Out Log) },
 }
 
 impl<'a, H: Host> Ports<'a, H> {
+    ghost use Rattle.v6_run.specs.declared.ports.Kept.TheVariants.{Nothing};
+
     /// A trace of which nothing is taken yet.
     pub(crate) fn new(host: &'a mut H) -> Self
-        requires { IsOpen (H.outside host.old) (Out Term) }
+        requires term { IsOpen (H.outside host.old) (Out Term) }
+        requires log { IsOpen (H.outside host.old) (Out Log) }
         ensures same_reference { result.host.ghost_name ≡ host.entry.ghost_name }
         ensures outside { result.host.now ≡ host.old }
-        ensures kept { result.kept ≡ None }
+        ensures kept { result.kept ≡ Nothing }
     {
-        Ports { host, kept: None }
+        Ports {
+            host,
+            kept: Kept::Nothing,
+        }
     }
 
-    /// Whether a write has failed.
-    pub(crate) fn is_cut(&self) -> bool
-        ensures { result ≡ is_some self.now.kept }
+    /// Which of the files could not be written, where one could not.
+    pub(crate) fn failed(&self) -> Option<Output>
+        ensures { result ≡ failed_output self.now.kept }
     {
-        self.kept.is_some()
+        match &self.kept {
+            Kept::Nothing => None,
+            Kept::Byte(_) => Some(Output::Term),
+            Kept::Line(_) => Some(Output::Log),
+        }
     }
+}
+
+/// The line of an entry of the log, with its line feed.
+fn line_of(entry: &Entry) -> ArrayVec<u8, LINE_ROOM>
+    ensures { result.items ≡ entry_line entry.now ++ 0o012 ∷ [] }
+{
+    let text = log_text::line(entry);
+    let mut line = ArrayVec::new();
+    let Ok(()) = line.try_extend_from_slice(text.as_slice()) else {
+        unreachable!()
+    };
+    line.push(b'\n');
+    line
+}
+
+/// What is left of a line after so many bytes.
+fn rest_of(line: &ArrayVec<u8, LINE_ROOM>, count: usize) -> ArrayVec<u8, LINE_ROOM>
+    requires { count ≤ length line.now.items }
+    ensures { result.items ≡ drop count line.now.items }
+{
+    let mut rest = ArrayVec::new();
+    let Ok(()) = rest.try_extend_from_slice(&line.as_slice()[count..]) else {
+        unreachable!()
+    };
+    rest
 }
 
 impl<'a, H: Host> Trace for Ports<'a, H> {
     ghost use Rattle.std.proofs.Common.{refl, ◌∙◌};
-    ghost use Rattle.v6_run.specs.Ports.{taken_of, Goes, Goes-same, Goes-on};
+    ghost use Rattle.v6_run.specs.Ports.{taken_of, Goes};
+    ghost use Rattle.v6_run.specs.PortLaws.{Goes-same, Goes-on};
 
     ghost taken = { λ t. taken_of (H.outside t.host.now) t.kept };
 
@@ -46,17 +102,22 @@ impl<'a, H: Host> Trace for Ports<'a, H> {
 
     ghost goes_on = { λ a b c first second. (Goes-on _ _ _ _ _ _ first.0 second.0, second.1 ∙ first.1) };
 
-    /// Takes a line of the log, of which nothing is written yet.
     fn entry(&mut self, e: Entry) {
-        let _ = e;
+        if self.failed().is_some() {
+            return;
+        }
+        let line = line_of(&e);
+        if let Err(count) = write_text(self.host, OutPort::Log, line.as_slice()) {
+            self.kept = Kept::Line(rest_of(&line, count));
+        }
     }
 
     fn out(&mut self, byte: u8) {
-        if self.kept.is_some() {
+        if self.failed().is_some() {
             return;
         }
         if self.host.write(OutPort::Term, &[byte]).is_err() {
-            self.kept = Some(byte);
+            self.kept = Kept::Byte(byte);
         }
     }
 }

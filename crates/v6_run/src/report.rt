@@ -56,6 +56,7 @@ fn unbuilt_line(place: Unbuilt) -> Line
         Unbuilt::Image => plain("not built: image"),
         Unbuilt::Line(line) => numbered("not built: line ", line, ""),
         Unbuilt::At(pc) => numbered("not built: pc ", u32::from(pc), ""),
+        Unbuilt::Room => plain("not built: room"),
     }
 }
 

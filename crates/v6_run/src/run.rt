@@ -1,10 +1,9 @@
 //! The command `run`.
 ghost use Rattle.std.specs.List.{list_any};
 ghost use Rattle.std.specs.Prelude.{◌≡◌, ◌<◌, ◌≤◌, ◌^◌, length, is_some, true, false, None, Some, IfOk, OnOk, IfErr, MatchResult, ◌++◌};
-ghost use Rattle.v6_base.specs.Trace.{line_bytes};
 ghost use Rattle.v6_port.specs.Outside.{Out, IsOpen, OnlyAt, Tells, same};
 ghost use Rattle.v6_port.specs.declared.host.OutPort.{OutPort};
-ghost use Rattle.v6_port.specs.declared.host.OutPort.TheVariants.{Term};
+ghost use Rattle.v6_port.specs.declared.host.OutPort.TheVariants.{Term, Log};
 ghost use Rattle.v6_port.specs.Causes.{Calm, FaultAt};
 ghost use Rattle.fs_codec.specs.Faults.{image_fault};
 ghost use Rattle.fs_codec.specs.Disk.{head};
@@ -14,11 +13,10 @@ ghost use Rattle.script_text.specs.Script.{is_signal};
 ghost use Rattle.unix_core.specs.Runs.{boots, started, course};
 ghost use Rattle.v6_run.specs.Words.{Run, run_words_value};
 ghost use Rattle.v6_run.specs.Events.{events_of};
-ghost use Rattle.v6_run.specs.Ports.{term};
-ghost use Rattle.v6_run.specs.Fronts.{HoldsFront};
+ghost use Rattle.v6_run.specs.Ports.{HasShown, HasShownFronts};
 ghost use Rattle.v6_run.specs.Steps.{RefusesImage};
 ghost use Rattle.v6_run.specs.Errors.{end_of, run_status};
-ghost use Rattle.v6_run.specs.Outputs.{port_of, is_output, EndsRun, StopsRun};
+ghost use Rattle.v6_run.specs.Outputs.{port_of, is_shown, is_output, shown_by, EndsRun, StopsRun};
 ghost use Rattle.v6_run.specs.Headline.{run_knows};
 ghost use Rattle.v6_run.specs.Answers.{Answers, HasFiles};
 
@@ -27,13 +25,13 @@ use crate::image::{ImageError, read_image};
 use crate::outputs::{Output, finish_outputs, leave_disk, open_outputs};
 use crate::ports::Ports;
 use crate::script::{ScriptError, read_script};
-use crate::slots::run_script;
+use crate::slots::show_run;
 use crate::words::RunWords;
 use fs_codec::SWAP_START;
 use script_text::{Event, MAX_BYTES};
 use std::alloc::Global;
 use unix_core::{BootFault, Kernel, Unbuilt};
-use v6_port::{Failed, Host, InPort};
+use v6_port::{Host, InPort};
 
 /// The most bytes of a script that are read: one more than a script may have.
 pub(crate) const SCRIPT_LIMIT: usize = MAX_BYTES + 1;
@@ -125,34 +123,36 @@ fn boot(alloc: Global, image: &[u8], core: u32) -> Result<Kernel, BootError>
     }
 }
 
-/// Runs the kernel over the events of a script, with the terminal open, and gives what isn't built where it comes to that.
+/// Runs the kernel over the events of a script, with the terminal and the log open, and gives what isn't built where it comes
+/// to that. Where one of the two can't be written, the run goes on without both, and then that is the answer.
 fn play<H: Host>(
     kernel: &mut Kernel,
     events: &[Event],
     host: &mut H,
-) -> Result<Option<Unbuilt>, Failed>
+) -> Result<Option<Unbuilt>, Output>
     requires term { IsOpen (H.outside host.old) (Out Term) }
+    requires log { IsOpen (H.outside host.old) (Out Log) }
     requires unsignalled { list_any is_signal events.now ≡ false }
-    ensures only { OnlyAt (same (Out Term)) (H.outside host.old) (H.outside host.new) }
-    ensures is_open { IsOpen (H.outside host.new) (Out Term) }
+    ensures only { OnlyAt is_shown (H.outside host.old) (H.outside host.new) }
+    ensures term { IsOpen (H.outside host.new) (Out Term) }
+    ensures log { IsOpen (H.outside host.new) (Out Log) }
     ensures ending { IfOk result (λ ending. ending ≡ (course (started kernel.old.system) (events_of events.now)).ending) }
     ensures shown { OnOk result (Tells (H.outside host.old)
-        → (term (H.outside host.new)).bytes ≡ (term (H.outside host.old)).bytes
-        ++ line_bytes 0 (course (started kernel.old.system) (events_of events.now)).items) }
-    ensures front { Tells (H.outside host.old)
-        → HoldsFront (term (H.outside host.old)).bytes (line_bytes 0 (course (started kernel.old.system) (events_of events.now)).items)
-        (term (H.outside host.new)).bytes }
+        → HasShown (shown_by (course (started kernel.old.system) (events_of events.now)))
+        (H.outside host.old) (H.outside host.new)) }
+    ensures fronts { Tells (H.outside host.old)
+        → HasShownFronts (shown_by (course (started kernel.old.system) (events_of events.now)))
+        (H.outside host.old) (H.outside host.new) }
     ensures system { kernel.new.system ≡ (course (started kernel.old.system) (events_of events.now)).system }
     ensures rest { SameRest kernel.old.blocks kernel.new.blocks }
     ensures cause { MatchResult result (λ _. Calm (H.outside host.old) (H.outside host.new))
-        (λ _. FaultAt (Out Term) true (H.outside host.old) (H.outside host.new)) }
+        (λ output. FaultAt (Out (port_of output)) true (H.outside host.old) (H.outside host.new)) }
 {
     let mut ports = Ports::new(host);
-    let ending = run_script(kernel, events, &mut ports);
-    if ports.is_cut() {
-        Err(Failed)
-    } else {
-        Ok(ending)
+    let ending = show_run(kernel, events, &mut ports);
+    match ports.failed() {
+        Some(output) => Err(output),
+        None => Ok(ending),
     }
 }
 
@@ -176,9 +176,7 @@ fn run_with_outputs<H: Host>(
         (H.outside host.old) (H.outside host.new)) }
 {
     open_outputs(words, host)?;
-    let Ok(ending) = play(kernel, events, host) else {
-        return Err(Output::Term);
-    };
+    let ending = play(kernel, events, host)?;
     if ending.is_some() {
         return Ok(ending);
     }

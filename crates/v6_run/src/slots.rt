@@ -3,15 +3,17 @@ ghost use Rattle.std.specs.Prelude.{◌≡◌, ◌<◌, ◌+◌, false, replicat
 ghost use Rattle.std.specs.List.{list_any, range_with_len};
 ghost use Rattle.script_text.specs.Script.{is_signal};
 ghost use Rattle.fs_laws.specs.Rest.{SameRest};
-ghost use Rattle.unix_core.specs.Runs.{Slot, begun, started};
+ghost use Rattle.unix_core.specs.Runs.{Slot, begun, started, course};
 ghost use Rattle.v6_run.specs.Events.{slot_with, slot_numbered, happens, clock_after, events_of};
 ghost use Rattle.v6_run.specs.Clocks.{clock_value, TicksAlike};
+ghost use Rattle.v6_base.specs.Trace.{Took};
 ghost use Rattle.v6_run.specs.Courses.{HasRun};
+ghost use Rattle.v6_run.specs.Outputs.{shown_by};
 
 use crate::clock::{Clock, since_after, since_next};
 use script_text::Event;
 use unix_core::{Kernel, Turned, Unbuilt};
-use v6_base::Trace;
+use v6_base::{Entry, Trace};
 
 /// Takes so many slots, or those up to the first that comes to what isn't built, and gives that. It stands by itself, so that
 /// its loop has all registers.
@@ -147,11 +149,7 @@ fn run_events<T: Trace>(kernel: &mut Kernel, events: &[Event], trace: &mut T) ->
 }
 
 /// Starts the kernel, and takes the events of a script in turn.
-pub(crate) fn run_script<T: Trace>(
-    kernel: &mut Kernel,
-    events: &[Event],
-    trace: &mut T,
-) -> Option<Unbuilt>
+fn run_script<T: Trace>(kernel: &mut Kernel, events: &[Event], trace: &mut T) -> Option<Unbuilt>
     requires { list_any is_signal events.now ≡ false }
     ensures run { HasRun (started kernel.old.system) (events_of events.now) result kernel.new.system
         (T.taken trace.old) (T.taken trace.new) }
@@ -160,4 +158,26 @@ pub(crate) fn run_script<T: Trace>(
 {
     kernel.start(trace);
     run_events(kernel, events, trace)
+}
+
+/// Takes a whole run, and writes the last line of its log where the run has come to its end.
+pub(crate) fn show_run<T: Trace>(
+    kernel: &mut Kernel,
+    events: &[Event],
+    trace: &mut T,
+) -> Option<Unbuilt>
+    requires { list_any is_signal events.now ≡ false }
+    ensures ends { result ≡ (course (started kernel.old.system) (events_of events.now)).ending }
+    ensures system { kernel.new.system ≡ (course (started kernel.old.system) (events_of events.now)).system }
+    ensures shown { Took (T.taken trace.old) (shown_by (course (started kernel.old.system) (events_of events.now)))
+        (T.taken trace.new) }
+    ensures rest { SameRest kernel.old.blocks kernel.new.blocks }
+    ensures frame { T.leads_to trace.old trace.new }
+{
+    let ending = run_script(kernel, events, trace);
+    if ending.is_some() {
+        return ending;
+    }
+    trace.entry(Entry::End);
+    None
 }

@@ -12,6 +12,7 @@ pub(crate) struct RunWords<'a> {
     pub(crate) core: u32,
     pub(crate) script: &'a str,
     pub(crate) term: &'a str,
+    pub(crate) log: &'a str,
     pub(crate) final_disk: &'a str,
 }
 
@@ -32,10 +33,11 @@ fn run_words<'a>(
     image: &'a str,
     script: &'a str,
     term: &'a str,
+    log: &'a str,
     final_disk: &'a str,
 ) -> Option<Command<'a>>
     ensures { option_map command_value result
-        ≡ run_words (is_word verb.now (codes "run")) (number_of core.now) image.now script.now term.now final_disk.now }
+        ≡ run_words (is_word verb.now (codes "run")) (number_of core.now) image.now script.now term.now log.now final_disk.now }
 {
     if verb != "run" {
         return None;
@@ -46,6 +48,7 @@ fn run_words<'a>(
         core,
         script,
         term,
+        log,
         final_disk,
     }))
 }
@@ -74,12 +77,13 @@ pub(crate) fn command_of(words: &[String]) -> Option<Command<'_>>
     ensures { option_map command_value result ≡ command_in words.now }
 {
     match words {
-        [verb, image, core, script, term, _, final_disk] => run_words(
+        [verb, image, core, script, term, log, final_disk] => run_words(
             verb.as_str(),
             core.as_str(),
             image.as_str(),
             script.as_str(),
             term.as_str(),
+            log.as_str(),
             final_disk.as_str(),
         ),
         [verb, image] => check_words(verb.as_str(), image.as_str()),

@@ -1,21 +1,22 @@
-use Rattle.std.proofs.Common.{rules, sym, ◌∙◌, ap}
-use Rattle.v6_run.proofs.ShownLemmas.{front_from, all_from}
+use Rattle.std.proofs.Common.{rules, sym, ◌∙◌, ap, is_some}
+use Rattle.v6_run.proofs.ShownLemmas.{fronts_from, all_from}
 use Rattle.v6_run.proofs.run.play.Goals as goal
 
-pub returns-then-is_cut-clause-front : goal.returns-then-is_cut-clause-front
-returns-then-is_cut-clause-front g c =
-    let run = c.run_script-ending.ensures in
-    let front = front_from _ _ _ _ _ _ (ap g.H.Host.outside c.new-ports.ensures.outside) c.new-ports.ensures.kept run.run.items run.frame.0 in
-    search (rules, front)
+pub returns-in-Some-clause-fronts : goal.returns-in-Some-clause-fronts
+returns-in-Some-clause-fronts g c =
+    let run = c.show_run-ending.ensures in
+    let fronts = fronts_from _ _ _ _ _ _ (ap g.H.Host.outside c.new-ports.ensures.outside) c.new-ports.ensures.kept run.shown run.frame.0 in
+    search (rules, fronts)
 
-pub returns-else-is_cut-clause-shown : goal.returns-else-is_cut-clause-shown
-returns-else-is_cut-clause-shown g c =
-    let run = c.run_script-ending.ensures in
-    let all = all_from _ _ _ _ _ _ (ap g.H.Host.outside c.new-ports.ensures.outside) c.new-ports.ensures.kept run.run.items run.frame.0 (sym c.is_cut.ensures ∙ c.if-is_cut.false) in
+pub returns-in-None-clause-shown : goal.returns-in-None-clause-shown
+returns-in-None-clause-shown g c =
+    let run = c.show_run-ending.ensures in
+    let uncut = ap is_some (sym c.failed.ensures ∙ c.in-None.is) in
+    let all = all_from _ _ _ _ _ _ (ap g.H.Host.outside c.new-ports.ensures.outside) c.new-ports.ensures.kept run.shown run.frame.0 uncut in
     search (rules, all)
 
-pub returns-else-is_cut-clause-front : goal.returns-else-is_cut-clause-front
-returns-else-is_cut-clause-front g c =
-    let run = c.run_script-ending.ensures in
-    let front = front_from _ _ _ _ _ _ (ap g.H.Host.outside c.new-ports.ensures.outside) c.new-ports.ensures.kept run.run.items run.frame.0 in
-    search (rules, front)
+pub returns-in-None-clause-fronts : goal.returns-in-None-clause-fronts
+returns-in-None-clause-fronts g c =
+    let run = c.show_run-ending.ensures in
+    let fronts = fronts_from _ _ _ _ _ _ (ap g.H.Host.outside c.new-ports.ensures.outside) c.new-ports.ensures.kept run.shown run.frame.0 in
+    search (rules, fronts)

@@ -4,17 +4,18 @@ use Rattle.v6_run.proofs.ResultLemmas.{match_passed}
 use Rattle.v6_run.proofs.OutputLemmas.{stopped_playing, stopped_writing, stopped_finishing, came_to_end, run_leaves, came_to_none, fault_where_err, calm_where_ok, told_where_ok}
 use Rattle.v6_run.proofs.run.run_with_outputs.Goals as goal
 
-pub returns-in_default-clause-outcome : goal.returns-in_default-clause-outcome
-returns-in_default-clause-outcome g c =
+pub returns-in_err-ending-clause-outcome : goal.returns-in_err-ending-clause-outcome
+returns-in_err-ending-clause-outcome g c =
     let opened = c.in_ok-open_outputs.ensures in
-    let played = c.in_default.ensures in
-    stopped_playing _ (course (started c.args.kernel.now.system) (events_of c.args.events.now)) _ _ _ opened.only opened.bytes played.only _ played.front opened.cause played.cause
+    let played = c.in_err-ending.ensures in
+    match_passed _ _ _ _ c.from_residual-in_err-ending.ensures.1
+    (stopped_playing _ (course (started c.args.kernel.now.system) (events_of c.args.events.now)) _ _ _ opened.only opened.bytes played.only _ _ played.fronts opened.cause played.cause)
 
 pub returns-then-is_err-clause-outcome : goal.returns-then-is_err-clause-outcome
 returns-then-is_err-clause-outcome g c =
     let run = course (started c.args.kernel.now.system) (events_of c.args.events.now) in
     let opened = c.in_ok-open_outputs.ensures in
-    let played = c.in-Ok.ensures in
+    let played = c.in_ok-ending.ensures in
     let written = c.leave_disk.ensures in
     let leaves = run_leaves c.args.kernel.now c.play.new.kernel c.leave_disk.new.kernel run c.requires.root played.system played.rest written.system written.stands written.rest written.form in
     stopped_writing _ run _ _ _ opened.only opened.bytes played.only played.shown (came_to_none _ _ c.if-is_some.ensures played.ending) _ leaves _ written.only _ written.front opened.cause played.cause
@@ -24,7 +25,7 @@ pub returns-in_err-finish_outputs-clause-outcome : goal.returns-in_err-finish_ou
 returns-in_err-finish_outputs-clause-outcome g c =
     let run = course (started c.args.kernel.now.system) (events_of c.args.events.now) in
     let opened = c.in_ok-open_outputs.ensures in
-    let played = c.in-Ok.ensures in
+    let played = c.in_ok-ending.ensures in
     let written = c.leave_disk.ensures in
     let finished = c.in_err-finish_outputs.ensures in
     let leaves = run_leaves c.args.kernel.now c.play.new.kernel c.leave_disk.new.kernel run c.requires.root played.system played.rest written.system written.stands written.rest written.form in
@@ -37,7 +38,7 @@ pub returns-clause-outcome : goal.returns-clause-outcome
 returns-clause-outcome g c =
     let run = course (started c.args.kernel.now.system) (events_of c.args.events.now) in
     let opened = c.in_ok-open_outputs.ensures in
-    let played = c.in-Ok.ensures in
+    let played = c.in_ok-ending.ensures in
     let written = c.leave_disk.ensures in
     let finished = c.in_ok-finish_outputs.ensures in
     let leaves = run_leaves c.args.kernel.now c.play.new.kernel c.leave_disk.new.kernel run c.requires.root played.system played.rest written.system written.stands written.rest written.form in

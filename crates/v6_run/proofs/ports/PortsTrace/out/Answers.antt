@@ -1,22 +1,18 @@
-use Rattle.std.proofs.Common.{sym, ◌∙◌}
-use Rattle.v6_run.proofs.PortLemmas.{took_written, held_written, took_kept, held_kept, took_while_cut}
+use Rattle.std.proofs.Common.{sym, ◌∙◌, ap, is_some}
+use Rattle.v6_run.proofs.PortLemmas.{took_written, took_kept, took_while_cut}
 use Rattle.v6_run.proofs.ports.PortsTrace.out.Goals as goal
 
 pub returns-then-is_some-clause-took : goal.returns-then-is_some-clause-took
-returns-then-is_some-clause-took g c = took_while_cut (g.H.Host.outside c.args.self.now.host.now) c.args.self.now.kept c.args.byte (sym c.is_some.ensures ∙ c.if-is_some.true)
+returns-then-is_some-clause-took g c =
+    let is_cut = ap is_some (sym c.failed.ensures) ∙ sym c.is_some.ensures ∙ c.if-is_some.true in
+    took_while_cut (g.H.Host.outside c.args.self.now.host.now) c.args.self.now.kept _ is_cut
 
 pub returns-then-is_err-clause-took : goal.returns-then-is_err-clause-took
 returns-then-is_err-clause-took g c =
-    took_kept _ _ _ _ _ (sym c.is_some.ensures ∙ c.if-is_some.false) c.write.ensures (sym c.is_err.ensures.value ∙ c.if-is_err.true)
-
-pub returns-then-is_err-clause-whole : goal.returns-then-is_err-clause-whole
-returns-then-is_err-clause-whole g c = λ goes.
-    held_kept _ _ _ _ _ goes c.write.ensures (sym c.is_err.ensures.value ∙ c.if-is_err.true)
+    let goes = ap is_some (sym c.failed.ensures) ∙ sym c.is_some.ensures ∙ c.if-is_some.false in
+    took_kept _ _ c.args.self.now.kept _ _ goes c.write.ensures (sym c.is_err.ensures.value ∙ c.if-is_err.true)
 
 pub returns-else-is_err-clause-took : goal.returns-else-is_err-clause-took
 returns-else-is_err-clause-took g c =
-    took_written _ _ _ _ _ (sym c.is_some.ensures ∙ c.if-is_some.false) c.write.ensures (sym c.is_err.ensures.value ∙ c.if-is_err.false)
-
-pub returns-else-is_err-clause-whole : goal.returns-else-is_err-clause-whole
-returns-else-is_err-clause-whole g c = λ goes.
-    held_written _ _ _ _ _ goes c.write.ensures (sym c.is_err.ensures.value ∙ c.if-is_err.false)
+    let goes = ap is_some (sym c.failed.ensures) ∙ sym c.is_some.ensures ∙ c.if-is_some.false in
+    took_written _ _ c.args.self.now.kept _ _ goes c.write.ensures (sym c.is_err.ensures.value ∙ c.if-is_err.false)
