@@ -1,15 +1,14 @@
 //! Programs that read the console, under scripts that type and tick: docs/manual/terminal.md and scripts.md.
-use crate::fixtures::{Piece, RUN, TEXT, end_over, have, host_with, put, put_program};
-use make_image::build;
+use run_fixtures::{
+    HI_BYTES, Piece, RUN, Repeats, TEXT, end_over, have, hi_image, host_with, put, put_program,
+    repeated,
+};
 use std::alloc::{AllocError, Global};
 use std::test::Fail;
 use v6_port::OutPort;
 use v6_run::{Status, Unbuilt};
 
-/// Bytes, each of them a number of times.
-type Repeats<'a> = &'a [(usize, &'a [u8])];
-
-/// A program as `/etc/init` of the plain image, which is changed by putting some bytes; the lines of a script; what the
+/// A program as `/etc/init` of the disk of `examples/hi`, which is changed by putting some bytes; the lines of a script; what the
 /// terminal shows; and of the disk that the run leaves some bytes.
 #[derive(Clone, Copy)]
 struct Program<'a> {
@@ -21,11 +20,8 @@ struct Program<'a> {
     left: &'a [Piece<'a>],
 }
 
-/// The plain image is the first 67 blocks of the generator's disk 0.
-const PLAIN_BYTES: usize = 34_304;
-
-/// No block is free in it, and each program has 512 bytes of bss: the fourth word of the header.
-const PLAIN: [Piece<'static>; 2] = [(516, b"\0\0"), (33_798, b"\0\x02")];
+/// Each program has 512 bytes of bss: the fourth word of the header.
+const BSS: Piece<'static> = (33_798, b"\0\x02");
 
 /// open of the console for reading and writing, which gives the number 0; and over and over CLR R0, a read of 100
 /// bytes, `MOVB #'>,buffer(R0)`, `ADD #2,R0`, MOV of R0 to the third word of the write, CLR R0, the write of what was
@@ -67,7 +63,8 @@ const TIME_2: Piece<'static> = (924, b"\0\0\x02\0");
 
 const TIME_7: Piece<'static> = (924, b"\0\0\x07\0");
 
-const PROGRAMS: [Program<'static>; 25] = [
+/// Lines that are typed, edited, shown and read.
+const LINES: [Program<'static>; 9] = [
     // The echo of a line with an erased `b`, a killed line and a mark that isn't erased, up to 004, which isn't shown.
     Program {
         name: "ab#c@d\\#e and 004",
@@ -128,6 +125,50 @@ const PROGRAMS: [Program<'static>; 25] = [
         ],
         left: &[],
     },
+    Program {
+        name: "line that is typed before the console is opened",
+        text: ECHO,
+        pieces: &[],
+        script: &[(1, b"run 1\ntype abc\nrun 10\ntype de\nrun 20\n")],
+        term: &[(1, b"DE\r\n<DE\r\n>")],
+        left: &[],
+    },
+    Program {
+        name: "two lines typed ahead",
+        text: ECHO,
+        pieces: &[],
+        script: &[(1, b"run 3\ntype ab\ntype cd\nrun 60\n")],
+        term: &[(1, b"AB\r\nCD\r\n<AB\r\n><CD\r\n>")],
+        left: &[],
+    },
+    Program {
+        name: "line read by two bytes",
+        text: ECHO,
+        pieces: &[(TEXT + 12, b"\x02")],
+        script: &[(1, b"run 10\ntype abcd\nrun 60\n")],
+        term: &[(1, b"ABCD\r\n<AB><CD><\r\n>")],
+        left: &[],
+    },
+    Program {
+        name: "end of file",
+        text: ECHO,
+        pieces: &[],
+        script: &[(1, b"run 10\nbyte 004\nrun 20\n")],
+        term: &[(1, b"<>")],
+        left: &[],
+    },
+    Program {
+        name: "keys without the end of a line",
+        text: ECHO,
+        pieces: &[],
+        script: &[(1, b"run 10\nbyte 147\nbyte 157\nrun 100\n")],
+        term: &[(1, b"GO")],
+        left: &[],
+    },
+];
+
+/// Ticks, and the times that they leave.
+const CLOCKS: [Program<'static>; 9] = [
     Program {
         name: "120 slots with a tick after each",
         text: NEW_NODE,
@@ -221,7 +262,10 @@ const PROGRAMS: [Program<'static>; 25] = [
         term: &[(1, b"X\r\n")],
         left: &[(1176, b"\0\0\x07\0\0\0\0\0"), TIME_7],
     },
-    // Idle slots do nothing. Then one slot gives the line to the read, and the fifth after it is the write.
+];
+
+/// Idle slots do nothing. Then one slot gives the line to the read, and the fifth after it is the write.
+const IDLE: [Program<'static>; 2] = [
     Program {
         name: "line after 100,000 slots without one, and five slots",
         text: ECHO,
@@ -238,46 +282,10 @@ const PROGRAMS: [Program<'static>; 25] = [
         term: &[(1, b"GO\r\n<GO\r\n>")],
         left: &[],
     },
-    Program {
-        name: "keys without the end of a line",
-        text: ECHO,
-        pieces: &[],
-        script: &[(1, b"run 10\nbyte 147\nbyte 157\nrun 100\n")],
-        term: &[(1, b"GO")],
-        left: &[],
-    },
-    Program {
-        name: "line that is typed before the console is opened",
-        text: ECHO,
-        pieces: &[],
-        script: &[(1, b"run 1\ntype abc\nrun 10\ntype de\nrun 20\n")],
-        term: &[(1, b"DE\r\n<DE\r\n>")],
-        left: &[],
-    },
-    Program {
-        name: "two lines typed ahead",
-        text: ECHO,
-        pieces: &[],
-        script: &[(1, b"run 3\ntype ab\ntype cd\nrun 60\n")],
-        term: &[(1, b"AB\r\nCD\r\n<AB\r\n><CD\r\n>")],
-        left: &[],
-    },
-    Program {
-        name: "line read by two bytes",
-        text: ECHO,
-        pieces: &[(TEXT + 12, b"\x02")],
-        script: &[(1, b"run 10\ntype abcd\nrun 60\n")],
-        term: &[(1, b"ABCD\r\n<AB><CD><\r\n>")],
-        left: &[],
-    },
-    Program {
-        name: "end of file",
-        text: ECHO,
-        pieces: &[],
-        script: &[(1, b"run 10\nbyte 004\nrun 20\n")],
-        term: &[(1, b"<>")],
-        left: &[],
-    },
+];
+
+/// Other modes than those of the first open.
+const OTHER_MODES: [Program<'static>; 5] = [
     // Without ECHO, LCASE and CRMOD a key is read as it is; 004 and 015 too.
     Program {
         name: "keys in RAW, one by one",
@@ -345,36 +353,20 @@ const REFUSED: [(&[u8], Status, &[u8]); 3] = [
     ),
 ];
 
-/// The plain image with a program.
+/// The disk of `examples/hi` with a program.
 fn image_with(alloc: Global, text: &[u8], pieces: &[Piece<'_>]) -> Result<Vec<u8>, AllocError> {
-    let mut image = build(alloc, 0)?;
-    image.truncate(PLAIN_BYTES);
+    let mut image = hi_image(alloc, HI_BYTES, &[])?;
     put_program(&mut image, text);
-    put(&mut image, &PLAIN);
+    put(&mut image, &[BSS]);
     put(&mut image, pieces);
     Ok(image)
-}
-
-fn push_times(bytes: &mut Vec<u8>, times: usize, piece: &[u8]) -> Result<(), AllocError> {
-    for _ in 0..times {
-        bytes.extend_from_slice(piece)?;
-    }
-    Ok(())
-}
-
-fn repeated(alloc: Global, pieces: Repeats<'_>) -> Result<Vec<u8>, AllocError> {
-    let mut bytes = Vec::new(alloc);
-    for (times, piece) in pieces {
-        push_times(&mut bytes, *times, piece)?;
-    }
-    Ok(bytes)
 }
 
 fn comes_out(alloc: Global, program: &Program<'_>) -> Result<bool, AllocError> {
     let image = image_with(alloc, program.text, program.pieces)?;
     let script = repeated(alloc, program.script)?;
     let term = repeated(alloc, program.term)?;
-    let mut host = host_with(alloc, &image, &script, 200)?;
+    let mut host = host_with(alloc, &image, &script)?;
     let status = end_over(alloc, RUN, &mut host)?;
     Ok(
         status == Status::Done
@@ -384,8 +376,32 @@ fn comes_out(alloc: Global, program: &Program<'_>) -> Result<bool, AllocError> {
 }
 
 #[test]
-fn programs_read_the_console(rt: HostRuntime) -> Result<(), Fail> {
-    for program in PROGRAMS {
+fn programs_read_lines(rt: HostRuntime) -> Result<(), Fail> {
+    for program in LINES {
+        assert!(rt; comes_out(rt.alloc(), &program)?, "{}", program.name);
+    }
+    Ok(())
+}
+
+#[test]
+fn ticks_leave_times(rt: HostRuntime) -> Result<(), Fail> {
+    for program in CLOCKS {
+        assert!(rt; comes_out(rt.alloc(), &program)?, "{}", program.name);
+    }
+    Ok(())
+}
+
+#[test]
+fn lines_end_idle_slots(rt: HostRuntime) -> Result<(), Fail> {
+    for program in IDLE {
+        assert!(rt; comes_out(rt.alloc(), &program)?, "{}", program.name);
+    }
+    Ok(())
+}
+
+#[test]
+fn modes_say_how_keys_are_read(rt: HostRuntime) -> Result<(), Fail> {
+    for program in OTHER_MODES {
         assert!(rt; comes_out(rt.alloc(), &program)?, "{}", program.name);
     }
     Ok(())
@@ -398,7 +414,7 @@ fn is_refused(
     report: &[u8],
 ) -> Result<bool, AllocError> {
     let image = image_with(alloc, ECHO, &[])?;
-    let mut host = host_with(alloc, &image, script, 200)?;
+    let mut host = host_with(alloc, &image, script)?;
     let ended = end_over(alloc, RUN, &mut host)?;
     Ok(
         ended == status

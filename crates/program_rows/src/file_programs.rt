@@ -1,6 +1,6 @@
 //! Programs that make, open, write and remove files: docs/manual/calls.md and descriptors.md.
-use crate::fixtures::{Piece, RUN, end_over, have, host_with, put, put_program};
 use make_image::build;
+use run_fixtures::{Piece, RUN, end_over, have, host_with, put, put_program};
 use std::alloc::{AllocError, Global};
 use std::test::Fail;
 use v6_port::OutPort;
@@ -101,14 +101,14 @@ fn image_with(alloc: Global, program: &Program<'_>) -> Result<Vec<u8>, AllocErro
 
 /// What `check` says of a disk.
 fn is_counted(alloc: Global, disk: &[u8], counts: &[u8]) -> Result<bool, AllocError> {
-    let mut host = host_with(alloc, disk, b"", 200)?;
+    let mut host = host_with(alloc, disk, b"")?;
     let status = end_over(alloc, "check image", &mut host)?;
     Ok(status == Status::Done && host.bytes(OutPort::Report) == counts)
 }
 
 fn comes_out(alloc: Global, program: &Program<'_>) -> Result<bool, AllocError> {
     let image = image_with(alloc, program)?;
-    let mut host = host_with(alloc, &image, b"run 60\n", 200)?;
+    let mut host = host_with(alloc, &image, b"run 60\n")?;
     let status = end_over(alloc, RUN, &mut host)?;
     let counted = is_counted(alloc, host.bytes(OutPort::Final), program.counts)?;
     Ok(

@@ -1,5 +1,7 @@
 //! How commands end and what they report: docs/manual/commands.md and docs/examples.md, which has some of the rows by their names.
-use crate::fixtures::{HI_BYTES, Piece, RUN, Row, end_over, hi_image, holds, host_with, put};
+use run_fixtures::{
+    HI_BYTES, Piece, ROOMS, RUN, Rooms, Row, end_over, hi_image, holds, host_in, host_with, put,
+};
 use std::alloc::{AllocError, Global};
 use std::test::Fail;
 use v6_port::{InPort, OutPort};
@@ -11,10 +13,11 @@ const USAGE: &[u8] =
 /// The least disk without a fault: a block of inodes of which the first is a directory, and one data block.
 const LEAST_DISK: [Piece<'static>; 2] = [(512, b"\x01\x00\x04\x00"), (1024, b"\xed\xc1")];
 
-/// Words over that disk, the call of the host that fails or 0, the status, and the report. The second call is the first read
-/// of the image, the fifth that of the script. Where `check` is done, its fourth call is the report. Where the image is given
-/// as the script, its first line is none, and that comes before what isn't built of the image.
-const COMMANDS: [(&str, u32, Status, &[u8]); 29] = [
+/// Words over that disk, the call of the host that fails or 0, the status, and the report.
+type Ended<'a> = (&'a str, u32, Status, &'a [u8]);
+
+/// Words that are no command's.
+const USAGES: [Ended<'static>; 10] = [
     ("", 0, Status::Usage, USAGE),
     (
         "run image 64 script term log final more",
@@ -31,6 +34,14 @@ const COMMANDS: [(&str, u32, Status, &[u8]); 29] = [
     ("check image image", 0, Status::Usage, USAGE),
     ("check", 0, Status::Usage, USAGE),
     ("make 1234567890 final", 0, Status::Usage, USAGE),
+    ("memory image 64 script final", 0, Status::Usage, USAGE),
+    ("demo 12", 0, Status::Usage, USAGE),
+    ("make +12 final", 0, Status::Usage, USAGE),
+    ("make 12x final", 0, Status::Usage, USAGE),
+];
+
+/// Sizes of core.
+const SIZES: [Ended<'static>; 3] = [
     (
         "run image 63 script term log final",
         0,
@@ -50,6 +61,11 @@ const COMMANDS: [(&str, u32, Status, &[u8]); 29] = [
         Status::CoreSize,
         b"",
     ),
+];
+
+/// The second call is the first read of the image, the fifth that of the script. Where the image is given as the script, its
+/// first line is none, and that comes before what isn't built of the image.
+const RUNS: [Ended<'static>; 9] = [
     (
         "run none 64 script term log final",
         0,
@@ -93,6 +109,22 @@ const COMMANDS: [(&str, u32, Status, &[u8]); 29] = [
         b"not built: image\n",
     ),
     (
+        "run image 64 image term log final",
+        0,
+        Status::ScriptFault(ScriptFault::BadLine(1)),
+        b"script: line 1\n",
+    ),
+    (
+        "run image 64 script other log final",
+        0,
+        Status::NotBuilt(Unbuilt::Image),
+        b"not built: image\n",
+    ),
+];
+
+/// Where `check` is done, its fourth call is the report.
+const OTHERS: [Ended<'static>; 7] = [
+    (
         "check none",
         0,
         Status::ReadFault(InPort::Image),
@@ -112,22 +144,6 @@ const COMMANDS: [(&str, u32, Status, &[u8]); 29] = [
         Status::WriteFault(OutPort::Final),
         b"write fault: final\n",
     ),
-    ("memory image 64 script final", 0, Status::Usage, USAGE),
-    ("demo 12", 0, Status::Usage, USAGE),
-    ("make +12 final", 0, Status::Usage, USAGE),
-    ("make 12x final", 0, Status::Usage, USAGE),
-    (
-        "run image 64 image term log final",
-        0,
-        Status::ScriptFault(ScriptFault::BadLine(1)),
-        b"script: line 1\n",
-    ),
-    (
-        "run image 64 script other log final",
-        0,
-        Status::NotBuilt(Unbuilt::Image),
-        b"not built: image\n",
-    ),
     (
         "make 12 other",
         0,
@@ -137,13 +153,8 @@ const COMMANDS: [(&str, u32, Status, &[u8]); 29] = [
     ("make 000000012 final", 0, Status::Done, b""),
 ];
 
-fn least_disk_gives(
-    alloc: Global,
-    words: &str,
-    failing: u32,
-    status: Status,
-    report: &[u8],
-) -> Result<bool, AllocError> {
+fn least_disk_gives(alloc: Global, row: &Ended<'_>) -> Result<bool, AllocError> {
+    let (words, failing, status, report) = *row;
     let mut image = vec![in alloc; 0; 1026]?;
     put(&mut image, &LEAST_DISK);
     holds(
@@ -163,18 +174,39 @@ fn least_disk_gives(
 }
 
 #[test]
-fn commands_end_as_the_manual_says(rt: HostRuntime) -> Result<(), Fail> {
-    for (words, failing, status, report) in COMMANDS {
-        assert!(rt;
-            least_disk_gives(rt.alloc(), words, failing, status, report)?,
-            "{words}, {failing}"
-        );
+fn other_words_are_a_usage_fault(rt: HostRuntime) -> Result<(), Fail> {
+    for row in USAGES {
+        assert!(rt; least_disk_gives(rt.alloc(), &row)?, "{}, {}", row.0, row.1);
+    }
+    Ok(())
+}
+
+#[test]
+fn core_has_64_to_3968_clicks(rt: HostRuntime) -> Result<(), Fail> {
+    for row in SIZES {
+        assert!(rt; least_disk_gives(rt.alloc(), &row)?, "{}, {}", row.0, row.1);
+    }
+    Ok(())
+}
+
+#[test]
+fn runs_end_before_their_first_slot(rt: HostRuntime) -> Result<(), Fail> {
+    for row in RUNS {
+        assert!(rt; least_disk_gives(rt.alloc(), &row)?, "{}, {}", row.0, row.1);
+    }
+    Ok(())
+}
+
+#[test]
+fn check_and_make_end_as_the_manual_says(rt: HostRuntime) -> Result<(), Fail> {
+    for row in OTHERS {
+        assert!(rt; least_disk_gives(rt.alloc(), &row)?, "{}, {}", row.0, row.1);
     }
     Ok(())
 }
 
 /// The numbers that a program exits with.
-const NUMBERS: [(Status, u8); 9] = [
+const NUMBERS: [(Status, u8); 10] = [
     (Status::Done, 0),
     (Status::Usage, 1),
     (Status::ReadFault(InPort::Script), 2),
@@ -184,6 +216,7 @@ const NUMBERS: [(Status, u8); 9] = [
     (Status::ImageFault(ImageFault::TooLong), 6),
     (Status::NoMemory, 8),
     (Status::NotBuilt(Unbuilt::At(2)), 11),
+    (Status::NotBuilt(Unbuilt::Room), 11),
 ];
 
 #[test]
@@ -193,39 +226,35 @@ fn statuses_have_their_numbers(rt: HostRuntime) {
     }
 }
 
-/// Words over the disk of `examples/hi`, filled up to this number of bytes and changed by some pieces: status, report. Where
-/// the command is `run`, the script is the line `walk`, which is none: the fault of the image comes before that.
-const DISKS: [(&str, usize, &[Piece<'static>], Status, &[u8]); 11] = [
+/// The disk of `examples/hi`, filled up to this number of bytes and changed by some pieces: status, report.
+type Changed<'a> = (usize, &'a [Piece<'a>], Status, &'a [u8]);
+
+/// It is run by the line `walk`, which is none: the fault of the image comes before that.
+const LENGTHS: [Changed<'static>; 3] = [
     (
-        RUN,
         2_048_000,
         &[],
         Status::ScriptFault(ScriptFault::BadLine(1)),
         b"script: line 1\n",
     ),
     (
-        RUN,
         2_494_464,
         &[],
         Status::ScriptFault(ScriptFault::BadLine(1)),
         b"script: line 1\n",
     ),
     (
-        RUN,
         2_494_465,
         &[],
         Status::ImageFault(ImageFault::TooLong),
         b"image: too long\n",
     ),
+];
+
+/// It is checked.
+const FAULTS: [Changed<'static>; 8] = [
+    (HI_BYTES, &[], Status::Done, b"ok 7 nodes 0 free\n"),
     (
-        "check image",
-        HI_BYTES,
-        &[],
-        Status::Done,
-        b"ok 7 nodes 0 free\n",
-    ),
-    (
-        "check image",
         HI_BYTES,
         &[(514, b"\xa1")],
         Status::ImageFault(ImageFault::NoSwap(4001)),
@@ -233,7 +262,6 @@ const DISKS: [(&str, usize, &[Piece<'static>], Status, &[u8]); 11] = [
     ),
     // Block 300 in inodes 3 and 7, and block 4000 in inode 4.
     (
-        "check image",
         HI_BYTES,
         &[
             (1098, b"\x2c\x01"),
@@ -244,7 +272,6 @@ const DISKS: [(&str, usize, &[Piece<'static>], Status, &[u8]); 11] = [
         b"image: inode 4 has block 4000 outside\n",
     ),
     (
-        "check image",
         HI_BYTES,
         &[(1098, b"\x2c\x01"), (1226, b"\x2c\x01")],
         Status::ImageFault(ImageFault::BlockTwice(300)),
@@ -252,7 +279,6 @@ const DISKS: [(&str, usize, &[Piece<'static>], Status, &[u8]); 11] = [
     ),
     // Block 300 in inode 3 alone, and an entry of `/u` to inode 8, which is free.
     (
-        "check image",
         HI_BYTES,
         &[(1098, b"\x2c\x01"), (33312, b"\x08\x00x")],
         Status::Done,
@@ -260,21 +286,18 @@ const DISKS: [(&str, usize, &[Piece<'static>], Status, &[u8]); 11] = [
     ),
     // Block 300 is free, and the next group begins there with 101 numbers.
     (
-        "check image",
         154_112,
         &[(516, b"\x01\0\x2c\x01"), (153_600, b"\x65")],
         Status::ImageFault(ImageFault::FreeCount(300)),
         b"image: free count in block 300\n",
     ),
     (
-        "check image",
         HI_BYTES,
         &[(516, b"\x01\0\x88\x13")],
         Status::ImageFault(ImageFault::FreeOutside(5000)),
         b"image: free block 5000 outside\n",
     ),
     (
-        "check image",
         HI_BYTES,
         &[(1025, b"\x81")],
         Status::ImageFault(ImageFault::NoRoot),
@@ -282,14 +305,8 @@ const DISKS: [(&str, usize, &[Piece<'static>], Status, &[u8]); 11] = [
     ),
 ];
 
-fn disk_gives(
-    alloc: Global,
-    words: &str,
-    bytes: usize,
-    pieces: &[Piece<'_>],
-    status: Status,
-    report: &[u8],
-) -> Result<bool, AllocError> {
+fn disk_gives(alloc: Global, words: &str, row: &Changed<'_>) -> Result<bool, AllocError> {
+    let (bytes, pieces, status, report) = *row;
     let image = hi_image(alloc, bytes, pieces)?;
     holds(
         alloc,
@@ -308,10 +325,17 @@ fn disk_gives(
 }
 
 #[test]
+fn images_have_at_most_2494464_bytes(rt: HostRuntime) -> Result<(), Fail> {
+    for row in LENGTHS {
+        assert!(rt; disk_gives(rt.alloc(), RUN, &row)?, "{}", row.0);
+    }
+    Ok(())
+}
+
+#[test]
 fn first_faults_are_reported(rt: HostRuntime) -> Result<(), Fail> {
-    for (words, bytes, pieces, status, report) in DISKS {
-        let holds = disk_gives(rt.alloc(), words, bytes, pieces, status, report)?;
-        assert!(rt; holds, "{words}, {status:?}");
+    for row in FAULTS {
+        assert!(rt; disk_gives(rt.alloc(), "check image", &row)?, "{:?}", row.2);
     }
     Ok(())
 }
@@ -320,7 +344,8 @@ fn first_faults_are_reported(rt: HostRuntime) -> Result<(), Fail> {
 #[test]
 fn failed_report_of_check_is_a_write_fault(rt: HostRuntime) -> Result<(), Fail> {
     let image = hi_image(rt.alloc(), HI_BYTES, &[])?;
-    let mut host = host_with(rt.alloc(), &image, b"", 5)?;
+    let rooms = Rooms { report: 5, ..ROOMS };
+    let mut host = host_in(rt.alloc(), &image, b"", rooms)?;
     let status = end_over(rt.alloc(), "check image", &mut host)?;
     let is_front = host.bytes(OutPort::Report) == b"ok 7 ".as_slice();
     assert!(rt; is_front && status == Status::WriteFault(OutPort::Report));
@@ -329,7 +354,7 @@ fn failed_report_of_check_is_a_write_fault(rt: HostRuntime) -> Result<(), Fail> 
 
 /// What `make 12` writes, or nothing where it isn't done.
 fn disk_12(alloc: Global) -> Result<Vec<u8>, AllocError> {
-    let mut host = host_with(alloc, b"", b"", 200)?;
+    let mut host = host_with(alloc, b"", b"")?;
     let status = end_over(alloc, "make 12 final", &mut host)?;
     if status != Status::Done || !host.bytes(OutPort::Report).is_empty() {
         return Ok(Vec::new(alloc));

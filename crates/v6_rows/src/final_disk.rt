@@ -1,9 +1,9 @@
 //! The disk that a run leaves: docs/manual/final-image.md.
-use crate::fixtures::{HI_BYTES, Piece, RUN, TEXT, end_over, hi_image, host_with, is_front};
-use fs_codec::{BLOCK_SIZE, DISK_BYTES};
+use fs_codec::DISK_BYTES;
+use run_fixtures::{HI_BYTES, Piece, RUN, TEXT, end_over, hi_image, host_with};
 use std::alloc::{AllocError, Global};
 use std::test::Fail;
-use v6_port::{InPort, MemHost, OutPort};
+use v6_port::{MemHost, OutPort};
 use v6_run::{Status, Unbuilt};
 
 /// The disk of `examples/hi`, of which so many bytes are given.
@@ -14,7 +14,7 @@ fn run_over(
     words: &str,
 ) -> Result<(Status, MemHost), AllocError> {
     let image = hi_image(alloc, bytes, &[])?;
-    let mut host = host_with(alloc, &image, script, 200)?;
+    let mut host = host_with(alloc, &image, script)?;
     let status = end_over(alloc, words, &mut host)?;
     Ok((status, host))
 }
@@ -68,80 +68,10 @@ const LEFT_ALONE: [Piece<'static>; 4] = [
 #[test]
 fn what_no_file_holds_stays(rt: HostRuntime) -> Result<(), Fail> {
     let image = hi_image(rt.alloc(), 2_048_004, &LEFT_ALONE)?;
-    let mut host = host_with(rt.alloc(), &image, b"run 20\n", 200)?;
+    let mut host = host_with(rt.alloc(), &image, b"run 20\n")?;
     let status = end_over(rt.alloc(), RUN, &mut host)?;
     let disk = hi_image(rt.alloc(), 2_494_464, &LEFT_ALONE)?;
     assert!(rt; status == Status::Done && host.bytes(OutPort::Final) == disk.as_slice());
-    Ok(())
-}
-
-/// The calls of the run of `examples/hi`, over files in memory. The image is opened by call 1, read by nine calls of 4,096 bytes
-/// at most, and once more to its end; the script is opened by call 12, and read by two. Then come the two openings, a write for
-/// each of four bytes, a write for each of 4,872 blocks, and the two finishes. A call that fails, the status, and how many bytes
-/// of the terminal and how many blocks have been written.
-const FAULTS: [(u32, Status, usize, usize); 18] = [
-    (1, Status::ReadFault(InPort::Image), 0, 0),
-    (11, Status::ReadFault(InPort::Image), 0, 0),
-    (12, Status::ReadFault(InPort::Script), 0, 0),
-    (14, Status::ReadFault(InPort::Script), 0, 0),
-    (15, Status::WriteFault(OutPort::Term), 0, 0),
-    (16, Status::WriteFault(OutPort::Final), 0, 0),
-    (17, Status::WriteFault(OutPort::Term), 0, 0),
-    (18, Status::WriteFault(OutPort::Term), 1, 0),
-    (19, Status::WriteFault(OutPort::Term), 2, 0),
-    (20, Status::WriteFault(OutPort::Term), 3, 0),
-    (21, Status::WriteFault(OutPort::Final), 4, 0),
-    (22, Status::WriteFault(OutPort::Final), 4, 1),
-    (3_000, Status::WriteFault(OutPort::Final), 4, 2_979),
-    (4_892, Status::WriteFault(OutPort::Final), 4, 4_871),
-    (4_893, Status::WriteFault(OutPort::Term), 4, 4_872),
-    (4_894, Status::WriteFault(OutPort::Final), 4, 4_872),
-    (4_895, Status::Done, 4, 4_872),
-    (0, Status::Done, 4, 4_872),
-];
-
-fn report_of(status: Status) -> &'static [u8] {
-    match status {
-        Status::ReadFault(InPort::Image) => b"read fault: image\n",
-        Status::ReadFault(InPort::Script) => b"read fault: script\n",
-        Status::WriteFault(OutPort::Term) => b"write fault: term\n",
-        Status::WriteFault(OutPort::Final) => b"write fault: final\n",
-        _ => b"",
-    }
-}
-
-fn fault_leaves_fronts(
-    alloc: Global,
-    call: u32,
-    wanted: Status,
-    shown: usize,
-    blocks: usize,
-) -> Result<bool, AllocError> {
-    let image = hi_image(alloc, HI_BYTES, &[])?;
-    let mut host = host_with(alloc, &image, b"run 20\n", 200)?;
-    host.fail(call)?;
-    let status = end_over(alloc, RUN, &mut host)?;
-    let disk = hi_image(alloc, DISK_BYTES, &[])?;
-    Ok(
-        status == wanted
-            && host.bytes(OutPort::Term) == &b"HI\r\n"[..shown.min(4)]
-            && is_front(
-                host.bytes(OutPort::Final),
-                &disk,
-                blocks.min(4_872) * BLOCK_SIZE,
-            )
-            && host.bytes(OutPort::Report) == report_of(wanted),
-    )
-}
-
-#[test]
-fn each_fault_leaves_fronts(rt: HostRuntime) -> Result<(), Fail> {
-    for (call, status, shown, blocks) in FAULTS {
-        assert!(rt;
-            fault_leaves_fronts(rt.alloc(), call, status, shown, blocks)?,
-            "{call}"
-        );
-    }
     Ok(())
 }
 
@@ -159,7 +89,7 @@ fn unknown_name_of_the_disk_is_a_write_fault(rt: HostRuntime) -> Result<(), Fail
 #[test]
 fn no_disk_is_left_at_what_is_not_built(rt: HostRuntime) -> Result<(), Fail> {
     let image = hi_image(rt.alloc(), HI_BYTES, &[(TEXT + 16, b"\0\0")])?;
-    let mut host = host_with(rt.alloc(), &image, b"run 20\n", 200)?;
+    let mut host = host_with(rt.alloc(), &image, b"run 20\n")?;
     let status = end_over(rt.alloc(), RUN, &mut host)?;
     let is_shown = host.bytes(OutPort::Term) == b"HI\r\n".as_slice();
     let is_left = !host.bytes(OutPort::Final).is_empty();
@@ -171,7 +101,7 @@ fn no_disk_is_left_at_what_is_not_built(rt: HostRuntime) -> Result<(), Fail> {
 #[test]
 fn disk_takes_the_name_of_the_image(rt: HostRuntime) -> Result<(), Fail> {
     let image = hi_image(rt.alloc(), HI_BYTES, &[])?;
-    let mut host = host_with(rt.alloc(), &image, b"run 20\n", 200)?;
+    let mut host = host_with(rt.alloc(), &image, b"run 20\n")?;
     host.room(OutPort::Final, "image", DISK_BYTES)?;
     let words = "run image 1200 script term log image";
     let status = end_over(rt.alloc(), words, &mut host)?;
@@ -185,12 +115,12 @@ fn disk_takes_the_name_of_the_image(rt: HostRuntime) -> Result<(), Fail> {
 fn disk_that_is_left_runs_again(rt: HostRuntime) -> Result<(), Fail> {
     let (_, first) = run_over(rt.alloc(), HI_BYTES, b"run 20\n", RUN)?;
     let left = first.bytes(OutPort::Final);
-    let mut again = host_with(rt.alloc(), left, b"run 20\n", 200)?;
+    let mut again = host_with(rt.alloc(), left, b"run 20\n")?;
     let status = end_over(rt.alloc(), RUN, &mut again)?;
     let is_same = again.bytes(OutPort::Final) == left
         && again.bytes(OutPort::Term) == first.bytes(OutPort::Term);
     assert!(rt; status == Status::Done && is_same && !left.is_empty());
-    let mut checking = host_with(rt.alloc(), left, b"", 200)?;
+    let mut checking = host_with(rt.alloc(), left, b"")?;
     let status = end_over(rt.alloc(), "check image", &mut checking)?;
     let is_good = checking.bytes(OutPort::Report) == b"ok 7 nodes 0 free\n".as_slice();
     assert!(rt; status == Status::Done && is_good);

@@ -1,6 +1,6 @@
 //! Bytes of the disks that `make` builds, worked by hand from docs/manual/generator.md.
-use crate::fixtures::{Piece, have};
 use make_image::build;
+use run_fixtures::{Piece, have};
 use std::alloc::{AllocError, Global};
 use std::test::Fail;
 

@@ -1,6 +1,7 @@
 //! Rows of whole commands and runs, which judge the definitions. A function that is proved equal to its definition is
 //! as right as the definition: what a proof can't see is a rule of the manual that was misread in both. So each rule
-//! has rows that its likely misreadings fail: here, in `machine_rows` and in `disk_rows`.
+//! has rows that its likely misreadings fail: here, in `script_rows`, in `program_rows`, and in the crates of rows over the
+//! crates below.
 //!
 //! There is no code here but tests, over the public calls of the crates below. A row is data, and the one question
 //! about it is whether it holds. What a row must come to is worked by hand from its left side and the page of
@@ -11,22 +12,14 @@
 #[cfg(test)]
 mod commands;
 #[cfg(test)]
-mod final_disk;
+mod faults;
 #[cfg(test)]
-mod fixtures;
+mod final_disk;
 #[cfg(test)]
 mod generated;
 #[cfg(test)]
-mod kept_files;
-#[cfg(test)]
-mod one_byte;
+mod log;
 #[cfg(test)]
 mod ports;
 #[cfg(test)]
-mod programs;
-#[cfg(test)]
 mod real_files;
-#[cfg(test)]
-mod scripts;
-#[cfg(test)]
-mod terminal;

@@ -1,7 +1,8 @@
 //! Commands over files of the system: docs/manual/ports.md. What is held goes out, also where a run ends early, and what can't
 //! go out is a fault.
-use crate::fixtures::{HI_BYTES, Piece, RUN, TEXT, end_over, hi_image, is_front};
+use crate::log::shown_on;
 use fs_codec::DISK_BYTES;
+use run_fixtures::{HI_BYTES, Piece, RUN, TEXT, end_over, hi_image, is_front};
 use std::fs;
 use std::test::Fail;
 use v6_port::{FileHost, Host, OutPort};
@@ -40,7 +41,7 @@ struct FileRow<'a> {
     disk: Option<usize>,
 }
 
-const FILE_ROWS: [FileRow<'static>; 7] = [
+const FILE_ROWS: [FileRow<'static>; 8] = [
     FileRow {
         name: "hi_over_files",
         pieces: &[],
@@ -94,6 +95,15 @@ const FILE_ROWS: [FileRow<'static>; 7] = [
         script: "run 20\n",
         words: "run image 1200 script term log /dev/full",
         status: Status::WriteFault(OutPort::Final),
+        shown: Some((b"HI\r\n", 1)),
+        disk: None,
+    },
+    FileRow {
+        name: "full device for the log",
+        pieces: &[],
+        script: "run 20\n",
+        words: "run image 1200 script term /dev/full final",
+        status: Status::WriteFault(OutPort::Log),
         shown: Some((b"HI\r\n", 1)),
         disk: None,
     },
@@ -154,10 +164,11 @@ fn file_row_holds(rt: &HostRuntime, row: &FileRow<'_>) -> Result<bool, Fail> {
             let _ = fs::remove_file(rt, "final");
         }
     }
+    let _ = fs::remove_file(rt, "log");
     Ok(holds)
 }
 
-/// The image's own file gets the disk.
+/// The image's own file gets the disk, and the log's file the log.
 #[test]
 fn image_is_left_as_the_final_disk(rt: HostRuntime) -> Result<(), Fail> {
     let image = hi_image(rt.alloc(), HI_BYTES, &[])?;
@@ -166,10 +177,13 @@ fn image_is_left_as_the_final_disk(rt: HostRuntime) -> Result<(), Fail> {
     let status = end_over_files(&rt, "run image 1200 script term log image")?;
     let left = fs::read(&rt, "image")?;
     let disk = hi_image(rt.alloc(), DISK_BYTES, &[])?;
-    fs::remove_file(&rt, "image")?;
-    fs::remove_file(&rt, "script")?;
-    fs::remove_file(&rt, "term")?;
-    assert!(rt; status == Status::Done && left.as_slice() == disk.as_slice());
+    let log = fs::read(&rt, "log")?;
+    let shown = shown_on(rt.alloc(), OutPort::Log, 19)?;
+    for name in ["image", "script", "term", "log"] {
+        fs::remove_file(&rt, name)?;
+    }
+    let is_logged = log.as_slice() == shown.as_slice();
+    assert!(rt; status == Status::Done && left.as_slice() == disk.as_slice() && is_logged);
     Ok(())
 }
 

@@ -1,13 +1,15 @@
 //! How many slots a script asks for, and which scripts are refused: docs/manual/scripts.md.
-use crate::fixtures::{HI_BYTES, RUN, Row, TEXT, hi_image, holds, put};
+use run_fixtures::{HI_BYTES, RUN, Row, TEXT, hi_image, holds, put};
 use std::alloc::{AllocError, Global};
 use std::test::Fail;
 use v6_run::{ScriptFault, Status, Unbuilt};
 
-/// A script, the number of instructions RESET before the HALT of `/etc/init`, how the run ends, and its report. RESET does
-/// nothing for a user, and HALT is no instruction for one. So the first slot, which is the exec, one for each RESET, and one
-/// more bring the run to `not built`, and fewer slots don't.
-const SCRIPTS: [(&[u8], usize, Status, &[u8]); 28] = [
+/// A script, the number of instructions RESET before the HALT of `/etc/init`, how the run ends, and its report.
+type Script<'a> = (&'a [u8], usize, Status, &'a [u8]);
+
+/// RESET does nothing for a user, and HALT is no instruction for one. So the first slot, which is the exec, one for each
+/// RESET, and one more bring the run to `not built`, and fewer slots don't.
+const SLOTS: [Script<'static>; 10] = [
     (b"", 0, Status::Done, b""),
     (b"run 5", 4, Status::Done, b""),
     (
@@ -43,7 +45,10 @@ const SCRIPTS: [(&[u8], usize, Status, &[u8]); 28] = [
         Status::NotBuilt(Unbuilt::At(0)),
         b"not built: pc 0\n",
     ),
-    // Other lines ask for no slot.
+];
+
+/// Other lines ask for no slot.
+const OTHER_LINES: [Script<'static>; 5] = [
     (b"\n", 0, Status::Done, b""),
     (b"run 5\n\nrun 5\n", 9, Status::Done, b""),
     (
@@ -64,7 +69,10 @@ const SCRIPTS: [(&[u8], usize, Status, &[u8]); 28] = [
         Status::NotBuilt(Unbuilt::At(0)),
         b"not built: pc 0\n",
     ),
-    // Lines that are none. The first counts, and what comes before it isn't done.
+];
+
+/// Lines that are none. The first counts, and what comes before it isn't done.
+const BAD_LINES: [Script<'static>; 10] = [
     (
         b"run 5\r",
         0,
@@ -125,7 +133,10 @@ const SCRIPTS: [(&[u8], usize, Status, &[u8]); 28] = [
         Status::ScriptFault(ScriptFault::BadLine(1)),
         b"script: line 1\n",
     ),
-    // A key that makes a signal isn't built; a fault of the script comes first, also one after it.
+];
+
+/// A key that makes a signal isn't built; a fault of the script comes first, also one after it.
+const SIGNALS: [Script<'static>; 3] = [
     (
         b"run 5\nbyte 034\nbyte 177\n",
         0,
@@ -157,13 +168,8 @@ fn resets_then_halt(alloc: Global, resets: usize) -> Result<Vec<u8>, AllocError>
     Ok(image)
 }
 
-fn ends(
-    alloc: Global,
-    script: &[u8],
-    resets: usize,
-    status: Status,
-    report: &[u8],
-) -> Result<bool, AllocError> {
+fn ends(alloc: Global, row: &Script<'_>) -> Result<bool, AllocError> {
+    let (script, resets, status, report) = *row;
     let image = resets_then_halt(alloc, resets)?;
     holds(
         alloc,
@@ -182,12 +188,33 @@ fn ends(
 }
 
 #[test]
-fn scripts_are_read_line_by_line(rt: HostRuntime) -> Result<(), Fail> {
-    for (script, resets, status, report) in SCRIPTS {
-        assert!(rt;
-            ends(rt.alloc(), script, resets, status, report)?,
-            "{script:?}, {resets}"
-        );
+fn lines_ask_for_slots(rt: HostRuntime) -> Result<(), Fail> {
+    for row in SLOTS {
+        assert!(rt; ends(rt.alloc(), &row)?, "{:?}, {}", row.0, row.1);
+    }
+    Ok(())
+}
+
+#[test]
+fn other_lines_ask_for_no_slot(rt: HostRuntime) -> Result<(), Fail> {
+    for row in OTHER_LINES {
+        assert!(rt; ends(rt.alloc(), &row)?, "{:?}, {}", row.0, row.1);
+    }
+    Ok(())
+}
+
+#[test]
+fn first_line_that_is_none_is_the_fault(rt: HostRuntime) -> Result<(), Fail> {
+    for row in BAD_LINES {
+        assert!(rt; ends(rt.alloc(), &row)?, "{:?}", row.0);
+    }
+    Ok(())
+}
+
+#[test]
+fn keys_that_make_signals_come_after_faults(rt: HostRuntime) -> Result<(), Fail> {
+    for row in SIGNALS {
+        assert!(rt; ends(rt.alloc(), &row)?, "{:?}", row.0);
     }
     Ok(())
 }
@@ -241,7 +268,7 @@ fn long_script_ends(
         script.extend_from_slice(LINE)?;
     }
     script.extend_from_slice(end)?;
-    ends(alloc, &script, 0, status, report)
+    ends(alloc, &(&script, 0, status, report))
 }
 
 #[test]

@@ -1,7 +1,7 @@
 //! A host that gives and takes one byte a call.
 use v6_port::{Failed, Host, InPort, OutPort};
 
-/// Another host, one byte at a time.
+/// Another host, one byte a call.
 #[derive(Drop)]
 pub struct OneByte<H: Host> {
     pub host: H,

@@ -1,6 +1,6 @@
 //! What a run changes of the file system, and the forms of `/etc/init`: docs/manual/programs.md and disk.md.
-use crate::fixtures::{HI_BYTES, Piece, RUN, TEXT, end_over, have, hi_image, host_with, put};
 use fs_codec::DISK_BYTES;
+use run_fixtures::{HI_BYTES, Piece, RUN, TEXT, end_over, have, hi_image, host_with, put};
 use std::alloc::{AllocError, Global};
 use std::test::Fail;
 use v6_port::{MemHost, OutPort};
@@ -39,7 +39,7 @@ fn run_over(
     for some in pieces {
         put(&mut image, some);
     }
-    let mut host = host_with(alloc, &image, script, 200)?;
+    let mut host = host_with(alloc, &image, script)?;
     let status = end_over(alloc, RUN, &mut host)?;
     Ok((status, host))
 }
@@ -56,7 +56,7 @@ struct Left<'a> {
 }
 
 /// The slots of `examples/hi` are the exec, the open, the write, MOV #0,R0 and the exit.
-const RUNS: [Left<'static>; 11] = [
+const RUNS: [Left<'static>; 6] = [
     Left {
         name: "no slot",
         pieces: &[],
@@ -67,13 +67,6 @@ const RUNS: [Left<'static>; 11] = [
     Left {
         name: "exec",
         pieces: &[],
-        script: b"run 1\n",
-        term: b"",
-        left: &[INIT_READ],
-    },
-    Left {
-        name: "exec of a program without text and data",
-        pieces: &[(33794, b"\0")],
         script: b"run 1\n",
         term: b"",
         left: &[INIT_READ],
@@ -105,6 +98,17 @@ const RUNS: [Left<'static>; 11] = [
         script: b"run 20\n",
         term: b"HI\r\n",
         left: &[INIT_READ, CONSOLE_WRITTEN],
+    },
+];
+
+/// Other programs, files and a console.
+const FILES: [Left<'static>; 5] = [
+    Left {
+        name: "exec of a program without text and data",
+        pieces: &[(33794, b"\0")],
+        script: b"run 1\n",
+        term: b"",
+        left: &[INIT_READ],
     },
     // The text is 600 bytes; the buffer at 500 is at byte 516 of the file, and that at byte 4 of block 67.
     Left {
@@ -158,6 +162,14 @@ fn leaves(alloc: Global, row: &Left<'_>) -> Result<bool, AllocError> {
 #[test]
 fn runs_leave_the_times_of_their_calls(rt: HostRuntime) -> Result<(), Fail> {
     for row in RUNS {
+        assert!(rt; leaves(rt.alloc(), &row)?, "{}", row.name);
+    }
+    Ok(())
+}
+
+#[test]
+fn runs_read_files_of_each_form(rt: HostRuntime) -> Result<(), Fail> {
+    for row in FILES {
         assert!(rt; leaves(rt.alloc(), &row)?, "{}", row.name);
     }
     Ok(())

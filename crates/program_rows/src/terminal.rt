@@ -1,12 +1,14 @@
 //! What the terminal shows of the bytes that a program writes: docs/manual/terminal.md, which is typewriters, tty(IV), in the
 //! modes of the first open.
-use crate::fixtures::{HI_BYTES, RUN, Row, TEXT, hi_image, holds};
+use run_fixtures::{HI_BYTES, RUN, Row, TEXT, hi_image, holds};
 use std::alloc::{AllocError, Global};
 use std::test::Fail;
 use v6_run::Status;
 
 /// What a program writes, and what is shown.
-const SHOWN: [(&[u8], &[u8]); 22] = [
+type Shown<'a> = (&'a [u8], &'a [u8]);
+
+const LETTERS: [Shown<'static>; 8] = [
     (b"hi\n", b"HI\r\n"),
     (b"AZ az @[", b"AZ AZ @["),
     // Marks that capitals alone lack.
@@ -17,13 +19,19 @@ const SHOWN: [(&[u8], &[u8]); 22] = [
     (b"\xe8\xe9", b"HI"),
     (b"\x04a\x84", b"A"),
     (b"\0\x01\x7f\x80", b"\0\x01\x7f\0"),
-    // A tab goes to the next column that 8 divides.
+];
+
+/// A tab goes to the next column that 8 divides.
+const TABS: [Shown<'static>; 5] = [
     (b"\ta", b"        A"),
     (b"a\tb", b"A       B"),
     (b"1234567\t", b"1234567 "),
     (b"12345678\t", b"12345678        "),
     (b"\t\t", b"                "),
-    // What moves the column: each byte that goes out, but for control characters; a new line and a carriage return set it to 0.
+];
+
+/// What moves the column: each byte that goes out, but for control characters; a new line and a carriage return set it to 0.
+const COLUMNS: [Shown<'static>; 9] = [
     (b"|\t", b"\\!      "),
     (b"\x07\x7f\t", b"\x07\x7f        "),
     (b"a\n\t", b"A\r\n        "),
@@ -74,7 +82,23 @@ fn shows(alloc: Global, text: &[u8], shown: &[u8]) -> Result<bool, AllocError> {
 
 #[test]
 fn bytes_are_shown_as_on_a_typewriter(rt: HostRuntime) -> Result<(), Fail> {
-    for (text, shown) in SHOWN {
+    for (text, shown) in LETTERS {
+        assert!(rt; shows(rt.alloc(), text, shown)?, "{text:?}");
+    }
+    Ok(())
+}
+
+#[test]
+fn tabs_go_to_the_next_column(rt: HostRuntime) -> Result<(), Fail> {
+    for (text, shown) in TABS {
+        assert!(rt; shows(rt.alloc(), text, shown)?, "{text:?}");
+    }
+    Ok(())
+}
+
+#[test]
+fn column_moves_as_on_a_typewriter(rt: HostRuntime) -> Result<(), Fail> {
+    for (text, shown) in COLUMNS {
         assert!(rt; shows(rt.alloc(), text, shown)?, "{text:?}");
     }
     Ok(())

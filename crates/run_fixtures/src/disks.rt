@@ -1,15 +1,5 @@
-//! What the rows share: the disk of `examples/hi`, hosts in memory, and the one call of `v6`.
-ghost use Rattle.std.specs.Prelude.{IfOk};
-ghost use Rattle.v6_port.specs.Outside.{IsIdle};
-ghost use Rattle.v6_port.specs.Memory.{memory};
-
-use fs_codec::DISK_BYTES;
+//! Bytes of disks: the disk of `examples/hi`, and programs that take the place of its `/etc/init`.
 use std::alloc::{AllocError, Global};
-use v6_port::{Host, MemHost, OutPort};
-use v6_run::{Status, v6};
-
-/// The words of `run` with good names and a good core size.
-pub const RUN: &str = "run image 1200 script term log final";
 
 /// Bytes and the place where they stand.
 pub type Piece<'a> = (usize, &'a [u8]);
@@ -52,6 +42,7 @@ pub const TEXT: usize = 33808;
 pub const HI: &[u8] =
     b"\x05\x89\x12\x00\x01\x00\x04\x89\x1c\x00\x03\x00\xc0\x15\x00\x00\x01\x89/dev/tty8\0hi\n\0";
 
+/// Puts each of these pieces at its place, where the bytes have it.
 pub fn put(bytes: &mut [u8], pieces: &[Piece<'_>]) {
     for (at, piece) in pieces {
         for (i, byte) in piece.iter().enumerate() {
@@ -60,6 +51,15 @@ pub fn put(bytes: &mut [u8], pieces: &[Piece<'_>]) {
             }
         }
     }
+}
+
+/// Puts a program into the place of `/etc/init`, on this disk or on the generator's disk 0: the size in inode 7, the header, and the text.
+pub fn put_program(image: &mut [u8], text: &[u8]) {
+    let count = text.len().min(400) as u16;
+    put(image, &[(1222, (16 + count).to_le_bytes().as_slice())]);
+    put(image, &[(33794, count.to_le_bytes().as_slice())]);
+    put(image, &[(33796, b"\0\0\0\0")]);
+    put(image, &[(TEXT, text)]);
 }
 
 fn stands(bytes: &[u8], at: usize, piece: &[u8]) -> bool {
@@ -91,68 +91,4 @@ pub fn hi_image(alloc: Global, bytes: usize, pieces: &[Piece<'_>]) -> Result<Vec
     put(&mut image, &[(TEXT, HI)]);
     put(&mut image, pieces);
     Ok(image)
-}
-
-fn words_of(alloc: Global, text: &str) -> Result<Vec<String>, AllocError> {
-    let mut words = Vec::new(alloc);
-    for word in text.split_ascii_whitespace() {
-        words.push(String::from_str(alloc, word)?)?;
-    }
-    Ok(words)
-}
-
-/// How the command of these words ends over a host.
-pub fn end_over<H: Host>(alloc: Global, words: &str, host: &mut H) -> Result<Status, AllocError>
-    requires { IsIdle (H.outside host.old) }
-{
-    let words = words_of(alloc, words)?;
-    Ok(v6(alloc, &words, host))
-}
-
-/// A host with an image, a script and an empty file, and with room for all that is written, but of the report for this number
-/// of bytes.
-pub fn host_with(
-    alloc: Global,
-    image: &[u8],
-    script: &[u8],
-    report: usize,
-) -> Result<MemHost, AllocError>
-    ensures { IfOk result (λ host. IsIdle (memory host).outside) }
-{
-    let mut host = MemHost::new(alloc);
-    host.add("image", image)?;
-    host.add("script", script)?;
-    host.add("empty", b"")?;
-    host.room(OutPort::Term, "term", 4096)?;
-    host.room(OutPort::Final, "final", DISK_BYTES)?;
-    host.room(OutPort::Report, "report", report)?;
-    Ok(host)
-}
-
-/// A command over files in memory, and what it must come to.
-#[derive(Clone, Copy)]
-pub struct Row<'a> {
-    pub words: &'a str,
-    pub image: &'a [u8],
-    pub script: &'a [u8],
-    /// The call of the host that fails, or 0.
-    pub failing: u32,
-    pub status: Status,
-    pub term: &'a [u8],
-    /// What Final must hold, where that is looked at.
-    pub disk: &'a [u8],
-    pub looks_at_disk: bool,
-    pub report: &'a [u8],
-}
-
-pub fn holds(alloc: Global, row: &Row<'_>) -> Result<bool, AllocError> {
-    let mut host = host_with(alloc, row.image, row.script, 200)?;
-    host.fail(row.failing)?;
-    let status = end_over(alloc, row.words, &mut host)?;
-    Ok(
-        status == row.status
-            && host.bytes(OutPort::Term) == row.term
-            && (!row.looks_at_disk || host.bytes(OutPort::Final) == row.disk)
-            && host.bytes(OutPort::Report) == row.report,
-    )
 }

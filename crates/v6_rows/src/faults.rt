@@ -1,0 +1,102 @@
+//! What each file holds where a call of the host fails: docs/manual/commands.md.
+use crate::log::shown_on;
+use fs_codec::{BLOCK_SIZE, DISK_BYTES};
+use run_fixtures::{HI_BYTES, RUN, end_over, hi_image, host_with, is_front};
+use std::alloc::{AllocError, Global};
+use std::test::Fail;
+use v6_port::{InPort, OutPort};
+use v6_run::Status;
+
+/// A call of the run of `examples/hi` that fails, the status, how much of what the run shows has been written, and how many
+/// blocks of the disk.
+type Fault = (u32, Status, usize, usize);
+
+/// The image is opened by call 1, read by nine calls of 4,096 bytes at most, and once more to its end; the script is opened by
+/// call 12, and read by two. Then come the three openings.
+const OPENINGS: [Fault; 7] = [
+    (1, Status::ReadFault(InPort::Image), 0, 0),
+    (11, Status::ReadFault(InPort::Image), 0, 0),
+    (12, Status::ReadFault(InPort::Script), 0, 0),
+    (14, Status::ReadFault(InPort::Script), 0, 0),
+    (15, Status::WriteFault(OutPort::Term), 0, 0),
+    (16, Status::WriteFault(OutPort::Log), 0, 0),
+    (17, Status::WriteFault(OutPort::Final), 0, 0),
+];
+
+/// What is shown is 19 writes, one for each line and each byte.
+const WRITES: [Fault; 7] = [
+    (18, Status::WriteFault(OutPort::Log), 0, 0),
+    (19, Status::WriteFault(OutPort::Log), 1, 0),
+    (26, Status::WriteFault(OutPort::Term), 8, 0),
+    (27, Status::WriteFault(OutPort::Term), 9, 0),
+    (29, Status::WriteFault(OutPort::Term), 11, 0),
+    (30, Status::WriteFault(OutPort::Log), 12, 0),
+    (36, Status::WriteFault(OutPort::Log), 18, 0),
+];
+
+/// Then there is a write for each of 4,872 blocks, and the three finishes.
+const ENDS: [Fault; 9] = [
+    (37, Status::WriteFault(OutPort::Final), 19, 0),
+    (38, Status::WriteFault(OutPort::Final), 19, 1),
+    (3_000, Status::WriteFault(OutPort::Final), 19, 2_963),
+    (4_908, Status::WriteFault(OutPort::Final), 19, 4_871),
+    (4_909, Status::WriteFault(OutPort::Term), 19, 4_872),
+    (4_910, Status::WriteFault(OutPort::Log), 19, 4_872),
+    (4_911, Status::WriteFault(OutPort::Final), 19, 4_872),
+    (4_912, Status::Done, 19, 4_872),
+    (0, Status::Done, 19, 4_872),
+];
+
+fn report_of(status: Status) -> &'static [u8] {
+    match status {
+        Status::ReadFault(InPort::Image) => b"read fault: image\n",
+        Status::ReadFault(InPort::Script) => b"read fault: script\n",
+        Status::WriteFault(OutPort::Term) => b"write fault: term\n",
+        Status::WriteFault(OutPort::Log) => b"write fault: log\n",
+        Status::WriteFault(OutPort::Final) => b"write fault: final\n",
+        _ => b"",
+    }
+}
+
+fn leaves_fronts(alloc: Global, row: &Fault) -> Result<bool, AllocError> {
+    let (call, wanted, count, blocks) = *row;
+    let image = hi_image(alloc, HI_BYTES, &[])?;
+    let mut host = host_with(alloc, &image, b"run 20\n")?;
+    host.fail(call)?;
+    let status = end_over(alloc, RUN, &mut host)?;
+    let term = shown_on(alloc, OutPort::Term, count)?;
+    let log = shown_on(alloc, OutPort::Log, count)?;
+    let disk = hi_image(alloc, DISK_BYTES, &[])?;
+    let written = blocks.min(4_872) * BLOCK_SIZE;
+    Ok(
+        status == wanted
+            && host.bytes(OutPort::Term) == term.as_slice()
+            && host.bytes(OutPort::Log) == log.as_slice()
+            && is_front(host.bytes(OutPort::Final), &disk, written)
+            && host.bytes(OutPort::Report) == report_of(wanted),
+    )
+}
+
+#[test]
+fn file_that_fails_before_the_run_leaves_nothing(rt: HostRuntime) -> Result<(), Fail> {
+    for row in OPENINGS {
+        assert!(rt; leaves_fronts(rt.alloc(), &row)?, "{}", row.0);
+    }
+    Ok(())
+}
+
+#[test]
+fn write_that_fails_leaves_fronts(rt: HostRuntime) -> Result<(), Fail> {
+    for row in WRITES {
+        assert!(rt; leaves_fronts(rt.alloc(), &row)?, "{}", row.0);
+    }
+    Ok(())
+}
+
+#[test]
+fn disk_that_fails_leaves_its_front(rt: HostRuntime) -> Result<(), Fail> {
+    for row in ENDS {
+        assert!(rt; leaves_fronts(rt.alloc(), &row)?, "{}", row.0);
+    }
+    Ok(())
+}
