@@ -10,7 +10,7 @@ A seed gives a small disk made at random, whose /etc/init goes round reading wha
 the modes of the console; a size of core; and a script of all kinds of lines. `make` writes them into a folder as
 `image`, `core` and `script`, with `listing`, in which a reader finds the program's calls. `compare` runs COMMAND, a
 built v6, and the reference over COUNT seeds from FIRST on (0 where it isn't given), and prints each difference in
-status, report, bytes of the terminal and what the final disk stands for; then what the programs came to. `alone` does
+status, report, bytes of the terminal, lines of the log and what the final disk stands for; then what the programs came to. `alone` does
 the same with the reference alone. `smallest` leaves out lines of a script as long as there is a difference, and makes
 what is left.
 
@@ -25,7 +25,8 @@ import shlex
 import sys
 import tempfile
 
-from file_calls import NOT_BUILT, built_differences, by_command, by_reference, first_difference, reference
+from file_calls import (NOT_BUILT, built_differences, by_command, by_reference, first_difference, log_differences,
+                        reference)
 from random_console import KEEP, TELL, init_of, random_program, said
 from random_disk import Tree
 from random_script import random_script
@@ -105,9 +106,10 @@ def found_differences(case, folder, want, got, log):
     line, end = case.script.signal_line(), expected_end(case, log)
     if line:
         return unbuilt_differences(case, want, got, b"not built: line %d\n" % line, b"")
+    logged = log_differences(folder, end is None)
     if end is not None:
-        return unbuilt_differences(case, want, got, b"not built: pc %d\n" % end, want.term)
-    return built_differences(case, folder, want, got)
+        return [*unbuilt_differences(case, want, got, b"not built: pc %d\n" % end, want.term), *logged]
+    return [*built_differences(case, folder, want, got), *logged]
 
 
 def flaws(case, folder, want, log):

@@ -10,7 +10,7 @@ A seed gives a small disk made at random, whose /etc/init makes calls on files w
 their results, a size of core and a script. `make` writes them into a folder as `image`, `core` and `script`, with
 `listing`, in which a reader finds the calls and what is on the disk. `compare` runs COMMAND, a built v6, and the
 reference over COUNT seeds from FIRST on (0 where it isn't given), and prints each difference in status, report, bytes
-of the terminal and what the final disk stands for; then how often each call was made, and with which errors. `alone`
+of the terminal, lines of the log and what the final disk stands for; then how often each call was made, and with which errors. `alone`
 does the same with the reference alone. `smallest` leaves out calls of a seed as long as there is a difference, and
 makes what is left.
 
@@ -171,6 +171,21 @@ def first_difference(want, got):
     return f"from byte {at} on {got[at : at + 60]!r}, and by the reference {want[at : at + 60]!r}"
 
 
+def line_difference(want, got):
+    want, got = want.split(b"\n"), got.split(b"\n")
+    at = next((i for i, (a, b) in enumerate(zip(want, got)) if a != b), min(len(want), len(got)))
+    first = max(at - 3, 0)
+    return (f"line {at + 1}, of {len(got)}, {got[first : at + 3]}, and by the reference, of {len(want)}, "
+            f"{want[first : at + 3]}")
+
+
+def log_differences(folder, is_whole):
+    """How the logs differ. That of a run which comes to what isn't built goes on in the reference."""
+    want, got = read(f"{folder}/reference.log"), read(f"{folder}/v6.log")
+    if got != want if is_whole else not want.startswith(got):
+        yield "log: " + line_difference(want, got)
+
+
 def differences(command, case):
     """How a v6 and the reference differ, and what the reference comes to."""
     with tempfile.TemporaryDirectory() as folder:
@@ -179,9 +194,10 @@ def differences(command, case):
         if command is None:
             return list(flaws(case, folder, want, log)), want
         got = by_command(command, case, folder)
+        found = list(log_differences(folder, is_built(case, log)))
         if is_built(case, log):
-            return list(built_differences(case, folder, want, got)), want
-        return list(unbuilt_differences(case, want, got)), want
+            return [*built_differences(case, folder, want, got), *found], want
+        return [*unbuilt_differences(case, want, got), *found], want
 
 
 def flaws(case, folder, want, log):

@@ -64,10 +64,11 @@ def repeated(words):
     return body + [0o000400 | -(len(body) + 1) & 0o377]
 
 
-def disk_of(words):
+def disk_of(words, least=0o710):
+    """The disk whose /etc/init has these words, filled up to so many bytes."""
     with open(f"{TOP}/examples/hi/image", "rb") as file:
         image = bytearray(file.read())
-    text = struct.pack(f"<{len(words)}H", *words).ljust(0o710, b"\0")
+    text = struct.pack(f"<{len(words)}H", *words).ljust(least, b"\0")
     init = struct.pack("<8H", 0o407, len(text), 0, 0, 0, 0, 0, 0) + text
     image[BLOCK : BLOCK + 512] = init.ljust(512, b"\0")
     image[INODE + 6 : INODE + 8] = struct.pack("<H", len(init))

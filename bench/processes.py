@@ -1,0 +1,252 @@
+#!/usr/bin/env python3
+"""Compares runs of random programs of many processes, under random scripts, with a reference.
+
+    bench/processes.py make SEED FOLDER
+    bench/processes.py compare COMMAND COUNT [FIRST]
+    bench/processes.py alone COUNT [FIRST]
+    bench/processes.py smallest COMMAND SEED FOLDER
+
+A seed gives a small disk made at random, whose /etc/init makes processes, which make calls on processes and on files
+that they share, read what is typed and compute; a size of core; and a script with many ticks. `make` writes them
+into a folder as `image`, `core` and `script`, with `listing`, in which a reader finds the program's steps. `compare`
+runs COMMAND, a built v6, and the reference over COUNT seeds from FIRST on (0 where it isn't given), and prints each
+difference in status, report, bytes of the terminal, lines of the log and what the final disk stands for; then what
+the programs came to. `alone` does the same with the reference alone. `smallest` leaves out lines of a script and
+steps of a program as long as there is a difference, and makes what is left.
+
+The reference is the Python module `abstract_unix`, of which this uses `runs`, `script`, `disk` and `errors`; the
+environment variable ABSTRACT_UNIX names the folder in which it is. Where a run comes to what isn't built (a signal,
+as by a fault or a bad address, or an image for which there is no place in core), a v6 ends with status 11; the
+terminal and the log until then are compared, and no final disk is written.
+"""
+import collections
+import copy
+import json
+import os
+import random
+import re
+import shlex
+import sys
+import tempfile
+import time
+
+from file_calls import DISK_BYTES, NOT_BUILT, by_command, first_difference, line_difference, node_differences
+from random_disk import Tree
+from random_processes import assembled, init_of, listed, random_program, random_script
+
+Outcome = collections.namedtuple("Outcome", "status report term log store")
+
+
+class Case:
+    """What a seed gives, perhaps with another script or program."""
+
+    def __init__(self, seed, script=None, program=None):
+        rng = random.Random(f"processes {seed}")
+        self.seed, self.tree = seed, Tree(random.Random(f"tree {seed}"))
+        self.core = rng.choice((3968, 3968, 3968, 3968, 1200, 2100, 200, rng.randrange(64, 3969)))
+        self.program = program or random_program(random.Random(f"program {seed}"), self.tree)
+        self.script = script or random_script(random.Random(f"script {seed}"))
+        self.image = self.tree.image(init_of(self.program), random.Random(f"disk {seed}"))
+
+    def listing(self):
+        assembled(self.program)
+        lines = ["the steps, each with its address, or that of its call", *listed(self.program.all_steps())]
+        return "\n".join([*lines, "", "the disk", *self.tree.listing()]) + "\n"
+
+    def write(self, folder):
+        os.makedirs(folder, exist_ok=True)
+        texts = {"core": f"{self.core}\n".encode(), "listing": self.listing().encode()}
+        for name, data in {"image": self.image, "script": self.script.bytes(), **texts}.items():
+            with open(f"{folder}/{name}", "wb") as file:
+                file.write(data)
+
+
+# the reference
+
+class Stop(Exception):
+    """The run comes to what isn't built."""
+
+
+def reference_run(case):
+    """A run of the reference, as far as what is built goes, and the report of what isn't, or none."""
+    sys.path.insert(0, os.environ["ABSTRACT_UNIX"])
+    from abstract_unix import runs, script
+
+    class Run(runs.Run):
+        def slot(self):
+            running = self.t.running
+            self.pc = self.u.procs[running].r[7] if running else 0
+            super().slot()
+
+        def entry(self, e):
+            if e[0] == "signal":
+                self.report = b"not built: pc %d\n" % self.pc
+            elif e[0] == "fork" and e[3][0] == "swap":
+                self.report = b"not built: room\n"
+            if self.report:
+                raise Stop
+            super().entry(e)
+
+    run = Run.__new__(Run)
+    run.report = b""
+    try:
+        run.__init__(case.image, case.core, script.read(case.script.bytes()))
+    except Stop:
+        pass
+    return run
+
+
+def outcome_of(run):
+    term, log = bytes(run.u.lines[0].shown), "".join(line + "\n" for line in run.log).encode()
+    if run.report:
+        return Outcome(NOT_BUILT, run.report, term, log, None)
+    return Outcome(0, b"", term, log, json.loads(json.dumps(run.u.stores[0].dump())))
+
+
+# differences
+
+def store_differences(case, want, final):
+    from abstract_unix import disk
+    behind, image = 512 * case.tree.fsize, case.image.ljust(DISK_BYTES, b"\0")
+    if final[behind:] != image[behind:] or final[:516] != image[:516]:
+        yield "the final disk: its boot block, or what is behind the file system, has changed"
+    got = json.loads(json.dumps(disk.store_of(final).dump()))
+    for key in ("count", "room", "spare", "stamp"):
+        if want[key] != got[key]:
+            yield f"{key}: {got[key]}, and by the reference {want[key]}"
+    for ino in sorted(want["nodes"].keys() | got["nodes"].keys(), key=int):
+        yield from node_differences(ino, want["nodes"].get(ino), got["nodes"].get(ino))
+
+
+def found_differences(case, folder, want, got):
+    if (got.status, got.report) != (want.status, want.report):
+        yield f"status {got.status} {got.report!r}, and by the reference {want.status} {want.report!r}"
+    if got.term != want.term:
+        yield "terminal: " + first_difference(want.term, got.term)
+    with open(f"{folder}/v6.log", "rb") as file:
+        log = file.read()
+    if log != want.log:
+        yield "log: " + line_difference(want.log, log)
+    if want.store is None and got.final or want.store is not None and len(got.final) != DISK_BYTES:
+        yield f"a final disk of {len(got.final)} bytes"
+    elif want.store is not None:
+        yield from store_differences(case, want.store, got.final)
+
+
+def flaws(want):
+    """What isn't as it should be of a case by itself."""
+    if b"image 1 " not in want.log and want.log.count(b"\n") > 4:
+        yield "init doesn't begin"
+
+
+def differences(command, case):
+    """How a v6 and the reference differ, and what the reference comes to."""
+    want = outcome_of(reference_run(case))
+    if command is None:
+        return list(flaws(want)), want
+    with tempfile.TemporaryDirectory() as folder:
+        case.write(folder)
+        got = by_command(command, case, folder)
+        return list(found_differences(case, folder, want, got)), want
+
+
+# counts
+
+def count(want, counts):
+    log = want.log.decode()
+    counts["runs to what isn't built"] += want.report.startswith(b"not built: pc")
+    counts["runs to an image without room"] += want.report == b"not built: room\n"
+    counts["runs in which nobody is left to run"] += log.endswith("idle\nend\n")
+    counts["results told"] += len(re.findall(rb"[01][0-7]{6}\r?\n", want.term))
+    counts["most processes of a run"] = max(counts["most processes of a run"], most_processes(log))
+    for name, text in (("forks", r"^fork"), ("exits", r"^exit"), ("waits that give a child", r"^reap"),
+                       ("sleeps for a child", r"^sleep \d+ 40"), ("sleeps for a time", r"^sleep \d+ 90"),
+                       ("sleeps for keys", r"^sleep \d+ 10"), ("times set", r"^time"), ("priorities set", r"^nice"),
+                       ("wakes by time", r"^wake tout"), ("wakes of keys", r"^wake keys"), ("ticks", r"^tick"),
+                       ("choices", r"^go"), ("choices after a tick", r"^tick.\w\n(?:wake .*\n)*go"), ("lines", r"^")):
+        counts[name] += len(re.findall(text, log, re.MULTILINE))
+
+
+def most_processes(log):
+    most = now = 1
+    for line in log.splitlines():
+        now += line.startswith("fork") - line.startswith("reap")
+        most = max(most, now)
+    return most
+
+
+# words
+
+def compare(command, runs, first):
+    counts, differ, since = collections.Counter(), 0, time.time()
+    for seed in range(first, first + runs):
+        case = Case(seed)
+        found, want = differences(command, case)
+        differ += bool(found)
+        for line in found[:8]:
+            print(f"seed {seed}: {line}", flush=True)
+        count(want, counts)
+    print(f"{runs} runs, {differ} differ, {time.time() - since:.0f} seconds")
+    for name, number in counts.items():
+        print(f"{number:8}  {name}")
+    return bool(differ)
+
+
+def without(items, differs):
+    """Leaves out more and more of a list, first many and then single ones, as long as there is a difference."""
+    size = len(items)
+    while size:
+        at = 0
+        while at < len(items):
+            fewer = items[:at] + items[at + size :]
+            if differs(fewer):
+                items = fewer
+            else:
+                at += size
+        size //= 2
+    return items
+
+
+def smallest(command, seed, folder):
+    case = Case(seed)
+    if not differences(command, case)[0]:
+        sys.exit(f"seed {seed}: no difference")
+    lines = case.script.lines
+
+    def script_of(some):
+        return type(case.script)(some, [b"\n"] * len(some))
+
+    def program_of(some):
+        program = copy.copy(case.program)
+        program.steps = some
+        return program
+
+    def differs(some_lines, program):
+        return bool(some_lines) and bool(differences(command, Case(seed, script_of(some_lines), program))[0])
+
+    lines = without(lines, lambda some: differs(some, case.program))
+    steps = without(case.program.steps, lambda some: differs(lines, program_of(some)))
+    lines = without(lines, lambda some: differs(some, program_of(steps)))
+    case = Case(seed, script_of(lines), program_of(steps))
+    case.write(folder)
+    print(case.listing(), case.script.bytes(), *differences(command, case)[0], sep="\n")
+
+
+def main(words):
+    if words and words[0] in ("compare", "alone", "smallest") and "ABSTRACT_UNIX" not in os.environ:
+        sys.exit("ABSTRACT_UNIX: the folder of the reference")
+    match words:
+        case ["make", seed, folder]:
+            Case(int(seed)).write(folder)
+        case ["compare", command, runs, *first] if len(first) < 2:
+            return compare(shlex.split(command), int(runs), int(first[0]) if first else 0)
+        case ["alone", runs, *first] if len(first) < 2:
+            return compare(None, int(runs), int(first[0]) if first else 0)
+        case ["smallest", command, seed, folder]:
+            return smallest(shlex.split(command), int(seed), folder)
+        case _:
+            sys.exit(__doc__)
+
+
+if __name__ == "__main__":
+    sys.exit(main(sys.argv[1:]))
