@@ -1,0 +1,28 @@
+#!/bin/sh
+# Makes a disk whose /etc/init is the program of `listing`, and prints what it shows, and the log of what the kernel decided.
+set -eu
+cd "$(dirname "$0")/../.."
+[ -x crates/v6/out/v6 ] || examples/hi/run.sh >/dev/null
+out=$(mktemp -d)
+trap 'rm -rf "$out"' EXIT
+
+put() { # standard input over the bytes of the disk from a byte on
+    dd of="$out/image" bs=1 seek="$1" conv=notrunc 2>/dev/null
+}
+
+word() { # its two bytes, the low one first
+    printf "\\$(printf %03o $((0$1 & 255)))\\$(printf %03o $((0$1 >> 8)))"
+}
+
+# the words of the listing, without addresses and comments
+sed 's/;.*//' examples/family/listing | while read -r _ words; do
+    for w in $words; do word "$w"; done
+done >"$out/init"
+
+# disk 0 has /etc/init in block 66. Its inode is 7, with the size at byte 6.
+crates/v6/out/v6 make 0 "$out/image"
+put $((66 * 512)) <"$out/init"
+word "$(printf %o "$(wc -c <"$out/init")")" | put $((2 * 512 + 6 * 32 + 6))
+
+crates/v6/out/v6 run "$out/image" 1200 examples/family/script "$out/term" "$out/log" "$out/final"
+cat "$out/term" "$out/log"
