@@ -1,5 +1,6 @@
-//! The headers of programs: a.out(V) of the manual. A header is eight words, the low byte of each first: the magic number,
-//! the sizes of the text, of the data and of the bss, the size of the symbol table, the entry, a word without use, a flag.
+//! The headers of programs: a.out(V) of the manual. A header is eight words, the low byte of each first: the magic
+//! number, the sizes of the text, of the data and of the bss, the size of the symbol table, the entry, a word without
+//! use, a flag.
 use aout_head::ExecFault::{NotExecutable, Separate};
 use aout_head::{ExecFault, Plan, plan};
 
