@@ -11,4 +11,5 @@ pub mod Steps
 pub mod Turn
 pub mod Outside
 pub mod Passing
+pub mod Private
 pub mod Unix

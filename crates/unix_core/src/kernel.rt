@@ -8,6 +8,7 @@ ghost use Rattle.image_keep.specs.Kept.{Alive, first_kept, with_keeping};
 ghost use Rattle.unix_core.specs.Parts.{first_held};
 ghost use Rattle.unix_core.specs.Turn.{turned};
 ghost use Rattle.unix_core.specs.Outside.{is_signal_key};
+ghost use Rattle.unix_core.specs.Private.{AllUndisturbed, OthersUndisturbed};
 
 use crate::exec::{MOST_CLICKS, SLOT};
 use crate::files::{ROOT, see_kept, see_nodes};
@@ -122,6 +123,7 @@ impl Kernel {
     /// `main` and `sched` in Lions' Commentary, `main.c` and `slp.c`.
     pub fn start<T: Trace>(&mut self, trace: &mut T)
         ensures next { self.new.system ≡ (start_of self.old.system).next }
+        ensures private { AllUndisturbed self.old.system self.new.system }
         ensures rest { SameRest self.old.blocks self.new.blocks }
         ensures items { Took (T.taken trace.old) (start_of self.old.system).items (T.taken trace.new) }
         ensures frame { T.leads_to trace.old trace.new }
@@ -138,6 +140,7 @@ impl Kernel {
     pub fn turn<T: Trace>(&mut self, trace: &mut T) -> Turned
         ensures answer { result ≡ turned (event_of Slot self.old.system) }
         ensures next { self.new.system ≡ (event_of Slot self.old.system).next }
+        ensures private { OthersUndisturbed self.old.system self.new.system }
         ensures rest { SameRest self.old.blocks self.new.blocks }
         ensures items { Took (T.taken trace.old) (event_of Slot self.old.system).items (T.taken trace.new) }
         ensures frame { T.leads_to trace.old trace.new }
@@ -167,6 +170,7 @@ impl Kernel {
     pub fn tick<T: Trace>(&mut self, trace: &mut T) -> Result<(), Unbuilt>
         ensures answer { result ≡ Ok tt }
         ensures next { self.new.system ≡ (event_of Tick self.old.system).next }
+        ensures private { AllUndisturbed self.old.system self.new.system }
         ensures rest { SameRest self.old.blocks self.new.blocks }
         ensures items { Took (T.taken trace.old) (event_of Tick self.old.system).items (T.taken trace.new) }
         ensures frame { T.leads_to trace.old trace.new }
@@ -180,6 +184,7 @@ impl Kernel {
     pub fn typed<T: Trace>(&mut self, b: u8, trace: &mut T)
         requires { is_signal_key b ≡ false }
         ensures next { self.new.system ≡ (event_of (Byte b) self.old.system).next }
+        ensures private { AllUndisturbed self.old.system self.new.system }
         ensures rest { SameRest self.old.blocks self.new.blocks }
         ensures items { Took (T.taken trace.old) (event_of (Byte b) self.old.system).items (T.taken trace.new) }
         ensures frame { T.leads_to trace.old trace.new }
@@ -190,6 +195,7 @@ impl Kernel {
     /// Sets the switches of the console, 16 bits: switch(II) of the manual.
     pub fn set_switches(&mut self, w: u16)
         ensures next { self.new.system ≡ (event_of (Switch w) self.old.system).next }
+        ensures private { AllUndisturbed self.old.system self.new.system }
         ensures blocks { self.new.blocks ≡ self.old.blocks }
     {
         self.machine.world.procs.switches = w;

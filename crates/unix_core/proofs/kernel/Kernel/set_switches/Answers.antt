@@ -1,7 +1,9 @@
-use Rattle.std.proofs.Common.{◌∙◌, ap}
-use Rattle.unix_core.specs.Unix.{SystemOnDisk}
+use Rattle.std.proofs.Common.{◌∙◌, ap, sym, subst}
+use Rattle.unix_core.specs.Unix.{System, SystemOnDisk}
 use Rattle.unix_core.specs.Runs.{event_of, Switch}
 use Rattle.unix_core.proofs.BootKernelLemmas.{switched_kernel, switched_system}
+use Rattle.unix_core.specs.Private.{AllUndisturbed}
+use Rattle.unix_core.proofs.PrivateLemmas.{switched_private}
 use Rattle.unix_core.proofs.kernel.Kernel.set_switches.Goals as goal
 
 pub invariant_of-self : goal.invariant_of-self
@@ -11,3 +13,8 @@ pub returns-clause-next : goal.returns-clause-next
 returns-clause-next c =
     let m = c.self.inside.machine in
     switched_system m.world c.args.w m.stage m.regs ∙ ap (λ (v : SystemOnDisk). (event_of (Switch c.args.w) v.system).next) c.self.view_is
+
+pub returns-clause-private : goal.returns-clause-private
+returns-clause-private c =
+    let m : System = c.args.self.now.system in
+    subst (λ (n : System). AllUndisturbed m n) (sym (returns-clause-next c)) (switched_private m c.args.w)

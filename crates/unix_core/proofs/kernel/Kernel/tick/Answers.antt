@@ -1,7 +1,14 @@
-use Rattle.std.proofs.Common.{◌∙◌, ap}
-use Rattle.unix_core.specs.Unix.{SystemOnDisk}
+use Rattle.std.proofs.Common.{◌∙◌, ap, sym, subst}
+use Rattle.unix_core.specs.Unix.{System, SystemOnDisk}
 use Rattle.unix_core.specs.Outside.{tick_of}
+use Rattle.unix_core.specs.Private.{AllUndisturbed}
+use Rattle.unix_core.proofs.PrivateLemmas.{tick_private}
 use Rattle.unix_core.proofs.kernel.Kernel.tick.Goals as goal
 
 pub returns-clause-next : goal.returns-clause-next
 returns-clause-next g c = c.tick.ensures.takes.system ∙ ap (λ (k : SystemOnDisk). (tick_of k.system).next) c.self.view_is
+
+pub returns-clause-private : goal.returns-clause-private
+returns-clause-private g c =
+    let m : System = c.args.self.now.system in
+    subst (λ (n : System). AllUndisturbed m n) (sym (returns-clause-next g c)) (tick_private m)

@@ -17,6 +17,8 @@ use Rattle.unix_core.proofs.LoanLemmas.{lent_back}
 use Rattle.unix_core.proofs.PutLemmas.{with_images}
 use Rattle.unix_core.proofs.MachineLemmas.{runs_kernel}
 use Rattle.unix_core.proofs.TurnSteps.{lent_stepped, lent_user, apart_process, user_slot, quiet_system, plain_answer, plain_next, plain_items}
+use Rattle.unix_core.specs.Private.{OthersUndisturbed}
+use Rattle.unix_core.proofs.PrivateLemmas.{slot_private}
 use Rattle.unix_core.proofs.kernel.Kernel.turn.Goals as goal
 
 pub space-space-requires : goal.space-space-requires
@@ -112,6 +114,11 @@ returns-in-Next-clause-next g c =
     ∙ plain_next sys s user.ready.user step.new.regs (with_images w k) next (quiet_system w s m.regs user)
     ∙ ap (λ (x : System). (event_of Slot x).next) same
 
+pub returns-in-Next-clause-private : goal.returns-in-Next-clause-private
+returns-in-Next-clause-private g c =
+    let was : System = c.args.self.now.system in
+    subst (λ (n : System). OthersUndisturbed was n) (sym (returns-in-Next-clause-next g c)) (slot_private was)
+
 pub returns-in-Next-clause-items : goal.returns-in-Next-clause-items
 returns-in-Next-clause-items g c =
     let m = c.self.inside.machine in
@@ -158,11 +165,14 @@ returns-in_default g c =
     ap (λ (at : Stage). system_at at m.regs w) (sym c.in-Running.is) ∙ ap (λ (x : SystemOnDisk). x.system) c.self.view_is in
     let after = c.after_step in
     let slot = sym (user_slot sys s user.ready.runs user.ready.user) ∙ ap (event_of Slot) same in
+    let was : System = c.args.self.now.system in
+    let next = after.ensures.system sys done ∙ ap (λ (t : Turn). t.next) slot in
     record {
       answer = c.turned_at.ensures
           ∙ ap (λ (p : Process). turned_at (register p 7) after.result) (sym (apart_process w s m.regs user.ready))
           ∙ after.ensures.answer sys done ∙ ap turned slot;
-      next = after.ensures.system sys done ∙ ap (λ (t : Turn). t.next) slot;
+      next = next;
+      private = subst (λ (n : System). OthersUndisturbed was n) (sym next) (slot_private was);
       rest = subst (λ b. SameRest b after.new.self.world.files.tree.nodes.blocks) (ap (λ (x : SystemOnDisk). x.blocks) c.self.view_is) after.ensures.rest;
       items = subst (λ (t : Turn). Took (g.T.Trace.taken c.args.trace.now) t.items (g.T.Trace.taken after.new.trace)) slot (after.ensures.items sys done);
       frame = after.ensures.frame;
@@ -174,9 +184,12 @@ returns-in-Fresh g c =
     let other = c.other_slot in
     let same : event_of Slot (system_at m.stage m.regs m.world) ≡ event_of Slot c.args.self.now.system =
     ap (λ (x : SystemOnDisk). event_of Slot x.system) c.self.view_is in
+    let was : System = c.args.self.now.system in
+    let next = other.ensures.takes.system ∙ ap (λ (t : Turn). t.next) same in
     record {
       answer = c.turned_at-in-Fresh.ensures ∙ ap (λ n. turned_at n other.result) c.pc-at.ensures ∙ other.ensures.answer ∙ ap turned same;
-      next = other.ensures.takes.system ∙ ap (λ (t : Turn). t.next) same;
+      next = next;
+      private = subst (λ (n : System). OthersUndisturbed was n) (sym next) (slot_private was);
       rest = subst (λ b. SameRest b other.new.self.world.files.tree.nodes.blocks) (ap (λ (x : SystemOnDisk). x.blocks) c.self.view_is) other.ensures.rest;
       items = subst (λ (t : Turn). Took (g.T.Trace.taken c.args.trace.now) t.items (g.T.Trace.taken other.new.trace)) same other.ensures.items;
       frame = other.ensures.frame;

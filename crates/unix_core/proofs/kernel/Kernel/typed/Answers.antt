@@ -1,7 +1,14 @@
-use Rattle.std.proofs.Common.{◌∙◌, ap}
-use Rattle.unix_core.specs.Unix.{SystemOnDisk}
+use Rattle.std.proofs.Common.{◌∙◌, ap, sym, subst}
+use Rattle.unix_core.specs.Unix.{System, SystemOnDisk}
 use Rattle.unix_core.specs.Outside.{typed_of}
+use Rattle.unix_core.specs.Private.{AllUndisturbed}
+use Rattle.unix_core.proofs.PrivateLemmas.{typed_private}
 use Rattle.unix_core.proofs.kernel.Kernel.typed.Goals as goal
 
 pub returns-clause-next : goal.returns-clause-next
 returns-clause-next g c = c.typed.ensures.takes.system ∙ ap (λ (k : SystemOnDisk). (typed_of k.system c.args.b).next) c.self.view_is
+
+pub returns-clause-private : goal.returns-clause-private
+returns-clause-private g c =
+    let m : System = c.args.self.now.system in
+    subst (λ (n : System). AllUndisturbed m n) (sym (returns-clause-next g c)) (typed_private m c.args.b)

@@ -1,0 +1,252 @@
+-- Processes are private: what each event leaves of those whose turn it isn't.
+use Rattle.std.proofs.Common.{◌≢◌, ℕ, zero, suc, Bool, true, false, ◌||◌, ◌==◌, nat_lt, if◌then◌else◌, List, ◌∷◌, ◌++◌, set, map, Option, Some, None, sym, ap}
+use Rattle.std.specs.Prelude.{⊤, MatchOption, Result, Ok, Err}
+use Rattle.v6_base.specs.Trace.{Log, sent}
+use Rattle.v6_base.specs.declared.answer.Answer.{Answer}
+use Rattle.v6_base.specs.declared.answer.Answer.TheVariants.{Ret, Fail, Sleep}
+use Rattle.v6_base.specs.declared.entry.Chan.{Chan}
+use Rattle.v6_base.specs.declared.entry.Chan.TheVariants.{Keys, Tout}
+use Rattle.v6_base.specs.declared.errno.Errno.{Errno}
+use Rattle.pdp_step.specs.declared.outcome.Outcome.{Outcome}
+use Rattle.pdp_step.specs.declared.outcome.Outcome.TheVariants.{Next, Call, Fault}
+use Rattle.pdp_step.specs.Instruction.{Stepped, instr}
+use Rattle.pick_rules.specs.declared.row.Mode.{Mode}
+use Rattle.pick_rules.specs.Effects.{Show}
+use Rattle.fs_codec.specs.Store.{Node}
+use Rattle.fs_tree.specs.Finding.{Finding, Inodes}
+use Rattle.image_keep.specs.Kept.{clicks_of}
+use Rattle.sys_files.specs.Did.{Did}
+use Rattle.sys_files.specs.Descriptors.{Closing}
+use Rattle.sys_files.specs.Handed.{node_in}
+use Rattle.sys_files.specs.Moving.{resume_read}
+use Rattle.tty_line.specs.Input.{Typed, typed}
+use Rattle.u_area.specs.declared.area.UArea.{UArea}
+use Rattle.sys_procs.specs.Process.{Process, register, image_of}
+use Rattle.sys_procs.specs.Comes.{Comes}
+use Rattle.sys_procs.specs.Times.{pending_sleep}
+use Rattle.sys_procs.specs.Wait.{pending_wait}
+use Rattle.sys_procs.specs.Exit.{exit_now}
+use Rattle.sys_procs.specs.Fork.{fork_one}
+use Rattle.sys_procs.specs.Resume.{resume_proc}
+use Rattle.unix_core.specs.declared.asked.Asked.{Asked}
+use Rattle.unix_core.specs.declared.ending.Ending.{Ending}
+use Rattle.unix_core.specs.declared.ending.Ending.TheVariants as ending
+use Rattle.unix_core.specs.Unix.{Unix, System, process_of, with_process}
+use Rattle.unix_core.specs.Steps.{Steps, quietly, returns, not_built, no_room}
+use Rattle.unix_core.specs.Errors.{error_number}
+use Rattle.unix_core.specs.Calls.{FileCall, ProcessCall, handed_of, with_handed, world_of, with_world, with_area, entered_area, words_passed, asked, given_area, refused_area, answers, file_call, process_call, did_by, came_by, forks, is_full, closes_all, exits, by_process_row, by_file_row, does_call, count_of, does_if_built, pending_read, resumed}
+use Rattle.unix_core.specs.Exec.{init_in, inodes_in, exec_node, exec_found, exec_init}
+use Rattle.unix_core.specs.Form.{is_program}
+use Rattle.unix_core.specs.Turn.{machine_of, with_machine, comes_to, instruction, is_user, has_room, turn, end_effects, turn_of, pass_effects, pass_of, slot_of}
+use Rattle.unix_core.specs.Outside.{mode_of, timed, charged, ticked, is_due, wakes, tick_entry, tick_of, calls, typed_of}
+use Rattle.unix_core.specs.Runs.{Slot, Tick, Byte, Switch, event_of, start_of}
+use Rattle.unix_core.specs.Private.{IsUndisturbed, AllUndisturbed, OthersUndisturbed}
+use Rattle.unix_core.proofs.PrivateSlots.{Spared, AllCarry, spared_same, spared_then, spared_other, spared_timed, left_carried, carry_shown, carry_both, carry_lifted}
+use Rattle.unix_core.proofs.PrivateRows.{IsSparing, IsSparingRow, sparing_row, sparing_fork, sparing_exit, sparing_resume}
+
+-- a Unix in which the process of a slot lives on
+abbrev HasSpared : List (Option Process) → ℕ → Unix → Type 0
+HasSpared ps r u = Spared ps u.processes r
+
+-- A turn has left a slot alone, and so had the Unix before each of its effects.
+record AreSparing (ps : List (Option Process)) (r : ℕ) (steps : Steps) : Type 0 where
+  pub effects : AllCarry (HasSpared ps r) steps.effects
+  pub unix : Spared ps steps.unix.processes r
+
+module _ (ps : List (Option Process)) (r s : ℕ) (other : r ≢ s) where
+  sparing_quiet : (u : Unix) (e : Ending) → Spared ps u.processes r → AreSparing ps r (quietly u e)
+  sparing_quiet u e h = record { effects = tt; unix = h }
+
+  spared_put : (u : Unix) (o : Option Process) → Spared ps u.processes r → Spared ps (set u.processes s o) r
+  spared_put u o h = spared_then ps u.processes (set u.processes s o) r h (spared_other u.processes s r o other)
+
+  spared_area : (u : Unix) (rule : UArea → UArea) → Spared ps u.processes r → Spared ps (with_area u s rule).processes r
+  spared_area u rule h = spared_put u _ h
+
+  -- answers
+  spared_refused : (u : Unix) (n : ℕ) (b : Bool) → Spared ps u.processes r
+      → Spared ps (if b then returns (with_area u s (refused_area n)) else not_built u).unix.processes r
+  spared_refused u n true h = spared_area u (refused_area n) h
+  spared_refused u n false h = h
+
+  spared_answers : (u : Unix) (a : Answer) → Spared ps u.processes r → Spared ps (answers u s a).unix.processes r
+  spared_answers u (Ret r0 r1) h = spared_area u (given_area r0 r1) h
+  spared_answers u (Fail e) h = spared_refused u (error_number e) (nat_lt (error_number e) 100) h
+  spared_answers u (Sleep pri chan) h = h
+
+  module _ (u : Unix) (h : Spared ps u.processes r) where
+    sparing_did : (did : Did) → AreSparing ps r (did_by u s did)
+    sparing_did did = record {
+      effects = carry_shown (HasSpared ps r) did.items;
+      unix = spared_answers (with_handed u s did.state) did.answer (spared_put u _ h);
+    }
+
+    sparing_came : (c : Comes) → IsSparing ps r c → AreSparing ps r (came_by u s c)
+    sparing_came c sparing = record {
+      effects = carry_lifted (with_world u) (HasSpared ps r) c.effects sparing.effects;
+      unix = spared_answers (with_world u c.state) c.answer sparing.state;
+    }
+
+    sparing_room : (b : Bool) → AreSparing ps r (if b then forks u s else no_room u)
+    sparing_room true =
+        let c : Comes = fork_one (world_of u) s in
+        let came : AreSparing ps r (came_by u s c) = sparing_came c (sparing_fork ps r s other (world_of u) h) in
+        record { effects = came.effects; unix = came.unix }
+    sparing_room false = sparing_quiet u ending.NoRoom h
+
+    sparing_exits : AreSparing ps r (exits u s)
+    sparing_exits =
+        let closed : Closing = closes_all u s in
+        let now : Unix = with_handed u s closed.state in
+        let c : Comes = exit_now (world_of now) s in
+        let came : IsSparing ps r c = sparing_exit ps r s other (world_of now) (spared_put u _ h) in
+        record {
+          effects = carry_both (HasSpared ps r) (map Show closed.items) _ (carry_shown (HasSpared ps r) closed.items)
+              (carry_lifted (with_world now) (HasSpared ps r) c.effects came.effects);
+          unix = came.state;
+        }
+
+    sparing_process : (o : Option ProcessCall) (args : List ℕ) → MatchOption o ⊤ (IsSparingRow ps r s other)
+        → AreSparing ps r (by_process_row u s args o)
+    sparing_process None args row = sparing_quiet u ending.NotBuilt h
+    sparing_process (Some c) args row = sparing_came (c.does (world_of u) s args) (row (world_of u) args h)
+
+    sparing_file : (o : Option FileCall) (on_process : Option ProcessCall) (args : List ℕ)
+        → MatchOption on_process ⊤ (IsSparingRow ps r s other) → AreSparing ps r (by_file_row u s args o on_process)
+    sparing_file None on_process args row = sparing_process on_process args row
+    sparing_file (Some c) on_process args row = sparing_did (c.does (handed_of u (process_of u s)) args u.clock.time)
+
+    sparing_if : (b : Bool) (x y : Steps) → AreSparing ps r x → AreSparing ps r y → AreSparing ps r (if b then x else y)
+    sparing_if true x y k l = k
+    sparing_if false x y k l = l
+
+    sparing_does : (has_room : ℕ → Bool) (number : ℕ) (args : List ℕ)
+        → AreSparing ps r (does_call has_room u s number args)
+    sparing_does has_room number args =
+        sparing_if (number == 0) _ _ (sparing_quiet u ending.Trapped h)
+        (sparing_if (number == 1) _ _ sparing_exits
+        (sparing_if (number == 2) _ _ (sparing_room (is_full u || has_room (clicks_of (process_of u s).u)))
+        (sparing_file (file_call number) (process_call number) args (sparing_row ps r s other number))))
+
+  module _ (u : Unix) (h : Spared ps u.processes r) where
+    sparing_built : (has_room : ℕ → Bool) (a : Asked) (o : Option ℕ) → AreSparing ps r (does_if_built has_room u s a o)
+    sparing_built has_room a None = sparing_quiet u ending.NotBuilt h
+    sparing_built has_room a (Some count) =
+        let entered : Unix = with_area u s (entered_area (words_passed a count)) in
+        sparing_does entered (spared_area u (entered_area (words_passed a count)) h) has_room a.number a.args
+
+    sparing_outcome : (has_room : ℕ → Bool) (o : Outcome) → AreSparing ps r (comes_to has_room u s o)
+    sparing_outcome has_room Next = sparing_quiet u ending.Next h
+    sparing_outcome has_room (Call number) =
+        let p : Process = process_of u s in
+        let a : Asked = asked (image_of p) (register p 7) number in
+        sparing_built has_room a (count_of a.number)
+    sparing_outcome has_room (Fault kind) = sparing_quiet u ending.NotBuilt h
+
+  -- turns
+  module _ (u : Unix) (h : Spared ps u.processes r) where
+    sparing_instruction : (has_room : ℕ → Bool) → AreSparing ps r (instruction has_room u s)
+    sparing_instruction has_room =
+        let p : Process = process_of u s in
+        let stepped : Stepped = instr (machine_of p) in
+        sparing_outcome (with_process u s (with_machine p stepped.machine)) (spared_put u _ h) has_room stepped.outcome
+
+    sparing_resumed : AreSparing ps r (resumed u s)
+    sparing_resumed =
+        let pending = (process_of u s).u.pending in
+        sparing_if u h (pending == pending_read) _ _ (sparing_did u h (resume_read (handed_of u (process_of u s))))
+        (sparing_if u h ((pending == pending_sleep) || (pending == pending_wait)) _ _
+        (sparing_came u h (resume_proc (world_of u) s) (sparing_resume ps r s other (world_of u) h))
+        (sparing_quiet u ending.NotBuilt h))
+
+    sparing_node : (n : Inodes) (ino : ℕ) (node : Node) → AreSparing ps r (exec_node u s n ino node)
+    sparing_node n ino node =
+        sparing_if u h (is_program node) _ _ (record { effects = (tt, (h, tt)); unix = spared_put u _ h })
+        (sparing_quiet u ending.NotBuilt h)
+
+    sparing_found : (found : Finding ℕ) (a : Result ℕ Errno) → AreSparing ps r (exec_found u s found a)
+    sparing_found found (Ok ino) = sparing_node found.inodes ino (node_in found.inodes.store ino)
+    sparing_found found (Err e) = sparing_quiet u ending.NotBuilt h
+
+    sparing_exec : AreSparing ps r (exec_init u s)
+    sparing_exec = let found : Finding ℕ = init_in (inodes_in u) in sparing_found found found.answer
+
+  carry_end : (e : Ending) → AllCarry (HasSpared ps r) (end_effects s e)
+  carry_end ending.Next = tt
+  carry_end ending.Trapped = (tt, tt)
+  carry_end (ending.Slept pri chan) = (tt, tt)
+  carry_end ending.Ended = tt
+  carry_end ending.NoRoom = tt
+  carry_end ending.NotBuilt = tt
+
+module _ (m : System) (r : ℕ) where
+  -- the processes as they were
+  abbrev before : List (Option Process)
+  before = m.unix.processes
+
+  spared_turn : (s : ℕ) → r ≢ s → IsUndisturbed m.unix (turn_of m s (turn m s)).next.unix r
+  spared_turn s other =
+      let u : Unix = m.unix in
+      let same = spared_same before r in
+      let h : AreSparing before r (turn m s) =
+      sparing_if before r s other u same m.is_fresh _ _ (sparing_exec before r s other u same)
+      (sparing_if before r s other u same (is_user (process_of u s)) _ _
+      (sparing_instruction before r s other u same (has_room m.board)) (sparing_resumed before r s other u same)) in
+      let done : Steps = turn m s in
+      left_carried (HasSpared before r) m.board (done.effects ++ end_effects s done.ending) done.unix
+      (carry_both (HasSpared before r) done.effects (end_effects s done.ending) h.effects
+      (carry_end before r s other done.ending)) h.unix
+
+  spared_pass : IsUndisturbed m.unix (pass_of m).next.unix r
+  spared_pass = left_carried (HasSpared before r) m.board pass_effects m.unix (tt, tt) (spared_same before r)
+
+  spared_slot : (o : Option ℕ) → o ≢ Some r → IsUndisturbed m.unix (slot_of m o).next.unix r
+  spared_slot None other = spared_same before r
+  spared_slot (Some zero) other = spared_pass
+  spared_slot (Some (suc s)) other = spared_turn (suc s) (λ same. other (ap (λ n. Some n) (sym same)))
+
+  spared_charged : (mode : Mode) (o : Option ℕ) → Spared before (charged m.unix mode o).processes r
+  spared_charged mode None = spared_same before r
+  spared_charged mode (Some s) = by (s == 0)
+    where
+      by : (b : Bool)
+          → Spared before (if b then m.unix else with_process m.unix s (timed mode (process_of m.unix s))).processes r
+      by true = spared_same before r
+      by false = spared_timed before s r mode
+
+  carry_wakes : (b : Bool) (chan : Chan) → AllCarry (HasSpared before r) (wakes b chan)
+  carry_wakes true chan = (tt, tt)
+  carry_wakes false chan = tt
+
+  spared_tick : IsUndisturbed m.unix (tick_of m).next.unix r
+  spared_tick =
+      left_carried (HasSpared before r) m.board
+      (Show (Log (tick_entry (mode_of m))) ∷ wakes (is_due m.unix.clock) Tout) (ticked m)
+      (tt, carry_wakes (is_due m.unix.clock) Tout) (spared_charged (mode_of m) m.board.table.running)
+
+  spared_typed : (byte : ℕ) → IsUndisturbed m.unix (typed_of m byte).next.unix r
+  spared_typed byte =
+      let k : Typed = typed m.unix.line byte in
+      left_carried (HasSpared before r) m.board (map Show (sent 0 k.shown) ++ wakes (calls k.keyed) Keys)
+      (record m.unix { line = k.terminal })
+      (carry_both (HasSpared before r) (map Show (sent 0 k.shown)) (wakes (calls k.keyed) Keys)
+      (carry_shown (HasSpared before r) (sent 0 k.shown)) (carry_wakes (calls k.keyed) Keys))
+      (spared_same before r)
+
+-- The law, event by event: at the start,
+pub start_private : (m : System) → AllUndisturbed m (start_of m).next
+start_private m r = spared_pass m r
+
+-- by a slot,
+pub slot_private : (m : System) → OthersUndisturbed m (event_of Slot m).next
+slot_private m r other = spared_slot m r m.board.table.running other
+
+-- a tick, a key and the switches.
+pub tick_private : (m : System) → AllUndisturbed m (event_of Tick m).next
+tick_private m r = spared_tick m r
+
+pub typed_private : (m : System) (byte : ℕ) → AllUndisturbed m (event_of (Byte byte) m).next
+typed_private m byte r = spared_typed m r byte
+
+pub switched_private : (m : System) (word : ℕ) → AllUndisturbed m (event_of (Switch word) m).next
+switched_private m word r = spared_same m.unix.processes r
