@@ -22,8 +22,8 @@ fn word(head: &[u8; 16], n: usize) -> u16
     LittleEndian::read_u16(&head[2 * n..2 * n + 2])
 }
 
-/// What the header of a program's file says of its parts: a.out(V), and `exec` in Lions' Commentary, `sys1.c`. Unlike there
-/// the sum of text and data doesn't wrap.
+/// What the header of a program's file says of its parts: a.out(V), and `exec` in Lions' Commentary, `sys1.c`. Unlike
+/// there the sum of text and data doesn't wrap.
 ///
 /// # Errors
 ///

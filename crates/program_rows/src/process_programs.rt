@@ -116,7 +116,7 @@ const CHILDREN: [Program<'static>; 4] = [
 ];
 
 /// Who runs, and when.
-const TIMES: [Program<'static>; 6] = [
+const TIMES: [Program<'static>; 8] = [
     // fork; BR 14; MOV #3,R0; sleep; exit. At 14, MOV #1,R0; sleep; exit. The first second wakes both, and the parent
     // sleeps again. The child has ended by then, and its slot is taken, with block 4000, as nobody waits for it.
     Program {
@@ -203,6 +203,48 @@ const TIMES: [Program<'static>; 6] = [
                 b"go 2\ntrap 2\ngo 2\nnice 2 5\ntrap 2\nexit 2 swap 4000\nwake wait.1\n",
             ),
             (1, b"wake wait.1\ngo 1\nreap 2\ntrap 1\nend\n"),
+        ],
+    },
+    // BR . Its use of the processor is 50, 100, 150, 200 and then 245 after a second, and its priority 103, 106, 109,
+    // 112, 115. While that rises there is a new choice each second; later only where four divides the time, at 8 and at
+    // 12.
+    Program {
+        name: "a choice each four seconds",
+        text: b"\xff\x01",
+        script: &[(1, b"run 2\n"), (780, b"tick\n")],
+        term: b"",
+        log: &[
+            (60, b"tick u\n"),
+            (1, b"go 1\n"),
+            (60, b"tick u\n"),
+            (1, b"go 1\n"),
+            (60, b"tick u\n"),
+            (1, b"go 1\n"),
+            (60, b"tick u\n"),
+            (1, b"go 1\n"),
+            (60, b"tick u\n"),
+            (1, b"go 1\n"),
+            (180, b"tick u\n"),
+            (1, b"go 1\n"),
+            (240, b"tick u\n"),
+            (1, b"go 1\n"),
+            (60, b"tick u\n"),
+            (1, b"end\n"),
+        ],
+    },
+    // fork; BR 14; MOV #5,R0; sleep; exit. At 14, CLR R0; MOV #10.,R1; stime; BR . The parent, which sleeps until 5,
+    // goes on at 10. Then both have 100, and the slot behind the last one is first.
+    Program {
+        name: "a sleeper looks at a time that is set",
+        text: b"\x02\x89\x04\x01\xc0\x15\x05\0#\x89\x01\x89\0\n\xc1\x15\n\0\x19\x89\xff\x01",
+        script: &[(1, b"run 30\n")],
+        term: b"",
+        log: &[
+            (
+                1,
+                b"fork 1 2 at 38\ntrap 1\nsleep 1 90 tout\ngo 2\ntime 10\nwake tout\n",
+            ),
+            (1, b"trap 2\ngo 1\ntrap 1\ngo 2\nend\n"),
         ],
     },
     // MOV #1,R0; MOV #5,R1; stime; time; MOV R0,@#70; MOV R1,@#72; MOV #7,R0; setuid; stime, which is refused; MOV
