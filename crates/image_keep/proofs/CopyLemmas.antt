@@ -139,7 +139,7 @@ stack_more m n o j at formed none to_none wide even within here is =
     })
 
 -- An image that is cut to nothing and then grows is cleared.
-none_left : (xs : List ℕ) → cut_back 0 xs ≡ []
+pub none_left : (xs : List ℕ) → cut_back 0 xs ≡ []
 unfolding cut_back
 none_left xs = let none : 0 - length xs ≡ 0 = omega arith in rw none refl
 

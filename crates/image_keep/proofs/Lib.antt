@@ -6,3 +6,4 @@ pub mod StoreLemmas
 pub mod PlaceFrames
 pub mod Loans
 pub mod HalfLemmas
+pub mod GrowthLemmas

@@ -5,3 +5,4 @@ pub mod Lent
 pub mod Rows
 pub mod Inside
 pub mod Copied
+pub mod Growth

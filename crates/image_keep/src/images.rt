@@ -1,14 +1,17 @@
 //! The images of all slots.
 ghost use Rattle.std.specs.Prelude.{◌≡◌, ◌+◌, ◌<◌, ◌≤◌, true, None, Some, IfOk, MatchResult, is_some, map, replicate};
+ghost use Rattle.v6_base.specs.Image.{nseg};
 ghost use Rattle.v6_base.specs.Access.{load_byte, load_word, store_byte, store_word, image_after, answer_of};
 ghost use Rattle.image_keep.specs.Kept.{Kept, is_alive, Nothing, Alive, Grave, first_kept, keeping, with_keeping, with_image, with_area, image_of, area_of, place_of, clicks_of, HasSizes, HasImage, HasGrave, IsKept, half_of};
 ghost use Rattle.image_keep.specs.Places.{core_fit, swap_fit, placed, blocks, with_image_at, with_grave_at, cleared};
+ghost use Rattle.image_keep.specs.Growth.{most_clicks, area_resized, image_resized, expanded};
 ghost use Rattle.image_keep.specs.Area.{sized_area};
 ghost use Rattle.image_keep.specs.Rows.{keepings};
 ghost use Rattle.u_area.specs.Area.{IsSized};
 
 use crate::copying::{clear_memory, copy_between};
 use crate::fit::first_fit;
+use crate::growth::expand_row;
 use crate::row::{ImageRow, Map, State, blocks_of, clicks_of, first_half, new_area};
 use seg_regs::Proto;
 use std::alloc::{AllocError, Global};
@@ -24,6 +27,9 @@ const SLOTS: u8 = 50;
 const SWAP_FIRST: u16 = 4000;
 
 const SWAP_LAST: u16 = 4871;
+
+/// The most clicks that an image may have, where core is as large.
+const MOST_CLICKS: u16 = 2048;
 
 /// There is no room in the swap area: Lions' Commentary, `panic("out of swap space")`.
 #[derive(Clone, Copy, Debug, PartialEq, Eq)]
@@ -201,6 +207,26 @@ impl Images {
         self.core_fit(u32::from(clicks)).is_some()
     }
 
+    /// The most clicks that an image may have, its u area among them.
+    pub fn limit(&self) -> u16
+        ensures { result ≡ most_clicks self.now }
+    {
+        self.core.min(MOST_CLICKS)
+    }
+
+    /// The place of a slot's image when it gets so many clicks.
+    #[tactic(auto, unfolding(crate::specs::Growth::expanded))]
+    fn expanded(&self, s: Slot, clicks: u32) -> Option<Place>
+        requires image { HasImage self.now s }
+        requires few { clicks ≤ 200000 }
+        ensures { result ≡ expanded self.now s clicks }
+    {
+        if clicks <= clicks_of(&self.area(s)) {
+            return self.place(s);
+        }
+        self.placed(clicks)
+    }
+
     /// Gives a slot with an image another u area, with the sizes of that image.
     pub fn set_area(&mut self, s: Slot, u: &UArea)
         requires image { HasImage self.old s }
@@ -302,6 +328,31 @@ impl Images {
         clear_memory(&mut row.memory, p.data_size, p.stack_size);
         row.u = u;
         row.state = State::Alive(place);
+        Ok(place)
+    }
+
+    /// Gives a slot's image other sizes of data and of stack, in clicks of 64 bytes, which `Proto::make` allows without
+    /// a text: `expand` in Lions' Commentary, `slp.c`. Data grow with zeros at their end, and are cut there. The stack
+    /// grows with zeros at its low end, and is cut there, so that its bytes keep their addresses. No text is shared
+    /// yet. The answer is where the image stands: one that doesn't grow keeps its place.
+    ///
+    /// # Errors
+    ///
+    /// `NoSwap`: exactly where the image grows, and neither core nor the swap area has room beside the place that it
+    /// has. Nothing has changed then.
+    pub fn resize(&mut self, s: Slot, d: u16, stack: u16) -> Result<Place, NoSwap>
+        requires image { HasImage self.old s }
+        requires segments { nseg d + nseg stack ≤ 8 }
+        ensures place { MatchResult result
+            (λ place. expanded self.old s (16 + d + stack) ≡ Some place)
+            (λ _. expanded self.old s (16 + d + stack) ≡ None) }
+        ensures kept { self.new ≡ with_image_at self.old s (area_resized (area_of self.old s) d stack) (image_resized (image_of self.old s) d stack) (expanded self.old s (16 + d + stack)) }
+    {
+        let place = match self.expanded(s, 16 + u32::from(d) + u32::from(stack)) {
+            Some(place) => place,
+            None => return Err(NoSwap),
+        };
+        expand_row(&mut self.rows[s as usize], d, stack, place);
         Ok(place)
     }
 }

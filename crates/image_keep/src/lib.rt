@@ -6,6 +6,7 @@
 
 mod copying;
 mod fit;
+mod growth;
 mod images;
 mod loan;
 mod row;
