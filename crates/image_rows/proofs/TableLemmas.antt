@@ -78,10 +78,16 @@ tied_image kinds k w s u m o place tied is found =
 pub tied_no_image : (kinds : List Kind) (k w : Kept) (s : ℕ) (u : UArea) (m : Image) (o : Option Place) → kinds ≡ kinds_of k → w ≡ with_image_at k s u m o → o ≡ None → kinds ≡ kinds_of w
 tied_no_image kinds k w s u m o tied is none = tied ∙ ap kinds_of (sym (is ∙ ap (with_image_at k s u m) none))
 
+-- a slot with an image has another one, or nothing changes
+pub tied_resized : (kinds : List Kind) (k w : Kept) (s : ℕ) (u : UArea) (m : Image) (o : Option Place) → kinds ≡ kinds_of k → w ≡ with_image_at k s u m o → HasImage k s → kinds ≡ kinds_of w
+tied_resized kinds k w s u m None tied is has = tied ∙ ap kinds_of (sym is)
+tied_resized kinds k w s u m (Some place) tied is has =
+    tied ∙ (sym (kept_kind k s (Alive (record { u = u; image = m; place = place })) (sym (ap kind_of has.1))) ∙ ap kinds_of (sym is))
+
 pub tied_grave : (kinds : List Kind) (k w : Kept) (s : ℕ) (u : UArea) (o : Option ℕ) (block : ℕ) → kinds ≡ kinds_of k → w ≡ with_grave_at k s u o → o ≡ Some block → set kinds s kind.Grave ≡ kinds_of w
 tied_grave kinds k w s u o block tied is found = tied_put kinds k w s (Grave u block) tied (is ∙ ap (with_grave_at k s u) found)
 
 pub tied_no_grave : (kinds : List Kind) (k w : Kept) (s : ℕ) (u : UArea) (o : Option ℕ) → kinds ≡ kinds_of k → w ≡ with_grave_at k s u o → o ≡ None → kinds ≡ kinds_of w
 tied_no_grave kinds k w s u o tied is none = tied ∙ ap kinds_of (sym (is ∙ ap (with_grave_at k s u) none))
 
-pub ruleset ties = (has_image, has_nothing, has_grave, tied_put, tied_area, tied_loan, tied_image, tied_no_image, tied_grave, tied_no_grave)
+pub ruleset ties = (has_image, has_nothing, has_grave, tied_put, tied_area, tied_loan, tied_image, tied_no_image, tied_resized, tied_grave, tied_no_grave)

@@ -128,3 +128,26 @@ fn half_of_a_u_area_is_kept(rt: HostRuntime) {
     }
     assert_eq!(rt; table.place(1), None);
 }
+
+/// Three clicks of data and a stack of twenty-one, and else the same.
+static ENDED_AFTER_GROWTH: [(usize, &'static [u8]); 3] = [
+    (16, b"\x00\xf0"),
+    (26, b"\x03\x00\x15\x00"),
+    (
+        48,
+        b"\x2e\x2d\x30\x2f\x32\x31\x34\x33\x36\x35\x38\x37\x3a\x39",
+    ),
+];
+
+#[test]
+fn growth_leaves_all_else_of_a_u_area(rt: HostRuntime) {
+    let mut table = Table::new(rt.alloc(), 64).expect(&rt, "memory");
+    assert_eq!(rt; table.make(1, 1, 20), Some(Ok(Core(1))));
+    assert_eq!(rt; table.set_end(1, END), Some(()));
+    assert_eq!(rt; table.resize(1, 3, 21), Some(Ok(Swap(4000))));
+    assert_eq!(rt; table.end(1), Some(Ok(4005)));
+    let half = table.reap(1).expect(&rt, "half");
+    for (at, byte) in half.iter().enumerate() {
+        assert_eq!(rt; *byte, byte_of(&ENDED_AFTER_GROWTH, at), "byte {at}");
+    }
+}

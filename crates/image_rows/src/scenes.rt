@@ -10,6 +10,8 @@ use v6_base::{Place, Slot, Trap};
 pub enum Step {
     /// A slot gets an image with so many clicks of data and of stack, at this place.
     Makes(Slot, u16, u16, Option<Place>),
+    /// A slot's image gets so many clicks of data and of stack, and stands at this place then.
+    Resizes(Slot, u16, u16, Option<Place>),
     /// A slot's image is copied to another slot, at this place.
     Forks(Slot, Slot, Option<Place>),
     /// A slot's image goes.
@@ -42,6 +44,11 @@ fn places(table: &mut Table, step: Step) -> bool {
             table
                 .make(s, d, stack)
                 .is_some_and(|made| made.ok() == place)
+        }
+        Step::Resizes(s, d, stack, place) => {
+            table
+                .resize(s, d, stack)
+                .is_some_and(|resized| resized.ok() == place)
         }
         Step::Forks(from, to, place) => table.fork(from, to).is_some_and(|made| made.ok() == place),
         Step::Ends(s, block) => table.end(s).is_some_and(|ended| ended.ok() == block),

@@ -87,6 +87,20 @@ impl Table {
         }
     }
 
+    /// The most clicks that an image may have.
+    pub fn limit(&self) -> u16 {
+        self.images.limit()
+    }
+
+    /// Other sizes for a slot's image.
+    pub fn resize(&mut self, s: Slot, d: u16, stack: u16) -> Option<Result<Place, NoSwap>> {
+        let proto = Proto::make(0, d, stack, self.limit()).ok()?;
+        if !self.has_image(s) {
+            return None;
+        }
+        Some(self.images.resize(s, proto.data_size, proto.stack_size))
+    }
+
     /// A copy of a slot's image in a slot with nothing.
     pub fn fork(&mut self, from: Slot, to: Slot) -> Option<Result<Place, NoSwap>> {
         if !self.has_image(from) || !self.has_nothing(to) {
