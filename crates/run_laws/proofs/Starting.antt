@@ -183,7 +183,7 @@ module _ (u : Unix) (seen : Seen) (f : IsFresh (seats_of u) seen.board) (i : InC
       size = 16 + data_clicks (header node) + 20
 
       p : Process
-      p = with_program (process_of u 1) (data_clicks (header node)) (program_read node n.store.room u.clock.time).memory
+      p = with_program (process_of u 1) node (program_read node n.store.room u.clock.time).memory
 
       next : Unix
       next = record u { processes = set u.processes 1 (Some p) }

@@ -137,7 +137,7 @@ module _ (init : ℕ) (w : parts.World) (form : IsFileSystem w.files.tree.nodes)
   abbrev pub begun : Unix
   begun = record here {
     processes = slice_set here.processes 1
-        (Some (with_program (process_of here 1) (data_clicks (header (node_in nodes.store init)))
+        (Some (with_program (process_of here 1) (node_in nodes.store init)
         (program_read (node_in nodes.store init) nodes.store.room w.procs.table.now).memory));
     store = (after_exec (inodes_of nodes) init (node_in nodes.store init) w.procs.table.now).store;
   }

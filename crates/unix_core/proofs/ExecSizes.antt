@@ -79,9 +79,9 @@ empty : {A : Type 0} (l : List A) → length l ≡ 0 → l ≡ []
 empty [] none = refl
 empty (x ∷ xs) none = absurd (omega (arith, none))
 
-pub program_sizes : (u : UArea) (node : Node) (room time : ℕ)
-    → HasSizes (begun_area u (data_clicks (header node))) (program_read node room time).memory
-program_sizes u node room time =
+pub program_sizes : (u : UArea) (group : ℕ) (node : Node) (room time : ℕ)
+    → HasSizes (begun_area u group (data_clicks (header node))) (program_read node room time).memory
+program_sizes u group node room time =
     let clicks : ℕ = data_clicks (header node) in
     let same = program_lengths node room time in
     record {

@@ -17,6 +17,7 @@ use Rattle.image_keep.specs.Area.{sized_area}
 use Rattle.image_keep.specs.Places.{cleared}
 use Rattle.image_keep.proofs.Frames.{keeping_same, keeping_other, keeping_twice}
 use Rattle.open_files.specs.Files.{file_at, times}
+use Rattle.fs_codec.specs.Store.{Node}
 use Rattle.fs_nodes.specs.FileSystem.{IsFileSystem}
 use Rattle.fs_tree.specs.Finding.{Inodes, inodes_of}
 use Rattle.sys_files.specs.Handed.{node_in}
@@ -33,7 +34,7 @@ use Rattle.unix_core.specs.Unix.{Unix, no_texts, process_of}
 use Rattle.unix_core.specs.References.{is_in, referrers}
 use Rattle.unix_core.specs.Form.{header, data_clicks}
 use Rattle.unix_core.specs.Steps.{Steps, returns}
-use Rattle.unix_core.specs.Exec.{begun_area, with_program, program_read, after_exec, placing, exec_init}
+use Rattle.unix_core.specs.Exec.{group_in, begun_area, with_program, program_read, after_exec, placing, exec_init}
 use Rattle.unix_core.specs.Parts.{unix_of, board_in, none_more, named, numbers_in, refs, ended_as, IsGood, IsFresh, HasCome}
 use Rattle.unix_core.proofs.AreaLemmas.{held_within}
 use Rattle.unix_core.proofs.ReferenceLemmas.{slot_within, numbers_living, in_living, named_set, in_set}
@@ -62,15 +63,22 @@ held_in other (Alive held) = held
 held_in other (Grave u block) = other
 
 module _ (init : ℕ) (w : World) (form : IsFileSystem w.files.tree.nodes) (fresh : IsFresh init w) where
+  abbrev pub program : Node
+  program = node_in w.files.tree.nodes.store init
+
   abbrev pub clicks : ℕ
-  clicks = data_clicks (header (node_in w.files.tree.nodes.store init))
+  clicks = data_clicks (header program)
+
+  -- the u area in which process 1 begins it
+  abbrev pub begun_in : UArea → UArea
+  begun_in u = begun_area u (group_in program u.gid) clicks
 
   abbrev pub memory : Image
-  memory = (program_read (node_in w.files.tree.nodes.store init) w.files.tree.nodes.store.room w.procs.table.now).memory
+  memory = (program_read program w.files.tree.nodes.store.room w.procs.table.now).memory
 
   -- the image of process 1 then
   abbrev pub begun_held : Held
-  begun_held = record { u = begun_area (area_of w.procs.images 1) clicks; image = memory; place = Core 1 }
+  begun_held = record { u = begun_in (area_of w.procs.images 1); image = memory; place = Core 1 }
 
   pub fresh_alive : IsAlive w.procs 1
   fresh_alive = record { agree = fresh.good.agree; above = omega arith; below = omega arith; image = fresh.image }
@@ -82,7 +90,7 @@ module _ (init : ℕ) (w : World) (form : IsFileSystem w.files.tree.nodes) (fres
   p = process_of (unix_of w) 1
 
   abbrev q : Process
-  q = with_program p clicks memory
+  q = with_program p program memory
 
   slot : get_or (unix_of w).processes 1 None ≡ Some p
   slot =
@@ -119,13 +127,13 @@ module _ (init : ℕ) (w : World) (form : IsFileSystem w.files.tree.nodes) (fres
       read_image = (record new { image = m }, read_has)
 
       -- and it has a u area of its sizes.
-      module _ (u : UArea) (u_is : u ≡ begun_area (area_of w.procs.images 1) clicks) where
+      module _ (u : UArea) (u_is : u ≡ begun_in (area_of w.procs.images 1)) where
         pub read_sizes : HasSizes u (image_of now 1)
         read_sizes =
             subst (λ v. HasSizes v (image_of now 1)) (sym u_is)
-            (subst (HasSizes (begun_area (area_of w.procs.images 1) clicks)) (sym (ap image_in read_has ∙ is_memory))
-            (program_sizes (area_of w.procs.images 1)
-            (node_in w.files.tree.nodes.store init) w.files.tree.nodes.store.room w.procs.table.now))
+            (subst (HasSizes (begun_in (area_of w.procs.images 1))) (sym (ap image_in read_has ∙ is_memory))
+            (program_sizes (area_of w.procs.images 1) (group_in program (area_of w.procs.images 1).gid) program
+            w.files.tree.nodes.store.room w.procs.table.now))
 
         pub put_is : (last : Kept) → last ≡ with_area now 1 u → last ≡ with_keeping w.procs.images 1 (Alive begun_held)
         put_is last put =
@@ -167,8 +175,8 @@ module _ (init : ℕ) (w : World) (form : IsFileSystem w.files.tree.nodes) (fres
     own_now =
         ap (λ o. process_in o (Alive begun_held)) here.member_is
         ∙ (ap (λ y. Some (process_by here.member
-        (Alive (record { u = begun_area (area_in y) clicks; image = memory; place = Core 1 })))) here.image_is
-        ∙ ap (λ (r : Process). Some (with_program r clicks memory)) (sym here.process_is))
+        (Alive (record { u = begun_in (area_in y); image = memory; place = Core 1 })))) here.image_is
+        ∙ ap (λ (r : Process). Some (with_program r program memory)) (sym here.process_is))
 
     processes_now : processes_in x.procs.rows.slots x.procs.images ≡ set (unix_of w).processes 1 (Some q)
     processes_now =

@@ -1,6 +1,6 @@
 -- The first turn of process 1, its exec of `/etc/init`: exec(II) of the UNIX Programmer's Manual; Lions' Commentary,
 -- `sys1.c`.
-use Rattle.std.specs.Prelude.{ℕ, ◌+◌, Bool, false, List, [], ◌∷◌, ◌++◌, Some, Result, Ok, Err, codes, if◌then◌else◌, replicate, slice_set}
+use Rattle.std.specs.Prelude.{ℕ, ◌+◌, ◌==◌, Bool, false, List, [], ◌∷◌, ◌++◌, Some, Result, Ok, Err, codes, bit_and, if◌then◌else◌, replicate, slice_set}
 use Rattle.v6_base.specs.Image.{Image, text_alone}
 use Rattle.v6_base.specs.Trace.{Log}
 use Rattle.v6_base.specs.declared.entry.Entry.TheVariants.{Bare}
@@ -8,6 +8,7 @@ use Rattle.pick_rules.specs.Effects as effect
 use Rattle.pick_rules.specs.Effects.{Show}
 use Rattle.v6_base.specs.declared.errno.Errno.{Errno}
 use Rattle.fs_codec.specs.Store.{Node, Store}
+use Rattle.fs_codec.specs.declared.modes.TheConstants.{ISGID}
 use Rattle.fs_laws.specs.Numbers.{with_node}
 use Rattle.fs_laws.specs.Pieces.{Moving, read_file}
 use Rattle.fs_nodes.specs.Copy.{put_into, put_kernel}
@@ -41,17 +42,27 @@ leads_to_program found (Err e) = false
 abbrev pub is_found : Finding ℕ → Bool
 is_found found = leads_to_program found found.answer
 
--- a u area as a program with so many clicks of data begins
-abbrev pub begun_area : UArea → ℕ → UArea
-begun_area u clicks = record (with_state u (0 ∷ 0 ∷ 0 ∷ 0 ∷ 0 ∷ 0 ∷ first_stack ∷ 0 ∷ []) 0) {
+-- The effective group in a program: that of its file, where the file has the set-gid bit, and else the one that the
+-- process had. The real group stays. The set-uid bit changes nothing for user 0, who executes the first program.
+abbrev pub group_in : Node → ℕ → ℕ
+group_in node own = if bit_and node.mode ISGID == 0 then own else node.gid
+
+-- a u area as a program begins, in an effective group and with so many clicks of data
+abbrev pub begun_area : UArea → ℕ → ℕ → UArea
+begun_area u group clicks = record (with_state u (0 ∷ 0 ∷ 0 ∷ 0 ∷ 0 ∷ 0 ∷ first_stack ∷ 0 ∷ []) 0) {
+  gid = group;
   text_size = 0;
   data_size = clicks;
   stack_size = 20;
 }
 
--- a process that begins a program with so many clicks of data, in this memory
-abbrev pub with_program : Process → ℕ → Image → Process
-with_program p clicks image = record p { u = begun_area p.u clicks; «data» = image.data; stack = image.stack }
+-- a process that begins a program of this file, in this memory
+abbrev pub with_program : Process → Node → Image → Process
+with_program p node image = record p {
+  u = begun_area p.u (group_in node p.u.gid) (data_clicks (header node));
+  «data» = image.data;
+  stack = image.stack;
+}
 
 -- With so much room and at a time, the header is read into sixteen bytes of the kernel,
 abbrev pub header_read : Node → ℕ → ℕ → Moving (List ℕ)
@@ -85,7 +96,7 @@ placing u slot clicks rest =
 abbrev pub exec_node : Unix → ℕ → Inodes → ℕ → Node → Steps
 exec_node u slot n ino node =
     if is_program node then placing u slot (data_clicks (header node)) (returns (record u {
-      processes = slice_set u.processes slot (Some (with_program (process_of u slot) (data_clicks (header node))
+      processes = slice_set u.processes slot (Some (with_program (process_of u slot) node
           (program_read node n.store.room u.clock.time).memory));
       store = (after_exec n ino node u.clock.time).store;
     }))

@@ -1,5 +1,5 @@
 //! The first turn of process 1, its exec of `/etc/init`: exec(II) of the manual.
-ghost use Rattle.std.specs.Prelude.{◌≡◌, ◌≢◌, ◌+◌, ◌≤◌, ℕ, [], ◌∷◌, true, Some, None};
+ghost use Rattle.std.specs.Prelude.{◌≡◌, ◌≢◌, ◌+◌, ◌<◌, ◌≤◌, ℕ, [], ◌∷◌, true, Some, None, slice_index};
 ghost use Rattle.v6_base.specs.Trace.{Took, Log};
 ghost use Rattle.fs_laws.specs.Rest.{SameRest};
 ghost use Rattle.pick_rules.specs.Apply.{change_row};
@@ -7,16 +7,19 @@ ghost use Rattle.pick_rules.specs.Logged.{logged};
 ghost use Rattle.image_keep.specs.Area.{sized_area};
 ghost use Rattle.image_keep.specs.Kept.{Nothing, Alive, HasImage, keeping, with_keeping};
 ghost use Rattle.image_keep.specs.Places.{cleared};
+ghost use Rattle.sys_files.specs.Handed.{node_in};
 ghost use Rattle.sys_procs.specs.Handed.{AreProcs};
 ghost use Rattle.unix_core.specs.Unix.{Unix};
 ghost use Rattle.unix_core.specs.Steps.{returns};
-ghost use Rattle.unix_core.specs.Exec.{begun_area, placing, exec_init};
+ghost use Rattle.unix_core.specs.Exec.{begun_area, group_in, placing, exec_init};
 ghost use Rattle.unix_core.specs.Parts.{unix_of, board_in, IsFresh, IsGood, HasCome, none_more};
 
 use crate::ending::Ending;
 use crate::files::see_nodes;
 use crate::program::{STACK, clicks_of_init, read_init};
 use crate::world::World;
+use fs_codec::ISGID;
+use fs_nodes::Nodes;
 use image_keep::Images;
 use pick_rules::Table;
 use seg_regs::Proto;
@@ -105,11 +108,27 @@ fn place_image<T: Trace>(world: &mut World, clicks: u16, trace: &mut T) -> bool
     true
 }
 
-/// The u area of process 1 as it begins its program, from the one that it had, with the sizes of its new image.
-fn begun(old: UArea, clicks: u16) -> UArea
-    ensures { result ≡ begun_area old clicks }
+/// The effective group in the program of an inode that is referred to: that of the file, where it has the set-gid bit,
+/// and else the one that the process had.
+fn group_in(nodes: &Nodes, ino: u16, own: u8) -> u8
+    requires { 0 < slice_index nodes.now.references ino }
+    ensures { result ≡ group_in (node_in nodes.now.store ino) own }
+{
+    let node = nodes.node(ino);
+    if node.mode & ISGID == 0 {
+        own
+    } else {
+        node.gid
+    }
+}
+
+/// The u area of process 1 as it begins its program, from the one that it had, in an effective group and with the sizes
+/// of its new image. The set-uid bit changes nothing for user 0.
+fn begun(old: UArea, group: u8, clicks: u16) -> UArea
+    ensures { result ≡ begun_area old group clicks }
 {
     let mut u = old;
+    u.gid = group;
     u.r = [0, 0, 0, 0, 0, 0, FIRST_STACK, 0];
     u.cc = 0;
     u.text_size = 0;
@@ -134,6 +153,7 @@ pub(crate) fn exec<T: Trace>(world: &mut World, init: u16, trace: &mut T) -> End
     see_nodes(&world.files.tree.nodes);
     let clicks = clicks_of_init(&mut world.files.tree.nodes, init);
     let old = world.procs.images.area(SLOT);
+    let group = group_in(&world.files.tree.nodes, init, old.gid);
     if !place_image(world, clicks, trace) {
         return Ending::NotBuilt;
     }
@@ -142,6 +162,9 @@ pub(crate) fn exec<T: Trace>(world: &mut World, init: u16, trace: &mut T) -> End
         let mut space = world.procs.images.space(SLOT);
         read_init(&mut world.files.tree.nodes, init, &mut space, now);
     }
-    world.procs.images.set_area(SLOT, &begun(old, clicks));
+    world
+        .procs
+        .images
+        .set_area(SLOT, &begun(old, group, clicks));
     Ending::Trapped
 }

@@ -192,7 +192,7 @@ impl Kernel {
         self.machine.typed(b, trace);
     }
 
-    /// Sets the switches of the console, 16 bits: switch(II) of the manual.
+    /// Sets the switches of the console, 16 bits: csw(II) of the manual tells them.
     pub fn set_switches(&mut self, w: u16)
         ensures next { self.new.system ≡ (event_of (Switch w) self.old.system).next }
         ensures private { AllUndisturbed self.old.system self.new.system }

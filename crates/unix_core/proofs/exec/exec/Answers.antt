@@ -2,15 +2,16 @@ use Rattle.std.proofs.Common.{◌≡◌, ◌+◌, ◌∙◌, sym, ap, subst}
 use Rattle.v6_base.specs.Image.{Image}
 use Rattle.v6_base.specs.Trace.{Took}
 use Rattle.pick_rules.specs.declared.table.Table.{Table}
+use Rattle.fs_nodes.specs.FileSystem.{FileSystem}
 use Rattle.image_keep.specs.Kept.{Kept, area_of, image_of, with_image}
 use Rattle.fs_tree.specs.Finding.{inodes_of}
 use Rattle.sys_files.specs.Handed.{node_in}
 use Rattle.unix_core.specs.declared.world.World.{World}
-use Rattle.unix_core.specs.Exec.{begun_area, program_read, after_exec}
+use Rattle.unix_core.specs.Exec.{group_in, begun_area, program_read, after_exec}
 use Rattle.unix_core.specs.Parts.{board_in}
 use Rattle.unix_core.proofs.LoanLemmas.{lent_back}
 use Rattle.unix_core.proofs.ExecPlace.{seated}
-use Rattle.unix_core.proofs.ExecWorld.{clicks, memory, IsBegun, placed_image, read_image, read_sizes, put_is, good_now, exec_come, exec_items}
+use Rattle.unix_core.proofs.ExecWorld.{memory, begun_in, IsBegun, placed_image, read_image, read_sizes, put_is, good_now, exec_come, exec_items}
 use Rattle.unix_core.proofs.exec.exec.Given as given
 use Rattle.unix_core.proofs.exec.exec.Goals as goal
 use Rattle.unix_core.proofs.exec.exec.Goals.{After-read_init, After-begun}
@@ -49,9 +50,19 @@ memory_is g c =
     (time_is g c i)).memory)
 
 begun_is : (g : given.Over) (c : After-begun g)
-    → c.begun.result ≡ begun_area (area_of c.args.world.now.procs.images 1)
-    (clicks c.args.init c.args.world.now c.see_nodes.ensures c.requires.fresh)
-begun_is g c = c.begun.ensures ∙ (λ i. begun_area (c.area-old.ensures.u i) (c.clicks_of_init-clicks.ensures.clicks i))
+    → c.begun.result ≡ begun_in c.args.init c.args.world.now c.see_nodes.ensures c.requires.fresh
+    (area_of c.args.world.now.procs.images 1)
+begun_is g c =
+    let group : c.group_in-group.result
+    ≡ group_in (node_in c.args.world.now.files.tree.nodes.store c.args.init) c.area-old.result.gid =
+    c.group_in-group.ensures
+    ∙ ap (λ (n : FileSystem). group_in (node_in n.store c.args.init) c.area-old.result.gid)
+    c.clicks_of_init-clicks.ensures.same in
+    c.begun.ensures
+    ∙ ap (λ k. begun_area c.area-old.result k c.clicks_of_init-clicks.result) group
+    ∙ (λ i. begun_area (c.area-old.ensures.u i)
+    (group_in (node_in c.args.world.now.files.tree.nodes.store c.args.init) (c.area-old.ensures.u i).gid)
+    (c.clicks_of_init-clicks.ensures.clicks i))
 
 pub set_area-requires-clause-image : goal.set_area-requires-clause-image
 set_area-requires-clause-image g c =
