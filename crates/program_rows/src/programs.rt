@@ -32,7 +32,7 @@ const HI_DONE: (Status, &[u8], &[u8]) = (Status::Done, HI_SHOWN, b"");
 const QUIET: (Status, &[u8], &[u8]) = (Status::Done, b"", b"");
 
 /// In `/etc/init` the open is at 0, the write at 6, MOV #0,R0 at 12, and the exit at 16; the name is at 18, the text at 28.
-const PROGRAMS: [Change<'static>; 9] = [
+const PROGRAMS: [Change<'static>; 12] = [
     Change {
         name: "hi_over_memory",
         pieces: &[],
@@ -51,6 +51,21 @@ const PROGRAMS: [Change<'static>; 9] = [
     Change {
         name: "exec",
         pieces: &[(TEXT, b"\x0b\x89")],
+        end: (Status::NotBuilt(Unbuilt::At(0)), b"", b"not built: pc 0\n"),
+    },
+    Change {
+        name: "an indirect call by an odd address",
+        pieces: &[(TEXT, b"\0\x89\x01\0")],
+        end: (Status::NotBuilt(Unbuilt::At(0)), b"", b"not built: pc 0\n"),
+    },
+    Change {
+        name: "an indirect call of MOV #0,R0, which is no call",
+        pieces: &[(TEXT, b"\0\x89\x0c\0")],
+        end: (Status::NotBuilt(Unbuilt::At(0)), b"", b"not built: pc 0\n"),
+    },
+    Change {
+        name: "an indirect call by an address at which nothing is",
+        pieces: &[(TEXT, b"\0\x89\0\x80")],
         end: (Status::NotBuilt(Unbuilt::At(0)), b"", b"not built: pc 0\n"),
     },
     Change {
