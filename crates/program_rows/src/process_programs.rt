@@ -1,6 +1,8 @@
 //! Programs of many processes, with the whole log of each run: docs/manual/calls.md, from "Calls on processes" on,
 //! clock.md and log.md. The addresses of a program are in octal.
-use run_fixtures::{HI_BYTES, Repeats, end_over, hi_image, host_with, put_program, repeated};
+use run_fixtures::{
+    HI_BYTES, RUN, Repeats, TEXT, end_over, hi_image, host_with, put, put_program, repeated,
+};
 use std::alloc::{AllocError, Global};
 use std::test::Fail;
 use v6_port::OutPort;
@@ -303,6 +305,51 @@ const FORKS_AND_TELLS: &[u8] =
 /// fork; BR .; BR .
 const FORKS_ONCE: &[u8] = b"\x02\x89\xff\x01\xff\x01";
 
+/// The mode of `/etc/init`, whose user is 3 and whose group is 7; a call which gives a real number, and 256 times the
+/// effective one; and the time that stime then sets, whose high word is R0.
+#[derive(Clone, Copy)]
+struct Owned<'a> {
+    name: &'a str,
+    mode: u16,
+    call: u16,
+    time: &'a [u8],
+}
+
+/// The calls are getgid, 104457, and getuid, 104430.
+const OWNED: [Owned<'static>; 5] = [
+    // 256*7 is the high word.
+    Owned {
+        name: "set-gid: the effective group is the file's, and the real one stays",
+        mode: 0o102755,
+        call: 0o104457,
+        time: b"time 117440512\n",
+    },
+    Owned {
+        name: "without the bit the group stays",
+        mode: 0o100755,
+        call: 0o104457,
+        time: b"time 0\n",
+    },
+    Owned {
+        name: "set-gid needs no execute bit of the group",
+        mode: 0o102700,
+        call: 0o104457,
+        time: b"time 117440512\n",
+    },
+    Owned {
+        name: "set-uid leaves the group",
+        mode: 0o104755,
+        call: 0o104457,
+        time: b"time 0\n",
+    },
+    Owned {
+        name: "set-uid changes nothing for user 0",
+        mode: 0o106755,
+        call: 0o104430,
+        time: b"time 0\n",
+    },
+];
+
 fn image_with(alloc: Global, text: &[u8]) -> Result<Vec<u8>, AllocError> {
     let mut image = hi_image(alloc, HI_BYTES, &[])?;
     put_program(&mut image, text);
@@ -345,6 +392,31 @@ fn parents_wait_for_children(rt: HostRuntime) -> Result<(), Fail> {
 fn choices_come_with_time(rt: HostRuntime) -> Result<(), Fail> {
     for program in TIMES {
         assert!(rt; comes_out(rt.alloc(), &program)?, "{}", program.name);
+    }
+    Ok(())
+}
+
+/// The call; stime; BR . The mode is at 1216, and the user and the group at 1219.
+fn begins_as(alloc: Global, row: &Owned<'_>) -> Result<bool, AllocError> {
+    let mut image = image_with(alloc, b"\0\0\x19\x89\xff\x01")?;
+    put(&mut image, &[(TEXT, row.call.to_le_bytes().as_slice())]);
+    put(&mut image, &[(1216, row.mode.to_le_bytes().as_slice())]);
+    put(&mut image, &[(1219, b"\x03\x07")]);
+    let mut host = host_with(alloc, &image, b"run 3\n")?;
+    let status = end_over(alloc, RUN, &mut host)?;
+    let mut log = repeated(
+        alloc,
+        &[(1, b"boot 1200 0\n"), (1, BEGINS), (1, b"trap 1\n")],
+    )?;
+    log.extend_from_slice(row.time)?;
+    log.extend_from_slice(b"wake tout\ntrap 1\nend\n")?;
+    Ok(status == Status::Done && host.bytes(OutPort::Log) == log.as_slice())
+}
+
+#[test]
+fn programs_begin_in_their_groups(rt: HostRuntime) -> Result<(), Fail> {
+    for row in OWNED {
+        assert!(rt; begins_as(rt.alloc(), &row)?, "{}", row.name);
     }
     Ok(())
 }
