@@ -34,6 +34,8 @@ mod opening;
 #[cfg(test)]
 mod scenes;
 #[cfg(test)]
+mod shared;
+#[cfg(test)]
 mod status;
 #[cfg(test)]
 mod world;

@@ -151,16 +151,23 @@ fn holds(w: &mut World, step: Step) -> bool
 }
 
 /// The number of the first step that does not hold, from 0 on.
-fn first_failure(alloc: Global, scene: &Scene) -> Result<Option<usize>, AllocError> {
-    let Some(mut w) = begin(alloc, scene.disk, scene.crowd)? else {
-        return Ok(Some(usize::MAX));
-    };
-    for (k, step) in scene.steps.iter().enumerate() {
-        if !holds(&mut w, *step) {
-            return Ok(Some(k));
+pub fn first_of(w: &mut World, steps: &[Step]) -> Option<usize>
+    requires { IsReady w.old.files.table w.old.u.files w.old.u.dir w.old.files.tree.nodes.references }
+{
+    for (k, step) in steps.iter().enumerate() {
+        if !holds(w, *step) {
+            return Some(k);
         }
     }
-    Ok(None)
+    None
+}
+
+/// The number of the first step of a scene that does not hold.
+fn first_failure(alloc: Global, scene: &Scene) -> Result<Option<usize>, AllocError> {
+    match begin(alloc, scene.disk, scene.crowd)? {
+        Some(mut w) => Ok(first_of(&mut w, scene.steps)),
+        None => Ok(Some(usize::MAX)),
+    }
 }
 
 /// The first step of these scenes that does not hold.

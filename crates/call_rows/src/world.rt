@@ -1,5 +1,5 @@
 //! What the calls work on: a small disk, the table of open files, the console, and one process at a time.
-ghost use Rattle.std.specs.Prelude.{◌≡◌, ◌<◌, ◌≤◌, ℕ, true, None, IfOk, IfSome, slice_index};
+ghost use Rattle.std.specs.Prelude.{◌≡◌, ◌<◌, ◌≤◌, ℕ, [], true, None, IfOk, IfSome, slice_index};
 ghost use Rattle.fs_codec.specs.Faults.{disk_fault};
 ghost use Rattle.fs_codec.specs.declared.layout.TheConstants.{DISK_BLOCKS};
 ghost use Rattle.fs_blocks.specs.State.{disk};
@@ -136,7 +136,9 @@ fn refer_to_root(nodes: &mut Nodes) -> bool
 fn parts(nodes: Nodes, space: Whole, tape: Tape) -> World
     requires few { (i : ℕ) → slice_index nodes.references i ≤ 2 }
     requires root { 0 < slice_index nodes.references 1 }
-    ensures { IsReady result.files.table result.u.files result.u.dir result.files.tree.nodes.references }
+    ensures ready { IsReady result.files.table result.u.files result.u.dir result.files.tree.nodes.references }
+    ensures few { (i : ℕ) → slice_index result.files.tree.nodes.references i ≤ 2 }
+    ensures unmarked { result.files.tree.marks ≡ [] }
 {
     World {
         files: Files {
@@ -159,8 +161,11 @@ pub fn begin(
     changes: &[(usize, u16)],
     crowd: u16,
 ) -> Result<Option<World>, AllocError>
-    ensures { IfOk result (λ found. IfSome found (λ w.
+    ensures ready { IfOk result (λ found. IfSome found (λ w.
         IsReady w.files.table w.u.files w.u.dir w.files.tree.nodes.references)) }
+    ensures few { IfOk result (λ found. IfSome found (λ w.
+        (i : ℕ) → slice_index w.files.tree.nodes.references i ≤ 2)) }
+    ensures unmarked { IfOk result (λ found. IfSome found (λ w. w.files.tree.marks ≡ [])) }
 {
     let bytes = image(changes);
     let space = memory(alloc)?;

@@ -40,6 +40,8 @@ mod permission;
 #[cfg(test)]
 mod pieces;
 #[cfg(test)]
+mod shared;
+#[cfg(test)]
 mod touch;
 #[cfg(test)]
 mod truncate;

@@ -1,9 +1,9 @@
 -- The place of an entry that a search of names comes to.
-use Rattle.std.proofs.Common.{◌≡◌, ◌+◌, ◌*◌, ◌/◌, ◌%◌, ◌<◌, ◌≤◌, ◌&&◌, ◌||◌, ◌⊎◌, inl, inr, ℕ, zero, suc, Bool, true, false, not, cond, List, [], ◌∷◌, Option, Some, None, is_some, IsSome, Result, Ok, Err, refl, sym, ap, ◌∙◌, subst, arith}
+use Rattle.std.proofs.Common.{◌≡◌, ◌+◌, ◌*◌, ◌%◌, ◌<◌, ◌≤◌, ◌&&◌, ◌||◌, ℕ, zero, suc, Bool, true, false, not, cond, List, [], ◌∷◌, Option, Some, None, is_some, IsSome, Result, Ok, Err, refl, sym, subst, arith}
 use Rattle.std.specs.Option.{unwrap_or}
 use Rattle.v6_base.specs.Access.{then_do}
 use Rattle.v6_base.specs.declared.errno.Errno.{Errno}
-use Rattle.v6_base.specs.declared.errno.Errno.TheVariants.{ENOENT, EACCES, EFAULT, ENOTDIR}
+use Rattle.v6_base.specs.declared.errno.Errno.TheVariants.{EACCES, EFAULT, ENOTDIR}
 use Rattle.fs_codec.specs.Modes.{is_directory}
 use Rattle.fs_codec.specs.Store.{Node, Store, node_numbered}
 use Rattle.fs_tree.specs.declared.user.User.{User}
@@ -17,7 +17,7 @@ use Rattle.fs_tree.specs.declared.made.Made.{Made}
 use Rattle.fs_tree.specs.declared.made.Made.TheVariants as made
 use Rattle.fs_tree.specs.Permission.{may_use}
 use Rattle.fs_tree.specs.Name.{is_whole, components, start_of}
-use Rattle.fs_tree.specs.Directory.{entry_count, first_below, is_empty, is_named, room_in, entry_or_room, looked}
+use Rattle.fs_tree.specs.Directory.{entry_count, first_below, is_empty, is_named, entry_or_room, looked}
 use Rattle.fs_tree.specs.Path.{with_node_of, used_number, entry_number, looked_in, in_directory, is_last, walk, way, found_or_room, to_make, entry_to_remove, to_remove}
 use Rattle.fs_tree.specs.Finding.{named_by_made}
 use Rattle.fs_tree.proofs.PathLemmas.{IsUsedWay, way_used, made_used, removed_used}

@@ -1,19 +1,18 @@
 -- A search asks for nothing of a store but its nodes.
-use Rattle.std.proofs.Common.{◌≡◌, ℕ, Bool, true, false, cond, List, [], ◌∷◌, Option, Some, None, Result, Ok, Err, refl, sym, ap, ◌∙◌}
+use Rattle.std.proofs.Common.{◌≡◌, ℕ, Bool, true, false, List, [], ◌∷◌, None, Result, Ok, Err, refl, ap, ◌∙◌}
 use Rattle.std.specs.Prelude.{◌&&◌, ◌||◌, not, is_some, slice_index_or, if◌then◌else◌}
 use Rattle.v6_base.specs.Access.{then_do}
 use Rattle.v6_base.specs.declared.errno.Errno.{Errno}
 use Rattle.v6_base.specs.declared.errno.Errno.TheVariants.{ENOENT, EFAULT, ENFILE}
-use Rattle.fs_codec.specs.Store.{Node, Store, node_numbered}
+use Rattle.fs_codec.specs.Store.{Store}
 use Rattle.fs_tree.specs.declared.user.User.{User}
 use Rattle.fs_tree.specs.declared.directory.Looked.{Looked}
 use Rattle.fs_tree.specs.declared.directory.Looked.TheVariants.{Entry, Room}
-use Rattle.fs_tree.specs.declared.walk.Last.{Last}
 use Rattle.fs_tree.specs.declared.walk.Way.{Way}
 use Rattle.fs_tree.specs.declared.walk.Way.TheVariants.{Start, End}
 use Rattle.fs_tree.specs.Name.{is_whole, components, start_of}
 use Rattle.fs_tree.specs.Path.{with_node_of, looked_in, in_directory, used_number, entry_number, is_last, walk, way, found}
-use Rattle.fs_tree.specs.Finding.{Inodes, Finding, can_refer, with_reference, referring, refused, finding, find_in}
+use Rattle.fs_tree.specs.Finding.{Inodes, Finding, can_refer, with_reference, refused, finding, find_in}
 
 then_each : {A B E : Type 0} (r : Result A E) (f f' : A → Result B E) → ((a : A) → f a ≡ f' a) → then_do r f ≡ then_do r f'
 then_each (Ok a) f f' each = each a

@@ -1,3 +1,4 @@
+pub mod Marks
 pub mod Permission
 pub mod Name
 pub mod Directory

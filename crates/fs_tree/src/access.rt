@@ -1,6 +1,6 @@
 //! Permission: access in Lions' Commentary, `fio.c`.
 ghost use Rattle.std.specs.Prelude.{◌≡◌};
-ghost use Rattle.fs_tree.specs.Permission.{owner_bit, bit_for, may};
+ghost use Rattle.fs_tree.specs.Permission.{owner_bit, bit_for, may, is_to_write};
 
 use crate::user::{User, Want};
 use fs_codec::{DiskNode, IEXEC, IREAD, IWRITE, has_execute_bit};
@@ -41,4 +41,14 @@ pub(crate) fn may(node: &DiskNode, user: User, want: Want) -> bool
         };
     }
     node.mode & bit_for(node, user, want) != 0
+}
+
+/// Whether a file is to be written.
+pub(crate) fn is_to_write(want: Want) -> bool
+    ensures { result ≡ is_to_write want }
+{
+    match want {
+        Want::Write => true,
+        Want::Read | Want::Execute => false,
+    }
 }

@@ -64,6 +64,7 @@ impl Tree {
             (written self.old.nodes.store node offset (entry_bytes (record { ino = ino; name = name })) time)
             self.new.nodes.store result }
         ensures references { self.new.nodes.references ≡ self.old.nodes.references }
+        ensures marks { self.new.marks ≡ self.old.marks }
         ensures rest { SameRest self.old.nodes.blocks self.new.nodes.blocks }
     {
         let bytes = spelled(ino, name);
@@ -87,6 +88,7 @@ impl Tree {
             (written self.old.nodes.store node offset (0 ∷ 0 ∷ []) time)
             self.new.nodes.store result }
         ensures references { self.new.nodes.references ≡ self.old.nodes.references }
+        ensures marks { self.new.marks ≡ self.old.marks }
         ensures rest { SameRest self.old.nodes.blocks self.new.nodes.blocks }
     {
         let bytes = [0; 2];

@@ -1,14 +1,15 @@
 //! The tree of names over a file system.
-ghost use Rattle.std.specs.Prelude.{◌≡◌, ◌<◌, ◌≤◌, ℕ, true, false, if◌then◌else◌, Some, IsSome, IfOk, IfErr};
+ghost use Rattle.std.specs.Prelude.{◌≡◌, ◌<◌, ◌≤◌, ℕ, [], true, false, if◌then◌else◌, Some, IsSome, IfOk, IfErr};
 ghost use Rattle.std.specs.Prelude.{slice_index};
 ghost use Rattle.fs_codec.specs.Store.{Node, node_numbered};
-ghost use Rattle.fs_tree.specs.Permission.{permission};
+ghost use Rattle.fs_tree.specs.Permission.{access};
 ghost use Rattle.fs_tree.specs.Finding.{find_in, make_in, remove_in, referring_both, can_refer, with_reference};
 ghost use Rattle.fs_tree.specs.Finding.{put_back, inodes_of};
 ghost use Rattle.fs_nodes.specs.FileSystem.{FileSystem, SameRest};
 
-use crate::access::may;
+use crate::access::{is_to_write, may};
 use crate::made::Made;
+use crate::marks::Marks;
 use crate::name::NameBytes;
 use crate::user::{User, Want};
 use crate::walk::{found, see_start, to_make, to_remove, walk};
@@ -19,6 +20,8 @@ use v6_base::{Errno, Space};
 #[derive(Drop)]
 pub struct Tree {
     pub nodes: Nodes,
+    /// The inodes whose text is shared by processes.
+    pub marks: Marks,
 }
 
 /// Refers to an inode once more.
@@ -62,25 +65,32 @@ fn take_both(nodes: &mut Nodes, entry: (u16, u32, u16)) -> Result<(u16, u32, u16
 }
 
 impl Tree {
-    /// The tree of names of a file system.
+    /// The tree of names of a file system, of which no text is shared yet.
     pub fn new(nodes: Nodes) -> Tree
-        ensures { result.nodes ≡ nodes }
+        ensures nodes { result.nodes ≡ nodes }
+        ensures none { result.marks ≡ [] }
     {
-        Tree { nodes }
+        Tree {
+            nodes,
+            marks: Marks::new(),
+        }
     }
 
-    /// Whether a user may do this with the file of an inode: access in Lions' Commentary, `fio.c`. User 0 may do all, but
-    /// needs one of the three bits to execute; another is tested against the bits of the first class that fits: the owner, the
-    /// group, the others.
+    /// Whether a user may do this with the file of an inode: access in Lions' Commentary, `fio.c`. Nobody may write a file whose
+    /// text is shared, user 0 no more than others. Else user 0 may do all, but needs one of the three bits to execute; another
+    /// is tested against the bits of the first class that fits: the owner, the group, the others.
     ///
     /// # Errors
     ///
-    /// `EACCES`: the user may not.
+    /// `ETXTBSY`: the file is to be written, and its text is shared. Else `EACCES`: the user may not.
     pub fn access(&self, ino: u16, who: User, want: Want) -> Result<(), Errno>
         requires { 0 < slice_index self.now.nodes.references ino }
         ensures { (node : Node) → node_numbered self.now.nodes.store ino ≡ Some node
-            → result ≡ permission node who want }
+            → result ≡ access self.now.marks ino node who want }
     {
+        if is_to_write(want) && self.marks.has(ino) {
+            return Err(Errno::ETXTBSY);
+        }
         if may(self.nodes.node(ino), who, want) {
             Ok(())
         } else {
@@ -106,6 +116,7 @@ impl Tree {
         requires few { (i : ℕ) → slice_index self.old.nodes.references i ≤ 65530 }
         ensures answer { result ≡ (find_in (inodes_of self.old.nodes) who dir name.entry).answer }
         ensures inodes { inodes_of self.new.nodes ≡ (find_in (inodes_of self.old.nodes) who dir name.entry).inodes }
+        ensures marks { self.new.marks ≡ self.old.marks }
         ensures blocks { self.new.nodes.blocks ≡ self.old.nodes.blocks }
     {
         see_start(&self.nodes, dir);
@@ -134,6 +145,7 @@ impl Tree {
         requires few { (i : ℕ) → slice_index self.old.nodes.references i ≤ 65530 }
         ensures answer { result ≡ (make_in (inodes_of self.old.nodes) who dir name.entry).answer }
         ensures inodes { inodes_of self.new.nodes ≡ (make_in (inodes_of self.old.nodes) who dir name.entry).inodes }
+        ensures marks { self.new.marks ≡ self.old.marks }
         ensures blocks { self.new.nodes.blocks ≡ self.old.nodes.blocks }
     {
         see_start(&self.nodes, dir);
@@ -162,6 +174,7 @@ impl Tree {
         requires few { (i : ℕ) → slice_index self.old.nodes.references i ≤ 65530 }
         ensures answer { result ≡ (remove_in (inodes_of self.old.nodes) who dir name.entry).answer }
         ensures inodes { inodes_of self.new.nodes ≡ (remove_in (inodes_of self.old.nodes) who dir name.entry).inodes }
+        ensures marks { self.new.marks ≡ self.old.marks }
         ensures rest { SameRest self.old.nodes.blocks self.new.nodes.blocks }
     {
         see_start(&self.nodes, dir);

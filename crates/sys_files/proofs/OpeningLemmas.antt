@@ -140,12 +140,12 @@ kind_of mode = record { reading = opens_to_read mode; writing = opens_to_write m
 
 named_kept : (old now : Handed) (taken : List ℕ) (ino mode : ℕ) → 0 < slice_index now.inodes.references ino → IsKeptBut old now taken → IsKeptBut old (opens_named now ino mode).state taken
 named_kept old now taken ino mode referred k =
-    kept_check old now taken (last_failure (open_tests (node_at now ino) (user_of now.u) mode)) (λ passed. opens now ino (kind_of mode)) k (λ passed tested.
+    kept_check old now taken (last_failure (open_tests now.marks ino (node_at now ino) (user_of now.u) mode)) (λ passed. opens now ino (kind_of mode)) k (λ passed tested.
     opens_kept old now taken ino (kind_of mode) refl referred k)
 
 named_quiet : (h : Handed) (ino mode : ℕ) → (opens_named h ino mode).items ≡ []
 named_quiet h ino mode =
-    check_quiet h (last_failure (open_tests (node_at h ino) (user_of h.u) mode)) (λ passed. opens h ino (kind_of mode)) (λ passed. opens_quiet h ino (kind_of mode))
+    check_quiet h (last_failure (open_tests h.marks ino (node_at h ino) (user_of h.u) mode)) (λ passed. opens h ino (kind_of mode)) (λ passed. opens_quiet h ino (kind_of mode))
 
 -- What open keeps.
 pub open_kept : (h : Handed) (name mode : ℕ) → IsSound h → CanFind h name → IsKept h (open_file h name mode).state

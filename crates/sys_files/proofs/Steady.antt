@@ -27,7 +27,7 @@ use Rattle.fs_tree.specs.declared.made.Made.{Made}
 use Rattle.fs_tree.specs.declared.made.Made.TheVariants as made
 use Rattle.fs_tree.specs.Name.{name_at, readable}
 use Rattle.fs_tree.specs.Finding.{Inodes, Finding, remove_in}
-use Rattle.fs_tree.specs.Permission.{permission}
+use Rattle.fs_tree.specs.Permission.{permission, access}
 use Rattle.fs_tree.specs.declared.user.Want.TheVariants.{Write, Execute}
 use Rattle.open_files.specs.declared.file.OpenFile.{OpenFile}
 use Rattle.open_files.specs.declared.file.FileKind.{FileKind}
@@ -83,6 +83,7 @@ pub record Steady (old new : Handed) : Type 0 where
   pub row : SameRow old.row new.row
   pub area : SameArea old.u new.u
   pub image : SameLengths old.image new.image
+  pub marks : ◌≡◌ {A = List ℕ} new.marks old.marks
 
 -- A call that shows little, and leaves as it is what has to stay.
 pub record Confined (old : Handed) (did : Did) : Type 0 where
@@ -116,7 +117,7 @@ same_image : (image : Image) → SameLengths image image
 same_image image = record { text = refl; «data» = refl; stack = refl }
 
 pub steady_same : (h : Handed) → Steady h h
-steady_same h = record { row = same_row h.row; area = same_area h.u; image = same_image h.image }
+steady_same h = record { row = same_row h.row; area = same_area h.u; image = same_image h.image; marks = refl }
 
 -- What stays in two steps stays.
 row_then : (a b c : Row) → SameRow a b → SameRow b c → SameRow a c
@@ -151,6 +152,7 @@ steady_then a b c first second = record {
   row = row_then a.row b.row c.row first.row second.row;
   area = area_then a.u b.u c.u first.area second.area;
   image = then_lengths a.image b.image c.image c.image first.image second.image refl;
+  marks = second.marks ∙ first.marks;
 }
 
 -- what may be another in the area
@@ -185,7 +187,7 @@ area_changed old u files dir pending call s = record {
 -- The process is the same with other inodes, files and another console.
 steady_around : (old h : Handed) (inodes : Inodes) (files : List (Option OpenFile)) (console : Terminal) → Steady old h
     → Steady old (record h { inodes = inodes; files = files; line = console })
-steady_around old h inodes files console s = record { row = s.row; area = s.area; image = s.image }
+steady_around old h inodes files console s = record { row = s.row; area = s.area; image = s.image; marks = s.marks }
 
 -- And with another number that names a file.
 steady_numbered : (old h : Handed) (inodes : Inodes) (files : List (Option OpenFile)) (console : Terminal)
@@ -195,6 +197,7 @@ steady_numbered old h inodes files console numbers s = record {
   row = s.row;
   area = area_changed old.u h.u numbers h.u.dir h.u.pending h.u.call s.area;
   image = s.image;
+  marks = s.marks;
 }
 
 -- And with another call that goes on.
@@ -204,6 +207,7 @@ steady_pending old h pending call s = record {
   row = s.row;
   area = area_changed old.u h.u h.u.files h.u.dir pending call s.area;
   image = s.image;
+  marks = s.marks;
 }
 
 -- And with another image of the same sizes.
@@ -213,6 +217,7 @@ steady_stored old h image s same = record {
   row = s.row;
   area = s.area;
   image = then_lengths old.image h.image image image s.image same refl;
+  marks = s.marks;
 }
 
 -- Words of which the rows are made: nothing is shown,
@@ -229,7 +234,7 @@ confined_check old h (Err e) next s goes = confined_quiet old h (Fail e) s
 confined_end : (old : Handed) (ino : ℕ) (did : Did) → Confined old did → Confined old (until_end ino did)
 confined_end old ino did c = record {
   fits = c.fits;
-  steady = record { row = c.steady.row; area = c.steady.area; image = c.steady.image };
+  steady = record { row = c.steady.row; area = c.steady.area; image = c.steady.image; marks = c.steady.marks };
 }
 
 -- a name is searched,
@@ -363,7 +368,7 @@ released_confined : (old h : Handed) (told : Closed) → Steady old h → Confin
 released_confined old h (Still file) s = record { wakes = wakes_up_to 0 1 [] (omega arith) none_wakes; steady = s }
 released_confined old h (Last file) s = record {
   wakes = close_wakes (is_closed_by h file);
-  steady = record { row = s.row; area = s.area; image = s.image };
+  steady = record { row = s.row; area = s.area; image = s.image; marks = s.marks };
 }
 
 closes_confined : (old h : Handed) (fd : ℕ) → Steady old h → ConfinedClosing old 1 (closes h fd)
@@ -407,6 +412,7 @@ steady_opened old h ino fd entry kind s = record {
       (terminal_row h.row (is_console (node_at h ino) && (h.row.tty == 0)));
   area = area_changed old.u h.u (with_number h.u fd (entry + 1)).files h.u.dir h.u.pending h.u.call s.area;
   image = s.image;
+  marks = s.marks;
 }
 
 confined_opens : (old h : Handed) (ino : ℕ) (kind : FileKind) → Steady old h → Confined old (opens h ino kind)
@@ -436,7 +442,7 @@ confined_node old h dir offset name mode now next s goes =
 -- A read and a write of an entry, and of the console.
 steady_moved : {Memory : Type 0} (old h : Handed) (entry : ℕ) (m : Moving Memory) → Steady old h
     → Steady old (with_moved h entry m)
-steady_moved old h entry m s = record { row = s.row; area = s.area; image = s.image }
+steady_moved old h entry m s = record { row = s.row; area = s.area; image = s.image; marks = s.marks }
 
 confined_count : (old h : Handed) (count : ℕ) (e : Option Errno) → Steady old h → Confined old (gives_count h count e)
 confined_count old h count None s = confined_quiet old h _ s
@@ -483,11 +489,11 @@ shown_by : (old h : Handed) (count : ℕ) (bytes : List ℕ) (all : Bool) → St
     (fails (record h { line = after_shown h.line bytes }) EFAULT)) { items = sent 0 (shows h.line bytes) })
 shown_by old h count bytes true s fits = record {
   fits = fits;
-  steady = record { row = s.row; area = s.area; image = s.image };
+  steady = record { row = s.row; area = s.area; image = s.image; marks = s.marks };
 }
 shown_by old h count bytes false s fits = record {
   fits = fits;
-  steady = record { row = s.row; area = s.area; image = s.image };
+  steady = record { row = s.row; area = s.area; image = s.image; marks = s.marks };
 }
 
 write_by : (old h : Handed) (entry at count now : ℕ) (console : Bool) → Steady old h → count ≤ 65535
@@ -522,7 +528,7 @@ write_confined h at count now few =
 pub open_confined : (h : Handed) (name mode : ℕ) → Confined h (open_file h name mode)
 open_confined h name mode =
     confined_finds h h name (λ k ino. opens_named k ino mode) (steady_same h) (λ k ino s.
-    confined_check h k (last_failure (open_tests (node_at k ino) (user_of k.u) mode)) _ s (λ passed.
+    confined_check h k (last_failure (open_tests k.marks ino (node_at k ino) (user_of k.u) mode)) _ s (λ passed.
     confined_opens h k ino _ s))
 
 -- 6, close
@@ -535,7 +541,7 @@ close_confined h =
 -- 8, creat
 again_confined : (old h : Handed) (ino now : ℕ) → Steady old h → Confined old (opens_again now h ino)
 again_confined old h ino now s =
-    confined_check old h (permission (node_at h ino) (user_of h.u) Write) _ s (λ may.
+    confined_check old h (access h.marks ino (node_at h ino) (user_of h.u) Write) _ s (λ may.
     confined_check old h (must EISDIR (not (is_directory (node_at h ino).mode))) _ s (λ file.
     confined_opens old (with_no_blocks h ino now) ino _ (steady_around old h _ h.files h.line s)))
 
@@ -548,7 +554,7 @@ creat_confined h name mode now =
 
 -- 9, link
 steady_linked : (old h : Handed) (ino links now : ℕ) → Steady old h → Steady old (with_links h ino links now)
-steady_linked old h ino links now s = record { row = s.row; area = s.area; image = s.image }
+steady_linked old h ino links now s = record { row = s.row; area = s.area; image = s.image; marks = s.marks }
 
 again_entered : (old h : Handed) (ino now dir offset : ℕ) (name : List ℕ) → Steady old h
     → Confined old (enters_again ino now h dir offset name)
@@ -590,6 +596,7 @@ steady_entered old h ino s = record {
   row = s.row;
   area = area_changed old.u h.u h.u.files ino h.u.pending h.u.call s.area;
   image = s.image;
+  marks = s.marks;
 }
 
 pub chdir_confined : (h : Handed) (name : ℕ) → Confined h (chdir_to h name)
@@ -610,7 +617,7 @@ mknod_confined h name mode device now =
 
 -- 15, chmod
 steady_node : (old h : Handed) (ino : ℕ) (node : Node) → Steady old h → Steady old (with_changed h ino node)
-steady_node old h ino node s = record { row = s.row; area = s.area; image = s.image }
+steady_node old h ino node s = record { row = s.row; area = s.area; image = s.image; marks = s.marks }
 
 pub chmod_confined : (h : Handed) (name mode now : ℕ) → Confined h (chmod_to h name mode now)
 chmod_confined h name mode now =
@@ -659,7 +666,7 @@ stty_confined h at =
     confined_terminal h (check h (need EFAULT (words_at h at)) (sets_modes h))
     (confined_check h h (need EFAULT (words_at h at)) (sets_modes h) (steady_same h) (λ bytes. record {
       fits = fits_wake Keys;
-      steady = record { row = same_row h.row; area = same_area h.u; image = same_image h.image };
+      steady = record { row = same_row h.row; area = same_area h.u; image = same_image h.image; marks = refl };
     }))
 
 told_lengths : (h : Handed) (at : ℕ) (odd : Bool)

@@ -15,6 +15,7 @@ use Rattle.sys_files.specs.declared.files.Files.{Files}
 
 pub record Handed : Type 0 where
   pub inodes : Inodes  -- the store, and how often its inodes are referred to
+  pub marks : List ℕ  -- the inodes whose text is shared
   pub files : List (Option OpenFile)  -- the table of open files
   pub line : Terminal  -- the console
   pub u : UArea  -- of the process that calls
@@ -24,7 +25,15 @@ pub record Handed : Type 0 where
 -- the parts as the kernel keeps them
 abbrev pub handed : Files → UArea → Row → Image → Handed
 handed f u row image =
-    record { inodes = inodes_of f.tree.nodes; files = f.table; line = f.line; u = u; row = row; image = image }
+    record {
+      inodes = inodes_of f.tree.nodes;
+      marks = f.tree.marks;
+      files = f.table;
+      line = f.line;
+      u = u;
+      row = row;
+      image = image;
+    }
 
 -- R0 and R1 of the process
 abbrev pub r0 : Handed → ℕ

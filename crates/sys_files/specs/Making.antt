@@ -11,7 +11,7 @@ use Rattle.fs_nodes.specs.FileSystem.{referenced}
 use Rattle.fs_tree.specs.declared.user.User.{User}
 use Rattle.fs_tree.specs.declared.user.Want.TheVariants.{Write}
 use Rattle.fs_tree.specs.Name.{name_at}
-use Rattle.fs_tree.specs.Permission.{permission}
+use Rattle.fs_tree.specs.Permission.{access}
 use Rattle.fs_tree.specs.Entries.{written, answer_to}
 use Rattle.fs_tree.specs.Finding.{Inodes, Finding, refused, remove_in}
 use Rattle.sys_files.specs.Handed.{Handed, node_in, node_at, user_of, with_inodes}
@@ -80,7 +80,7 @@ with_no_blocks h ino now = with_inodes h (truncated_in h.inodes ino now)
 
 abbrev pub opens_again : ℕ → Handed → ℕ → Did
 opens_again now h ino =
-    check h (permission (node_at h ino) (user_of h.u) Write) (λ may.
+    check h (access h.marks ino (node_at h ino) (user_of h.u) Write) (λ may.
     check h (must EISDIR (not (is_directory (node_at h ino).mode))) (λ file.
     opens_for_writing (with_no_blocks h ino now) ino))
 

@@ -9,7 +9,7 @@ use Rattle.open_files.specs.declared.file.FileKind.{FileKind}
 use Rattle.open_files.specs.Files.{free_number, free_entry, opened}
 use Rattle.fs_tree.specs.declared.user.User.{User}
 use Rattle.fs_tree.specs.declared.user.Want.TheVariants.{Read, Write}
-use Rattle.fs_tree.specs.Permission.{permission}
+use Rattle.fs_tree.specs.Permission.{permission, access}
 use Rattle.fs_tree.specs.Finding.{with_reference}
 use Rattle.tty_line.specs.Terminal as terminal
 use Rattle.tty_line.specs.Terminal.{Terminal}
@@ -36,10 +36,10 @@ abbrev pub last_failure : List (Result (Unit {0}) Errno) → Result (Unit {0}) E
 last_failure [] = Ok tt
 last_failure (test ∷ tests) = or_earlier (last_failure tests) test
 
-abbrev pub open_tests : Node → User → ℕ → List (Result (Unit {0}) Errno)
-open_tests node user mode =
+abbrev pub open_tests : List ℕ → ℕ → Node → User → ℕ → List (Result (Unit {0}) Errno)
+open_tests marks ino node user mode =
     only_if (opens_to_read mode) (permission node user Read)
-    ∷ only_if (opens_to_write mode) (permission node user Write)
+    ∷ only_if (opens_to_write mode) (access marks ino node user Write)
     ∷ only_if (opens_to_write mode) (must EISDIR (not (is_directory node.mode)))
     ∷ []
 
@@ -75,7 +75,7 @@ opens h ino kind =
 -- A file whose inode is found is opened where the user may.
 abbrev pub opens_named : Handed → ℕ → ℕ → Did
 opens_named h ino mode =
-    check h (last_failure (open_tests (node_at h ino) (user_of h.u) mode)) (λ passed.
+    check h (last_failure (open_tests h.marks ino (node_at h ino) (user_of h.u) mode)) (λ passed.
     opens h ino (record { reading = opens_to_read mode; writing = opens_to_write mode; pipe = false }))
 
 -- 5, open: a name and a mode

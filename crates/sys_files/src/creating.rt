@@ -150,8 +150,8 @@ fn make_file(f: &mut Files, u: &mut UArea, row: &mut Row, room: Room, mode: u16,
 ///
 /// # Errors
 ///
-/// Those of a name that may be new. Where the file is there: `EACCES`: the user may not write it; `EISDIR`: it is a
-/// directory. Where it is new: `ENOSPC`: no inode is free, or no block for the entry; `ENFILE`: a hundred inodes are
+/// Those of a name that may be new. Where the file is there: `ETXTBSY`: its text is shared; `EACCES`: the user may not
+/// write it; `EISDIR`: it is a directory. Where it is new: `ENOSPC`: no inode is free, or no block for the entry; `ENFILE`: a hundred inodes are
 /// referred to; `EFBIG`: the directory would grow past 65,520 bytes. Where the entry cannot be written, the new inode
 /// is freed again. Then those of the opening: `EMFILE`, `ENFILE`, `ENXIO`; the truncation, or the new file, stays.
 pub fn creat_file<S: Space, T: Trace>(

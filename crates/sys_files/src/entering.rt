@@ -31,6 +31,7 @@ pub(crate) fn find_to_make<S: Space>(
         ≡ (make_in (inodes_of tree.old.nodes) (user_of u.now) u.now.dir (name_at (S.image space.now) name)).answer }
     ensures inodes { inodes_of tree.new.nodes
         ≡ (make_in (inodes_of tree.old.nodes) (user_of u.now) u.now.dir (name_at (S.image space.now) name)).inodes }
+    ensures marks { tree.new.marks ≡ tree.old.marks }
     ensures made { IfOk result (λ made. HasMade tree.new.nodes made) }
     ensures found { IfOk result (λ made. OneReferenceMore tree.old.nodes (named_by_made made) tree.new.nodes) }
     ensures same { tree.new.nodes.store ≡ tree.old.nodes.store }
@@ -96,6 +97,7 @@ pub(crate) fn find_to_remove<S: Space>(
         ≡ (remove_in (inodes_of tree.old.nodes) (user_of u.now) u.now.dir (name_at (S.image space.now) name)).answer }
     ensures inodes { inodes_of tree.new.nodes
         ≡ (remove_in (inodes_of tree.old.nodes) (user_of u.now) u.now.dir (name_at (S.image space.now) name)).inodes }
+    ensures marks { tree.new.marks ≡ tree.old.marks }
     ensures entry { IfOk result (λ entry. HasEntry tree.new.nodes entry.0 entry.1) }
     ensures found { IfOk result (λ entry. TwoReferencesMore tree.old.nodes entry.0 entry.2 tree.new.nodes) }
     ensures none { IfErr result (λ e. SameReferences tree.old.nodes tree.new.nodes) }
@@ -169,6 +171,7 @@ pub(crate) fn enter(
         (entry_bytes (record { ino = ino; name = name })) now).answer }
     ensures inodes { inodes_of tree.new.nodes ≡ (entry_written (inodes_of tree.old.nodes) dir offset
         (entry_bytes (record { ino = ino; name = name })) now).inodes }
+    ensures marks { tree.new.marks ≡ tree.old.marks }
     ensures kept { SameReferences tree.old.nodes tree.new.nodes }
 {
     see(&tree.nodes);
@@ -181,6 +184,7 @@ pub(crate) fn empty(tree: &mut Tree, dir: u16, offset: u32, now: u32) -> Result<
     ensures answer { result ≡ (entry_written (inodes_of tree.old.nodes) dir offset (0 ∷ 0 ∷ []) now).answer }
     ensures inodes { inodes_of tree.new.nodes
         ≡ (entry_written (inodes_of tree.old.nodes) dir offset (0 ∷ 0 ∷ []) now).inodes }
+    ensures marks { tree.new.marks ≡ tree.old.marks }
     ensures kept { SameReferences tree.old.nodes tree.new.nodes }
 {
     see(&tree.nodes);

@@ -39,6 +39,7 @@ pub(crate) fn find_name<S: Space>(
         ≡ (find_in (inodes_of tree.old.nodes) (user_of u.now) u.now.dir (name_at (S.image space.now) name)).answer }
     ensures inodes { inodes_of tree.new.nodes
         ≡ (find_in (inodes_of tree.old.nodes) (user_of u.now) u.now.dir (name_at (S.image space.now) name)).inodes }
+    ensures marks { tree.new.marks ≡ tree.old.marks }
     ensures blocks { tree.new.nodes.blocks ≡ tree.old.nodes.blocks }
     ensures node { IfOk result (λ ino. IsSome (node_numbered tree.new.nodes.store ino)) }
     ensures referred { IfOk result (λ ino. 0 < slice_index tree.new.nodes.references ino) }

@@ -5,7 +5,7 @@ ghost use Rattle.v6_base.specs.Trace.{Took};
 ghost use Rattle.fs_codec.specs.Modes.{is_directory};
 ghost use Rattle.fs_nodes.specs.FileSystem.{SameRest};
 ghost use Rattle.fs_tree.specs.declared.user.Want.TheVariants.{Write};
-ghost use Rattle.fs_tree.specs.Permission.{permission};
+ghost use Rattle.fs_tree.specs.Permission.{access};
 ghost use Rattle.v6_base.specs.declared.errno.Errno.TheVariants.{EISDIR};
 ghost use Rattle.proc_tab.specs.declared.row.Row.{Row};
 ghost use Rattle.open_files.specs.Files.{AreOpen, opened};
@@ -45,10 +45,10 @@ fn opens_to_write(mode: u16) -> bool
 ///
 /// # Errors
 ///
-/// `EACCES`: the user may not.
+/// `ETXTBSY`: it is to be written, and its text is shared. Else `EACCES`: the user may not.
 fn access(tree: &Tree, ino: u16, who: User, want: Want) -> Result<(), Errno>
     requires { 0 < slice_index tree.now.nodes.references ino }
-    ensures { result ≡ permission (node_in tree.now.nodes.store ino) who want }
+    ensures { result ≡ access tree.now.marks ino (node_in tree.now.nodes.store ino) who want }
 {
     see(&tree.nodes);
     tree.access(ino, who, want)
@@ -58,11 +58,11 @@ fn access(tree: &Tree, ino: u16, who: User, want: Want) -> Result<(), Errno>
 ///
 /// # Errors
 ///
-/// `EISDIR`: the file is a directory. Else `EACCES`: the user may not write it.
+/// `EISDIR`: the file is a directory. Else those of `access`.
 fn test_writing(tree: &Tree, ino: u16, who: User) -> Result<(), Errno>
     requires { 0 < slice_index tree.now.nodes.references ino }
     ensures { result ≡ or_earlier (must EISDIR (not (is_directory (node_in tree.now.nodes.store ino).mode)))
-        (permission (node_in tree.now.nodes.store ino) who Write) }
+        (access tree.now.marks ino (node_in tree.now.nodes.store ino) who Write) }
 {
     if is_directory(inode_of(&tree.nodes, ino).mode) {
         return Err(Errno::EISDIR);
@@ -77,7 +77,7 @@ fn test_writing(tree: &Tree, ino: u16, who: User) -> Result<(), Errno>
 /// Those of `test_writing`, where the mode opens for writing. Else `EACCES`: the user may not read the file.
 fn test_opening(tree: &Tree, ino: u16, who: User, mode: u16) -> Result<(), Errno>
     requires { 0 < slice_index tree.now.nodes.references ino }
-    ensures { result ≡ last_failure (open_tests (node_in tree.now.nodes.store ino) who mode) }
+    ensures { result ≡ last_failure (open_tests tree.now.marks ino (node_in tree.now.nodes.store ino) who mode) }
 {
     if opens_to_write(mode) {
         test_writing(tree, ino, who)?;
@@ -212,7 +212,8 @@ fn open_named(f: &mut Files, u: &mut UArea, row: &mut Row, ino: u16, mode: u16) 
 /// # Errors
 ///
 /// Those of a name. Of the tests of the mode that fail the last one counts: `EACCES`: the user may not read, or may not
-/// write, the file. `EISDIR`: it is a directory, and the mode is for writing. After them `EMFILE`: the fifteen numbers
+/// write, the file, or in its place `ETXTBSY`: its text is shared, and the mode is for writing. `EISDIR`: it is a
+/// directory, and the mode is for writing. After them `EMFILE`: the fifteen numbers
 /// of the process are used; `ENFILE`: the hundred open files are; `ENXIO`: it is a device other than the console and
 /// null.
 pub fn open_file<S: Space, T: Trace>(

@@ -1,8 +1,8 @@
-use Rattle.std.proofs.Common.{◌≡◌, slice_index, refl, subst}
+use Rattle.std.proofs.Common.{◌≡◌, slice_index, refl, sym, ap, ◌∙◌, subst}
 use Rattle.fs_tree.specs.declared.made.Made.{Made}
 use Rattle.fs_tree.specs.Finding.{inodes_of, named_by_made}
 use Rattle.sys_files.specs.Handed.{handed, with_inodes}
-use Rattle.sys_files.specs.Making.{creat_file}
+use Rattle.sys_files.specs.Making.{creat_file, opens_again, makes_file}
 use Rattle.sys_files.specs.Entering.{OneReferenceMore, did_with}
 use Rattle.sys_files.proofs.CreatingLemmas.{creat_refused, creat_found, creat_new, answered_answer, answered_state, answered_items, between_kept}
 use Rattle.sys_files.proofs.creating.creat_file.Goals as goal
@@ -22,7 +22,11 @@ returns-in-Found-clause-items g c =
     c.find_to_make.ensures.inodes c.in-Ok.made c.in-Found.ino
     (handed c.open_again-answer.new.f c.open_again-answer.new.u c.open_again-answer.new.row
     (g.S.Space.image c.args.space.now)) c.open_again-answer.result _
-    c.in-Ok.ensures.answer c.in-Found.is (c.open_again-answer.ensures.did (g.S.Space.image c.args.space.now))
+    c.in-Ok.ensures.answer c.in-Found.is
+    (ap (λ marks. opens_again c.args.now (handed (record c.args.f.now {
+      tree = record c.find_to_make.new.tree { marks = marks };
+    }) c.args.u.now c.args.row.now (g.S.Space.image c.args.space.now)) c.in-Found.ino) (sym c.find_to_make.ensures.marks)
+    ∙ c.open_again-answer.ensures.did (g.S.Space.image c.args.space.now))
     c.let_go.ensures.inodes) (g.T.Trace.taken c.args.trace.now)
 
 pub returns-in-Found-clause-kept : goal.returns-in-Found-clause-kept
@@ -51,7 +55,12 @@ new_file g c =
     c.in-Room.dir c.in-Room.offset c.in-Room.name
     (handed c.make_file-answer.new.f c.make_file-answer.new.u c.make_file-answer.new.row
     (g.S.Space.image c.args.space.now)) c.make_file-answer.result (inodes_of c.let_go-in-Room.new.nodes)
-    c.in-Ok.ensures.answer c.in-Room.is (c.make_file-answer.ensures.did (g.S.Space.image c.args.space.now))
+    c.in-Ok.ensures.answer c.in-Room.is
+    (ap (λ marks. makes_file (slice_index c.args.args 1) c.args.now (handed (record c.args.f.now {
+      tree = record c.find_to_make.new.tree { marks = marks };
+    }) c.args.u.now c.args.row.now (g.S.Space.image c.args.space.now)) c.in-Room.dir c.in-Room.offset c.in-Room.name)
+    (sym c.find_to_make.ensures.marks)
+    ∙ c.make_file-answer.ensures.did (g.S.Space.image c.args.space.now))
     c.let_go-in-Room.ensures.inodes
 
 pub returns-in-Room-clause-answer : goal.returns-in-Room-clause-answer

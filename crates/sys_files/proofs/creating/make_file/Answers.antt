@@ -7,7 +7,7 @@ use Rattle.sys_files.proofs.creating.make_file.Goals as goal
 pub returns-clause-kept : goal.returns-clause-kept
 returns-clause-kept c = λ image.
     between_kept (handed c.args.f.now c.args.u.now c.args.row.now image)
-    (handed (record c.args.f.now { tree = record { nodes = c.make_inode.new.nodes } }) c.args.u.now c.args.row.now
+    (handed (record c.args.f.now { tree = record c.args.f.now.tree { nodes = c.make_inode.new.nodes } }) c.args.u.now c.args.row.now
     image)
     (handed c.enter_file-answer.new.f c.enter_file-answer.new.u c.enter_file-answer.new.row image)
     c.args.f.now.tree.nodes c.make_inode.new.nodes c.enter_file-answer.new.f.tree.nodes c.let_go.new.nodes c.in-Ok.ino
@@ -20,7 +20,7 @@ none = record { text = []; «data» = []; stack = [] }
 pub returns-clause-more : goal.returns-clause-more
 returns-clause-more c =
     between_more (handed c.args.f.now c.args.u.now c.args.row.now none)
-    (handed (record c.args.f.now { tree = record { nodes = c.make_inode.new.nodes } }) c.args.u.now c.args.row.now
+    (handed (record c.args.f.now { tree = record c.args.f.now.tree { nodes = c.make_inode.new.nodes } }) c.args.u.now c.args.row.now
     none)
     (handed c.enter_file-answer.new.f c.enter_file-answer.new.u c.enter_file-answer.new.row none)
     c.args.f.now.tree.nodes c.make_inode.new.nodes c.enter_file-answer.new.f.tree.nodes c.let_go.new.nodes c.in-Ok.ino
@@ -30,7 +30,7 @@ returns-clause-more c =
 pub returns-clause-blocks : goal.returns-clause-blocks
 returns-clause-blocks c =
     between_blocks (handed c.args.f.now c.args.u.now c.args.row.now none)
-    (handed (record c.args.f.now { tree = record { nodes = c.make_inode.new.nodes } }) c.args.u.now c.args.row.now
+    (handed (record c.args.f.now { tree = record c.args.f.now.tree { nodes = c.make_inode.new.nodes } }) c.args.u.now c.args.row.now
     none)
     (handed c.enter_file-answer.new.f c.enter_file-answer.new.u c.enter_file-answer.new.row none)
     c.args.f.now.tree.nodes c.make_inode.new.nodes c.enter_file-answer.new.f.tree.nodes c.let_go.new.nodes c.in-Ok.ino

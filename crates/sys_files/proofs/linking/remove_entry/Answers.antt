@@ -1,5 +1,6 @@
 use Rattle.std.proofs.Common.{◌≡◌, Err, rules, sym, ap, ◌∙◌}
 use Rattle.sys_files.specs.Handed.{handed}
+use Rattle.sys_files.specs.Did.{is_done}
 use Rattle.sys_files.specs.Entering.{did_of}
 use Rattle.sys_files.proofs.LinkingLemmas.{unlink_refused, unlink_unwritten, unlink_written}
 use Rattle.sys_files.proofs.linking.remove_entry.Goals as goal
@@ -15,6 +16,8 @@ returns-in_err-empty-clause-did c = λ row image.
     unlink_unwritten (handed c.args.f.now c.args.u.now row image) c.args.dir c.args.offset c.args.ino c.args.now
     c.in_err-empty.field-0.0 _
     (sym (c.may_link.ensures row image) ∙ c.if-not-may_link.false) c.in_err-empty.ensures.answer c.empty.ensures.inodes
+    ∙ ap (λ marks. did_of (handed (record c.args.f.now { tree = record c.empty.new.tree { marks = marks } }) c.args.u.now row
+    image) (Err c.in_err-empty.field-0.0)) (sym c.empty.ensures.marks)
     ∙ ap (did_of (handed (record c.args.f.now { tree = c.empty.new.tree }) c.args.u.now row image)) is
 
 pub returns-clause-did : goal.returns-clause-did
@@ -23,3 +26,6 @@ returns-clause-did c = λ row image.
     c.in_ok-empty.field-0 _ _ c.links_of-nlink.result c.saturating_sub.result
     (sym (c.may_link.ensures row image) ∙ c.if-not-may_link.false) c.in_ok-empty.ensures.answer c.empty.ensures.inodes
     c.links_of-nlink.ensures c.saturating_sub.ensures c.set_links.ensures.inodes
+    ∙ ap (λ marks. is_done (handed (record c.args.f.now {
+      tree = record { nodes = c.set_links.new.nodes; marks = marks };
+    }) c.args.u.now row image)) (sym c.empty.ensures.marks)

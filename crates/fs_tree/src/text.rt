@@ -1,0 +1,70 @@
+//! Texts that are shared are marked: xalloc and xfree in Lions' Commentary, `text.c`.
+ghost use Rattle.std.specs.Prelude.{◌≡◌, ◌<◌, ◌≤◌, ℕ, true, false, Some, length, slice_index};
+ghost use Rattle.fs_codec.specs.Modes.{file_type};
+ghost use Rattle.fs_codec.specs.Store.{Node, node_numbered};
+ghost use Rattle.fs_nodes.specs.FileSystem.{SameRest, IsFileSystem};
+ghost use Rattle.fs_tree.specs.Finding.{inodes_of, with_reference, put_back};
+ghost use Rattle.fs_tree.specs.Marks.{is_marked, with_mark, without_mark};
+
+use crate::tree::Tree;
+use fs_nodes::Nodes;
+
+/// Sees what holds of every file system.
+fn see(nodes: &Nodes)
+    ensures { IsFileSystem nodes.now }
+{
+    let _ = nodes.refs(0);
+}
+
+/// Refers once more to an inode that is referred to.
+fn refer_again(nodes: &mut Nodes, ino: u16)
+    requires referenced { 0 < slice_index nodes.old.references ino }
+    requires few { slice_index nodes.old.references ino < 65535 }
+    ensures inodes { inodes_of nodes.new ≡ with_reference (inodes_of nodes.old) ino }
+    ensures blocks { nodes.new.blocks ≡ nodes.old.blocks }
+{
+    see(nodes);
+    let _ = nodes.take(ino);
+}
+
+/// Gives a reference to an inode back.
+fn let_go(nodes: &mut Nodes, ino: u16, time: u32)
+    requires referenced { 0 < slice_index nodes.old.references ino }
+    ensures inodes { inodes_of nodes.new ≡ put_back (inodes_of nodes.old) ino }
+    ensures rest { SameRest nodes.old.blocks nodes.new.blocks }
+{
+    see(nodes);
+    nodes.put(ino, time);
+}
+
+/// While a process runs a program whose text is shared, its file is marked, and cannot be written.
+impl Tree {
+    /// Marks the inode of a plain file whose text is shared from now on, and refers to it once more. Of fewer than a hundred
+    /// inodes that are marked already: there are at most forty texts.
+    pub fn mark_text(&mut self, ino: u16)
+        requires referenced { 0 < slice_index self.old.nodes.references ino }
+        requires few { (i : ℕ) → slice_index self.old.nodes.references i ≤ 65530 }
+        requires file { (node : Node) → node_numbered self.old.nodes.store ino ≡ Some node → file_type node.mode ≡ 0 }
+        requires unmarked { is_marked self.old.marks ino ≡ false }
+        requires room { length self.old.marks < 100 }
+        ensures marks { self.new.marks ≡ with_mark self.old.marks ino }
+        ensures inodes { inodes_of self.new.nodes ≡ with_reference (inodes_of self.old.nodes) ino }
+        ensures blocks { self.new.nodes.blocks ≡ self.old.nodes.blocks }
+    {
+        self.marks.add(ino);
+        refer_again(&mut self.nodes, ino);
+    }
+
+    /// Takes the mark of an inode away, whose text is shared no longer, and gives the reference back that came with it. The
+    /// time is the present one.
+    pub fn unmark_text(&mut self, ino: u16, time: u32)
+        requires marked { is_marked self.old.marks ino ≡ true }
+        requires referenced { 0 < slice_index self.old.nodes.references ino }
+        ensures marks { self.new.marks ≡ without_mark self.old.marks ino }
+        ensures inodes { inodes_of self.new.nodes ≡ put_back (inodes_of self.old.nodes) ino }
+        ensures rest { SameRest self.old.nodes.blocks self.new.nodes.blocks }
+    {
+        self.marks.remove(ino);
+        let_go(&mut self.nodes, ino, time);
+    }
+}
