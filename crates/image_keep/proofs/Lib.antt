@@ -7,3 +7,4 @@ pub mod PlaceFrames
 pub mod Loans
 pub mod HalfLemmas
 pub mod GrowthLemmas
+pub mod BareLemmas

@@ -207,6 +207,21 @@ impl Images {
         self.core_fit(u32::from(clicks)).is_some()
     }
 
+    /// Whether so many clicks of core would be free in one piece without a slot's image. Nothing changes.
+    pub fn has_room_without(&mut self, s: Slot, clicks: u16) -> bool
+        requires { HasImage self.old s }
+        ensures room { result ≡ is_some (core_fit (with_keeping self.old s Nothing) clicks) }
+        ensures kept { self.new ≡ self.old }
+    {
+        let row = &mut self.rows[s as usize];
+        let state = row.state;
+        row.state = State::Nothing;
+        let has_room = self.has_room(clicks);
+        let row = &mut self.rows[s as usize];
+        row.state = state;
+        has_room
+    }
+
     /// The most clicks that an image may have, its u area among them.
     pub fn limit(&self) -> u16
         ensures { result ≡ most_clicks self.now }
