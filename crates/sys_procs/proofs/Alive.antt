@@ -12,14 +12,14 @@ use Rattle.pick_rules.specs.declared.table.Table.{Table}
 use Rattle.pick_rules.specs.Table.{row_at, IsTable}
 use Rattle.proc_tab.specs.declared.member.Member.{Member}
 use Rattle.proc_tab.specs.declared.row.Row.{Row}
-use Rattle.proc_tab.specs.Processes.{Processes, member_at, changed, with_change, with_row}
-use Rattle.image_keep.specs.Kept.{Held, Keeping, Nothing, Alive, Kept, keeping, with_keeping, described, with_area, area_in, clicks_of, HasSizes}
+use Rattle.proc_tab.specs.Processes.{member_at, changed, with_change, with_row}
+use Rattle.image_keep.specs.Kept.{Held, Keeping, Nothing, Alive, Kept, keeping, described, with_area, area_in, clicks_of, HasSizes}
 use Rattle.fs_laws.proofs.RestLemmas.{rest_stays}
 use Rattle.fs_nodes.specs.FileSystem.{FileSystem}
 use Rattle.sys_procs.specs.declared.procs.Procs.{Procs}
 use Rattle.sys_procs.specs.Process.{Process, no_process, process_by}
 use Rattle.sys_procs.specs.World.{processes_in}
-use Rattle.sys_procs.specs.Agree.{Agrees, Agree}
+use Rattle.sys_procs.specs.Agree.{Agrees}
 use Rattle.sys_procs.specs.Handed.{Calls, IsAlive, process_here}
 use Rattle.sys_procs.proofs.Slots.{own_alive, row_changed, area_changed}
 use Rattle.sys_procs.proofs.Agreement.{is_there, agree_but, agree_like, AreLike}

@@ -1,11 +1,8 @@
 -- A new process: what becomes of its slot in the table, the rows and the images, what the log says, and the row of fork(II).
-use Rattle.std.proofs.Common.{◌≡◌, ◌≢◌, ◌∙◌, ℕ, ◌+◌, ◌%◌, ◌<◌, Bool, true, false, List, [], ◌∷◌, length, get_or, set, Option, Some, None, is_none, IsSome, refl, sym, ap, subst, arith}
-use Rattle.std.specs.Prelude.{MatchOption}
+use Rattle.std.proofs.Common.{◌≡◌, ◌≢◌, ◌∙◌, ℕ, ◌+◌, ◌%◌, ◌<◌, Bool, true, List, [], ◌∷◌, length, get_or, set, Option, Some, None, is_none, refl, sym, ap, subst, arith}
 use Rattle.std.specs.Option.{unwrap_or}
 use Rattle.std.proofs.lemmas.List.{length-set, get_or-set_same, get_or-set_other, set-set}
 use Rattle.v6_base.specs.Trace.{Log}
-use Rattle.v6_base.specs.declared.answer.Answer.{Answer}
-use Rattle.v6_base.specs.declared.answer.Answer.TheVariants.{Ret}
 use Rattle.v6_base.specs.declared.entry.Entry.TheVariants as line
 use Rattle.v6_base.specs.declared.entry.PanicKind.TheVariants as panic
 use Rattle.v6_base.specs.declared.entry.Place.{Place}
@@ -30,16 +27,15 @@ use Rattle.proc_tab.proofs.SearchLemmas.{lowest_finds}
 use Rattle.image_keep.specs.Kept.{Held, Keeping, Nothing, Alive, Grave, Kept, keeping, with_keeping, with_area, described, area_in, image_in, area_of, image_of, clicks_of, HasImage}
 use Rattle.image_keep.specs.Places as images_of
 use Rattle.fs_nodes.specs.FileSystem.{FileSystem}
-use Rattle.fs_tree.specs.Finding.{Inodes, with_reference, inodes_of}
+use Rattle.fs_tree.specs.Finding.{with_reference}
 use Rattle.sys_procs.specs.declared.procs.Procs.{Procs}
 use Rattle.sys_procs.specs.Process.{Process, no_process, process_by, process_in, register, with_register}
-use Rattle.sys_procs.specs.World.{World, Clock, clock_of, process_of, with_process, change, members, processes_in, world_in}
-use Rattle.sys_procs.specs.Comes.{Comes}
+use Rattle.sys_procs.specs.World.{World, Clock, clock_of, process_of, with_process, change, processes_in}
 use Rattle.sys_procs.specs.Fork.{copied, past_word, next_pid, with_child, fork_into, fork_one}
 use Rattle.sys_procs.specs.Seats.{with_image_row}
-use Rattle.sys_procs.specs.Agree.{Kind, Free, Lives, Died, kind_of_member, kind_of_keeping, Agrees, Agree, board_of, untimed}
-use Rattle.sys_procs.specs.Handed.{AreProcs, IsAlive, handed, board, came, process_here}
-use Rattle.sys_procs.proofs.Slots.{fifty_processes, one_changed, own, own_row, members_are}
+use Rattle.sys_procs.specs.Agree.{Free, kind_of_member, kind_of_keeping, Agrees, Agree, board_of, untimed}
+use Rattle.sys_procs.specs.Handed.{AreProcs, IsAlive, handed, board, process_here}
+use Rattle.sys_procs.proofs.Slots.{fifty_processes, one_changed, members_are}
 use Rattle.sys_procs.proofs.Tables.{untimed_runout}
 use Rattle.sys_procs.proofs.Agreement.{agree_but, agree_like, runout_like}
 use Rattle.sys_procs.proofs.Alive.{IsHere, is_here}

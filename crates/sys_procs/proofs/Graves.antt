@@ -1,5 +1,5 @@
 -- A process that has ended and its parent's wait: what is kept of it, what becomes of its slot, and the row of wait(II).
-use Rattle.std.proofs.Common.{◌≡◌, ◌≢◌, ◌∙◌, ℕ, ◌+◌, ◌*◌, ◌/◌, ◌%◌, ◌^◌, ◌<◌, Bool, true, false, ◌&&◌, nat_eq, List, [], ◌∷◌, length, get_or, take, map, set, Option, Some, None, IsSome, refl, sym, ap, subst, arith}
+use Rattle.std.proofs.Common.{◌≡◌, ◌∙◌, ℕ, ◌+◌, ◌*◌, ◌/◌, ◌%◌, ◌^◌, ◌<◌, Bool, true, false, ◌&&◌, List, [], ◌∷◌, length, get_or, take, set, Option, Some, None, IsSome, refl, sym, ap, subst, arith}
 use Rattle.std.specs.Option.{unwrap_or}
 use Rattle.std.proofs.Math.Bridge.{le_prop}
 use Rattle.std.proofs.Math.Nat.{mod-add-mod}
@@ -22,12 +22,11 @@ use Rattle.image_keep.specs.Kept.{Held, Keeping, Nothing, Alive, Grave, Kept, ke
 use Rattle.fs_nodes.specs.FileSystem.{FileSystem}
 use Rattle.sys_procs.specs.declared.procs.Procs.{Procs}
 use Rattle.sys_procs.specs.Process.{Process, no_process, process_by, process_in}
-use Rattle.sys_procs.specs.World.{World, process_of, without_process, processes_in, members}
-use Rattle.sys_procs.specs.Comes.{Comes}
-use Rattle.sys_procs.specs.Wait.{with_times_of, waits_for, wait_child}
-use Rattle.sys_procs.specs.Agree.{Kind, Free, Lives, Died, kind_by, kind_of_member, kind_of_keeping, Agrees, Agree, board_of}
+use Rattle.sys_procs.specs.World.{without_process, processes_in}
+use Rattle.sys_procs.specs.Wait.{waits_for, wait_child}
+use Rattle.sys_procs.specs.Agree.{Free, Died, kind_by, kind_of_member, kind_of_keeping, Agrees, Agree}
 use Rattle.sys_procs.specs.Handed.{AreProcs, IsAlive, handed, board, process_here}
-use Rattle.sys_procs.proofs.Slots.{fifty_processes, one_changed, own_is, members_are}
+use Rattle.sys_procs.proofs.Slots.{one_changed, own_is, members_are}
 use Rattle.sys_procs.proofs.Agreement.{agree_but}
 
 -- The words of half a u area.

@@ -5,7 +5,6 @@ use Rattle.std.proofs.lemmas.Bool.{lt-ltb, le-ltb, eq-eqb, ne_eqb}
 use Rattle.v6_base.specs.declared.entry.Entry.TheVariants.{Nice}
 use Rattle.v6_base.specs.declared.errno.Errno.TheVariants.{EPERM}
 use Rattle.u_area.specs.declared.area.UArea.{UArea}
-use Rattle.sys_procs.specs.Process.{Process}
 use Rattle.sys_procs.specs.World.{World, process_of, change}
 use Rattle.sys_procs.specs.Comes.{Comes, returns, fails, logs}
 use Rattle.sys_procs.specs.Ids.{as_user, as_group, id_given, set_uid, set_gid, kept_nice, nice_to}

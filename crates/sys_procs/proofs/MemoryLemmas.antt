@@ -1,5 +1,5 @@
 -- The memory of a process: what a loan of it leaves.
-use Rattle.std.proofs.Common.{◌≡◌, ◌≢◌, ◌∙◌, ℕ, ◌<◌, List, [], length, set, Option, Some, None, refl, sym, ap, subst, arith}
+use Rattle.std.proofs.Common.{◌≡◌, ◌∙◌, ℕ, List, [], length, set, Option, Some, refl, sym, ap, subst, arith}
 use Rattle.v6_base.specs.Image.{Image}
 use Rattle.pick_rules.specs.declared.row.TableRow.{TableRow}
 use Rattle.pick_rules.specs.Table.{row_at}
@@ -12,12 +12,12 @@ use Rattle.image_keep.proofs.Frames.{after, image_back, keeping_same, with_image
 use Rattle.fs_nodes.specs.FileSystem.{FileSystem}
 use Rattle.sys_procs.specs.declared.procs.Procs.{Procs}
 use Rattle.sys_procs.specs.Process.{Process, image_of}
-use Rattle.sys_procs.specs.World.{World, processes_in, with_process}
+use Rattle.sys_procs.specs.World.{processes_in, with_process}
 use Rattle.sys_procs.specs.Agree.{Agrees, board_of}
 use Rattle.sys_procs.specs.Handed.{board, handed, process_here, IsAlive}
 use Rattle.sys_procs.proofs.Slots.{image_changed}
 use Rattle.sys_procs.proofs.Agreement.{agree_but}
-use Rattle.sys_procs.proofs.Alive.{IsHere, is_here}
+use Rattle.sys_procs.proofs.Alive.{is_here}
 
 -- the image of a process, which has no text
 pub image_here : (p : Procs) (s : ℕ) → IsAlive p s → (kept.image_of p.images s).text ≡ [] → image_of (process_here p s) ≡ kept.image_of p.images s
@@ -35,6 +35,7 @@ module _ (p : Procs) (s : ℕ) (alive : IsAlive p s) (long : length p.images.slo
       image_changed p.rows.slots p.images s here.member here.held alive.below here.member_is here.image_is m (omega (arith, alive.below, long))
 
   state_with : (fs : FileSystem) → handed (record p { images = with_image p.images s m }) fs ≡ with_process (handed p fs) s (record (process_here p s) { «data» = m.data; stack = m.stack })
+  unfolding with_image
   state_with fs = ap (λ (ps : List (Option Process)). record (handed p fs) { processes = ps }) image_put
 
   image_agrees : (o : Option Member) (row : TableRow) (held : Held) → Agrees o row (Alive held) → Agrees o row (Alive (record held { image = m }))

@@ -1,11 +1,10 @@
 -- Where a new image can stand, by the board and by the images that are kept: the same, where they agree.
-use Rattle.std.proofs.Common.{◌≡◌, ◌∙◌, ℕ, zero, suc, ◌+◌, ◌<◌, Bool, true, false, cond, List, [], ◌∷◌, ◌++◌, length, get_or, flat_map, Option, Some, None, refl, sym, ap, subst, inl, inr, arith}
+use Rattle.std.proofs.Common.{◌≡◌, ◌∙◌, ℕ, zero, suc, ◌<◌, true, false, cond, List, [], ◌∷◌, ◌++◌, length, get_or, flat_map, Option, Some, None, refl, sym, ap, arith}
 use Rattle.std.specs.Option.{option_map, option_or}
-use Rattle.std.proofs.lemmas.Bool.{cases_eq}
 use Rattle.std.proofs.lemmas.List.{append-nil}
 use Rattle.v6_base.specs.declared.entry.Place.{Place}
 use Rattle.v6_base.specs.declared.entry.Place.TheVariants.{Core, Swap}
-use Rattle.map_fit.specs.Fit.{Range, first_fit}
+use Rattle.map_fit.specs.Fit.{first_fit}
 use Rattle.pick_rules.specs.declared.row.Stat.{Stat}
 use Rattle.pick_rules.specs.declared.row.Stat.TheVariants.{Empty, Sleeping, Waiting, Ready, Zombie}
 use Rattle.pick_rules.specs.declared.row.TableRow.{TableRow}
@@ -15,12 +14,12 @@ use Rattle.pick_rules.specs.Board.{core_range, swap_range, core_of_row, swap_of_
 use Rattle.pick_rules.specs.Board as board
 use Rattle.proc_tab.specs.declared.member.Member.{Member}
 use Rattle.proc_tab.specs.Processes.{Processes, member_at}
-use Rattle.image_keep.specs.Kept.{Held, Keeping, Nothing, Alive, Grave, Kept, keeping, clicks_of}
+use Rattle.image_keep.specs.Kept.{Keeping, Nothing, Alive, Grave, Kept, keeping, clicks_of}
 use Rattle.image_keep.specs.Places.{core_of_place, swap_of_place, core_of, swap_of, core_fit, swap_fit, placed, blocks}
-use Rattle.sys_procs.specs.Agree.{Kind, Free, Lives, Died, kind_of_stat, kind_of_member, kind_of_keeping, Agrees, Agree, board_of}
+use Rattle.sys_procs.specs.Agree.{Lives, Died, kind_of_stat, Agrees, Agree, board_of}
 
 -- what two lists give, element by element
-same_ranges : {A B C : Type 0} (f : A → List C) (g : B → List C) (a : A) (b : B) (xs : List A) (ys : List B) → length xs ≡ length ys
+pub same_ranges : {A B C : Type 0} (f : A → List C) (g : B → List C) (a : A) (b : B) (xs : List A) (ys : List B) → length xs ≡ length ys
     → ((i : ℕ) → i < length xs → f (get_or xs i a) ≡ g (get_or ys i b)) → flat_map f xs ≡ flat_map g ys
 same_ranges f g a b [] [] e h = refl
 same_ranges f g a b [] (y ∷ ys) e h = absurd (omega (arith, e))
@@ -73,7 +72,7 @@ swap_same m row (Grave u block) a =
 
 -- Of all slots.
 module _ (v : Processes) (t : Table) (k : Kept) (a : Agree v t k) (long : length k.slots ≡ 50) where
-  core_at : (i : ℕ) → i < length t.rows → core_of_row (row_at t i) ≡ core_of (keeping k i)
+  pub core_at : (i : ℕ) → i < length t.rows → core_of_row (row_at t i) ≡ core_of (keeping k i)
   core_at zero l = ap (λ p. core_range p (row_at t 0).size) a.kernel ∙ ap core_of (sym a.images)
   core_at (suc i) l = core_same (member_at v.slots (suc i)) (row_at t (suc i)) (keeping k (suc i)) (a.each (suc i) (omega arith) (omega (arith, l, a.rows)))
 

@@ -1,5 +1,5 @@
 -- The board of the log doesn't tell when sleepers are woken: what is done to the table is done to the board.
-use Rattle.std.proofs.Common.{◌≡◌, ◌∙◌, ℕ, Bool, true, false, cond, if◌then◌else◌, List, [], ◌∷◌, fold, None, refl, sym, ap}
+use Rattle.std.proofs.Common.{◌≡◌, ◌∙◌, ℕ, Bool, true, false, cond, if◌then◌else◌, List, [], ◌∷◌, fold, None, refl, ap}
 use Rattle.v6_base.specs.Trace.{Log}
 use Rattle.v6_base.specs.declared.entry.Chan.{Chan}
 use Rattle.v6_base.specs.declared.entry.Chan.TheVariants.{RunOut}
@@ -13,7 +13,7 @@ use Rattle.pick_rules.specs.Sleepers.{made_ready, sleeps_on, process_0_woken, ru
 use Rattle.pick_rules.specs.Board.{Board}
 use Rattle.pick_rules.specs.Apply.{applied}
 use Rattle.pick_rules.specs.Effects.{Show, came}
-use Rattle.pick_rules.specs.Logged.{Logged, logged, log_one}
+use Rattle.pick_rules.specs.Logged.{logged, log_one}
 use Rattle.image_keep.specs.Kept.{Kept}
 use Rattle.sys_procs.specs.World.{World}
 use Rattle.sys_procs.specs.Agree.{untimed, board_of}

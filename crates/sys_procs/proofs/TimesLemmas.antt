@@ -10,8 +10,7 @@ use Rattle.pick_rules.specs.declared.table.Table.{Table}
 use Rattle.pick_rules.specs.Priority.{pslep}
 use Rattle.pick_rules.specs.Sleepers.{wakeup}
 use Rattle.pick_rules.proofs.Laws.{wakeup_kept}
-use Rattle.sys_procs.specs.Process.{register}
-use Rattle.sys_procs.specs.World.{Clock, World, process_of, change, clock_of}
+use Rattle.sys_procs.specs.World.{World, process_of, change, clock_of}
 use Rattle.sys_procs.specs.Comes.{Comes, returns, fails, sleeps, logs}
 use Rattle.sys_procs.specs.Times.{with_time, set_time, sleeping_until, tout_with, sleep_until, sleep_for}
 

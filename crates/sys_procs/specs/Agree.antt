@@ -1,5 +1,5 @@
 -- How the table of processes, the table of slots and what is kept of images belong together.
-use Rattle.std.specs.Prelude.{◌≡◌, ◌≢◌, ℕ, ◌<◌, ◌≤◌, Bool, true, false, length, replicate, slice_index, Option, Some, None, Result, Ok, Err}
+use Rattle.std.specs.Prelude.{◌≡◌, ◌≢◌, ℕ, ◌<◌, ◌≤◌, Bool, true, false, length, replicate, Option, Some, None, Result, Ok, Err}
 use Rattle.v6_base.specs.declared.entry.PanicKind.{PanicKind}
 use Rattle.v6_base.specs.declared.answer.Answer.{Answer}
 use Rattle.pick_rules.specs.declared.row.Stat.{Stat}

@@ -4,7 +4,6 @@ use Rattle.std.specs.Prelude.{ℕ, ◌*◌, ◌%◌, ◌==◌, ◌∷◌, map, t
 use Rattle.std.specs.Option.{unwrap_or}
 use Rattle.v6_base.specs.declared.entry.Chan.TheVariants.{Wait}
 use Rattle.v6_base.specs.declared.entry.Entry.TheVariants.{Wake}
-use Rattle.proc_tab.specs.declared.row.Row.{Row}
 use Rattle.proc_tab.specs.Processes.{lowest, passes}
 use Rattle.proc_tab.specs.Pids.{has_pid}
 use Rattle.fs_tree.specs.Finding.{put_back}

@@ -1,4 +1,5 @@
 pub mod Process
+pub mod Texts
 pub mod World
 pub mod Comes
 pub mod Ids
@@ -10,3 +11,10 @@ pub mod Resume
 pub mod Agree
 pub mod Handed
 pub mod Seats
+pub mod Tests
+pub mod Stack
+pub mod Packed
+pub mod Tried
+pub mod ExecFile
+pub mod Break
+pub mod Begun

@@ -1,5 +1,5 @@
 -- A process: `proc.h` and `user.h` in Lions' Commentary.
-use Rattle.std.specs.Prelude.{ℕ, ◌%◌, ◌==◌, Bool, true, false, List, [], Option, Some, None, slice_index, slice_set}
+use Rattle.std.specs.Prelude.{ℕ, ◌%◌, ◌==◌, Bool, false, List, [], Option, Some, None, slice_index, slice_set}
 use Rattle.std.proofs.Math.Nat.{mod-lt}
 use Rattle.std.proofs.Common.{lit<}
 use Rattle.v6_base.specs.Image.{Image}
@@ -8,7 +8,7 @@ use Rattle.proc_tab.specs.declared.row.Row.{Row}
 use Rattle.proc_tab.specs.declared.member.Member.{Member}
 use Rattle.proc_tab.specs.Processes.{no_row}
 use Rattle.image_keep.specs.Area.{no_area}
-use Rattle.image_keep.specs.Kept.{Held, Keeping, Nothing, Alive, Grave}
+use Rattle.image_keep.specs.Kept.{Keeping, Nothing, Alive, Grave}
 
 pub record Process : Type 0 where
   pub row : Row

@@ -1,5 +1,5 @@
 -- time(II), stime(II), times(II), sleep(II) of the UNIX Programmer's Manual.
-use Rattle.std.specs.Prelude.{ℕ, ◌+◌, ◌*◌, ◌/◌, ◌%◌, ◌^◌, ◌||◌, ◌==◌, nat_lt, nat_le, List, [], ◌∷◌, ◌++◌, replicate, slice_index, if◌then◌else◌, Option, Some, None}
+use Rattle.std.specs.Prelude.{ℕ, ◌+◌, ◌*◌, ◌/◌, ◌%◌, ◌^◌, ◌||◌, ◌==◌, nat_lt, nat_le, [], ◌∷◌, slice_index, if◌then◌else◌, Option, Some, None}
 use Rattle.v6_base.specs.Image.{Image}
 use Rattle.v6_base.specs.Copy.{store_bytes}
 use Rattle.v6_base.specs.declared.entry.Chan.TheVariants.{Tout}

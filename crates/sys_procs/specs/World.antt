@@ -1,6 +1,6 @@
 -- What a call on processes works on: the parts of the Unix that it is handed. `proc.h`, `user.h` and `systm.h` in Lions'
 -- Commentary.
-use Rattle.std.specs.Prelude.{ℕ, List, map, Option, Some, None, slice_index_or, slice_set}
+use Rattle.std.specs.Prelude.{ℕ, min, List, map, Option, Some, None, slice_index_or, slice_set}
 use Rattle.std.specs.Option.{unwrap_or}
 use Rattle.std.specs.List.{range_with_len}
 use Rattle.pick_rules.specs.declared.table.Table.{Table}
@@ -9,6 +9,7 @@ use Rattle.proc_tab.specs.Processes.{Processes, member_at}
 use Rattle.image_keep.specs.Kept.{Kept, keeping}
 use Rattle.fs_tree.specs.Finding.{Inodes}
 use Rattle.sys_procs.specs.Process.{Process, no_process, process_in, member_of}
+use Rattle.sys_procs.specs.Texts.{Text, no_texts}
 
 pub record Clock : Type 0 where
   pub time : ℕ  -- in seconds, from the beginning of 1970 in Greenwich
@@ -21,6 +22,8 @@ pub record World : Type 0 where
   pub clock : Clock
   pub switches : ℕ  -- the console's
   pub inodes : Inodes  -- the store, and how often its inodes are referred to
+  pub texts : List (Option Text)  -- 40 entries
+  pub limit : ℕ  -- the most clicks of an image
 
 abbrev pub process_at : World → ℕ → Option Process
 process_at w s = slice_index_or w.processes s None
@@ -57,4 +60,6 @@ world_in v t k switches inodes = record {
   clock = clock_of t;
   switches = switches;
   inodes = inodes;
+  texts = no_texts;
+  limit = min k.core 2048;
 }

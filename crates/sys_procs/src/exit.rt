@@ -47,6 +47,7 @@ fn leave(p: &mut Procs, tree: &mut Tree, s: Slot, status: u16)
     ensures state { handed p.new tree.new.nodes ≡ leaves (handed p.old tree.old.nodes) s status }
     ensures board { board p.new ≡ board p.old }
     ensures alive { IsAlive p.new s }
+    ensures marks { tree.new.marks ≡ tree.old.marks }
     ensures blocks { SameRest tree.old.nodes.blocks tree.new.nodes.blocks }
 {
     let u = p.area(s);
@@ -175,6 +176,7 @@ pub fn end_proc<T: Trace>(
         (T.taken trace.new) }
     ensures frame { T.leads_to trace.old trace.new }
     ensures agree { AreProcs p.new }
+    ensures marks { tree.new.marks ≡ tree.old.marks }
     ensures blocks { SameRest tree.old.nodes.blocks tree.new.nodes.blocks }
 {
     leave(p, tree, s, status);
@@ -204,6 +206,7 @@ pub fn exit_now<T: Trace>(
         (T.taken trace.new) }
     ensures frame { T.leads_to trace.old trace.new }
     ensures agree { AreProcs p.new }
+    ensures marks { tree.new.marks ≡ tree.old.marks }
     ensures blocks { SameRest tree.old.nodes.blocks tree.new.nodes.blocks }
 {
     let u = p.area(s);

@@ -40,6 +40,7 @@ pub fn pid_of<T: Trace>(
         (T.taken trace.new) }
     ensures frame { T.leads_to trace.old trace.new }
     ensures agree { AreProcs p.new }
+    ensures marks { tree.new.marks ≡ tree.old.marks }
     ensures blocks { SameRest tree.old.nodes.blocks tree.new.nodes.blocks }
 {
     let r0 = p.row(s).pid;
@@ -123,6 +124,7 @@ pub fn set_uid<T: Trace>(
         (T.taken trace.new) }
     ensures frame { T.leads_to trace.old trace.new }
     ensures agree { AreProcs p.new }
+    ensures marks { tree.new.marks ≡ tree.old.marks }
     ensures blocks { SameRest tree.old.nodes.blocks tree.new.nodes.blocks }
 {
     let u = p.area(s);
@@ -157,6 +159,7 @@ pub fn get_uid<T: Trace>(
         (T.taken trace.new) }
     ensures frame { T.leads_to trace.old trace.new }
     ensures agree { AreProcs p.new }
+    ensures marks { tree.new.marks ≡ tree.old.marks }
     ensures blocks { SameRest tree.old.nodes.blocks tree.new.nodes.blocks }
 {
     let u = p.area(s);
@@ -189,6 +192,7 @@ pub fn set_gid<T: Trace>(
         (T.taken trace.new) }
     ensures frame { T.leads_to trace.old trace.new }
     ensures agree { AreProcs p.new }
+    ensures marks { tree.new.marks ≡ tree.old.marks }
     ensures blocks { SameRest tree.old.nodes.blocks tree.new.nodes.blocks }
 {
     let u = p.area(s);
@@ -223,6 +227,7 @@ pub fn get_gid<T: Trace>(
         (T.taken trace.new) }
     ensures frame { T.leads_to trace.old trace.new }
     ensures agree { AreProcs p.new }
+    ensures marks { tree.new.marks ≡ tree.old.marks }
     ensures blocks { SameRest tree.old.nodes.blocks tree.new.nodes.blocks }
 {
     let u = p.area(s);
@@ -250,6 +255,7 @@ pub fn switches<T: Trace>(
         (T.taken trace.new) }
     ensures frame { T.leads_to trace.old trace.new }
     ensures agree { AreProcs p.new }
+    ensures marks { tree.new.marks ≡ tree.old.marks }
     ensures blocks { SameRest tree.old.nodes.blocks tree.new.nodes.blocks }
 {
     let u = p.area(s);
@@ -279,6 +285,7 @@ pub fn no_op<T: Trace>(
         (T.taken trace.new) }
     ensures frame { T.leads_to trace.old trace.new }
     ensures agree { AreProcs p.new }
+    ensures marks { tree.new.marks ≡ tree.old.marks }
     ensures blocks { SameRest tree.old.nodes.blocks tree.new.nodes.blocks }
 {
     let u = p.area(s);
@@ -345,6 +352,7 @@ pub fn nice_to<T: Trace>(
         (T.taken trace.new) }
     ensures frame { T.leads_to trace.old trace.new }
     ensures agree { AreProcs p.new }
+    ensures marks { tree.new.marks ≡ tree.old.marks }
     ensures blocks { SameRest tree.old.nodes.blocks tree.new.nodes.blocks }
 {
     let u = p.area(s);

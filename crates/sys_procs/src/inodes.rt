@@ -6,7 +6,7 @@ ghost use Rattle.fs_tree.specs.Finding.{inodes_of, with_reference, put_back};
 use fs_nodes::Nodes;
 
 /// Sees what holds of every file system.
-fn see(nodes: &Nodes)
+pub(crate) fn see(nodes: &Nodes)
     ensures { IsFileSystem nodes.now }
 {
     let _ = nodes.refs(0);

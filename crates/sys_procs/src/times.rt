@@ -46,6 +46,7 @@ pub fn time_now<T: Trace>(
         (T.taken trace.new) }
     ensures frame { T.leads_to trace.old trace.new }
     ensures agree { AreProcs p.new }
+    ensures marks { tree.new.marks ≡ tree.old.marks }
     ensures blocks { SameRest tree.old.nodes.blocks tree.new.nodes.blocks }
 {
     Ok(Answer::Ret {
@@ -96,6 +97,7 @@ pub fn set_time<T: Trace>(
         (T.taken trace.new) }
     ensures frame { T.leads_to trace.old trace.new }
     ensures agree { AreProcs p.new }
+    ensures marks { tree.new.marks ≡ tree.old.marks }
     ensures blocks { SameRest tree.old.nodes.blocks tree.new.nodes.blocks }
 {
     let u = p.area(s);
@@ -190,6 +192,7 @@ pub fn sleep_for<T: Trace>(
         (T.taken trace.new) }
     ensures frame { T.leads_to trace.old trace.new }
     ensures agree { AreProcs p.new }
+    ensures marks { tree.new.marks ≡ tree.old.marks }
     ensures blocks { SameRest tree.old.nodes.blocks tree.new.nodes.blocks }
 {
     let u = p.area(s);
@@ -268,6 +271,7 @@ pub fn times_to<T: Trace>(
         (came p.old (times_to (handed p.old tree.old.nodes) s (slice_index args 0))).items (T.taken trace.new) }
     ensures frame { T.leads_to trace.old trace.new }
     ensures agree { AreProcs p.new }
+    ensures marks { tree.new.marks ≡ tree.old.marks }
     ensures blocks { SameRest tree.old.nodes.blocks tree.new.nodes.blocks }
 {
     let at = args[0];

@@ -164,6 +164,7 @@ pub fn wait_child<T: Trace>(
         (T.taken trace.new) }
     ensures frame { T.leads_to trace.old trace.new }
     ensures agree { AreProcs p.new }
+    ensures marks { tree.new.marks ≡ tree.old.marks }
     ensures blocks { SameRest tree.old.nodes.blocks tree.new.nodes.blocks }
 {
     see(p, s);

@@ -1,4 +1,4 @@
-use Rattle.std.proofs.Common.{◌≡◌, ◌∙◌, ℕ, [], ◌∷◌, Some, None, sym, ap, subst}
+use Rattle.std.proofs.Common.{◌≡◌, ◌∙◌, [], ◌∷◌, Some, None, sym, ap, subst}
 use Rattle.v6_base.specs.Trace.{Took, Log}
 use Rattle.v6_base.specs.declared.entry.Chan.TheVariants.{Wait}
 use Rattle.v6_base.specs.declared.entry.Entry.TheVariants as line
@@ -8,9 +8,9 @@ use Rattle.pick_rules.specs.Apply.{applied}
 use Rattle.pick_rules.specs.Logged.{left_by}
 use Rattle.image_keep.specs.Kept.{area_of}
 use Rattle.image_keep.specs.Places.{with_grave_at}
-use Rattle.sys_procs.specs.Exit.{dead, dies, parent_slot}
+use Rattle.sys_procs.specs.Exit.{dead, dies}
 use Rattle.sys_procs.specs.Agree.{ended_by}
-use Rattle.sys_procs.specs.Handed.{came, board, handed, process_here}
+use Rattle.sys_procs.specs.Handed.{came, board, handed}
 use Rattle.sys_procs.proofs.Ends.{DidEnd, end_state, end_board, end_agree, parent_is, logged_end, logged_no_end}
 use Rattle.sys_procs.proofs.exit.die.Given as given
 use Rattle.sys_procs.proofs.exit.die.Goals as goal

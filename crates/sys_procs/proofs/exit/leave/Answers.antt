@@ -1,9 +1,9 @@
-use Rattle.std.proofs.Common.{◌≡◌, ◌∙◌, ◌<◌, List, Option, Some, sym, ap, subst, slice_index}
+use Rattle.std.proofs.Common.{◌≡◌, ◌∙◌, ◌<◌, sym, ap, subst, slice_index}
 use Rattle.u_area.specs.declared.area.UArea.{UArea}
-use Rattle.fs_tree.specs.Finding.{Inodes, put_back, inodes_of}
+use Rattle.fs_tree.specs.Finding.{Inodes, put_back}
 use Rattle.sys_procs.specs.Process.{Process}
 use Rattle.sys_procs.specs.World.{World, with_process}
-use Rattle.sys_procs.specs.Exit.{ended, leaves}
+use Rattle.sys_procs.specs.Exit.{ended}
 use Rattle.sys_procs.specs.Handed.{handed, process_here}
 use Rattle.sys_procs.proofs.Alive.{calls_alive, is_here}
 use Rattle.sys_procs.proofs.exit.leave.Goals as goal

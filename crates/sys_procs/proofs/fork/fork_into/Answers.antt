@@ -1,4 +1,4 @@
-use Rattle.std.proofs.Common.{◌≡◌, ◌∙◌, ◌<◌, ℕ, [], ◌∷◌, Option, Some, None, Result, Ok, Err, slice_index, length, ap, sym, subst, arith}
+use Rattle.std.proofs.Common.{◌≡◌, ◌∙◌, ◌<◌, ℕ, [], ◌∷◌, Some, None, Result, Ok, slice_index, length, ap, sym, subst, arith}
 use Rattle.v6_base.specs.Trace.{Took, Log}
 use Rattle.v6_base.specs.declared.answer.Answer.{Answer}
 use Rattle.v6_base.specs.declared.answer.Answer.TheVariants.{Ret}
@@ -21,7 +21,7 @@ use Rattle.sys_procs.specs.Agree.{answered}
 use Rattle.sys_procs.specs.Handed.{IsAlive, came, board, handed, process_here}
 use Rattle.sys_procs.proofs.Slots.{fifty_processes}
 use Rattle.sys_procs.proofs.Alive.{calls_alive, is_here}
-use Rattle.sys_procs.proofs.Forks.{free_slot, is_seated, seated, child_pid, copy_of, gone_on, state_seated, board_seated, parent_alive, child_alive, parent_stays, child_is, fork_placed, world_forked, register_forked, next_is, logged_fork, logged_no_fork}
+use Rattle.sys_procs.proofs.Forks.{free_slot, is_seated, seated, child_pid, gone_on, state_seated, board_seated, parent_alive, child_alive, parent_stays, child_is, fork_placed, world_forked, register_forked, next_is, logged_fork, logged_no_fork}
 use Rattle.sys_procs.proofs.fork.fork_into.Given as given
 use Rattle.sys_procs.proofs.fork.fork_into.Goals as goal
 

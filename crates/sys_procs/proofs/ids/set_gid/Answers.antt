@@ -1,4 +1,4 @@
-use Rattle.std.proofs.Common.{◌∙◌, ◌%◌, get_or, sym}
+use Rattle.std.proofs.Common.{◌∙◌, sym}
 use Rattle.sys_procs.specs.World.{World}
 use Rattle.sys_procs.specs.Handed.{handed}
 use Rattle.sys_procs.specs.Ids.{set_gid}

@@ -6,7 +6,6 @@ use Rattle.v6_base.proofs.Took.{took_none}
 use Rattle.pick_rules.specs.Board.{Board}
 use Rattle.pick_rules.specs.Logged.{logged, left_by}
 use Rattle.fs_nodes.specs.FileSystem.{FileSystem}
-use Rattle.sys_procs.specs.declared.procs.Procs.{Procs}
 use Rattle.sys_procs.specs.World.{World, change}
 use Rattle.sys_procs.specs.Comes.{Comes}
 use Rattle.sys_procs.specs.Agree.{answered}

@@ -1,14 +1,13 @@
-use Rattle.std.proofs.Common.{◌≡◌, ◌∙◌, ℕ, ◌<◌, true, replicate, slice_index, ap, subst, sym}
+use Rattle.std.proofs.Common.{◌≡◌, ◌∙◌, ℕ, ◌<◌, replicate, slice_index, ap, subst, sym}
 use Rattle.u_area.specs.declared.area.UArea.{UArea}
 use Rattle.pick_rules.specs.declared.table.Table.{Table}
 use Rattle.pick_rules.specs.Table.{is_loaded}
 use Rattle.image_keep.specs.Kept.{Held, Has, area_in}
-use Rattle.fs_nodes.specs.FileSystem.{FileSystem}
 use Rattle.sys_procs.specs.declared.procs.Procs.{Procs}
 use Rattle.sys_procs.specs.Process.{Process}
 use Rattle.sys_procs.specs.World.{with_process}
-use Rattle.sys_procs.specs.Handed.{Calls, handed, process_here}
-use Rattle.sys_procs.proofs.Alive.{IsHere, is_here, area_here}
+use Rattle.sys_procs.specs.Handed.{handed, process_here}
+use Rattle.sys_procs.proofs.Alive.{is_here, area_here}
 use Rattle.sys_procs.proofs.resume.wake_up.Goals as goal
 
 pub returns-clause-state : goal.returns-clause-state

@@ -1,15 +1,13 @@
-use Rattle.std.proofs.Common.{◌≡◌, ◌∙◌, ap, sym, subst}
+use Rattle.std.proofs.Common.{◌≡◌, ◌∙◌, ap, sym}
 use Rattle.v6_base.specs.declared.answer.Answer.TheVariants.{Ret}
 use Rattle.u_area.specs.declared.area.UArea.{UArea}
 use Rattle.proc_tab.specs.declared.row.Row.{Row}
-use Rattle.sys_procs.specs.declared.procs.Procs.{Procs}
 use Rattle.sys_procs.specs.Process.{Process}
 use Rattle.sys_procs.specs.World.{World, change, with_process}
 use Rattle.sys_procs.specs.Wait.{with_times_of}
 use Rattle.sys_procs.specs.Handed.{handed, process_here}
 use Rattle.sys_procs.proofs.Slots.{own_row}
 use Rattle.sys_procs.proofs.Graves.{used, still_alive}
-use Rattle.sys_procs.proofs.wait.bury.Given as given
 use Rattle.sys_procs.proofs.wait.bury.Goals as goal
 
 pub row-requires : goal.row-requires

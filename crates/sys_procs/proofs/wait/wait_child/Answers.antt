@@ -1,4 +1,4 @@
-use Rattle.std.proofs.Common.{◌≡◌, ◌∙◌, ℕ, [], ◌∷◌, replicate, Option, None, Result, Ok, ap, sym, subst}
+use Rattle.std.proofs.Common.{◌≡◌, ◌∙◌, [], ◌∷◌, replicate, None, Result, Ok, ap, sym, subst}
 use Rattle.v6_base.specs.Trace.{Took, Log}
 use Rattle.v6_base.specs.declared.answer.Answer.{Answer}
 use Rattle.v6_base.specs.declared.entry.Entry.TheVariants as line

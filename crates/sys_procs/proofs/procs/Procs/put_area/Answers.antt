@@ -1,8 +1,7 @@
-use Rattle.std.proofs.Common.{◌≡◌, ◌∙◌, ℕ, ◌<◌, List, length, get_or, set, Option, Some, None, sym, ap, subst, arith}
+use Rattle.std.proofs.Common.{◌≡◌, ◌∙◌, ℕ, min, List, get_or, Option, None, sym, ap, subst, arith}
 use Rattle.std.specs.Option.{unwrap_or}
 use Rattle.u_area.specs.declared.area.UArea.{UArea}
 use Rattle.image_keep.specs.Kept.{Kept, with_area, image_of}
-use Rattle.fs_nodes.specs.FileSystem.{FileSystem}
 use Rattle.sys_procs.specs.declared.procs.Procs.{Procs}
 use Rattle.sys_procs.specs.Process.{Process, no_process}
 use Rattle.sys_procs.specs.World.{processes_in}
@@ -27,7 +26,9 @@ set_area-requires-clause-sizes c =
 pub returns-clause-state : goal.returns-clause-state
 returns-clause-state c = λ fs.
     let p : Procs = c.args.self.now in
-    ap (λ (k : Kept). record (handed p fs) { processes = processes_in p.rows.slots k }) c.set_area.ensures
+    let put : Kept = with_area p.images c.args.s c.args.u.now in
+    ap (λ (k : Kept). record (handed p fs) { processes = processes_in p.rows.slots k; limit = min k.core 2048 }) c.set_area.ensures
+    ∙ ap (λ (core : ℕ). record (handed p fs) { processes = processes_in p.rows.slots put; limit = min core 2048 }) (area_core p.images c.args.s c.args.u.now)
     ∙ ap (λ (ps : List (Option Process)). record (handed p fs) { processes = ps }) (area_put p c.args.s c.args.u.now c.requires.alive c.area-area.ensures.holds.slots)
 
 pub returns-clause-here : goal.returns-clause-here

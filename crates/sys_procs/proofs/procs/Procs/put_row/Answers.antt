@@ -1,4 +1,4 @@
-use Rattle.std.proofs.Common.{◌≡◌, ◌∙◌, ◌<◌, List, get_or, Option, Some, None, sym, ap, subst, arith}
+use Rattle.std.proofs.Common.{◌∙◌, List, get_or, Option, None, sym, ap, subst, arith}
 use Rattle.std.specs.Option.{unwrap_or}
 use Rattle.proc_tab.specs.declared.row.Row.{Row}
 use Rattle.proc_tab.specs.Processes.{Processes}

@@ -1,0 +1,98 @@
+-- What the search of a name finds, and what it refers to.
+use Rattle.std.proofs.Common.{◌≡◌, ◌+◌, ◌<◌, ℕ, Bool, true, false, List, length, slice_index, slice_set}
+use Rattle.std.proofs.Common.{Result, Ok, Err, None, IsSome, IfOk, refl, sym, ap, ◌∙◌, subst, inl, inr, cond, arith}
+use Rattle.std.proofs.lemmas.Bool.{cases_lt}
+use Rattle.std.proofs.lemmas.List.{get_or_past, get_or-set_same}
+use Rattle.v6_base.specs.Access.{then_do}
+use Rattle.v6_base.specs.declared.errno.Errno.{Errno}
+use Rattle.v6_base.specs.declared.errno.Errno.TheVariants.{ENFILE}
+use Rattle.fs_codec.specs.Store.{Store, node_numbered}
+use Rattle.fs_nodes.specs.FileSystem.{FileSystem, IsFileSystem}
+use Rattle.fs_tree.specs.declared.user.User.{User}
+use Rattle.fs_tree.specs.Name.{is_rooted}
+use Rattle.fs_tree.specs.Path.{way, found}
+use Rattle.fs_tree.specs.Finding.{Inodes, Finding, inodes_of, can_refer, with_reference, refused, referring, finding}
+use Rattle.fs_tree.specs.Finding.{find_in}
+use Rattle.fs_tree.proofs.PathLemmas.{way_used, found_used}
+
+-- What is found is referred to once more.
+record Refers (n : Inodes) (ino : ℕ) (r : Result ℕ Errno) (new : Inodes) : Type 0 where
+  pub number : r ≡ Ok ino
+  pub inodes : new ≡ with_reference n ino
+
+referring_ok : (n : Inodes) (t : Bool) (i ino : ℕ) (f : Finding ℕ)
+    → f ≡ cond t (record { answer = Ok i; inodes = with_reference n i }) (refused n ENFILE) → f.answer ≡ Ok ino
+    → Refers n ino (Ok i) f.inodes
+referring_ok n false i ino f is ok = absurd (cc)
+referring_ok n true i ino f is ok =
+    let same : i ≡ ino = cc in
+    record { number = ap Ok same; inodes = ap (λ (g : Finding ℕ). g.inodes) is ∙ ap (with_reference n) same }
+
+finding_ok : (n : Inodes) (r : Result ℕ Errno) (ino : ℕ) → (finding n r).answer ≡ Ok ino
+    → Refers n ino r (finding n r).inodes
+finding_ok n (Ok i) ino ok = referring_ok n (can_refer n i) i ino (referring n i i) refl ok
+finding_ok n (Err e) ino ok = absurd (cc)
+
+done_before : {A B E : Type 0} (r : Result A E) (f : A → Result B E) (b : B) → then_do r f ≡ Ok b
+    → (a : A) × (r ≡ Ok a) × (f a ≡ Ok b)
+done_before (Ok a) f b is = (a, refl, is)
+done_before (Err e) f b is = absurd (cc)
+
+started : (store : Store) (t : Bool) (dir : ℕ) → IsSome (node_numbered store 1) → IsSome (node_numbered store dir)
+    → IsSome (node_numbered store (cond t 1 dir))
+started store true dir root some = root
+started store false dir root some = some
+
+-- Where a search finds something, that is a node, and is referred to once more.
+found_more : (n : Inodes) (user : User) (dir : ℕ) (bytes : List ℕ) (ino : ℕ)
+    → (find_in n user dir bytes).answer ≡ Ok ino → (find_in n user dir bytes).inodes ≡ with_reference n ino
+found_more n user dir bytes ino ok = (finding_ok n (then_do (way n.store user dir bytes) (found n.store)) ino ok).inodes
+
+found_node : (fs : FileSystem) (user : User) (dir : ℕ) (bytes : List ℕ) (ino : ℕ) → IsFileSystem fs
+    → 0 < slice_index fs.references dir
+    → (find_in (inodes_of fs) user dir bytes).answer ≡ Ok ino → IsSome (node_numbered fs.store ino)
+found_node fs user dir bytes ino is referred ok =
+    let r = (finding_ok (inodes_of fs) (then_do (way fs.store user dir bytes) (found fs.store)) ino ok).number in
+    let w = done_before (way fs.store user dir bytes) (found fs.store) ino r in
+    let start = started fs.store (is_rooted bytes) dir is.root (is.used dir referred) in
+    found_used fs.store w.0 ino (way_used fs.store user dir bytes w.0 (sym w.1) start) (sym w.2)
+
+numbered_low : (store : Store) (ino : ℕ) → IsSome (node_numbered store ino) → ino < length store.nodes
+numbered_low store ino some = elim (cases_lt ino (length store.nodes)) [
+  | inl low ↦ low
+  | inr past ↦ let none : node_numbered store ino ≡ None = get_or_past store.nodes ino None past in absurd (cc)
+]
+
+found_referred : (fs : FileSystem) (user : User) (dir : ℕ) (bytes : List ℕ) (ino : ℕ) → IsFileSystem fs
+    → 0 < slice_index fs.references dir
+    → (find_in (inodes_of fs) user dir bytes).answer ≡ Ok ino → 0 < slice_index (find_in
+    (inodes_of fs) user dir bytes).inodes.references ino
+found_referred fs user dir bytes ino is referred ok =
+    let low : ino < length fs.references = let l =
+    numbered_low fs.store ino (found_node fs user dir bytes ino is referred ok) in
+    omega (arith, l, is.nodes, is.references) in
+    let more : (find_in (inodes_of fs) user dir bytes).inodes.references ≡ slice_set fs.references ino
+    (slice_index fs.references ino + 1) =
+    ap (λ (n : Inodes). n.references) (found_more (inodes_of fs) user dir bytes ino ok) in
+    let here : slice_index (slice_set fs.references ino
+    (slice_index fs.references ino + 1)) ino ≡ slice_index fs.references ino + 1 =
+    get_or-set_same fs.references ino (slice_index fs.references ino + 1) 0 low in
+    let there : slice_index (find_in
+    (inodes_of fs) user dir bytes).inodes.references ino ≡ slice_index fs.references ino + 1 =
+    ap (λ l. slice_index l ino) more ∙ here in
+    omega (arith, there)
+
+if_ok : {A E : Type 0} (r : Result A E) (P : A → Type 0) → ((a : A) → r ≡ Ok a → P a) → IfOk r P
+if_ok (Ok a) P holds = holds a refl
+if_ok (Err e) P holds = tt
+
+-- the same of what is left when the search has come to an end
+pub ends_referred : (fs new : FileSystem) (user : User) (dir : ℕ) (bytes : List ℕ) (r : Result ℕ Errno)
+    → IsFileSystem fs → 0 < slice_index fs.references dir
+    → r ≡ (find_in (inodes_of fs) user dir bytes).answer → inodes_of new ≡ (find_in
+    (inodes_of fs) user dir bytes).inodes → IfOk r (λ ino. 0 < slice_index new.references ino)
+ends_referred fs new user dir bytes r is referred answer inodes =
+    if_ok r (λ ino. 0 < slice_index new.references ino) (λ ino ok.
+    let found : (find_in (inodes_of fs) user dir bytes).answer ≡ Ok ino = sym answer ∙ ok in
+    let P : Inodes → Type 0 = λ n. 0 < slice_index n.references ino in
+    subst P (sym inodes) (found_referred fs user dir bytes ino is referred found))

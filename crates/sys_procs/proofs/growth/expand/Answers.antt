@@ -1,0 +1,65 @@
+use Rattle.std.proofs.Common.{◌≡◌, ◌∙◌, ◌+◌, nat_le, [], ◌∷◌, None, sym, ap, subst}
+use Rattle.v6_base.specs.Trace.{Took, Log}
+use Rattle.v6_base.specs.declared.entry.Entry.{Entry}
+use Rattle.pick_rules.specs.Table.{row_at}
+use Rattle.pick_rules.specs.Logged.{Logged}
+use Rattle.fs_nodes.specs.FileSystem.{FileSystem}
+use Rattle.sys_procs.specs.declared.procs.Procs.{Procs}
+use Rattle.sys_procs.specs.World.{World}
+use Rattle.sys_procs.specs.Break.{expands}
+use Rattle.sys_procs.specs.Handed.{IsAlive, board, came, handed}
+use Rattle.sys_procs.proofs.PlacingRows.{seated}
+use Rattle.sys_procs.proofs.GrowLemmas.{line_by, grown, place_found, log_sized, grown_alive, grown_state}
+use Rattle.sys_procs.proofs.growth.expand.Given as given
+use Rattle.sys_procs.proofs.growth.expand.Goals as goal
+
+pub resize-place-requires-clause-place : goal.resize-place-requires-clause-place
+resize-place-requires-clause-place g c =
+    place_found c.args.p.now c.args.s c.requires.alive c.see.ensures.images.slots (16 + c.args.d + c.args.stack)
+    c.requires.place
+
+-- what the code makes of the table and the images
+now : (g : given.Over) (c : goal.After-entry g) → ◌≡◌ {A = Procs}
+    (record c.args.p.now { table = c.put_place.new.table; images = c.resize-place.new.images })
+    (seated c.args.p.now c.args.s (16 + c.args.d + c.args.stack)
+    (grown c.args.p.now.images c.args.s c.args.d c.args.stack c.resize-place.result))
+now g c = λ i. record c.args.p.now { table = c.put_place.ensures i; images = c.resize-place.ensures.images i }
+
+lines : (g : given.Over) (c : goal.After-entry g) (fs : FileSystem)
+    → came c.args.p.now (expands (handed c.args.p.now fs) c.args.s c.args.d c.args.stack) ≡ record {
+      items = Log (line_by (nat_le (16 + c.args.d + c.args.stack) (row_at c.args.p.now.table c.args.s).size) c.args.s
+          (16 + c.args.d + c.args.stack) c.resize-place.result) ∷ [];
+      board = board (seated c.args.p.now c.args.s (16 + c.args.d + c.args.stack)
+          (grown c.args.p.now.images c.args.s c.args.d c.args.stack c.resize-place.result));
+      stop = None;
+    }
+lines g c fs =
+    log_sized c.args.p.now c.args.s c.requires.alive c.see.ensures.images.slots c.args.d c.args.stack
+    c.resize-place.result fs
+    c.requires.place c.resize-place.ensures.place
+
+pub returns-clause-state : goal.returns-clause-state
+returns-clause-state g c = λ fs.
+    ap (λ (q : Procs). handed q fs) (now g c)
+    ∙ grown_state c.args.p.now c.args.s c.requires.alive c.see.ensures.images.slots c.args.d c.args.stack
+    c.resize-place.result fs
+
+pub returns-clause-board : goal.returns-clause-board
+returns-clause-board g c = λ fs.
+    ap (λ (q : Procs). board q) (now g c) ∙ sym (ap (λ (l : Logged World). l.board) (lines g c fs))
+
+pub returns-clause-stop : goal.returns-clause-stop
+returns-clause-stop g c = λ fs. ap (λ (l : Logged World). l.stop) (lines g c fs)
+
+pub returns-clause-items : goal.returns-clause-items
+returns-clause-items g c = λ fs.
+    subst (λ (l : Logged World). Took (g.T.Trace.taken c.args.trace.now) l.items (g.T.Trace.taken c.entry.new.self))
+    (sym (lines g c fs))
+    (subst (λ (e : Entry). Took (g.T.Trace.taken c.args.trace.now) (Log e ∷ []) (g.T.Trace.taken c.entry.new.self))
+    c.size_line-line.ensures c.entry.ensures.took)
+
+pub returns-clause-agree : goal.returns-clause-agree
+returns-clause-agree g c =
+    (subst (λ (q : Procs). IsAlive q c.args.s) (sym (now g c))
+    (grown_alive c.args.p.now c.args.s c.requires.alive c.see.ensures.images.slots c.args.d c.args.stack
+    c.resize-place.result)).agree

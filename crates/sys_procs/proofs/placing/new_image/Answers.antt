@@ -1,0 +1,42 @@
+use Rattle.std.proofs.Common.{◌≡◌, ◌+◌, Some, None, sym, ap, ◌∙◌}
+use Rattle.std.specs.Option.{unwrap_or}
+use Rattle.v6_base.specs.declared.entry.Place.TheVariants.{Core}
+use Rattle.image_keep.specs.Kept.{Alive, with_keeping}
+use Rattle.image_keep.specs.Area.{sized_area}
+use Rattle.image_keep.specs.Places.{core_fit, placed, cleared, with_image_at}
+use Rattle.sys_procs.proofs.PlacingLemmas.{placed_in_core}
+use Rattle.sys_procs.proofs.placing.new_image.Goals as goal
+
+pub unreachable-requires-in-Err : goal.unreachable-requires-in-Err
+unreachable-requires-in-Err c =
+    let proto = c.in-Ok.proto in
+    let clicks : 16 + c.args.d + 20 ≡ 16 + proto.data_size + proto.stack_size =
+    λ i. 16 + sym c.in-Ok.ensures.2 i + sym c.in-Ok.ensures.3 i in
+    let none : Some (Core (unwrap_or (core_fit c.args.images.now (16 + c.args.d + 20)) 0)) ≡ None =
+    sym (placed_in_core c.args.images.now (16 + c.args.d + 20) c.requires.room)
+    ∙ (ap (placed c.args.images.now) clicks ∙ c.in-Err.ensures.place) in
+    cc none
+
+pub returns-clause-place : goal.returns-clause-place
+returns-clause-place c =
+    let proto = c.in-Ok.proto in
+    let clicks : 16 + proto.data_size + proto.stack_size ≡ 16 + c.args.d + 20 =
+    λ i. 16 + c.in-Ok.ensures.2 i + c.in-Ok.ensures.3 i in
+    let same : Some c.in-Ok-replace.place
+    ≡ Some (Core (unwrap_or (core_fit c.args.images.now (16 + c.args.d + 20)) 0)) =
+    sym c.in-Ok-replace.ensures.place
+    ∙ (ap (placed c.args.images.now) clicks ∙ placed_in_core c.args.images.now (16 + c.args.d + 20) c.requires.room) in
+    cc same
+
+pub returns-clause-images : goal.returns-clause-images
+returns-clause-images c =
+    let proto = c.in-Ok.proto in
+    c.replace.ensures.kept
+    ∙ (ap (with_image_at c.args.images.now c.args.s (sized_area proto.data_size proto.stack_size)
+    (cleared proto.data_size proto.stack_size))
+    c.in-Ok-replace.ensures.place
+    ∙ (λ i. with_keeping c.args.images.now c.args.s (Alive (record {
+      u = sized_area (c.in-Ok.ensures.2 i) (c.in-Ok.ensures.3 i);
+      image = cleared (c.in-Ok.ensures.2 i) (c.in-Ok.ensures.3 i);
+      place = c.in-Ok-replace.place;
+    }))))

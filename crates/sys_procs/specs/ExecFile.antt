@@ -1,0 +1,303 @@
+-- exec(II) of the UNIX Programmer's Manual; Lions' Commentary, `exec` in `sys1.c`, `xalloc` and `xfree` in `text.c`.
+use Rattle.std.specs.Prelude.{◌≡◌, ◌<◌, ◌≤◌, IsSome, is_some, ℕ, ◌+◌, ◌*◌, ◌/◌, ◌%◌, ◌==◌, ◌&&◌, ◌||◌, nat_lt, Bool, true, false, not, if◌then◌else◌, List, [], ◌∷◌, map, replicate, slice_index, slice_set, Option, Some, None, is_none, Result, Ok, Err, bit_and}
+use Rattle.std.specs.Option.{unwrap_or}
+use Rattle.v6_base.specs.Image.{Image, nseg}
+use Rattle.v6_base.specs.declared.entry.Entry.TheVariants.{Leave, Bare, Share}
+use Rattle.v6_base.specs.declared.errno.Errno.{Errno}
+use Rattle.v6_base.specs.declared.errno.Errno.TheVariants.{ENOEXEC, ENOMEM, EACCES, ETXTBSY}
+use Rattle.fs_codec.specs.Modes.{file_type}
+use Rattle.fs_codec.specs.Store.{Node, node_numbered}
+use Rattle.fs_codec.specs.declared.modes.TheConstants.{ISUID, ISGID, ISVTX}
+use Rattle.fs_laws.specs.Numbers.{with_node}
+use Rattle.fs_laws.specs.Pieces.{Moving, read_file}
+use Rattle.fs_nodes.specs.Copy.{put_into, put_kernel}
+use Rattle.fs_tree.specs.declared.user.Want.TheVariants.{Execute}
+use Rattle.fs_tree.specs.Permission.{permission}
+use Rattle.fs_tree.specs.Name.{name_at}
+use Rattle.fs_tree.specs.Finding.{Inodes, Finding, find_in, with_reference, put_back}
+use Rattle.aout_head.specs.Header.{Header, header_of, plan_of}
+use Rattle.aout_head.specs.declared.parts.Plan.{Plan}
+use Rattle.aout_head.specs.declared.parts.ExecFault.{ExecFault}
+use Rattle.aout_head.specs.declared.parts.ExecFault.TheVariants.{NotExecutable, Separate}
+use Rattle.seg_regs.specs.Sizes.{is_refused}
+use Rattle.u_area.specs.declared.area.UArea.{UArea}
+use Rattle.pick_rules.specs.Board.{Board, core_fit}
+use Rattle.pick_rules.specs.Apply.{applied}
+use Rattle.pick_rules.specs.Effects as effect
+use Rattle.sys_procs.specs.declared.halt.Halt.{Halt}
+use Rattle.sys_procs.specs.declared.halt.Halt.TheVariants.{SharedText, NoRoom}
+use Rattle.sys_procs.specs.declared.program.Program.{Program}
+use Rattle.sys_procs.specs.Process.{Process, no_process, with_state, image_of}
+use Rattle.sys_procs.specs.Texts.{Text, text_of, with_text, text_bytes, entry_of, free_entry, new_text, joined, goes, remaining}
+use Rattle.sys_procs.specs.World.{World, process_of, change}
+use Rattle.sys_procs.specs.Comes.{Comes, returns, fails, does, logs}
+use Rattle.sys_procs.specs.Tried.{Tried, tried, halts}
+use Rattle.sys_procs.specs.Tests.{must, user_of, node_in}
+use Rattle.sys_procs.specs.Stack.{arguments, first_sp, first_stack, stack_clicks}
+
+-- The tests.
+
+-- The clicks of its text, and of its data with the bss. No sum wraps.
+abbrev pub clicks : ℕ → ℕ
+clicks bytes = (bytes + 63) / 64
+
+abbrev pub text_clicks : Plan → ℕ
+text_clicks plan = clicks plan.text
+
+abbrev pub data_clicks : Plan → ℕ
+data_clicks plan = clicks (plan.init + plan.bss)
+
+-- what the tests come to, and the world then
+pub record Tested : Type 0 where
+  pub answer : Result Program Errno
+  pub world : World
+
+-- A test: the next follows where it gives something, and else the call is refused and leaves this world.
+abbrev pub check : {A : Type 0} → World → Result A Errno → (A → Tested) → Tested
+check w (Ok a) next = next a
+check w (Err e) next = record { answer = Err e; world = w }
+
+abbrev pub with_inodes : World → Inodes → World
+with_inodes w inodes = record w { inodes = inodes }
+
+-- the call's reference to an inode goes
+abbrev pub let_go : World → ℕ → World
+let_go w ino = with_inodes w (put_back w.inodes ino)
+
+-- the world when a read of a file has come to this
+abbrev pub with_moved : {Memory : Type 0} → World → ℕ → Moving Memory → World
+with_moved w ino m = with_inodes w (record w.inodes { store = with_node w.inodes.store ino m.node m.room })
+
+abbrev pub node_at : World → ℕ → Node
+node_at w ino = node_in w.inodes.store ino
+
+-- sixteen bytes of a file go into the kernel: that sets the time of access, and may touch a hole
+abbrev pub header_read : World → ℕ → Moving (List ℕ)
+header_read w ino = read_file put_kernel (node_at w ino) w.inodes.store.room (replicate 16 0) 0 16 w.clock.time
+
+abbrev pub unless_error : Option Errno → Result (Unit {0}) Errno
+unless_error None = Ok tt
+unless_error (Some e) = Err e
+
+abbrev pub is_magic : Result Plan ExecFault → Bool
+is_magic (Ok plan) = true
+is_magic (Err Separate) = true
+is_magic (Err NotExecutable) = false
+
+-- Text and data with address spaces of their own are refused as sizes are.
+abbrev pub or_no_memory : Result Plan ExecFault → Result Plan Errno
+or_no_memory (Ok plan) = Ok plan
+or_no_memory (Err fault) = Err ENOMEM
+
+-- A text that would be shared is busy while others than this call refer to its file, and it is in no entry.
+abbrev pub is_busy : World → ℕ → Header → Bool
+is_busy w ino h =
+    not (h.magic == 0o407) && not (h.text_size == 0)
+    && nat_lt 1 (slice_index w.inodes.references ino) && is_none (entry_of w.texts ino)
+
+-- the header, when it has been read
+abbrev pub tests_header : World → ℕ → List (List ℕ) → Moving (List ℕ) → Tested
+tests_header w ino args head =
+    let h : Header = header_of head.memory in
+    let out : World = let_go w ino in
+    check out (unless_error head.error) (λ read.
+    check out (must ENOEXEC ((head.done == 16) && is_magic (plan_of h))) (λ program.
+    check out (must ETXTBSY (not (is_busy w ino h))) (λ free.
+    check out (or_no_memory (plan_of h)) (λ plan.
+    check out (must ENOMEM (not (is_refused (text_clicks plan) (data_clicks plan) stack_clicks w.limit))) (λ fits.
+    record { answer = Ok (record { ino = ino; plan = plan; arguments = args }); world = w })))))
+
+-- the old program's memory, with the text that it shares
+abbrev pub memory_of : World → Process → Image
+memory_of w p = record (image_of p) { text = text_bytes w.texts p.text }
+
+-- the file, and then the arguments
+abbrev pub tests_file : World → ℕ → ℕ → ℕ → Tested
+tests_file w s ino list =
+    let p : Process = process_of w s in
+    let node : Node = node_at w ino in
+    let out : World = let_go w ino in
+    check out (permission node (user_of p) Execute) (λ may.
+    check out (must EACCES (file_type node.mode == 0)) (λ plain.
+    check out (arguments (memory_of w p) list) (λ args.
+    let head : Moving (List ℕ) = header_read w ino in tests_header (with_moved w ino head) ino args head)))
+
+-- All tests of a name and of a list of arguments, in order. Nothing changes but what the reading of the header sets and
+-- touches.
+abbrev pub tests : World → ℕ → ℕ → ℕ → Tested
+tests w s name list =
+    let p : Process = process_of w s in
+    let found : Finding ℕ = find_in w.inodes (user_of p) p.u.dir (name_at (memory_of w p) name) in
+    check (with_inodes w found.inodes) found.answer (λ ino. tests_file (with_inodes w found.inodes) s ino list)
+
+-- the clicks of its image
+abbrev pub image_clicks : Plan → ℕ
+image_clicks plan = 16 + data_clicks plan + stack_clicks
+
+-- Shared texts aren't built, nor is an image in the swap area: the new one needs a place in core when the old one has been
+-- given back.
+abbrev pub bare_board : Board → ℕ → Board
+bare_board b s = applied b (Bare s)
+
+abbrev pub halt_of : Board → World → ℕ → Result Program Errno → Option Halt
+halt_of b w s (Ok program) =
+    if not (text_clicks program.plan == 0) || is_some (process_of w s).text then Some SharedText
+    else (if is_some (core_fit (bare_board b s) (image_clicks program.plan)) then None else Some NoRoom)
+halt_of b w s (Err e) = None
+
+-- what the tests leave where the call goes no further
+abbrev pub given_up_by : World → Result Program Errno → World
+given_up_by w (Ok program) = let_go w program.ino
+given_up_by w (Err e) = w
+
+abbrev pub given_up : Tested → World
+given_up t = given_up_by t.world t.answer
+
+-- The old program goes, and the new one comes.
+
+-- A process leaves its text, which may go with it; then its inode is referred to once less.
+abbrev pub without_text : Process → Process
+without_text p = record p { u = record p.u { text_size = 0 }; text = None }
+
+abbrev pub leaves_text : World → ℕ → ℕ → Bool → World
+leaves_text w s k is_sticky =
+    let text : Text = text_of w.texts k in
+    let left : World = change (record w { texts = slice_set w.texts k (remaining text is_sticky) }) s without_text in
+    if goes text is_sticky then let_go left text.ino else left
+
+abbrev pub is_sticky : World → ℕ → Bool
+is_sticky w k = not (bit_and (node_at w (text_of w.texts k).ino).mode ISVTX == 0)
+
+-- `xfree`
+abbrev pub xfree : World → ℕ → Option ℕ → (World → Comes) → Comes
+xfree w s None next = next w
+xfree w s (Some k) next = logs (Leave s k (is_sticky w k)) (next (leaves_text w s k (is_sticky w k)))
+
+-- Its image is given back, with its u area: the row of the process is left, and the entry of its text.
+abbrev pub bared : Process → Process
+bared p = record no_process { row = p.row; text = p.text }
+
+-- It shares a text that is there, or makes one, which refers to the inode.
+abbrev pub with_entry : ℕ → Process → Process
+with_entry k p = record p { text = Some k }
+
+abbrev pub shares_text : World → ℕ → ℕ → World
+shares_text w s k = change (record w { texts = with_text w.texts k (joined (text_of w.texts k)) }) s (with_entry k)
+
+abbrev pub makes_text : World → ℕ → ℕ → ℕ → World
+makes_text w s ino size =
+    let k = free_entry w.texts in
+    change (record w { texts = with_text w.texts k (new_text ino size); inodes = with_reference w.inodes ino }) s (with_entry k)
+
+-- `xalloc`, for a text of so many clicks: the rest is told whether the text is to be read
+abbrev pub xalloc_by : World → ℕ → ℕ → ℕ → Option ℕ → (World → Bool → Comes) → Comes
+xalloc_by w s ino size (Some k) next = logs (Share s k) (next (shares_text w s k) false)
+xalloc_by w s ino size None next = does (effect.Text s size w) (next (makes_text w s ino size) true)
+
+abbrev pub xalloc : World → ℕ → ℕ → ℕ → (World → Bool → Comes) → Comes
+xalloc w s ino size next = if size == 0 then next w false else xalloc_by w s ino size (entry_of w.texts ino) next
+
+-- Text and data stand after the header, in this order. Each is read by one read, which its first error ends: the rest of
+-- it stays zeros.
+abbrev pub text_read : World → Program → Moving (List ℕ)
+text_read w program =
+    read_file put_kernel (node_at w program.ino) w.inodes.store.room (replicate (64 * text_clicks program.plan) 0) 16
+    program.plan.text w.clock.time
+
+-- the entry of the text that a process has, or 40 where it has none
+abbrev pub entry_in : World → ℕ → ℕ
+entry_in w s = unwrap_or (process_of w s).text 40
+
+abbrev pub with_text_read : World → ℕ → Program → World
+with_text_read w s program =
+    let m : Moving (List ℕ) = text_read w program in
+    let k = entry_in w s in
+    record (with_moved w program.ino m) { texts = with_text w.texts k (record (text_of w.texts k) { bytes = m.memory }) }
+
+abbrev pub reads_text : Bool → World → ℕ → Program → World
+reads_text is_new w s program = if is_new then with_text_read w s program else w
+
+-- an image with a text, whose data and stack are cleared
+abbrev pub cleared_image : List ℕ → Plan → Image
+cleared_image text plan = record {
+  text = text;
+  «data» = replicate (64 * data_clicks plan) 0;
+  stack = replicate (64 * stack_clicks) 0;
+}
+
+abbrev pub data_read : World → ℕ → Program → Moving Image
+data_read w s program =
+    read_file (put_into (8192 * nseg (text_clicks program.plan))) (node_at w program.ino) w.inodes.store.room
+    (cleared_image (text_bytes w.texts (process_of w s).text) program.plan) (16 + program.plan.text) program.plan.init
+    w.clock.time
+
+-- A handler is an even address, and goes with the program that had it; what is ignored stays so.
+abbrev pub kept_handler : ℕ → ℕ
+kept_handler handler = if handler % 2 == 0 then 0 else handler
+
+-- All registers are 0 but SP, and so are the condition codes.
+abbrev pub begun_area : UArea → Program → UArea
+begun_area u program =
+    record (with_state u (0 ∷ 0 ∷ 0 ∷ 0 ∷ 0 ∷ 0 ∷ first_sp program.arguments ∷ 0 ∷ []) 0) {
+      text_size = text_clicks program.plan;
+      data_size = data_clicks program.plan;
+      stack_size = stack_clicks;
+      handlers = map kept_handler u.handlers;
+    }
+
+-- A file with the bit of set-uid is executed as its owner, unless the super-user executes it; one with that of set-gid in
+-- its group.
+abbrev pub as_owner : Node → Process → Process
+as_owner node p =
+    if not (bit_and node.mode ISUID == 0) && not (p.u.uid == 0)
+    then record p { u = record p.u { uid = node.uid }; row = record p.row { uid = node.uid } } else p
+
+abbrev pub in_its_group : Node → Process → Process
+in_its_group node p =
+    if not (bit_and node.mode ISGID == 0) then record p { u = record p.u { gid = node.gid } } else p
+
+-- the process as the program begins, from what it was
+abbrev pub begins : Process → Node → Program → Option ℕ → List ℕ → Process
+begins old node program text read = in_its_group node (as_owner node (record old {
+  u = begun_area old.u program;
+  «data» = read;
+  stack = first_stack program.arguments;
+  text = text;
+}))
+
+-- The new image is in its place: text and data are read, and the call ends.
+abbrev pub executes : World → ℕ → Process → Program → Comes
+executes w s old program =
+    let m : Moving Image = data_read w s program in
+    let read : World = with_moved w program.ino m in
+    let begun : World = change read s (λ p. begins old (node_at w program.ino) program p.text m.memory.data) in
+    returns (let_go begun program.ino) s
+
+-- The call is done in this order; what comes before each effect is the world that it carries.
+abbrev pub loads : World → ℕ → Program → Comes
+loads w s program =
+    let size = text_clicks program.plan in
+    xfree w s (process_of w s).text (λ left.
+    logs (Bare s) (
+    xalloc (change left s bared) s program.ino size (λ placed is_new.
+    does (effect.Image s (image_clicks program.plan) placed) (
+    executes (reads_text is_new placed s program) s (process_of w s) program))))
+
+abbrev pub done_by : World → ℕ → Result Program Errno → Comes
+done_by w s (Ok program) = loads w s program
+done_by w s (Err e) = fails w e
+
+abbrev pub exec_by : ℕ → Tested → Option Halt → Tried
+exec_by s t None = tried (done_by t.world s t.answer)
+exec_by s t (Some halt) = halts (given_up t) s halt
+
+-- 11, exec: a name, and a list of arguments
+unfoldable pub exec_file : Board → World → ℕ → ℕ → ℕ → Tried
+exec_file b w s name list = let t : Tested = tests w s name list in exec_by s t (halt_of b t.world s t.answer)
+
+-- What is so of a program that the tests have let through.
+pub record IsTested (w : World) (program : Program) : Type 0 where
+  pub referenced : 0 < slice_index w.inodes.references program.ino
+  pub there : IsSome (node_numbered w.inodes.store program.ino)
+  pub sizes : is_refused (text_clicks program.plan) (data_clicks program.plan) stack_clicks w.limit ≡ false
+  pub init : program.plan.init ≤ 131070

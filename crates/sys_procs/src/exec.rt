@@ -1,0 +1,307 @@
+//! exec(II).
+ghost use Rattle.std.specs.Prelude.{◌≡◌, ◌≤◌, ◌<◌, true, false, None, map, slice_index, is_some};
+ghost use Rattle.v6_base.specs.Trace.{Took};
+ghost use Rattle.fs_nodes.specs.FileSystem.{FileSystem, SameRest};
+ghost use Rattle.seg_regs.specs.Sizes.{is_refused};
+ghost use Rattle.pick_rules.specs.Board.{core_fit};
+ghost use Rattle.image_keep.specs.Kept.{image_of};
+ghost use Rattle.image_keep.specs.Places.{cleared};
+ghost use Rattle.sys_procs.specs.World.{World, with_process};
+ghost use Rattle.sys_procs.specs.Tests.{node_in};
+ghost use Rattle.sys_procs.specs.ExecFile.{exec_file, loads, text_clicks, data_clicks, image_clicks, bare_board, kept_handler, begun_area, IsTested};
+ghost use Rattle.sys_procs.specs.Begun.{halt_alone, placing, sized, store_after, filled_image, filled, user_in, group_in, row_in, area_in};
+ghost use Rattle.sys_procs.specs.Handed.{AreProcs, Calls, IsAlive, board, came, handed, process_here};
+ghost use Rattle.sys_procs.specs.Tried.{tried_answer};
+
+use crate::halt::Halt;
+use crate::inodes::let_go;
+use crate::placing::{STACK, has_room_without, place_image};
+use crate::procs::Procs;
+use crate::program::Program;
+use crate::seen::see;
+use crate::stack::put_stack;
+use crate::tested::test_program;
+use aout_head::Plan;
+use fs_codec::{ISGID, ISUID};
+use fs_nodes::Nodes;
+use fs_tree::Tree;
+use proc_tab::Row;
+use u_area::UArea;
+use v6_base::{Answer, Slot, Space, Trace};
+
+/// Where text and data begin in a file: a.out(V).
+const HEADER: u32 = 16;
+
+/// The clicks of a u area.
+const AREA: u16 = 16;
+
+/// The clicks of the data of a program, with the bss.
+fn data_clicks(plan: &Plan) -> u16
+    requires { plan.now.init ≤ 131070 }
+    ensures clicks { result ≡ data_clicks plan.now }
+    ensures few { result ≤ 3073 }
+{
+    ((plan.init + u32::from(plan.bss) + 63) / 64) as u16
+}
+
+/// What a signal does in a new program: what is ignored stays so.
+fn kept_handler(handler: u16) -> u16
+    ensures { result ≡ kept_handler handler }
+{
+    if handler % 2 == 0 { 0 } else { handler }
+}
+
+/// Lets the routines for signals go.
+fn keep_ignored(handlers: &mut [u16; 20])
+    ensures { handlers.new ≡ map kept_handler handlers.old }
+{
+    for handler in handlers.iter_mut() {
+        *handler = kept_handler(*handler);
+    }
+}
+
+/// The u area in which a program without a text begins, from the one of the process.
+fn begun_area(u: UArea, program: &Program) -> UArea
+    requires no_text { text_clicks program.now.plan ≡ 0 }
+    requires init { program.now.plan.init ≤ 131070 }
+    ensures { result ≡ begun_area u program.now }
+{
+    let mut u = u;
+    u.r = [0, 0, 0, 0, 0, 0, program.arguments.first_sp(), 0];
+    u.cc = 0;
+    u.text_size = 0;
+    u.data_size = data_clicks(&program.plan);
+    u.stack_size = STACK;
+    keep_ignored(&mut u.handlers);
+    u
+}
+
+/// The user in a program that a user executes, in place of another: the owner of the file, where it has the bit of
+/// set-uid and the super-user doesn't execute it.
+fn user_in(nodes: &Nodes, ino: u16, uid: u8, own: u8) -> u8
+    requires { 0 < slice_index nodes.now.references ino }
+    ensures { result ≡ user_in (node_in nodes.now.store ino) uid own }
+{
+    let node = nodes.node(ino);
+    if node.mode & ISUID != 0 && uid != 0 {
+        node.uid
+    } else {
+        own
+    }
+}
+
+/// The group in a program, in place of another: that of the file, where it has the bit of set-gid.
+fn group_in(nodes: &Nodes, ino: u16, own: u8) -> u8
+    requires { 0 < slice_index nodes.now.references ino }
+    ensures { result ≡ group_in (node_in nodes.now.store ino) own }
+{
+    let node = nodes.node(ino);
+    if node.mode & ISGID != 0 {
+        node.gid
+    } else {
+        own
+    }
+}
+
+/// The row of a process in a new program.
+fn new_row(nodes: &Nodes, ino: u16, uid: u8, row: Row) -> Row
+    requires { 0 < slice_index nodes.now.references ino }
+    ensures { result ≡ row_in (node_in nodes.now.store ino) uid row }
+{
+    let user = user_in(nodes, ino, uid, row.uid);
+    Row { uid: user, ..row }
+}
+
+/// The u area of a process in a new program.
+fn new_area(nodes: &Nodes, u: UArea, program: &Program) -> UArea
+    requires referenced { 0 < slice_index nodes.now.references program.now.ino }
+    requires no_text { text_clicks program.now.plan ≡ 0 }
+    requires init { program.now.plan.init ≤ 131070 }
+    ensures { result ≡ area_in (node_in nodes.now.store program.now.ino) u program.now }
+{
+    let uid = user_in(nodes, program.ino, u.uid, u.uid);
+    let gid = group_in(nodes, program.ino, u.gid);
+    let mut begun = begun_area(u, program);
+    begun.uid = uid;
+    begun.gid = gid;
+    begun
+}
+
+/// Gives the image of a process back, and places that of a program, which is cleared.
+fn make_room<T: Trace>(p: &mut Procs, s: Slot, plan: &Plan, trace: &mut T)
+    requires alive { IsAlive p.old s }
+    requires init { plan.now.init ≤ 131070 }
+    requires sizes { (fs : FileSystem) → is_refused 0 (data_clicks plan.now) 20 (handed p.old fs).limit ≡ false }
+    requires room { is_some (core_fit (bare_board (board p.old) s) (image_clicks plan.now)) ≡ true }
+    ensures state { (fs : FileSystem) → handed p.new fs
+        ≡ with_process (handed p.old fs) s (sized (process_here p.old s) (data_clicks plan.now)) }
+    ensures image { image_of p.new.images s ≡ cleared (data_clicks plan.now) 20 }
+    ensures time { p.new.table.now ≡ p.old.table.now }
+    ensures board { (w : World) → board p.new ≡ (placing (board p.old) s plan.now w).board }
+    ensures stop { (w : World) → (placing (board p.old) s plan.now w).stop ≡ None }
+    ensures items { (w : World) → Took (T.taken trace.old) (placing (board p.old) s plan.now w).items
+        (T.taken trace.new) }
+    ensures frame { T.leads_to trace.old trace.new }
+    ensures alive { IsAlive p.new s }
+{
+    see(p, s);
+    place_image(p, s, data_clicks(plan), trace);
+}
+
+/// Fills the memory of a program without a text, which is cleared: its data are read, and its arguments stand at the
+/// end of the stack.
+fn fill<S: Space>(nodes: &mut Nodes, space: &mut S, program: &Program, now: u32)
+    requires referenced { 0 < slice_index nodes.old.references program.now.ino }
+    requires few { data_clicks program.now.plan ≤ 896 }
+    requires cleared { S.image space.old ≡ cleared (data_clicks program.now.plan) 20 }
+    ensures image { S.image space.new ≡ filled_image nodes.old.store program.now now }
+    ensures rest { S.rest space.new ≡ S.rest space.old }
+    ensures store { nodes.new.store ≡ store_after nodes.old.store program.now now }
+    ensures references { nodes.new.references ≡ nodes.old.references }
+    ensures blocks { SameRest nodes.old.blocks nodes.new.blocks }
+{
+    let _ = nodes.refs(program.ino);
+    let count = program.plan.init as u16;
+    let _ = nodes.read_at(program.ino, HEADER, space, 0, count, now);
+    put_stack(space, &program.arguments);
+}
+
+/// Fills the image of a process, which is cleared, with a program without a text.
+fn fill_image(p: &mut Procs, tree: &mut Tree, s: Slot, program: &Program)
+    requires alive { IsAlive p.old s }
+    requires referenced { 0 < slice_index tree.old.nodes.references program.now.ino }
+    requires few { data_clicks program.now.plan ≤ 896 }
+    requires cleared { image_of p.old.images s ≡ cleared (data_clicks program.now.plan) 20 }
+    ensures state { (fs : FileSystem) → handed p.new fs ≡ with_process (handed p.old fs) s
+        (filled (process_here p.old s) (filled_image tree.old.nodes.store program.now p.old.table.now)) }
+    ensures store { tree.new.nodes.store ≡ store_after tree.old.nodes.store program.now p.old.table.now }
+    ensures references { tree.new.nodes.references ≡ tree.old.nodes.references }
+    ensures marks { tree.new.marks ≡ tree.old.marks }
+    ensures blocks { SameRest tree.old.nodes.blocks tree.new.nodes.blocks }
+    ensures board { board p.new ≡ board p.old }
+    ensures alive { IsAlive p.new s }
+{
+    let now = p.table.now;
+    let _area = p.images.area(s);
+    let mut space = p.images.space(s);
+    fill(&mut tree.nodes, &mut space, program, now);
+}
+
+/// Lets a process begin in another row and another u area, for the image that it has.
+fn begin(p: &mut Procs, s: Slot, row: Row, u: &UArea)
+    requires alive { IsAlive p.old s }
+    requires pid { row.pid ≡ (process_here p.old s).row.pid }
+    requires ppid { row.ppid ≡ (process_here p.old s).row.ppid }
+    requires text { u.now.text_size ≡ (process_here p.old s).u.text_size }
+    requires data_size { u.now.data_size ≡ (process_here p.old s).u.data_size }
+    requires stack_size { u.now.stack_size ≡ (process_here p.old s).u.stack_size }
+    ensures state { (fs : FileSystem) → handed p.new fs
+        ≡ with_process (handed p.old fs) s (record (process_here p.old s) { row = row; u = u.now }) }
+    ensures board { board p.new ≡ board p.old }
+    ensures alive { IsAlive p.new s }
+{
+    p.put_row(s, row);
+    p.put_area(s, u);
+}
+
+/// Replaces the program of a process by another without a text of its own, for which core has a place.
+fn load<T: Trace>(
+    p: &mut Procs,
+    tree: &mut Tree,
+    s: Slot,
+    program: &Program,
+    trace: &mut T,
+) -> Answer
+    requires alive { IsAlive p.old s }
+    requires tested { IsTested (handed p.old tree.old.nodes) program.now }
+    requires no_text { text_clicks program.now.plan ≡ 0 }
+    requires room { is_some (core_fit (bare_board (board p.old) s) (image_clicks program.now.plan)) ≡ true }
+    ensures answer { result ≡ (loads (handed p.old tree.old.nodes) s program.now).answer }
+    ensures state { handed p.new tree.new.nodes ≡ (loads (handed p.old tree.old.nodes) s program.now).state }
+    ensures board { board p.new ≡ (came p.old (loads (handed p.old tree.old.nodes) s program.now)).board }
+    ensures stop { (came p.old (loads (handed p.old tree.old.nodes) s program.now)).stop ≡ None }
+    ensures items { Took (T.taken trace.old) (came p.old (loads (handed p.old tree.old.nodes) s program.now)).items
+        (T.taken trace.new) }
+    ensures frame { T.leads_to trace.old trace.new }
+    ensures agree { AreProcs p.new }
+    ensures marks { tree.new.marks ≡ tree.old.marks }
+    ensures blocks { SameRest tree.old.nodes.blocks tree.new.nodes.blocks }
+{
+    let u = p.area(s);
+    let row = p.row(s);
+    let row = new_row(&tree.nodes, program.ino, u.uid, row);
+    let u = new_area(&tree.nodes, u, program);
+    make_room(p, s, &program.plan, trace);
+    fill_image(p, tree, s, program);
+    begin(p, s, row, &u);
+    let_go(&mut tree.nodes, program.ino, p.table.now);
+    Answer::Ret { r0: 0, r1: 0 }
+}
+
+/// Why a program that was found isn't loaded, if that isn't built. No process has a text.
+fn halt_of(p: &mut Procs, s: Slot, program: &Program) -> Option<Halt>
+    requires alive { IsAlive p.old s }
+    requires init { program.now.plan.init ≤ 131070 }
+    ensures halt { result ≡ halt_alone (board p.old) s program.now }
+    ensures procs { p.new ≡ p.old }
+{
+    if program.plan.text != 0 {
+        return Some(Halt::SharedText);
+    }
+    let clicks = AREA + data_clicks(&program.plan) + STACK;
+    if has_room_without(p, s, clicks) {
+        None
+    } else {
+        Some(Halt::NoRoom)
+    }
+}
+
+/// exec(II): the process executes another program, with arguments of its own. R0 to R5 and the PC are 0 as it begins,
+/// and the arguments stand at the end of the stack. Open files stay, and so do signals that are ignored. Lions'
+/// Commentary, `exec` in `sys1.c`.
+///
+/// # Errors
+///
+/// Of the tests in this order, none of which changes anything but that the header is read. Those of a name. `EACCES`:
+/// the file may not be executed, or is no plain file. `EFAULT`: an argument can't be read. `E2BIG`: the arguments have
+/// more than 510 bytes. `ENOSPC`: no block is free for a hole in the header. `ENOEXEC`: the file has no header of a
+/// program. `ETXTBSY`: its text would be shared, and others use the file. `ENOMEM`: the sizes are refused.
+/// `SharedText`, `NoRoom`: it goes further than is built.
+#[tactic(auto, using(crate::proofs::Alive::calls))]
+pub fn exec_file<T: Trace>(
+    p: &mut Procs,
+    tree: &mut Tree,
+    s: Slot,
+    args: [u16; 4],
+    trace: &mut T,
+) -> Result<Answer, Halt>
+    requires { Calls p.old tree.old.nodes s }
+    ensures answer { result ≡ tried_answer
+        (exec_file (board p.old) (handed p.old tree.old.nodes) s (slice_index args 0) (slice_index args 1)) }
+    ensures state { handed p.new tree.new.nodes
+        ≡ (exec_file (board p.old) (handed p.old tree.old.nodes) s (slice_index args 0) (slice_index args 1)).comes.state }
+    ensures board { board p.new ≡ (came p.old
+        (exec_file (board p.old) (handed p.old tree.old.nodes) s (slice_index args 0) (slice_index args 1)).comes).board }
+    ensures stop { (came p.old
+        (exec_file (board p.old) (handed p.old tree.old.nodes) s (slice_index args 0) (slice_index args 1)).comes).stop
+        ≡ None }
+    ensures items { Took (T.taken trace.old) (came p.old
+        (exec_file (board p.old) (handed p.old tree.old.nodes) s (slice_index args 0) (slice_index args 1)).comes).items
+        (T.taken trace.new) }
+    ensures frame { T.leads_to trace.old trace.new }
+    ensures agree { AreProcs p.new }
+    ensures marks { tree.new.marks ≡ tree.old.marks }
+    ensures blocks { SameRest tree.old.nodes.blocks tree.new.nodes.blocks }
+{
+    let program = match test_program(p, tree, s, args[0], args[1]) {
+        Ok(program) => program,
+        Err(e) => return Ok(Answer::Fail(e)),
+    };
+    match halt_of(p, s, &program) {
+        Some(halt) => {
+            let_go(&mut tree.nodes, program.ino, p.table.now);
+            Err(halt)
+        }
+        None => Ok(load(p, tree, s, &program, trace)),
+    }
+}
