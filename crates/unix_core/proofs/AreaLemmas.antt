@@ -151,6 +151,7 @@ module _ (w : World) (s : ℕ) (ready : IsReady w s) (u : UArea) where
             | inl there ↦ (record here.held { u = u }, ap (keeping (with_area k s u)) there ∙ now)
             | inr other ↦ let had = ready.good.running r is above in (had.0, area_other k s u r other ∙ had.1)
           ];
+          marks = ready.good.marks;
           entries = ready.good.entries;
           bytes = ready.good.bytes;
           core = ready.good.core ∙ sym (area_core k s u);

@@ -1,15 +1,16 @@
 -- The first image of process 1 stands at the front of a core in which nothing stands.
-use Rattle.std.proofs.Common.{◌≡◌, ◌<◌, ◌≤◌, ◌+◌, ℕ, true, length, replicate, get_or, Some, None, Option, refl, ap, ◌∙◌, inl, inr, arith}
-use Rattle.std.specs.Prelude.{Result, Ok, Err, is_err, MatchResult}
+use Rattle.std.proofs.Common.{◌≡◌, ◌<◌, ◌≤◌, ◌+◌, ℕ, length, replicate, get_or, Some, refl, ap, ◌∙◌, inl, inr, arith}
 use Rattle.std.proofs.lemmas.Bool.{cases_lt}
 use Rattle.std.proofs.lemmas.List.{get_or-replicate, get_or_past, length-replicate}
 use Rattle.v6_base.specs.declared.entry.Place.TheVariants.{Core}
+use Rattle.v6_base.specs.Image.{Image}
 use Rattle.u_area.specs.declared.area.UArea.{UArea}
 use Rattle.u_area.proofs.AreaLemmas.{one_area}
 use Rattle.image_keep.specs.Area.{sized_area}
-use Rattle.image_keep.specs.Kept.{Held, Nothing, Alive, Kept, HasImage, keeping, first_kept, with_keeping, with_area, described, area_in, area_of}
+use Rattle.image_keep.specs.Kept.{Held, Nothing, Alive, Kept, HasImage, keeping, first_kept, with_keeping, with_area, with_image, described, imaged, area_in, area_of, image_in, image_of}
 use Rattle.image_keep.specs.Places.{placed, with_image_at, cleared}
 use Rattle.image_keep.proofs.Frames.{keeping_same, keeping_twice}
+use Rattle.unix_core.specs.Init.{init_data}
 use Rattle.unix_core.specs.Parts.{first_held}
 use Rattle.unix_core.proofs.PlaceLemmas.{placed_first}
 
@@ -19,13 +20,13 @@ empty_slots s = elim (cases_lt s 50) [
   | inr past ↦ get_or_past (replicate 50 Nothing) s Nothing (let long = length-replicate 50 Nothing in omega (arith, long, past))
 ]
 
-pub none_by : {A E : Type 0} (r : Result A E) (o : Option A) → is_err r ≡ true → MatchResult r (λ a. o ≡ Some a) (λ e. o ≡ None) → o ≡ None
-none_by (Ok a) o err is = absurd (cc err)
-none_by (Err e) o err is = is
-
 -- the image as it is made, before its directory is set
 abbrev pub made_held : Held
 made_held = record { u = sized_area 1 0; image = cleared 1 0; place = Core 1 }
+
+-- the image with the program
+abbrev filled_held : Held
+filled_held = record made_held { image = record (cleared 1 0) { «data» = init_data } }
 
 module _ (k : Kept) (empty : k ≡ first_kept k.core) (least : 64 ≤ k.core) where
   pub keeps_nothing : (s : ℕ) → keeping k s ≡ Nothing
@@ -51,14 +52,35 @@ module _ (k : Kept) (empty : k ≡ first_kept k.core) (least : 64 ≤ k.core) wh
     pub made_image : HasImage made 1
     made_image = (made_held, made_keeping)
 
-    -- its directory is the root
-    pub first_made : (u : UArea) (codes : u.cc < 16) (now : Kept) → u ≡ area_of made 1 → now ≡ with_area made 1 (record u { dir = 1; codes = codes })
-        → now ≡ with_keeping k 1 (Alive first_held)
-    unfolding with_area
-    first_made u codes now area set =
-        let own : u ≡ sized_area 1 0 = area ∙ ap area_in made_keeping in
-        let same : ◌≡◌ {A = UArea} (record u { dir = 1; codes = codes }) (record u { dir = 1 }) =
-        one_area (record u { dir = 1; codes = codes }) (record u { dir = 1 }) refl refl refl refl refl refl refl refl refl refl refl refl refl refl refl refl refl refl refl in
-        set ∙ ap (λ (v : UArea). with_keeping made 1 (described v (keeping made 1))) same
-        ∙ (λ i. with_keeping (made_is i) 1 (described (record (own i) { dir = 1 }) (made_keeping i)))
-        ∙ keeping_twice k 1 (Alive made_held) (Alive first_held)
+    made_memory : image_of made 1 ≡ cleared 1 0
+    made_memory = ap image_in made_keeping
+
+    -- the data are cleared
+    pub made_cleared : (image_of made 1).data ≡ replicate 64 0
+    made_cleared = ap (λ (m : Image). m.data) made_memory
+
+    -- The program is put there.
+    module _ (filled : Kept) (put : filled ≡ with_image made 1 (record (image_of made 1) { «data» = init_data })) where
+      filled_is : filled ≡ with_keeping k 1 (Alive filled_held)
+      unfolding with_image
+      filled_is =
+          put ∙ (λ i. with_keeping (made_is i) 1 (imaged (record (made_memory i) { «data» = init_data }) (made_keeping i)))
+          ∙ keeping_twice k 1 (Alive made_held) (Alive filled_held)
+
+      filled_keeping : keeping filled 1 ≡ Alive filled_held
+      filled_keeping = ap (λ l. keeping l 1) filled_is ∙ keeping_same k 1 (Alive filled_held) slot_within
+
+      pub filled_image : HasImage filled 1
+      filled_image = (filled_held, filled_keeping)
+
+      -- its directory is the root
+      pub first_made : (u : UArea) (codes : u.cc < 16) (now : Kept) → u ≡ area_of filled 1 → now ≡ with_area filled 1 (record u { dir = 1; codes = codes })
+          → now ≡ with_keeping k 1 (Alive first_held)
+      unfolding with_area
+      first_made u codes now area set =
+          let own : u ≡ sized_area 1 0 = area ∙ ap area_in filled_keeping in
+          let same : ◌≡◌ {A = UArea} (record u { dir = 1; codes = codes }) (record u { dir = 1 }) =
+          one_area (record u { dir = 1; codes = codes }) (record u { dir = 1 }) refl refl refl refl refl refl refl refl refl refl refl refl refl refl refl refl refl refl refl in
+          set ∙ ap (λ (v : UArea). with_keeping filled 1 (described v (keeping filled 1))) same
+          ∙ (λ i. with_keeping (filled_is i) 1 (described (record (own i) { dir = 1 }) (filled_keeping i)))
+          ∙ keeping_twice k 1 (Alive filled_held) (Alive first_held)

@@ -1,5 +1,5 @@
 -- A volume on the disk of an image is what a kernel begins with.
-use Rattle.std.proofs.Common.{◌≡◌, if◌then◌else◌, ℕ, false, List, Option, None, is_some, sym, ap, ◌∙◌, subst, arith}
+use Rattle.std.proofs.Common.{◌≡◌, if◌then◌else◌, ℕ, false, List, Some, None, is_some, sym, ap, ◌∙◌, subst, arith}
 use Rattle.fs_codec.specs.Fields.{super_of}
 use Rattle.fs_codec.specs.Store.{Store}
 use Rattle.fs_codec.specs.Disk.{disk_of, head}
@@ -17,7 +17,7 @@ use Rattle.fs_laws.proofs.AgreeLemmas.{files_store}
 use Rattle.fs_blocks.specs.State.{State, disk, opened}
 use Rattle.fs_blocks.specs.Store.{store_now}
 use Rattle.unix_core.specs.Unix.{System}
-use Rattle.unix_core.specs.Runs.{system_with, booted, boots}
+use Rattle.unix_core.specs.Runs.{system_with, system_of, boots}
 
 clean_store : (volume : State) → volume.changed ≡ false → store_now volume ≡ store_of (disk volume)
 unfolding store_now store_of
@@ -44,8 +44,9 @@ module _ (bytes : List ℕ) (good : image_fault bytes ≡ None) where
     unfolding store_of
     volume_stamp is = volume_time is
 
--- An image without a fault is booted where its file system has the form.
-pub boots_as : (image : List ℕ) (core : ℕ) (store : Store) (o : Option System) → image_fault image ≡ None → store ≡ store_of (disk_of image)
-    → booted (system_with store core) ≡ o → boots image core ≡ o
-boots_as image core store o none is boot =
-    ap (λ f. if is_some f then None else booted (system_with (store_of (disk_of image)) core)) none ∙ ap (λ (s : Store). booted (system_with s core)) (sym is) ∙ boot
+-- An image without a fault is booted.
+pub boots_as : (image : List ℕ) (core : ℕ) (store : Store) (m : System) → image_fault image ≡ None → store ≡ store_of (disk_of image)
+    → m ≡ system_with store core → boots image core ≡ Some m
+boots_as image core store m none is system =
+    ap (λ f. if is_some f then None else Some (system_of image core)) none
+    ∙ ap (λ (s : Store). Some (system_with s core)) (sym is) ∙ ap (λ (n : System). Some n) (sym system)

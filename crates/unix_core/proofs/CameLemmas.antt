@@ -30,12 +30,12 @@ use Rattle.unix_core.specs.declared.ending.Ending.{Ending}
 use Rattle.unix_core.specs.Unix.{Unix, no_texts, process_of}
 use Rattle.unix_core.specs.References.{is_in, is_text_of, referrers}
 use Rattle.unix_core.specs.Calls.{answers, came_by, with_world, world_of}
-use Rattle.unix_core.specs.Parts.{unix_of, board_in, none_more, refs, IsReady, HasCome, ended_as}
+use Rattle.unix_core.specs.Parts.{unix_of, board_in, refs, IsReady, HasCome, ended_as}
 use Rattle.unix_core.proofs.ReferenceLemmas.{in_within, few_referrers}
 use Rattle.unix_core.proofs.WorldLemmas.{ready_alive, slot_is, is_living, fifteen_each, forty, references_in}
 use Rattle.unix_core.proofs.AreaLemmas.{held_within}
 use Rattle.unix_core.proofs.LoggedLemmas.{over, only_shown, logged_over, logged_shown}
-use Rattle.unix_core.proofs.MildLemmas.{SameCounts, counts_same, SameBoard, IsMild, IsNear}
+use Rattle.unix_core.proofs.MildLemmas.{SameCounts, counts_same, SameBoard, MovedBoard, none_moved, IsMild, IsNear}
 
 -- The process that runs can call.
 pub ready_calls : (w : World) (s : ℕ) → IsReady w s → length w.files.table ≡ 100 → Calls w.procs w.files.tree.nodes s
@@ -113,30 +113,28 @@ module _ (p : Procs) {c : Comes} {base : its.World} (mild : IsMild base c) where
   pub came_items : (t u : Taken) → Took t (came p c).items u → Took t mild.items u
   came_items t u took = subst (λ (l : Logged its.World). Took t l.items u) came_shown took
 
--- The world after it.
-module _ (w now : World) (s : ℕ) (ready : IsReady w s) (c : Comes) (mild : IsMild (handed w.procs w.files.tree.nodes) c) (agree : AreProcs now.procs)
-    (state : handed now.procs now.files.tree.nodes ≡ c.state) (shown : board now.procs ≡ fold board_after (board w.procs) mild.items)
-    (slots : length now.procs.images.slots ≡ 50) (table : now.files.table ≡ w.files.table) (line : now.files.line ≡ w.files.line)
-    (tape : now.tape ≡ w.tape) (core : now.core ≡ w.core) where
-  after : SameBoard (board w.procs) (board now.procs)
-  after = subst (λ b. SameBoard (board w.procs) b) (sym shown) (mild.board (board w.procs))
-
-  processes : (unix_of now).processes ≡ c.state.processes
-  processes = ap (λ (x : its.World). x.processes) state
+-- The world after a call that leaves to each its files and its directory, and to whoever has an image a place in core.
+module _ (w now : World) (s : ℕ) (ready : IsReady w s) (x : its.World) (agree : AreProcs now.procs)
+    (state : handed now.procs now.files.tree.nodes ≡ x) (same_counts : SameCounts (unix_of w).processes x.processes)
+    (same_refs : (ino : ℕ) → slice_index x.inodes.references ino ≡ refs w ino) (same_switches : x.switches ≡ w.procs.switches)
+    (after : MovedBoard (board w.procs) (board now.procs)) (slots : length now.procs.images.slots ≡ 50)
+    (table : now.files.table ≡ w.files.table) (marks : now.files.tree.marks ≡ w.files.tree.marks) (line : now.files.line ≡ w.files.line) (tape : now.tape ≡ w.tape) (core : now.core ≡ w.core) where
+  processes : (unix_of now).processes ≡ x.processes
+  processes = ap (λ (v : its.World). v.processes) state
 
   counts : SameCounts (unix_of w).processes (unix_of now).processes
-  counts = subst (λ ps. SameCounts (unix_of w).processes ps) (sym processes) mild.counts
+  counts = subst (λ ps. SameCounts (unix_of w).processes ps) (sym processes) same_counts
 
-  pub came_unix : unix_of now ≡ with_world (unix_of w) c.state
-  came_unix =
-      let switches : now.procs.switches ≡ w.procs.switches = ap (λ (x : its.World). x.switches) state ∙ mild.switches in
+  pub moved_unix : unix_of now ≡ with_world (unix_of w) x
+  moved_unix =
+      let switches : now.procs.switches ≡ w.procs.switches = ap (λ (v : its.World). v.switches) state ∙ same_switches in
       let clicks : now.procs.images.core ≡ w.procs.images.core = after.core in
       λ i. record {
         store = (state i).inodes.store;
         processes = (state i).processes;
         files = table i;
         pipes = [];
-        texts = no_texts;
+        texts = (state i).texts;
         line = line i;
         clock = (state i).clock;
         switches = switches i;
@@ -173,22 +171,25 @@ module _ (w now : World) (s : ℕ) (ready : IsReady w s) (c : Comes) (mild : IsM
       let place : (row_at now.procs.table r).place ≡ Some held.place = (agree.each r was.0 was.1.0).place ∙ ap place_in has in
       elim (after.places r) [
         | inl none ↦ absurd (let never : ◌≡◌ {A = Option Place} None (Some held.place) = sym none ∙ place in cc never)
-        | inr same ↦
-            ap is_in_core (sym place ∙ same ∙ old.place ∙ ap place_in image.1) ∙ ready.good.in_core r image.0 image.1
+        | inr there ↦ elim there [
+          | inl same ↦
+              ap is_in_core (sym place ∙ same ∙ old.place ∙ ap place_in image.1) ∙ ready.good.in_core r image.0 image.1
+          | inr inside ↦ ap is_in_core (sym place) ∙ inside
+        ]
       ]
 
-  pub came_ready : IsReady now s
-  came_ready = record {
+  pub moved_ready : IsReady now s
+  moved_ready = record {
     good = record {
       agree = agree;
       in_core = in_core;
       fifteen = λ r held has.
           let was = had r held has in
-          ap length was.1.1.1.1.1 ∙ fifteen_each w none_more ready.good r was.1.1.0 was.1.1.1.0 was.1.1.1.1.0;
+          ap length was.1.1.1.1.1 ∙ fifteen_each w ready.good r was.1.1.0 was.1.1.1.0 was.1.1.1.1.0;
       numbers = λ entry. ap (λ files. numbers_of (file_at files entry)) table ∙ ready.good.numbers entry ∙ sym (counts.numbers entry);
       no_pipe = subst (λ (files : List (Option OpenFile)). HasNoPipe files) (sym table) ready.good.no_pipe;
       referred = λ ino.
-          let same : refs now ino ≡ refs w ino = ap (λ (x : its.World). slice_index x.inodes.references ino) state ∙ ap (λ x. slice_index x.references ino) mild.inodes in
+          let same : refs now ino ≡ refs w ino = ap (λ (v : its.World). slice_index v.inodes.references ino) state ∙ same_refs ino in
           let before = ready.good.referred ino in
           let files : count_by (is_of ino) now.files.table ≡ count_by (is_of ino) w.files.table = ap (count_by (is_of ino)) table in
           let inside = counts.inside ino in
@@ -203,6 +204,7 @@ module _ (w now : World) (s : ℕ) (ready : IsReady w s) (c : Comes) (mild : IsM
           let image = held_by (member_at now.procs.rows.slots s) (keeping now.procs.images s) living.0
           (sym (process_in_slot now.procs.rows.slots now.procs.images s alive.below) ∙ living.1.0) living.1.1 (agree.each s alive.above alive.below).image in
           subst (λ n. HasImage now.procs.images n) (sym same) image;
+      marks = marks ∙ ready.good.marks;
       entries = ap (λ t. t.entry_room) tape ∙ ready.good.entries;
       bytes = ap (λ t. t.byte_room) tape ∙ ready.good.bytes;
       core = core ∙ ready.good.core ∙ sym after.core;
@@ -210,6 +212,24 @@ module _ (w now : World) (s : ℕ) (ready : IsReady w s) (c : Comes) (mild : IsM
     runs = after.running ∙ ready.runs;
     user = ready.user;
   }
+
+-- The world after one that only shows.
+module _ (w now : World) (s : ℕ) (ready : IsReady w s) (c : Comes) (mild : IsMild (handed w.procs w.files.tree.nodes) c) (agree : AreProcs now.procs)
+    (state : handed now.procs now.files.tree.nodes ≡ c.state) (shown : board now.procs ≡ fold board_after (board w.procs) mild.items)
+    (slots : length now.procs.images.slots ≡ 50) (table : now.files.table ≡ w.files.table) (marks : now.files.tree.marks ≡ w.files.tree.marks) (line : now.files.line ≡ w.files.line)
+    (tape : now.tape ≡ w.tape) (core : now.core ≡ w.core) where
+  unmoved : MovedBoard (board w.procs) (board now.procs)
+  unmoved = none_moved (board w.procs) (board now.procs) (subst (λ b. SameBoard (board w.procs) b) (sym shown) (mild.board (board w.procs)))
+
+  pub came_unix : unix_of now ≡ with_world (unix_of w) c.state
+  came_unix =
+      moved_unix w now s ready c.state agree state mild.counts (λ ino. ap (λ n. slice_index n.references ino) mild.inodes) mild.switches
+      unmoved slots table marks line tape core
+
+  pub came_ready : IsReady now s
+  came_ready =
+      moved_ready w now s ready c.state agree state mild.counts (λ ino. ap (λ n. slice_index n.references ino) mild.inodes) mild.switches
+      unmoved slots table marks line tape core
 
 -- A call on processes has come to its row, when its answer has been concluded.
 module _ (w now : World) (s : ℕ) (c : Comes) {base : its.World} (mild : IsMild base c) where

@@ -57,8 +57,8 @@ row_taken m row (Grave u block) a core =
     omega (arith, same, one)
 
 -- A block of the swap area is free.
-pub swap_free : (w : World) (more : ℕ → ℕ) → IsGood w more → IsSome (swap_fit (board_in w) 1)
-swap_free w more good =
+pub swap_free : (w : World) → IsGood w → IsSome (swap_fit (board_in w) 1)
+swap_free w good =
     let rows : List TableRow = w.procs.table.rows in
     let each : (i : ℕ) → i < length rows → taken_by (swap_of_row (get_or rows i empty_row)) ≤ 1 =
     λ i low. elim (cases_lt 0 i) [

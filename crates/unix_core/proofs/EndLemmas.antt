@@ -24,7 +24,7 @@ use Rattle.unix_core.specs.declared.ending.Ending.TheVariants as ending
 use Rattle.unix_core.specs.Unix.{System}
 use Rattle.unix_core.specs.Passing.{trapped, ended_table}
 use Rattle.unix_core.specs.Turn.{settled}
-use Rattle.unix_core.specs.Parts.{unix_of, board_in, system_at, none_more, IsGood, IsRested}
+use Rattle.unix_core.specs.Parts.{unix_of, board_in, system_at, IsGood, IsRested}
 use Rattle.unix_core.proofs.TableLemmas.{RunsImage, with_table, good_table}
 use Rattle.unix_core.proofs.TickLemmas.{trapped_like, runin_like}
 
@@ -118,20 +118,19 @@ ended_clock t s ending.Ended = refl
 ended_clock t s ending.NoRoom = refl
 ended_clock t s ending.NotBuilt = refl
 
-module _ (w : World) (good : IsGood w none_more) (s : ℕ) (above : 0 < s) (low : s < 50) (e : Ending) (runs : e ≢ ending.Ended → w.procs.table.running ≡ Some s)
+module _ (w : World) (good : IsGood w) (s : ℕ) (above : 0 < s) (low : s < 50) (e : Ending) (runs : e ≢ ending.Ended → w.procs.table.running ≡ Some s)
     (t : Table) (is : t ≡ ended_table w.procs.table s e) (table : IsTable t) where
   pub ended_rested : IsRested stage.Resting (with_table w t)
   ended_rested = record {
     apart = λ r x. absurd (cc x);
-    fresh = λ init x. absurd (cc x);
     good = λ x. good_table w t
         (ended_agree w.procs.rows w.procs.images w.procs.table s good.agree above low t e is table (λ alive. good.running s (runs alive) above))
-        (ended_image w.procs.images w.procs.table t s e is good.running) none_more good;
+        (ended_image w.procs.images w.procs.table t s e is good.running) good;
   }
 
   pub ended_system : (regs : Regs) (b : Board) → board_in (with_table w t) ≡ b → (now : System)
       → now ≡ record (system_at stage.Resting regs (with_table w t)) { board = (settled (board_in (with_table w t))).board }
-      → now ≡ record { unix = unix_of w; board = (settled b).board; is_fresh = false }
+      → now ≡ record { unix = unix_of w; board = (settled b).board }
   ended_system regs b board now final =
       let clock : clock_of t ≡ clock_of w.procs.table = ap clock_of is ∙ ended_clock w.procs.table s e in
-      final ∙ (λ i. record { unix = record (unix_of w) { clock = clock i }; board = (settled (board i)).board; is_fresh = false })
+      final ∙ (λ i. record { unix = record (unix_of w) { clock = clock i }; board = (settled (board i)).board })

@@ -21,7 +21,7 @@ use Rattle.unix_core.specs.declared.world.World.{World}
 use Rattle.unix_core.specs.Unix.{Unix, no_texts, process_of}
 use Rattle.unix_core.specs.References.{is_in, is_text_of, referrers}
 use Rattle.unix_core.specs.Calls.{closes_all, handed_of, with_handed, with_world}
-use Rattle.unix_core.specs.Parts.{unix_of, board_in, none_more, named, refs, IsGood, IsReady}
+use Rattle.unix_core.specs.Parts.{unix_of, board_in, named, refs, IsGood, IsReady}
 use Rattle.unix_core.proofs.ReferenceLemmas.{in_within}
 use Rattle.unix_core.proofs.WorldLemmas.{slot_is, is_living, fifteen_each}
 use Rattle.unix_core.proofs.AreaLemmas.{held_within}
@@ -42,7 +42,7 @@ all_closed u s entry low long =
 
 module _ (w1 now : World) (s : ℕ) (ready : IsReady w1 s) (closed : (entry : ℕ) → times (process_of (unix_of w1) s).u.files entry ≡ 0) (agree : AreProcs now.procs)
     (state : handed now.procs now.files.tree.nodes ≡ (ends w1 s ready).state) (shown : board now.procs ≡ (came w1.procs (ends w1 s ready)).board)
-    (slots : length now.procs.images.slots ≡ 50) (table : now.files.table ≡ w1.files.table) (line : now.files.line ≡ w1.files.line)
+    (slots : length now.procs.images.slots ≡ 50) (table : now.files.table ≡ w1.files.table) (marks : now.files.tree.marks ≡ w1.files.tree.marks) (line : now.files.line ≡ w1.files.line)
     (tape : now.tape ≡ w1.tape) (core : now.core ≡ w1.core) where
   abbrev x : its.World
   x = handed w1.procs w1.files.tree.nodes
@@ -72,7 +72,7 @@ module _ (w1 now : World) (s : ℕ) (ready : IsReady w1 s) (closed : (entry : �
         processes = (state i).processes;
         files = table i;
         pipes = [];
-        texts = no_texts;
+        texts = (state i).texts;
         line = line i;
         clock = (state i).clock;
         switches = switches i;
@@ -154,13 +154,13 @@ module _ (w1 now : World) (s : ℕ) (ready : IsReady w1 s) (closed : (entry : �
       ap (λ (x : Board). (row_at x.table r).place) b.1.1 ∙ end_places (board_in w1) s b.0 b.1.0 r was.other in
       ap is_in_core (sym place ∙ same ∙ old.place ∙ ap place_in image.1) ∙ ready.good.in_core r image.0 image.1
 
-  pub ended_good : IsGood now none_more
+  pub ended_good : IsGood now
   ended_good = record {
     agree = agree;
     in_core = in_core;
     fifteen = λ r held has.
         let was : Lived (unix_of w1).processes s r (had r held has).0 = (had r held has).1.0 in
-        ap length (sym (had r held has).1.1 ∙ was.files) ∙ fifteen_each w1 none_more ready.good r was.before was.there was.lives;
+        ap length (sym (had r held has).1.1 ∙ was.files) ∙ fifteen_each w1 ready.good r was.before was.there was.lives;
     numbers = λ entry. ap (λ files. numbers_of (file_at files entry)) table ∙ ready.good.numbers entry ∙ sym (numbers entry);
     no_pipe = subst (λ (files : List (Option OpenFile)). HasNoPipe files) (sym table) ready.good.no_pipe;
     referred = λ ino.
@@ -176,6 +176,7 @@ module _ (w1 now : World) (s : ℕ) (ready : IsReady w1 s) (closed : (entry : �
         let none : now.procs.table.running ≡ None = ap (λ (x : Board). x.table.running) b.1.1 ∙ end_running (board_in w1) s b.0 b.1.0 in
         let never : ◌≡◌ {A = Option ℕ} None (Some r) = sym none ∙ is in
         cc never);
+    marks = marks ∙ ready.good.marks;
     entries = ap (λ t. t.entry_room) tape ∙ ready.good.entries;
     bytes = ap (λ t. t.byte_room) tape ∙ ready.good.bytes;
     core = core ∙ ready.good.core ∙ sym clicks;

@@ -1,5 +1,5 @@
 -- How a call ends: never as an instruction does that is just done, and only exit ends a process.
-use Rattle.std.proofs.Common.{◌≡◌, ◌≢◌, ◌∙◌, ℕ, Bool, true, false, ◌||◌, nat_lt, if◌then◌else◌, List, Option, Some, None, refl, sym, subst}
+use Rattle.std.proofs.Common.{◌≡◌, ◌≢◌, ◌∙◌, ℕ, Bool, true, false, ◌||◌, nat_lt, if◌then◌else◌, List, slice_index, Option, Some, None, refl, sym, subst}
 use Rattle.v6_base.specs.declared.answer.Answer.{Answer}
 use Rattle.v6_base.specs.declared.answer.Answer.TheVariants.{Ret, Fail, Sleep}
 use Rattle.image_keep.specs.Kept.{clicks_of}
@@ -7,6 +7,11 @@ use Rattle.pick_rules.specs.Board.{Board}
 use Rattle.pick_rules.specs.Logged.{Stop, logged}
 use Rattle.sys_files.specs.Did.{Did}
 use Rattle.sys_procs.specs.Comes.{Comes}
+use Rattle.sys_procs.specs.declared.halt.Halt.{Halt}
+use Rattle.sys_procs.specs.declared.halt.Halt.TheVariants.{SharedText, NoRoom}
+use Rattle.sys_procs.specs.Tried.{Tried}
+use Rattle.sys_procs.specs.Break.{break_at, grow}
+use Rattle.sys_procs.specs.ExecFile.{exec_file}
 use Rattle.sys_procs.specs.Fork.{fork_one}
 use Rattle.unix_core.specs.declared.world.World.{World}
 use Rattle.unix_core.specs.declared.ending.Ending.{Ending}
@@ -14,7 +19,10 @@ use Rattle.unix_core.specs.declared.ending.Ending.TheVariants.{Next, Ended}
 use Rattle.unix_core.specs.Unix.{Unix, process_of}
 use Rattle.unix_core.specs.Steps.{Steps, returns, not_built, no_room}
 use Rattle.unix_core.specs.Errors.{error_number}
-use Rattle.unix_core.specs.Calls.{answers, came_by, did_by, does_call, exits, fork_if_room, forks, is_full, refused_area, with_area, with_handed, with_world, world_of}
+use Rattle.unix_core.specs.Calls.{answers, came_by, did_by, does_call, exits, fork_if_room, forks, grown_by, grows, grows_to, has_room, is_full, refused_area, tried_by, unless_halted, with_area, with_handed, with_world, world_of}
+use Rattle.pdp_step.specs.declared.outcome.Kind.{Kind}
+use Rattle.pdp_step.specs.declared.outcome.Kind.TheVariants as kind
+use Rattle.unix_core.specs.Turn.{faults}
 use Rattle.unix_core.specs.Parts.{HasCome, ended_as}
 
 refused_end : (u : Unix) (s n : ℕ) (b : Bool) →
@@ -56,8 +64,8 @@ room_end u s true e =
     answers_end (with_world u c.state) s c.answer e
 room_end u s false e = absurd (cc e)
 
-pub fork_end : (has_room : ℕ → Bool) (u : Unix) (s : ℕ) → (fork_if_room has_room u s).ending ≢ Next
-fork_end has_room u s e = room_end u s (is_full u || has_room (clicks_of (process_of u s).u)) e
+pub fork_end : (b : Board) (u : Unix) (s : ℕ) → (fork_if_room b u s).ending ≢ Next
+fork_end b u s e = room_end u s (is_full u || has_room b (clicks_of (process_of u s).u)) e
 
 pub exit_end : (u : Unix) (s : ℕ) → (exits u s).ending ≢ Next
 exit_end u s e = absurd (cc e)
@@ -78,13 +86,48 @@ pub never_ended : (b : Board) (steps : Steps) (e : Ending) (w : World) → HasCo
     → e ≢ Ended
 never_ended b steps e w come other is = as_ended (logged b steps.effects).stop steps.ending other (sym come.ending ∙ is)
 
+-- a call that may go further than is built
+unless_end : (o : Option Halt) (u : Unix) (steps : Steps) → steps.ending ≢ Next → (unless_halted o u steps).ending ≢ Next
+unless_end None u steps other is = other is
+unless_end (Some SharedText) u steps other is = absurd (cc is)
+unless_end (Some NoRoom) u steps other is = absurd (cc is)
+
+pub tried_next : (u : Unix) (s : ℕ) (t : Tried) → (tried_by u s t).ending ≢ Next
+tried_next u s t = unless_end t.halt (with_world u t.comes.state) (came_by u s t.comes) (came_next u s t.comes)
+
+grown_end : (u : Unix) (o : Option Tried) → (grown_by u o).ending ≢ Next
+grown_end u None is = absurd (cc is)
+grown_end u (Some t) is =
+    unless_end t.halt (with_world u t.comes.state) (grows u t.comes) (λ e. absurd (cc e)) is
+
+pub grows_next : (b : Board) (u : Unix) (s sp : ℕ) → (grows_to b u s sp).ending ≢ Next
+grows_next b u s sp = grown_end u (grow b (world_of u) s sp)
+
+-- a fault for which no stack grows
+pub no_growth : (b : Board) (u : Unix) (s : ℕ) (k : Kind) → ((sp : ℕ) → k ≡ kind.Segment sp → ⊥) → not_built u ≡ faults b u s k
+no_growth b u s kind.Odd other = refl
+no_growth b u s (kind.Segment sp) other = absurd (other sp refl)
+no_growth b u s (kind.Illegal word) other = refl
+no_growth b u s kind.Bpt other = refl
+no_growth b u s kind.Iot other = refl
+no_growth b u s kind.Emt other = refl
+
 -- the calls that have no row of their own
-module _ (has_room : ℕ → Bool) (u : Unix) (s number : ℕ) (args : List ℕ) where
-  pub is_indirect : number ≡ 0 → returns u ≡ does_call has_room u s number args
-  is_indirect e = subst (λ n. returns u ≡ does_call has_room u s n args) (sym e) refl
+module _ (b : Board) (u : Unix) (s number : ℕ) (args : List ℕ) where
+  pub is_indirect : number ≡ 0 → returns u ≡ does_call b u s number args
+  is_indirect e = subst (λ n. returns u ≡ does_call b u s n args) (sym e) refl
 
-  pub is_exit : number ≡ 1 → exits u s ≡ does_call has_room u s number args
-  is_exit e = subst (λ n. exits u s ≡ does_call has_room u s n args) (sym e) refl
+  pub is_exit : number ≡ 1 → exits u s ≡ does_call b u s number args
+  is_exit e = subst (λ n. exits u s ≡ does_call b u s n args) (sym e) refl
 
-  pub is_fork : number ≡ 2 → fork_if_room has_room u s ≡ does_call has_room u s number args
-  is_fork e = subst (λ n. fork_if_room has_room u s ≡ does_call has_room u s n args) (sym e) refl
+  pub is_fork : number ≡ 2 → fork_if_room b u s ≡ does_call b u s number args
+  is_fork e = subst (λ n. fork_if_room b u s ≡ does_call b u s n args) (sym e) refl
+
+  pub is_exec : number ≡ 11
+      → tried_by u s (exec_file b (world_of u) s (slice_index args 0) (slice_index args 1)) ≡ does_call b u s number args
+  is_exec e =
+      subst (λ n. tried_by u s (exec_file b (world_of u) s (slice_index args 0) (slice_index args 1)) ≡ does_call b u s n args) (sym e) refl
+
+  pub is_break : number ≡ 17 → tried_by u s (break_at b (world_of u) s (slice_index args 0)) ≡ does_call b u s number args
+  is_break e =
+      subst (λ n. tried_by u s (break_at b (world_of u) s (slice_index args 0)) ≡ does_call b u s n args) (sym e) refl

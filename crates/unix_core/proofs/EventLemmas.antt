@@ -27,12 +27,11 @@ use Rattle.sys_procs.proofs.Agreement.{AreLike, agree_like, tables_same, wakeup_
 use Rattle.unix_core.specs.declared.world.World.{World}
 use Rattle.unix_core.specs.declared.machine.Stage.{Stage}
 use Rattle.unix_core.specs.Unix.{Unix, System}
-use Rattle.unix_core.specs.References.{references_of}
 use Rattle.unix_core.specs.Passing.{called_table}
 use Rattle.unix_core.specs.Turn.{Turn, settled, settles, pass_effects, pass_of}
 use Rattle.unix_core.specs.Outside as outside
 use Rattle.unix_core.specs.Outside.{wakes, typed_of}
-use Rattle.unix_core.specs.Parts.{unix_of, board_in, with_regs, is_fresh, system_at, one_more, IsGood, IsFresh, IsRested}
+use Rattle.unix_core.specs.Parts.{unix_of, board_in, with_regs, system_at, IsRested}
 use Rattle.unix_core.proofs.BoardLemmas.{logged_line}
 use Rattle.unix_core.proofs.LoggedLemmas.{after_items, logged_shown, logged_after}
 use Rattle.unix_core.proofs.MachineLemmas.{rested_unix, some_good}
@@ -127,41 +126,16 @@ module _ (at : Stage) (regs : Regs) (w : World) (byte : ℕ) (rested : IsRested 
   abbrev w1 : World
   w1 = record w { files = record w.files { line = line } }
 
-  typed_fresh : (init : ℕ) → IsFresh init w → IsFresh init w1
-  unfolding references_of
-  typed_fresh init fresh = record {
-    good = typed_good (one_more init) fresh.good;
-    alone = fresh.alone;
-    image = fresh.image;
-    core = fresh.core;
-    found = fresh.found;
-    program = fresh.program;
-  }
-    where
-      typed_good : (more : ℕ → ℕ) → IsGood w more → IsGood w1 more
-      typed_good more good = record {
-        agree = good.agree;
-        in_core = good.in_core;
-        fifteen = good.fifteen;
-        numbers = good.numbers;
-        no_pipe = good.no_pipe;
-        referred = good.referred;
-        running = good.running;
-        entries = good.entries;
-        bytes = good.bytes;
-        core = good.core;
-      }
-
   pub typed_rested : IsRested at w1
   typed_rested = record {
     apart = rested.apart;
-    fresh = λ init e. typed_fresh init (rested.fresh init e);
     good = λ e. let good = rested.good e in record {
       agree = good.agree;
       in_core = good.in_core;
       fifteen = good.fifteen;
       numbers = good.numbers;
       no_pipe = good.no_pipe;
+      marks = good.marks;
       referred = good.referred;
       running = good.running;
       entries = good.entries;
@@ -174,7 +148,7 @@ module _ (at : Stage) (regs : Regs) (w : World) (byte : ℕ) (rested : IsRested 
       (board_is : board_of t w.procs.images ≡ (logged {W = Unix} (board_in w) (wakes called Keys)).board) where
     pub typed_woken : IsRested at (with_table w1 t)
     typed_woken =
-        let was = (some_good at w rested).1 in
+        let was = (some_good at w rested) in
         rested_table w1 t (called_agree w.procs.rows w.procs.images w.procs.table t called Keys table_is good was.agree)
         (called_image w.procs.images w.procs.table t called Keys table_is was.running) at typed_rested
 
@@ -201,7 +175,7 @@ module _ (at : Stage) (regs : Regs) (w : World) (byte : ℕ) (rested : IsRested 
         ∙ (λ i. record (unix_of w) { line = line_is i; clock = clock i })
         ∙ ap (λ (u : Unix). record u { line = (typed w.files.line byte).terminal }) (sym (rested_unix at regs w rested)) in
         let board : board_of t w.procs.images ≡ l.board = board_is ∙ ap (λ (x : Logged Unix). x.board) (sym l_is) in
-        λ i. record { unix = unix i; board = board i; is_fresh = is_fresh at }
+        λ i. record { unix = unix i; board = board i }
 
     abbrev turn_by : Terminal → Turn
     turn_by line = settles m (record m.unix { line = (typed line byte).terminal })
@@ -228,7 +202,7 @@ module _ (at : Stage) (regs : Regs) (w : World) (rested : IsRested at w) (t : Ta
     (board_is : board_of t w.procs.images ≡ (logged {W = Unix} (board_in w) pass_effects).board) where
   pub pass_rested : IsRested at (with_table w t)
   pass_rested =
-      let was = (some_good at w rested).1 in
+      let was = (some_good at w rested) in
       rested_table w t (pass_agree w.procs.rows w.procs.images w.procs.table t table_is good was.agree)
       (λ s e above. let none : t.running ≡ None = ap (λ (x : Table). x.running) table_is ∙ pass_nobody w.procs.table in absurd (cc (none, e))) at rested
 

@@ -56,7 +56,7 @@ module _ (w1 : World) (s : ℕ) (ready : IsReady w1 s) where
   pub end_log : (block : ℕ) × ((parent : ℕ) × (came w1.procs ends ≡ of_end (board_in w1) s block parent))
   unfolding exit_now end_proc
   end_log =
-      let fit = found (swap_fit (board_in w1) 1) (swap_free w1 _ ready.good) in
+      let fit = found (swap_fit (board_in w1) 1) (swap_free w1 ready.good) in
       (fit.0, (_, logged_exit (board_in w1) s fit.0 _ _ fit.1))
 
   pub end_answer : (r : Result Answer PanicKind) → r ≡ answered (came w1.procs ends).stop ends.answer → r ≡ Ok ends.answer

@@ -18,8 +18,7 @@ use Rattle.sys_procs.proofs.Slots.{process_in_slot, fifty_processes}
 use Rattle.sys_procs.proofs.Places.{same_core_fit}
 use Rattle.unix_core.specs.declared.world.World.{World}
 use Rattle.unix_core.specs.Unix.{process_of}
-use Rattle.unix_core.specs.Calls.{is_full}
-use Rattle.unix_core.specs.Turn.{has_room}
+use Rattle.unix_core.specs.Calls.{is_full, has_room}
 use Rattle.unix_core.specs.Parts.{unix_of, board_in, IsReady}
 use Rattle.unix_core.proofs.WorldLemmas.{slot_is}
 use Rattle.unix_core.proofs.ForkLemmas.{fork_place}

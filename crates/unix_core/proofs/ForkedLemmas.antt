@@ -21,7 +21,7 @@ use Rattle.unix_core.specs.declared.world.World.{World}
 use Rattle.unix_core.specs.Unix.{no_texts, process_of}
 use Rattle.unix_core.specs.References.{is_in, is_text_of, referrers}
 use Rattle.unix_core.specs.Calls.{with_world}
-use Rattle.unix_core.specs.Parts.{unix_of, numbers_in, none_more, named, refs, IsReady}
+use Rattle.unix_core.specs.Parts.{unix_of, numbers_in, named, refs, IsReady}
 use Rattle.unix_core.proofs.ReferenceLemmas.{slot_within, in_within, numbers_living, in_living, named_set, in_set}
 use Rattle.unix_core.proofs.WorldLemmas.{ready_alive, slot_is, is_living, files_open, fifteen_each}
 use Rattle.unix_core.proofs.AreaLemmas.{held_within}
@@ -32,7 +32,7 @@ use Rattle.unix_core.proofs.ForkLog.{fork_row, seat, seat_child, seat_other}
 
 module _ (w now : World) (s : ℕ) (ready : IsReady w s) (f : IsFork w s) (agree : AreProcs now.procs)
     (state : handed now.procs now.files.tree.nodes ≡ (fork_row w s ready f).state) (shown : board now.procs ≡ board_of (seat w s ready f) w.procs.images)
-    (slots : length now.procs.images.slots ≡ 50) (table : now.files.table ≡ shared w.files.table (process_of (unix_of w) s).u.files)
+    (slots : length now.procs.images.slots ≡ 50) (table : now.files.table ≡ shared w.files.table (process_of (unix_of w) s).u.files) (marks : now.files.tree.marks ≡ w.files.tree.marks)
     (line : now.files.line ≡ w.files.line) (tape : now.tape ≡ w.tape) (core : now.core ≡ w.core) where
   abbrev ps : List (Option Process)
   ps = (unix_of w).processes
@@ -81,7 +81,7 @@ module _ (w now : World) (s : ℕ) (ready : IsReady w s) (f : IsFork w s) (agree
         processes = (state i).processes;
         files = table i;
         pipes = [];
-        texts = no_texts;
+        texts = (state i).texts;
         line = line i;
         clock = (state i).clock;
         switches = switches i;
@@ -133,7 +133,7 @@ module _ (w now : World) (s : ℕ) (ready : IsReady w s) (f : IsFork w s) (agree
   -- each process that lives has fifteen numbers
   fifteen_numbers : (r : ℕ) (x : Process) → get_or after r None ≡ Some x → x.is_zombie ≡ false → length x.u.files ≡ 15
   fifteen_numbers r x there lives =
-      let parent : length p.u.files ≡ 15 = fifteen_each w none_more ready.good s p (slot_is w s ready) (is_living w s ready) in
+      let parent : length p.u.files ≡ 15 = fifteen_each w ready.good s p (slot_is w s ready) (is_living w s ready) in
       elim (cases_eq r f.child) [
         | inl here ↦
             let is : Some x ≡ Some q = sym there ∙ ap (λ n. get_or after n None) here ∙ child_there in
@@ -143,7 +143,7 @@ module _ (w now : World) (s : ℕ) (ready : IsReady w s) (f : IsFork w s) (agree
               let is : Some x ≡ Some (past_word p) = sym there ∙ ap (λ n. get_or after n None) here ∙ parent_after in
               ap (λ o. length (unwrap_or o no_process).u.files) is ∙ parent
           | inr not_parent ↦
-              fifteen_each w none_more ready.good r x (sym (other_after r not_child not_parent) ∙ there) lives
+              fifteen_each w ready.good r x (sym (other_after r not_child not_parent) ∙ there) lives
         ]
       ]
 
@@ -227,6 +227,7 @@ module _ (w now : World) (s : ℕ) (ready : IsReady w s) (f : IsFork w s) (agree
           let new : referrers (unix_of now) ino ≡ count_by (is_of ino) now.files.table + count_by (is_in ino) (unix_of now).processes + count_by (is_text_of ino) no_texts + (if ino == 1 then 1 else 0) = refl in
           omega (arith, refs_are, before, files, dirs, old, new);
       running = λ r is up. running r is;
+      marks = marks ∙ ready.good.marks;
       entries = ap (λ t. t.entry_room) tape ∙ ready.good.entries;
       bytes = ap (λ t. t.byte_room) tape ∙ ready.good.bytes;
       core = core ∙ ready.good.core ∙ sym clicks;

@@ -23,8 +23,7 @@ use Rattle.unix_core.specs.declared.ending.Ending.{Ending}
 use Rattle.unix_core.specs.declared.ending.Ending.TheVariants.{NoRoom}
 use Rattle.unix_core.specs.Unix.{Unix, process_of}
 use Rattle.unix_core.specs.Steps.{Steps, no_room}
-use Rattle.unix_core.specs.Calls.{answers, came_by, shares, forks, fork_if_room, is_full, with_world}
-use Rattle.unix_core.specs.Turn.{has_room}
+use Rattle.unix_core.specs.Calls.{answers, came_by, shares, forks, fork_if_room, is_full, with_world, has_room}
 use Rattle.unix_core.specs.Parts.{unix_of, board_in, IsReady, HasCome, ended_as}
 use Rattle.unix_core.proofs.LoggedLemmas.{over, logged_over}
 use Rattle.unix_core.proofs.MildLemmas.{IsMild, mild_comes, near_change}
@@ -39,7 +38,7 @@ shared_by u s c = record (came_by u s c) { unix = record (came_by u s c).unix { 
 
 -- the whole call, by what that call comes to
 abbrev pub whole_fork : World → ℕ → Steps
-whole_fork w s = fork_if_room (has_room (board_in w)) (unix_of w) s
+whole_fork w s = fork_if_room (board_in w) (unix_of w) s
 
 pub whole_is : (w : World) (s : ℕ) → IsReady w s → IsFileSystem w.files.tree.nodes → CanFork w s → whole_fork w s ≡ shared_by (unix_of w) s (fork_one (given w) s)
 whole_is w s ready form room =
@@ -113,7 +112,7 @@ module _ (w : World) (s : ℕ) (ready : IsReady w s) (room : CanFork w s) where
 module _ (w now : World) (s : ℕ) (ready : IsReady w s) (room : CanFork w s) (agree : AreProcs now.procs)
     (state : handed now.procs now.files.tree.nodes ≡ left_by (came w.procs (fork_one (given w) s)).stop (fork_one (given w) s).state)
     (shown : board now.procs ≡ (came w.procs (fork_one (given w) s)).board) (slots : length now.procs.images.slots ≡ 50)
-    (answer : Answer) (is : answer ≡ (fork_one (given w) s).answer) (table : now.files.table ≡ shares w.files.table (process_of (unix_of w) s).u.files answer)
+    (answer : Answer) (is : answer ≡ (fork_one (given w) s).answer) (table : now.files.table ≡ shares w.files.table (process_of (unix_of w) s).u.files answer) (marks : now.files.tree.marks ≡ w.files.tree.marks)
     (line : now.files.line ≡ w.files.line) (tape : now.tape ≡ w.tape) (core : now.core ≡ w.core) where
   left : handed now.procs now.files.tree.nodes ≡ (fork_one (given w) s).state
   left = state ∙ ap (λ o. left_by o (fork_one (given w) s).state) (never_stops w s ready room)
@@ -125,13 +124,13 @@ module _ (w now : World) (s : ℕ) (ready : IsReady w s) (room : CanFork w s) (a
         (left ∙ ap (λ (c : Comes). c.state) (refused_is w s ready full))
         (refused_board w s ready full (board now.procs) shown)
         slots (table ∙ ap (shares w.files.table (process_of (unix_of w) s).u.files) (is ∙ ap (λ (c : Comes). c.answer) (refused_is w s ready full)))
-        line tape core
+        marks line tape core
     | inr f ↦
         forked_ready w now s ready f agree
         (left ∙ ap (λ (c : Comes). c.state) (row_is w s ready f))
         (fork_board w s ready f (board now.procs) shown)
         slots (table ∙ ap (shares w.files.table (process_of (unix_of w) s).u.files) (is ∙ ap (λ (c : Comes). c.answer) (row_is w s ready f)))
-        line tape core
+        marks line tape core
   ]
 
   pub fork_come : (fin : World) (e : Ending) → IsFileSystem w.files.tree.nodes → e ≡ (answers (unix_of now) s answer).ending
@@ -144,7 +143,7 @@ module _ (w now : World) (s : ℕ) (ready : IsReady w s) (room : CanFork w s) (a
         let board_is = refused_board w s ready full (board now.procs) shown in
         let now_is : unix_of now ≡ with_world (unix_of w) c.state =
         came_unix w now s ready c (refused_mild w s ready full) agree (left ∙ ap (λ (x : Comes). x.state) none) board_is
-        slots (table ∙ ap (shares w.files.table (process_of (unix_of w) s).u.files) its_answer) line tape core in
+        slots (table ∙ ap (shares w.files.table (process_of (unix_of w) s).u.files) its_answer) marks line tape core in
         let come : HasCome (board_in w) (shared_by (unix_of w) s c) e fin =
         came_come w fin s c (refused_mild w s ready full) e
         (ends ∙ (λ i. (answers (now_is i) s (its_answer i)).ending)) (unix ∙ (λ i. (answers (now_is i) s (its_answer i)).unix)) (same ∙ board_is) in
@@ -156,7 +155,7 @@ module _ (w now : World) (s : ℕ) (ready : IsReady w s) (room : CanFork w s) (a
         let its_answer : answer ≡ c.answer = is ∙ ap (λ (x : Comes). x.answer) row in
         let board_is = fork_board w s ready f (board now.procs) shown in
         let now_is = forked_unix w now s ready f agree (left ∙ ap (λ (x : Comes). x.state) row) board_is
-        slots (table ∙ ap (shares w.files.table (process_of (unix_of w) s).u.files) its_answer) line tape core in
+        slots (table ∙ ap (shares w.files.table (process_of (unix_of w) s).u.files) its_answer) marks line tape core in
         let come : HasCome (board_in w) (shared_by (unix_of w) s c) e fin =
         forked_come w s ready f fin (unix_of now) e now_is
         (ends ∙ ap (λ (a : Answer). (answers (unix_of now) s a).ending) its_answer)

@@ -20,24 +20,22 @@ use Rattle.unix_core.specs.declared.machine.Stage.TheVariants as stage
 use Rattle.unix_core.specs.Unix.{process_of, with_process}
 use Rattle.unix_core.specs.Turn.{is_user}
 use Rattle.unix_core.specs.Outside.{mode_by, mode_of, timed_area, timed, charged}
-use Rattle.unix_core.specs.Parts.{unix_of, board_in, holding, with_regs, system_at, none_more, one_more, IsGood, IsReady, IsFresh, IsUser, IsRested, IsKernel}
+use Rattle.unix_core.specs.Parts.{unix_of, board_in, holding, with_regs, system_at, IsGood, IsReady, IsUser, IsRested, IsKernel}
 use Rattle.unix_core.proofs.LoanLemmas.{area_core}
-use Rattle.unix_core.proofs.PutLemmas.{IsLikeArea, with_images, alive_slot, unix_put, good_put, fresh_put}
+use Rattle.unix_core.proofs.PutLemmas.{IsLikeArea, with_images, alive_slot, unix_put, good_put}
 
 -- Where no registers stand apart, the Unix is the world's.
 pub rested_unix : (at : Stage) (regs : Regs) (w : World) → IsRested at w → with_regs at regs (unix_of w) ≡ unix_of w
-rested_unix (stage.Fresh init) regs w r = refl
 rested_unix (stage.Running s) regs w r = absurd (r.apart s refl)
 rested_unix stage.Resting regs w r = refl
 
-pub some_good : (at : Stage) (w : World) → IsRested at w → (more : ℕ → ℕ) × IsGood w more
-some_good (stage.Fresh init) w r = (one_more init, (r.fresh init refl).good)
+pub some_good : (at : Stage) (w : World) → IsRested at w → IsGood w
 some_good (stage.Running s) w r = absurd (r.apart s refl)
-some_good stage.Resting w r = (none_more, r.good refl)
+some_good stage.Resting w r = (r.good refl)
 
 -- who runs lives
-pub good_alive : (w : World) (more : ℕ → ℕ) (s : ℕ) → IsGood w more → w.procs.table.running ≡ Some s → 0 < s → IsAlive w.procs s
-good_alive w more s good runs user = record {
+pub good_alive : (w : World) (s : ℕ) → IsGood w → w.procs.table.running ≡ Some s → 0 < s → IsAlive w.procs s
+good_alive w s good runs user = record {
   agree = good.agree;
   above = user;
   below = subst (λ o. MatchOption o ⊤ (λ r. r < 50)) runs good.agree.table.running;
@@ -45,7 +43,7 @@ good_alive w more s good runs user = record {
 }
 
 pub rested_alive : (at : Stage) (w : World) (s : ℕ) → IsRested at w → w.procs.table.running ≡ Some s → 0 < s → IsAlive w.procs s
-rested_alive at w s r runs user = let good = some_good at w r in good_alive w good.0 s good.1 runs user
+rested_alive at w s r runs user = good_alive w s (some_good at w r) runs user
 
 -- The registers go back.
 pub put_is : (v : UArea) (regs : Regs) (codes : regs.cc < 16) (p : Process) → v ≡ p.u
@@ -72,20 +70,19 @@ module _ (w : World) (s : ℕ) (regs : Regs) (ready : IsReady w s) (u : UArea) (
   p = process_of (unix_of w) s
 
   alive : IsAlive w.procs s
-  alive = good_alive w none_more s ready.good ready.runs ready.user
+  alive = good_alive w s ready.good ready.runs ready.user
 
   pub back_system : system_at stage.Resting regs (with_images w k) ≡ system_at (stage.Running s) regs w
   back_system =
       let unix : unix_of (with_images w (with_area w.procs.images s u)) ≡ with_process (unix_of w) s (holding regs p) =
       unix_put w s u alive ∙ ap (λ (v : UArea). with_process (unix_of w) s (record p { u = v })) is in
       ap (λ l. system_at stage.Resting regs (with_images w l)) kept
-      ∙ (λ i. record { unix = unix i; board = record (board_in w) { core = area_core w.procs.images s u i }; is_fresh = false })
+      ∙ (λ i. record { unix = unix i; board = record (board_in w) { core = area_core w.procs.images s u i } })
 
   pub back_rested : IsRested stage.Resting (with_images w k)
   back_rested = record {
     apart = λ r e. absurd (cc e);
-    fresh = λ init e. absurd (cc e);
-    good = λ e. subst (λ l. IsGood (with_images w l) none_more) (sym kept) (good_put w s u alive (like_held u regs p is) none_more ready.good);
+    good = λ e. subst (λ l. IsGood (with_images w l)) (sym kept) (good_put w s u alive (like_held u regs p is) ready.good);
   }
 
 -- The registers are taken out.
@@ -94,7 +91,7 @@ module _ (w : World) (s : ℕ) (regs : Regs) (ready : IsReady w s) (r : regs.r �
   its = process_of (unix_of w) s
 
   own : area_of w.procs.images s ≡ its.u
-  own = area_here w.procs s (good_alive w none_more s ready.good ready.runs ready.user)
+  own = area_here w.procs s (good_alive w s ready.good ready.runs ready.user)
 
   held_same : holding regs its ≡ its
   held_same = ap (λ (v : UArea). record its { u = v }) (one_area (holding regs its).u its.u
@@ -103,23 +100,22 @@ module _ (w : World) (s : ℕ) (regs : Regs) (ready : IsReady w s) (r : regs.r �
 
   pub out_system : (old : Regs) → system_at (stage.Running s) regs w ≡ system_at stage.Resting old w
   out_system old =
-      let slot = alive_slot w s (good_alive w none_more s ready.good ready.runs ready.user) in
+      let slot = alive_slot w s (good_alive w s ready.good ready.runs ready.user) in
       let same : set (unix_of w).processes s (Some (holding regs its)) ≡ (unix_of w).processes =
       ap (λ (q : Process). set (unix_of w).processes s (Some q)) held_same
       ∙ ap (set (unix_of w).processes s) (sym slot) ∙ set-get_or (unix_of w).processes s None in
-      λ i. record { unix = record (unix_of w) { processes = same i }; board = board_in w; is_fresh = false }
+      λ i. record { unix = record (unix_of w) { processes = same i }; board = board_in w }
 
 abbrev slot_or : Stage → ℕ
-slot_or (stage.Fresh init) = 0
 slot_or (stage.Running s) = s
 slot_or stage.Resting = 0
 
 pub runs_kernel : (w : World) (s : ℕ) → IsUser s w → IsKernel (stage.Running s) w
 runs_kernel w s user = record {
-  fresh = λ init e. absurd (cc e);
   running = λ r e. subst (λ x. IsUser x w) (ap slot_or e) user;
   resting = λ e. absurd (cc e);
   settled = λ r e. user.settled;
+  idle = λ none. let runs = user.ready.runs in absurd (cc (none, runs));
   calls = λ r e. absurd (cc e);
 }
 
@@ -132,10 +128,10 @@ one_of (Some s) = s
 
 pub calls_kernel : (w : World) (s : ℕ) → IsReady w s → settle w.procs.table ≡ None → is_user (process_of (unix_of w) s) ≡ false → IsKernel stage.Resting w
 calls_kernel w s ready settled calls = record {
-  fresh = λ init e. absurd (cc e);
   running = λ r e. absurd (cc e);
   resting = λ e. ready.good;
   settled = λ r e. settled;
+  idle = λ none. let runs = ready.runs in absurd (cc (none, runs));
   calls = λ r e runs above. subst (λ x. is_user (process_of (unix_of w) x) ≡ false) (ap one_of (sym ready.runs ∙ runs)) calls;
 }
 
@@ -186,6 +182,5 @@ module _ (mode : Mode) (at : Stage) (w : World) (s : ℕ) (rested : IsRested at 
   pub charge_rested : IsRested at (with_images w k)
   charge_rested = record {
     apart = rested.apart;
-    fresh = λ init e. subst (λ l. IsFresh init (with_images w l)) (sym kept) (fresh_put w s u lives charge_like init (rested.fresh init e));
-    good = λ e. subst (λ l. IsGood (with_images w l) none_more) (sym kept) (good_put w s u lives charge_like none_more (rested.good e));
+    good = λ e. subst (λ l. IsGood (with_images w l)) (sym kept) (good_put w s u lives charge_like (rested.good e));
   }

@@ -10,7 +10,7 @@ use Rattle.v6_base.specs.declared.entry.Chan.{Chan}
 use Rattle.v6_base.specs.declared.entry.Entry.{Entry}
 use Rattle.v6_base.specs.declared.entry.Entry.TheVariants as line
 use Rattle.pick_rules.specs.declared.row.TableRow.{TableRow}
-use Rattle.pick_rules.specs.Table.{row_at, empty_row}
+use Rattle.pick_rules.specs.Table.{row_at, empty_row, is_in_core}
 use Rattle.pick_rules.specs.Board.{Board}
 use Rattle.pick_rules.specs.Apply.{applied}
 use Rattle.pick_rules.specs.Effects.{Show}
@@ -120,6 +120,23 @@ pub record SameBoard (b now : Board) : Type 0 where
   pub core : now.core ≡ b.core
   pub running : now.table.running ≡ b.table.running
   pub places : (r : ℕ) → ((row_at now.table r).place ≡ None) ⊎ ((row_at now.table r).place ≡ (row_at b.table r).place)
+
+-- A board after lines that may also give an image a place in core.
+pub record MovedBoard (b now : Board) : Type 0 where
+  pub core : now.core ≡ b.core
+  pub running : now.table.running ≡ b.table.running
+  pub places : (r : ℕ) → ((row_at now.table r).place ≡ None)
+      ⊎ (((row_at now.table r).place ≡ (row_at b.table r).place) ⊎ (is_in_core (row_at now.table r).place ≡ true))
+
+pub none_moved : (b now : Board) → SameBoard b now → MovedBoard b now
+none_moved b now same = record {
+  core = same.core;
+  running = same.running;
+  places = λ r. elim (same.places r) [
+    | inl none ↦ inl none
+    | inr is ↦ inr (inl is)
+  ];
+}
 
 board_trans : (a b c : Board) → SameBoard a b → SameBoard b c → SameBoard a c
 board_trans a b c k l = record {

@@ -1,28 +1,31 @@
 -- Processes are private: what each event leaves of those whose turn it isn't.
 use Rattle.std.proofs.Common.{◌≢◌, ℕ, zero, suc, Bool, true, false, ◌||◌, ◌==◌, nat_lt, if◌then◌else◌, List, ◌∷◌, ◌++◌, set, map, Option, Some, None, sym, ap}
-use Rattle.std.specs.Prelude.{⊤, MatchOption, Result, Ok, Err}
+use Rattle.std.specs.Prelude.{⊤, MatchOption, slice_index}
 use Rattle.v6_base.specs.Trace.{Log, sent}
 use Rattle.v6_base.specs.declared.answer.Answer.{Answer}
 use Rattle.v6_base.specs.declared.answer.Answer.TheVariants.{Ret, Fail, Sleep}
 use Rattle.v6_base.specs.declared.entry.Chan.{Chan}
 use Rattle.v6_base.specs.declared.entry.Chan.TheVariants.{Keys, Tout}
-use Rattle.v6_base.specs.declared.errno.Errno.{Errno}
 use Rattle.pdp_step.specs.declared.outcome.Outcome.{Outcome}
 use Rattle.pdp_step.specs.declared.outcome.Outcome.TheVariants.{Next, Call, Fault}
 use Rattle.pdp_step.specs.Instruction.{Stepped, instr}
+use Rattle.pdp_step.specs.declared.outcome.Kind.{Kind}
+use Rattle.pdp_step.specs.declared.outcome.Kind.TheVariants as kind
 use Rattle.pick_rules.specs.declared.row.Mode.{Mode}
+use Rattle.pick_rules.specs.Board.{Board}
 use Rattle.pick_rules.specs.Effects.{Show}
-use Rattle.fs_codec.specs.Store.{Node}
-use Rattle.fs_tree.specs.Finding.{Finding, Inodes}
 use Rattle.image_keep.specs.Kept.{clicks_of}
 use Rattle.sys_files.specs.Did.{Did}
 use Rattle.sys_files.specs.Descriptors.{Closing}
-use Rattle.sys_files.specs.Handed.{node_in}
 use Rattle.sys_files.specs.Moving.{resume_read}
 use Rattle.tty_line.specs.Input.{Typed, typed}
 use Rattle.u_area.specs.declared.area.UArea.{UArea}
 use Rattle.sys_procs.specs.Process.{Process, register, image_of}
+use Rattle.sys_procs.specs.declared.halt.Halt.{Halt}
 use Rattle.sys_procs.specs.Comes.{Comes}
+use Rattle.sys_procs.specs.Tried.{Tried}
+use Rattle.sys_procs.specs.Break.{break_at, grow}
+use Rattle.sys_procs.specs.ExecFile.{exec_file}
 use Rattle.sys_procs.specs.Times.{pending_sleep}
 use Rattle.sys_procs.specs.Wait.{pending_wait}
 use Rattle.sys_procs.specs.Exit.{exit_now}
@@ -34,14 +37,13 @@ use Rattle.unix_core.specs.declared.ending.Ending.TheVariants as ending
 use Rattle.unix_core.specs.Unix.{Unix, System, process_of, with_process}
 use Rattle.unix_core.specs.Steps.{Steps, quietly, returns, not_built, no_room}
 use Rattle.unix_core.specs.Errors.{error_number}
-use Rattle.unix_core.specs.Calls.{FileCall, ProcessCall, handed_of, with_handed, world_of, with_world, with_area, entered_area, words_passed, asked, given_area, refused_area, answers, file_call, process_call, did_by, came_by, forks, is_full, closes_all, exits, by_process_row, by_file_row, does_call, count_of, does_if_built, pending_read, resumed}
-use Rattle.unix_core.specs.Exec.{init_in, inodes_in, exec_node, exec_found, exec_init}
-use Rattle.unix_core.specs.Form.{is_program}
-use Rattle.unix_core.specs.Turn.{machine_of, with_machine, comes_to, instruction, is_user, has_room, turn, end_effects, turn_of, pass_effects, pass_of, slot_of}
+use Rattle.unix_core.specs.Calls.{FileCall, ProcessCall, handed_of, with_handed, world_of, with_world, with_area, entered_area, words_passed, asked, given_area, refused_area, answers, file_call, process_call, did_by, came_by, forks, is_full, has_room, closes_all, exits, by_process_row, by_file_row, halted_as, unless_halted, tried_by, grows, grown_by, does_call, count_of, does_if_built, pending_read, resumed}
+use Rattle.unix_core.specs.Turn.{machine_of, with_machine, faults, comes_to, instruction, is_user, turn, end_effects, turn_of, pass_effects, pass_of, slot_of}
 use Rattle.unix_core.specs.Outside.{mode_of, timed, charged, ticked, is_due, wakes, tick_entry, tick_of, calls, typed_of}
 use Rattle.unix_core.specs.Runs.{Slot, Tick, Byte, Switch, event_of, start_of}
 use Rattle.unix_core.specs.Private.{IsUndisturbed, AllUndisturbed, OthersUndisturbed}
 use Rattle.unix_core.proofs.PrivateSlots.{Spared, AllCarry, spared_same, spared_then, spared_other, spared_timed, left_carried, carry_shown, carry_both, carry_lifted}
+use Rattle.unix_core.proofs.PrivateExec.{IsSparingTried, sparing_exec, sparing_break, sparing_grow}
 use Rattle.unix_core.proofs.PrivateRows.{IsSparing, IsSparingRow, sparing_row, sparing_fork, sparing_exit, sparing_resume}
 
 -- a Unix in which the process of a slot lives on
@@ -120,36 +122,64 @@ module _ (ps : List (Option Process)) (r s : ℕ) (other : r ≢ s) where
     sparing_if true x y k l = k
     sparing_if false x y k l = l
 
-    sparing_does : (has_room : ℕ → Bool) (number : ℕ) (args : List ℕ)
-        → AreSparing ps r (does_call has_room u s number args)
-    sparing_does has_room number args =
+    sparing_unless : (o : Option Halt) (v : Unix) (x : Steps) → Spared ps v.processes r → AreSparing ps r x → AreSparing ps r (unless_halted o v x)
+    sparing_unless None v x k l = l
+    sparing_unless (Some halt) v x k l = sparing_quiet v (halted_as halt) k
+
+    sparing_tried : (t : Tried) → IsSparing ps r t.comes → AreSparing ps r (tried_by u s t)
+    sparing_tried t sparing = sparing_unless t.halt (with_world u t.comes.state) _ sparing.state (sparing_came t.comes sparing)
+
+    sparing_grows : (c : Comes) → IsSparing ps r c → AreSparing ps r (grows u c)
+    sparing_grows c sparing = record {
+      effects = carry_lifted (with_world u) (HasSpared ps r) c.effects sparing.effects;
+      unix = sparing.state;
+    }
+
+    sparing_grown : (o : Option Tried) → MatchOption o ⊤ (IsSparingTried ps r s other) → AreSparing ps r (grown_by u o)
+    sparing_grown None sparing = sparing_quiet u ending.NotBuilt h
+    sparing_grown (Some t) sparing = sparing_unless t.halt (with_world u t.comes.state) _ sparing.state (sparing_grows t.comes sparing)
+
+    sparing_does : (b : Board) (number : ℕ) (args : List ℕ) → AreSparing ps r (does_call b u s number args)
+    sparing_does b number args =
+        let name = slice_index args 0 in
+        let list = slice_index args 1 in
         sparing_if (number == 0) _ _ (sparing_quiet u ending.Trapped h)
         (sparing_if (number == 1) _ _ sparing_exits
-        (sparing_if (number == 2) _ _ (sparing_room (is_full u || has_room (clicks_of (process_of u s).u)))
-        (sparing_file (file_call number) (process_call number) args (sparing_row ps r s other number))))
+        (sparing_if (number == 2) _ _ (sparing_room (is_full u || has_room b (clicks_of (process_of u s).u)))
+        (sparing_if (number == 11) _ _ (sparing_tried (exec_file b (world_of u) s name list) (sparing_exec ps r s other b (world_of u) name list h))
+        (sparing_if (number == 17) _ _ (sparing_tried (break_at b (world_of u) s name) (sparing_break ps r s other b (world_of u) name h))
+        (sparing_file (file_call number) (process_call number) args (sparing_row ps r s other number))))))
 
   module _ (u : Unix) (h : Spared ps u.processes r) where
-    sparing_built : (has_room : ℕ → Bool) (a : Asked) (o : Option ℕ) → AreSparing ps r (does_if_built has_room u s a o)
-    sparing_built has_room a None = sparing_quiet u ending.NotBuilt h
-    sparing_built has_room a (Some count) =
+    sparing_built : (b : Board) (a : Asked) (o : Option ℕ) → AreSparing ps r (does_if_built b u s a o)
+    sparing_built b a None = sparing_quiet u ending.NotBuilt h
+    sparing_built b a (Some count) =
         let entered : Unix = with_area u s (entered_area (words_passed a count)) in
-        sparing_does entered (spared_area u (entered_area (words_passed a count)) h) has_room a.number a.args
+        sparing_does entered (spared_area u (entered_area (words_passed a count)) h) b a.number a.args
 
-    sparing_outcome : (has_room : ℕ → Bool) (o : Outcome) → AreSparing ps r (comes_to has_room u s o)
-    sparing_outcome has_room Next = sparing_quiet u ending.Next h
-    sparing_outcome has_room (Call number) =
+    sparing_faults : (b : Board) (k : Kind) → AreSparing ps r (faults b u s k)
+    sparing_faults b kind.Odd = sparing_quiet u ending.NotBuilt h
+    sparing_faults b (kind.Segment sp) = sparing_grown u h (grow b (world_of u) s sp) (sparing_grow ps r s other b (world_of u) sp h)
+    sparing_faults b (kind.Illegal word) = sparing_quiet u ending.NotBuilt h
+    sparing_faults b kind.Bpt = sparing_quiet u ending.NotBuilt h
+    sparing_faults b kind.Iot = sparing_quiet u ending.NotBuilt h
+    sparing_faults b kind.Emt = sparing_quiet u ending.NotBuilt h
+
+    sparing_outcome : (b : Board) (o : Outcome) → AreSparing ps r (comes_to b u s o)
+    sparing_outcome b Next = sparing_quiet u ending.Next h
+    sparing_outcome b (Call number) =
         let p : Process = process_of u s in
         let a : Asked = asked (image_of p) (register p 7) number in
-        sparing_built has_room a (count_of a.number)
-    sparing_outcome has_room (Fault kind) = sparing_quiet u ending.NotBuilt h
+        sparing_built b a (count_of a.number)
+    sparing_outcome b (Fault k) = sparing_faults b k
 
   -- turns
   module _ (u : Unix) (h : Spared ps u.processes r) where
-    sparing_instruction : (has_room : ℕ → Bool) → AreSparing ps r (instruction has_room u s)
-    sparing_instruction has_room =
+    sparing_instruction : (b : Board) → AreSparing ps r (instruction b u s)
+    sparing_instruction b =
         let p : Process = process_of u s in
         let stepped : Stepped = instr (machine_of p) in
-        sparing_outcome (with_process u s (with_machine p stepped.machine)) (spared_put u _ h) has_room stepped.outcome
+        sparing_outcome (with_process u s (with_machine p stepped.machine)) (spared_put u _ h) b stepped.outcome
 
     sparing_resumed : AreSparing ps r (resumed u s)
     sparing_resumed =
@@ -158,18 +188,6 @@ module _ (ps : List (Option Process)) (r s : ℕ) (other : r ≢ s) where
         (sparing_if u h ((pending == pending_sleep) || (pending == pending_wait)) _ _
         (sparing_came u h (resume_proc (world_of u) s) (sparing_resume ps r s other (world_of u) h))
         (sparing_quiet u ending.NotBuilt h))
-
-    sparing_node : (n : Inodes) (ino : ℕ) (node : Node) → AreSparing ps r (exec_node u s n ino node)
-    sparing_node n ino node =
-        sparing_if u h (is_program node) _ _ (record { effects = (tt, (h, tt)); unix = spared_put u _ h })
-        (sparing_quiet u ending.NotBuilt h)
-
-    sparing_found : (found : Finding ℕ) (a : Result ℕ Errno) → AreSparing ps r (exec_found u s found a)
-    sparing_found found (Ok ino) = sparing_node found.inodes ino (node_in found.inodes.store ino)
-    sparing_found found (Err e) = sparing_quiet u ending.NotBuilt h
-
-    sparing_exec : AreSparing ps r (exec_init u s)
-    sparing_exec = let found : Finding ℕ = init_in (inodes_in u) in sparing_found found found.answer
 
   carry_end : (e : Ending) → AllCarry (HasSpared ps r) (end_effects s e)
   carry_end ending.Next = tt
@@ -189,9 +207,8 @@ module _ (m : System) (r : ℕ) where
       let u : Unix = m.unix in
       let same = spared_same before r in
       let h : AreSparing before r (turn m s) =
-      sparing_if before r s other u same m.is_fresh _ _ (sparing_exec before r s other u same)
-      (sparing_if before r s other u same (is_user (process_of u s)) _ _
-      (sparing_instruction before r s other u same (has_room m.board)) (sparing_resumed before r s other u same)) in
+      sparing_if before r s other u same (is_user (process_of u s)) _ _
+      (sparing_instruction before r s other u same m.board) (sparing_resumed before r s other u same) in
       let done : Steps = turn m s in
       left_carried (HasSpared before r) m.board (done.effects ++ end_effects s done.ending) done.unix
       (carry_both (HasSpared before r) done.effects (end_effects s done.ending) h.effects

@@ -60,19 +60,19 @@ free_empty w child found q is = absurd (
     cc never)
 
 module _ (ps : List (Option Process)) (r s : ℕ) (other : r ≢ s) where
-  spared_change : (w : World) (rule : Process → Process) → Spared ps w.processes r
+  pub spared_change : (w : World) (rule : Process → Process) → Spared ps w.processes r
       → Spared ps (change w s rule).processes r
   spared_change w rule h =
       spared_then ps w.processes (change w s rule).processes r h
       (spared_other w.processes s r (Some (rule (process_of w s))) other)
 
-  sparing_comes : (w : World) (a : Answer) → Spared ps w.processes r → IsSparing ps r (comes w a)
+  pub sparing_comes : (w : World) (a : Answer) → Spared ps w.processes r → IsSparing ps r (comes w a)
   sparing_comes w a h = record { effects = tt; state = h }
 
-  sparing_logs : (e : Entry) (rest : Comes) → IsSparing ps r rest → IsSparing ps r (logs e rest)
+  pub sparing_logs : (e : Entry) (rest : Comes) → IsSparing ps r rest → IsSparing ps r (logs e rest)
   sparing_logs e rest h = record { effects = (tt, h.effects); state = h.state }
 
-  sparing_if : (b : Bool) (x y : Comes) → IsSparing ps r x → IsSparing ps r y → IsSparing ps r (if b then x else y)
+  pub sparing_if : (b : Bool) (x y : Comes) → IsSparing ps r x → IsSparing ps r y → IsSparing ps r (if b then x else y)
   sparing_if true x y h k = h
   sparing_if false x y h k = k
 

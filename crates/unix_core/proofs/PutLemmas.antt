@@ -1,6 +1,5 @@
 -- A process's u area is another one, with the same sizes, numbers of files and directory: what belongs together still does.
-use Rattle.std.proofs.Common.{◌≡◌, ◌≤◌, ◌+◌, ◌==◌, if◌then◌else◌, cond, ℕ, true, false, List, length, get_or, set, map, min, count_by, Some, None, refl, sym, ap, ◌∙◌, subst, inl, inr, arith}
-use Rattle.std.specs.List.{range_with_len}
+use Rattle.std.proofs.Common.{◌≡◌, ◌+◌, ◌==◌, if◌then◌else◌, cond, ℕ, true, false, length, get_or, set, min, count_by, Some, None, refl, sym, ap, ◌∙◌, subst, inl, inr, arith}
 use Rattle.std.proofs.lemmas.Bool.{cases_eq}
 use Rattle.u_area.specs.declared.area.UArea.{UArea}
 use Rattle.pick_rules.specs.Table.{row_at, is_in_core}
@@ -17,9 +16,8 @@ use Rattle.sys_procs.proofs.Agreement.{agree_but}
 use Rattle.sys_procs.proofs.Alive.{SameSizes, is_here}
 use Rattle.unix_core.specs.declared.world.World.{World}
 use Rattle.unix_core.specs.Unix.{no_texts, process_of, with_process}
-use Rattle.unix_core.specs.References.{is_in, is_text_of, referrers, references_of}
-use Rattle.unix_core.specs.Exec.{init_in}
-use Rattle.unix_core.specs.Parts.{unix_of, named, numbers_in, one_more, IsGood, IsFresh}
+use Rattle.unix_core.specs.References.{is_in, is_text_of, referrers}
+use Rattle.unix_core.specs.Parts.{unix_of, named, numbers_in, IsGood}
 use Rattle.unix_core.proofs.ReferenceLemmas.{slot_within, numbers_living, one_in, in_living, named_set, in_set}
 use Rattle.unix_core.proofs.LoanLemmas.{area_now, area_other, area_core}
 
@@ -100,10 +98,6 @@ module _ (w : World) (s : ℕ) (u : UArea) (alive : IsAlive w.procs s) where
         ap (λ ps. count_by (is_of ino) w.files.table + count_by (is_in ino) ps + count_by (is_text_of ino) no_texts + (if ino == 1 then 1 else 0)) processes_put
         ∙ ap (λ n. count_by (is_of ino) w.files.table + n + count_by (is_text_of ino) no_texts + (if ino == 1 then 1 else 0)) (in_put ino)
 
-    pub references_put : references_of (unix_of w') ≡ references_of (unix_of w)
-    unfolding references_of
-    references_put = ap (λ (f : ℕ → ℕ). map f (range_with_len 0 (w.files.tree.nodes.store.count + 1))) (λ i ino. referrers_put ino i)
-
     -- a fact of each image
     each_put : (P : Held → Type 0) → ((r : ℕ) (held : Held) → Has k r held → P held)
         → ((held : Held) → Has k s held → P (record held { u = u }))
@@ -139,8 +133,8 @@ module _ (w : World) (s : ℕ) (u : UArea) (alive : IsAlive w.procs s) where
         (subst (λ x. Agrees (member_at w.procs.rows.slots s) (row_at w.procs.table s) x) (sym (area_now k s u here.held here.image_is)) new)
         (λ r other. refl) (λ r other. refl) (area_other k s u)
 
-    pub good_put : (more : ℕ → ℕ) → IsGood w more → IsGood w' more
-    good_put more good = record {
+    pub good_put : IsGood w → IsGood w'
+    good_put good = record {
       agree = agree_put;
       in_core = each_put (λ held. is_in_core (Some held.place) ≡ true) good.in_core (λ held has. good.in_core s held has);
       fifteen = each_put (λ held. length held.u.files ≡ 15) good.fifteen (λ held has.
@@ -149,23 +143,10 @@ module _ (w : World) (s : ℕ) (u : UArea) (alive : IsAlive w.procs s) where
           ap length (like.files ∙ ap (λ (v : UArea). v.files) own) ∙ good.fifteen s held has);
       numbers = λ entry. good.numbers entry ∙ sym (ap (λ ps. named ps entry) processes_put ∙ named_put entry);
       no_pipe = good.no_pipe;
-      referred = λ ino. good.referred ino ∙ ap (λ n. n + more ino) (sym (referrers_put ino));
+      marks = good.marks;
+      referred = λ ino. good.referred ino ∙ sym (referrers_put ino);
       running = λ r runs above. with_area_has k s r u (good.running r runs above);
       entries = good.entries;
       bytes = good.bytes;
       core = good.core ∙ sym (area_core k s u);
-    }
-
-    pub fresh_put : (init : ℕ) → IsFresh init w → IsFresh init w'
-    fresh_put init fresh = record {
-      good = good_put (one_more init) fresh.good;
-      alone = λ r other. elim (cases_eq r s) [
-        | inl here ↦ absurd (let mine = (is_here w.procs s alive).image_is in
-            let none : keeping k s ≡ Nothing = ap (keeping k) (sym here) ∙ fresh.alone r other in cc (mine, none))
-        | inr away ↦ area_other k s u r away ∙ fresh.alone r other
-      ];
-      image = with_area_has k s 1 u fresh.image;
-      core = subst (λ n. 64 ≤ n) (sym (area_core k s u)) fresh.core;
-      found = ap (λ (l : List ℕ). (init_in (record { store = w.files.tree.nodes.store; references = l })).answer) references_put ∙ fresh.found;
-      program = fresh.program;
     }

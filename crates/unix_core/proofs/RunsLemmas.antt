@@ -80,7 +80,6 @@ turn_goes t built = goes_by t.ending t.is_idle built
 -- what a run may end at before its last event: a place in a program, or want of room in core
 abbrev pub IsMet : Option Unbuilt → Type 0
 IsMet None = ⊤
-IsMet (Some unbuilt.Image) = ⊥
 IsMet (Some (unbuilt.Line n)) = ⊥
 IsMet (Some (unbuilt.At pc)) = ⊤
 IsMet (Some unbuilt.Room) = ⊤

@@ -107,6 +107,7 @@ module _ (w : World) (entries : List Entry) where
           no_pipe = ready.good.no_pipe;
           referred = ready.good.referred;
           running = λ r is above. ready.good.running r (sym kept.running ∙ is) above;
+          marks = ready.good.marks;
           entries = ready.good.entries;
           bytes = ready.good.bytes;
           core = ready.good.core;

@@ -1,7 +1,6 @@
 -- A slot in which no process just executes an instruction: what goes on, where its PC stands, and what the turn comes to.
-use Rattle.std.proofs.Common.{◌≡◌, ◌≢◌, ◌<◌, ◌∙◌, ◌⊎◌, if◌then◌else◌, ℕ, true, false, Option, Some, None, slice_index, refl, sym, ap, subst, inl, inr, arith}
+use Rattle.std.proofs.Common.{◌≡◌, ◌≢◌, ◌<◌, ◌∙◌, if◌then◌else◌, ℕ, false, Option, Some, None, slice_index, refl, sym, ap, subst, arith}
 use Rattle.std.specs.Prelude.{unwrap_or}
-use Rattle.std.proofs.lemmas.Bool.{cases_eq}
 use Rattle.u_area.specs.declared.area.UArea.{UArea}
 use Rattle.pdp_step.specs.declared.regs.Regs.{Regs}
 use Rattle.v6_base.specs.Trace.{Took, Taken}
@@ -19,14 +18,13 @@ use Rattle.unix_core.specs.declared.world.World.{World}
 use Rattle.unix_core.specs.Unix.{Unix, System, process_of}
 use Rattle.unix_core.specs.Steps.{Steps}
 use Rattle.unix_core.specs.Calls.{resumed}
-use Rattle.unix_core.specs.Exec.{exec_init}
-use Rattle.unix_core.specs.Turn.{is_user, instruction, has_room, turn}
-use Rattle.unix_core.specs.Parts.{unix_of, with_regs, is_fresh, pc_by, pc_at, IsFresh, IsUser, IsRested, IsKernel, HasCome}
+use Rattle.unix_core.specs.Turn.{is_user, instruction, turn}
+use Rattle.unix_core.specs.Parts.{unix_of, with_regs, pc_by, pc_at, IsUser, IsRested, IsKernel, HasCome}
 use Rattle.unix_core.proofs.MachineLemmas.{rested_unix, some_good, rested_alive}
 use Rattle.unix_core.proofs.TurnSteps.{apart_process}
 
 pub kernel_rested : (at : Stage) (w : World) → IsKernel at w → ((r : ℕ) → at ≢ stage.Running r) → IsRested at w
-kernel_rested at w kernel other = record { apart = other; fresh = kernel.fresh; good = kernel.resting }
+kernel_rested at w kernel other = record { apart = other; good = kernel.resting }
 
 -- The PC of the process that runs.
 pub pc_apart : (w : World) (s : ℕ) (regs : Regs) → IsUser s w → slice_index regs.r 7 ≡ pc_at (stage.Running s) regs w
@@ -51,67 +49,30 @@ module _ (at : Stage) (regs : Regs) (w : World) (rested : IsRested at w) where
   -- the swapper has none
   pub pc_swapper : w.procs.table.running ≡ Some 0 → 0 ≡ pc_at at regs w
   pc_swapper runs =
-      no_pc (member_at w.procs.rows.slots 0) (keeping w.procs.images 0) (some_good at w rested).1.agree.images
+      no_pc (member_at w.procs.rows.slots 0) (keeping w.procs.images 0) (some_good at w rested).agree.images
       ∙ ap (λ (p : Process). register p 7) (sym (own_is w.procs.rows.slots w.procs.images 0 (omega arith)))
       ∙ ap (pc_by (unix_of w)) (sym runs)
       ∙ ap (λ u. pc_by u w.procs.table.running) (sym (rested_unix at regs w rested))
 
--- Before the first turn process 1 alone can run.
-pub fresh_runs : (init : ℕ) (w : World) (s : ℕ) → IsFresh init w → w.procs.table.running ≡ Some s → 0 < s → s ≡ 1
-fresh_runs init w s fresh runs above = elim (cases_eq s 1) [
-  | inl one ↦ one
-  | inr other ↦ absurd (
-      let has = fresh.good.running s runs above in
-      let none = fresh.alone s other in
-      cc (has.1, none))
-]
+-- A turn goes on with a call.
+module _ (m : System) (s : ℕ) (u : Unix) (same : u ≡ m.unix) where
+  later : is_user (process_of u s) ≡ false → resumed u s ≡ turn m s
+  later calls =
+      ap (λ x. resumed x s) same
+      ∙ ap (λ b. if b then instruction m.board m.unix s else resumed m.unix s) (sym (ap (λ x. is_user (process_of x s)) (sym same) ∙ calls))
 
--- What a turn is: first the exec of the first program, and later a call that goes on.
-module _ (m : System) (s : ℕ) where
-  fresh_is : m.is_fresh ≡ true → exec_init m.unix s ≡ turn m s
-  fresh_is fresh =
-      ap (λ b. if b then exec_init m.unix s else (if is_user (process_of m.unix s) then instruction (has_room m.board) m.unix s else resumed m.unix s)) (sym fresh)
+  pub later_come : is_user (process_of u s) ≡ false → (e : Ending) (w : World) → HasCome m.board (resumed u s) e w → HasCome m.board (turn m s) e w
+  later_come calls e w come = subst (λ x. HasCome m.board x e w) (later calls) come
 
-  calls_is : m.is_fresh ≡ false → is_user (process_of m.unix s) ≡ false → resumed m.unix s ≡ turn m s
-  calls_is fresh calls =
-      ap (λ b. if b then instruction (has_room m.board) m.unix s else resumed m.unix s) (sym calls)
-      ∙ ap (λ b. if b then exec_init m.unix s else (if is_user (process_of m.unix s) then instruction (has_room m.board) m.unix s else resumed m.unix s)) (sym fresh)
-
-  module _ (u : Unix) (same : u ≡ m.unix) where
-    first : s ≡ 1 → m.is_fresh ≡ true → exec_init u 1 ≡ turn m s
-    first one fresh = (λ i. exec_init (same i) (sym one i)) ∙ fresh_is fresh
-
-    later : m.is_fresh ≡ false → is_user (process_of u s) ≡ false → resumed u s ≡ turn m s
-    later fresh calls =
-        ap (λ x. resumed x s) same
-        ∙ calls_is fresh (ap (λ x. is_user (process_of x s)) (sym same) ∙ calls)
-
-    pub first_come : s ≡ 1 → m.is_fresh ≡ true → (e : Ending) (w : World) → HasCome m.board (exec_init u 1) e w → HasCome m.board (turn m s) e w
-    first_come one fresh e w come = subst (λ x. HasCome m.board x e w) (first one fresh) come
-
-    pub first_took : s ≡ 1 → m.is_fresh ≡ true → (a b : Taken) → Took a (logged m.board (exec_init u 1).effects).items b → Took a (logged m.board (turn m s).effects).items b
-    first_took one fresh a b took = subst (λ (x : Steps). Took a (logged m.board x.effects).items b) (first one fresh) took
-
-    pub later_come : m.is_fresh ≡ false → is_user (process_of u s) ≡ false → (e : Ending) (w : World) → HasCome m.board (resumed u s) e w → HasCome m.board (turn m s) e w
-    later_come fresh calls e w come = subst (λ x. HasCome m.board x e w) (later fresh calls) come
-
-    pub later_took : m.is_fresh ≡ false → is_user (process_of u s) ≡ false → (a b : Taken) → Took a (logged m.board (resumed u s).effects).items b
-        → Took a (logged m.board (turn m s).effects).items b
-    later_took fresh calls a b took = subst (λ (x : Steps). Took a (logged m.board x.effects).items b) (later fresh calls) took
+  pub later_took : is_user (process_of u s) ≡ false → (a b : Taken) → Took a (logged m.board (resumed u s).effects).items b
+      → Took a (logged m.board (turn m s).effects).items b
+  later_took calls a b took = subst (λ (x : Steps). Took a (logged m.board x.effects).items b) (later calls) took
 
 -- which stage it is
-pub fresh_stage : (init : ℕ) (at : Stage) → at ≡ stage.Fresh init → is_fresh at ≡ true
-fresh_stage init at is = ap is_fresh is
-
-pub fresh_unix : (init : ℕ) (at : Stage) (regs : Regs) (u : Unix) → at ≡ stage.Fresh init → u ≡ with_regs at regs u
-fresh_unix init at regs u is = ap (λ x. with_regs x regs u) (sym is)
-
 pub resting_unix : (at : Stage) (regs : Regs) (u : Unix) → at ≡ stage.Resting → u ≡ with_regs at regs u
 resting_unix at regs u is = ap (λ x. with_regs x regs u) (sym is)
 
-pub left_resting : (at : Stage) → ((r : ℕ) → at ≢ stage.Running r) → ((r : ℕ) × (at ≡ stage.Running r)) ⊎ (at ≡ stage.Resting) → at ≡ stage.Resting
-left_resting at other (inl running) = absurd (other running.0 running.1)
-left_resting at other (inr resting) = resting
-
-pub resting_stage : (at : Stage) → at ≡ stage.Resting → is_fresh at ≡ false
-resting_stage at is = ap is_fresh is
+-- A stage in which no registers stand apart.
+pub is_resting : (at : Stage) → ((r : ℕ) → at ≢ stage.Running r) → at ≡ stage.Resting
+is_resting (stage.Running s) other = absurd (other s refl)
+is_resting stage.Resting other = refl

@@ -1,5 +1,5 @@
 -- The table of slots has changed: what belongs together still does, and where the kernel has settled the slot that runs goes on.
-use Rattle.std.proofs.Common.{◌≡◌, ◌<◌, ◌==◌, ◌||◌, cond, ℕ, Bool, true, false, Some, None, refl, sym, ap, ◌∙◌, subst, arith}
+use Rattle.std.proofs.Common.{◌≡◌, ◌<◌, ◌==◌, ◌||◌, cond, ℕ, Bool, true, false, Option, Some, None, refl, sym, ap, ◌∙◌, subst, arith}
 use Rattle.std.specs.Prelude.{⊤, MatchOption}
 use Rattle.std.proofs.lemmas.Bool.{ne_eqb}
 use Rattle.pick_rules.specs.declared.table.Table.{Table}
@@ -14,9 +14,8 @@ use Rattle.sys_procs.proofs.Agreement.{agree_like, tables_same}
 use Rattle.pdp_step.specs.declared.regs.Regs.{Regs}
 use Rattle.unix_core.specs.declared.world.World.{World}
 use Rattle.unix_core.specs.declared.machine.Stage.{Stage}
-use Rattle.unix_core.specs.References.{references_of}
 use Rattle.unix_core.specs.Passing.{settled_table}
-use Rattle.unix_core.specs.Parts.{unix_of, board_in, with_regs, is_fresh, system_at, none_more, one_more, IsGood, IsFresh, IsRested}
+use Rattle.unix_core.specs.Parts.{unix_of, board_in, with_regs, system_at, IsGood, IsRested}
 use Rattle.unix_core.proofs.BoardLemmas.{settle_none}
 
 abbrev pub with_table : World → Table → World
@@ -27,13 +26,14 @@ abbrev pub RunsImage : Table → Kept → Type 0
 RunsImage t k = (s : ℕ) → t.running ≡ Some s → 0 < s → HasImage k s
 
 module _ (w : World) (t : Table) (agree : Agree w.procs.rows t w.procs.images) (runs : RunsImage t w.procs.images) where
-  pub good_table : (more : ℕ → ℕ) → IsGood w more → IsGood (with_table w t) more
-  good_table more good = record {
+  pub good_table : IsGood w → IsGood (with_table w t)
+  good_table good = record {
     agree = agree;
     in_core = good.in_core;
     fifteen = good.fifteen;
     numbers = good.numbers;
     no_pipe = good.no_pipe;
+    marks = good.marks;
     referred = good.referred;
     running = runs;
     entries = good.entries;
@@ -41,22 +41,10 @@ module _ (w : World) (t : Table) (agree : Agree w.procs.rows t w.procs.images) (
     core = good.core;
   }
 
-  pub fresh_table : (init : ℕ) → IsFresh init w → IsFresh init (with_table w t)
-  unfolding references_of
-  fresh_table init fresh = record {
-    good = good_table (one_more init) fresh.good;
-    alone = fresh.alone;
-    image = fresh.image;
-    core = fresh.core;
-    found = fresh.found;
-    program = fresh.program;
-  }
-
   pub rested_table : (at : Stage) → IsRested at w → IsRested at (with_table w t)
   rested_table at rested = record {
     apart = rested.apart;
-    fresh = λ init e. fresh_table init (rested.fresh init e);
-    good = λ e. good_table none_more (rested.good e);
+    good = λ e. good_table (rested.good e);
   }
 
 -- what stands in core can run
@@ -108,11 +96,23 @@ module _ (v : Processes) (k : Kept) (t : Table) where
           ap (λ o. settle (settled_by t o)) choice ∙ go_settles t s choice
       by false g f = settle_none t g
 
+  choice_same : (o : Option ℕ) → o ≡ None → chosen (settled_by t o) ≡ chosen t
+  unfolding chosen
+  choice_same None none = refl
+  choice_same (Some s) none = absurd (cc none)
+
+  -- where nobody runs then, nobody can
+  pub settled_idle : (u : Table) → u ≡ settled_table t → u.running ≡ None → chosen u ≡ None
+  settled_idle u is e = ap chosen is ∙ by (gives_up t t.running) refl (ap (λ (x : Table). x.running) (sym is) ∙ e)
+    where
+      by : (b : Bool) → gives_up t t.running ≡ b → (cond b (settled_by t (chosen t)) t).running ≡ None → chosen (cond b (settled_by t (chosen t)) t) ≡ None
+      by true g f = let choice : chosen t ≡ None = sym (settled_running t (chosen t)) ∙ f in choice_same (chosen t) choice ∙ choice
+      by false g f = absurd (let gives : gives_up t t.running ≡ true = ap (gives_up t) f in cc (g, gives))
+
 -- The system with another table, whose clock is the same.
 pub table_system : (at : Stage) (regs : Regs) (w : World) (u : Table) → clock_of u ≡ clock_of w.procs.table
     → system_at at regs (with_table w u) ≡ record (system_at at regs w) { board = board_in (with_table w u) }
 table_system at regs w u clock = λ i. record {
   unix = with_regs at regs (record (unix_of w) { clock = clock i });
   board = board_in (with_table w u);
-  is_fresh = is_fresh at;
 }

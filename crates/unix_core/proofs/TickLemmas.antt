@@ -34,7 +34,7 @@ use Rattle.unix_core.specs.Passing.{trapped, called_table}
 use Rattle.unix_core.specs.Turn.{settled}
 use Rattle.unix_core.specs.Outside as outside
 use Rattle.unix_core.specs.Outside.{mode_of, tick_entry, clock_after, wakes, tick_of}
-use Rattle.unix_core.specs.Parts.{unix_of, board_in, with_regs, is_fresh, system_at, IsRested}
+use Rattle.unix_core.specs.Parts.{unix_of, board_in, with_regs, system_at, IsRested}
 use Rattle.unix_core.proofs.BoardLemmas.{untimed_runin}
 use Rattle.unix_core.proofs.LoggedLemmas.{after_items, logged_shown, logged_after}
 use Rattle.unix_core.proofs.MachineLemmas.{rested_unix, some_good}
@@ -234,7 +234,7 @@ module _ (at : Stage) (regs : Regs) (w : World) (rested : IsRested at w) (mode :
     (woken : board_of u w'.procs.images ≡ (logged {W = Unix} (board_of t w'.procs.images) (wakes called Tout)).board) where
   pub tick_rested : IsRested at' (with_table w' u)
   tick_rested =
-      let was = (some_good at' w' still).1 in
+      let was = (some_good at' w' still) in
       let v = w'.procs.rows in
       let k : Kept = w'.procs.images in
       let old : Table = w'.procs.table in
@@ -281,7 +281,7 @@ module _ (at : Stage) (regs : Regs) (w : World) (rested : IsRested at w) (mode :
       ∙ ap (λ md. record (outside.charged m.unix md running) { clock = clock_after m.unix.clock }) mode_is in
       let log : board_of u w'.procs.images ≡ l.board =
       woken ∙ ap (λ b. (logged {W = Unix} b (wakes called Tout)).board) board_then ∙ ap (λ (x : Logged Unix). x.board) (sym l_is) in
-      λ i. record { unix = after i; board = log i; is_fresh = is_fresh (same i) }
+      λ i. record { unix = after i; board = log i }
 
   pub tick_next : (now : System) → now ≡ record (system_at at' regs' (with_table w' u)) { board = (settled (board_in (with_table w' u))).board } → now ≡ (tick_of m).next
   tick_next now final = settles_next m (system_at at' regs' (with_table w' u)) now (outside.ticked m) l tick_stop tick_is final

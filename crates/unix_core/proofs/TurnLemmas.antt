@@ -21,8 +21,7 @@ use Rattle.unix_core.specs.declared.world.World.{World}
 use Rattle.unix_core.specs.Unix.{Unix, System, process_of, with_process}
 use Rattle.unix_core.specs.Steps.{Steps}
 use Rattle.unix_core.specs.Calls.{resumed}
-use Rattle.unix_core.specs.Exec.{exec_init}
-use Rattle.unix_core.specs.Turn.{machine_of, with_machine, is_user, comes_to, instruction, has_room, turn, end_effects, settled, ending_at, ending_by, turn_of, turned_by, turned}
+use Rattle.unix_core.specs.Turn.{machine_of, with_machine, comes_to, instruction, turn, end_effects, settled, ending_at, ending_by, turn_of, turned_by, turned}
 use Rattle.unix_core.specs.Parts.{unix_of, board_in, system_at, ended_as, HasCome, HasStepped}
 use Rattle.unix_core.proofs.BoardLemmas.{logged_line}
 
@@ -100,12 +99,12 @@ module _ (m : System) (s : ℕ) (steps : Steps) (e : Ending) (w : World) (come :
       ∙ ap (λ o. turned_by o false) (ending_same pc taken.stop steps.ending)
       ∙ ap (λ (x : Logged Unix). turned_by (ending_by pc x.stop steps.ending) false) (sym whole_is)
 
-  pub turn_next : (now : System) → now ≡ record { unix = unix_of w; board = (settled (logged {W = Unix} (board_in w) (end_effects s e)).board).board; is_fresh = false }
+  pub turn_next : (now : System) → now ≡ record { unix = unix_of w; board = (settled (logged {W = Unix} (board_in w) (end_effects s e)).board).board }
       → now ≡ (turn_of m s steps).next
   turn_next now final =
       final
-      ∙ (λ i. record { unix = come.unix i; board = (settled (logged {W = Unix} (come.board i) (end_effects s e)).board).board; is_fresh = false })
-      ∙ ap (λ (x : Logged Unix). record m { unix = left_by x.stop steps.unix; board = (settled x.board).board; is_fresh = false }) (sym whole_is)
+      ∙ (λ i. record { unix = come.unix i; board = (settled (logged {W = Unix} (come.board i) (end_effects s e)).board).board })
+      ∙ ap (λ (x : Logged Unix). record m { unix = left_by x.stop steps.unix; board = (settled x.board).board }) (sym whole_is)
 
   pub turn_items : (a b c : Taken) → Took a taken.items b
       → Took b ((logged {W = Unix} (board_in w) (end_effects s e)).items ++ (settled (logged {W = Unix} (board_in w) (end_effects s e)).board).items) c
@@ -129,16 +128,15 @@ module _ (m : System) (s : ℕ) (o : Outcome) (regs regs' : Regs) (w w' : World)
   board_back : board_in w' ≡ m.board
   board_back = ap (λ (x : System). x.board) back ∙ stepped.board
 
-  steps_are : comes_to (has_room (board_in w')) (unix_of w') s o ≡ turn m s
+  steps_are : comes_to (board_in w') (unix_of w') s o ≡ turn m s
   steps_are =
-      (λ i. comes_to (has_room (board_back i)) (unix_back i) s (stepped.outcome i))
-      ∙ sym (ap (λ b. if b then exec_init m.unix s else (if is_user (process_of m.unix s) then instruction (has_room m.board) m.unix s else resumed m.unix s)) stepped.fresh
-      ∙ ap (λ b. if b then instruction (has_room m.board) m.unix s else resumed m.unix s) stepped.user)
+      (λ i. comes_to (board_back i) (unix_back i) s (stepped.outcome i))
+      ∙ sym (ap (λ b. if b then instruction m.board m.unix s else resumed m.unix s) stepped.user)
 
-  pub stepped_come : (e : Ending) (then_ : World) → HasCome (board_in w') (comes_to (has_room (board_in w')) (unix_of w') s o) e then_ → HasCome m.board (turn m s) e then_
-  stepped_come e then_ come = subst (λ st. HasCome m.board st e then_) steps_are (subst (λ b. HasCome b (comes_to (has_room (board_in w')) (unix_of w') s o) e then_) board_back come)
+  pub stepped_come : (e : Ending) (then_ : World) → HasCome (board_in w') (comes_to (board_in w') (unix_of w') s o) e then_ → HasCome m.board (turn m s) e then_
+  stepped_come e then_ come = subst (λ st. HasCome m.board st e then_) steps_are (subst (λ b. HasCome b (comes_to (board_in w') (unix_of w') s o) e then_) board_back come)
 
-  pub stepped_items : (a b : Taken) → Took a (logged (board_in w') (comes_to (has_room (board_in w')) (unix_of w') s o).effects).items b → Took a (logged m.board (turn m s).effects).items b
+  pub stepped_items : (a b : Taken) → Took a (logged (board_in w') (comes_to (board_in w') (unix_of w') s o).effects).items b → Took a (logged m.board (turn m s).effects).items b
   stepped_items a b took =
       subst (λ (st : Steps). Took a (logged m.board st.effects).items b) steps_are
-      (subst (λ x. Took a (logged x (comes_to (has_room (board_in w')) (unix_of w') s o).effects).items b) board_back took)
+      (subst (λ x. Took a (logged x (comes_to (board_in w') (unix_of w') s o).effects).items b) board_back took)

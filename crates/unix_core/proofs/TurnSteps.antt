@@ -31,8 +31,7 @@ use Rattle.unix_core.specs.Unix.{Unix, System, process_of, with_process}
 use Rattle.unix_core.specs.References.{referrers}
 use Rattle.unix_core.specs.Steps.{steps}
 use Rattle.unix_core.specs.Calls.{resumed}
-use Rattle.unix_core.specs.Exec.{exec_init}
-use Rattle.unix_core.specs.Turn.{Turn, machine_of, with_machine, is_user, comes_to, instruction, has_room, turn, turn_of, slot_by, slot_of, settled_as, turned}
+use Rattle.unix_core.specs.Turn.{Turn, machine_of, with_machine, is_user, comes_to, instruction, turn, turn_of, slot_by, slot_of, settled_as, turned}
 use Rattle.unix_core.specs.Runs.{Slot, event_of}
 use Rattle.unix_core.specs.Parts.{unix_of, board_in, holding, with_regs, system_at, named, numbers_in, IsReady, IsUser, HasStepped}
 use Rattle.unix_core.proofs.ReferenceLemmas.{numbers_living, one_in, in_living, named_set, in_set, slot_within}
@@ -128,6 +127,7 @@ module _ (w : World) (s : ℕ) (ready : IsReady w s) (image : Image) where
               let after : named (unix_of with_memory).processes entry ≡ named (set ps s (Some q)) entry = ap (λ (x : Unix). named x.processes entry) unix in
               omega (arith, before, was, new, change, after);
           no_pipe = ready.good.no_pipe;
+          marks = ready.good.marks;
           referred = λ ino.
               let before = ready.good.referred ino in
               let was = in_living ino p lives in
@@ -207,7 +207,6 @@ module _ (w : World) (s : ℕ) (user : IsUser s w) (text : (image_of w.procs.ima
   pub has_stepped : HasStepped before regs' (with_memory w s user.ready image) s o
   has_stepped = record {
     runs = user.ready.runs;
-    fresh = refl;
     user = ap is_user (apart_process w s regs user.ready) ∙ user.user;
     outcome = sym (ap (λ (x : Stepped). x.outcome) comes);
     unix = unix_then;
@@ -229,12 +228,11 @@ module _ (m : System) (s : ℕ) (above : 0 < s) (regs' : Regs) (w' : World) (don
 
   turn_is : turn m s ≡ steps u
   turn_is =
-      ap (λ b. if b then exec_init m.unix s else (if is_user (process_of m.unix s) then instruction (has_room m.board) m.unix s else resumed m.unix s)) done.fresh
-      ∙ ap (λ b. if b then instruction (has_room m.board) m.unix s else resumed m.unix s) done.user
-      ∙ ap (comes_to (has_room m.board) u s) (sym done.outcome)
+      ap (λ b. if b then instruction m.board m.unix s else resumed m.unix s) done.user
+      ∙ ap (comes_to m.board u s) (sym done.outcome)
 
   abbrev plain : Turn
-  plain = record { items = []; next = record m { unix = u; is_fresh = false }; is_idle = false; ending = None }
+  plain = record { items = []; next = record m { unix = u }; is_idle = false; ending = None }
 
   plain_is : event_of Slot m ≡ plain
   plain_is =
@@ -242,7 +240,7 @@ module _ (m : System) (s : ℕ) (above : 0 < s) (regs' : Regs) (w' : World) (don
       ∙ ap (turn_of m s) turn_is
       ∙ ap (λ o. record {
         items = (settled_as o m.board).items;
-        next = record m { unix = u; board = (settled_as o m.board).board; is_fresh = false };
+        next = record m { unix = u; board = (settled_as o m.board).board };
         is_idle = false;
         ending = None;
       }) quiet
@@ -252,7 +250,7 @@ module _ (m : System) (s : ℕ) (above : 0 < s) (regs' : Regs) (w' : World) (don
 
   pub plain_next : system_at (stage.Running s) regs' w' ≡ (event_of Slot m).next
   plain_next =
-      (λ i. record { unix = done.unix i; board = done.board i; is_fresh = false })
+      (λ i. record { unix = done.unix i; board = done.board i })
       ∙ ap (λ (t : Turn). t.next) (sym plain_is)
 
   pub plain_items : (event_of Slot m).items ≡ []

@@ -1,5 +1,5 @@
 -- A process that runs: what a world says of it, what its calls on files are handed, and that they leave it running.
-use Rattle.std.proofs.Common.{◌≡◌, ◌≢◌, ◌<◌, ◌+◌, ◌==◌, ◌⊎◌, if◌then◌else◌, cond, ℕ, true, false, List, [], ◌++◌, length, get_or, set, map, count_by, Option, Some, None, slice_index, refl, sym, ap, ◌∙◌, subst, inl, inr, arith}
+use Rattle.std.proofs.Common.{◌≡◌, ◌≢◌, ◌<◌, ◌+◌, ◌==◌, ◌⊎◌, if◌then◌else◌, cond, ℕ, zero, suc, true, false, List, [], ◌++◌, length, replicate, get_or, set, map, count_by, Option, Some, None, slice_index, refl, sym, ap, ◌∙◌, subst, inl, inr, arith}
 use Rattle.std.specs.Prelude.{⊤, MatchOption, unwrap_or}
 use Rattle.std.proofs.lemmas.Bool.{cases_lt, cases_eq}
 use Rattle.std.proofs.lemmas.List.{length-replicate}
@@ -29,9 +29,9 @@ use Rattle.sys_procs.proofs.Alive.{is_here, area_here}
 use Rattle.unix_core.specs.declared.world.World.{World}
 use Rattle.unix_core.specs.Unix.{Text, Unix, no_texts, process_of}
 use Rattle.unix_core.specs.References.{is_in, is_text_of, referrers, references_of}
-use Rattle.unix_core.specs.Calls.{handed_of, with_handed}
+use Rattle.unix_core.specs.Calls.{marks_of, handed_of, with_handed}
 use Rattle.unix_core.specs.Passing.{all_woken}
-use Rattle.unix_core.specs.Parts.{unix_of, none_more, named, IsGood, IsReady, IsReadyToShow}
+use Rattle.unix_core.specs.Parts.{unix_of, named, IsGood, IsReady, IsReadyToShow}
 use Rattle.unix_core.proofs.ReferenceLemmas.{slot_within, numbers_within, in_within, open_by_numbers, references_are, few_named, few_referrers, numbers_kept, referred_kept}
 use Rattle.unix_core.proofs.FileLemmas.{shown_woken}
 
@@ -73,8 +73,8 @@ fifteen_by (Some m) (Grave u block) p is lives each (inr kind) =
     let never : Died ≡ Lives = kind ∙ ap kind_by dead in
     absurd (cc never)
 
-pub fifteen_each : (w : World) (more : ℕ → ℕ) → IsGood w more → (s : ℕ) (p : Process) → get_or (unix_of w).processes s None ≡ Some p → p.is_zombie ≡ false → length p.u.files ≡ 15
-fifteen_each w more good s p is lives =
+pub fifteen_each : (w : World) → IsGood w → (s : ℕ) (p : Process) → get_or (unix_of w).processes s None ≡ Some p → p.is_zombie ≡ false → length p.u.files ≡ 15
+fifteen_each w good s p is lives =
     let slots = w.procs.rows.slots in
     let k : Kept = w.procs.images in
     let within = slot_within (unix_of w).processes s p is in
@@ -89,6 +89,14 @@ pub forty : length no_texts ≡ 40
 unfolding no_texts
 forty = let none : Option Text = None in length-replicate 40 none
 
+none_marked : (n : ℕ) → marks_of (replicate n None) ≡ []
+none_marked zero = refl
+none_marked (suc n) = none_marked n
+
+pub no_marks : marks_of no_texts ≡ []
+unfolding no_texts
+no_marks = none_marked 40
+
 -- The parts that a call of the process is handed are sound.
 pub sound_parts : (w : World) (s : ℕ) (h : Handed) → IsReady w s → length w.files.table ≡ 100
     → h.files ≡ w.files.table → h.u.files ≡ (process_of (unix_of w) s).u.files → h.u.dir ≡ (process_of (unix_of w) s).u.dir
@@ -102,7 +110,7 @@ sound_parts w s h ready long files mine dir references =
     let fifty : length ps ≡ 50 = fifty_processes w.procs.rows.slots w.procs.images in
     let counted : (entry : ℕ) (file : OpenFile) → file_at h.files entry ≡ Some file → file.count ≡ named ps entry =
     λ entry file is. ap numbers_of (sym (ap (λ l. file_at l entry) (sym files) ∙ is)) ∙ ready.good.numbers entry in
-    let referred : (ino : ℕ) → slice_index h.inodes.references ino ≡ referrers (unix_of w) ino + 0 =
+    let referred : (ino : ℕ) → slice_index h.inodes.references ino ≡ referrers (unix_of w) ino =
     λ ino. ap (λ l. slice_index l ino) references ∙ ready.good.referred ino in
     record {
       is_open = subst (λ (l : List (Option OpenFile)). AreOpen l h.u.files) (sym files) (subst (λ (m : List ℕ). AreOpen table m) (sym mine) (files_open w s ready));
@@ -113,7 +121,7 @@ sound_parts w s h ready long files mine dir references =
           omega (arith, count, most, same);
       room = λ entry file is.
           let count = counted entry file is in
-          let few = few_named ps entry fifty (fifteen_each w none_more ready.good) in
+          let few = few_named ps entry fifty (fifteen_each w ready.good) in
           omega (arith, count, few);
       referred = λ ino.
           let same = referred ino in
@@ -145,6 +153,7 @@ handed_is w s ready form none =
     let here = is_here w.procs s alive in
     let p : Process = process_of (unix_of w) s in
     let references = references_in w s ready form in
+    let marks : w.files.tree.marks ≡ marks_of no_texts = ready.good.marks ∙ sym no_marks in
     let area : area_of w.procs.images s ≡ p.u = area_here w.procs s alive in
     let row : proc.row_at w.procs.rows s ≡ p.row = sym (own_row w.procs.rows.slots w.procs.images s alive.below) in
     let image : image_of w.procs.images s ≡ one.image_of p =
@@ -153,6 +162,7 @@ handed_is w s ready form none =
     ∙ ap one.image_of (sym here.process_is)) in
     λ i. record {
       inodes = record { store = w.files.tree.nodes.store; references = references i };
+      marks = marks i;
       files = w.files.table;
       line = w.files.line;
       u = area i;
@@ -174,6 +184,7 @@ pub record IsAfter (w w' : World) (s : ℕ) (u : UArea) (row : Row) (image : Ima
   pub core : w'.procs.images.core ≡ w.procs.images.core
   pub last_pid : w'.procs.rows.last_pid ≡ w.procs.rows.last_pid
   pub switches : w'.procs.switches ≡ w.procs.switches
+  pub marks : w'.files.tree.marks ≡ []
   pub entry_room : w'.tape.entry_room ≡ w.tape.entry_room
   pub byte_room : w'.tape.byte_room ≡ w.tape.byte_room
   pub world_core : w'.core ≡ w.core
@@ -257,7 +268,7 @@ module _ (w w' : World) (s : ℕ) (ready : IsReady w s) (u : UArea) (row : Row) 
   image_after =
       let here = is_here w.procs s (ready_alive w s ready) in (record here.held { u = u; image = image }, after.memory here.held here.image_is)
 
-  pub good_after : IsFileSystem w.files.tree.nodes → IsGood w' none_more
+  pub good_after : IsFileSystem w.files.tree.nodes → IsGood w'
   good_after form =
       let slot = slot_is w s ready in
       let lives = is_living w s ready in
@@ -274,6 +285,7 @@ module _ (w w' : World) (s : ℕ) (ready : IsReady w s) (u : UArea) (row : Row) 
             let same : slice_index w'.files.tree.nodes.references ino ≡ referrers (unix_of w') ino =
             referred_kept (unix_of w) s h slot lives after.kept before ino ∙ ap (λ (x : Unix). referrers x ino) (sym unix_after) in
             omega (arith, same);
+        marks = after.marks;
         running = λ r runs above.
             let same : s ≡ r = ap (λ o. unwrap_or o 0) (sym running_after ∙ runs) in
             subst (HasImage w'.procs.images) same image_after;

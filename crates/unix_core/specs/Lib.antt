@@ -1,10 +1,8 @@
 pub mod Boots
 pub mod Calls
 pub mod Errors
-pub mod Exec
-pub mod Form
+pub mod Init
 pub mod Parts
-pub mod Program
 pub mod References
 pub mod Runs
 pub mod Steps

@@ -1,9 +1,9 @@
 -- How the parts of a kernel are the Unix and the board: the world of files and processes, and the registers of the process
 -- that executes instructions.
-use Rattle.std.specs.Prelude.{◌≡◌, ◌≢◌, ◌<◌, ◌≤◌, ◌+◌, ◌==◌, ℕ, min, Bool, true, false, List, [], map, length, Option, Some, None, Ok, if◌then◌else◌, slice_index}
+use Rattle.std.specs.Prelude.{◌≡◌, ◌≢◌, ◌<◌, ℕ, min, true, false, List, [], map, length, Option, Some, None, if◌then◌else◌, slice_index}
 use Rattle.std.specs.List.{sum_by}
 use Rattle.open_files.specs.Files.{file_at, times}
-use Rattle.sys_files.specs.Handed.{Handed, node_in}
+use Rattle.sys_files.specs.Handed.{Handed}
 use Rattle.sys_files.specs.Did.{Did, is_done}
 use Rattle.sys_files.specs.Sound.{numbers_of, HasNoPipe}
 use Rattle.pdp_step.specs.declared.outcome.Outcome.{Outcome}
@@ -11,7 +11,7 @@ use Rattle.pdp_step.specs.declared.regs.Regs.{Regs}
 use Rattle.pdp_step.specs.Instruction.{instr}
 use Rattle.pick_rules.specs.declared.table.Table.{Table}
 use Rattle.pick_rules.specs.Table.{is_in_core}
-use Rattle.pick_rules.specs.Choice.{settle}
+use Rattle.pick_rules.specs.Choice.{chosen, settle}
 use Rattle.pick_rules.specs.Board.{Board}
 use Rattle.v6_base.specs.Trace.{Item}
 use Rattle.pick_rules.specs.Effects.{Show}
@@ -19,7 +19,7 @@ use Rattle.pick_rules.specs.Logged.{Stop, logged, left_by}
 use Rattle.v6_base.specs.declared.entry.Place.TheVariants.{Core}
 use Rattle.image_keep.specs.Area.{sized_area}
 use Rattle.image_keep.specs.Places.{cleared}
-use Rattle.image_keep.specs.Kept.{Held, Nothing, Kept, Has, HasImage, keeping}
+use Rattle.image_keep.specs.Kept.{Held, Kept, Has, HasImage}
 use Rattle.sys_procs.specs.Process.{Process, register}
 use Rattle.sys_procs.specs.World.{clock_of, processes_in, World}
 use Rattle.sys_procs.specs.Comes.{Comes, returns}
@@ -37,11 +37,10 @@ use Rattle.unix_core.specs.declared.machine.Stage.{Stage}
 use Rattle.unix_core.specs.declared.machine.Stage.TheVariants as stage
 use Rattle.unix_core.specs.Unix.{Unix, System, no_texts, process_of, with_process}
 use Rattle.unix_core.specs.References.{referrers}
-use Rattle.unix_core.specs.Form.{is_program}
+use Rattle.unix_core.specs.Init.{init_data}
 use Rattle.unix_core.specs.Calls.{FileCall, ProcessCall}
 use Rattle.unix_core.specs.Steps.{Steps}
 use Rattle.unix_core.specs.Passing.{shown_by, all_woken}
-use Rattle.unix_core.specs.Exec.{init_in, inodes_in}
 use Rattle.unix_core.specs.Turn.{Turn, machine_of, with_machine, is_user, slot_of}
 
 -- the Unix of a world
@@ -68,17 +67,11 @@ holding regs p = record p { u = record p.u { r = regs.r; cc = regs.cc; codes = r
 
 -- the Unix while the registers of the process that executes instructions stand apart
 abbrev pub with_regs : Stage → Regs → Unix → Unix
-with_regs (stage.Fresh init) regs u = u
 with_regs (stage.Running s) regs u = with_process u s (holding regs (process_of u s))
 with_regs stage.Resting regs u = u
 
-abbrev pub is_fresh : Stage → Bool
-is_fresh (stage.Fresh init) = true
-is_fresh (stage.Running s) = false
-is_fresh stage.Resting = false
-
 abbrev pub system_at : Stage → Regs → parts.World → System
-system_at at regs w = record { unix = with_regs at regs (unix_of w); board = board_in w; is_fresh = is_fresh at }
+system_at at regs w = record { unix = with_regs at regs (unix_of w); board = board_in w }
 
 -- what the next slot comes to
 abbrev pub turn_at : Stage → Regs → parts.World → Turn
@@ -103,7 +96,11 @@ process_row_of (Some c) w slot args = c.does w slot args
 
 -- the first image of process 1
 abbrev pub first_held : Held
-first_held = record { u = record (sized_area 1 0) { dir = 1 }; image = cleared 1 0; place = Core 1 }
+first_held = record {
+  u = record (sized_area 1 0) { dir = 1 };
+  image = record (cleared 1 0) { «data» = init_data };
+  place = Core 1;
+}
 
 -- how often an inode is referred to in a world
 abbrev pub refs : parts.World → ℕ → ℕ
@@ -118,21 +115,15 @@ numbers_in entry (Some p) = if p.is_zombie then 0 else times p.u.files entry
 unfoldable pub named : List (Option Process) → ℕ → ℕ
 named processes entry = sum_by (numbers_in entry) processes
 
--- nothing refers to an inode beside what the Unix says; or one more reference does, to the first program
-abbrev pub none_more : ℕ → ℕ
-none_more ino = 0
-
-abbrev pub one_more : ℕ → ℕ → ℕ
-one_more init ino = if ino == init then 1 else 0
-
 -- What is so of a world between two things that the kernel does.
-pub record IsGood (w : parts.World) (more : ℕ → ℕ) : Type 0 where
+pub record IsGood (w : parts.World) : Type 0 where
   pub agree : AreProcs w.procs
   pub in_core : (s : ℕ) (held : Held) → Has w.procs.images s held → is_in_core (Some held.place) ≡ true
   pub fifteen : (s : ℕ) (held : Held) → Has w.procs.images s held → length held.u.files ≡ 15
   pub numbers : (entry : ℕ) → numbers_of (file_at w.files.table entry) ≡ named (unix_of w).processes entry
   pub no_pipe : HasNoPipe w.files.table
-  pub referred : (ino : ℕ) → refs w ino ≡ referrers (unix_of w) ino + more ino
+  pub marks : w.files.tree.marks ≡ []
+  pub referred : (ino : ℕ) → refs w ino ≡ referrers (unix_of w) ino
   pub running : (s : ℕ) → w.procs.table.running ≡ Some s → 0 < s → HasImage w.procs.images s
   pub entries : w.tape.entry_room ≡ 64
   pub bytes : w.tape.byte_room ≡ 524288
@@ -140,18 +131,9 @@ pub record IsGood (w : parts.World) (more : ℕ → ℕ) : Type 0 where
 
 -- a process that isn't the swapper runs
 pub record IsReady (w : parts.World) (s : ℕ) : Type 0 where
-  pub good : IsGood w none_more
+  pub good : IsGood w
   pub runs : w.procs.table.running ≡ Some s
   pub user : 0 < s
-
--- Before the first turn there is process 1 alone. Its program has been found, and is referred to once more.
-pub record IsFresh (init : ℕ) (w : parts.World) : Type 0 where
-  pub good : IsGood w (one_more init)
-  pub alone : (s : ℕ) → s ≢ 1 → keeping w.procs.images s ≡ Nothing
-  pub image : HasImage w.procs.images 1
-  pub core : 64 ≤ w.procs.images.core
-  pub found : (init_in (inodes_in (unix_of w))).answer ≡ Ok init
-  pub program : is_program (node_in w.files.tree.nodes.store init) ≡ true
 
 -- A call on files of a process has been done, and what it shows stands on the tape: the table is as it was.
 pub record IsReadyToShow (old new : parts.World) (s : ℕ) (items : List Item) : Type 0 where
@@ -181,27 +163,24 @@ pub record IsUser (s : ℕ) (w : parts.World) : Type 0 where
 -- what is so of a kernel's parts while no registers stand apart
 pub record IsRested (at : Stage) (w : parts.World) : Type 0 where
   pub apart : (s : ℕ) → at ≢ stage.Running s
-  pub fresh : (init : ℕ) → at ≡ stage.Fresh init → IsFresh init w
-  pub good : at ≡ stage.Resting → IsGood w none_more
+  pub good : at ≡ stage.Resting → IsGood w
 
 -- the stage when the registers have been put back
 abbrev pub rested : Stage → Stage
-rested (stage.Fresh init) = stage.Fresh init
 rested (stage.Running s) = stage.Resting
 rested stage.Resting = stage.Resting
 
 -- what is so of every kernel
 pub record IsKernel (at : Stage) (w : parts.World) : Type 0 where
-  pub fresh : (init : ℕ) → at ≡ stage.Fresh init → IsFresh init w
   pub running : (s : ℕ) → at ≡ stage.Running s → IsUser s w
-  pub resting : at ≡ stage.Resting → IsGood w none_more
+  pub resting : at ≡ stage.Resting → IsGood w
   pub settled : (s : ℕ) → w.procs.table.running ≡ Some s → settle w.procs.table ≡ None
+  pub idle : w.procs.table.running ≡ None → chosen w.procs.table ≡ None
   pub calls : (s : ℕ) → at ≡ stage.Resting → w.procs.table.running ≡ Some s → 0 < s → is_user (process_of (unix_of w) s) ≡ false
 
 -- A system whose running process was in user mode, and of which these are the registers and the world after the instruction.
 pub record HasStepped (m : System) (regs : Regs) (w : parts.World) (s : ℕ) (o : Outcome) : Type 0 where
   pub runs : m.board.table.running ≡ Some s
-  pub fresh : m.is_fresh ≡ false
   pub user : is_user (process_of m.unix s) ≡ true
   pub outcome : o ≡ (instr (machine_of (process_of m.unix s))).outcome
   pub unix : with_regs (stage.Running s) regs (unix_of w)

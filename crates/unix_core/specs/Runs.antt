@@ -1,5 +1,5 @@
 -- A run as a function: from an image, a core size and a list of events to what is shown and how it ends.
-use Rattle.std.specs.Prelude.{ℕ, Bool, true, List, [], ◌∷◌, ◌++◌, min, is_some, replicate, if◌then◌else◌, Option, Some, None}
+use Rattle.std.specs.Prelude.{ℕ, List, [], ◌∷◌, ◌++◌, min, is_some, replicate, if◌then◌else◌, Option, Some, None}
 use Rattle.std.specs.Option.{option_map}
 use Rattle.fs_codec.specs.Faults.{image_fault}
 use Rattle.v6_base.specs.Trace.{Item, Log}
@@ -15,16 +15,16 @@ use Rattle.image_keep.specs.Area.{sized_area}
 use Rattle.sys_procs.specs.Process.{Process, no_process}
 use Rattle.unix_core.specs.declared.turned.Unbuilt.{Unbuilt}
 use Rattle.unix_core.specs.Unix.{Unix, System, no_texts}
-use Rattle.unix_core.specs.Exec.{init_in, inodes_in, is_found}
+use Rattle.unix_core.specs.Init.{init_data}
 use Rattle.unix_core.specs.Turn.{Turn, pass_of, slot_of}
 use Rattle.unix_core.specs.Outside.{tick_of, typed_of, switched_of}
 
--- process 1, about to execute `/etc/init`: it has no parent, one click of data, and the root as its directory
-abbrev pub fresh_process : Process
-fresh_process = record no_process {
+-- process 1, whose program executes `/etc/init`: it has no parent, one click of data, and the root as its directory
+abbrev pub first_process : Process
+first_process = record no_process {
   row = record no_row { pid = 1 };
   u = record (sized_area 1 0) { dir = 1 };
-  «data» = replicate 64 0;
+  «data» = init_data;
 }
 
 -- The Unix of a file system with so many clicks of core. No file is open, and nobody has opened the console. The time
@@ -32,7 +32,7 @@ fresh_process = record no_process {
 abbrev pub first_unix : Store → ℕ → Unix
 first_unix store core = record {
   store = store;
-  processes = None ∷ Some fresh_process ∷ replicate 48 None;
+  processes = None ∷ Some first_process ∷ replicate 48 None;
   files = replicate 100 None;
   pipes = [];
   texts = no_texts;
@@ -45,20 +45,15 @@ first_unix store core = record {
 
 -- the system before its first turn
 abbrev pub system_with : Store → ℕ → System
-system_with store core = record { unix = first_unix store core; board = first_board core store.stamp; is_fresh = true }
+system_with store core = record { unix = first_unix store core; board = first_board core store.stamp }
 
--- `/etc/init` leads to a program
-abbrev pub has_form : System → Bool
-has_form m = is_found (init_in (inodes_in m.unix))
+-- the system that an image without a fault begins with, with so many clicks of core
+abbrev pub system_of : List ℕ → ℕ → System
+system_of image core = system_with (store_of (disk_of image)) core
 
-abbrev pub booted : System → Option System
-booted m = if has_form m then Some m else None
-
--- The system that an image with so many clicks of core begins with, or None where the image has a fault or hasn't the
--- form that is built. A program of that form with its stack and its u area fits into each core that is allowed.
+-- or None where the image has a fault
 abbrev pub boots : List ℕ → ℕ → Option System
-boots image core =
-    if is_some (image_fault image) then None else booted (system_with (store_of (disk_of image)) core)
+boots image core = if is_some (image_fault image) then None else Some (system_of image core)
 
 -- the system at its end, when all that has changed is on the disk
 abbrev pub finished : System → System
@@ -117,6 +112,10 @@ started m = goes_on_by (begun m) (start_of m)
 abbrev pub after_items : List Item → Course → Course
 after_items items c = record c { items = items ++ c.items }
 
--- the run of an image in so much core over some events, where the image has the form that is built
+-- the run of an image without a fault, in so much core, over some events
+abbrev pub run_of : List ℕ → ℕ → List Event → Course
+run_of image core events = course (started (system_of image core)) events
+
+-- or None where the image has a fault
 abbrev pub runs : List ℕ → ℕ → List Event → Option Course
 runs image core events = option_map (λ m. course (started m) events) (boots image core)

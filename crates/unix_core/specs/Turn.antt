@@ -1,17 +1,20 @@
--- The turn of a slot, where there is a process: first the exec of `/etc/init`, then an instruction a turn, or a call that it
--- goes on with, until it exits. `trap` and `swtch` in Lions' Commentary, `trap.c` and `slp.c`.
-use Rattle.std.specs.Prelude.{ℕ, zero, suc, ◌==◌, Bool, true, false, List, [], ◌∷◌, ◌++◌, Option, Some, None, is_some, if◌then◌else◌}
+-- The turn of a slot, where there is a process: an instruction, or a call that it goes on with, until it exits. `trap` and `swtch` in Lions' Commentary, `trap.c` and `slp.c`.
+use Rattle.std.specs.Prelude.{◌≡◌, ℕ, zero, suc, ◌==◌, Bool, true, false, List, [], ◌∷◌, ◌++◌, Option, Some, None, if◌then◌else◌}
 use Rattle.v6_base.specs.Trace.{Item, Log}
 use Rattle.v6_base.specs.declared.entry.Chan.TheVariants.{RunOut}
 use Rattle.v6_base.specs.declared.entry.Entry.{Entry}
 use Rattle.v6_base.specs.declared.entry.Entry.TheVariants as entry
 use Rattle.pdp_step.specs.declared.outcome.Outcome.{Outcome}
+use Rattle.pdp_step.specs.declared.outcome.Kind.{Kind}
+use Rattle.pdp_step.specs.declared.outcome.Kind.TheVariants as kind
 use Rattle.pdp_step.specs.declared.outcome.Outcome.TheVariants.{Next, Call, Fault}
 use Rattle.pdp_step.specs.Machine.{Machine}
 use Rattle.pdp_step.specs.Instruction.{Stepped, instr}
+use Rattle.pick_rules.specs.declared.table.Table.{Table}
+use Rattle.pick_rules.specs.Table.{row_at, is_ready, is_loaded}
 use Rattle.pick_rules.specs.Priority.{pswp}
 use Rattle.pick_rules.specs.Choice.{settle}
-use Rattle.pick_rules.specs.Board.{Board, core_fit}
+use Rattle.pick_rules.specs.Board.{Board}
 use Rattle.pick_rules.specs.Apply.{applied}
 use Rattle.pick_rules.specs.Effects.{Effect, Show}
 use Rattle.pick_rules.specs.Logged.{Logged, Stop, logged, left_by}
@@ -25,8 +28,7 @@ use Rattle.unix_core.specs.declared.turned.Turned.TheVariants.{Ran, Idle, NotBui
 use Rattle.unix_core.specs.Unix.{Unix, System, process_of, with_process}
 use Rattle.unix_core.specs.Steps as to
 use Rattle.unix_core.specs.Steps.{Steps, not_built}
-use Rattle.unix_core.specs.Calls.{system_call, resumed}
-use Rattle.unix_core.specs.Exec.{exec_init}
+use Rattle.unix_core.specs.Calls.{system_call, grows_to, resumed}
 
 -- what an instruction of a process works on, and the process after it
 abbrev pub machine_of : Process → Machine
@@ -35,29 +37,32 @@ machine_of p = record { r = p.u.r; cc = p.u.cc; image = image_of p }
 abbrev pub with_machine : Process → Machine → Process
 with_machine p m = record p { u = with_state p.u m.r m.cc; «data» = m.image.data; stack = m.image.stack }
 
-abbrev pub comes_to : (ℕ → Bool) → Unix → ℕ → Outcome → Steps
-comes_to has_room u slot Next = to.steps u
-comes_to has_room u slot (Call number) = system_call has_room number u slot
-comes_to has_room u slot (Fault kind) = not_built u
+-- A fault for which the stack may grow. All others make signals, which aren't built.
+abbrev pub faults : Board → Unix → ℕ → Kind → Steps
+faults b u slot kind.Odd = not_built u
+faults b u slot (kind.Segment sp) = grows_to b u slot sp
+faults b u slot (kind.Illegal word) = not_built u
+faults b u slot kind.Bpt = not_built u
+faults b u slot kind.Iot = not_built u
+faults b u slot kind.Emt = not_built u
 
-abbrev pub instruction : (ℕ → Bool) → Unix → ℕ → Steps
-instruction has_room u slot =
+abbrev pub comes_to : Board → Unix → ℕ → Outcome → Steps
+comes_to b u slot Next = to.steps u
+comes_to b u slot (Call number) = system_call b number u slot
+comes_to b u slot (Fault kind) = faults b u slot kind
+
+abbrev pub instruction : Board → Unix → ℕ → Steps
+instruction b u slot =
     let p : Process = process_of u slot in
     let s : Stepped = instr (machine_of p) in
-    comes_to has_room (with_process u slot (with_machine p s.machine)) slot s.outcome
+    comes_to b (with_process u slot (with_machine p s.machine)) slot s.outcome
 
 -- a process is in user mode, where it executes instructions, while it has no call to go on with
 abbrev pub is_user : Process → Bool
 is_user p = p.u.pending == 0
 
--- core has a place for so many clicks
-abbrev pub has_room : Board → ℕ → Bool
-has_room b clicks = is_some (core_fit b clicks)
-
 abbrev pub turn : System → ℕ → Steps
-turn m slot =
-    if m.is_fresh then exec_init m.unix slot else (
-    if is_user (process_of m.unix slot) then instruction (has_room m.board) m.unix slot else resumed m.unix slot)
+turn m slot = if is_user (process_of m.unix slot) then instruction m.board m.unix slot else resumed m.unix slot
 
 -- the lines of the log with which a turn ends
 abbrev pub end_effects : ℕ → Ending → List (Effect Unix)
@@ -95,7 +100,7 @@ settles m u l =
     let now : Settled = settled l.board in
     record {
       items = l.items ++ now.items;
-      next = record m { unix = left_by l.stop u; board = now.board };
+      next = record { unix = left_by l.stop u; board = now.board };
       is_idle = false;
       ending = None;
     }
@@ -117,7 +122,7 @@ ending_by pc (Some stop) ending = Some (At pc)
 abbrev pub turn_of : System → ℕ → Steps → Turn
 turn_of m slot steps =
     let l : Logged Unix = logged m.board (steps.effects ++ end_effects slot steps.ending) in
-    record (settles (record m { is_fresh = false }) steps.unix l) {
+    record (settles m steps.unix l) {
       ending = ending_by (register (process_of m.unix slot) 7) l.stop steps.ending;
     }
 
@@ -144,3 +149,7 @@ turned_by (Some place) is_idle = NotBuilt place
 
 abbrev pub turned : Turn → Turned
 turned t = turned_by t.ending t.is_idle
+
+-- no slot is loaded and ready
+abbrev pub NobodyCanRun : Table → Type 0
+NobodyCanRun t = (s : ℕ) → is_loaded t s ≡ true → is_ready (row_at t s).stat ≡ false

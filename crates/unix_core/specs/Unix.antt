@@ -1,5 +1,5 @@
 -- All that programs can see of a system: Lions' Commentary, `proc.h`, `user.h`, `file.h`, `text.h`.
-use Rattle.std.specs.Prelude.{ℕ, Bool, List, Option, Some, None, replicate, slice_index_or, slice_set}
+use Rattle.std.specs.Prelude.{ℕ, Bool, List, Option, Some, None, slice_index_or, slice_set}
 use Rattle.std.specs.Option.{unwrap_or}
 use Rattle.open_files.specs.declared.file.OpenFile.{OpenFile}
 use Rattle.fs_codec.specs.Store.{Store}
@@ -7,12 +7,8 @@ use Rattle.tty_line.specs.Terminal.{Terminal}
 use Rattle.pick_rules.specs.Board.{Board}
 use Rattle.sys_procs.specs.Process.{Process, no_process}
 use Rattle.sys_procs.specs.World.{Clock}
-
--- a text that processes share
-pub record Text : Type 0 where
-  pub ino : ℕ
-  pub bytes : List ℕ
-  pub users : ℕ
+pub use Rattle.sys_procs.specs.Texts.{Text}
+unfoldable pub use Rattle.sys_procs.specs.Texts.{no_texts}
 
 -- which ends of a pipe wait
 pub record PipeMarks : Type 0 where
@@ -36,7 +32,6 @@ pub record Unix : Type 0 where
 pub record System : Type 0 where
   pub unix : Unix
   pub board : Board
-  pub is_fresh : Bool  -- whether the first turn, the exec of `/etc/init`, is still to come
 
 -- a system and the blocks of its disk
 pub record SystemOnDisk : Type 0 where
@@ -55,7 +50,3 @@ with_process u slot p = record u { processes = slice_set u.processes slot (Some 
 -- a slot is empty
 abbrev pub without_process : Unix → ℕ → Unix
 without_process u slot = record u { processes = slice_set u.processes slot None }
-
--- no text is shared
-unfoldable pub no_texts : List (Option Text)
-no_texts = replicate 40 None

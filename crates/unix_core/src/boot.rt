@@ -25,8 +25,6 @@ const TAPE_BYTES: usize = 524288;
 pub enum BootFault {
     /// The image has this fault.
     Image(ImageFault),
-    /// The image hasn't the form that is built.
-    NotBuilt,
     /// There is no memory for it.
     NoMemory,
 }
@@ -58,7 +56,7 @@ impl Kernel {
         requires most { core ≤ 3968 }
         ensures system { IfOk result (λ kernel. boots image.now core ≡ Some kernel.system) }
         ensures blocks { IfOk result (λ kernel. kernel.blocks ≡ blocks_of image.now) }
-        ensures refused { IfErr result (RefusesBoot image.now core) }
+        ensures refused { IfErr result (RefusesBoot image.now) }
     {
         if let Err(fault) = accept(image) {
             return Err(BootFault::Image(fault));
@@ -73,9 +71,6 @@ impl Kernel {
         let Ok(tape) = Tape::new(alloc, TAPE_ENTRIES, TAPE_BYTES) else {
             return Err(BootFault::NoMemory);
         };
-        match Kernel::new(images, tape, nodes, time, core) {
-            Some(kernel) => Ok(kernel),
-            None => Err(BootFault::NotBuilt),
-        }
+        Ok(Kernel::new(images, tape, nodes, time, core))
     }
 }

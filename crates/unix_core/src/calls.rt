@@ -40,6 +40,8 @@ const LINK: u8 = 9;
 
 const UNLINK: u8 = 10;
 
+pub(crate) const EXEC: u8 = 11;
+
 const CHDIR: u8 = 12;
 
 const MKNOD: u8 = 14;
@@ -47,6 +49,8 @@ const MKNOD: u8 = 14;
 const CHMOD: u8 = 15;
 
 const CHOWN: u8 = 16;
+
+pub(crate) const BREAK: u8 = 17;
 
 const STAT: u8 = 18;
 
@@ -129,6 +133,8 @@ pub(crate) fn count_of(number: u8) -> Option<u8>
 {
     match number {
         0..=2 => Some(0),
+        EXEC => Some(2),
+        BREAK => Some(1),
         CLOSE | SYNC | DUP => Some(0),
         UNLINK | CHDIR | FSTAT | STTY | GTTY => Some(1),
         READ | WRITE | OPEN | CREAT | LINK | CHMOD | CHOWN | STAT | SEEK => Some(2),
@@ -216,6 +222,7 @@ pub(crate) fn do_process_call<T: Trace>(
         (came p.old (process_row_of (process_call number) (handed p.old tree.old.nodes) s args)).items (T.taken trace.new) }
     ensures frame { T.leads_to trace.old trace.new }
     ensures agree { AreProcs p.new }
+    ensures marks { tree.new.marks ≡ tree.old.marks }
     ensures blocks { SameRest tree.old.nodes.blocks tree.new.nodes.blocks }
 {
     match number {

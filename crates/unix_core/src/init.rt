@@ -1,52 +1,42 @@
-//! The search for the first program: `main` in Lions' Commentary, `main.c`.
-ghost use Rattle.std.specs.Prelude.{◌≡◌, ◌<◌, ◌≤◌, ℕ, true, false, slice_index, Ok, IfOk, MatchOption};
-ghost use Rattle.fs_tree.specs.Finding.{inodes_of};
-ghost use Rattle.sys_files.specs.Handed.{node_in};
-ghost use Rattle.unix_core.specs.Form.{is_program};
-ghost use Rattle.unix_core.specs.Exec.{init_in, is_found};
+//! The program of process 1: `icode` in Lions' Commentary, `main.c`.
+ghost use Rattle.std.specs.Prelude.{◌≡◌, ◌++◌, [], drop, length, replicate};
+ghost use Rattle.fs_codec.specs.Bytes.{bytes_of};
+ghost use Rattle.image_keep.specs.Kept.{HasImage, image_of, with_image};
+ghost use Rattle.unix_core.specs.Init.{init_words, init_data};
 
-use crate::files::{ROOT, see_nodes};
-use crate::form::is_program;
-use fs_tree::{NameBytes, Tree, User};
-use v6_base::{Errno, Fixed};
+use crate::files::see_kept;
+use sys_procs::Procs;
+use v6_base::{Slot, Space};
 
-/// The name of the first program, in a memory of 64 bytes: NULs stand after it.
-const NAME: [u8; 64] = *b"/etc/init\0\0\0\0\0\0\0\0\0\0\0\0\0\0\0\0\0\0\0\0\0\0\0\
-    \0\0\0\0\0\0\0\0\0\0\0\0\0\0\0\0\0\0\0\0\0\0\0\0\0\0\0\0\0\0\0\0";
+/// exec, with the name at 014 and the list of arguments at 010, and a branch to itself; the list, which is the name and the
+/// end; and the name, `/etc/init`.
+const PROGRAM: [u16; 11] = [
+    0o104413, 0o000014, 0o000010, 0o000777, 0o000014, 0o000000, 0o062457, 0o061564, 0o064457,
+    0o064556, 0o000164,
+];
 
-/// The super-user, who asks for it.
-const SUPER_USER: User = User { uid: 0, gid: 0 };
-
-/// Finds `/etc/init` for the super-user, and refers to it once more.
-fn search_init(tree: &mut Tree) -> Result<u16, Errno>
-    requires root { 0 < slice_index tree.old.nodes.references 1 }
-    requires few { (i : ℕ) → slice_index tree.old.nodes.references i ≤ 65530 }
-    ensures answer { result ≡ (init_in (inodes_of tree.old.nodes)).answer }
-    ensures inodes { inodes_of tree.new.nodes ≡ (init_in (inodes_of tree.old.nodes)).inodes }
-    ensures referred { IfOk result (λ ino. 0 < slice_index tree.new.nodes.references ino) }
-    ensures blocks { tree.new.nodes.blocks ≡ tree.old.nodes.blocks }
+/// Stores the program at the front of the data, one click, of an image with no text.
+fn store_program<S: Space>(space: &mut S)
+    requires text { (S.image space.old).text ≡ [] }
+    requires data { length (S.image space.old).data ≡ 64 }
+    ensures image { S.image space.new
+        ≡ record (S.image space.old) { «data» = bytes_of init_words ++ drop 22 (S.image space.old).data } }
+    ensures rest { S.rest space.new ≡ S.rest space.old }
 {
-    see_nodes(&tree.nodes);
-    let name = Fixed::new(NAME);
-    tree.find(ROOT, SUPER_USER, NameBytes::at(&name, 0))
+    for i in 0..11 {
+        let _ = space.store_word(2 * i as u16, PROGRAM[i]);
+    }
 }
 
-/// Finds `/etc/init`, where it is a program of the form that is built, and refers to it once more.
-pub(crate) fn find_init(tree: &mut Tree) -> Option<u16>
-    requires root { 0 < slice_index tree.old.nodes.references 1 }
-    requires few { (i : ℕ) → slice_index tree.old.nodes.references i ≤ 65530 }
-    ensures found { MatchOption result (is_found (init_in (inodes_of tree.old.nodes)) ≡ false)
-        (λ ino. ((init_in (inodes_of tree.old.nodes)).answer ≡ Ok ino)
-        × (inodes_of tree.new.nodes ≡ (init_in (inodes_of tree.old.nodes)).inodes)
-        × (is_program (node_in tree.new.nodes.store ino) ≡ true)) }
-    ensures blocks { tree.new.nodes.blocks ≡ tree.old.nodes.blocks }
+/// Puts the program at the front of the data of a slot, one click that is cleared.
+pub(crate) fn put_program(procs: &mut Procs, s: Slot)
+    requires image { HasImage procs.old.images s }
+    requires cleared { (image_of procs.old.images s).data ≡ replicate 64 0 }
+    ensures { procs.new ≡ record procs.old {
+      images = with_image procs.old.images s (record (image_of procs.old.images s) { «data» = init_data });
+    } }
 {
-    let Ok(ino) = search_init(tree) else {
-        return None;
-    };
-    if is_program(&mut tree.nodes, ino) {
-        Some(ino)
-    } else {
-        None
-    }
+    see_kept(&procs.images);
+    let mut space = procs.images.space(s);
+    store_program(&mut space);
 }

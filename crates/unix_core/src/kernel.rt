@@ -1,18 +1,17 @@
 //! The kernel, which takes one event a call.
-ghost use Rattle.std.specs.Prelude.{◌≡◌, ◌≢◌, ◌==◌, ◌<◌, ◌≤◌, ℕ, [], slice_index, None, Some, MatchOption, if◌then◌else◌, Ok, false};
+ghost use Rattle.std.specs.Prelude.{◌≡◌, ◌≢◌, ◌==◌, ◌<◌, ◌≤◌, ℕ, [], slice_index, if◌then◌else◌, Ok, false};
 ghost use Rattle.v6_base.specs.Trace.{Took};
 ghost use Rattle.fs_codec.specs.Stands.{StandsFor};
 ghost use Rattle.buf_cache.specs.Blocks.{block_at, IsDisk};
 ghost use Rattle.fs_laws.specs.Rest.{SameRest};
 ghost use Rattle.image_keep.specs.Kept.{Alive, first_kept, with_keeping};
 ghost use Rattle.unix_core.specs.Parts.{first_held};
-ghost use Rattle.unix_core.specs.Turn.{turned};
+ghost use Rattle.unix_core.specs.Turn.{turned, NobodyCanRun};
 ghost use Rattle.unix_core.specs.Outside.{is_signal_key};
 ghost use Rattle.unix_core.specs.Private.{AllUndisturbed, OthersUndisturbed};
 
-use crate::exec::{MOST_CLICKS, SLOT};
 use crate::files::{ROOT, see_kept, see_nodes};
-use crate::init::find_init;
+use crate::init::put_program;
 use crate::machine::{Machine, Stage, turned_at};
 use crate::turned::{Turned, Unbuilt};
 use crate::world::World;
@@ -29,24 +28,29 @@ use std::marker::Model;
 use sys_files::Files;
 use sys_procs::Procs;
 use tty_line::Line;
-use v6_base::{Entry, Tape, Trace};
+use v6_base::{Entry, Slot, Tape, Trace};
 
-/// The first image of process 1: one click of data, at the front of core.
-fn first_image(mut images: Images) -> Option<Images>
-    requires least { 64 ≤ images.core }
-    requires empty { images ≡ first_kept images.core }
-    ensures { MatchOption result ⊥ (λ kept. kept ≡ with_keeping images 1 (Alive first_held)) }
+/// The slot of process 1.
+const SLOT: Slot = 1;
+
+/// The sizes of process 1 as it begins: one click of data.
+const FIRST: Proto = Proto {
+    text_size: 0,
+    data_size: 1,
+    stack_size: 0,
+};
+
+/// Makes the first image of process 1, with the program that executes `/etc/init`, at the front of core.
+fn make_first(procs: &mut Procs)
+    requires least { 64 ≤ procs.old.images.core }
+    requires empty { procs.old.images ≡ first_kept procs.old.images.core }
+    ensures { procs.new ≡ record procs.old { images = with_keeping procs.old.images 1 (Alive first_held) } }
 {
-    let Ok(proto) = Proto::make(0, 1, 0, MOST_CLICKS) else {
-        return None;
-    };
-    if images.replace(SLOT, proto, None).is_err() {
-        return None;
-    }
-    let mut u = images.area(SLOT);
+    let _ = procs.images.replace(SLOT, FIRST, None);
+    put_program(procs, SLOT);
+    let mut u = procs.images.area(SLOT);
     u.dir = ROOT;
-    images.set_area(SLOT, &u);
-    Some(images)
+    procs.images.set_area(SLOT, &u);
 }
 
 /// The kernel with its processes and its disk: the abstract Unix, in fixed memory.
@@ -70,44 +74,37 @@ impl Model for Kernel {
 }
 
 impl Kernel {
-    ghost use Rattle.unix_core.specs.Runs.{Slot, Tick, Byte, Switch, start_of, event_of, system_with, booted, finished};
+    ghost use Rattle.unix_core.specs.Runs.{Slot, Tick, Byte, Switch, start_of, event_of, system_with, finished};
 
-    /// A kernel that is about to execute the first program of a file system, where that has the form that is built, with
-    /// images and a tape of which nothing is used. Inode 1 is referred to as the root and as a directory.
-    pub(crate) fn new(
-        images: Images,
-        tape: Tape,
-        nodes: Nodes,
-        time: u32,
-        core: u16,
-    ) -> Option<Self>
+    /// A kernel with a file system, whose process 1 is about to execute `/etc/init`, with images and a tape of which nothing
+    /// is used. Inode 1 is referred to as the root and as a directory.
+    pub(crate) fn new(images: Images, tape: Tape, nodes: Nodes, time: u32, core: u16) -> Self
         requires least { 64 ≤ core }
         requires most { core ≤ 3968 }
         requires images { images ≡ first_kept core }
         requires tape { tape ≡ record { entries = []; bytes = []; entry_room = 64; byte_room = 524288 } }
         requires referred { (ino : ℕ) → slice_index nodes.references ino ≡ (if ino == 1 then 2 else 0) }
         requires time { time ≡ nodes.store.stamp }
-        ensures { MatchOption result (booted (system_with nodes.store core) ≡ None)
-            (λ kernel. (booted (system_with nodes.store core) ≡ Some kernel.system) × (kernel.blocks ≡ nodes.blocks)) }
+        ensures system { result.system ≡ system_with nodes.store core }
+        ensures blocks { result.blocks ≡ nodes.blocks }
     {
         see_nodes(&nodes);
-        let mut tree = Tree::new(nodes);
-        let init = find_init(&mut tree)?;
-        let images = first_image(images)?;
+        let tree = Tree::new(nodes);
         let files = Files {
             tree,
             table: OpenTable::new(),
             line: Line::new(),
         };
-        let procs = Procs {
+        let mut procs = Procs {
             rows: Rows::new(),
             table: Table::new(time),
             images,
             switches: 0,
         };
-        Some(Kernel {
+        make_first(&mut procs);
+        Kernel {
             machine: Machine {
-                stage: Stage::Fresh(init),
+                stage: Stage::Resting,
                 regs: Regs { r: [0; 8], cc: 0 },
                 world: World {
                     files,
@@ -116,7 +113,7 @@ impl Kernel {
                     core,
                 },
             },
-        })
+        }
     }
 
     /// Takes the start of a run, once, before the first event: the swapper finds nobody to bring in, and there is a choice.
@@ -139,6 +136,7 @@ impl Kernel {
     /// it slept.
     pub fn turn<T: Trace>(&mut self, trace: &mut T) -> Turned
         ensures answer { result ≡ turned (event_of Slot self.old.system) }
+        ensures idle { result ≡ Turned.Idle → NobodyCanRun self.old.system.board.table }
         ensures next { self.new.system ≡ (event_of Slot self.old.system).next }
         ensures private { OthersUndisturbed self.old.system self.new.system }
         ensures rest { SameRest self.old.blocks self.new.blocks }
@@ -158,7 +156,7 @@ impl Kernel {
                     outcome => turned_at(self.machine.after_step(s, outcome, trace), at),
                 }
             }
-            Stage::Fresh(_) | Stage::Resting => {
+            Stage::Resting => {
                 let at = self.machine.pc();
                 turned_at(self.machine.other_slot(trace), at)
             }

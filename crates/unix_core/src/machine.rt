@@ -2,16 +2,15 @@
 ghost use Rattle.std.specs.Prelude.{◌≡◌, ◌≢◌, ◌<◌, ◌++◌, ℕ, Bool, true, false, None, Some};
 ghost use Rattle.v6_base.specs.Trace.{Took};
 ghost use Rattle.fs_laws.specs.Rest.{SameRest};
-ghost use Rattle.pick_rules.specs.Choice.{settle};
+ghost use Rattle.pick_rules.specs.Choice.{chosen, settle};
 ghost use Rattle.pick_rules.specs.Logged.{logged};
 ghost use Rattle.sys_procs.specs.Process.{register};
 ghost use Rattle.unix_core.specs.Unix.{Unix, System, process_of};
 ghost use Rattle.unix_core.specs.Turn.{turned, turned_by, ending_at, turn, turn_of, end_effects, settled, pass_of};
 ghost use Rattle.unix_core.specs.Outside.{calls, charged, mode_of, tick_entry, timed_area, tick_of, typed_of};
-ghost use Rattle.unix_core.specs.Parts.{unix_of, board_in, system_at, turn_at, turned_at, pc_at, rested, IsGood, IsReady, IsUser, IsRested, IsKernel, HasCome, HasStepped, Takes, none_more};
+ghost use Rattle.unix_core.specs.Parts.{unix_of, board_in, system_at, turn_at, turned_at, pc_at, rested, IsGood, IsReady, IsUser, IsRested, IsKernel, HasCome, HasStepped, Takes};
 
 use crate::ending::Ending;
-use crate::exec::exec;
 use crate::process::{come_to, resume};
 use crate::settling::{end_turn, pass, settle, wake};
 use crate::turned::{Turned, Unbuilt};
@@ -25,8 +24,6 @@ use v6_base::{Chan, Entry, Slot, Trace};
 /// What the next slot finds.
 #[derive(Clone, Copy, Debug, PartialEq, Eq)]
 pub enum Stage {
-    /// Process 1 will make its first turn, the exec of `/etc/init`, which is this inode.
-    Fresh(u16),
     /// The process in this slot executes instructions. Its registers stand apart from its u area.
     Running(Slot),
     /// A process goes on with a call, or nobody runs but the swapper, or nobody.
@@ -153,6 +150,7 @@ impl Machine {
     fn refresh(&mut self)
         requires rested { IsRested self.old.stage self.old.world }
         requires settled { (s : ℕ) → self.old.world.procs.table.running ≡ Some s → settle self.old.world.procs.table ≡ None }
+        requires idle { self.old.world.procs.table.running ≡ None → chosen self.old.world.procs.table ≡ None }
         ensures kernel { IsKernel self.new.stage self.new.world }
         ensures system { system_at self.new.stage self.new.regs self.new.world
             ≡ system_at self.old.stage self.old.regs self.old.world }
@@ -213,7 +211,7 @@ impl Machine {
         self.settle(trace);
     }
 
-    /// Takes a turn of a process as far as its call goes: the exec of the first program, or a call in which it slept.
+    /// Takes a turn of a process that goes on with a call in which it slept.
     fn go_on<T: Trace>(&mut self, s: Slot, trace: &mut T) -> Ending
         requires kernel { IsKernel self.old.stage self.old.world }
         requires runs { self.old.world.procs.table.running ≡ Some s }
@@ -222,26 +220,20 @@ impl Machine {
         ensures come { HasCome (board_in self.old.world)
             (turn (system_at self.old.stage self.old.regs self.old.world) s) result self.new.world }
         ensures stage { self.new.stage ≡ Stage.Resting }
-        ensures good { IsGood self.new.world none_more }
+        ensures good { IsGood self.new.world }
         ensures runs { result ≢ Ending.Ended → self.new.world.procs.table.running ≡ Some s }
         ensures rest { SameRest self.old.world.files.tree.nodes.blocks self.new.world.files.tree.nodes.blocks }
         ensures items { Took (T.taken trace.old) (logged (board_in self.old.world)
             (turn (system_at self.old.stage self.old.regs self.old.world) s).effects).items (T.taken trace.new) }
         ensures frame { T.leads_to trace.old trace.new }
     {
-        match self.stage {
-            Stage::Fresh(init) => {
-                self.stage = Stage::Resting;
-                exec(&mut self.world, init, trace)
-            }
-            Stage::Running(_) | Stage::Resting => resume(&mut self.world, s, trace),
-        }
+        resume(&mut self.world, s, trace)
     }
 
     /// Ends a turn of a process that has come to this, and settles. It stands out of line, beside the loop over slots.
     #[inline(never)]
     fn end<T: Trace>(&mut self, s: Slot, ending: Ending, trace: &mut T) -> Went
-        requires good { IsGood self.old.world none_more }
+        requires good { IsGood self.old.world }
         requires user { 0 < s }
         requires slot { s < 50 }
         requires runs { ending ≢ Ending.Ended → self.old.world.procs.table.running ≡ Some s }
@@ -251,7 +243,6 @@ impl Machine {
         ensures system { system_at self.new.stage self.new.regs self.new.world ≡ record {
           unix = unix_of self.old.world;
           board = (settled (logged {W = Unix} (board_in self.old.world) (end_effects s ending)).board).board;
-          is_fresh = false;
         } }
         ensures blocks { self.new.world.files.tree.nodes.blocks ≡ self.old.world.files.tree.nodes.blocks }
         ensures items { Took (T.taken trace.old) ((logged {W = Unix} (board_in self.old.world) (end_effects s ending)).items

@@ -1,5 +1,5 @@
 //! Turns and calls of a process: what an instruction comes to, and how a call goes on. `trap` in Lions' Commentary, `trap.c`.
-ghost use Rattle.std.specs.Prelude.{◌≡◌, ◌≢◌, ◌||◌, Some, true, is_some, is_none};
+ghost use Rattle.std.specs.Prelude.{◌≡◌, ◌≢◌, ◌||◌, Some, true, is_some, is_none, slice_index};
 ghost use Rattle.v6_base.specs.Trace.{Took};
 ghost use Rattle.fs_laws.specs.Rest.{SameRest};
 ghost use Rattle.pick_rules.specs.Logged.{logged};
@@ -8,13 +8,15 @@ ghost use Rattle.open_files.specs.Files.{AreOpen, HaveRoom};
 ghost use Rattle.proc_tab.specs.Processes.{lowest, IsUsed};
 ghost use Rattle.sys_files.specs.Moving.{resume_read};
 ghost use Rattle.sys_procs.specs.Resume.{resume_proc};
+ghost use Rattle.sys_procs.specs.Break.{break_at};
+ghost use Rattle.sys_procs.specs.ExecFile.{exec_file};
 ghost use Rattle.unix_core.specs.Unix.{process_of};
-ghost use Rattle.unix_core.specs.Calls.{world_of, words_passed, entered_area, given_area, refused_area, file_call, process_call, count_of, system_call, does_call, did_by, came_by, shares, is_full, fork_if_room, exits, resumed, answers, handed_of};
-ghost use Rattle.unix_core.specs.Turn.{comes_to, has_room};
-ghost use Rattle.unix_core.specs.Parts.{unix_of, board_in, IsGood, IsReady, HasCome, none_more, row_of, process_row_of};
+ghost use Rattle.unix_core.specs.Calls.{world_of, words_passed, entered_area, given_area, refused_area, file_call, process_call, count_of, system_call, does_call, did_by, came_by, shares, is_full, has_room, fork_if_room, exits, halted_as, tried_by, grows_to, resumed, answers, handed_of};
+ghost use Rattle.unix_core.specs.Turn.{faults, comes_to};
+ghost use Rattle.unix_core.specs.Parts.{unix_of, board_in, IsGood, IsReady, HasCome, row_of, process_row_of};
 
 use crate::asked::{Asked, ask};
-use crate::calls::{count_of, do_process_call, error_number, is_file_call};
+use crate::calls::{BREAK, EXEC, count_of, do_process_call, error_number, is_file_call};
 use crate::ending::Ending;
 use crate::files::{see_images, see_kept, see_nodes, see_table};
 use crate::onfiles::{close_files, do_on_files, read_on};
@@ -22,9 +24,9 @@ use crate::passing::pass_on;
 use crate::world::World;
 use image_keep::Images;
 use open_files::OpenTable;
-use pdp_step::Outcome;
+use pdp_step::{Kind, Outcome};
 use proc_tab::Rows;
-use sys_procs::{exit_now, fork_one, resume_proc};
+use sys_procs::{Halt, break_at, exec_file, exit_now, fork_one, grow, resume_proc};
 use v6_base::{Answer, Slot, Trace};
 
 /// Calls that have no row of their own in the tables: indir(II), exit(II), fork(II).
@@ -202,10 +204,10 @@ fn share_files(table: &mut OpenTable, mine: &[u8; 15], answer: Answer)
 /// fork(II): the child has its parent's open files.
 fn fork<T: Trace>(world: &mut World, s: Slot, trace: &mut T) -> Ending
     requires { IsReady world.old s }
-    ensures come { HasCome (board_in world.old) (fork_if_room (has_room (board_in world.old)) (unix_of world.old) s) result
+    ensures come { HasCome (board_in world.old) (fork_if_room (board_in world.old) (unix_of world.old) s) result
         world.new }
     ensures ready { IsReady world.new s }
-    ensures items { Took (T.taken trace.old) (logged (board_in world.old) (fork_if_room (has_room (board_in world.old))
+    ensures items { Took (T.taken trace.old) (logged (board_in world.old) (fork_if_room (board_in world.old)
         (unix_of world.old) s).effects).items (T.taken trace.new) }
     ensures frame { T.leads_to trace.old trace.new }
     ensures rest { SameRest world.old.files.tree.nodes.blocks world.new.files.tree.nodes.blocks }
@@ -230,7 +232,7 @@ fn fork<T: Trace>(world: &mut World, s: Slot, trace: &mut T) -> Ending
 fn exit<T: Trace>(world: &mut World, s: Slot, trace: &mut T) -> Ending
     requires { IsReady world.old s }
     ensures come { HasCome (board_in world.old) (exits (unix_of world.old) s) result world.new }
-    ensures good { IsGood world.new none_more }
+    ensures good { IsGood world.new }
     ensures runs { result ≢ Ending.Ended → world.new.procs.table.running ≡ Some s }
     ensures items { Took (T.taken trace.old) (logged (board_in world.old) (exits (unix_of world.old) s).effects).items
         (T.taken trace.new) }
@@ -250,6 +252,81 @@ fn exit<T: Trace>(world: &mut World, s: Slot, trace: &mut T) -> Ending
     }
 }
 
+/// How a turn ends in which a call goes further than is built.
+fn halted(halt: Halt) -> Ending
+    ensures { result ≡ halted_as halt }
+{
+    match halt {
+        Halt::SharedText => Ending::NotBuilt,
+        Halt::NoRoom => Ending::NoRoom,
+    }
+}
+
+/// exec(II).
+fn exec<T: Trace>(world: &mut World, s: Slot, args: [u16; 4], trace: &mut T) -> Ending
+    requires { IsReady world.old s }
+    ensures come { HasCome (board_in world.old) (tried_by (unix_of world.old) s (exec_file (board_in world.old)
+        (world_of (unix_of world.old)) s (slice_index args 0) (slice_index args 1))) result world.new }
+    ensures ready { IsReady world.new s }
+    ensures items { Took (T.taken trace.old) (logged (board_in world.old) (tried_by (unix_of world.old) s (exec_file
+        (board_in world.old) (world_of (unix_of world.old)) s (slice_index args 0) (slice_index args 1))).effects).items
+        (T.taken trace.new) }
+    ensures frame { T.leads_to trace.old trace.new }
+    ensures rest { SameRest world.old.files.tree.nodes.blocks world.new.files.tree.nodes.blocks }
+{
+    see_nodes(&world.files.tree.nodes);
+    see_table(&world.files.table);
+    let tried = exec_file(&mut world.procs, &mut world.files.tree, s, args, trace);
+    see_images(&world.procs.images);
+    match tried {
+        Ok(answer) => conclude(world, s, answer),
+        Err(halt) => halted(halt),
+    }
+}
+
+/// break(II).
+fn set_break<T: Trace>(world: &mut World, s: Slot, args: [u16; 4], trace: &mut T) -> Ending
+    requires { IsReady world.old s }
+    ensures come { HasCome (board_in world.old) (tried_by (unix_of world.old) s (break_at (board_in world.old)
+        (world_of (unix_of world.old)) s (slice_index args 0))) result world.new }
+    ensures ready { IsReady world.new s }
+    ensures items { Took (T.taken trace.old) (logged (board_in world.old) (tried_by (unix_of world.old) s (break_at
+        (board_in world.old) (world_of (unix_of world.old)) s (slice_index args 0))).effects).items (T.taken trace.new) }
+    ensures frame { T.leads_to trace.old trace.new }
+    ensures rest { SameRest world.old.files.tree.nodes.blocks world.new.files.tree.nodes.blocks }
+{
+    see_nodes(&world.files.tree.nodes);
+    see_table(&world.files.table);
+    let tried = break_at(&mut world.procs, &mut world.files.tree, s, args, trace);
+    see_images(&world.procs.images);
+    match tried {
+        Ok(answer) => conclude(world, s, answer),
+        Err(halt) => halted(halt),
+    }
+}
+
+/// Lets the stack grow for an instruction that wanted an address below it: the instruction is done again in a later slot.
+fn grow_stack<T: Trace>(world: &mut World, s: Slot, sp: u16, trace: &mut T) -> Ending
+    requires { IsReady world.old s }
+    ensures come { HasCome (board_in world.old) (grows_to (board_in world.old) (unix_of world.old) s sp) result world.new }
+    ensures ready { IsReady world.new s }
+    ensures call { result ≢ Ending.Next }
+    ensures items { Took (T.taken trace.old) (logged (board_in world.old)
+        (grows_to (board_in world.old) (unix_of world.old) s sp).effects).items (T.taken trace.new) }
+    ensures frame { T.leads_to trace.old trace.new }
+    ensures rest { SameRest world.old.files.tree.nodes.blocks world.new.files.tree.nodes.blocks }
+{
+    see_nodes(&world.files.tree.nodes);
+    see_table(&world.files.table);
+    let grown = grow(&mut world.procs, &mut world.files.tree, s, sp, trace);
+    see_images(&world.procs.images);
+    match grown {
+        Ok(true) => Ending::Trapped,
+        Ok(false) => Ending::NotBuilt,
+        Err(halt) => halted(halt),
+    }
+}
+
 /// A call by its number, which is built and has been entered.
 fn does_call<T: Trace>(
     world: &mut World,
@@ -261,11 +338,11 @@ fn does_call<T: Trace>(
     requires ready { IsReady world.old s }
     requires built { is_some (count_of number) ≡ true }
     ensures come { HasCome (board_in world.old)
-        (does_call (has_room (board_in world.old)) (unix_of world.old) s number args) result world.new }
-    ensures good { IsGood world.new none_more }
+        (does_call (board_in world.old) (unix_of world.old) s number args) result world.new }
+    ensures good { IsGood world.new }
     ensures runs { result ≢ Ending.Ended → world.new.procs.table.running ≡ Some s }
     ensures call { result ≢ Ending.Next }
-    ensures items { Took (T.taken trace.old) (logged (board_in world.old) (does_call (has_room (board_in world.old))
+    ensures items { Took (T.taken trace.old) (logged (board_in world.old) (does_call (board_in world.old)
         (unix_of world.old) s number args).effects).items (T.taken trace.new) }
     ensures frame { T.leads_to trace.old trace.new }
     ensures rest { SameRest world.old.files.tree.nodes.blocks world.new.files.tree.nodes.blocks }
@@ -278,6 +355,12 @@ fn does_call<T: Trace>(
     }
     if number == FORK {
         return fork(world, s, trace);
+    }
+    if number == EXEC {
+        return exec(world, s, args, trace);
+    }
+    if number == BREAK {
+        return set_break(world, s, args, trace);
     }
     if is_file_call(number) {
         return call_files(world, s, number, args, trace);
@@ -296,12 +379,12 @@ fn words_passed(asked: &Asked, count: u8) -> u8
 fn call<T: Trace>(world: &mut World, s: Slot, number: u8, trace: &mut T) -> Ending
     requires { IsReady world.old s }
     ensures come { HasCome (board_in world.old)
-        (system_call (has_room (board_in world.old)) number (unix_of world.old) s) result world.new }
-    ensures good { IsGood world.new none_more }
+        (system_call (board_in world.old) number (unix_of world.old) s) result world.new }
+    ensures good { IsGood world.new }
     ensures runs { result ≢ Ending.Ended → world.new.procs.table.running ≡ Some s }
     ensures call { result ≢ Ending.Next }
     ensures items { Took (T.taken trace.old) (logged (board_in world.old)
-        (system_call (has_room (board_in world.old)) number (unix_of world.old) s).effects).items
+        (system_call (board_in world.old) number (unix_of world.old) s).effects).items
         (T.taken trace.new) }
     ensures frame { T.leads_to trace.old trace.new }
     ensures rest { SameRest world.old.files.tree.nodes.blocks world.new.files.tree.nodes.blocks }
@@ -316,6 +399,22 @@ fn call<T: Trace>(world: &mut World, s: Slot, number: u8, trace: &mut T) -> Endi
     }
 }
 
+/// A fault, for which the stack may grow.
+fn fault<T: Trace>(world: &mut World, s: Slot, kind: Kind, trace: &mut T) -> Ending
+    requires { IsReady world.old s }
+    ensures come { HasCome (board_in world.old) (faults (board_in world.old) (unix_of world.old) s kind) result world.new }
+    ensures ready { IsReady world.new s }
+    ensures items { Took (T.taken trace.old) (logged (board_in world.old)
+        (faults (board_in world.old) (unix_of world.old) s kind).effects).items (T.taken trace.new) }
+    ensures frame { T.leads_to trace.old trace.new }
+    ensures rest { SameRest world.old.files.tree.nodes.blocks world.new.files.tree.nodes.blocks }
+{
+    match kind {
+        Kind::Segment { sp } => grow_stack(world, s, sp, trace),
+        _ => Ending::NotBuilt,
+    }
+}
+
 /// What an instruction comes to that isn't just done.
 #[inline(never)]
 pub(crate) fn come_to<T: Trace>(
@@ -326,10 +425,10 @@ pub(crate) fn come_to<T: Trace>(
 ) -> Ending
     requires { IsReady world.old s }
     ensures come { HasCome (board_in world.old)
-        (comes_to (has_room (board_in world.old)) (unix_of world.old) s outcome) result world.new }
-    ensures good { IsGood world.new none_more }
+        (comes_to (board_in world.old) (unix_of world.old) s outcome) result world.new }
+    ensures good { IsGood world.new }
     ensures runs { result ≢ Ending.Ended → world.new.procs.table.running ≡ Some s }
-    ensures items { Took (T.taken trace.old) (logged (board_in world.old) (comes_to (has_room (board_in world.old))
+    ensures items { Took (T.taken trace.old) (logged (board_in world.old) (comes_to (board_in world.old)
         (unix_of world.old) s outcome).effects).items (T.taken trace.new) }
     ensures frame { T.leads_to trace.old trace.new }
     ensures rest { SameRest world.old.files.tree.nodes.blocks world.new.files.tree.nodes.blocks }
@@ -337,7 +436,7 @@ pub(crate) fn come_to<T: Trace>(
     match outcome {
         Outcome::Next => Ending::Next,
         Outcome::Call(number) => call(world, s, number, trace),
-        Outcome::Fault(_) => Ending::NotBuilt,
+        Outcome::Fault(kind) => fault(world, s, kind, trace),
     }
 }
 
@@ -394,7 +493,7 @@ fn go_on_waiting<T: Trace>(world: &mut World, s: Slot, trace: &mut T) -> Ending
 pub(crate) fn resume<T: Trace>(world: &mut World, s: Slot, trace: &mut T) -> Ending
     requires { IsReady world.old s }
     ensures come { HasCome (board_in world.old) (resumed (unix_of world.old) s) result world.new }
-    ensures good { IsGood world.new none_more }
+    ensures good { IsGood world.new }
     ensures runs { world.new.procs.table.running ≡ Some s }
     ensures alive { result ≢ Ending.Ended }
     ensures items { Took (T.taken trace.old) (logged (board_in world.old) (resumed (unix_of world.old) s).effects).items

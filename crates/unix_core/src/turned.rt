@@ -13,8 +13,6 @@ pub enum Turned {
 /// What is not built yet.
 #[derive(Clone, Copy, Debug, PartialEq, Eq)]
 pub enum Unbuilt {
-    /// The disk image is of another form than the one that can be booted.
-    Image,
     /// The script's line of this number, from 1.
     Line(u32),
     /// What the running process has at this PC: an instruction that comes to a fault, or a call.

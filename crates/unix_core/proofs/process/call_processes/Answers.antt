@@ -33,7 +33,7 @@ conclude-requires g c =
     let done : World = record w { files = record w.files { tree = c.do_process_call.new.tree }; procs = c.do_process_call.new.p } in
     came_ready w done s c.requires r m c.do_process_call.ensures.agree
     (came_state w.procs m _ c.do_process_call.ensures.state) (came_board w.procs m _ c.do_process_call.ensures.board)
-    c.see_images.ensures refl refl refl refl
+    c.see_images.ensures refl c.do_process_call.ensures.marks refl refl refl
 
 pub returns-in-Ok-clause-come : goal.returns-in-Ok-clause-come
 returns-in-Ok-clause-come g c =
@@ -44,7 +44,7 @@ returns-in-Ok-clause-come g c =
     let done : World = record w { files = record w.files { tree = c.do_process_call.new.tree }; procs = c.do_process_call.new.p } in
     let shown = came_board w.procs m _ c.do_process_call.ensures.board in
     let unix = came_unix w done s c.requires r m c.do_process_call.ensures.agree
-    (came_state w.procs m _ c.do_process_call.ensures.state) shown c.see_images.ensures refl refl refl refl in
+    (came_state w.procs m _ c.do_process_call.ensures.state) shown c.see_images.ensures refl c.do_process_call.ensures.marks refl refl refl in
     let ok : ◌≡◌ {A = Result Answer PanicKind} (Ok c.in-Ok.answer) (Ok r.answer) = sym c.in-Ok.is ∙ came_answer w.procs m _ c.do_process_call.ensures.answer in
     let answer : c.in-Ok.answer ≡ r.answer = cc ok in
     subst (λ x. HasCome (board_in w) (came_by (unix_of w) s (process_row_of (process_call c.args.number) x s c.args.args)) c.conclude.result c.conclude.new.world)

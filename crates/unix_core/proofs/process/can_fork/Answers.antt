@@ -5,8 +5,7 @@ use Rattle.image_keep.specs.Places.{core_fit}
 use Rattle.u_area.specs.declared.area.UArea.{UArea}
 use Rattle.unix_core.specs.declared.world.World.{World}
 use Rattle.unix_core.specs.Unix.{process_of}
-use Rattle.unix_core.specs.Calls.{is_full}
-use Rattle.unix_core.specs.Turn.{has_room}
+use Rattle.unix_core.specs.Calls.{is_full, has_room}
 use Rattle.unix_core.specs.Parts.{unix_of, board_in, IsReady}
 use Rattle.unix_core.proofs.AreaLemmas.{own_area}
 use Rattle.unix_core.proofs.ForkLemmas.{few_clicks}

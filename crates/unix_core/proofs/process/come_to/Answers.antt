@@ -3,14 +3,14 @@ use Rattle.v6_base.specs.Trace.{Took}
 use Rattle.pick_rules.specs.Logged.{logged}
 use Rattle.pdp_step.specs.declared.outcome.Outcome.{Outcome}
 use Rattle.unix_core.specs.declared.world.World.{World}
-use Rattle.unix_core.specs.Turn.{comes_to, has_room}
+use Rattle.unix_core.specs.Turn.{comes_to}
 use Rattle.unix_core.specs.Parts.{unix_of, board_in, HasCome}
 use Rattle.unix_core.proofs.process.come_to.Goals as goal
 
 pub returns-in-Call-clause-come : goal.returns-in-Call-clause-come
 returns-in-Call-clause-come g c =
     let w : World = c.args.world.now in
-    subst (λ (o : Outcome). HasCome (board_in w) (comes_to (has_room (board_in w)) (unix_of w) c.args.s o)
+    subst (λ (o : Outcome). HasCome (board_in w) (comes_to (board_in w) (unix_of w) c.args.s o)
     c.call.result c.call.new.world) (sym c.in-Call.is)
     c.call.ensures.come
 
@@ -18,5 +18,25 @@ pub returns-in-Call-clause-items : goal.returns-in-Call-clause-items
 returns-in-Call-clause-items g c =
     let w : World = c.args.world.now in
     subst (λ (o : Outcome). Took (g.T.Trace.taken c.args.trace.now)
-    (logged (board_in w) (comes_to (has_room (board_in w)) (unix_of w) c.args.s o).effects).items
+    (logged (board_in w) (comes_to (board_in w) (unix_of w) c.args.s o).effects).items
     (g.T.Trace.taken c.call.new.trace)) (sym c.in-Call.is) c.call.ensures.items
+
+pub returns-in-Fault-clause-come : goal.returns-in-Fault-clause-come
+returns-in-Fault-clause-come g c =
+    let w : World = c.args.world.now in
+    subst (λ (o : Outcome). HasCome (board_in w) (comes_to (board_in w) (unix_of w) c.args.s o)
+    c.fault.result c.fault.new.world) (sym c.in-Fault.is)
+    c.fault.ensures.come
+
+pub returns-in-Fault-clause-items : goal.returns-in-Fault-clause-items
+returns-in-Fault-clause-items g c =
+    let w : World = c.args.world.now in
+    subst (λ (o : Outcome). Took (g.T.Trace.taken c.args.trace.now)
+    (logged (board_in w) (comes_to (board_in w) (unix_of w) c.args.s o).effects).items
+    (g.T.Trace.taken c.fault.new.trace)) (sym c.in-Fault.is) c.fault.ensures.items
+
+pub returns-in-Fault-clause-good : goal.returns-in-Fault-clause-good
+returns-in-Fault-clause-good g c = c.fault.ensures.ready.good
+
+pub returns-in-Fault-clause-runs : goal.returns-in-Fault-clause-runs
+returns-in-Fault-clause-runs g c = λ other. c.fault.ensures.ready.runs

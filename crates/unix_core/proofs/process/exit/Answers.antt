@@ -7,7 +7,7 @@ use Rattle.open_files.specs.Files.{times}
 use Rattle.sys_procs.specs.Process.{Process}
 use Rattle.unix_core.specs.Unix.{Unix, process_of}
 use Rattle.unix_core.specs.Calls.{closes_all, with_handed}
-use Rattle.unix_core.specs.Parts.{unix_of, board_in, none_more, IsReady}
+use Rattle.unix_core.specs.Parts.{unix_of, board_in, IsReady}
 use Rattle.unix_core.proofs.ReferenceLemmas.{slot_within}
 use Rattle.unix_core.proofs.WorldLemmas.{slot_is, is_living, fifteen_each}
 use Rattle.unix_core.proofs.ShowingLemmas.{with_woken, woken_ready, woken_unix, shown_board}
@@ -34,7 +34,7 @@ closed_then w w1 s ready then unix entry =
     let p : Process = process_of (unix_of w) s in
     let low = slot_within (unix_of w).processes s p (slot_is w s ready) in
     let long : length (process_of (unix_of w1) s).u.files ≡ 15 =
-    fifteen_each w1 none_more then.good s (process_of (unix_of w1) s) (slot_is w1 s then) (is_living w1 s then) in
+    fifteen_each w1 then.good s (process_of (unix_of w1) s) (slot_is w1 s then) (is_living w1 s then) in
     ap (λ (u : Unix). times (process_of u s).u.files entry) unix
     ∙ all_closed (unix_of w) s entry low (sym (ap (λ (u : Unix). length (process_of u s).u.files) unix) ∙ long)
 
@@ -57,7 +57,7 @@ returns-in-Ok-clause-come g c =
     let state = end_state w1 s ready _ c.exit_now.ensures.state in
     exit_come w w1 now s ready c.see_nodes.ensures unix
     (ap (λ t. board_in (with_table new t)) c.pass_on.ensures.table ∙ shown_board w new s _ c.close_files.ensures.shown)
-    (ended_unix w1 now s ready closed c.exit_now.ensures.agree state c.exit_now.ensures.board c.see_images.ensures refl refl refl refl)
+    (ended_unix w1 now s ready closed c.exit_now.ensures.agree state c.exit_now.ensures.board c.see_images.ensures refl c.exit_now.ensures.marks refl refl refl)
     c.exit_now.ensures.board
 
 pub returns-in-Ok-clause-good : goal.returns-in-Ok-clause-good
@@ -71,7 +71,7 @@ returns-in-Ok-clause-good g c =
     let unix = unix_then w new s c.pass_on.new.table c.close_files.ensures.unix c.pass_on.ensures.table in
     let closed = closed_then w w1 s c.requires ready unix in
     let state = end_state w1 s ready _ c.exit_now.ensures.state in
-    ended_good w1 now s ready closed c.exit_now.ensures.agree state c.exit_now.ensures.board c.see_images.ensures refl refl refl refl
+    ended_good w1 now s ready closed c.exit_now.ensures.agree state c.exit_now.ensures.board c.see_images.ensures refl c.exit_now.ensures.marks refl refl refl
 
 pub returns-in-Ok-clause-items : goal.returns-in-Ok-clause-items
 returns-in-Ok-clause-items g c =
@@ -113,3 +113,9 @@ returns-in-Err-clause-items g c =
     let ready = ready_then new c.args.s c.pass_on.new.table c.close_files.ensures.shown.ready c.pass_on.ensures.table c.pass_on.ensures.good in
     let no = sym (end_answer (with_table new c.pass_on.new.table) c.args.s ready _ c.exit_now.ensures.answer) ∙ c.in-Err.is in
     absurd (cc no)
+
+pub returns-in-Ok-clause-frame : goal.returns-in-Ok-clause-frame
+returns-in-Ok-clause-frame g c = g.met.T.Trace.goes_on _ _ _ c.pass_on.ensures.frame c.exit_now.ensures.frame
+
+pub returns-in-Err-clause-frame : goal.returns-in-Err-clause-frame
+returns-in-Err-clause-frame g c = g.met.T.Trace.goes_on _ _ _ c.pass_on.ensures.frame c.exit_now.ensures.frame

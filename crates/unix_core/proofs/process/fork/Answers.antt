@@ -14,7 +14,7 @@ use Rattle.fs_tree.specs.declared.tree.Tree.{Tree}
 use Rattle.sys_procs.specs.declared.procs.Procs.{Procs}
 use Rattle.unix_core.specs.Unix.{process_of}
 use Rattle.unix_core.specs.Calls.{shares}
-use Rattle.unix_core.specs.Parts.{unix_of, none_more, named, IsReady}
+use Rattle.unix_core.specs.Parts.{unix_of, named, IsReady}
 use Rattle.unix_core.proofs.ReferenceLemmas.{few_named}
 use Rattle.unix_core.proofs.WorldLemmas.{files_open, fifteen_each}
 use Rattle.unix_core.proofs.AreaLemmas.{own_area}
@@ -28,7 +28,7 @@ room_for : (w : World) (s : ℕ) → IsReady w s → HaveRoom w.files.table
 room_for w s ready entry file is =
     let ps : List (Option Process) = (unix_of w).processes in
     let count : file.count ≡ named ps entry = ap numbers_of (sym is) ∙ ready.good.numbers entry in
-    let few = few_named ps entry (fifty_processes w.procs.rows.slots w.procs.images) (fifteen_each w none_more ready.good) in
+    let few = few_named ps entry (fifty_processes w.procs.rows.slots w.procs.images) (fifteen_each w ready.good) in
     omega (arith, count, few)
 
 pub area-u-requires : goal.area-u-requires
@@ -70,7 +70,7 @@ conclude-requires g c =
     c.fork_one.ensures.agree c.fork_one.ensures.state c.fork_one.ensures.board c.see_images.ensures
     c.in-Ok.answer (fork_gives w c.args.s c.requires room _ c.in-Ok.answer c.fork_one.ensures.answer c.in-Ok.is)
     (its_table w c.args.s c.area-u.result _ c.in-Ok.answer c.requires c.area-u.ensures.u c.share_files.ensures)
-    refl refl refl
+    c.fork_one.ensures.marks refl refl refl
 
 pub returns-in-Ok-clause-come : goal.returns-in-Ok-clause-come
 returns-in-Ok-clause-come g c =
@@ -80,7 +80,7 @@ returns-in-Ok-clause-come g c =
     c.fork_one.ensures.agree c.fork_one.ensures.state c.fork_one.ensures.board c.see_images.ensures
     c.in-Ok.answer (fork_gives w c.args.s c.requires room _ c.in-Ok.answer c.fork_one.ensures.answer c.in-Ok.is)
     (its_table w c.args.s c.area-u.result _ c.in-Ok.answer c.requires c.area-u.ensures.u c.share_files.ensures)
-    refl refl refl
+    c.fork_one.ensures.marks refl refl refl
     c.conclude.new.world c.conclude.result c.see_nodes.ensures c.conclude.ensures.ending c.conclude.ensures.unix c.conclude.ensures.board
 
 pub returns-in-Ok-clause-items : goal.returns-in-Ok-clause-items

@@ -38,7 +38,7 @@ conclude-requires g c =
     } in
     came_ready w done s c.requires r m c.resume_proc.ensures.agree
     (came_state w.procs m _ c.resume_proc.ensures.state) (came_board w.procs m _ c.resume_proc.ensures.board)
-    c.see_images.ensures refl refl refl refl
+    c.see_images.ensures refl c.resume_proc.ensures.marks refl refl refl
 
 pub returns-in-Ok-clause-come : goal.returns-in-Ok-clause-come
 returns-in-Ok-clause-come g c =
@@ -53,7 +53,7 @@ returns-in-Ok-clause-come g c =
     } in
     let shown = came_board w.procs m _ c.resume_proc.ensures.board in
     let unix = came_unix w done s c.requires r m c.resume_proc.ensures.agree
-    (came_state w.procs m _ c.resume_proc.ensures.state) shown c.see_images.ensures refl refl refl refl in
+    (came_state w.procs m _ c.resume_proc.ensures.state) shown c.see_images.ensures refl c.resume_proc.ensures.marks refl refl refl in
     let ok : ◌≡◌ {A = Result Answer PanicKind} (Ok c.in-Ok.answer) (Ok r.answer) = sym c.in-Ok.is
     ∙ came_answer w.procs m _ c.resume_proc.ensures.answer in
     let answer : c.in-Ok.answer ≡ r.answer = cc ok in

@@ -19,6 +19,7 @@ use Rattle.unix_core.proofs.MachineLemmas.{runs_kernel}
 use Rattle.unix_core.proofs.TurnSteps.{lent_stepped, lent_user, apart_process, user_slot, quiet_system, plain_answer, plain_next, plain_items}
 use Rattle.unix_core.specs.Private.{OthersUndisturbed}
 use Rattle.unix_core.proofs.PrivateLemmas.{slot_private}
+use Rattle.unix_core.proofs.IdleLemmas.{idle_nobody}
 use Rattle.unix_core.proofs.kernel.Kernel.turn.Goals as goal
 
 pub space-space-requires : goal.space-space-requires
@@ -167,10 +168,12 @@ returns-in_default g c =
     let slot = sym (user_slot sys s user.ready.runs user.ready.user) ∙ ap (event_of Slot) same in
     let was : System = c.args.self.now.system in
     let next = after.ensures.system sys done ∙ ap (λ (t : Turn). t.next) slot in
+    let answer = c.turned_at.ensures
+    ∙ ap (λ (p : Process). turned_at (register p 7) after.result) (sym (apart_process w s m.regs user.ready))
+    ∙ after.ensures.answer sys done ∙ ap turned slot in
     record {
-      answer = c.turned_at.ensures
-          ∙ ap (λ (p : Process). turned_at (register p 7) after.result) (sym (apart_process w s m.regs user.ready))
-          ∙ after.ensures.answer sys done ∙ ap turned slot;
+      answer = answer;
+      idle = idle_nobody m.stage m.regs w c.self.invariant was (ap (λ (x : SystemOnDisk). x.system) c.self.view_is) _ answer;
       next = next;
       private = subst (λ (n : System). OthersUndisturbed was n) (sym next) (slot_private was);
       rest = subst (λ b. SameRest b after.new.self.world.files.tree.nodes.blocks) (ap (λ (x : SystemOnDisk). x.blocks) c.self.view_is) after.ensures.rest;
@@ -178,16 +181,18 @@ returns-in_default g c =
       frame = after.ensures.frame;
     }
 
-pub returns-in-Fresh : goal.returns-in-Fresh
-returns-in-Fresh g c =
+pub returns-in-Resting : goal.returns-in-Resting
+returns-in-Resting g c =
     let m = c.self.inside.machine in
     let other = c.other_slot in
     let same : event_of Slot (system_at m.stage m.regs m.world) ≡ event_of Slot c.args.self.now.system =
     ap (λ (x : SystemOnDisk). event_of Slot x.system) c.self.view_is in
     let was : System = c.args.self.now.system in
     let next = other.ensures.takes.system ∙ ap (λ (t : Turn). t.next) same in
+    let answer = c.turned_at-in-Resting.ensures ∙ ap (λ n. turned_at n other.result) c.pc-at.ensures ∙ other.ensures.answer ∙ ap turned same in
     record {
-      answer = c.turned_at-in-Fresh.ensures ∙ ap (λ n. turned_at n other.result) c.pc-at.ensures ∙ other.ensures.answer ∙ ap turned same;
+      answer = answer;
+      idle = idle_nobody m.stage m.regs m.world c.self.invariant was (ap (λ (x : SystemOnDisk). x.system) c.self.view_is) _ answer;
       next = next;
       private = subst (λ (n : System). OthersUndisturbed was n) (sym next) (slot_private was);
       rest = subst (λ b. SameRest b other.new.self.world.files.tree.nodes.blocks) (ap (λ (x : SystemOnDisk). x.blocks) c.self.view_is) other.ensures.rest;

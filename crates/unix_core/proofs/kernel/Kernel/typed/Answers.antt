@@ -1,4 +1,5 @@
 use Rattle.std.proofs.Common.{◌∙◌, ap, sym, subst}
+use Rattle.v6_base.specs.Trace.{Took}
 use Rattle.unix_core.specs.Unix.{System, SystemOnDisk}
 use Rattle.unix_core.specs.Outside.{typed_of}
 use Rattle.unix_core.specs.Private.{AllUndisturbed}
@@ -12,3 +13,8 @@ pub returns-clause-private : goal.returns-clause-private
 returns-clause-private g c =
     let m : System = c.args.self.now.system in
     subst (λ (n : System). AllUndisturbed m n) (sym (returns-clause-next g c)) (typed_private m c.args.b)
+
+pub returns-clause-items : goal.returns-clause-items
+returns-clause-items g c =
+    subst (λ (k : SystemOnDisk). Took (g.T.Trace.taken c.args.trace.now) (typed_of k.system c.args.b).items (g.T.Trace.taken c.typed.new.trace))
+    c.self.view_is c.typed.ensures.items

@@ -6,7 +6,7 @@ use Rattle.unix_core.proofs.EventLemmas.{pass_rested, pass_next, pass_items}
 use Rattle.unix_core.proofs.machine.Machine.pass.Goals as goal
 
 pub pass-requires : goal.pass-requires
-pass-requires g c = let m = c.put_back.new.self in (some_good m.stage m.world c.put_back.ensures.rested).1.agree.table
+pass-requires g c = let m = c.put_back.new.self in (some_good m.stage m.world c.put_back.ensures.rested).agree.table
 
 pub settle-requires : goal.settle-requires
 settle-requires g c =

@@ -5,11 +5,11 @@ use Rattle.sys_procs.specs.World.{clock_of}
 use Rattle.unix_core.specs.declared.world.World.{World}
 use Rattle.unix_core.specs.Parts.{system_at}
 use Rattle.unix_core.proofs.MachineLemmas.{some_good}
-use Rattle.unix_core.proofs.TableLemmas.{rested_table, settled_agree, settled_image, settled_settles, settled_clock, table_system}
+use Rattle.unix_core.proofs.TableLemmas.{rested_table, settled_agree, settled_image, settled_settles, settled_idle, settled_clock, table_system}
 use Rattle.unix_core.proofs.machine.Machine.settle.Goals as goal
 
 pub settle-requires : goal.settle-requires
-settle-requires g c = let m = c.args.self.now in (some_good m.stage m.world c.requires).1.agree.table
+settle-requires g c = let m = c.args.self.now in (some_good m.stage m.world c.requires).agree.table
 
 pub refresh-requires-clause-rested : goal.refresh-requires-clause-rested
 refresh-requires-clause-rested g c =
@@ -17,7 +17,7 @@ refresh-requires-clause-rested g c =
     let w : World = m.world in
     let t : Table = w.procs.table in
     let u : Table = c.settle.new.table in
-    let good = (some_good m.stage w c.requires).1 in
+    let good = (some_good m.stage w c.requires) in
     rested_table w u (settled_agree w.procs.rows w.procs.images t u c.settle.ensures.table c.settle.ensures.good good.agree)
     (settled_image w.procs.rows w.procs.images t u c.settle.ensures.table c.settle.ensures.good good.agree good.running) m.stage c.requires
 
@@ -25,6 +25,11 @@ pub refresh-requires-clause-settled : goal.refresh-requires-clause-settled
 refresh-requires-clause-settled g c =
     let w : World = c.args.self.now.world in
     settled_settles w.procs.rows w.procs.images w.procs.table c.settle.new.table c.settle.ensures.table
+
+pub refresh-requires-clause-idle : goal.refresh-requires-clause-idle
+refresh-requires-clause-idle g c =
+    let w : World = c.args.self.now.world in
+    settled_idle w.procs.rows w.procs.images w.procs.table c.settle.new.table c.settle.ensures.table
 
 pub returns-clause-system : goal.returns-clause-system
 returns-clause-system g c =

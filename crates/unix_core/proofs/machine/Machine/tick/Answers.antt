@@ -8,7 +8,7 @@ use Rattle.unix_core.proofs.TickLemmas.{second_due, tick_rested, tick_next, tick
 use Rattle.unix_core.proofs.machine.Machine.tick.Goals as goal
 
 pub tick_ageing-second-requires : goal.tick_ageing-second-requires
-tick_ageing-second-requires g c = let n = c.charge.new.self in (some_good n.stage n.world c.charge.ensures.rested).1.agree.table
+tick_ageing-second-requires g c = let n = c.charge.new.self in (some_good n.stage n.world c.charge.ensures.rested).agree.table
 
 pub settle-requires : goal.settle-requires
 settle-requires g c =

@@ -7,7 +7,7 @@ use Rattle.unix_core.proofs.EventLemmas.{typed_woken, typed_next, typed_items}
 use Rattle.unix_core.proofs.machine.Machine.typed.Goals as goal
 
 pub wake-requires : goal.wake-requires
-wake-requires g c = let m = c.put_back.new.self in (some_good m.stage m.world c.put_back.ensures.rested).1.agree.table
+wake-requires g c = let m = c.put_back.new.self in (some_good m.stage m.world c.put_back.ensures.rested).agree.table
 
 pub settle-requires : goal.settle-requires
 settle-requires g c =

@@ -1,0 +1,228 @@
+-- A kernel that is about to execute `/etc/init`: nothing but process 1 is there yet.
+use Rattle.std.proofs.Common.{◌≡◌, ◌≢◌, ◌<◌, ◌≤◌, ◌+◌, ◌*◌, ◌==◌, if◌then◌else◌, cond, ℕ, zero, suc, Bool, true, false, List, [], ◌∷◌, length, replicate, get_or, min, count_by, sum_by, Option, Some, None, slice_index, refl, sym, ap, ◌∙◌, subst, arith, inl, inr}
+use Rattle.std.proofs.lemmas.Bool.{eq-eqb, ne_eqb, cases_lt, cases_eq}
+use Rattle.std.proofs.lemmas.Bool.Decides.{eqb_tells}
+use Rattle.std.proofs.lemmas.List.{get_or-replicate, get_or_past, length-replicate}
+use Rattle.std.proofs.lemmas.List.Folds.{sum_by-replicate}
+use Rattle.std.proofs.lemmas.List.Sums.{sum_by-cons}
+use Rattle.open_files.specs.declared.file.OpenFile.{OpenFile}
+use Rattle.open_files.specs.Files.{file_at}
+use Rattle.fs_codec.specs.Store.{Store}
+use Rattle.tty_line.specs.Terminal.{first_terminal}
+use Rattle.pick_rules.specs.declared.table.Table.{Table}
+use Rattle.pick_rules.specs.Table.{empty_row, row_at, first_table, is_in_core, IsTable}
+use Rattle.fs_nodes.specs.FileSystem.{FileSystem}
+use Rattle.sys_files.specs.Sound.{is_of, numbers_of}
+use Rattle.proc_tab.specs.Processes.{first_processes, member_at}
+use Rattle.image_keep.specs.Kept.{Held, Keeping, Nothing, Alive, Grave, Kept, Has, keeping, first_kept, with_keeping, area_in, clicks_of}
+use Rattle.image_keep.proofs.Frames.{keeping_same, keeping_other}
+use Rattle.sys_procs.specs.Process.{Process, process_in}
+use Rattle.sys_procs.specs.World.{processes_in, clock_of}
+use Rattle.sys_procs.specs.Agree.{Agrees, Agree, board_of}
+use Rattle.sys_procs.proofs.Slots.{are_processes}
+use Rattle.unix_core.specs.declared.world.World.{World}
+use Rattle.unix_core.specs.declared.machine.Stage.TheVariants as stage
+use Rattle.unix_core.specs.Unix.{Unix, no_texts}
+use Rattle.unix_core.specs.References.{is_in, is_text_of, referrers}
+use Rattle.unix_core.specs.Runs.{first_process, first_unix, system_with}
+use Rattle.pdp_step.specs.declared.regs.Regs.{Regs}
+use Rattle.pick_rules.specs.Choice.{settle}
+use Rattle.unix_core.proofs.BoardLemmas.{settle_none}
+use Rattle.unix_core.specs.Parts.{unix_of, system_at, named, numbers_in, first_held, IsGood, IsKernel}
+use Rattle.unix_core.proofs.ReferenceLemmas.{one_in}
+
+abbrev no_files : List (Option OpenFile)
+no_files = replicate 100 None
+
+abbrev first_slots : List (Option Process)
+first_slots = None ∷ Some first_process ∷ replicate 48 None
+
+count_none : {X : Type 0} (p : X → Bool) (n : ℕ) (x : X) → p x ≡ false → count_by p (replicate n x) ≡ 0
+count_none p n x fails =
+    let each : cond {A = ℕ} (p x) 1 0 ≡ 0 = ap (λ b. cond b 1 0) fails in
+    sum_by-replicate (λ y. cond (p y) 1 0) n x ∙ ap (λ k. n * k) each ∙ omega arith
+
+texts_refer : (ino : ℕ) → count_by (is_text_of ino) no_texts ≡ 0
+unfolding no_texts
+texts_refer ino = count_none (is_text_of ino) 40 None refl
+
+-- one slot of fifty counts
+slots_sum : (f : Option Process → ℕ) → f None ≡ 0 → sum_by f first_slots ≡ f (Some first_process)
+slots_sum f none =
+    let rest : List (Option Process) = replicate 48 None in
+    let others : sum_by f rest ≡ 48 * f None = sum_by-replicate f 48 None in
+    let second : sum_by f (Some first_process ∷ rest) ≡ f (Some first_process) + sum_by f rest = sum_by-cons f (Some first_process) rest in
+    let first : sum_by f first_slots ≡ f None + sum_by f (Some first_process ∷ rest) = sum_by-cons f None (Some first_process ∷ rest) in
+    omega (arith, none, others, second, first)
+
+both_ones : (ino : ℕ) → (if 1 == ino then 1 else 0) + (if ino == 1 then 1 else 0) ≡ (if ino == 1 then 2 else 0)
+both_ones ino = elim (eqb_tells ino 1) [
+  | inl same ↦
+      ap (λ b. (if b then 1 else 0) + (if ino == 1 then 1 else 0)) (eq-eqb 1 ino (sym same.1)) ∙ ap (λ b. 1 + (if b then 1 else 0)) same.0 ∙ sym (ap (λ b. if b then 2 else 0) same.0)
+  | inr other ↦
+      ap (λ b. (if b then 1 else 0) + (if ino == 1 then 1 else 0)) (ne_eqb 1 ino (λ is. other.1 (sym is))) ∙ ap (λ b. 0 + (if b then 1 else 0)) other.0 ∙ sym (ap (λ b. if b then 2 else 0) other.0)
+]
+
+-- The root is referred to twice.
+first_referrers : (store : Store) (core ino : ℕ) → referrers (first_unix store core) ino ≡ (if ino == 1 then 2 else 0)
+first_referrers store core ino =
+    let files : count_by (is_of ino) no_files ≡ 0 = count_none (is_of ino) 100 None refl in
+    let slots : count_by (is_in ino) first_slots ≡ (if 1 == ino then 1 else 0) = slots_sum (one_in ino) refl in
+    let texts = texts_refer ino in
+    ap (λ k. k + count_by (is_in ino) first_slots + count_by (is_text_of ino) no_texts + (if ino == 1 then 1 else 0)) files
+    ∙ ap (λ k. 0 + k + count_by (is_text_of ino) no_texts + (if ino == 1 then 1 else 0)) slots
+    ∙ ap (λ k. 0 + (if 1 == ino then 1 else 0) + k + (if ino == 1 then 1 else 0)) texts
+    ∙ omega arith ∙ both_ones ino
+
+-- no file is open
+everywhere : {X : Type 0} (n : ℕ) (x : X) (i : ℕ) → get_or (replicate n x) i x ≡ x
+everywhere n x i = elim (cases_lt i n) [
+  | inl low ↦ get_or-replicate n i x x low
+  | inr past ↦ get_or_past (replicate n x) i x (let long = length-replicate n x in omega (arith, long, past))
+]
+
+none_open : (entry : ℕ) → file_at no_files entry ≡ None
+none_open entry = everywhere 100 None entry
+
+none_named : (entry : ℕ) → named first_slots entry ≡ 0
+unfolding named
+none_named entry = slots_sum (numbers_in entry) refl ∙ count_none (λ number. number == entry + 1) 15 0 (ne_eqb 0 (entry + 1) (λ is. omega (arith, is)))
+
+-- Process 1 alone has an image.
+abbrev first_images : ℕ → Kept
+first_images core = with_keeping (first_kept core) 1 (Alive first_held)
+
+first_image : (core : ℕ) → Has (first_images core) 1 first_held
+first_image core = keeping_same (first_kept core) 1 (Alive first_held) (let long = length-replicate 50 Nothing in omega (arith, long))
+
+first_alone : (core s : ℕ) → s ≢ 1 → keeping (first_images core) s ≡ Nothing
+first_alone core s other = keeping_other (first_kept core) 1 s (Alive first_held) other ∙ everywhere 50 Nothing s
+
+abbrev held_in : Held → Keeping → Held
+held_in other Nothing = other
+held_in other (Alive held) = held
+held_in other (Grave u block) = other
+
+first_each : (core : ℕ) (P : Held → Type 0) → P first_held → (s : ℕ) (held : Held) → Has (first_images core) s held → P held
+first_each core P own s held has = elim (cases_eq s 1) [
+  | inl here ↦ subst P (ap (held_in first_held) (sym (first_image core) ∙ ap (keeping (first_images core)) (sym here) ∙ has)) own
+  | inr other ↦ absurd (let none = first_alone core s other in cc (none, has))
+]
+
+first_free : (time s : ℕ) → 2 ≤ s → row_at (first_table time) s ≡ empty_row
+first_free time zero high = absurd (omega (arith, high))
+first_free time (suc zero) high = absurd (omega (arith, high))
+first_free time (suc (suc s)) high = everywhere 48 empty_row s
+
+no_member : (s : ℕ) → 2 ≤ s → member_at first_processes.slots s ≡ None
+no_member zero high = absurd (omega (arith, high))
+no_member (suc zero) high = absurd (omega (arith, high))
+no_member (suc (suc s)) high = everywhere 48 None s
+
+free_agrees : Agrees None empty_row Nothing
+free_agrees = record { stat = refl; image = refl; place = refl; size = λ held is. absurd (cc is); text = refl; quiet = λ f. refl }
+
+own_agrees : (time : ℕ) → Agrees (member_at first_processes.slots 1) (row_at (first_table time) 1) (Alive first_held)
+own_agrees time = record {
+  stat = refl;
+  image = refl;
+  place = refl;
+  size = λ held is. ap (λ x. clicks_of (area_in x)) is;
+  text = refl;
+  quiet = λ f. absurd (f refl);
+}
+
+first_agree : (core time : ℕ) → IsTable (first_table time) → Agree first_processes (first_table time) (first_images core)
+first_agree core time table = record {
+  table = table;
+  rows = let long = length-replicate 48 empty_row in omega (arith, long);
+  kernel = refl;
+  images = first_alone core 0 (λ e. omega (arith, e));
+  each = λ s above below. elim (cases_eq s 1) [
+    | inl here ↦ subst (λ r. Agrees (member_at first_processes.slots r) (row_at (first_table time) r) (keeping (first_images core) r)) (sym here)
+        (subst (λ x. Agrees (member_at first_processes.slots 1) (row_at (first_table time) 1) x) (sym (first_image core)) (own_agrees time))
+    | inr other ↦
+        let high : 2 ≤ s = omega (arith, above, other) in
+        subst (λ m. Agrees m (row_at (first_table time) s) (keeping (first_images core) s)) (sym (no_member s high))
+        (subst (λ row. Agrees None row (keeping (first_images core) s)) (sym (first_free time s high))
+        (subst (λ x. Agrees None empty_row x) (sym (first_alone core s other)) free_agrees))
+  ];
+}
+
+nobody : (s : ℕ) → 2 ≤ s → get_or first_slots s None ≡ None
+nobody zero high = absurd (omega (arith, high))
+nobody (suc zero) high = absurd (omega (arith, high))
+nobody (suc (suc s)) high = everywhere 48 None s
+
+first_processes_are : (core : ℕ) → processes_in first_processes.slots (first_images core) ≡ first_slots
+first_processes_are core = are_processes first_processes.slots (first_images core) first_slots
+    (let none : Option Process = None in let long = length-replicate 48 none in omega (arith, long)) each
+  where
+    own : (s : ℕ) → s ≢ 1 → get_or first_slots s None ≡ process_in (member_at first_processes.slots s) (keeping (first_images core) s)
+    own zero other = refl
+    own (suc s) other =
+        let high : 2 ≤ suc s = omega (arith, other) in
+        nobody (suc s) high ∙ ap (λ m. process_in m (keeping (first_images core) (suc s))) (sym (no_member (suc s) high))
+
+    each : (s : ℕ) → s < 50 → get_or first_slots s None ≡ process_in (member_at first_processes.slots s) (keeping (first_images core) s)
+    each s low = elim (cases_eq s 1) [
+      | inl here ↦ subst (λ r. get_or first_slots r None ≡ process_in (member_at first_processes.slots r) (keeping (first_images core) r)) (sym here)
+          (ap (process_in (member_at first_processes.slots 1)) (sym (first_image core)))
+      | inr other ↦ own s other
+    ]
+
+-- The world that a kernel begins with.
+module _ (fs : FileSystem) (core : ℕ) (referred : (ino : ℕ) → slice_index fs.references ino ≡ (if ino == 1 then 2 else 0))
+    (w : World) (nodes : w.files.tree.nodes ≡ fs) (marks : w.files.tree.marks ≡ []) (table : w.files.table ≡ no_files) (line : w.files.line ≡ first_terminal)
+    (rows : w.procs.rows ≡ first_processes) (slots : w.procs.table ≡ first_table fs.store.stamp) (good : IsTable w.procs.table)
+    (images : w.procs.images ≡ first_images core) (switches : w.procs.switches ≡ 0)
+    (entries : w.tape.entry_room ≡ 64) (bytes : w.tape.byte_room ≡ 524288) (clicks : w.core ≡ core) where
+  processes_are : (unix_of w).processes ≡ first_slots
+  processes_are = (λ i. processes_in (rows i).slots (images i)) ∙ first_processes_are core
+
+  unix_is : unix_of w ≡ first_unix fs.store core
+  unix_is = λ i. record {
+    store = (nodes i).store;
+    processes = processes_are i;
+    files = table i;
+    pipes = [];
+    texts = no_texts;
+    line = line i;
+    clock = clock_of (slots i);
+    switches = switches i;
+    last_pid = (rows i).last_pid;
+    limit = min (images i).core 2048;
+  }
+
+  first_good : IsGood w
+  first_good = record {
+    agree = let begun : Agree first_processes (first_table fs.store.stamp) (first_images core) = first_agree core fs.store.stamp (subst IsTable slots good) in
+        subst (λ v. Agree v w.procs.table w.procs.images) (sym rows)
+        (subst (λ t. Agree first_processes t w.procs.images) (sym slots) (subst (λ k. Agree first_processes (first_table fs.store.stamp) k) (sym images) begun));
+    in_core = λ s held has. first_each core (λ h. is_in_core (Some h.place) ≡ true) refl s held (ap (λ k. keeping k s) (sym images) ∙ has);
+    fifteen = λ s held has. first_each core (λ h. length h.u.files ≡ 15) (let none : ℕ = 0 in length-replicate 15 none) s held (ap (λ k. keeping k s) (sym images) ∙ has);
+    numbers = λ entry. ap (λ l. numbers_of (file_at l entry)) table ∙ ap numbers_of (none_open entry) ∙ sym (ap (λ l. named l entry) processes_are ∙ none_named entry);
+    no_pipe = λ entry file is. (let none : file_at w.files.table entry ≡ None = ap (λ l. file_at l entry) table ∙ none_open entry in absurd (cc (none, is)));
+    marks = marks;
+    referred = λ ino.
+        ap (λ (f : FileSystem). slice_index f.references ino) nodes ∙ referred ino
+        ∙ sym (ap (λ (u : Unix). referrers u ino) unix_is ∙ first_referrers fs.store core ino);
+    running = λ s runs above. absurd (let zero_ : Some 0 ≡ Some s = sym (ap (λ (t : Table). t.running) slots) ∙ runs in
+        let same : 0 ≡ s = cc zero_ in omega (arith, same, above));
+    entries = entries;
+    bytes = bytes;
+    core = clicks ∙ sym (ap (λ (k : Kept). k.core) images);
+  }
+
+  pub first_kernel : IsKernel stage.Resting w
+  first_kernel = record {
+    running = λ s e. absurd (cc e);
+    resting = λ e. first_good;
+    settled = λ s runs. ap settle slots ∙ settle_none (first_table fs.store.stamp) refl;
+    idle = λ none. absurd (let swapper : w.procs.table.running ≡ Some 0 = ap (λ (t : Table). t.running) slots in cc (none, swapper));
+    calls = λ s e runs above. absurd (let zero_ : Some 0 ≡ Some s = sym (ap (λ (t : Table). t.running) slots) ∙ runs in
+        let same : 0 ≡ s = cc zero_ in omega (arith, same, above));
+  }
+
+  pub first_system : (regs : Regs) → system_at stage.Resting regs w ≡ system_with fs.store core
+  first_system regs = λ i. record { unix = unix_is i; board = board_of (slots i) (images i) }

@@ -1,0 +1,58 @@
+-- Where a slot finds nobody to run, no slot is loaded and ready.
+use Rattle.std.proofs.Common.{◌≡◌, ◌∙◌, ◌<◌, ◌≤◌, ◌&&◌, ℕ, zero, suc, nat_lt, length, Bool, true, false, Option, Some, None, refl, sym, ap, subst, arith}
+use Rattle.std.proofs.lemmas.Bool.{ltb-true, ltb-false}
+use Rattle.std.proofs.lemmas.List.{get_or_past}
+use Rattle.pick_rules.specs.declared.row.TableRow.{TableRow}
+use Rattle.pick_rules.specs.declared.table.Table.{Table}
+use Rattle.pick_rules.specs.Table.{empty_row, row_at, is_ready, is_loaded}
+use Rattle.pick_rules.specs.Choice.{chosen, IsChoice}
+use Rattle.pick_rules.proofs.Chosen.{chosen_is_choice}
+use Rattle.pdp_step.specs.declared.regs.Regs.{Regs}
+use Rattle.unix_core.specs.declared.world.World.{World}
+use Rattle.unix_core.specs.declared.machine.Stage.{Stage}
+use Rattle.unix_core.specs.declared.turned.Unbuilt.{Unbuilt}
+use Rattle.unix_core.specs.declared.turned.Turned.{Turned}
+use Rattle.unix_core.specs.declared.turned.Turned.TheVariants.{Idle}
+use Rattle.unix_core.specs.Unix.{System}
+use Rattle.unix_core.specs.Turn.{turned_by, turned, slot_of, NobodyCanRun}
+use Rattle.unix_core.specs.Runs.{Slot, event_of}
+use Rattle.unix_core.specs.Parts.{system_at, IsGood, IsKernel}
+use Rattle.unix_core.proofs.BootKernelLemmas.{kernel_good}
+
+-- The choice is nobody.
+not_both : (ready loaded : Bool) → (ready && loaded) ≡ false → loaded ≡ true → ready ≡ false
+not_both true loaded none load = absurd (cc (none, load))
+not_both false loaded none load = refl
+
+pub nobody_can : (t : Table) → t.last < 50 → length t.rows ≡ 50 → chosen t ≡ None → NobodyCanRun t
+nobody_can t last rows none s loaded = by (nat_lt s 50) refl
+  where
+    by : (b : Bool) → nat_lt s 50 ≡ b → is_ready (row_at t s).stat ≡ false
+    by true low = not_both (is_ready (row_at t s).stat) (is_loaded t s) (subst (IsChoice t) none (chosen_is_choice t last) s (ltb-true _ _ low)) loaded
+    by false high =
+        let past : length t.rows ≤ s = let more : 50 ≤ s = ltb-false _ _ high in omega (arith, rows, more) in
+        ap (λ (row : TableRow). is_ready row.stat) (get_or_past t.rows s empty_row past)
+
+-- A slot answers that nobody is there to run where nobody runs.
+never_idle : (o : Option Unbuilt) → turned_by o false ≡ Idle → ⊥
+never_idle None idle = cc idle
+never_idle (Some place) idle = cc idle
+
+nobody_by : (m : System) (runs : Option ℕ) → turned (slot_of m runs) ≡ Idle → runs ≡ None
+nobody_by m None idle = refl
+nobody_by m (Some zero) idle = absurd (never_idle (slot_of m (Some zero)).ending idle)
+nobody_by m (Some (suc s)) idle = absurd (never_idle (slot_of m (Some (suc s))).ending idle)
+
+pub nobody_runs : (m : System) → turned (event_of Slot m) ≡ Idle → m.board.table.running ≡ None
+nobody_runs m idle = nobody_by m m.board.table.running idle
+
+module _ (at : Stage) (regs : Regs) (w : World) (kernel : IsKernel at w) where
+  nobody_here : w.procs.table.running ≡ None → NobodyCanRun w.procs.table
+  nobody_here none =
+      let good : IsGood w = kernel_good at w kernel in
+      nobody_can w.procs.table good.agree.table.last good.agree.rows (kernel.idle none)
+
+  pub idle_nobody : (m : System) → system_at at regs w ≡ m → (answer : Turned) → answer ≡ turned (event_of Slot m) → answer ≡ Idle → NobodyCanRun m.board.table
+  idle_nobody m same answer is idle =
+      subst (λ (x : System). NobodyCanRun x.board.table) same
+      (nobody_here (nobody_runs (system_at at regs w) (ap (λ (x : System). turned (event_of Slot x)) same ∙ sym is ∙ idle)))

@@ -1,0 +1,133 @@
+-- exec, break and the growth of a stack leave the processes of other slots alone.
+use Rattle.std.proofs.Common.{◌≢◌, ℕ, ◌+◌, Bool, true, false, ◌==◌, if◌then◌else◌, List, Option, Some, None, sym, subst}
+use Rattle.std.specs.Prelude.{⊤, MatchOption, Result, Ok, Err, slice_set}
+use Rattle.std.specs.Option.{option_map}
+use Rattle.v6_base.specs.declared.entry.Entry.TheVariants.{Leave, Bare, Share}
+use Rattle.v6_base.specs.declared.errno.Errno.{Errno}
+use Rattle.seg_regs.specs.Sizes.{is_refused}
+use Rattle.fs_tree.specs.Finding.{with_reference}
+use Rattle.pick_rules.specs.Board.{Board}
+use Rattle.pick_rules.specs.Effects as effect
+use Rattle.sys_procs.specs.declared.halt.Halt.{Halt}
+use Rattle.sys_procs.specs.Process.{Process}
+use Rattle.sys_procs.specs.World.{World, process_of, change}
+use Rattle.sys_procs.specs.Comes.{Comes, does, logs}
+use Rattle.sys_procs.specs.Tried.{Tried}
+use Rattle.sys_procs.specs.Texts.{entry_of, free_entry, new_text, goes, text_of, with_text, joined, remaining}
+use Rattle.sys_procs.specs.Break.{break_at, grow, grown_stack, clicks_up_to, sized, has_place, expands_if_room}
+use Rattle.sys_procs.specs.ExecFile.{Tested, let_go, tests, node_at, with_moved, text_clicks, given_up_by, given_up, without_text, leaves_text, is_sticky, xfree, bared, with_entry, shares_text, makes_text, xalloc_by, xalloc, data_read, reads_text, image_clicks, begins, executes, loads, done_by, exec_by, exec_file}
+use Rattle.sys_procs.proofs.TestedSlots.{tests_processes}
+use Rattle.unix_core.proofs.PrivateSlots.{Spared}
+use Rattle.unix_core.proofs.PrivateRows.{IsSparing, spared_change, sparing_comes, sparing_logs, sparing_if}
+
+module _ (ps : List (Option Process)) (r s : ℕ) (other : r ≢ s) where
+  abbrev SparedIn : World → Type 0
+  SparedIn w = Spared ps w.processes r
+
+  -- The old program goes.
+  spared_gone : (b : Bool) (w : World) (ino : ℕ) → SparedIn w → SparedIn (if b then let_go w ino else w)
+  spared_gone true w ino h = h
+  spared_gone false w ino h = h
+
+  sparing_xfree : (w : World) (o : Option ℕ) (next : World → Comes) → SparedIn w
+      → ((v : World) → SparedIn v → IsSparing ps r (next v)) → IsSparing ps r (xfree w s o next)
+  sparing_xfree w None next h rest = rest w h
+  sparing_xfree w (Some k) next h rest =
+      let sticky = is_sticky w k in
+      let entry = record w { texts = slice_set w.texts k (remaining (text_of w.texts k) sticky) } in
+      sparing_logs ps r s other (Leave s k sticky) _
+      (rest (leaves_text w s k sticky) (spared_gone (goes (text_of w.texts k) sticky) (change entry s without_text) (text_of w.texts k).ino (spared_change ps r s other entry without_text h)))
+
+  -- A text that would be shared.
+  sparing_xalloc_by : (w : World) (ino size : ℕ) (o : Option ℕ) (next : World → Bool → Comes) → SparedIn w
+      → ((v : World) (b : Bool) → SparedIn v → IsSparing ps r (next v b)) → IsSparing ps r (xalloc_by w s ino size o next)
+  sparing_xalloc_by w ino size (Some k) next h rest =
+      let entry = record w { texts = with_text w.texts k (joined (text_of w.texts k)) } in
+      sparing_logs ps r s other (Share s k) _ (rest (shares_text w s k) false (spared_change ps r s other entry (with_entry k) h))
+  sparing_xalloc_by w ino size None next h rest =
+      let k = free_entry w.texts in
+      let entry = record w { texts = with_text w.texts k (new_text ino size); inodes = with_reference w.inodes ino } in
+      let made : World = makes_text w s ino size in
+      let after : IsSparing ps r (next made true) = rest made true (spared_change ps r s other entry (with_entry k) h) in
+      record { effects = (h, after.effects); state = after.state }
+
+  sparing_xalloc : (w : World) (ino size : ℕ) (next : World → Bool → Comes) → SparedIn w
+      → ((v : World) (b : Bool) → SparedIn v → IsSparing ps r (next v b)) → IsSparing ps r (xalloc w s ino size next)
+  sparing_xalloc w ino size next h rest =
+      sparing_if ps r s other (size == 0) _ _ (rest w false h) (sparing_xalloc_by w ino size (entry_of w.texts ino) next h rest)
+
+  -- The new one comes.
+  spared_read : (b : Bool) (w : World) (program : _) → SparedIn w → SparedIn (reads_text b w s program)
+  spared_read true w program h = h
+  spared_read false w program h = h
+
+  sparing_executes : (w : World) (old : Process) (program : _) → SparedIn w → IsSparing ps r (executes w s old program)
+  sparing_executes w old program h =
+      let m = data_read w s program in
+      let read : World = with_moved w program.ino m in
+      sparing_comes ps r s other _ _ (spared_change ps r s other read (λ p. begins old (node_at w program.ino) program p.text m.memory.data) h)
+
+  sparing_loads : (w : World) (program : _) → SparedIn w → IsSparing ps r (loads w s program)
+  sparing_loads w program h =
+      let old : Process = process_of w s in
+      let size = text_clicks program.plan in
+      let places : World → Bool → Comes = λ placed is_new.
+      does (effect.Image s (image_clicks program.plan) placed) (executes (reads_text is_new placed s program) s old program) in
+      let placed : (v : World) (b : Bool) → SparedIn v → IsSparing ps r (places v b) = λ v b k.
+      let rest : IsSparing ps r (executes (reads_text b v s program) s old program) =
+      sparing_executes (reads_text b v s program) old program (spared_read b v program k) in
+      record { effects = (k, rest.effects); state = rest.state } in
+      let fills : World → Comes = λ left. logs (Bare s) (xalloc (change left s bared) s program.ino size places) in
+      let filled : (v : World) → SparedIn v → IsSparing ps r (fills v) = λ v k.
+      sparing_logs ps r s other (Bare s) (xalloc (change v s bared) s program.ino size places)
+      (sparing_xalloc (change v s bared) program.ino size places (spared_change ps r s other v bared k) placed) in
+      sparing_xfree w old.text fills h filled
+
+  sparing_done : (w : World) (a : Result _ Errno) → SparedIn w → IsSparing ps r (done_by w s a)
+  sparing_done w (Ok program) h = sparing_loads w program h
+  sparing_done w (Err e) h = sparing_comes ps r s other w _ h
+
+  spared_given_up : (w : World) (a : Result _ Errno) → SparedIn w → SparedIn (given_up_by w a)
+  spared_given_up w (Ok program) h = h
+  spared_given_up w (Err e) h = h
+
+  sparing_exec_by : (t : Tested) (o : Option Halt) → SparedIn t.world → IsSparing ps r (exec_by s t o).comes
+  sparing_exec_by t None h = sparing_done t.world t.answer h
+  sparing_exec_by t (Some halt) h = sparing_comes ps r s other (given_up t) _ (spared_given_up t.world t.answer h)
+
+  pub sparing_exec : (b : Board) (w : World) (name list : ℕ) → SparedIn w → IsSparing ps r (exec_file b w s name list).comes
+  unfolding exec_file
+  sparing_exec b w name list h =
+      let t : Tested = tests w s name list in
+      sparing_exec_by t _ (subst (λ qs. Spared ps qs r) (sym (tests_processes w s name list)) h)
+
+  -- break, and the growth of a stack
+  sparing_tried : (b : Bool) (x y : Tried) → IsSparing ps r x.comes → IsSparing ps r y.comes → IsSparing ps r (if b then x else y).comes
+  sparing_tried true x y h k = h
+  sparing_tried false x y h k = k
+
+  sparing_expands : (b : Board) (w : World) (d n : ℕ) → SparedIn w → IsSparing ps r (expands_if_room b w s d n).comes
+  sparing_expands b w d n h =
+      sparing_tried (has_place b s (16 + d + n)) _ _ (record { effects = (h, tt); state = spared_change ps r s other w (sized d n) h })
+      (sparing_comes ps r s other w _ h)
+
+  pub sparing_break : (b : Board) (w : World) (at : ℕ) → SparedIn w → IsSparing ps r (break_at b w s at).comes
+  unfolding break_at
+  sparing_break b w at h =
+      let p : Process = process_of w s in
+      let d = clicks_up_to p.u.text_size at in
+      sparing_tried (is_refused p.u.text_size d p.u.stack_size w.limit) _ _ (sparing_comes ps r s other w _ h)
+      (sparing_expands b w d p.u.stack_size h)
+
+  abbrev pub IsSparingTried : Tried → Type 0
+  IsSparingTried t = IsSparing ps r t.comes
+
+  sparing_stack : (b : Board) (w : World) (d : ℕ) (o : Option ℕ) → SparedIn w → MatchOption (option_map (expands_if_room b w s d) o) ⊤ IsSparingTried
+  sparing_stack b w d None h = tt
+  sparing_stack b w d (Some n) h = sparing_expands b w d n h
+
+  pub sparing_grow : (b : Board) (w : World) (sp : ℕ) → SparedIn w → MatchOption (grow b w s sp) ⊤ IsSparingTried
+  unfolding grow
+  sparing_grow b w sp h =
+      let p : Process = process_of w s in
+      sparing_stack b w p.u.data_size (grown_stack p.u.text_size p.u.data_size p.u.stack_size w.limit sp) h
