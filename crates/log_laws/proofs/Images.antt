@@ -125,19 +125,19 @@ module _ (s : ℕ) (calling : Bool) (v : Seats) (seen : Seen) (i : InCall s call
   -- the rest is to be apt wherever the image of another size stands
   pub size_apt : {W : Type 0} → (Q : Seen → Type 0) (clicks : ℕ) (before : W) (es : List (Effect W))
       → IsSize seen.board clicks
-      → ((place : Place) → placed seen.board s clicks ≡ Some place → v.may place ≡ true)
+      → (nat_le clicks (row_at seen.board.table s).size ≡ false → (place : Place) → placed seen.board s clicks ≡ Some place → v.may place ≡ true)
       → ((now : Seen) → InCall s calling (with_own s v (sized i.turn.seat clicks)) now → Apt Q now es)
       → Apt Q seen (effect.Size s clicks before ∷ es)
   unfolding Apt came FitsBoard
   size_apt Q clicks before es z may rest = by (nat_le clicks (row_at seen.board.table s).size) refl
     where
-      placing : (row_at seen.board.table s).size < clicks → (o : Option Place) → placed seen.board s clicks ≡ o
+      placing : nat_le clicks (row_at seen.board.table s).size ≡ false → (o : Option Place) → placed seen.board s clicks ≡ o
           → AptCame seen (at_fit panic.Swap before o (λ place. line.Size s clicks place)) (λ now. Apt Q now es)
-      placing l (Some place) e = (
-        going_fits seen.stage seen.board (line.Size s clicks place) i.going (running, z, l, e),
-        rest (seen_after seen (line.Size s clicks place)) (size_in clicks place (may place e) z.most),
+      placing g (Some place) e = (
+        going_fits seen.stage seen.board (line.Size s clicks place) i.going (running, z, leb-false _ _ g, e),
+        rest (seen_after seen (line.Size s clicks place)) (size_in clicks place (may g place e) z.most),
       )
-      placing l None e =
+      placing g None e =
           going_fits seen.stage seen.board (line.Panic panic.Swap) i.going
           (inl ((s, running), no_place seen.board s clicks z.most e))
 
@@ -147,7 +147,7 @@ module _ (s : ℕ) (calling : Bool) (v : Seats) (seen : Seen) (i : InCall s call
         going_fits seen.stage seen.board (line.SizeKeep s clicks) i.going (running, z, leb-true _ _ e),
         rest (seen_after seen (line.SizeKeep s clicks)) (keep_in clicks z.most),
       )
-      by false e = placing (leb-false _ _ e) (placed seen.board s clicks) refl
+      by false e = placing e (placed seen.board s clicks) refl
 
 -- in the middle of an exec, which has given up the old image and has no new one yet
 pub record InExec (s : ℕ) (v : Seats) (seen : Seen) : Type 0 where

@@ -31,18 +31,16 @@ use Rattle.unix_core.specs.Steps.{Steps}
 use Rattle.unix_core.specs.Turn.{Turn, end_effects, ending_at, ending_by, settled_as, settled, settles, turn_of, pass_effects, pass_of, slot_of}
 use Rattle.run_laws.proofs.Sitting.{is_core, seats_of}
 use Rattle.run_laws.proofs.Steps.{AptSteps}
-use Rattle.run_laws.proofs.Starting.{IsFresh}
 use Rattle.run_laws.proofs.Turning.{turn_apt}
 
 -- the system at these lines
-abbrev pub system_at : Unix → Bool → Seen → System
-system_at u fresh seen = record { unix = u; board = seen.board; is_fresh = fresh }
+abbrev pub system_at : Unix → Seen → System
+system_at u seen = record { unix = u; board = seen.board }
 
 -- between two events: what holds of a system and of the lines so far
 pub record Stands (m : System) (seen : Seen) : Type 0 where
   pub board : seen.board ≡ m.board
   pub holds : Holds (seats_of m.unix) seen
-  pub fresh : m.is_fresh ≡ true → IsFresh (seats_of m.unix) seen.board
 
 -- lines that fit, and the system then
 pub record Fine (seen : Seen) (items : List Item) (m : System) : Type 0 where
@@ -53,40 +51,17 @@ pub record Fine (seen : Seen) (items : List Item) (m : System) : Type 0 where
 pub record FineTurn (seen : Seen) (t : Turn) : Type 0 where
   pub fine : t.ending ≡ None → Fine seen t.items t.next
 
--- before the kernel settles
-pub record IsPaused (is_fresh : Bool) (u : Unix) (seen : Seen) : Type 0 where
-  pub paused : Paused (seats_of u) seen
-  pub fresh : is_fresh ≡ true → IsFresh (seats_of u) seen.board
-
--- a choice leaves places and texts
-choice_fresh : (v : Seats) (b : Board) (o : Option ℕ) → IsFresh v b → IsFresh v (applied b (line_of_choice o))
-unfolding applied
-choice_fresh v b None f = record { slots = f.slots; places = f.places; texts = f.texts; core = f.core }
-choice_fresh v b (Some s) f = record { slots = f.slots; places = f.places; texts = f.texts; core = f.core }
-
-line_is : (t : Table) (e : Entry) → settle t ≡ Some e → line_of_choice (chosen t) ≡ e
-unfolding settle
-line_is t e f = by (gives_up t t.running) f
-  where
-    by : (x : Bool) → cond x (Some (line_of_choice (chosen t))) None ≡ Some e → line_of_choice (chosen t) ≡ e
-    by true g = cc g
-    by false g = absurd (cc g)
-
-settled_fresh : (v : Seats) (b : Board) (e : Entry) → settle b.table ≡ Some e → IsFresh v b → IsFresh v (applied b e)
-settled_fresh v b e f h =
-    subst (λ x. IsFresh v (applied b x)) (line_is b.table e f) (choice_fresh v b (chosen b.table) h)
-
 -- the kernel settles
 module _ (m : System) (u : Unix) (first : Seen) (l : Logged Unix) (fit : FitAll first (entries_of l.items)) (board : (seen_items first l.items).board ≡ l.board)
-    (p : IsPaused m.is_fresh u (seen_items first l.items)) where
+    (p : Paused (seats_of u) (seen_items first l.items)) where
   abbrev now : Seen
   now = seen_items first l.items
 
   abbrev next : Board → System
-  next b = record m { unix = u; board = b }
+  next b = record { unix = u; board = b }
 
   rests_fine : Holds (seats_of u) now → Fine first l.items (next l.board)
-  rests_fine h = record { fit = fit; stands = record { board = board; holds = h; fresh = p.fresh } }
+  rests_fine h = record { fit = fit; stands = record { board = board; holds = h } }
 
   chosen_fine : (e : Entry) → settle now.board.table ≡ Some e → Settled (seats_of u) now e
       → Fine first (l.items ++ Log e ∷ []) (next (applied l.board e))
@@ -98,13 +73,12 @@ module _ (m : System) (u : Unix) (first : Seen) (l : Logged Unix) (fit : FitAll 
         stands = record {
           board = ap (λ x. x.board) after ∙ ap (λ b. applied b e) board;
           holds = subst (Holds (seats_of u)) (sym after) s.holds;
-          fresh = λ g. subst (λ x. IsFresh (seats_of u) x.board) (sym after) (settled_fresh (seats_of u) now.board e f (p.fresh g));
         };
       }
 
   settled_fine : Fine first (l.items ++ (settled l.board).items) (next (settled l.board).board)
   settled_fine = subst (λ b. Fine first (l.items ++ (settled_as (settle b.table) l.board).items) (next (settled_as (settle b.table) l.board).board)) board
-      (by (settle now.board.table) refl (settling (seats_of u) now p.paused))
+      (by (settle now.board.table) refl (settling (seats_of u) now p))
     where
       by : (o : Option Entry) → settle now.board.table ≡ o → IsSettled (seats_of u) now o
           → Fine first (l.items ++ (settled_as o l.board).items) (next (settled_as o l.board).board)
@@ -112,7 +86,7 @@ module _ (m : System) (u : Unix) (first : Seen) (l : Logged Unix) (fit : FitAll 
       by (Some e) f s = chosen_fine e f s
 
   pub settles_fine : l.stop ≡ None → Fine first (settles m u l).items (settles m u l).next
-  settles_fine stop = subst (λ x. Fine first (l.items ++ (settled l.board).items) (record m { unix = x; board = (settled l.board).board }))
+  settles_fine stop = subst (λ x. Fine first (l.items ++ (settled l.board).items) (record { unix = x; board = (settled l.board).board }))
       (sym (ap (λ o. left_by o u) stop)) settled_fine
 
 -- effects that name no place don't panic
@@ -145,13 +119,13 @@ ends_none : (Q : Seen → Type 0) (o : Option (Stop Unix)) (seen : Seen) → o �
 ends_none Q None seen e h = h
 ends_none Q (Some stop) seen e h = absurd (cc e)
 
-pub event_by : (u v : Unix) (is_fresh : Bool) (seen : Seen) (es : List (Effect Unix))
-    → Apt (IsPaused is_fresh v) seen es → (logged seen.board es).stop ≡ None
-    → Fine seen (settles (system_at u is_fresh seen) v (logged seen.board es)).items (settles (system_at u is_fresh seen) v (logged seen.board es)).next
-event_by u v is_fresh seen es a stop =
+pub event_by : (u v : Unix) (seen : Seen) (es : List (Effect Unix))
+    → Apt (Paused (seats_of v)) seen es → (logged seen.board es).stop ≡ None
+    → Fine seen (settles (system_at u seen) v (logged seen.board es)).items (settles (system_at u seen) v (logged seen.board es)).next
+event_by u v seen es a stop =
     let l : Logged Unix = logged seen.board es in
-    let f : Fitted (IsPaused is_fresh v) seen l = apt_fits (IsPaused is_fresh v) seen es a in
-    settles_fine (system_at u is_fresh seen) v seen l f.fit f.board (ends_none (IsPaused is_fresh v) l.stop (seen_items seen l.items) stop f.ends) stop
+    let f : Fitted (Paused (seats_of v)) seen l = apt_fits (Paused (seats_of v)) seen es a in
+    settles_fine (system_at u seen) v seen l f.fit f.board (ends_none (Paused (seats_of v)) l.stop (seen_items seen l.items) stop f.ends) stop
 
 -- A turn.
 stops : (pc : ℕ) (o : Option (Stop Unix)) (steps : Steps) → ending_by pc o steps.ending ≡ None
@@ -159,12 +133,11 @@ stops : (pc : ℕ) (o : Option (Stop Unix)) (steps : Steps) → ending_by pc o s
 stops pc None steps e = (refl, e)
 stops pc (Some stop) steps e = absurd (cc e)
 
-turned_fine : (s : ℕ) (u : Unix) (is_fresh : Bool) (seen : Seen) (steps : Steps) → AptSteps s seen steps
-    → FineTurn seen (turn_of (system_at u is_fresh seen) s steps)
-turned_fine s u is_fresh seen steps a = record {
+turned_fine : (s : ℕ) (u : Unix) (seen : Seen) (steps : Steps) → AptSteps s seen steps
+    → FineTurn seen (turn_of (system_at u seen) s steps)
+turned_fine s u seen steps a = record {
   fine = λ e. let k = stops (register (process_of u s) 7) (logged seen.board es).stop steps e in
-      event_by u steps.unix false seen es (apt_more (Paused (seats_of steps.unix)) (IsPaused false steps.unix) seen es (λ now p. record { paused = p; fresh = λ f. absurd (cc f) })
-      (a.apt (register (process_of u s) 7) k.1)) k.0;
+      event_by u steps.unix seen es (a.apt (register (process_of u s) 7) k.1) k.0;
 }
   where
     es : List (Effect Unix)
@@ -214,35 +187,26 @@ pass_waits : (v : Seats) (seen : Seen) → v.may ≡ is_core → Agrees 0 v seen
 unfolding swap_move
 pass_waits v seen core a = ap (move_for seen.board) (nobody_out v seen core a)
 
-pass_fresh : (v : Seats) (b : Board) → IsFresh v b → IsFresh v (applied b (line.Sleep 0 pswp RunOut))
-unfolding applied fall_asleep
-pass_fresh v b f = record {
-  slots = f.slots;
-  places = set_each (λ r x. r ≢ 1 → x.place ≡ None) b.table.rows 0 _ f.places (λ n. f.places 0 n);
-  texts = f.texts;
-  core = f.core;
-}
-
-pass_fine : (u : Unix) (is_fresh : Bool) (seen : Seen) → IsPaused is_fresh u seen → seen.board.table.running ≡ Some 0
-    → FineTurn seen (pass_of (system_at u is_fresh seen))
+pass_fine : (u : Unix) (seen : Seen) → Paused (seats_of u) seen → seen.board.table.running ≡ Some 0
+    → FineTurn seen (pass_of (system_at u seen))
 unfolding Apt came
-pass_fine u is_fresh seen p r = record {
-  fine = λ e. event_by u u is_fresh seen pass_effects
-      (let k : Moves (seats_of u) seen (line.Sleep 0 pswp RunOut) = pass_ends (seats_of u) seen RunOut p.paused r (pass_waits (seats_of u) seen refl p.paused.agrees) in
-      (k.fits, record { paused = k.next.paused; fresh = λ f. pass_fresh (seats_of u) seen.board (p.fresh f) })) (shown_stop seen.board pass_effects tt);
+pass_fine u seen p r = record {
+  fine = λ e. event_by u u seen pass_effects
+      (let k : Moves (seats_of u) seen (line.Sleep 0 pswp RunOut) = pass_ends (seats_of u) seen RunOut p r (pass_waits (seats_of u) seen refl p.agrees) in
+      (k.fits, k.next.paused)) (shown_stop seen.board pass_effects tt);
 }
 
 -- a slot
-pub slot_fine : (u : Unix) (is_fresh : Bool) (seen : Seen) → IsPaused is_fresh u seen → Holds (seats_of u) seen
-    → FineTurn seen (slot_of (system_at u is_fresh seen) seen.board.table.running)
+pub slot_fine : (u : Unix) (seen : Seen) → Holds (seats_of u) seen
+    → FineTurn seen (slot_of (system_at u seen) seen.board.table.running)
 unfolding FitAll
-slot_fine u is_fresh seen p h = by seen.board.table.running refl h.paused.runner
+slot_fine u seen h = by seen.board.table.running refl h.paused.runner
   where
     by : (o : Option ℕ) → seen.board.table.running ≡ o → RunnerAt (seats_of u) seen.board o
-        → FineTurn seen (slot_of (system_at u is_fresh seen) o)
+        → FineTurn seen (slot_of (system_at u seen) o)
     by None e r =
-        record { fine = λ f. record { fit = tt; stands = record { board = refl; holds = h; fresh = p.fresh } } }
-    by (Some zero) e r = pass_fine u is_fresh seen p e
+        record { fine = λ f. record { fit = tt; stands = record { board = refl; holds = h } } }
+    by (Some zero) e r = pass_fine u seen h.paused e
     by (Some (suc s)) e (inl z) = absurd (cc z)
     by (Some (suc s)) e (inr t) =
-        turned_fine (suc s) u is_fresh seen _ (turn_apt (suc s) seen u is_fresh p.fresh p.paused t)
+        turned_fine (suc s) u seen _ (turn_apt (suc s) seen u h.paused t)

@@ -1,5 +1,5 @@
 -- The log of each run that comes to its script's end is lawful.
-use Rattle.std.proofs.Common.{◌≡◌, ◌∙◌, ◌<◌, ◌≤◌, ◌==◌, ℕ, zero, suc, Bool, true, false, List, [], ◌∷◌, if◌then◌else◌, Option, Some, None, is_some, option_map, get_or, refl, sym, ap, subst, inl, inr, arith}
+use Rattle.std.proofs.Common.{◌≡◌, ◌∙◌, ◌<◌, ◌≤◌, ◌==◌, ℕ, zero, suc, Bool, true, false, List, [], ◌∷◌, if◌then◌else◌, Option, Some, None, is_some, option_map, get_or, replicate, refl, sym, ap, subst, inl, inr, arith}
 use Rattle.v6_base.specs.Trace.{Log}
 use Rattle.v6_base.specs.declared.entry.Chan.TheVariants.{RunOut}
 use Rattle.v6_base.specs.declared.entry.Entry.TheVariants as line
@@ -16,28 +16,28 @@ use Rattle.pick_rules.specs.Effects.{came}
 use Rattle.pick_rules.specs.Lawful.{Booted, Seen, FitAll, Lawful, nothing_seen, seen_after}
 use Rattle.pick_rules.proofs.Shapes.{shape_at, Sleeps}
 use Rattle.log_laws.proofs.Fitting.{fit_items, fit_item, seen_append, seen_items, Apt}
-use Rattle.log_laws.proofs.Seats.{Seat, seat_at, rule_of, AgreesAt, Agrees}
+use Rattle.log_laws.proofs.Seats.{Seat, seat_at, rule_of, AgreesAt, Agrees, Paused, Holds}
 use Rattle.log_laws.proofs.Settles.{end_fits}
 use Rattle.unix_core.specs.declared.turned.Unbuilt.{Unbuilt}
 use Rattle.unix_core.specs.Unix.{Unix, System}
 use Rattle.unix_core.specs.Turn.{Turn, pass_effects, pass_of}
-use Rattle.unix_core.specs.Runs.{first_unix, system_with, Event, Slot, Tick, Byte, Switch, event_of, Course, goes_on_by, unless_ended, after_event, course, started, has_form, booted, boots}
+use Rattle.unix_core.specs.Runs.{first_unix, system_with, Event, Slot, Tick, Byte, Switch, event_of, Course, goes_on_by, unless_ended, after_event, course, started, boots}
 use Rattle.run_laws.specs.Law.{log_of, LogsAreLawful}
 use Rattle.run_laws.proofs.Sitting.{seats_of}
-use Rattle.run_laws.proofs.Starting.{IsFresh, get_replicate}
-use Rattle.run_laws.proofs.Events.{system_at, Stands, Fine, FineTurn, IsPaused, shown_stop, event_by, slot_fine}
+use Rattle.run_laws.proofs.Events.{system_at, Stands, Fine, FineTurn, shown_stop, event_by, slot_fine}
 use Rattle.run_laws.proofs.Outside.{tick_fine, typed_fine, switched_fine}
 
-paused_at : (u : Unix) (is_fresh : Bool) (seen : Seen) → Stands (system_at u is_fresh seen) seen
-    → IsPaused is_fresh u seen
-paused_at u is_fresh seen h = record { paused = h.holds.paused; fresh = h.fresh }
+get_replicate : {X : Type 0} (x : X) (n k : ℕ) → get_or (replicate n x) k x ≡ x
+get_replicate x zero k = refl
+get_replicate x (suc n) zero = refl
+get_replicate x (suc n) (suc k) = get_replicate x n k
 
-event_fine : (e : Event) (u : Unix) (is_fresh : Bool) (seen : Seen) → Stands (system_at u is_fresh seen) seen
-    → FineTurn seen (event_of e (system_at u is_fresh seen))
-event_fine Slot u is_fresh seen h = slot_fine u is_fresh seen (paused_at u is_fresh seen h) h.holds
-event_fine Tick u is_fresh seen h = tick_fine u is_fresh seen (paused_at u is_fresh seen h)
-event_fine (Byte byte) u is_fresh seen h = typed_fine u is_fresh seen byte (paused_at u is_fresh seen h)
-event_fine (Switch word) u is_fresh seen h = switched_fine u is_fresh seen word (paused_at u is_fresh seen h) h.holds
+event_fine : (e : Event) (u : Unix) (seen : Seen) → Holds (seats_of u) seen
+    → FineTurn seen (event_of e (system_at u seen))
+event_fine Slot u seen h = slot_fine u seen h
+event_fine Tick u seen h = tick_fine u seen h.paused
+event_fine (Byte byte) u seen h = typed_fine u seen byte h.paused
+event_fine (Switch word) u seen h = switched_fine u seen word h
 
 -- a run as far as it has come
 record FineCourse (c : Course) : Type 0 where
@@ -60,8 +60,8 @@ event_goes c e f = by c.ending refl
 
     -- the system with the board that the lines give
     at_lines : Stands c.system now → FineTurn now (event_of e c.system)
-    at_lines h = subst (λ b. FineTurn now (event_of e (record { unix = c.system.unix; board = b; is_fresh = c.system.is_fresh }))) h.board
-        (event_fine e c.system.unix c.system.is_fresh now (record { board = refl; holds = h.holds; fresh = h.fresh }))
+    at_lines h = subst (λ b. FineTurn now (event_of e (record { unix = c.system.unix; board = b }))) h.board
+        (event_fine e c.system.unix now h.holds)
 
     by : (o : Option Unbuilt) → c.ending ≡ o → FineCourse (unless_ended o c e)
     by None n = further c (event_of e c.system) (f.fine n) (at_lines (f.fine n).stands)
@@ -108,24 +108,14 @@ module _ (store : Store) (core : ℕ) (low : 64 ≤ core) where
   first_agrees =
       record { each = first_each _ refl; sleeps = first_sleeps; rows = refl; seats = refl; time = refl; ticks = refl }
 
-  first_fresh : IsFresh (seats_of u) (applied (first_board core store.stamp) (line.Sleep 0 pswp RunOut))
+  first_paused : Paused (seats_of u) (seen_after booted_seen (line.Sleep 0 pswp RunOut))
   unfolding applied fall_asleep
-  first_fresh = record { slots = refl; places = places; texts = refl; core = low }
-    where
-      places : (r : ℕ) → (r ≡ 1 → ⊥)
-          → (row_at (applied (first_board core store.stamp) (line.Sleep 0 pswp RunOut)).table r).place ≡ None
-      places zero n = refl
-      places (suc zero) n = absurd (n refl)
-      places (suc (suc k)) n = ap (λ x. x.place) (get_replicate empty_row 48 k)
+  first_paused = record { going = tt; agrees = first_agrees; runner = tt }
 
-  first_paused : IsPaused true u (seen_after booted_seen (line.Sleep 0 pswp RunOut))
-  unfolding applied fall_asleep
-  first_paused = record { paused = record { going = tt; agrees = first_agrees; runner = tt }; fresh = λ f. first_fresh }
-
-  start_fine : FineTurn booted_seen (pass_of (system_at u true booted_seen))
+  start_fine : FineTurn booted_seen (pass_of (system_at u booted_seen))
   unfolding Apt came
   start_fine =
-      record { fine = λ e. event_by u u true booted_seen pass_effects (refl, first_paused) (shown_stop (first_board core store.stamp) pass_effects tt) }
+      record { fine = λ e. event_by u u booted_seen pass_effects (refl, first_paused) (shown_stop (first_board core store.stamp) pass_effects tt) }
 
   started_fine : core ≤ 3968 → FineCourse (started (system_with store core))
   unfolding FitAll applied
@@ -149,21 +139,14 @@ log_lawful store core events low high e =
     ends_lawful (course (started (system_with store core)) events) (course_fine events (started (system_with store core)) (started_fine store core low high)) e
 
 -- the system that an image boots
-booted_is : (m n : System) → booted m ≡ Some n → m ≡ n
-booted_is m n e = by (has_form m) e
-  where
-    by : (x : Bool) → (if x then Some m else None) ≡ Some n → m ≡ n
-    by true f = cc f
-    by false f = absurd (cc f)
-
 boots_is : (image : List ℕ) (core : ℕ) (m : System) → boots image core ≡ Some m
     → system_with (store_of (disk_of image)) core ≡ m
 boots_is image core m e = by (is_some (image_fault image)) e
   where
-    by : (x : Bool) → (if x then None else booted (system_with (store_of (disk_of image)) core)) ≡ Some m
+    by : (x : Bool) → (if x then None else Some (system_with (store_of (disk_of image)) core)) ≡ Some m
         → system_with (store_of (disk_of image)) core ≡ m
     by true f = absurd (cc f)
-    by false f = booted_is (system_with (store_of (disk_of image)) core) m f
+    by false f = cc f
 
 -- Each line of each log fits what the lines before it give, and the last one ends it.
 pub logs_are_lawful : LogsAreLawful

@@ -4,7 +4,7 @@ pub mod Quiet
 pub mod Rows
 pub mod Children
 pub mod Ending
-pub mod Starting
+pub mod Executing
 pub mod Turning
 pub mod Events
 pub mod Outside

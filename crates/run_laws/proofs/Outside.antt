@@ -30,63 +30,16 @@ use Rattle.unix_core.specs.Unix.{Unix, process_of, with_process}
 use Rattle.unix_core.specs.Turn.{is_user}
 use Rattle.unix_core.specs.Outside.{mode_by, tick_entry, timed, charged, clock_after, is_due, ticked, wakes, tick_of, calls, typed_of, switched_of}
 use Rattle.run_laws.proofs.Sitting.{seat_for, seats_of, runner_seat}
-use Rattle.run_laws.proofs.Starting.{IsFresh, fresh_kept}
 use Rattle.run_laws.proofs.Turning.{same_seats}
-use Rattle.run_laws.proofs.Events.{system_at, FineTurn, IsPaused, AreShown, shown_stop, event_by}
-
--- wakes and ticks leave places and texts
-woken_fresh : (v : Seats) (b : Board) (chan : Chan) → Agrees 0 v b → IsFresh v b
-    → IsFresh v (applied b (line.Wake chan))
-unfolding applied
-woken_fresh v b chan a f =
-    fresh_kept v v b (record b { table = wakeup b.table chan }) refl
-    (wakeup_same b.table b.table chan (same_none b.table a.sleeps)) refl refl f
-
-later_slots : (v : Seats) → (a_tick_later v).slots ≡ v.slots
-later_slots v = by (v.ticks == 59)
-  where
-    by : (x : Bool)
-        → (cond x (record v { ticks = 0; time = (v.time + 1) % 2 ^ 32 }) (record v { ticks = v.ticks + 1 })).slots ≡ v.slots
-    by true = refl
-    by false = refl
-
-ticked_fresh : (v : Seats) (b : Board) (mode : Mode) → Agrees 0 v b → IsFresh v b
-    → IsFresh (a_tick_later v) (applied b (tick_line mode))
-unfolding applied
-ticked_fresh v b mode a f = on mode
-  where
-    passed : IsFresh v (record b { table = time_passed b.table })
-    passed = record {
-      slots = f.slots;
-      places = λ r n. ap (λ rows. (get_or rows r empty_row).place) (passed_rows b.table) ∙ f.places r n;
-      texts = f.texts;
-      core = f.core;
-    }
-
-    aged : (m : Mode) → IsFresh (a_tick_later v) (record b { table = tick m b.table })
-    aged m =
-        fresh_kept v (a_tick_later v) (record b { table = time_passed b.table }) (record b { table = tick m b.table })
-        (later_slots v) (tick_same m b.table a.sleeps) refl refl passed
-
-    on : (m : Mode) → IsFresh (a_tick_later v) (applied b (tick_line m))
-    on User = aged User
-    on Kernel = aged Kernel
-    on Idle = aged Idle
+use Rattle.run_laws.proofs.Events.{system_at, FineTurn, AreShown, shown_stop, event_by}
 
 -- a wake between two events
-wake_keeps : (is_fresh : Bool) (u : Unix) (seen : Seen) (chan : Chan) → IsPaused is_fresh u seen
-    → IsPaused is_fresh u (seen_after seen (line.Wake chan))
-wake_keeps is_fresh u seen chan p = record {
-  paused = wake_paused (seats_of u) seen chan p.paused;
-  fresh = λ f. woken_fresh (seats_of u) seen.board chan p.paused.agrees (p.fresh f);
-}
-
-wakes_apt : (is_fresh : Bool) (u : Unix) (seen : Seen) (due : Bool) (chan : Chan) → IsPaused is_fresh u seen
-    → Apt (IsPaused is_fresh u) seen (wakes due chan)
+wakes_apt : (u : Unix) (seen : Seen) (due : Bool) (chan : Chan) → Paused (seats_of u) seen
+    → Apt (Paused (seats_of u)) seen (wakes due chan)
 unfolding Apt
-wakes_apt is_fresh u seen true chan p =
-    wake_apt (IsPaused is_fresh u) seen chan [] p.paused.going (wake_keeps is_fresh u seen chan p)
-wakes_apt is_fresh u seen false chan p = p
+wakes_apt u seen true chan p =
+    wake_apt (Paused (seats_of u)) seen chan [] p.going (wake_paused (seats_of u) seen chan p)
+wakes_apt u seen false chan p = p
 
 -- The mode of the system is that of the board.
 mode_same : (u : Unix) (seen : Seen) → Paused (seats_of u) seen
@@ -153,35 +106,30 @@ clock_seats v clock e f = subst (λ n. ticked_at n v ≡ record v { time = (cloc
     by true = rw e refl
     by false = rw e refl
 
-ticked_seats : (u : Unix) (is_fresh : Bool) (seen : Seen) → Paused (seats_of u) seen
-    → a_tick_later (seats_of u) ≡ seats_of (ticked (system_at u is_fresh seen))
-ticked_seats u is_fresh seen p =
+ticked_seats : (u : Unix) (seen : Seen) → Paused (seats_of u) seen
+    → a_tick_later (seats_of u) ≡ seats_of (ticked (system_at u seen))
+ticked_seats u seen p =
     clock_seats (seats_of u) u.clock refl refl
     ∙ ap {A = Seats} (λ v. record v { time = (clock_after u.clock).time; ticks = (clock_after u.clock).ticks })
     (sym (charged_seats u seen (mode_by u seen.board.table.running) p.runner))
 
 -- a tick
-tick_keeps : (u : Unix) (is_fresh : Bool) (seen : Seen) (mode : Mode) → IsPaused is_fresh u seen
-    → IsPaused is_fresh (ticked (system_at u is_fresh seen)) (seen_after seen (tick_line mode))
-tick_keeps u is_fresh seen mode p = record {
-  paused = subst (λ v. Paused v (seen_after seen (tick_line mode))) same (tick_paused (seats_of u) seen mode p.paused);
-  fresh = λ f. subst (λ v. IsFresh v (applied seen.board (tick_line mode))) same (ticked_fresh (seats_of u) seen.board mode p.paused.agrees (p.fresh f));
-}
-  where
-    same : a_tick_later (seats_of u) ≡ seats_of (ticked (system_at u is_fresh seen))
-    same = ticked_seats u is_fresh seen p.paused
+tick_keeps : (u : Unix) (seen : Seen) (mode : Mode) → Paused (seats_of u) seen
+    → Paused (seats_of (ticked (system_at u seen))) (seen_after seen (tick_line mode))
+tick_keeps u seen mode p =
+    subst (λ v. Paused v (seen_after seen (tick_line mode))) (ticked_seats u seen p) (tick_paused (seats_of u) seen mode p)
 
 shown_wakes : (due : Bool) (chan : Chan) → AreShown (wakes due chan)
 shown_wakes true chan = tt
 shown_wakes false chan = tt
 
-pub tick_fine : (u : Unix) (is_fresh : Bool) (seen : Seen) → IsPaused is_fresh u seen
-    → FineTurn seen (tick_of (system_at u is_fresh seen))
+pub tick_fine : (u : Unix) (seen : Seen) → Paused (seats_of u) seen
+    → FineTurn seen (tick_of (system_at u seen))
 unfolding Apt came
-tick_fine u is_fresh seen p = record {
-  fine = λ e. event_by u now is_fresh seen (Show (Log (tick_entry mode)) ∷ wakes due Tout)
-      (subst (λ x. FitsStage seen.stage seen.board x × Apt (IsPaused is_fresh now) (seen_after seen x) (wakes due Tout)) (sym line_is)
-      (tick_fits seen p.paused.going, wakes_apt is_fresh now (seen_after seen (tick_line (mode_now seen.board))) due Tout (tick_keeps u is_fresh seen (mode_now seen.board) p)))
+tick_fine u seen p = record {
+  fine = λ e. event_by u now seen (Show (Log (tick_entry mode)) ∷ wakes due Tout)
+      (subst (λ x. FitsStage seen.stage seen.board x × Apt (Paused (seats_of now)) (seen_after seen x) (wakes due Tout)) (sym line_is)
+      (tick_fits seen p.going, wakes_apt now (seen_after seen (tick_line (mode_now seen.board))) due Tout (tick_keeps u seen (mode_now seen.board) p)))
       (shown_stop seen.board (Show (Log (tick_entry mode)) ∷ wakes due Tout) (shown_wakes due Tout));
 }
   where
@@ -192,36 +140,35 @@ tick_fine u is_fresh seen p = record {
     due = is_due u.clock
 
     now : Unix
-    now = ticked (system_at u is_fresh seen)
+    now = ticked (system_at u seen)
 
     line_is : tick_entry mode ≡ tick_line (mode_now seen.board)
-    line_is = ap tick_entry (mode_same u seen p.paused) ∙ same_line (mode_now seen.board)
+    line_is = ap tick_entry (mode_same u seen p) ∙ same_line (mode_now seen.board)
 
 -- a key
-keys_apt : (is_fresh : Bool) (v : Unix) (seen : Seen) (bytes : List ℕ) (due : Bool) → IsPaused is_fresh v seen
-    → Apt (IsPaused is_fresh v) seen (map Show (sent 0 bytes) ++ wakes due Keys)
+keys_apt : (v : Unix) (seen : Seen) (bytes : List ℕ) (due : Bool) → Paused (seats_of v) seen
+    → Apt (Paused (seats_of v)) seen (map Show (sent 0 bytes) ++ wakes due Keys)
 unfolding Apt came
-keys_apt is_fresh v seen [] due p = wakes_apt is_fresh v seen due Keys p
-keys_apt is_fresh v seen (byte ∷ bytes) due p = keys_apt is_fresh v seen bytes due p
+keys_apt v seen [] due p = wakes_apt v seen due Keys p
+keys_apt v seen (byte ∷ bytes) due p = keys_apt v seen bytes due p
 
 shown_keys : (bytes : List ℕ) (due : Bool) → AreShown (map Show (sent 0 bytes) ++ wakes due Keys)
 shown_keys [] due = shown_wakes due Keys
 shown_keys (byte ∷ bytes) due = shown_keys bytes due
 
-pub typed_fine : (u : Unix) (is_fresh : Bool) (seen : Seen) (byte : ℕ) → IsPaused is_fresh u seen
-    → FineTurn seen (typed_of (system_at u is_fresh seen) byte)
-typed_fine u is_fresh seen byte p =
+pub typed_fine : (u : Unix) (seen : Seen) (byte : ℕ) → Paused (seats_of u) seen
+    → FineTurn seen (typed_of (system_at u seen) byte)
+typed_fine u seen byte p =
     let k : Typed = typed u.line byte in
     let now : Unix = record u { line = k.terminal } in
     record {
-      fine = λ e. event_by u now is_fresh seen (map Show (sent 0 k.shown) ++ wakes (calls k.keyed) Keys)
-          (keys_apt is_fresh now seen k.shown (calls k.keyed) (record { paused = p.paused; fresh = p.fresh }))
+      fine = λ e. event_by u now seen (map Show (sent 0 k.shown) ++ wakes (calls k.keyed) Keys)
+          (keys_apt now seen k.shown (calls k.keyed) p)
           (shown_stop seen.board (map Show (sent 0 k.shown) ++ wakes (calls k.keyed) Keys) (shown_keys k.shown (calls k.keyed)));
     }
 
 -- the switches
-pub switched_fine : (u : Unix) (is_fresh : Bool) (seen : Seen) (word : ℕ) → IsPaused is_fresh u seen
-    → Holds (seats_of u) seen → FineTurn seen (switched_of (system_at u is_fresh seen) word)
+pub switched_fine : (u : Unix) (seen : Seen) (word : ℕ) → Holds (seats_of u) seen → FineTurn seen (switched_of (system_at u seen) word)
 unfolding FitAll
-switched_fine u is_fresh seen word p h =
-    record { fine = λ e. record { fit = tt; stands = record { board = refl; holds = h; fresh = p.fresh } } }
+switched_fine u seen word h =
+    record { fine = λ e. record { fit = tt; stands = record { board = refl; holds = h } } }

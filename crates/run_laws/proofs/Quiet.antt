@@ -17,7 +17,7 @@ use Rattle.fs_tree.specs.declared.made.Made.{Made}
 use Rattle.fs_tree.specs.declared.made.Made.TheVariants as made
 use Rattle.fs_tree.specs.Name.{name_at, readable}
 use Rattle.fs_tree.specs.Finding.{Finding, remove_in}
-use Rattle.fs_tree.specs.Permission.{permission}
+use Rattle.fs_tree.specs.Permission.{permission, access}
 use Rattle.fs_tree.specs.declared.user.Want.TheVariants.{Write, Execute}
 use Rattle.open_files.specs.declared.file.FileKind.{FileKind}
 use Rattle.open_files.specs.declared.file.Closed.{Closed}
@@ -201,7 +201,7 @@ module _ (old : UArea) where
 
   again_calm : (h : Handed) (ino now : ℕ) → SameCall old h.u → Calm old (opens_again now h ino)
   again_calm h ino now s =
-      calm_check h (permission (node_at h ino) (user_of h.u) Write) _ s (λ may.
+      calm_check h (access h.marks ino (node_at h ino) (user_of h.u) Write) _ s (λ may.
       calm_check h (must EISDIR (not (is_directory (node_at h ino).mode))) _ s (λ file.
       calm_opens (with_no_blocks h ino now) ino _ s))
 
@@ -246,7 +246,7 @@ module _ (h : Handed) where
   pub open_calm : (name mode : ℕ) → Calm h.u (open_file h name mode)
   open_calm name mode =
       calm_finds h.u h name (λ k ino. opens_named k ino mode) s (λ k ino t.
-      calm_check h.u k (last_failure (open_tests (node_at k ino) (user_of k.u) mode)) _ t (λ passed.
+      calm_check h.u k (last_failure (open_tests k.marks ino (node_at k ino) (user_of k.u) mode)) _ t (λ passed.
       calm_opens h.u k ino _ t))
 
   -- 8, creat

@@ -87,7 +87,7 @@ Answered s v seen es (Sleep pri chan) = Apt (InCall s true v) seen es × IsSleep
 
 -- the end of a turn in which a call was answered
 module _ (s : ℕ) (seen : Seen) where
-  trapped : (u v : Unix) (es : List (Effect Unix))
+  pub trapped : (u v : Unix) (es : List (Effect Unix))
       → ((now : Seen) → InCall s false (seats_of u) now → InCall s false (seats_of v) now)
       → Apt (InCall s false (seats_of u)) seen es → AptSteps s seen (record (returns v) { effects = es })
   trapped u v es change a = record {

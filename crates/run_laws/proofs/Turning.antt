@@ -1,5 +1,7 @@
 -- The turn of each slot is apt.
 use Rattle.std.proofs.Common.{◌≡◌, ◌∙◌, ◌==◌, ◌||◌, ℕ, not, Bool, true, false, cond, if◌then◌else◌, List, [], ◌∷◌, find, Option, Some, None, is_none, is_some, slice_index, replicate, set, refl, sym, ap, subst}
+use Rattle.pdp_step.specs.declared.outcome.Kind.{Kind}
+use Rattle.pdp_step.specs.declared.outcome.Kind.TheVariants as kind
 use Rattle.pdp_step.specs.declared.outcome.Outcome.{Outcome}
 use Rattle.pdp_step.specs.declared.outcome.Outcome.TheVariants as outcome
 use Rattle.pdp_step.specs.Instruction.{Stepped, instr}
@@ -20,16 +22,15 @@ use Rattle.sys_procs.specs.Resume.{awake, resume_proc}
 use Rattle.sys_procs.specs.Times.{until_of}
 use Rattle.unix_core.specs.Unix.{Unix, process_of, with_process}
 use Rattle.unix_core.specs.Steps.{Steps, no_room}
-use Rattle.unix_core.specs.Calls.{handed_of, world_of, with_area, entered_area, words_passed, asked, forks, is_full, fork_if_room, FileCall, file_calls, file_call, ProcessCall, process_calls, process_call, by_process_row, by_file_row, does_call, count_of, does_if_built, system_call, resumed}
-use Rattle.unix_core.specs.Exec.{exec_init}
-use Rattle.unix_core.specs.Turn.{machine_of, with_machine, comes_to, instruction, is_user, has_room, turn}
+use Rattle.unix_core.specs.Calls.{handed_of, world_of, with_area, entered_area, words_passed, asked, forks, is_full, has_room, fork_if_room, FileCall, file_calls, file_call, ProcessCall, process_calls, process_call, by_process_row, by_file_row, does_call, count_of, does_if_built, system_call, resumed}
+use Rattle.unix_core.specs.Turn.{machine_of, with_machine, faults, comes_to, instruction, is_user, turn}
 use Rattle.run_laws.proofs.Sitting.{seat_for, seats_in, seats_of, found_in, runner_seat, runner_alive, put_in, kept_in, changed_in}
 use Rattle.run_laws.proofs.Steps.{AptSteps, unbuilt_apt, roomless_apt, returns_apt, came_apt}
 use Rattle.run_laws.proofs.Quiet.{Calm, same_call, read_calm, write_calm, open_calm, close_calm, creat_calm, link_calm, unlink_calm, chdir_calm, mknod_calm, chmod_calm, chown_calm, stat_calm, seek_calm, stat_open_calm, stty_calm, gtty_calm, sync_calm, dup_calm, resume_calm}
 use Rattle.run_laws.proofs.Rows.{FineComes, Calling, if_fine, time_fine, pid_fine, set_uid_fine, get_uid_fine, set_time_fine, no_op_fine, nice_fine, sleep_fine, switches_fine, times_fine, set_gid_fine, get_gid_fine, until_fine}
 use Rattle.run_laws.proofs.Children.{wait_fine, fork_fine}
 use Rattle.run_laws.proofs.Ending.{did_apt, no_pending, exits_apt}
-use Rattle.run_laws.proofs.Starting.{IsFresh, fresh_runs, fresh_calls, init_apt}
+use Rattle.run_laws.proofs.Executing.{tried_apt, break_fine, grow_apt, exec_fine}
 
 -- a fact of each of some rows holds of the one that is found
 abbrev Each : {X : Type 0} → (X → Type 0) → List X → Type 0
@@ -172,7 +173,7 @@ module _ (s : ℕ) (seen : Seen) where
   either true y e f = absurd (cc f)
   either false y e f = e
 
-  fork_apt : (u : Unix) → Calling s (world_of u) seen → AptSteps s seen (fork_if_room (has_room seen.board) u s)
+  fork_apt : (u : Unix) → Calling s (world_of u) seen → AptSteps s seen (fork_if_room seen.board u s)
   fork_apt u i = by (is_full u || has_room seen.board (clicks_of (process_of u s).u)) refl
     where
       by : (x : Bool) → (is_full u || has_room seen.board (clicks_of (process_of u s).u)) ≡ x
@@ -181,17 +182,19 @@ module _ (s : ℕ) (seen : Seen) where
       by false e = roomless_apt s seen u []
 
   call_apt : (u : Unix) (number : ℕ) (args : List ℕ) → Calling s (world_of u) seen
-      → AptSteps s seen (does_call (has_room seen.board) u s number args)
+      → AptSteps s seen (does_call seen.board u s number args)
   unfolding file_call process_call
   call_apt u number args i =
       if_apt (number == 0) _ _ (returns_apt s seen u i) (
       if_apt (number == 1) _ _ (exits_apt s u seen i) (
-      if_apt (number == 2) _ _ (fork_apt u i)
+      if_apt (number == 2) _ _ (fork_apt u i) (
+      if_apt (number == 11) _ _ (tried_apt s seen u _ (exec_fine s seen (world_of u) (slice_index args 0) (slice_index args 1) i)) (
+      if_apt (number == 17) _ _ (tried_apt s seen u _ (break_fine s seen (world_of u) (slice_index args 0) i))
       (file_row_apt u args (file_call number) (process_call number) (λ c e. found_one IsCalm (λ (c : FileCall). c.number == number) file_calls c each_calm e)
-      (λ c e. found_one IsFine (λ (c : ProcessCall). c.number == number) process_calls c each_fine e) i)))
+      (λ c e. found_one IsFine (λ (c : ProcessCall). c.number == number) process_calls c each_fine e) i)))))
 
   built_apt : (u : Unix) (count : Option ℕ) (number : ℕ) → Calling s (world_of u) seen
-      → AptSteps s seen (does_if_built (has_room seen.board) u s (asked (image_of (process_of u s)) (register (process_of u s) 7) number) count)
+      → AptSteps s seen (does_if_built seen.board u s (asked (image_of (process_of u s)) (register (process_of u s) 7) number) count)
   built_apt u None number i = unbuilt_apt s seen u []
   built_apt u (Some count) number i =
       let a = asked (image_of (process_of u s)) (register (process_of u s) 7) number in
@@ -199,7 +202,7 @@ module _ (s : ℕ) (seen : Seen) where
       (kept_in u.processes u.clock s false seen (record (process_of u s) { u = entered_area (words_passed a count) (process_of u s).u }) i refl refl refl)
 
   called_apt : (u : Unix) (number : ℕ) → Calling s (world_of u) seen
-      → AptSteps s seen (system_call (has_room seen.board) number u s)
+      → AptSteps s seen (system_call seen.board number u s)
   called_apt u number i =
       built_apt u (count_of (asked (image_of (process_of u s)) (register (process_of u s) 7) number).number) number i
 
@@ -243,7 +246,7 @@ module _ (s : ℕ) (seen : Seen) where
   -- an instruction of a process in user mode
   instruction_apt : (u : Unix) → Paused (seats_of u) seen → InTurn s (seats_of u) seen.board
       → is_user (process_of u s) ≡ true
-      → AptSteps s seen (instruction (has_room seen.board) u s)
+      → AptSteps s seen (instruction seen.board u s)
   unfolding Apt
   instruction_apt u p t user = by step.outcome
     where
@@ -262,34 +265,24 @@ module _ (s : ℕ) (seen : Seen) where
       i : Calling s (world_of now) seen
       i = subst (λ v. InCall s false v seen) (sym same) (subst (λ c. InCall s c (seats_of u) seen) calls (begins u p t))
 
-      by : (o : Outcome) → AptSteps s seen (comes_to (has_room seen.board) now s o)
+      by : (o : Outcome) → AptSteps s seen (comes_to seen.board now s o)
       by outcome.Next = record { apt = λ pc b. subst (λ v. Paused v seen) (sym same) p }
       by (outcome.Call number) = called_apt now number i
-      by (outcome.Fault kind) = unbuilt_apt s seen now []
+      by (outcome.Fault k) = fault_apt k
+        where
+          fault_apt : (k : Kind) → AptSteps s seen (faults seen.board now s k)
+          fault_apt kind.Odd = unbuilt_apt s seen now []
+          fault_apt (kind.Segment sp) = grow_apt s seen now sp i
+          fault_apt (kind.Illegal word) = unbuilt_apt s seen now []
+          fault_apt kind.Bpt = unbuilt_apt s seen now []
+          fault_apt kind.Iot = unbuilt_apt s seen now []
+          fault_apt kind.Emt = unbuilt_apt s seen now []
 
-  user_apt : (u : Unix) → Paused (seats_of u) seen → InTurn s (seats_of u) seen.board
-      → AptSteps s seen (if is_user (process_of u s) then instruction (has_room seen.board) u s else resumed u s)
-  user_apt u p t = by (is_user (process_of u s)) refl
+  pub turn_apt : (u : Unix) → Paused (seats_of u) seen → InTurn s (seats_of u) seen.board
+      → AptSteps s seen (turn (record { unix = u; board = seen.board }) s)
+  turn_apt u p t = by (is_user (process_of u s)) refl
     where
       by : (x : Bool) → is_user (process_of u s) ≡ x
-          → AptSteps s seen (cond x (instruction (has_room seen.board) u s) (resumed u s))
+          → AptSteps s seen (cond x (instruction seen.board u s) (resumed u s))
       by true e = instruction_apt u p t e
       by false e = resumed_apt u p t
-
--- the first turn is the exec of process 1
-first_apt : (s : ℕ) (seen : Seen) (u : Unix) → IsFresh (seats_of u) seen.board → Paused (seats_of u) seen
-    → InTurn s (seats_of u) seen.board → AptSteps s seen (exec_init u s)
-first_apt s seen u f p t = at s (fresh_runs s (seats_of u) seen.board f t) t
-  where
-    at : (r : ℕ) → r ≡ 1 → InTurn r (seats_of u) seen.board → AptSteps r seen (exec_init u r)
-    at r e k = subst (λ q. AptSteps q seen (exec_init u q)) (sym e) (init_apt u seen f (one (subst (λ q. InTurn q (seats_of u) seen.board) e k)))
-      where
-        one : InTurn 1 (seats_of u) seen.board → InCall 1 false (seats_of u) seen
-        one k =
-            record { going = p.going; agrees = busy_agrees 1 (seats_of u) seen.board p.agrees; turn = k; calls = fresh_calls 1 (seats_of u) seen.board f k }
-
-pub turn_apt : (s : ℕ) (seen : Seen) (u : Unix) (fresh : Bool) → (fresh ≡ true → IsFresh (seats_of u) seen.board)
-    → Paused (seats_of u) seen → InTurn s (seats_of u) seen.board
-    → AptSteps s seen (turn (record { unix = u; board = seen.board; is_fresh = fresh }) s)
-turn_apt s seen u true f p t = first_apt s seen u (f refl) p t
-turn_apt s seen u false f p t = user_apt s seen u p t
