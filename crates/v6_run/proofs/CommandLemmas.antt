@@ -16,7 +16,6 @@ use Rattle.v6_run.specs.declared.image.ImageError.{ImageError}
 use Rattle.v6_run.specs.declared.image.ImageError.TheVariants as image_error
 use Rattle.script_text.specs.declared.script.ScriptFault.TheVariants as script_fault
 use Rattle.v6_run.specs.declared.script.ScriptError.TheVariants as script_error
-use Rattle.v6_run.specs.declared.run.BootError.TheVariants as boot_error
 use Rattle.v6_run.specs.declared.outputs.Output.TheVariants as output
 use Rattle.v6_run.specs.declared.run.RunError.TheVariants as run_error
 use Rattle.v6_run.specs.declared.make.MakeError.TheVariants as make_error
@@ -114,8 +113,7 @@ module _ (done : List ℕ) where
   error_line (error.Run (run_error.Refused (script_error.Faulty (script_fault.TooManySlots n)))) = refl
   error_line (error.Run (run_error.Refused (script_error.Faulty script_fault.NoMemory))) = refl
   error_line (error.Run (run_error.Refused (script_error.Unbuilt n))) = refl
-  error_line (error.Run (run_error.Boot boot_error.Form)) = refl
-  error_line (error.Run (run_error.Boot boot_error.NoMemory)) = refl
+  error_line (error.Run run_error.NoMemory) = refl
   error_line (error.Run (run_error.Write output.Term)) = refl
   error_line (error.Run (run_error.Write output.Log)) = refl
   error_line (error.Run (run_error.Write output.Final)) = refl

@@ -1,5 +1,5 @@
 -- What `run` answers, exit by exit.
-use Rattle.std.proofs.Common.{◌≡◌, ℕ, Bool, true, false, Option, Some, None, List, take, refl, sym, Ok, Err, ◌∙◌, ap, subst}
+use Rattle.std.proofs.Common.{◌≡◌, ℕ, Bool, true, false, Option, Some, None, List, take, refl, sym, Ok, Err, ◌∙◌, ap, subst, is_some, if◌then◌else◌}
 use Rattle.std.specs.Option.{option_map}
 use Rattle.v6_port.specs.declared.host.InPort.TheVariants as in_port
 use Rattle.v6_port.specs.declared.host.OutPort.{OutPort}
@@ -9,9 +9,10 @@ use Rattle.v6_port.specs.Calls.{is_given}
 use Rattle.v6_port.specs.Causes.{Calm}
 use Rattle.fs_codec.specs.Disk.{disk_of}
 use Rattle.fs_codec.specs.Faults.{image_fault}
+use Rattle.fs_codec.specs.declared.fault.ImageFault as codec
 use Rattle.unix_core.specs.Unix.{System}
 use Rattle.unix_core.proofs.RunsLemmas.{IsMet, course_is}
-use Rattle.unix_core.specs.Runs.{Course, started, boots, course}
+use Rattle.unix_core.specs.Runs.{Course, system_of, started, boots, course}
 use Rattle.v6_run.specs.declared.image.TheConstants.{IMAGE_LIMIT}
 use Rattle.v6_run.specs.declared.run.TheConstants.{SCRIPT_LIMIT}
 use Rattle.v6_run.specs.declared.status.Status.{Status}
@@ -23,8 +24,6 @@ use Rattle.v6_run.specs.declared.files.ReadError.TheVariants as reading
 use Rattle.v6_run.specs.declared.image.ImageError.{ImageError}
 use Rattle.v6_run.specs.declared.script.ScriptError.{ScriptError}
 use Rattle.v6_run.specs.declared.script.ScriptError.TheVariants as script_error
-use Rattle.v6_run.specs.declared.run.BootError.{BootError}
-use Rattle.v6_run.specs.declared.run.BootError.TheVariants as boot
 use Rattle.v6_run.specs.Words.{RunWords, Run}
 use Rattle.script_text.specs.declared.script.Event as asked
 use Rattle.script_text.specs.declared.script.ScriptFault as text
@@ -32,14 +31,14 @@ use Rattle.script_text.specs.declared.script.ScriptFault.TheVariants as fault
 use Rattle.script_text.specs.Script.{script_of, signal_line_of}
 use Rattle.v6_run.specs.Events.{events_of}
 use Rattle.v6_run.specs.Status.{is_decided, has_written}
-use Rattle.v6_run.specs.Errors.{read_status, image_status, script_status, boot_status}
+use Rattle.v6_run.specs.Errors.{read_status, image_status, script_status}
 use Rattle.v6_run.specs.Fronts.{HoldsSome, HoldsFrontOfSome}
 use Rattle.v6_run.specs.declared.outputs.Output.{Output}
 use Rattle.v6_run.specs.declared.outputs.Output.TheVariants as file
 use Rattle.v6_run.specs.Outputs.{port_of, is_output, run_writes, EndsRun, StopsRun}
 use Rattle.v6_run.specs.Causes.{IsCaused}
-use Rattle.v6_run.specs.Steps.{StopsReading, StopsImage, RefusesScript, RefusesImage}
-use Rattle.v6_run.specs.Headline.{Known, IsKnownAnd, ends_with, course_completion, boot_completion, events_completion, lines_completion, bytes_completion, script_completion, fault_completion, image_completion, command_completion, IsComplete, IsPartial, status_at, is_named, may_end, run_knows, is_known}
+use Rattle.v6_run.specs.Steps.{StopsReading, StopsImage, RefusesScript}
+use Rattle.v6_run.specs.Headline.{Known, IsKnownAnd, ends_with, course_completion, events_completion, lines_completion, bytes_completion, script_completion, fault_completion, image_completion, command_completion, IsComplete, IsPartial, status_at, is_named, may_end, run_knows, is_known}
 use Rattle.v6_run.specs.Answers.{Answers, HasFiles}
 use Rattle.v6_run.proofs.ImageLemmas.{fault_given}
 use Rattle.v6_port.proofs.CauseLemmas.{still_tells, only_then, calm_then, fault_then}
@@ -99,7 +98,6 @@ completion_is core (Some i) (Some s) image bytes image_is good script_is =
 
 has_begun : (ended : Option Unbuilt) → IsMet ended → has_written (status_at ended) ≡ true
 has_begun None met = refl
-has_begun (Some unbuilt.Image) met = absurd met
 has_begun (Some (unbuilt.Line n)) met = absurd met
 has_begun (Some (unbuilt.At pc)) met = refl
 has_begun (Some unbuilt.Room) met = refl
@@ -149,15 +147,20 @@ module _ (words : RunWords) (image bytes : List ℕ) (old middle : Outside) (fil
       ∙ ap (events_completion image words.core refused.0) refused.2)) files.calm
 
   module _ (events : List asked.Event) (script_is : script_of bytes ≡ Ok events) (built : signal_line_of bytes ≡ None) where
-    boots_as : (system : Option System) → boots image words.core ≡ system
-        → bytes_completion image words.core bytes ≡ boot_completion image (option_map (λ m. course (started m) (events_of events)) system)
+    -- the system that was booted is that of the image
+    is_of : (o : Option codec.ImageFault) (system : System)
+        → (if is_some o then None else Some (system_of image words.core)) ≡ Some system → system_of image words.core ≡ system
+    is_of None system is = cc is
+    is_of (Some fault) system is = absurd (cc is)
+
+    boots_as : (system : System) → boots image words.core ≡ Some system
+        → bytes_completion image words.core bytes ≡ course_completion image (course (started system) (events_of events))
     boots_as system is =
         ap (λ s. lines_completion image words.core s (signal_line_of bytes)) script_is ∙ ap (events_completion image words.core events) built
-        ∙ ap (λ o. boot_completion image (option_map (λ m. course (started m) (events_of events)) o)) is
+        ∙ ap (λ m. course_completion image (course (started m) (events_of events))) (is_of (image_fault image) system is)
 
-    pub boot_refused : (error : BootError) → RefusesImage (boots image words.core) error → Answers (Run words) (boot_status error) old middle
-    boot_refused boot.Form refused = before_run (NotBuilt unbuilt.Image) refl refl (λ is. cc) (λ _. early_complete (NotBuilt unbuilt.Image) (boots_as None refused)) files.calm
-    boot_refused boot.NoMemory refused = before_run NoMemory refl refl (λ is. cc) (λ decided. not_so _ decided) files.calm
+    pub boot_refused : Answers (Run words) NoMemory old middle
+    boot_refused = before_run NoMemory refl refl (λ is. cc) (λ decided. not_so _ decided) files.calm
 
     -- the run, with its files
     module _ (system : System) (boots_is : boots image words.core ≡ Some system) (new : Outside) (only : OnlyAt is_output middle new) where
@@ -165,7 +168,7 @@ module _ (words : RunWords) (image bytes : List ℕ) (old middle : Outside) (fil
       run = course (started system) (events_of events)
 
       run_completion : Tells old → command_completion (Run words) old.fixed ≡ Known (course_completion image run)
-      run_completion told = run_is told ∙ ap Known (boots_as (Some system) boots_is)
+      run_completion told = run_is told ∙ ap Known (boots_as system boots_is)
 
       run_is_met : IsMet run.ending
       run_is_met = course_is (started system) (events_of events) tt
@@ -210,7 +213,6 @@ module _ (words : RunWords) (image bytes : List ℕ) (old middle : Outside) (fil
         unfinished = λ is. not_so _ is;
         cause = calm_then _ _ _ files.calm ends.calm;
       }
-      run_ended (Some unbuilt.Image) ends = absurd (subst IsMet (sym ends.ended) run_is_met)
       run_ended (Some (unbuilt.Line n)) ends = absurd (subst IsMet (sym ends.ended) run_is_met)
       run_ended (Some (unbuilt.At pc)) ends = unbuilt_at (unbuilt.At pc) refl ends
       run_ended (Some unbuilt.Room) ends = unbuilt_at unbuilt.Room refl ends

@@ -14,8 +14,6 @@ use Rattle.script_text.specs.declared.script.ScriptFault.{ScriptFault}
 use Rattle.script_text.specs.declared.script.ScriptFault.TheVariants as fault
 use Rattle.v6_run.specs.declared.script.ScriptError.{ScriptError}
 use Rattle.v6_run.specs.declared.script.ScriptError.TheVariants as script
-use Rattle.v6_run.specs.declared.run.BootError.{BootError}
-use Rattle.v6_run.specs.declared.run.BootError.TheVariants as boot
 use Rattle.v6_run.specs.declared.run.RunError.{RunError}
 use Rattle.v6_run.specs.declared.run.RunError.TheVariants as run
 use Rattle.v6_run.specs.declared.make.MakeError.{MakeError}
@@ -41,15 +39,11 @@ abbrev pub script_status : ScriptError → Status
 script_status (script.Faulty fault) = fault_status fault
 script_status (script.Unbuilt n) = status.NotBuilt (unbuilt.Line n)
 
-abbrev pub boot_status : BootError → Status
-boot_status boot.Form = status.NotBuilt unbuilt.Image
-boot_status boot.NoMemory = status.NoMemory
-
 abbrev pub run_status : RunError → Status
 run_status (run.Image error) = image_status error
 run_status (run.Script error) = read_status in_port.Script error
 run_status (run.Refused error) = script_status error
-run_status (run.Boot error) = boot_status error
+run_status run.NoMemory = status.NoMemory
 run_status (run.Write output) = status.WriteFault (port_of output)
 run_status (run.NotBuilt place) = status.NotBuilt place
 

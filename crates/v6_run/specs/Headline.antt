@@ -1,6 +1,6 @@
 -- What a command answers and writes, from its words and the bytes of its files, in the order of docs/manual/commands.md: the
--- words, the size of core, the image's first fault, the script's first fault and its first line that isn't built, the form of the
--- image, and the run.
+-- words, the size of core, the image's first fault, the script's first fault and its first line that isn't built, and the
+-- run.
 use Rattle.std.specs.Prelude.{◌≡◌, ◌≤◌, ℕ, Bool, true, false, not, Option, Some, None, IsSomeAnd, List, [], take, nat_le, ◌&&◌, ◌||◌, if◌then◌else◌, Result, Ok, Err}
 use Rattle.v6_port.specs.declared.host.InPort.TheVariants as in_port
 use Rattle.v6_port.specs.declared.host.OutPort.{OutPort}
@@ -18,7 +18,7 @@ use Rattle.script_text.specs.declared.script.ScriptFault.TheVariants.{NoMemory}
 use Rattle.script_text.specs.declared.script.Event.{Event}
 use Rattle.script_text.specs.Script.{script_of, signal_line_of}
 use Rattle.make_image.specs.Image.{build_of}
-use Rattle.unix_core.specs.Runs.{Course, runs}
+use Rattle.unix_core.specs.Runs.{Course, runs, run_of}
 use Rattle.unix_core.specs.Runs as kernel
 use Rattle.v6_run.specs.declared.image.TheConstants.{IMAGE_LIMIT}
 use Rattle.v6_run.specs.declared.run.TheConstants.{SCRIPT_LIMIT}
@@ -76,14 +76,10 @@ status_at (Some place) = status.NotBuilt place
 abbrev pub course_completion : List ℕ → Course → Completion
 course_completion image c = record { status = status_at c.ending; writes = run_writes (disk_of image) c }
 
-abbrev pub boot_completion : List ℕ → Option Course → Completion
-boot_completion image None = ends_with (status.NotBuilt unbuilt.Image)
-boot_completion image (Some c) = course_completion image c
-
 -- from a script without a fault, and its first line that types a key which makes a signal
 abbrev pub events_completion : List ℕ → ℕ → List Event → Option ℕ → Completion
 events_completion image core events (Some n) = ends_with (status.NotBuilt (unbuilt.Line n))
-events_completion image core events None = boot_completion image (runs image core (events_of events))
+events_completion image core events None = course_completion image (run_of image core (events_of events))
 
 abbrev pub lines_completion : List ℕ → ℕ → Result (List Event) ScriptFault → Option ℕ → Completion
 lines_completion image core (Err fault) signal = ends_with (status.ScriptFault fault)

@@ -14,7 +14,7 @@ use Rattle.fs_check.specs.declared.counts.Tally.{Tally}
 use Rattle.v6_run.specs.declared.status.Status.{Status}
 use Rattle.v6_run.specs.declared.status.Status.TheVariants as status
 use Rattle.unix_core.specs.declared.turned.Unbuilt.{Unbuilt}
-use Rattle.unix_core.specs.declared.turned.Unbuilt.TheVariants.{Image, Line, At, Room}
+use Rattle.unix_core.specs.declared.turned.Unbuilt.TheVariants.{Line, At, Room}
 use Rattle.v6_run.specs.declared.error.CommandError.{CommandError}
 use Rattle.v6_run.specs.Errors.{command_status}
 
@@ -50,7 +50,6 @@ fault_line (BlockTwice block) = line_of (codes "image: block " ++ decimal block 
 fault_line NoRoot = line_of (codes "image: no root")
 
 abbrev pub unbuilt_line : Unbuilt → List ℕ
-unbuilt_line Image = line_of (codes "not built: image")
 unbuilt_line (Line n) = line_of (codes "not built: line " ++ decimal n)
 unbuilt_line (At pc) = line_of (codes "not built: pc " ++ decimal pc)
 unbuilt_line Room = line_of (codes "not built: room")

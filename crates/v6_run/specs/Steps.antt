@@ -1,5 +1,5 @@
 -- Why a step of a command stops, step by step in the order of docs/manual/commands.md.
-use Rattle.std.specs.Prelude.{◌≡◌, ⊤, ℕ, Bool, Option, Some, None, IsSomeAnd, List, take, Ok}
+use Rattle.std.specs.Prelude.{◌≡◌, ℕ, Bool, Some, IsSomeAnd, List, take, Ok}
 use Rattle.v6_port.specs.declared.host.InPort.TheVariants as in_port
 use Rattle.v6_port.specs.Outside.{Port, In, Outside, Tells}
 use Rattle.v6_port.specs.Causes.{Calm, FaultAt}
@@ -7,7 +7,6 @@ use Rattle.v6_port.specs.Calls.{is_given}
 use Rattle.fs_codec.specs.Faults.{image_fault}
 use Rattle.script_text.specs.declared.script.Event.{Event}
 use Rattle.script_text.specs.Script.{script_of, signal_line_of, Refuses}
-use Rattle.unix_core.specs.Unix.{System}
 use Rattle.v6_run.specs.declared.image.TheConstants.{IMAGE_LIMIT}
 use Rattle.v6_run.specs.declared.files.ReadError.{ReadError}
 use Rattle.v6_run.specs.declared.files.ReadError.TheVariants as reading
@@ -15,8 +14,6 @@ use Rattle.v6_run.specs.declared.image.ImageError.{ImageError}
 use Rattle.v6_run.specs.declared.image.ImageError.TheVariants as image
 use Rattle.v6_run.specs.declared.script.ScriptError.{ScriptError}
 use Rattle.v6_run.specs.declared.script.ScriptError.TheVariants as script_error
-use Rattle.v6_run.specs.declared.run.BootError.{BootError}
-use Rattle.v6_run.specs.declared.run.BootError.TheVariants as boot
 
 -- the reading of a file: at a fault of its port, under a name that is known or not, or for want of memory
 abbrev pub StopsReading : Port → Bool → ReadError → Outside → Outside → Type 0
@@ -33,8 +30,3 @@ StopsImage name (image.Faulty fault) old new =
 abbrev pub RefusesScript : List ℕ → ScriptError → Type 0
 RefusesScript script (script_error.Faulty fault) = Refuses script fault
 RefusesScript script (script_error.Unbuilt n) = (events : List Event) × (script_of script ≡ Ok events) × (signal_line_of script ≡ Some n)
-
--- an image without a fault: where it has not the form that is built, or for want of memory
-abbrev pub RefusesImage : Option System → BootError → Type 0
-RefusesImage system boot.Form = system ≡ None
-RefusesImage system boot.NoMemory = ⊤

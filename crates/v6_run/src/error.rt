@@ -1,11 +1,11 @@
 //! Why a command was not done, and the status that says so.
 ghost use Rattle.std.specs.Prelude.{◌≡◌};
-ghost use Rattle.v6_run.specs.Errors.{read_status, image_status, fault_status, script_status, boot_status, run_status, make_status};
+ghost use Rattle.v6_run.specs.Errors.{read_status, image_status, fault_status, script_status, run_status, make_status};
 
 use crate::files::ReadError;
 use crate::image::ImageError;
 use crate::make::MakeError;
-use crate::run::{BootError, RunError};
+use crate::run::RunError;
 use crate::script::ScriptError;
 use crate::status::Status;
 use script_text::ScriptFault;
@@ -63,15 +63,6 @@ fn script_status(error: ScriptError) -> Status
     }
 }
 
-fn boot_status(error: BootError) -> Status
-    ensures { result ≡ boot_status error }
-{
-    match error {
-        BootError::Form => Status::NotBuilt(Unbuilt::Image),
-        BootError::NoMemory => Status::NoMemory,
-    }
-}
-
 fn run_status(error: RunError) -> Status
     ensures { result ≡ run_status error }
 {
@@ -79,7 +70,7 @@ fn run_status(error: RunError) -> Status
         RunError::Image(error) => image_status(error),
         RunError::Script(error) => read_status(InPort::Script, error),
         RunError::Refused(error) => script_status(error),
-        RunError::Boot(error) => boot_status(error),
+        RunError::NoMemory => Status::NoMemory,
         RunError::Write(output) => Status::WriteFault(output.port()),
         RunError::NotBuilt(place) => Status::NotBuilt(place),
     }

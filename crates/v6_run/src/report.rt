@@ -53,7 +53,6 @@ fn unbuilt_line(place: Unbuilt) -> Line
     ensures { result.bytes ≡ unbuilt_line place }
 {
     match place {
-        Unbuilt::Image => plain("not built: image"),
         Unbuilt::Line(line) => numbered("not built: line ", line, ""),
         Unbuilt::At(pc) => numbered("not built: pc ", u32::from(pc), ""),
         Unbuilt::Room => plain("not built: room"),

@@ -14,7 +14,6 @@ ghost use Rattle.unix_core.specs.Runs.{boots, started, course};
 ghost use Rattle.v6_run.specs.Words.{Run, run_words_value};
 ghost use Rattle.v6_run.specs.Events.{events_of};
 ghost use Rattle.v6_run.specs.Ports.{HasShown, HasShownFronts};
-ghost use Rattle.v6_run.specs.Steps.{RefusesImage};
 ghost use Rattle.v6_run.specs.Errors.{end_of, run_status};
 ghost use Rattle.v6_run.specs.Outputs.{port_of, is_shown, is_output, shown_by, EndsRun, StopsRun};
 ghost use Rattle.v6_run.specs.Headline.{run_knows};
@@ -36,14 +35,9 @@ use v6_port::{Host, InPort};
 /// The most bytes of a script that are read: one more than a script may have.
 pub(crate) const SCRIPT_LIMIT: usize = MAX_BYTES + 1;
 
-/// Why an image without a fault is not booted.
+/// There was no memory for a kernel.
 #[derive(Clone, Copy)]
-pub(crate) enum BootError {
-    /// It is of another form than the one that is built.
-    Form,
-    /// There was no memory.
-    NoMemory,
-}
+pub(crate) struct NoMemory;
 
 /// Why a run was not done to its end.
 #[derive(Clone, Copy)]
@@ -54,8 +48,8 @@ pub(crate) enum RunError {
     Script(ReadError),
     /// The script has a fault, or a line that is not built.
     Refused(ScriptError),
-    /// The image is not booted.
-    Boot(BootError),
+    /// There was no memory for a kernel.
+    NoMemory,
     /// A file could not be opened, written or finished.
     Write(Output),
     /// The run comes to what is not built.
@@ -95,31 +89,30 @@ impl From<ScriptError> for RunError {
     }
 }
 
-impl From<BootError> for RunError {
+impl From<NoMemory> for RunError {
     ghost use Rattle.std.specs.Prelude.{◌≡◌};
-    ghost use Rattle.v6_run.specs.declared.run.RunError.TheVariants.{Boot};
+    ghost use Rattle.v6_run.specs.declared.run.RunError.TheVariants.{NoMemory};
 
-    ghost from_gives = { λ error run_error. run_error ≡ Boot error };
+    ghost from_gives = { λ error run_error. run_error ≡ NoMemory };
 
-    fn from(error: BootError) -> RunError {
-        RunError::Boot(error)
+    fn from(error: NoMemory) -> RunError {
+        let NoMemory = error;
+        RunError::NoMemory
     }
 }
 
 /// The kernel for an image and so many clicks of core.
-fn boot(alloc: Global, image: &[u8], core: u32) -> Result<Kernel, BootError>
+fn boot(alloc: Global, image: &[u8], core: u32) -> Result<Kernel, NoMemory>
     requires least { 64 ≤ core }
     requires most { core ≤ 3968 }
     requires good { image_fault image.now ≡ None }
     ensures system { IfOk result (λ kernel. boots image.now core ≡ Some kernel.system) }
     ensures blocks { IfOk result (λ kernel. kernel.blocks ≡ blocks_of image.now) }
-    ensures refused { IfErr result (RefusesImage (boots image.now core)) }
 {
     match Kernel::boot(alloc, image, core as u16) {
         Ok(kernel) => Ok(kernel),
         Err(BootFault::Image(_)) => unreachable!(),
-        Err(BootFault::NotBuilt) => Err(BootError::Form),
-        Err(BootFault::NoMemory) => Err(BootError::NoMemory),
+        Err(BootFault::NoMemory) => Err(NoMemory),
     }
 }
 

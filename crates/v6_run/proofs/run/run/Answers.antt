@@ -9,7 +9,7 @@ use Rattle.v6_run.specs.Events.{events_of}
 use Rattle.v6_run.specs.Outputs.{EndsRun}
 use Rattle.v6_run.specs.Words.{Run, run_words_value}
 use Rattle.script_text.specs.Script.{script_of, signal_line_of}
-use Rattle.v6_run.specs.Steps.{RefusesScript, RefusesImage}
+use Rattle.v6_run.specs.Steps.{RefusesScript}
 use Rattle.v6_run.specs.Errors.{run_status}
 use Rattle.v6_run.specs.Answers.{Answers}
 use Rattle.v6_run.proofs.ResultLemmas.{value_where_ok, error_where_err, end_passed}
@@ -43,8 +43,7 @@ returns-in_err-kernel g c =
     let events = c.in_ok-script.script.events.items in
     let built = subst (λ l. signal_line_of l ≡ None) c.deref.ensures.value (value_where_ok _ _ _ c.in_ok-script.was c.read_script.ensures.built) in
     let script_is = subst (λ bytes. script_of bytes ≡ Ok events) c.deref.ensures.value (value_where_ok _ _ _ c.in_ok-script.was c.read_script.ensures.events) in
-    let refused = subst (λ image. RefusesImage (boots image words.core) c.in_err-kernel.field-0.0) c.deref-2.ensures.value (error_where_err _ _ _ c.in_err-kernel.was c.boot.ensures.refused) in
-    end_passed run_status _ _ (λ s. Answers (Run words) s old new) c.from_residual-in_err-kernel.ensures.1 (boot_refused words _ _ old new files _ script_is built _ refused)
+    end_passed run_status _ _ (λ s. Answers (Run words) s old new) c.from_residual-in_err-kernel.ensures.1 (boot_refused words _ _ old new files _ script_is built)
 
 pub run_with_outputs-requires-clause-closed : goal.run_with_outputs-requires-clause-closed
 run_with_outputs-requires-clause-closed g c p out =
