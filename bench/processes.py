@@ -5,6 +5,7 @@
     bench/processes.py compare COMMAND COUNT [FIRST]
     bench/processes.py alone COUNT [FIRST]
     bench/processes.py smallest COMMAND SEED FOLDER
+    bench/processes.py execs make SEED FOLDER, or one of the others
 
 A seed gives a small disk made at random, whose /etc/init makes processes, which make calls on processes and on files
 that they share, read what is typed and compute; a size of core; and a script with many ticks. `make` writes them
@@ -12,7 +13,8 @@ into a folder as `image`, `core` and `script`, with `listing`, in which a reader
 runs COMMAND, a built v6, and the reference over COUNT seeds from FIRST on (0 where it isn't given), and prints each
 difference in status, report, bytes of the terminal, lines of the log and what the final disk stands for; then what
 the programs came to. `alone` does the same with the reference alone. `smallest` leaves out lines of a script and
-steps of a program as long as there is a difference, and makes what is left.
+steps of a program as long as there is a difference, and makes what is left. With the word `execs` the disks hold more
+programs, which execute one another, move the end of their data and let their stacks grow, as random_execs has them.
 
 The reference is the Python module `abstract_unix`, of which this uses `runs`, `script`, `disk` and `errors`; the
 environment variable ABSTRACT_UNIX names the folder in which it is. Where a run comes to what isn't built (a signal,
@@ -32,6 +34,7 @@ import time
 
 from file_calls import DISK_BYTES, NOT_BUILT, by_command, first_difference, line_difference, node_differences
 from random_disk import Tree
+from random_execs import Programs
 from random_processes import assembled, init_of, listed, random_program, random_script
 
 Outcome = collections.namedtuple("Outcome", "status report term log store")
@@ -61,6 +64,27 @@ class Case:
                 file.write(data)
 
 
+class ExecCase(Case):
+    """The same with programs that execute one another."""
+
+    def __init__(self, seed, script=None, program=None):
+        rng = random.Random(f"execs {seed}")
+        self.seed, self.tree = seed, Tree(random.Random(f"tree {seed}"))
+        self.core = rng.choice((3968, 3968, 3968, 1200, 600, 300, 200, 120, rng.randrange(64, 400)))
+        self.programs = Programs(random.Random(f"programs {seed}"), self.tree)
+        self.program = self.programs.init = program or self.programs.init
+        self.script = script or random_script(random.Random(f"script {seed}"), (200, 500, 1000, 2000, 4000))
+        init = self.programs.put(self.tree, random.Random(f"files {seed}"))
+        self.image = self.tree.image(init, random.Random(f"disk {seed}"))
+
+    def listing(self):
+        lines = []
+        for name, program in self.programs.others.items():
+            assembled(program)
+            lines += ["", name, *listed(program.all_steps())]
+        return super().listing() + "\n".join(lines) + "\n"
+
+
 # the reference
 
 class Stop(Exception):
@@ -78,13 +102,22 @@ def reference_run(case):
             self.pc = self.u.procs[running].r[7] if running else 0
             super().slot()
 
+        bare = None
+
         def entry(self, e):
-            if e[0] == "signal":
+            """A new image is sought before the old one is given back: nothing is done where there is none."""
+            bare, self.bare = self.bare, None
+            if e[0] == "bare":
+                self.bare = e
+                return
+            if e[0] in ("signal", "text", "share"):
                 self.report = b"not built: pc %d\n" % self.pc
-            elif e[0] == "fork" and e[3][0] == "swap":
+            elif e[0] in ("fork", "size", "image") and e[3] and e[3][0] == "swap":
                 self.report = b"not built: room\n"
             if self.report:
                 raise Stop
+            if bare:
+                super().entry(bare)
             super().entry(e)
 
     run = Run.__new__(Run)
@@ -162,6 +195,8 @@ def count(want, counts):
     for name, text in (("forks", r"^fork"), ("exits", r"^exit"), ("waits that give a child", r"^reap"),
                        ("sleeps for a child", r"^sleep \d+ 40"), ("sleeps for a time", r"^sleep \d+ 90"),
                        ("sleeps for keys", r"^sleep \d+ 10"), ("times set", r"^time"), ("priorities set", r"^nice"),
+                       ("execs", r"^bare"), ("images that grow", r"^size .* at"),
+                       ("images that keep their place", r"^size .* keep"),
                        ("wakes by time", r"^wake tout"), ("wakes of keys", r"^wake keys"), ("ticks", r"^tick"),
                        ("choices", r"^go"), ("choices after a tick", r"^tick.\w\n(?:wake .*\n)*go"), ("lines", r"^")):
         counts[name] += len(re.findall(text, log, re.MULTILINE))
@@ -177,10 +212,10 @@ def most_processes(log):
 
 # words
 
-def compare(command, runs, first):
+def compare(command, runs, first, kind=Case):
     counts, differ, since = collections.Counter(), 0, time.time()
     for seed in range(first, first + runs):
-        case = Case(seed)
+        case = kind(seed)
         found, want = differences(command, case)
         differ += bool(found)
         for line in found[:8]:
@@ -207,8 +242,8 @@ def without(items, differs):
     return items
 
 
-def smallest(command, seed, folder):
-    case = Case(seed)
+def smallest(command, seed, folder, kind=Case):
+    case = kind(seed)
     if not differences(command, case)[0]:
         sys.exit(f"seed {seed}: no difference")
     lines = case.script.lines
@@ -222,28 +257,30 @@ def smallest(command, seed, folder):
         return program
 
     def differs(some_lines, program):
-        return bool(some_lines) and bool(differences(command, Case(seed, script_of(some_lines), program))[0])
+        return bool(some_lines) and bool(differences(command, kind(seed, script_of(some_lines), program))[0])
 
     lines = without(lines, lambda some: differs(some, case.program))
     steps = without(case.program.steps, lambda some: differs(lines, program_of(some)))
     lines = without(lines, lambda some: differs(some, program_of(steps)))
-    case = Case(seed, script_of(lines), program_of(steps))
+    case = kind(seed, script_of(lines), program_of(steps))
     case.write(folder)
     print(case.listing(), case.script.bytes(), *differences(command, case)[0], sep="\n")
 
 
 def main(words):
+    kind = ExecCase if words[:1] == ["execs"] else Case
+    words = words[kind is ExecCase :]
     if words and words[0] in ("compare", "alone", "smallest") and "ABSTRACT_UNIX" not in os.environ:
         sys.exit("ABSTRACT_UNIX: the folder of the reference")
     match words:
         case ["make", seed, folder]:
-            Case(int(seed)).write(folder)
+            kind(int(seed)).write(folder)
         case ["compare", command, runs, *first] if len(first) < 2:
-            return compare(shlex.split(command), int(runs), int(first[0]) if first else 0)
+            return compare(shlex.split(command), int(runs), int(first[0]) if first else 0, kind)
         case ["alone", runs, *first] if len(first) < 2:
-            return compare(None, int(runs), int(first[0]) if first else 0)
+            return compare(None, int(runs), int(first[0]) if first else 0, kind)
         case ["smallest", command, seed, folder]:
-            return smallest(shlex.split(command), int(seed), folder)
+            return smallest(shlex.split(command), int(seed), folder, kind)
         case _:
             sys.exit(__doc__)
 

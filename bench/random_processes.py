@@ -223,6 +223,7 @@ def assembled(program):
     w.put(0o012705, 15)                                              # MOV #15.,R5: nothing is open there
     put_steps(w, program.all_steps())
     w.put(*[0o000777] * 5)                                           # BR .
+    w.label("end")
     w.words = [with_skip(w, word) for word in w.words]
     return w.bytes()
 
@@ -443,9 +444,9 @@ def random_program(rng, tree):
 class Operator(Typist):
     """Chooses lines of a script for many processes: many slots and many ticks."""
 
-    def __init__(self, rng):
+    def __init__(self, rng, slots=(1000, 4000, 8000, 12000, 20000)):
         super().__init__(rng)
-        self.most = rng.choice((1000, 4000, 8000, 12000, 20000))
+        self.most = rng.choice(slots)
 
     def clock(self):
         self.put(b"clock %d" % self.rng.choice((0, 1, 1, 2, 3, 5, 7, 10, 30, 60, 100)))
@@ -465,8 +466,8 @@ class Operator(Typist):
         self.rng.choices([kind for kind, _ in kinds], [weight for _, weight in kinds])[0]()
 
 
-def random_script(rng):
-    operator = Operator(rng)
+def random_script(rng, *slots):
+    operator = Operator(rng, *slots)
     if rng.random() < 0.8:
         operator.clock()
     while operator.slots < operator.most:

@@ -1,4 +1,4 @@
-//! What a run changes of the file system, and the forms of `/etc/init`: docs/manual/programs.md and disk.md.
+//! What a run changes of the file system, and the forms of `/etc/init`: docs/manual/programs.md.
 use fs_codec::DISK_BYTES;
 use run_fixtures::{HI_BYTES, Piece, RUN, TEXT, end_over, have, hi_image, host_with, put};
 use std::alloc::{AllocError, Global};

@@ -1,4 +1,4 @@
-//! Runs of the disk of `examples/hi`, as it is and changed: docs/manual/disk.md, programs.md, and docs/examples.md, which has
+//! Runs of the disk of `examples/hi`, as it is and changed: docs/manual/programs.md, and docs/examples.md, which has
 //! some of the rows by their names.
 use fs_codec::DISK_BYTES;
 use run_fixtures::{
@@ -17,18 +17,12 @@ struct Change<'a> {
     end: (Status, &'a [u8], &'a [u8]),
 }
 
-/// The image is not of the form that is built.
-const UNBUILT: (Status, &[u8], &[u8]) = (
-    Status::NotBuilt(Unbuilt::Image),
-    b"",
-    b"not built: image\n",
-);
-
 const HI_SHOWN: &[u8] = b"HI\r\n";
 
 const HI_DONE: (Status, &[u8], &[u8]) = (Status::Done, HI_SHOWN, b"");
 
-/// A call is refused, and what comes after it shows nothing: a write to a number that isn't open, and the exit.
+/// A call is refused, and what comes after it shows nothing: a write to a number that isn't open, and the exit. Or the
+/// exec of `/etc/init` is.
 const QUIET: (Status, &[u8], &[u8]) = (Status::Done, b"", b"");
 
 /// In `/etc/init` the open is at 0, the write at 6, MOV #0,R0 at 12, and the exit at 16; the name is at 18, the text at 28.
@@ -49,9 +43,9 @@ const PROGRAMS: [Change<'static>; 12] = [
         end: HI_DONE,
     },
     Change {
-        name: "exec",
+        name: "exec of the console",
         pieces: &[(TEXT, b"\x0b\x89")],
-        end: (Status::NotBuilt(Unbuilt::At(0)), b"", b"not built: pc 0\n"),
+        end: QUIET,
     },
     Change {
         name: "an indirect call by an odd address",
@@ -223,18 +217,18 @@ const CONSOLES: [Change<'static>; 4] = [
 /// Inode 7 is at 1216, and the header of `/etc/init` at 33792.
 const FORMS: [Change<'static>; 7] = [
     Change {
-        name: "init one byte short",
+        name: "init one byte short, which is a zero",
         pieces: &[(1222, b"\x2f")],
-        end: UNBUILT,
+        end: HI_DONE,
     },
     Change {
         name: "init of magic 0410",
         pieces: &[(33792, b"\x08")],
-        end: UNBUILT,
+        end: (Status::NotBuilt(Unbuilt::At(0)), b"", b"not built: pc 0\n"),
     },
     // 16 inodes, so that the words of the program, 263, 32 and 5, are addresses of data blocks.
     Change {
-        name: "init with ILARG",
+        name: "init with ILARG, whose first block is then 263, of zeros",
         pieces: &[
             (512, b"\x01"),
             (1217, b"\x91"),
@@ -243,7 +237,7 @@ const FORMS: [Change<'static>; 7] = [
                 b"\x05\0\0\0\0\0\0\0\0\0\0\0\0\0\0\0\0\0\0\0\0\0\0\0\0\0\0\0\0\0\0\0",
             ),
         ],
-        end: UNBUILT,
+        end: QUIET,
     },
     Change {
         name: "init that others may execute, mode 0100645",
@@ -253,7 +247,7 @@ const FORMS: [Change<'static>; 7] = [
     Change {
         name: "init that nobody may execute",
         pieces: &[(1216, b"\xa4")],
-        end: UNBUILT,
+        end: QUIET,
     },
     Change {
         name: "program of 1,792 bytes",
@@ -263,7 +257,7 @@ const FORMS: [Change<'static>; 7] = [
     Change {
         name: "program of 1,793 bytes",
         pieces: &[(33798, b"\xe1\x06")],
-        end: UNBUILT,
+        end: HI_DONE,
     },
 ];
 
@@ -272,17 +266,17 @@ const ENTRIES: [Change<'static>; 7] = [
     Change {
         name: "root that nobody may search",
         pieces: &[(1024, b"\xa4")],
-        end: UNBUILT,
+        end: QUIET,
     },
     Change {
         name: "etc that nobody may search",
         pieces: &[(1056, b"\xa4")],
-        end: UNBUILT,
+        end: QUIET,
     },
     Change {
         name: "etc that ends before init",
         pieces: &[(1062, b"\x20")],
-        end: UNBUILT,
+        end: QUIET,
     },
     Change {
         name: "empty entry init before the real one",
@@ -305,7 +299,7 @@ const ENTRIES: [Change<'static>; 7] = [
             (32288, b"\x06\0init"),
             (32304, b"\x07\0init"),
         ],
-        end: UNBUILT,
+        end: QUIET,
     },
     Change {
         name: "first entry initx, of another inode",

@@ -64,7 +64,7 @@ const SIZES: [Ended<'static>; 3] = [
 ];
 
 /// The second call is the first read of the image, the fifth that of the script. Where the image is given as the script, its
-/// first line is none, and that comes before what isn't built of the image.
+/// first line is none. Without `/etc/init` a run is done, and shows nothing.
 const RUNS: [Ended<'static>; 9] = [
     (
         "run none 64 script term log final",
@@ -96,18 +96,8 @@ const RUNS: [Ended<'static>; 9] = [
         Status::ReadFault(InPort::Script),
         b"read fault: script\n",
     ),
-    (
-        "run image 64 script term log final",
-        0,
-        Status::NotBuilt(Unbuilt::Image),
-        b"not built: image\n",
-    ),
-    (
-        "run image 3968 script term log final",
-        0,
-        Status::NotBuilt(Unbuilt::Image),
-        b"not built: image\n",
-    ),
+    ("run image 64 script term log final", 0, Status::Done, b""),
+    ("run image 3968 script term log final", 0, Status::Done, b""),
     (
         "run image 64 image term log final",
         0,
@@ -117,8 +107,8 @@ const RUNS: [Ended<'static>; 9] = [
     (
         "run image 64 script other log final",
         0,
-        Status::NotBuilt(Unbuilt::Image),
-        b"not built: image\n",
+        Status::WriteFault(OutPort::Term),
+        b"write fault: term\n",
     ),
 ];
 
