@@ -1,0 +1,69 @@
+#!/usr/bin/env python3
+"""Assembles programs for the PDP-11/40 and the Sixth Edition: see docs/tools/as.md."""
+import argparse
+import os
+import sys
+
+sys.path.insert(0, os.path.dirname(os.path.abspath(__file__)))
+import disassembler
+from assembler import Assembler
+from files import read_bytes, replace, told
+
+
+def listing(assembler):
+    """Each line of the source with the address and the words that it came to."""
+    lines = assembler.lines
+    ends = {part: done.size for part, done in assembler.parts.items()}
+    out = []
+    for part, start, text in reversed(lines):
+        done = assembler.parts[part]
+        piece, ends[part] = done.bytes[start : ends[part]], start
+        words = " ".join(f"{int.from_bytes(piece[at : at + 2], 'little'):06o}" for at in range(0, min(len(piece), 6), 2))
+        more = " .." if len(piece) > 6 else ""
+        out.append(f"{done.base + start:5} {done.base + start:06o}  {words + more:23}  {text}".rstrip())
+    return "\n".join(reversed(out)) + "\n"
+
+
+def assemble(options):
+    sources = [(name, read_bytes(name).decode("utf-8", "replace")) for name in options.sources]
+    assembler = Assembler()
+    data = assembler.assemble(sources, options.shared)
+    if data is None:
+        for error in assembler.errors:
+            print(f"as.py: {error}", file=sys.stderr)
+        return 1
+    replace(options.out, data, 0o755)
+    if options.listing:
+        print(listing(assembler), end="")
+    return 0
+
+
+def disassemble(options):
+    for name in options.sources:
+        try:
+            print(disassembler.source(read_bytes(name)), end="")
+        except ValueError as error:
+            print(f"as.py: {name}: {error}", file=sys.stderr)
+            return 1
+    return 0
+
+
+def main(words):
+    parser = argparse.ArgumentParser(prog="as.py", description="An assembler in the syntax of as(I): docs/tools/as.md")
+    parser.add_argument("sources", metavar="FILE", nargs="+", help="the source, in the order in which it is read")
+    parser.add_argument("-o", dest="out", default="a.out", help="the program that is made (a.out)")
+    parser.add_argument("-n", dest="shared", action="store_true", help="with a text that is shared: magic 0410")
+    parser.add_argument("-l", dest="listing", action="store_true", help="print each line with its address and words")
+    parser.add_argument("--disassemble", action="store_true", help="print source for programs")
+    options = parser.parse_args(words)
+    try:
+        return disassemble(options) if options.disassemble else assemble(options)
+    except OSError as error:
+        print(f"as.py: {told(error)}", file=sys.stderr)
+        return 1
+    except KeyboardInterrupt:
+        return 130
+
+
+if __name__ == "__main__":
+    sys.exit(main(sys.argv[1:]))

@@ -1,0 +1,411 @@
+"""The assembler: the bytes of a program from its source, in two passes. docs/tools/as.md has the language."""
+import re
+import struct
+from dataclasses import dataclass
+
+from pdp11 import CALLS, CODES, INSTRUCTIONS, MAGIC, REGISTERS, SECOND_NAMES, SEGMENT, SHARED, signed
+
+TOKEN = re.compile(r"""(?P<blank>[ \t]+) | (?P<comment>/.*) | (?P<text><(?:\\.|[^>\\])*>) | (?P<open><.*)
+    | (?P<local>[0-9][fb](?![\w.~])) | (?P<number>[0-9][\w]*\.?) | (?P<name>[A-Za-z_.~][\w.~]*)
+    | (?P<char>'(?:\\.|[^\\])) | (?P<pair>"(?:\\.|[^\\])(?:\\.|[^\\])) | (?P<mark>[-+&|*$(),:;=])""", re.X | re.A)
+ESCAPES = {"n": 0o12, "t": 0o11, "e": 0o4, "0": 0, "r": 0o15, "a": 0o6, "p": 0o33, "\\": 0o134, ">": 0o76}
+WORD = 0o177777
+MOST = 65536
+TOO_LARGE = f"the program has more than {MOST} bytes"
+HEADER = struct.Struct("<8H")
+
+
+class SourceError(Exception):
+    """What is wrong with a line."""
+
+
+@dataclass
+class Value:
+    """A number, counted from the beginning of a part of the program where it is an address. One that a name further on gives
+    isn't known in the first pass."""
+
+    number: int
+    part: str = None
+    known: bool = True
+
+
+class Part:
+    """The text, the data or the bss: its bytes so far, or their number."""
+
+    def __init__(self):
+        self.bytes, self.size, self.base = bytearray(), 0, 0
+
+
+def even(size):
+    return size + 1 & ~1
+
+
+def plain_bytes(text):
+    """The bytes between the marks of a text or a character, with its escapes."""
+    data, at = bytearray(), 0
+    while at < len(text):
+        if text[at] == "\\":
+            at += 1
+            if text[at] not in ESCAPES:
+                raise SourceError(f"'\\{text[at]}': no such escape")
+            data.append(ESCAPES[text[at]])
+        elif ord(text[at]) < 128:
+            data.append(ord(text[at]))
+        else:
+            raise SourceError(f"'{text[at]}': no character of ASCII")
+        at += 1
+    return bytes(data)
+
+
+def tokens(line):
+    """The tokens of a line: (kind, text)."""
+    at, found = 0, []
+    while at < len(line):
+        match = TOKEN.match(line, at)
+        if not match:
+            raise SourceError(f"'{line[at]}': no character of a program")
+        if match.lastgroup == "open":
+            raise SourceError("the text has no end: > is missing")
+        if match.lastgroup not in ("blank", "comment"):
+            found.append((match.lastgroup, match[0]))
+        at = match.end()
+    return found
+
+
+def number_of(text):
+    digits = text.rstrip(".")
+    base = 10 if text.endswith(".") else 8
+    try:
+        value = int(digits, base)
+    except ValueError:
+        raise SourceError(f"'{text}': no number; one in decimal ends with a point") from None
+    if value > WORD:
+        raise SourceError(f"'{text}': too large for a word")
+    return value
+
+
+class Assembler:
+    def __init__(self):
+        self.labels, self.places = {}, {}
+        self.constants = {name: Value(word) for name, word in CODES.items()}
+        self.errors, self.lines, self.last = [], [], False
+
+    def assemble(self, sources, shared=False):
+        """The file of a program, of its sources: (name, text). None where one has an error: see `errors`."""
+        for self.last in (False, True):
+            self.parts = {name: Part() for name in ("text", "data", "bss")}
+            if self.last:
+                self.put_bases(shared)
+            self.passes(sources)
+            if self.errors:
+                return None
+            self.sizes = {name: even(part.size) for name, part in self.parts.items()}
+        if self.parts["bss"].base + self.sizes["bss"] > MOST:
+            self.errors.append(TOO_LARGE)
+        self.errors += [f"the {name} has more than {WORD - 1} bytes" for name, size in self.sizes.items() if size > WORD]
+        if self.errors:
+            return None
+        text, data = (bytes(self.parts[name].bytes).ljust(self.sizes[name], b"\0") for name in ("text", "data"))
+        header = HEADER.pack(SHARED if shared else MAGIC, len(text), len(data), self.sizes["bss"], 0, 0, 0, 0)
+        return header + text + data
+
+    def put_bases(self, shared):
+        text, data = self.sizes["text"], self.sizes["data"]
+        self.parts["data"].base = -(-text // SEGMENT) * SEGMENT if shared else text
+        self.parts["bss"].base = self.parts["data"].base + data
+
+    def passes(self, sources):
+        """One pass over all lines."""
+        self.part, self.seen = "text", {}
+        for file, source in sources:
+            for count, line in enumerate(source.split("\n"), 1):
+                start, self.at = (self.part, self.here().size), f"{file}:{count}: "
+                try:
+                    self.line(line.rstrip("\r"))
+                except SourceError as error:
+                    self.complain(error)
+                if self.last:
+                    self.lines.append((*start, line))
+
+    def complain(self, error):
+        """Tells what is wrong in this line. It keeps its words in the second pass, so that all others stay in place."""
+        self.errors.append(f"{self.at}{error}")
+
+    def here(self):
+        return self.parts[self.part]
+
+    def line(self, line):
+        self.tokens = tokens(line)
+        self.tokens.append(("end", ""))
+        while True:
+            self.statement()
+            if self.accept("end"):
+                return
+            if not self.accept("mark", ";"):
+                raise SourceError(f"'{self.tokens[0][1]}' isn't expected here")
+
+    # tokens
+
+    def peek(self, kind, text=None, at=0):
+        return at < len(self.tokens) and self.tokens[at][0] == kind and text in (None, self.tokens[at][1])
+
+    def accept(self, kind, text=None):
+        if self.peek(kind, text):
+            return self.tokens.pop(0)
+        return None
+
+    def want(self, kind, text=None):
+        found = self.accept(kind, text)
+        if not found:
+            raise SourceError(f"{self.found()} where '{text}' is wanted")
+        return found[1]
+
+    def found(self, token=None):
+        """What stands in the place of something else."""
+        text = (token or self.tokens[0])[1]
+        return f"'{text}'" if text else "the end of the line"
+
+    # statements
+
+    def statement(self):
+        while self.peek("mark", ":", 1):
+            self.label()
+        if self.peek("end") or self.peek("mark", ";"):
+            return
+        if self.peek("text"):
+            self.put(plain_bytes(self.want("text")[1:-1]))
+        elif self.peek("name") and self.peek("mark", "=", 1):
+            self.assignment()
+        elif self.peek("name") and self.tokens[0][1] in DIRECTIVES:
+            DIRECTIVES[self.want("name")](self)
+        elif self.peek("name") and SECOND_NAMES.get(self.tokens[0][1], self.tokens[0][1]) in INSTRUCTIONS:
+            self.instruction(self.want("name"))
+        elif self.is_unknown():
+            raise SourceError(f"'{self.tokens[0][1]}': no instruction")
+        else:
+            self.words(self.expression())
+
+    def is_unknown(self):
+        """Whether a name, which is no instruction's, has operands behind it."""
+        kind, text = self.tokens[1] if self.peek("name") else ("end", "")
+        return kind != "end" and (kind != "mark" or text in "*$(")
+
+    def label(self):
+        kind, name = self.tokens.pop(0)
+        self.want("mark", ":")
+        place = Value(self.here().size, self.part)
+        if kind == "number" and len(name) == 1:
+            self.seen[name] = self.seen.get(name, 0) + 1
+            self.places[name, self.seen[name]] = place
+        elif kind != "name":
+            raise SourceError(f"'{name}': no name for a label")
+        elif name == "." or name in OWN or name in self.constants:
+            raise SourceError(f"'{name}' has a meaning already")
+        elif not self.last and name in self.labels:
+            raise SourceError(f"'{name}' is defined twice")
+        else:
+            self.labels[name] = place
+
+    def assignment(self):
+        name = self.want("name")
+        self.want("mark", "=")
+        value = self.expression()
+        if name == ".":
+            self.advance(value)
+        elif name in OWN or name in self.labels:
+            raise SourceError(f"'{name}' has a meaning already")
+        else:
+            self.constants[name] = value
+
+    def advance(self, value):
+        size = self.here().size
+        if not value.known:
+            raise SourceError("'.' can't go by a name that stands further on")
+        if value.part != self.part or value.number < size:
+            raise SourceError("'.' can only move on, in its own part")
+        if value.number > MOST:
+            raise SourceError(TOO_LARGE)
+        if self.part == "bss":
+            self.here().size = value.number
+        else:
+            self.put(bytes(value.number - size))
+
+    def put(self, data):
+        part = self.here()
+        if self.part == "bss" and data:
+            raise SourceError("the bss has no bytes of its own: .=.+N takes room")
+        part.bytes += data
+        part.size += len(data)
+
+    def words(self, *values):
+        if self.here().size & 1:
+            raise SourceError("a word at an odd address: .even is wanted before it")
+        self.put(struct.pack(f"<{len(values)}H", *(self.resolve(value) & WORD for value in values)))
+
+    def section(self, name):
+        self.part = name
+
+    def even(self):
+        size = even(self.here().size)
+        self.advance(Value(size, self.part))
+
+    def bytes_list(self):
+        while True:
+            value = self.resolve(self.expression())
+            value = signed(value) if value > 0o377 else value
+            if not -128 <= value <= 255:
+                self.complain("a number that doesn't fit a byte")
+            self.put(bytes([value & 255]))
+            if not self.accept("mark", ","):
+                return
+
+    # expressions
+
+    def expression(self):
+        value = Value(0) if self.peek("mark", "-") or self.peek("mark", "+") else self.term()
+        while self.peek("mark") and self.tokens[0][1] in OPERATORS and not self.is_step():
+            operator = self.tokens.pop(0)[1]
+            value = self.combined(value, operator, self.term())
+        return value
+
+    def is_step(self):
+        """Whether a minus begins `-(r)`."""
+        return self.peek("mark", "-") and self.peek("mark", "(", 1)
+
+    def combined(self, left, operator, right):
+        if not (left.known and right.known):
+            return Value(0, known=False)
+        if left.part and right.part and operator == "-":
+            return Value(self.resolve(left) - self.resolve(right) & WORD)
+        if right.part and not (operator == "+" and not left.part) or left.part and operator in "&|":
+            raise SourceError("addresses can't be put together so")
+        number, part = OPERATORS[operator](left.number, right.number), left.part or right.part
+        return Value(number if part else number & WORD, part)
+
+    def term(self):
+        kind, text = self.tokens[0]
+        if kind not in TERMS or kind == "name" and text in REGISTERS:
+            raise SourceError(f"{self.found()} where a value is wanted")
+        self.tokens.pop(0)
+        return TERMS[kind](self, text)
+
+    def named(self, name):
+        if name == ".":
+            return Value(self.here().size, self.part)
+        found = self.labels.get(name) or self.constants.get(name)
+        if self.last and not (found and found.known):
+            self.complain(f"'{name}' isn't defined")
+        return found or Value(0, known=False)
+
+    def near(self, text):
+        name, count = text[0], self.seen.get(text[0], 0) + (text[1] == "f")
+        found = self.places.get((name, count))
+        if not found and (self.last or text[1] == "b"):
+            self.complain(f"'{text}': there is no label {name}: that way")
+        return found or Value(0, known=False)
+
+    def resolve(self, value):
+        return value.number + (self.parts[value.part].base if value.part else 0)
+
+    # instructions
+
+    def instruction(self, name):
+        form, word = INSTRUCTIONS[SECOND_NAMES.get(name, name)]
+        start = self.here().size
+        more = []
+        for count, kind in enumerate(form.split(",") if form else ()):
+            if count:
+                self.want("mark", ",")
+            word |= OPERANDS[kind](self, form, more, start)
+        self.words(Value(word), *more)
+
+    def register(self):
+        found = self.accept("name")
+        if not found or found[1] not in REGISTERS:
+            raise SourceError(f"{self.found(found)} where a register is wanted")
+        return REGISTERS[found[1]]
+
+    def register_field(self, form, more, start):
+        return self.register() << (0 if form == "r" else 6)
+
+    def source(self, form, more, start):
+        return self.operand(more, start) << (6 if form == "s,d" else 0)
+
+    def destination(self, form, more, start):
+        return self.operand(more, start)
+
+    def target(self, form, more, start):
+        spec = self.operand(more, start)
+        if spec < 0o10:
+            raise SourceError("a register has no address to go to")
+        return spec
+
+    def operand(self, more, start):
+        """The six bits of an operand; its word, where it has one, goes to `more`."""
+        deferred = 0o10 if self.accept("mark", "*") else 0
+        if self.accept("mark", "$"):
+            more.append(self.expression())
+            return 0o27 + deferred
+        if self.peek("mark", "("):
+            register = self.in_brackets()
+            if self.accept("mark", "+"):
+                return 0o20 + deferred + register
+            if deferred:
+                more.append(Value(0))
+                return 0o70 + register
+            return 0o10 + register
+        if self.is_step():
+            self.accept("mark", "-")
+            return 0o40 + deferred + self.in_brackets()
+        if self.peek("name") and self.tokens[0][1] in REGISTERS:
+            return self.register() + deferred
+        value = self.expression()
+        if self.peek("mark", "("):
+            more.append(value)
+            return 0o60 + deferred + self.in_brackets()
+        after = start + 2 * len(more) + 4
+        more.append(Value(self.resolve(value) - self.resolve(Value(after, self.part)) & WORD))
+        return 0o67 + deferred
+
+    def in_brackets(self):
+        self.want("mark", "(")
+        register = self.register()
+        self.want("mark", ")")
+        return register
+
+    def branch(self, form, more, start):
+        value = self.expression()
+        distance = signed(self.resolve(value) - self.resolve(Value(start + 2, self.part)))
+        if not self.last:
+            return 0
+        back = form == "r,b"
+        steps = -distance // 2 if back else distance // 2
+        if distance & 1:
+            self.complain("a branch to an odd address")
+        elif not (0 <= steps <= 63 if back else -128 <= steps <= 127):
+            self.complain(f"the branch is too far: {distance} bytes")
+        return steps & (0o77 if back else 0o377)
+
+    def small(self, form, more, start):
+        value, most = self.resolve(self.expression()), 63 if form == "n6" else 255
+        if value > most:
+            self.complain(f"a number above {most}")
+        return value & most
+
+    def call(self, form, more, start):
+        kind, name = self.tokens[0]
+        if kind != "name" or name not in CALLS:
+            return self.small(form, more, start)
+        self.tokens.pop(0)
+        return CALLS[name]
+
+
+OPERATORS = {"+": int.__add__, "-": int.__sub__, "&": int.__and__, "|": int.__or__}
+TERMS = {"number": lambda a, text: Value(number_of(text)), "name": Assembler.named, "local": Assembler.near,
+         "char": lambda a, text: Value(plain_bytes(text[1:])[0]),
+         "pair": lambda a, text: Value(int.from_bytes(plain_bytes(text[1:]), "little"))}
+DIRECTIVES = {".byte": Assembler.bytes_list, ".even": Assembler.even,
+              **{"." + name: lambda a, name=name: a.section(name) for name in ("text", "data", "bss")}}
+OPERANDS = {"s": Assembler.source, "d": Assembler.destination, "j": Assembler.target, "r": Assembler.register_field,
+            "b": Assembler.branch, "n6": Assembler.small, "n8": Assembler.small, "call": Assembler.call}
+OWN = {*REGISTERS, *INSTRUCTIONS, *SECOND_NAMES, *CODES, *DIRECTIVES}  # the names that have a meaning from the start

@@ -1,0 +1,73 @@
+"""What the tests of the tools share. The program v6 is bin/v6, or the command in the environment's V6."""
+import contextlib
+import importlib.util
+import io
+import os
+import random
+import shlex
+import subprocess
+import sys
+import tempfile
+import unittest
+
+TESTS = os.path.dirname(os.path.abspath(__file__))
+TOOLS = os.path.dirname(TESTS)
+TOP = os.path.dirname(TOOLS)
+DISK_BYTES = 2494464  # of a disk that a run leaves
+sys.path.insert(0, TOOLS)
+from program import V6
+
+
+def tool(name):
+    """A tool's module; `as` isn't a name that can be imported."""
+    spec = importlib.util.spec_from_file_location("tool_" + name, os.path.join(TOOLS, name + ".py"))
+    module = importlib.util.module_from_spec(spec)
+    spec.loader.exec_module(module)
+    return module
+
+
+def read(name):
+    with open(name, "rb") as file:
+        return file.read()
+
+
+def write(name, data):
+    with open(name, "wb") as file:
+        file.write(data)
+
+
+def v6(*words):
+    done = subprocess.run([*shlex.split(V6), *words], capture_output=True, text=True)
+    return done.returncode, done.stdout
+
+
+def words(text):
+    """The bytes of octal words."""
+    return b"".join(int(word, 8).to_bytes(2, "little") for word in text.split())
+
+
+class Case(unittest.TestCase):
+    """A test with a folder of its own, in which a tool is called by its words."""
+
+    def setUp(self):
+        self.random = random.Random(self.id())
+        folder = tempfile.TemporaryDirectory()
+        self.addCleanup(folder.cleanup)
+        self.folder = folder.name
+
+    def path(self, name):
+        return os.path.join(self.folder, name)
+
+    def put(self, name, data):
+        write(self.path(name), data)
+        return self.path(name)
+
+    def call(self, main, *words):
+        """The status of a tool, and what it says on its two outputs."""
+        out, error = io.StringIO(), io.StringIO()
+        with contextlib.redirect_stdout(out), contextlib.redirect_stderr(error):
+            try:
+                status = main(list(words))
+            except SystemExit as ended:
+                status = ended.code
+        return status, out.getvalue(), error.getvalue()

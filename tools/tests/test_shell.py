@@ -1,0 +1,171 @@
+"""The example of the shell: its disk, its dialogue, and more that its commands do. What they must show is by hand."""
+import os
+import subprocess
+import unittest
+
+from common import DISK_BYTES, TOP, V6, Case, read, tool, v6
+
+as_main, disk_main = tool("as").main, tool("disk").main
+SHELL = os.path.join(TOP, "examples", "shell")
+# What is typed stands after the prompt, in small letters; the terminal shows capitals.
+MORE = """\
+# echo
+
+# echo  a   b\x20
+A B
+#\x20\x20\x20
+# echo a>b
+# cat<b
+A
+# cat b - <b b
+A
+A
+A
+# cat nosuch b
+A
+# cat <nosuch
+NOSUCH: CANNOT OPEN
+# echo >/
+/: CANNOT CREATE
+# echo a >
+SYNTAX ERROR
+# chdir
+CHDIR: ARG COUNT
+# chdir b
+CHDIR: BAD DIRECTORY
+# /bin/echo yes
+YES
+# b
+B: NOT FOUND
+# usr
+USR: NOT FOUND
+# ls b
+B
+# ls nosuch
+NOSUCH NOT FOUND
+# ls -a usr
+.
+..
+SYS
+# ls b usr etc
+B
+USR:
+SYS
+ETC:
+INIT
+# ls -l dev
+CRW-RW-RW-  1  0    8,  2 NULL
+CRW-RW-RW-  1  0    0,  0 TTY8
+# ls -la usr
+DRWXR-XR-X  3  0      48 .
+DRWXR-XR-X  6  0     112 ..
+DRWXR-XR-X  3  0      48 SYS
+# cp b
+USAGE: CP OLDFILE NEWFILE
+# cp nosuch c
+CANNOT OPEN OLD FILE.
+# cp b b
+COPYING FILE TO ITSELF.
+# cp b nosuch/c
+CAN'T CREATE NEW FILE.
+# cp usr/sys/ken/slp.c .
+# cat slp.c
+        /*
+         * YOU ARE NOT EXPECTED TO UNDERSTAND THIS.
+         */
+# ln
+ARG COUNT
+# ln usr
+NO DIRECTORY LINK
+# ln nosuch c
+CAN'T LINK
+# ln b b
+CAN'T LINK
+# mkdir d d/e
+# mkdir d nosuch/d
+D: CANNOT MAKE DIRECTORY
+NOSUCH/D: CANNOT MAKE DIRECTORY
+# ls -la d
+DRWXRWXRWX  3  0      48 .
+DRWXR-XR-X  7  0     144 ..
+DRWXRWXRWX  2  0      32 E
+# chdir d/e
+# ln ../../b
+# cat b
+A
+# rm b ../../b nosuch ..
+NOSUCH: NON EXISTENT
+..: DIRECTORY
+# chdir ..
+# ls
+E
+"""
+
+
+class Shell(Case):
+    def play(self, script, image=os.path.join(SHELL, "image")):
+        """What the terminal shows, with new lines alone, and the disk at the end."""
+        term, log, final = (self.path(name) for name in ("term", "log", "final"))
+        status, said = v6("run", image, "1200", self.put("script", script), term, log, final)
+        self.assertEqual((status, said), (0, ""))
+        return read(term), read(final)
+
+    def test_readme(self):
+        with open(os.path.join(SHELL, "README.md"), encoding="ascii") as file:
+            told = file.read().split("```\n")[1]
+        self.assertEqual(read(os.path.join(SHELL, "term")), told.replace("\n", "\r\n").encode())
+
+    def test_a_first_evening(self):
+        """The program and the dialogue of docs/tools/README.md."""
+        with open(os.path.join(TOP, "docs", "tools", "README.md"), encoding="ascii") as file:
+            blocks = file.read().split("```\n")[1::2]
+        told = blocks[2].split("\n", 2)[2]
+        typed = [line[2:].lower() for line in told.splitlines() if line.startswith("# ")]
+        hello, image = self.path("hello"), self.put("my.image", read(os.path.join(SHELL, "image")))
+        sources = self.put("hello.s", blocks[0].encode()), os.path.join(SHELL, "src", "lib.s")
+        self.assertEqual(self.call(as_main, "-o", hello, *sources), (0, "", ""))
+        self.assertEqual(self.call(disk_main, "--v6", V6, "put", image, hello, "/bin"), (0, "", ""))
+        term, final = self.play(("run 10000\n" + "".join(f"type {line}\nrun 20000\n" for line in typed)).encode(), image)
+        self.assertEqual(term.decode().replace("\r\n", "\n"), told)
+        who = self.path("who")
+        self.assertEqual(self.call(disk_main, "--v6", V6, "get", self.put("after", final), "/usr/who", who), (0, "", ""))
+        self.assertEqual(read(who), b"hello, ken\nhello, dennis\n")
+
+    def test_a_source_before_the_library(self):
+        """It may end in another part, or with a byte too few."""
+        for end in (".bss\nx:\t.=.+2\n", "<abc>\n"):
+            source, out = self.put("it.s", f"\tjsr\tpc,puts\n{end}".encode()), self.path("it")
+            self.assertEqual(self.call(as_main, "-o", out, source, os.path.join(SHELL, "src", "lib.s")), (0, "", ""))
+
+    def test_build(self):
+        image = self.path("image")
+        done = subprocess.run([os.path.join(SHELL, "build.sh"), image], env={**os.environ, "V6": V6}, capture_output=True)
+        self.assertEqual((done.returncode, done.stderr), (0, b""))
+        self.assertEqual(read(image), read(os.path.join(SHELL, "image")))
+
+    def test_dialogue(self):
+        term, final = self.play(read(os.path.join(SHELL, "script")))
+        self.assertEqual(term, read(os.path.join(SHELL, "term")))
+        self.assertEqual(len(final), DISK_BYTES)
+        back, disk = self.path("back"), self.put("disk", final)
+        self.assertEqual(self.call(disk_main, "--v6", V6, "get", disk, "/", back), (0, "", ""))
+        source = read(os.path.join(SHELL, "disk", "usr", "sys", "ken", "slp.c"))
+        for name, data in (("again", source), ("slp.c", source), ("greeting", b"hello, world\n")):
+            self.assertEqual(read(f"{back}/tmp/{name}"), data)
+        self.assertEqual(os.listdir(f"{back}/usr/sys/ken"), [])
+
+    def test_more(self):
+        typed = [line[2:] for line in MORE.splitlines() if line.startswith("# ")]
+        script = "run 10000\n" + "".join(f"type {line}\nrun 20000\n" for line in typed)
+        self.assertEqual(self.play(script.encode())[0].decode().split("\r\n"), (MORE.upper() + "# ").split("\n"))
+
+    def test_a_long_line(self):
+        """The shell takes lines of 254 bytes, as many as the terminal gives; so a longer one comes from a file."""
+        half = "byte 170\n" * 150 + "byte 004\nrun 9000\n"
+        script = f"run 9000\ntype cat >f\nrun 9000\n{half}{half}type\nrun 9000\nbyte 004\nrun 9000\ntype sh <f\nrun 20000\n"
+        shown = f"# CAT >F\n{'X' * 300}\n# SH <F\n# COMMAND LINE OVERFLOW\n# # "
+        self.assertEqual(self.play(script.encode())[0].decode().replace("\r\n", "\n"), shown)
+
+
+if __name__ == "__main__":
+    unittest.main()

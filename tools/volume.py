@@ -1,0 +1,353 @@
+"""A disk of the Sixth Edition in memory: its inodes, its files, its directories and its free blocks.
+
+The layout is that of docs/manual/disk-image.md, the free list goes by docs/manual/blocks.md. A `Volume` is made of an
+image that `v6 check` has accepted, so no address is outside and no block comes twice.
+"""
+import struct
+from dataclasses import dataclass, field
+
+BLOCK = 512
+SWAP = 4000  # the first block of the swap area: a file system ends here at the latest
+ROOT = 1
+NAME_BYTES, ENTRY_BYTES = 14, 16
+FILE_BYTES, DIRECTORY_BYTES = 2**24 - 1, 65520
+MOST_LINKS = 127
+GROUP = 100  # numbers in a group of the free list
+DIRECT, IN_BLOCK = 8, 256  # addresses in an inode, and in an indirect block
+SINGLE = 7 * IN_BLOCK  # data blocks of a large file that need no double indirect block
+
+USED, LARGE, TYPE = 0o100000, 0o010000, 0o060000
+PLAIN, CHARACTER, DIRECTORY, BLOCKS = 0, 0o020000, 0o040000, 0o060000
+SUPER = struct.Struct("<3H100HH100H4BHH")
+INODE = struct.Struct("<H4BH8H4H")
+
+
+class DiskError(Exception):
+    """What can't be done with a disk; the text tells it."""
+
+
+def shown(name):
+    """The bytes of a name for people to read: what isn't printed, and a backslash, in three octal digits."""
+    return "".join(chr(b) if 0o40 <= b < 0o177 and b != 0o134 else f"\\{b:03o}" for b in name)
+
+
+@dataclass
+class Inode:
+    """The fields of an inode. A device has its numbers in the first address."""
+
+    mode: int = 0
+    links: int = 0
+    owner: int = 0
+    group: int = 0
+    size: int = 0
+    addresses: list = field(default_factory=lambda: [0] * DIRECT)
+    accessed: int = 0
+    changed: int = 0
+
+    @staticmethod
+    def unpack(data):
+        mode, links, owner, group, high, low, *rest = INODE.unpack(data)
+        accessed, changed = rest[8] << 16 | rest[9], rest[10] << 16 | rest[11]
+        return Inode(mode, links, owner, group, high << 16 | low, rest[:8], accessed, changed)
+
+    def pack(self):
+        times = [w for t in (self.accessed, self.changed) for w in (t >> 16, t & 0xFFFF)]
+        size = (self.size >> 16, self.size & 0xFFFF)
+        return INODE.pack(self.mode, self.links, self.owner, self.group, *size, *self.addresses, *times)
+
+    def is_directory(self):
+        return self.mode & TYPE == DIRECTORY
+
+    def is_device(self):
+        return self.mode & TYPE in (CHARACTER, BLOCKS)
+
+
+def blocks_for(size):
+    """How many blocks a file of this many bytes holds, with its indirect ones."""
+    data = -(-size // BLOCK)
+    if data <= DIRECT:
+        return data
+    return data + -(-data // IN_BLOCK) + (data > SINGLE)
+
+
+class Volume:
+    def __init__(self, image):
+        self.data = bytearray(image)
+        self.length = len(image)
+        self.lowest = ROOT + 1  # all inodes below it are used; none becomes free here
+        fields = SUPER.unpack(self.block(1)[: SUPER.size])
+        self.isize, self.fsize, count = fields[:3]
+        self.group = list(fields[3 : 3 + count])
+        spares = fields[103]
+        self.spares = list(fields[104 : 104 + spares])
+        self.flags = fields[204:208]
+        self.time = fields[208] << 16 | fields[209]
+
+    @staticmethod
+    def empty(blocks, inodes, time):
+        """A new disk with an empty root, on which the lowest free block is taken first."""
+        isize = -(-inodes // 16)
+        if not (isize >= 1 and isize + 3 <= blocks <= SWAP):
+            raise DiskError(f"a disk of {blocks} blocks and {inodes} inodes can't be made: these inodes and a root need "
+                            f"{max(isize, 1) + 3} blocks, and there are at most {SWAP}")
+        super_block = SUPER.pack(isize, blocks, *[0] * 206, time >> 16, time & 0xFFFF)
+        volume = Volume(bytes(BLOCK) + super_block + bytes(BLOCK - SUPER.size))
+        for block in range(blocks - 1, isize + 1, -1):
+            volume.give(block)
+        volume.make_root(time)
+        return volume
+
+    def image(self, short=False):
+        """The bytes of the disk: as many as it had, or more where blocks behind them are used. A short one ends with the
+        last block that isn't zeros."""
+        count = len(self.group)
+        group = self.group + [0] * (GROUP - count)
+        spares = self.spares + [0] * (GROUP - len(self.spares))
+        times = self.time >> 16, self.time & 0xFFFF
+        self.change(1, 0, SUPER.pack(self.isize, self.fsize, count, *group, len(self.spares), *spares, *self.flags, *times))
+        data = bytes(self.data)
+        used = -(-len(data.rstrip(b"\0")) // BLOCK) * BLOCK
+        wanted = used if short else max(used, self.length)
+        return data[:wanted].ljust(wanted, b"\0")
+
+    # blocks
+
+    def block(self, number):
+        return bytes(self.data[number * BLOCK : number * BLOCK + BLOCK]).ljust(BLOCK, b"\0")
+
+    def change(self, number, at, data):
+        start = number * BLOCK + at
+        if len(self.data) < start + len(data):
+            self.data.extend(bytes(start + len(data) - len(self.data)))
+        self.data[start : start + len(data)] = data
+
+    def words(self, number):
+        return struct.unpack("<256H", self.block(number))
+
+    def free_blocks(self):
+        """The numbers of the free blocks, in the order in which they would be taken."""
+        group, met = list(self.group), []
+        while group and group[-1]:
+            met.append(group.pop())
+            group = group or self.group_in(met[-1])
+        return met
+
+    def group_in(self, block):
+        """The group of the free list with which a block begins."""
+        count, *numbers = self.words(block)[: GROUP + 1]
+        return list(numbers[:count])
+
+    def take(self):
+        """The next free block, cleared."""
+        block = self.group.pop() if self.group else 0
+        if not block:
+            raise DiskError("no block is free")
+        self.group = self.group or self.group_in(block)
+        self.change(block, 0, bytes(BLOCK))
+        return block
+
+    def give(self, block):
+        if not self.group:
+            self.group.append(0)
+        if len(self.group) == GROUP:
+            self.change(block, 0, struct.pack(f"<{GROUP + 1}H", GROUP, *self.group))
+            self.group = []
+        self.group.append(block)
+
+    # inodes
+
+    def place(self, number):
+        return (number + 31) // 16, 32 * ((number + 31) % 16)
+
+    def inode(self, number):
+        block, at = self.place(number)
+        return Inode.unpack(self.block(block)[at : at + 32])
+
+    def set_inode(self, number, inode):
+        block, at = self.place(number)
+        self.change(block, at, inode.pack())
+
+    def is_used(self, number):
+        return 1 <= number <= 16 * self.isize and self.inode(number).mode != 0
+
+    def new_inode(self, inode):
+        """Puts an inode under the lowest free number, which it gives."""
+        for number in range(self.lowest, 16 * self.isize + 1):
+            if not self.is_used(number):
+                inode.mode |= USED
+                self.set_inode(number, inode)
+                self.lowest = number + 1
+                return number
+        raise DiskError(f"no inode is free: the disk has {16 * self.isize}")
+
+    # the bytes of files
+
+    def held(self, inode):
+        """The blocks of a file: (number in the file, block) for its data in rising order, (None, block) for the others."""
+        if inode.is_device():
+            return
+        if not inode.mode & LARGE:
+            yield from ((n, block) for n, block in enumerate(inode.addresses) if block)
+            return
+        yield from self.below(enumerate(inode.addresses[:7]))
+        double = inode.addresses[7]
+        if double:
+            yield None, double
+            yield from self.below(enumerate(self.words(double), 7))
+
+    def below(self, tables):
+        """Indirect blocks, given as (number among those of the file, block), each with the blocks that it names."""
+        for k, table in tables:
+            if table:
+                yield None, table
+                yield from ((IN_BLOCK * k + n, block) for n, block in enumerate(self.words(table)) if block)
+
+    def read(self, inode):
+        """The bytes of a file. Blocks that it doesn't hold are zeros."""
+        data = bytearray(inode.size)
+        for number, block in self.held(inode):
+            if number is not None and number * BLOCK < inode.size:
+                piece = self.block(block)[: inode.size - number * BLOCK]
+                data[number * BLOCK : number * BLOCK + len(piece)] = piece
+        return bytes(data)
+
+    def touch(self, inode, number):
+        """The block that holds block `number` of a file. What is missing on the way to it is taken."""
+        if not inode.mode & LARGE and number < DIRECT:
+            return self.in_inode(inode, number)
+        if not inode.mode & LARGE:
+            table = self.take()
+            self.change(table, 0, struct.pack("<8H", *inode.addresses))
+            inode.addresses = [table] + [0] * 7
+            inode.mode |= LARGE
+        k = number // IN_BLOCK
+        table = self.in_inode(inode, k) if k < 7 else self.in_table(self.in_inode(inode, 7), k - 7)
+        return self.in_table(table, number % IN_BLOCK)
+
+    def in_inode(self, inode, n):
+        inode.addresses[n] = inode.addresses[n] or self.take()
+        return inode.addresses[n]
+
+    def in_table(self, table, n):
+        block = self.words(table)[n]
+        if not block:
+            block = self.take()
+            self.change(table, 2 * n, struct.pack("<H", block))
+        return block
+
+    def truncate(self, inode):
+        for _, block in reversed(list(self.held(inode))):
+            self.give(block)
+        inode.addresses, inode.size = [0] * DIRECT, 0
+        inode.mode &= ~LARGE
+
+    def write(self, inode, data):
+        """Makes these the bytes of a file, in the place of those that it had."""
+        if len(data) > FILE_BYTES:
+            raise DiskError(f"{len(data)} bytes are too many for a file: at most {FILE_BYTES}")
+        self.truncate(inode)
+        needs, free = blocks_for(len(data)), len(self.free_blocks())
+        if needs > free:
+            raise DiskError(f"no room for {len(data)} bytes: they need {needs} blocks, and {free} are free")
+        for at in range(0, len(data), BLOCK):
+            self.change(self.touch(inode, at // BLOCK), 0, data[at : at + BLOCK])
+        inode.size = len(data)
+
+    # directories
+
+    def entries(self, inode):
+        """The entries of a directory that aren't empty: (number of the inode, name)."""
+        data = self.read(inode)
+        for at in range(0, inode.size % 65536 // ENTRY_BYTES * ENTRY_BYTES, ENTRY_BYTES):
+            number, name = struct.unpack_from("<H14s", data, at)
+            if number:
+                yield number, name.rstrip(b"\0")
+
+    def look(self, number, name):
+        """The inode under a name of a directory, or None."""
+        inode = self.inode(number)
+        if not inode.is_directory():
+            raise DiskError("not a directory")
+        found = next((n for n, other in self.entries(inode) if other == name), None)
+        return found if found and self.is_used(found) else None
+
+    def find(self, path):
+        """The inode under a path from the root."""
+        number, past = ROOT, b""
+        for name in components(path):
+            try:
+                found = self.look(number, name)
+            except DiskError as error:
+                raise DiskError(f"{shown(past or b'/')}: {error}") from None
+            past += b"/" + name
+            if found is None:
+                raise DiskError(f"{shown(past)}: no such file on the disk")
+            number = found
+        return number
+
+    def enter(self, directory, name, number, time):
+        """A new entry of a directory, in the place of one of this name, whose inode is free, or in the first empty one, or
+        behind the others. The inode gets a link more."""
+        check_name(name)
+        inode = self.inode(directory)
+        data = self.read(inode)
+        end = inode.size % 65536 // ENTRY_BYTES * ENTRY_BYTES
+        entries = {at: struct.unpack_from("<H14s", data, at) for at in range(0, end, ENTRY_BYTES)}
+        same = (at for at, (free, other) in entries.items() if free and other.rstrip(b"\0") == name)
+        empty = (at for at, (free, _) in entries.items() if not free)
+        at = next(same, next(empty, end))
+        if at + ENTRY_BYTES > DIRECTORY_BYTES:
+            raise DiskError(f"a directory has at most {DIRECTORY_BYTES // ENTRY_BYTES} entries")
+        self.change(self.touch(inode, at // BLOCK), at % BLOCK, struct.pack("<H14s", number, name))
+        inode.size = max(inode.size, at + ENTRY_BYTES)
+        inode.accessed = inode.changed = time
+        self.set_inode(directory, inode)
+        linked = self.inode(number)
+        if linked.links >= MOST_LINKS:
+            raise DiskError(f"at most {MOST_LINKS} links: the directories in a directory are links to it")
+        linked.links += 1
+        self.set_inode(number, linked)
+
+    def make_root(self, time):
+        self.set_inode(ROOT, Inode(USED | DIRECTORY | 0o755, accessed=time, changed=time))
+        for name in (b".", b".."):
+            self.enter(ROOT, name, ROOT, time)
+
+    def make_directory(self, parent, name, permissions, time):
+        """A new directory with its two entries."""
+        number = self.make(parent, name, DIRECTORY | permissions, time)
+        self.enter(number, b".", number, time)
+        self.enter(number, b"..", parent, time)
+        return number
+
+    def make(self, parent, name, mode, time, device=0):
+        """A new inode under a name."""
+        check_name(name)
+        number = self.new_inode(Inode(mode, addresses=[device] + [0] * 7, accessed=time, changed=time))
+        self.enter(parent, name, number, time)
+        return number
+
+    def write_file(self, number, data, time):
+        """Makes these the bytes of a plain file."""
+        inode = self.inode(number)
+        self.write(inode, data)
+        inode.accessed = inode.changed = time
+        self.set_inode(number, inode)
+
+
+def components(path):
+    """The names of a path, between its slashes."""
+    names = [name for name in path.split(b"/") if name]
+    for name in names:
+        try:
+            check_name(name)
+        except DiskError as error:
+            raise DiskError(f"{shown(name)}: {error}") from None
+    return names
+
+
+def check_name(name):
+    if len(name) > NAME_BYTES:
+        raise DiskError(f"the name has {len(name)} bytes, and a directory keeps {NAME_BYTES}")
+    if not name or b"\0" in name or b"/" in name:
+        raise DiskError("no name for a file: it is empty, or has a slash or a NUL")
