@@ -1,0 +1,16 @@
+#!/bin/sh
+# Assembles the shell and its commands, and makes the disk `image` of them, or the file that is named.
+set -eu
+cd "$(dirname "$0")/../.."
+here=examples/shell
+image=${1:-$here/image}
+out=$(mktemp -d)
+trap 'rm -rf "$out"' EXIT
+
+cp -R $here/disk "$out/disk"
+mkdir "$out/disk/bin" "$out/disk/etc"
+for name in cat cp echo ln ls mkdir rm sh; do
+    tools/as.py -o "$out/disk/bin/$name" $here/src/$name.s $here/src/lib.s
+done
+cp "$out/disk/bin/sh" "$out/disk/etc/init"
+tools/disk.py new --replace --short --blocks 128 --inodes 48 --table $here/table "$image" "$out/disk"

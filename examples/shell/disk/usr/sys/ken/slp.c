@@ -1,0 +1,3 @@
+	/*
+	 * You are not expected to understand this.
+	 */
