@@ -3,7 +3,7 @@
 # shows.
 set -eu
 cd "$(dirname "$0")/../.."
-[ -x crates/v6/out/v6 ] || examples/hi/run.sh >/dev/null
+v6=${V6:-bin/v6}
 out=$(mktemp -d)
 trap 'rm -rf "$out"' EXIT
 
@@ -21,10 +21,10 @@ sed 's/;.*//' examples/echo/listing | while read -r _ words; do
 done >"$out/init"
 
 # disk 0 has /etc/init in block 66. Its inode is 7, with the size at byte 6.
-crates/v6/out/v6 make 0 "$out/image"
+"$v6" make 0 "$out/image"
 put $((66 * 512)) <"$out/init"
 word "$(printf %o "$(wc -c <"$out/init")")" | put $((2 * 512 + 6 * 32 + 6))
 
-crates/v6/out/v6 run "$out/image" 1200 examples/echo/script "$out/term" "$out/log" "$out/final"
+"$v6" run "$out/image" 1200 examples/echo/script "$out/term" "$out/log" "$out/final"
 cat "$out/term"
 echo

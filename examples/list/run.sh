@@ -2,7 +2,7 @@
 # Makes a disk whose /etc/init is the program of `listing`, and prints what it shows: the names in the directory /u.
 set -eu
 cd "$(dirname "$0")/../.."
-[ -x crates/v6/out/v6 ] || examples/hi/run.sh >/dev/null
+v6=${V6:-bin/v6}
 out=$(mktemp -d)
 trap 'rm -rf "$out"' EXIT
 
@@ -21,11 +21,11 @@ done >"$out/init"
 
 # disk 3 has three files in /u, and /etc/init in block 66. Its inode is 7, with the size at byte 6. The fourth entry of /u,
 # which is f01, becomes an empty one.
-crates/v6/out/v6 make 3 "$out/image"
+"$v6" make 3 "$out/image"
 put $((66 * 512)) <"$out/init"
 word "$(printf %o "$(wc -c <"$out/init")")" | put $((2 * 512 + 6 * 32 + 6))
 word 0 | put $((65 * 512 + 3 * 16))
 
-crates/v6/out/v6 check "$out/image"
-crates/v6/out/v6 run "$out/image" 1200 examples/list/script "$out/term" "$out/log" "$out/final"
+"$v6" check "$out/image"
+"$v6" run "$out/image" 1200 examples/list/script "$out/term" "$out/log" "$out/final"
 cat "$out/term"

@@ -2,7 +2,7 @@
 # Runs the disk of examples/hi with the first of May 1975 as its time, and prints the times of two inodes before and after.
 set -eu
 cd "$(dirname "$0")/../.."
-[ -x crates/v6/out/v6 ] || examples/hi/run.sh >/dev/null
+v6=${V6:-bin/v6}
 out=$(mktemp -d)
 trap 'rm -rf "$out"' EXIT
 
@@ -22,8 +22,8 @@ show() {
 }
 
 show before "$out/image"
-crates/v6/out/v6 run "$out/image" 1200 examples/hi/script "$out/term" "$out/log" "$out/final"
+"$v6" run "$out/image" 1200 examples/hi/script "$out/term" "$out/log" "$out/final"
 show after "$out/final"
-crates/v6/out/v6 check "$out/final"
-crates/v6/out/v6 run "$out/final" 1200 examples/hi/script "$out/again" "$out/log" "$out/final"
+"$v6" check "$out/final"
+"$v6" run "$out/final" 1200 examples/hi/script "$out/again" "$out/log" "$out/final"
 cat "$out/again"
