@@ -20,7 +20,7 @@ COUNTS = (0, 1, 2, 16, 16, 100, 100, 511, 512, 513, 1000, 1536, 3000)
 OFFSETS = (0, 1, 16, 100, 511, 512, 513, 4095, 4096, 32767, 32768, 65520, 65535)
 BLOCK_OFFSETS = (0, 1, 7, 8, 9, 255, 256, 1791, 1792, 2047, 2048, 32767, 32768, 32766, 65535)
 BAD = (1, 0o60000, 0o60001)
-NOT_BUILT = (0, 11, 17, 26, 37, 42, 44, 48, 49, 63)  # 0 takes the word after it as an address, which isn't one
+NOT_BUILT = (0, 26, 37, 42, 44, 48, 49, 63)  # 0 takes the word after it as an address, which isn't one
 
 
 class Chooser:
