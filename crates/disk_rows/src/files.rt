@@ -255,8 +255,8 @@ fn row_holds(row: Row) -> bool {
 
 #[test]
 fn files_are_opened_and_closed(rt: HostRuntime) {
-    for row in &ROWS {
-        assert!(rt; row_holds(*row));
+    for (k, row) in ROWS.iter().enumerate() {
+        assert!(rt; row_holds(*row), "row {k}");
     }
 }
 
