@@ -2,14 +2,14 @@
 use crate::calls::Call::{Close, CloseAll, Creat, Dup, Fstat, Open, Read, Seek, Unlink, Write};
 use crate::calls::Told::{Done, Fails, Gives};
 use crate::looks::Look::{
-    Body, Counts, Directory, File, Gone, Inode, Number, Refs, Shown, Terminal, Times,
+    Body, Counts, Directory, File, Gone, Inode, IsOpen, Number, Refs, Shown, Terminal, Times,
 };
 use crate::scenes::Step::{Does, Fresh, Has, Opens, User};
 use crate::scenes::{Scene, failure};
 use std::process::Abort;
 use v6_base::Errno::{EACCES, EBADF, EISDIR, EMFILE, ENFILE, ENOENT};
 
-const SCENES: [Scene; 8] = [
+const SCENES: [Scene; 10] = [
     Scene {
         name: "a number that is given once more names the same file",
         disk: &[],
@@ -206,6 +206,50 @@ const SCENES: [Scene; 8] = [
             Does(Close(0), Done),
             Has(Shown(b"", 0)),
             Has(Refs(5, 1)),
+        ],
+    },
+    Scene {
+        // Six processes have 90 entries, and this one has the last ten.
+        name: "the hundredth entry has the console",
+        disk: &[],
+        crowd: 0,
+        steps: &[
+            Opens(15),
+            Fresh,
+            Opens(15),
+            Fresh,
+            Opens(15),
+            Fresh,
+            Opens(15),
+            Fresh,
+            Opens(15),
+            Fresh,
+            Opens(15),
+            Fresh,
+            Opens(8),
+            Does(Open(b"/tty\0", 1), Gives(8)),
+            Has(Number(8, 99)),
+            Does(Open(b"/cons\0", 1), Gives(9)),
+            Has(Number(9, 100)),
+            Does(Close(8), Done),
+            Has(Shown(b"", 0)),
+            Has(IsOpen(true)),
+            Does(Close(9), Done),
+            Has(Shown(b"", 1)),
+            Has(IsOpen(false)),
+        ],
+    },
+    Scene {
+        name: "the fifteenth number has the console when all are closed",
+        disk: &[],
+        crowd: 0,
+        steps: &[
+            Opens(14),
+            Does(Open(b"/tty\0", 1), Gives(14)),
+            Does(CloseAll, Done),
+            Has(Number(14, 0)),
+            Has(Shown(b"", 1)),
+            Has(IsOpen(false)),
         ],
     },
     Scene {

@@ -1,6 +1,6 @@
 //! What is told of files, and what goes to the disk: stat(II), fstat(II), sync(II); `stat1` of Lions' Commentary, `sys3.c`, and
 //! `update`, `alloc.c`.
-use crate::calls::Call::{Creat, Dup, Fstat, Link, Open, Seek, Stat, Sync, Unlink, Write};
+use crate::calls::Call::{Creat, Dup, Fstat, Link, Mknod, Open, Seek, Stat, Sync, Unlink, Write};
 use crate::calls::Told::{Done, Fails, Gives};
 use crate::looks::Look::{Disk, Gone, Memory, Refs, Times};
 use crate::scenes::Step::{Does, Has, Now, Text, User};
@@ -12,7 +12,7 @@ use v6_base::Errno::{EACCES, EBADF, EFAULT, ENOENT, ENOTDIR};
 const F: &[u8; 36] =
     b"\0\0\x03\0\xa4\x81\x02\x01\x02\0\x58\x02\0\0\0\0\0\0\0\0\0\0\0\0\0\0\0\0\x01\0\x02\0\x03\0\x04\0";
 
-const SCENES: [Scene; 6] = [
+const SCENES: [Scene; 7] = [
     Scene {
         name: "36 bytes",
         disk: &[],
@@ -53,6 +53,16 @@ const SCENES: [Scene; 6] = [
             Does(Stat(b"/z\0", 500), Done),
             Has(Memory(500, b"\0\0\x12\0\xb6\x81\0\x01\x02")),
             Has(Gone(18)),
+        ],
+    },
+    Scene {
+        name: "the number of a block device",
+        disk: &[],
+        crowd: 0,
+        steps: &[
+            Does(Mknod(b"/blk\0", 0o060644, 0xffff), Done),
+            Does(Stat(b"/blk\0", 300), Done),
+            Has(Memory(304, b"\xa4\xe1\x01\0\0\0\0\0\xff\xff\0\0")),
         ],
     },
     Scene {

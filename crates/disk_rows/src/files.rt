@@ -103,7 +103,7 @@ fn outcome(table: &mut OpenTable, mine: &mut [u8; 15], call: Call) -> Option<Tol
 /// this one.
 type Row = &'static [(Call, u8, Told)];
 
-static ROWS: [Row; 8] = [
+static ROWS: [Row; 9] = [
     // Numbers go up from 0.
     &[
         (Call::Add, 15, Told::Number(0)),
@@ -146,6 +146,26 @@ static ROWS: [Row; 8] = [
         (Call::Close(0), 1, Told::Still(3)),
         (Call::Close(1), 1, Told::Still(1)),
         (Call::Close(2), 1, Told::Still(2)),
+    ],
+    // It counts all fifteen.
+    &[
+        (Call::Add, 15, Told::Number(0)),
+        (Call::Share, 1, Told::Nothing),
+        (Call::Close(0), 1, Told::Still(1)),
+        (Call::Close(1), 1, Told::Still(1)),
+        (Call::Close(2), 1, Told::Still(1)),
+        (Call::Close(3), 1, Told::Still(1)),
+        (Call::Close(4), 1, Told::Still(1)),
+        (Call::Close(5), 1, Told::Still(1)),
+        (Call::Close(6), 1, Told::Still(1)),
+        (Call::Close(7), 1, Told::Still(1)),
+        (Call::Close(8), 1, Told::Still(1)),
+        (Call::Close(9), 1, Told::Still(1)),
+        (Call::Close(10), 1, Told::Still(1)),
+        (Call::Close(11), 1, Told::Still(1)),
+        (Call::Close(12), 1, Told::Still(1)),
+        (Call::Close(13), 1, Told::Still(1)),
+        (Call::Close(14), 1, Told::Still(1)),
     ],
     // Numbers that no process has.
     &[
@@ -235,8 +255,8 @@ fn row_holds(row: Row) -> bool {
 
 #[test]
 fn files_are_opened_and_closed(rt: HostRuntime) {
-    for row in &ROWS {
-        assert!(rt; row_holds(*row));
+    for (k, row) in ROWS.iter().enumerate() {
+        assert!(rt; row_holds(*row), "row {k}");
     }
 }
 

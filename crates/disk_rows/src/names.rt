@@ -23,7 +23,7 @@ use Ask::{Find, Make, Remove};
 /// asked.
 pub type Row = (u16, User, &'static [u8], Ask);
 
-static NAMES: [Row; 89] = [
+static NAMES: [Row; 90] = [
     // A name without a component is where it starts.
     (1, OTHER, b"/\0", Find(Ok(1))),
     (2, OTHER, b"/\0", Find(Ok(1))),
@@ -60,6 +60,8 @@ static NAMES: [Row; 89] = [
     (1, OTHER, b"/abcdefghijklmno\0", Find(Ok(5))),
     (1, OTHER, b"/abcdefghijklmnopqrstuvwxyz/\0", Find(Ok(5))),
     (1, OTHER, b"/abcdefghijklm\0", Find(Err(Errno::ENOENT))),
+    // All eight bits of a byte count: this is no `init`.
+    (1, OTHER, b"/\xe9nit\0", Find(Err(Errno::ENOENT))),
     // The tests come in their order, and a byte that cannot be read is met last.
     (1, OTHER, b"/init/x\0", Find(Err(Errno::ENOTDIR))),
     (1, OTHER, b"/init/x", Find(Err(Errno::ENOTDIR))),
@@ -262,6 +264,34 @@ pub fn holds(alloc: Global, image: &[u8], others: u16, row: &Row) -> Result<bool
 fn names_lead_to_inodes(rt: HostRuntime) {
     let image = names_disk(&[]);
     for (k, row) in NAMES.iter().enumerate() {
+        assert!(rt;
+            holds(rt.alloc(), &image, 0, row).expect(&rt, "memory"),
+            "row {k}"
+        );
+    }
+}
+
+/// Names on a disk whose root has no empty entry: in the place of that one there is `f`, NUL, `x`. All fourteen bytes of an
+/// entry count, those after a NUL too.
+static NAMES_BESIDE_A_NUL: [Row; 3] = [
+    (1, SUPER, b"/f\0", Find(Err(Errno::ENOENT))),
+    (1, SUPER, b"/f\0", Remove(Err(Errno::ENOENT))),
+    (
+        1,
+        SUPER,
+        b"/f\0",
+        Make(Ok(Made::Room {
+            dir: 1,
+            offset: 224,
+            name: *b"f\0\0\0\0\0\0\0\0\0\0\0\0\0",
+        })),
+    ),
+];
+
+#[test]
+fn all_bytes_of_an_entry_count(rt: HostRuntime) {
+    let image = names_disk(&[(5168, 3), (5170, 0x66), (5172, 0x78)]);
+    for (k, row) in NAMES_BESIDE_A_NUL.iter().enumerate() {
         assert!(rt;
             holds(rt.alloc(), &image, 0, row).expect(&rt, "memory"),
             "row {k}"

@@ -33,7 +33,7 @@ static DISK: [Piece<'static>; 10] = [
 /// Calls at the time 0x01020304, and the bytes that then stand at a place of the disk.
 type Row = (&'static [Call], usize, &'static [u8]);
 
-static CALLS: [Row; 14] = [
+static CALLS: [Row; 15] = [
     // The mode, and the time of the change behind that of the access.
     (
         &[Take(2), Mode(2, 0o104755)],
@@ -99,6 +99,12 @@ static CALLS: [Row; 14] = [
         &[Take(3), Truncate(3)],
         1088,
         b"\xb6\xa1\x01\x00\x00\x00\x20\x00\x01\x08",
+    ),
+    // Of one that is freed the mode is 0, and its number stays.
+    (
+        &[Take(3), Links(3, 0), Put(3)],
+        1088,
+        b"\x00\x00\x00\x00\x00\x00\x20\x00\x01\x08",
     ),
 ];
 

@@ -4,7 +4,7 @@
 //! reference.
 use crate::calls::{Call, answer};
 use crate::fixtures::{TWENTY_BLOCKS, image_of, put_words};
-use crate::opened::{open, takes};
+use crate::opened::{open, stands, takes};
 use fs_nodes::Nodes;
 use std::alloc::{AllocError, Global};
 use std::process::Abort;
@@ -25,12 +25,14 @@ enum Step {
     Puts(u16),
     /// The inode has a link from now on.
     Links(u16),
+    /// After an update the list of the super-block has so many numbers.
+    Lists(u16),
     /// The inode is used, or free.
     IsUsed(u16),
     IsFree(u16),
 }
 
-use Step::{Full, IsFree, IsUsed, Links, Makes, NoSpace, Puts, Takes};
+use Step::{Full, IsFree, IsUsed, Links, Lists, Makes, NoSpace, Puts, Takes};
 
 /// How many blocks of inodes a disk has, which of its inodes are free, its list of free inodes, and what it goes
 /// through.
@@ -80,9 +82,14 @@ static ROWS: [Row; 12] = [
             NoSpace,
         ],
     ),
-    // There is no free inode.
+    // There is no free inode. A list of used numbers is empty then, on the disk too.
     (2, &[], &[], &[NoSpace, IsUsed(32)]),
-    (2, &[], &[1, 2, 31, 32], &[NoSpace, NoSpace]),
+    (
+        2,
+        &[],
+        &[1, 2, 31, 32],
+        &[Lists(4), NoSpace, Lists(0), NoSpace, Lists(0)],
+    ),
     // The last inode of the disk, and none past it.
     (2, &[(32, 32)], &[], &[Makes(32, 32), IsUsed(32), NoSpace]),
     // The first hundred of 127: the list ends with 101.
@@ -227,6 +234,11 @@ fn puts(nodes: &mut Nodes, ino: u16) -> bool {
     nodes.refs(ino) == refs - 1
 }
 
+fn lists(nodes: &mut Nodes, count: u16) -> bool {
+    nodes.update_all(4);
+    stands(nodes, 718, count.to_le_bytes().as_slice())
+}
+
 fn does(nodes: &mut Nodes, step: Step) -> bool {
     match step {
         Makes(high, low) => makes(nodes, high, low),
@@ -235,6 +247,7 @@ fn does(nodes: &mut Nodes, step: Step) -> bool {
         Takes(ino) => takes(nodes, ino),
         Puts(ino) => puts(nodes, ino),
         Links(ino) => answer(nodes, Call::Links(ino, 1), 4) == (0, None),
+        Lists(count) => lists(nodes, count),
         IsUsed(ino) => nodes.peek(ino).is_some(),
         IsFree(ino) => nodes.peek(ino).is_none(),
     }

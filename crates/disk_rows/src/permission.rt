@@ -53,9 +53,30 @@ static ROWS: [Row; 32] = [
     (0o770, OTHER, Execute, false),
 ];
 
-fn holds(alloc: Global, row: &Row) -> Result<bool, AllocError> {
+/// A user of group 0 who isn't user 0.
+const IN_GROUP_0: User = User { uid: 9, gid: 0 };
+
+/// The same where inode 3 is user 1's and group 0's. Group 0 is a group like others: it is user 0 alone who may do all.
+static OF_GROUP_0: [Row; 9] = [
+    (0o040, IN_GROUP_0, Read, true),
+    (0o737, IN_GROUP_0, Read, false),
+    (0o020, IN_GROUP_0, Write, true),
+    (0o757, IN_GROUP_0, Write, false),
+    (0o010, IN_GROUP_0, Execute, true),
+    (0o767, IN_GROUP_0, Execute, false),
+    // Nor is it the group of all others.
+    (0o070, OTHER, Read, false),
+    (0o004, OTHER, Read, true),
+    (0o000, SUPER, Write, true),
+];
+
+/// Whether a row holds where inode 3 is of this group.
+fn holds(alloc: Global, group: u16, row: &Row) -> Result<bool, AllocError> {
     let (bits, user, want, may) = *row;
-    let image = names_disk(&[(inode_at(3), 0o100000 | bits)]);
+    let image = names_disk(&[
+        (inode_at(3), 0o100000 | bits),
+        (inode_at(3).wrapping_add(4), group),
+    ]);
     let Some(tree) = open_tree(alloc, &image, 3, 0)? else {
         return Ok(false);
     };
@@ -69,6 +90,13 @@ fn holds(alloc: Global, row: &Row) -> Result<bool, AllocError> {
 #[test]
 fn the_first_class_that_fits_counts(rt: HostRuntime) {
     for (k, row) in ROWS.iter().enumerate() {
-        assert!(rt; holds(rt.alloc(), row).expect(&rt, "memory"), "row {k}");
+        assert!(rt; holds(rt.alloc(), 2, row).expect(&rt, "memory"), "row {k}");
+    }
+}
+
+#[test]
+fn group_0_is_a_group_like_others(rt: HostRuntime) {
+    for (k, row) in OF_GROUP_0.iter().enumerate() {
+        assert!(rt; holds(rt.alloc(), 0, row).expect(&rt, "memory"), "row {k}");
     }
 }

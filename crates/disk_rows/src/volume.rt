@@ -287,3 +287,21 @@ fn sync_writes_nothing(alloc: Global) -> Result<bool, AllocError> {
 fn sync_without_a_change_leaves_the_super_block(rt: HostRuntime) {
     assert!(rt; sync_writes_nothing(rt.alloc()).expect(&rt, "memory"));
 }
+
+/// Whether no block can be taken, once and twice, and the list has no number then.
+fn stays_spent(volume: &mut Volume) -> bool {
+    is_spent(volume) && is_spent(volume) && volume.head().nfree == 0
+}
+
+/// The list has a 0, under which there is the number of block 5.
+fn zero_ends_the_list(alloc: Global) -> Result<bool, AllocError> {
+    match open_volume(alloc, &image_with(alloc, &[(516, 5, 0, 1)])?)? {
+        Some(mut volume) => Ok(stays_spent(&mut volume)),
+        None => Ok(false),
+    }
+}
+
+#[test]
+fn a_list_ends_for_good_with_a_0(rt: HostRuntime) {
+    assert!(rt; zero_ends_the_list(rt.alloc()).expect(&rt, "memory"));
+}

@@ -5,7 +5,7 @@ use crate::table::{End, Table};
 use v6_base::Place::{Core, Swap};
 use v6_base::Trap::Segment;
 
-static MEMORY: [Scene; 3] = [
+static MEMORY: [Scene; 5] = [
     Scene {
         name: "a copy is whole, and one of its own",
         core: 64,
@@ -39,6 +39,46 @@ static MEMORY: [Scene; 3] = [
             Loads(1, 65535, Ok(22)),
             Loads(2, 65535, Ok(17)),
             Loads(4, 65535, Ok(17)),
+        ],
+    },
+    Scene {
+        // A segment is 128 clicks: four and more of them, four, and seven.
+        name: "a copy of large data",
+        core: 3968,
+        steps: &[
+            Makes(1, 600, 1, Some(Core(1))),
+            Stores(1, 38_399, 7),
+            Forks(1, 2, Some(Core(618))),
+            Loads(2, 38_399, Ok(7)),
+            Loads(2, 38_400, Err(Segment)),
+            Bares(1),
+            Bares(2),
+            Makes(1, 512, 1, Some(Core(1))),
+            Stores(1, 32_767, 8),
+            Forks(1, 2, Some(Core(530))),
+            Loads(2, 32_767, Ok(8)),
+            Loads(2, 32_768, Err(Segment)),
+            Bares(1),
+            Bares(2),
+            Makes(1, 896, 1, Some(Core(1))),
+            Stores(1, 57_343, 9),
+            Forks(1, 2, Some(Core(914))),
+            Loads(2, 57_343, Ok(9)),
+            Loads(2, 57_344, Err(Segment)),
+        ],
+    },
+    Scene {
+        // One click more than a segment.
+        name: "a copy of a large stack",
+        core: 1200,
+        steps: &[
+            Makes(1, 1, 129, Some(Core(1))),
+            Stores(1, 57_280, 5),
+            Stores(1, 65_535, 6),
+            Forks(1, 2, Some(Core(147))),
+            Loads(2, 57_279, Err(Segment)),
+            Loads(2, 57_280, Ok(5)),
+            Loads(2, 65_535, Ok(6)),
         ],
     },
     Scene {

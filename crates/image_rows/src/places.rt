@@ -5,7 +5,7 @@ use crate::scenes::{Scene, failure};
 use crate::table::Table;
 use v6_base::Place::{Core, Swap};
 
-static IN_CORE: [Scene; 4] = [
+static IN_CORE: [Scene; 5] = [
     Scene {
         name: "before, between and after images",
         core: 1200,
@@ -69,9 +69,18 @@ static IN_CORE: [Scene; 4] = [
             HasRoom(38, false),
         ],
     },
+    Scene {
+        name: "the last slot takes its place in core",
+        core: 1200,
+        steps: &[
+            Makes(49, 1, 20, Some(Core(1))),
+            Makes(1, 1, 20, Some(Core(38))),
+            Stands(49, Some(Core(1))),
+        ],
+    },
 ];
 
-static IN_SWAP: [Scene; 4] = [
+static IN_SWAP: [Scene; 6] = [
     Scene {
         name: "no hole in core",
         core: 64,
@@ -153,6 +162,28 @@ static IN_SWAP: [Scene; 4] = [
             Bares(2),
             Makes(2, 1, 20, Some(Core(1))),
             Makes(1, 1, 20, Some(Swap(4000))),
+        ],
+    },
+    Scene {
+        name: "the last slot takes its blocks",
+        core: 64,
+        steps: &[
+            Makes(1, 1, 20, Some(Core(1))),
+            Makes(49, 1, 20, Some(Swap(4000))),
+            Makes(2, 1, 20, Some(Swap(4005))),
+            Stands(49, Some(Swap(4000))),
+        ],
+    },
+    Scene {
+        name: "the last slot's process has ended",
+        core: 64,
+        steps: &[
+            Makes(49, 1, 20, Some(Core(1))),
+            Ends(49, Some(4000)),
+            Makes(1, 1, 20, Some(Core(1))),
+            Makes(2, 1, 20, Some(Swap(4001))),
+            Stands(49, Some(Swap(4000))),
+            Ends(2, Some(4006)),
         ],
     },
 ];

@@ -1,6 +1,6 @@
 //! Who the processes are and who their parents, by hand from fork(II), wait(II) and exit(II) and from `newproc` of
 //! Lions' Commentary. Each scene begins with process 1 alone, in slot 1.
-use self::Step::{Adopts, At, Clears, Ends, Forks, Has, Is, Passes, Used};
+use self::Step::{Adopts, At, Clears, ClearsAll, Ends, Fills, Forks, Has, Is, Passes, Used};
 
 mod scenes;
 
@@ -13,12 +13,16 @@ use v6_base::{Pid, Slot};
 enum Step {
     /// The process in a slot forks. The child has this slot and this pid, or there is no slot for it.
     Forks(Slot, Option<(Slot, Pid)>),
+    /// The process in slot 1 forks 48 times, and its children have the slots 2 to 49, with pids that are the same.
+    Fills,
     /// The process in slot 1 forks so often, and each child's slot is free again at once.
     Passes(u16),
     /// The process in a slot ends.
     Ends(Slot),
     /// The slot is free again.
     Clears(Slot),
+    /// The slots from the first to the second are free again.
+    ClearsAll(Slot, Slot),
     /// The children of the process with this pid become those of process 1.
     Adopts(Pid),
     /// These are the children of the process with this pid.
@@ -93,6 +97,24 @@ fn forks(rows: &mut Rows, parent: Slot, child: Option<(Slot, Pid)>) -> bool {
     }
 }
 
+fn fills(rows: &mut Rows) -> bool {
+    for s in 2..50 {
+        if !forks(rows, 1, Some((s, Pid::from(s)))) {
+            return false;
+        }
+    }
+    true
+}
+
+fn clear_all(rows: &mut Rows, low: Slot, high: Slot) -> bool {
+    for s in low..=high {
+        if !clear(rows, s) {
+            return false;
+        }
+    }
+    true
+}
+
 fn passes(rows: &mut Rows, times: u16) -> bool {
     for _ in 0..times {
         match fork(rows, 1) {
@@ -107,9 +129,11 @@ fn passes(rows: &mut Rows, times: u16) -> bool {
 fn holds(rows: &mut Rows, step: Step) -> bool {
     match step {
         Forks(parent, child) => forks(rows, parent, child),
+        Fills => fills(rows),
         Passes(times) => passes(rows, times),
         Ends(s) => end(rows, s),
         Clears(s) => clear(rows, s),
+        ClearsAll(low, high) => clear_all(rows, low, high),
         Adopts(pid) => {
             rows.adopt(pid);
             true
@@ -165,9 +189,7 @@ fn orphans_are_adopted(rt: HostRuntime) {
 #[test]
 fn there_is_room_for_48_children(rt: HostRuntime) {
     let mut rows = Rows::new();
-    for s in 2..50 {
-        assert!(rt; forks(&mut rows, 1, Some((s, Pid::from(s)))), "slot {s}");
-    }
+    assert!(rt; fills(&mut rows), "48 children");
     assert!(rt; forks(&mut rows, 1, None), "the 49th");
     assert!(rt; forks(&mut rows, 49, None), "of a child");
     assert!(rt; has_row(&rows, 1, 1, 0) && has_row(&rows, 49, 49, 1));

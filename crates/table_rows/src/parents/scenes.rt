@@ -1,6 +1,6 @@
 //! What happens to the table of processes, one thing after another.
 use super::Scene;
-use super::Step::{Adopts, At, Clears, Ends, Forks, Has, Is, Passes, Used};
+use super::Step::{Adopts, At, Clears, ClearsAll, Ends, Fills, Forks, Has, Is, Passes, Used};
 use proc_tab::Child::{Dead, Living, NoChild};
 
 pub const SLOTS: [Scene; 3] = [
@@ -55,7 +55,7 @@ pub const SLOTS: [Scene; 3] = [
     },
 ];
 
-pub const PIDS: [Scene; 3] = [
+pub const PIDS: [Scene; 4] = [
     Scene {
         name: "a pid that was given back is not given at once",
         steps: &[
@@ -95,9 +95,21 @@ pub const PIDS: [Scene; 3] = [
             Forks(1, Some((2, 2))),
         ],
     },
+    Scene {
+        name: "those of all slots are passed over, the last slot's too",
+        steps: &[
+            Fills,
+            Clears(7),
+            // 50 to 32767.
+            Passes(32_718),
+            Forks(1, Some((7, 7))),
+            Clears(7),
+            Forks(1, Some((7, 50))),
+        ],
+    },
 ];
 
-pub const CHILDREN: [Scene; 3] = [
+pub const CHILDREN: [Scene; 6] = [
     Scene {
         name: "the lowest that has ended is told",
         steps: &[
@@ -150,6 +162,24 @@ pub const CHILDREN: [Scene; 3] = [
             Has(0, Living),
             Has(9, NoChild),
         ],
+    },
+    Scene {
+        name: "the child in the last slot has ended, and its brothers live",
+        steps: &[Fills, Has(1, Living), Ends(49), Has(1, Dead(49))],
+    },
+    Scene {
+        name: "the child in the last slot lives, and is the only one",
+        steps: &[
+            Fills,
+            ClearsAll(2, 48),
+            Has(1, Living),
+            Clears(49),
+            Has(1, NoChild),
+        ],
+    },
+    Scene {
+        name: "the child in the last slot has ended, and is the only one",
+        steps: &[Fills, ClearsAll(2, 48), Ends(49), Has(1, Dead(49))],
     },
 ];
 

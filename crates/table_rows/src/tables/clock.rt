@@ -134,8 +134,8 @@ fn ticks_are_charged(rt: HostRuntime) {
     }
 }
 
-/// A second passes for slot 2, which doesn't run: its priority, use and time, and the priority of the one that was
-/// chosen last; then its priority, use and time, and whether a new choice is asked for.
+/// A second passes for slots 2 and 49, which don't run: their priority, use and time, and the priority of the one that
+/// was chosen last; then their priority, use and time, and whether a new choice is asked for.
 type Aged = (i8, u8, u8, i8, i8, u8, u8, bool);
 
 static AGES: [Aged; 12] = [
@@ -154,7 +154,7 @@ static AGES: [Aged; 12] = [
     (127, 255, 0, 100, 115, 245, 1, true),
 ];
 
-/// Whether a second is as the row says for a slot that is ready, sleeps, waits or has exited.
+/// Whether a second is as the row says for slots that are ready, sleep, wait or have exited.
 fn age_holds(row: Aged) -> bool {
     let (pri, cpu, time, curpri, new_pri, new_cpu, new_time, runrun) = row;
     let before = Numbers {
@@ -183,10 +183,10 @@ fn age_holds(row: Aged) -> bool {
         let step = Tick(Mode::Kernel, QUIET);
         if !leaves(
             before,
-            &[(1, RUNS), (2, slot)],
+            &[(1, RUNS), (2, slot), (49, slot)],
             step,
             then,
-            &[(1, AGED), (2, aged)],
+            &[(1, AGED), (2, aged), (49, aged)],
         ) {
             return false;
         }
