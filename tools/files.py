@@ -16,6 +16,11 @@ def read_bytes(name):
         return file.read()
 
 
+def same_file(one, other):
+    """Whether two names, of which one may be missing, are of one file."""
+    return bool(one and other) and os.path.realpath(one) == os.path.realpath(other)
+
+
 def place_of(name):
     """Where the bytes of a file are to go: through symbolic links, and not in the place of a folder, of a device, as
     /dev/null, or of a file that can't be written. OSError says why."""

@@ -1,10 +1,26 @@
 """The program v6: which command it is, and what it answers."""
+import argparse
+import hashlib
 import os
 import shlex
 import subprocess
 
 TOP = os.path.dirname(os.path.dirname(os.path.abspath(__file__)))
+CORE = 3968  # clicks: as much as a machine may have; 1200 are too few for a larger program
 V6 = os.environ.get("V6") or shlex.quote(os.path.join(TOP, "bin", "v6"))
+
+
+class Version(argparse.Action):
+    """Tells which program the tools stand beside: the first digits of the sha256 of bin/v6."""
+
+    def __call__(self, parser, *_):
+        with open(os.path.join(TOP, "bin", "v6"), "rb") as file:
+            print(f"{parser.prog} of the repository whose bin/v6 is {hashlib.sha256(file.read()).hexdigest()[:12]}")
+        parser.exit()
+
+
+def add_version(parser):
+    parser.add_argument("--version", action=Version, nargs=0, help="which program stands beside this tool")
 
 
 class ProgramError(Exception):
