@@ -27,11 +27,12 @@ class ProgramError(Exception):
     """Why the program can't be started; the text tells it."""
 
 
-def call(command, *words):
-    """The program's status, and the line that it says."""
+def call(command, *words, data=None):
+    """The program's status, and the line that it says. It gets these bytes as its standard input."""
     try:
-        done = subprocess.run([*shlex.split(command), *words], capture_output=True, text=True)
+        done = subprocess.run([*shlex.split(command), *words], input=data, capture_output=True)
     except (OSError, ValueError) as error:
         why = error.strerror if isinstance(error, OSError) else error
         raise ProgramError(f"{command}: {why}: the program v6 is wanted; --v6 names it") from None
-    return done.returncode, (done.stdout + done.stderr).strip() or f"status {done.returncode}"
+    said = (done.stdout + done.stderr).decode("utf-8", "replace").strip()
+    return done.returncode, said or f"status {done.returncode}"

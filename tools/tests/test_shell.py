@@ -148,7 +148,7 @@ class Shell(Case):
         self.assertEqual(term, read(os.path.join(SHELL, "term")))
         self.assertEqual(len(final), DISK_BYTES)
         back, disk = self.path("back"), self.put("disk", final)
-        self.assertEqual(self.call(disk_main, "--v6", V6, "get", disk, "/", back), (0, "", ""))
+        self.assertEqual(self.call(disk_main, "--v6", V6, "get", disk, "/", back, "--table", self.path("table")), (0, "", ""))
         source = read(os.path.join(SHELL, "disk", "usr", "sys", "ken", "slp.c"))
         for name, data in (("again", source), ("slp.c", source), ("greeting", b"hello, world\n")):
             self.assertEqual(read(f"{back}/tmp/{name}"), data)
