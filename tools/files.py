@@ -16,8 +16,8 @@ def told(error):
     return f"{name}{error.strerror}"
 
 
-def guarded(tool, body, *known):
-    """The status of a tool: what `body` gives, or 1 where it fails with an error of the host or a known one, which is told
+def guarded(tool, body, *known, failed=1):
+    """The status of a tool: what `body` gives, or `failed` where it fails with an error of the host or a known one, which is told
     in a line. An interrupt, also by another program's signal, ends it as an error does, so that nothing is left beside a
     file; so does a pipe that is closed, without a word."""
     for number in (signal.SIGTERM, signal.SIGHUP):
@@ -36,7 +36,7 @@ def guarded(tool, body, *known):
         print(f"{tool}: {error}", file=sys.stderr)
     except KeyboardInterrupt:
         return 128 + signal.SIGINT
-    return 1
+    return failed
 
 
 def _interrupt(*_):

@@ -93,6 +93,12 @@ LOGS = (
 BOOT = "boot 1200 0\nsleep 0 -100 runout\ngo 1\n"
 
 
+def used():
+    """Seconds of a processor that the programs have taken that were run so far."""
+    times = os.times()
+    return times.children_user + times.children_system
+
+
 class Person(io.BytesIO):
     """A keyboard of a person: lines, and what interrupts them."""
 
@@ -255,11 +261,6 @@ class Sessions(Case):
                                              "make signals, which aren't built yet\nconsole: this line is taken back\n"))
 
     def test_back_and_forth(self):
-        script = self.path("script")
-        typed = "chdir /usr\nls\n~u\n~u 1\n~l\nls\n~g 0\n~g 2\n~u 3\n~g 4\n~w\n"
-        status, term, said = self.session(typed, "--script", script)
-        self.assertEqual((status, said.count("console: 2 lines can be taken back\n"), said.count("console: there are 2 lines\n")),
-                         (1, 0, 0))
         status, term, said = self.session("chdir /usr\nls\n~u 2\n~l\nls\nls\n~u\n~l\n~w\n~g 2\n~u 3\n~g 4\n", "--script",
                                           self.path("new"))
         root = b"LS\r\nBIN\r\nDEV\r\nETC\r\nUSR\r\n# "
@@ -327,15 +328,15 @@ class Sessions(Case):
     def test_a_long_file(self):
         """One run for a piped file of many lines. The script is that of lines that are typed one by one."""
         typed = "".join(f"echo {n}\n" for n in range(1000))
-        script, began = self.path("script"), time.monotonic()
+        script, began = self.path("script"), used()
         status, term, said = self.session(typed, "--script", script)
-        self.assertLess(time.monotonic() - began, 5)
+        self.assertLess(used() - began, 3)
         self.assertEqual((status, said), (0, ""))
         self.assertEqual(term, b"# " + b"".join(b"ECHO %d\r\n%d\r\n# " % (n, n) for n in range(1000)))
         self.assertEqual(read(script), self.script("run 10000\n" + "".join(f"type echo {n}\nrun 10000\n" for n in range(1000))))
-        began = time.monotonic()
+        began = used()
         self.assertEqual(self.session("echo x\n", "--script", script)[1], term + b"ECHO X\r\nX\r\n# ")
-        self.assertLess(time.monotonic() - began, 2)  # of which two runs of the script, one for this line
+        self.assertLess(used() - began, 1.5)  # of which two runs of the script, one for this line
 
     def test_lines_with_more_and_fewer_slots(self):
         """Each has what it needs, also where many are tried in one run: a line `c` counts for a while."""
@@ -405,7 +406,7 @@ class Terminals(Case):
 
     def until(self, wanted):
         """What the host's terminal shows until there is this."""
-        shown, end = b"", time.monotonic() + 10
+        shown, end = b"", time.monotonic() + 60
         while wanted not in shown and select.select([self.ours], [], [], max(end - time.monotonic(), 0))[0]:
             shown += os.read(self.ours, 4096)
         self.assertIn(wanted, shown)
