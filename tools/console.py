@@ -303,8 +303,7 @@ def run(options, folder):
     save()
     talk(console, found, save)
     if options.disk:
-        machine.play(console.dialogue.lines())
-        replace(options.disk, read_bytes(machine.path("disk")))
+        replace(options.disk, machine.disk(console.dialogue.lines()))
     return int(console.refused and not console.keyboard.person)
 
 

@@ -46,17 +46,20 @@ class Machine:
     def text(self, lines):
         return b"".join(line + b"\n" for line in (self.header, *lines))
 
-    def play(self, lines):
+    def play(self, lines, disk=os.devnull):
+        """Plays a script; the disk that it leaves goes to a file where one is named."""
         with open(self.path("script"), "wb") as file:
             file.write(self.text(lines))
-        outs = [self.path(name) for name in ("term", "log", "final")]
+        outs = [self.path(name) for name in ("term", "log")]
         for out in outs:
             open(out, "wb").close()
-        status, said = call(self.v6, "run", self.image, self.core, self.path("script"), *outs)
-        played = Played(status, said, read_bytes(outs[0]), read_bytes(outs[1]))
-        if not played.status:
-            os.replace(outs[2], self.path("disk"))
-        return played
+        status, said = call(self.v6, "run", self.image, self.core, self.path("script"), *outs, disk)
+        return Played(status, said, read_bytes(outs[0]), read_bytes(outs[1]))
+
+    def disk(self, lines):
+        """The bytes of the disk that a script leaves, which was played before."""
+        self.play(lines, self.path("disk"))
+        return read_bytes(self.path("disk"))
 
 
 def keys(data):

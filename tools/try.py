@@ -103,7 +103,7 @@ def disk_of(options, program, name):
         for major, minor, device in ((8, 2, b"null"),):
             volume.make(dev, device, CHARACTER | 0o666, 0, major << 8 | minor)
         directory(volume, b"tmp")
-    return volume.image()
+    return volume.image(short=True)
 
 
 def directory(volume, name):
@@ -231,8 +231,7 @@ def where(said, assembler):
 
 def finish(run, found, options):
     """Tells how the program ended; gives its status."""
-    with open(run.machine.path("disk"), "rb") as file:
-        image = file.read()
+    image = run.machine.disk(run.dialogue.lines())
     if options.final:
         replace(options.final, image)
     volume = Volume(image)
