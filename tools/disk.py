@@ -7,12 +7,13 @@ import sys
 import tempfile
 
 sys.path.insert(0, os.path.dirname(os.path.abspath(__file__)))
+from archives import FORMS, Member
 from files import STREAMS, guarded, place_of, put_out, read_bytes, replace, same_file
 from program import V6, ProgramError, add_version, call
 from repair import Repair, grow
 from survey import Survey, damaged, walk
-from tree import KINDS, MOST_TIME, PERMISSIONS, Item, apply_table, number, own, place_all, plain_name, row, scan
-from volume import BLOCK, BLOCKS, PACK, PLAIN, ROOT, DiskError, Volume, check_name, components, shown
+from tree import KINDS, MOST_TIME, PERMISSIONS, Item, above, apply_table, number, own, place_all, plain_name, row, scan
+from volume import BLOCK, BLOCKS, DIRECTORY, PACK, PLAIN, ROOT, DiskError, Volume, check_name, components, shown
 
 MOST = PACK * BLOCK + 1  # what is read of a disk: one that is longer is too long
 
@@ -196,6 +197,9 @@ class Folder:
 def get(options):
     volume = open_for_reading(options)
     path = path_of(options.path)
+    if options.form:
+        put_out(options.out, FORMS[options.form][1](members_of(volume, find(volume, path), path)))
+        return
     start, target = find(volume, path), os.fsencode(options.out)
     inode, name = volume.inode(start), b"/" + path.split(b"/")[-1]
     if inode.is_device():
@@ -215,6 +219,20 @@ def get(options):
         replace(options.table, (sizes + "".join(rows)).encode("ascii"))
 
 
+def members_of(volume, start, path):
+    """The files below a directory, or a file, for an archive; what isn't a plain file is passed over, and told."""
+    members, top = [], path.rstrip(b"/")
+    for number, full, name in walk(volume, start, path):
+        if not volume.is_used(number) or volume.inode(number).is_device():
+            print(f"disk.py: {shown(full)}: passed over: no file", file=sys.stderr)
+            continue
+        inode = volume.inode(number)
+        if not inode.is_directory():
+            inner = full[len(top) + 1 :] if full != path else name
+            members.append(Member(inner, volume.read(inode), inode.changed, inode.mode & PERMISSIONS, inode.owner, inode.group))
+    return members
+
+
 def get_folder(options, volume, start, target):
     if os.path.lexists(target):
         raise DiskError(f"{options.out}: there already, and a folder is to be made")
@@ -232,7 +250,7 @@ def put(options):
     volume = open_disk(options)
     time = time_of(options, volume)
     source = os.fsencode(options.source)
-    item, names = scan(source), components(os.fsencode(options.path))
+    item, names = items_of(options, source) if options.form else scan(source), components(os.fsencode(options.path))
     at = maybe(volume, names)
     if item.below is None and at is not None and volume.inode(at).is_directory():
         if source == b"-":
@@ -241,13 +259,28 @@ def put(options):
     if item.below is not None and at is not None and volume.inode(at).is_directory():
         place_all(volume, at, b"/" + b"/".join(names), item, time)
     else:
-        parent, name, above = parent_of(volume, names)
-        place_all(volume, parent, above, Item(0, below={name: item}), time)
+        parent, name, folder = parent_of(volume, names)
+        place_all(volume, parent, folder, Item(0, below={name: item}), time)
     if options.mode is not None:
         if item.below is not None:
             raise DiskError("--mode is for a file")
         set_mode(volume, volume.find(b"/".join(names)), options.mode)
     save(options, volume)
+
+
+def items_of(options, source):
+    """What is in an archive, as the folder that it is of."""
+    root = Item(DIRECTORY | 0o755, below={})
+    try:
+        for one in FORMS[options.form][0](read_bytes(source)):
+            names = components(one.path)
+            if not names:
+                raise DiskError("a file without a name")
+            mode = 0o644 if one.mode is None else one.mode
+            above(root, names).below[names[-1]] = Item(mode, b"", one.owner, one.group, times=(one.time, one.time), data=one.data)
+    except DiskError as error:
+        raise DiskError(f"{options.source}: {error}") from None
+    return root
 
 
 def time_of(options, volume):
@@ -266,11 +299,11 @@ def parent_of(volume, names):
     """The directory of a path, the last name, and the directory's path."""
     if not names:
         raise DiskError("the root is a directory")
-    above = b"/" + b"/".join(names[:-1])
-    parent = volume.find(above)
+    folder = b"/" + b"/".join(names[:-1])
+    parent = volume.find(folder)
     if not volume.inode(parent).is_directory():
-        raise DiskError(f"{shown(above)}: not a directory")
-    return parent, names[-1], above
+        raise DiskError(f"{shown(folder)}: not a directory")
+    return parent, names[-1], folder
 
 
 def set_mode(volume, at, mode):
@@ -301,7 +334,7 @@ def make_directory(options):
     volume = open_disk(options)
     for path in options.paths:
         names = components(os.fsencode(path))
-        parent, name, above = parent_of(volume, names)
+        parent, name, _ = parent_of(volume, names)
         refuse_if_there(volume, parent, name, path)
         volume.make_directory(parent, name, 0o755, time_of(options, volume))
     save(options, volume)
@@ -365,8 +398,8 @@ def move(options):
     names = components(os.fsencode(options.old))
     from_parent, from_name, _ = parent_of(volume, names)
     old = volume.find(b"/".join(names))
-    parent, name, above = target_of(volume, options)
-    if from_name in (b".", b"..") or old in ancestors(volume, above):
+    parent, name, folder = target_of(volume, options)
+    if from_name in (b".", b"..") or old in ancestors(volume, folder):
         raise DiskError(f"{options.old}: a directory can't go below itself")
     there = volume.look(parent, name)
     if there == old:
@@ -486,10 +519,12 @@ def options_of(words):
     listing.add_argument("path", nargs="?", default="/")
     listing.add_argument("-l", dest="long", action="store_true", help="with the time of the last change")
     add("cat", cat, "writes files of a disk to the standard output", "paths", **DAMAGED)
-    add("get", get, "takes a file or a folder out of a disk", "path", "out", **DAMAGED,
-        table=(None, "write a table of modes, owners, times and devices to this file"))
-    add("put", put, "puts a file or a folder on a disk", "source", "path", **TIME,
-        mode=(octal, "the permissions of the file, in octal"))
+    getting = add("get", get, "takes a file or a folder out of a disk", "path", "out", **DAMAGED,
+                  table=(None, "write a table of modes, owners, times and devices to this file"))
+    putting = add("put", put, "puts a file or a folder on a disk", "source", "path", **TIME,
+                  mode=(octal, "the permissions of the file, in octal"))
+    for one in (getting, putting):
+        one.add_argument("--as", dest="form", choices=FORMS, help="an archive of ar(I), a tape of tp(I), or one of SIMH")
     making = add("new", new, "makes a disk of a folder", "folder", **TIME, **REPLACE,
                  table=(None, "a table of modes, owners, times and devices"), short=(bool, "leave out the zeros at the end"))
     growing = add("grow", grow_disk, "gives a disk more blocks and inodes")

@@ -673,6 +673,64 @@ class Names(Disks):
         self.refused("no room for 32000 inodes: 1824 blocks must move, and 998 are free", "grow", image, "--inodes", "32000")
 
 
+class Archives(Disks):
+    """The forms are those of ar(V) and tp(V), with bytes by hand."""
+
+    AR = struct.pack("<H", 0o177555) + struct.pack("<8s2H2BH", b"one.s", 1, 2, 3, 0o244, 3) + b"abc\0" + \
+        struct.pack("<8s2H2BH", b"eightbyt", 0, 5, 0, 0o244, 2) + b"de"
+
+    def entry(self, *fields):
+        """An entry of a tape: its 32 words come to 0 together."""
+        words = struct.unpack("<32H", struct.pack("<32sH3BBHHHH16sH", *fields, b"", 0))
+        return struct.pack("<32H", *words[:31], -sum(words) & 0xFFFF)
+
+    def tape(self, directory):
+        entries = self.entry(b"bin/x", 0o100755, 3, 4, 0, 0, 600, 1, 2, directory + 1)
+        entries += self.entry(b"", 0, 0, 0, 0, 0, 0, 0, 0, 0) + self.entry(b"y", 0o100600, 0, 0, 0, 0, 1, 0, 7, directory + 3)
+        return bytes(512) + entries.ljust(512 * directory, b"\0") + b"x" * 600 + bytes(424) + b"y" + bytes(511)
+
+    def test_ar(self):
+        image, archive = self.new({}, "--blocks", "100"), self.put("lib.a", self.AR)
+        self.done("put", image, archive, "/lib", "--as", "ar")
+        self.assertEqual(self.done("cat", image, "/lib/one.s", "/lib/eightbyt"), "abcde")
+        inode = Volume(read(image)).inode(Volume(read(image)).find(b"/lib/one.s"))
+        self.assertEqual((inode.changed, inode.owner, inode.mode), (65538, 3, 0o100644))
+        self.done("get", image, "/lib", self.path("back.a"), "--as", "ar")
+        members = self.AR[2:22], self.AR[22:]  # in the order of the directory, which is that of the names
+        self.assertEqual(read(self.path("back.a")), self.AR[:2] + members[1] + members[0])
+        for data, said in ((b"x", "no archive: it doesn't begin with 0177555"), (self.AR[:10], "the archive ends in the middle of a header"),
+                           (self.AR[:20], "the archive ends in the middle of one.s")):
+            bad = self.put("bad", data)
+            self.refused(f"{bad}: {said}", "put", image, bad, "/x", "--as", "ar")
+        self.refused("nine.byte: an archive has names of 8 bytes and files of 65535", "get",
+                     self.new({"nine.byte": b""}, "--blocks", "100"), "/", "-", "--as", "ar")
+
+    def test_tp(self):
+        for directory in (24, 62):
+            image, tape = self.new({}, "--blocks", "100"), self.put("tape", self.tape(directory))
+            self.done("put", image, tape, "/", "--as", "tp")
+            self.assertEqual(self.done("cat", image, "/bin/x", "/y"), "x" * 600 + "y")
+            inode = Volume(read(image)).inode(Volume(read(image)).find(b"/bin/x"))
+            self.assertEqual((inode.changed, inode.owner, inode.group, inode.mode), (65538, 3, 4, 0o100755))
+        bad = self.put("bad", b"x" * 2000)
+        self.refused(f"{bad}: no tape of tp(I): its directory isn't one", "put", image, bad, "/x", "--as", "tp")
+        bad = self.put("bad", self.tape(24)[: 512 * 26])
+        self.refused(f"{bad}: the tape ends in the middle of bin/x", "put", image, bad, "/x", "--as", "tp")
+
+    def test_simh(self):
+        image, tape = self.new({}, "--blocks", "100"), self.tape(62)
+        records = [tape[at : at + 512] for at in range(0, len(tape), 512)]
+        data = b"".join(struct.pack("<I", 512) + record + struct.pack("<I", 512) for record in records) + bytes(8)
+        self.done("put", image, self.put("t.tap", data), "/", "--as", "tap")
+        self.done("get", image, "/", self.path("back"), "--as", "tap")
+        other = self.new({}, "--blocks", "100")
+        self.done("put", other, self.path("back"), "/", "--as", "tap")
+        self.assertEqual(self.done("list", other, "-l"), self.done("list", image, "-l"))
+        self.assertEqual(self.done("cat", other, "/bin/x", "/y"), "x" * 600 + "y")
+        self.done("get", image, "/", self.path("tp"), "--as", "tp")
+        self.assertEqual(read(self.path("tp"))[512 * 63 :], tape[512 * 63 :])
+
+
 class Damaged(Disks):
     """Disks with faults; what `check` tells is by hand."""
 
