@@ -1,6 +1,7 @@
 """The example of the shell: its disk, its dialogue, and more that its commands do. What they must show is by hand."""
 import os
 import subprocess
+import sys
 import unittest
 
 from common import DISK_BYTES, TOP, V6, Case, read, tool, v6
@@ -99,6 +100,37 @@ NOSUCH: NON EXISTENT
 # chdir ..
 # ls
 E
+# date
+THU JAN  1 00:00:00 GMT 1970
+# echo one two >n
+# wc n nosuch
+      1      2      8 N
+WC: CANNOT OPEN NOSUCH
+# wc <n
+      1      2      8
+# od n
+0000000 067157 020145 073564 005157
+0000010
+# mv n e
+# mv e/n m
+# ls e
+# cat m
+ONE TWO
+# mv e f
+MV: A DIRECTORY KEEPS ITS NAME
+# mv nosuch f
+MV: CANNOT FIND THE FILE
+# mv m m
+MV: ONE FILE
+# mv m
+USAGE: MV OLDNAME NEWNAME
+# stty
+ERASE = '#'; KILL = '@'
+-TABS LCASE ECHO -NL -RAW\x20
+# stty nosuch
+NOSUCH: UNKNOWN MODE
+# stty erase
+ERASE: UNKNOWN MODE
 """
 
 
@@ -158,6 +190,42 @@ class Shell(Case):
         typed = [line[2:] for line in MORE.splitlines() if line.startswith("# ")]
         script = "run 10000\n" + "".join(f"type {line}\nrun 20000\n" for line in typed)
         self.assertEqual(self.play(script.encode())[0].decode().split("\r\n"), (MORE.upper() + "# ").split("\n"))
+
+    def test_modes_of_the_terminal(self):
+        """Small letters, another key that erases, and none is shown; then all as before."""
+        typed = ["stty -lcase erase %", "echo Ab#%%c", "stty", "stty -echo", "echo x", "stty echo lcase erase #", "echo Y#z"]
+        script = "run 10000\n" + "".join(f"type {line}\nrun 20000\n" for line in typed)
+        shown = ("# STTY -LCASE ERASE %\n# echo Ab#%%c\nAc\n# stty\nerase = '%'; kill = '@'\n-tabs -lcase echo -nl -raw \n"
+                 "# stty -echo\n# x\n# # ECHO Y#Z\nZ\n# ")
+        self.assertEqual(self.play(script.encode())[0].decode().replace("\r\n", "\n"), shown)
+
+    def try_it(self, name, *words):
+        """What a command prints, run alone."""
+        more = ("--with", os.path.join(SHELL, "src", "lib.s"), *words[:2], os.path.join(SHELL, "src", name + ".s"), *words[2:])
+        done = subprocess.run([sys.executable, os.path.join(TOP, "tools", "try.py"), "--v6", V6, *more], capture_output=True, input=b"")
+        self.assertEqual((done.returncode, done.stderr), (0, b""))
+        return done.stdout.decode()
+
+    def test_dates(self):
+        """Of times that others tell: the last second of February and the first of a leap day, the end of a year, and 1975."""
+        empty, image = self.path("empty"), self.path("image")
+        os.mkdir(empty)
+        for time, shown in ((68169599, "Mon Feb 28 23:59:59 GMT 1972"), (68169600, "Tue Feb 29 00:00:00 GMT 1972"),
+                            (94694399, "Sun Dec 31 23:59:59 GMT 1972"), (169171203, "Tue May 13 00:00:03 GMT 1975"),
+                            (4102444799, "Thu Dec 31 23:59:59 GMT 2099")):
+            self.assertEqual(self.call(disk_main, "--v6", V6, "new", "--replace", "--short", "--time", str(time), image, empty)[0], 0)
+            self.assertEqual(self.try_it("date", "--disk", image), shown + "\n")
+
+    def test_a_large_file(self):
+        """Beyond what a word counts: 70,400 bytes in 1,000 lines of two words, and each of their words by its place."""
+        data = b"".join(b"%05d %s\n" % (n, bytes(97 + (n + k) % 26 for k in range(63))) for n in range(1000))
+        data += bytes(400)
+        file = self.put("large", data)
+        self.assertEqual(self.try_it("wc", "--file", file, "large"), "   1000   2000  70400 large\n")
+        rows = [" ".join(f"{int.from_bytes(data[n : n + 2], 'little'):06o}" for n in range(at, at + 16, 2))
+                for at in range(0, len(data), 16)]
+        wanted = [f"{16 * n:07o} {row}\n" for n, row in enumerate(rows[:4376])] + ["*\n", f"{len(data):07o}\n"]
+        self.assertEqual(self.try_it("od", "--file", file, "large"), "".join(wanted))
 
     def test_a_long_line(self):
         """The shell takes lines of 254 bytes, as many as the terminal gives; so a longer one comes from a file."""
