@@ -132,6 +132,15 @@ NOSUCH: UNKNOWN MODE
 # stty erase
 ERASE: UNKNOWN MODE
 """
+EDITED = (
+    ("a\none\ntwo\nthree\n.\n", ""), ("1,$p\n", "one\ntwo\nthree\n"), ("2\n", "two\n"), ("=\n", "3\n"), (".=\n", "2\n"),
+    ("s/two/deux/p\n", "deux\n"), ("1i\nzero\n.\n", ""), ("$\n", "three\n"), ("\n", "?\n"), ("-\n", "deux\n"), ("/one/\n", "one\n"),
+    ("/o/p\n", "zero\n"), ("\n", "one\n"), ("2,3d\n", ""), ("1,$p\n", "zero\nthree\n"), ("w f\n", "11\n"), ("1,2c\nx\n.\n", ""),
+    ("1,$p\n", "x\n"), ("r f\n", "11\n"), ("1,$p\n", "x\nzero\nthree\n"), ("s/nosuch/y/\n", "?\n"), ("9p\n", "?\n"), ("zz\n", "?\n"),
+    ("2,1p\n", "?\n"), ("/nosuch/\n", "?\n"), ("e f\n", "11\n"), ("1,$s/e/E/p\n", "thrEe\n"), ("1,$p\n", "zEro\nthrEe\n"),
+    ("$a\nlast\n.\n", ""), ("w\n", "16\n"), ("f\n", "f\n"), ("$-1p\n", "thrEe\n"), ("1+1p\n", "thrEe\n"), ("e g\n", "?\n"),
+    ("0a\nfirst\n.\n", ""), (".-1,.p\n", "?\n"), ("1s,first,a/b,p\n", "a/b\n"), ("f h\n", "h\n"), ("q\n", ""),
+)
 
 
 class Shell(Case):
@@ -171,7 +180,8 @@ class Shell(Case):
 
     def test_build(self):
         image = self.path("image")
-        done = subprocess.run([os.path.join(SHELL, "build.sh"), image], env={**os.environ, "V6": V6}, capture_output=True)
+        path = f"{os.path.dirname(sys.executable)}:{os.environ['PATH']}"  # the tools with the same Python
+        done = subprocess.run([os.path.join(SHELL, "build.sh"), image], env={**os.environ, "V6": V6, "PATH": path}, capture_output=True)
         self.assertEqual((done.returncode, done.stderr), (0, b""))
         self.assertEqual(read(image), read(os.path.join(SHELL, "image")))
 
@@ -205,6 +215,18 @@ class Shell(Case):
         done = subprocess.run([sys.executable, os.path.join(TOP, "tools", "try.py"), "--v6", V6, *more], capture_output=True, input=b"")
         self.assertEqual((done.returncode, done.stderr), (0, b""))
         return done.stdout.decode()
+
+    def test_ed(self):
+        """Each command and each form of an address; what is typed stands before what ed must answer."""
+        told, typed = "", ""
+        for lines, answer in EDITED:
+            typed += lines
+            told += answer
+        command = [sys.executable, os.path.join(TOP, "tools", "try.py"), "--v6", V6, "--final", self.path("final"), "--with",
+                   os.path.join(SHELL, "src", "lib.s"), os.path.join(SHELL, "src", "ed.s")]
+        done = subprocess.run(command, input=typed.encode(), capture_output=True)
+        self.assertEqual((done.returncode, done.stdout.decode(), done.stderr), (0, told, b""))
+        self.assertEqual(self.call(disk_main, "--v6", V6, "cat", self.path("final"), "/f"), (0, "zEro\nthrEe\nlast\n", ""))
 
     def test_dates(self):
         """Of times that others tell: the last second of February and the first of a leap day, the end of a year, and 1975."""
