@@ -7,7 +7,10 @@ import sys
 sys.path.insert(0, os.path.dirname(os.path.abspath(__file__)))
 import disassembler
 from assembler import Assembler
-from files import read_bytes, replace, told
+from files import guarded, put_out, read_bytes, same_file
+from program import add_version
+
+KINDS = {1: "absolute", 2: "text", 3: "data", 4: "bss"}
 
 
 def listing(assembler):
@@ -20,21 +23,33 @@ def listing(assembler):
         piece, ends[part] = done.bytes[start : ends[part]], start
         words = " ".join(f"{int.from_bytes(piece[at : at + 2], 'little'):06o}" for at in range(0, min(len(piece), 6), 2))
         more = " .." if len(piece) > 6 else ""
-        out.append(f"{done.base + start:5} {done.base + start:06o}  {words + more:23}  {text}".rstrip())
+        address = done.base + start + assembler.origin & 0xFFFF
+        out.append(f"{address:5} {address:06o}  {words + more:23}  {text}".rstrip())
     return "\n".join(reversed(out)) + "\n"
 
 
+def symbols(assembler):
+    """The names of the source, by their addresses."""
+    rows = [f"{value:5} {value:06o}  {KINDS[kind & 7]:8}  {'global' if kind & 0o40 else '':6}  {name}\n"
+            for name, kind, value in assembler.symbols()]
+    return "\n" + "".join(rows)
+
+
 def assemble(options):
+    for name in options.sources:
+        if same_file(name, options.out) and os.path.exists(name):
+            print(f"as.py: {name}: the source itself, and the program would take its place", file=sys.stderr)
+            return 1
     sources = [(name, read_bytes(name).decode("utf-8", "replace")) for name in options.sources]
     assembler = Assembler()
-    data = assembler.assemble(sources, options.shared)
+    data = assembler.assemble(sources, options.shared, options.symbols)
     if data is None:
         for error in assembler.errors:
             print(f"as.py: {error}", file=sys.stderr)
         return 1
-    replace(options.out, data, 0o755)
+    put_out(options.out, data, 0o755)
     if options.listing:
-        print(listing(assembler), end="")
+        print(listing(assembler) + (symbols(assembler) if options.symbols else ""), end="")
     return 0
 
 
@@ -54,15 +69,15 @@ def main(words):
     parser.add_argument("-o", dest="out", default="a.out", help="the program that is made (a.out)")
     parser.add_argument("-n", dest="shared", action="store_true", help="with a text that is shared: magic 0410")
     parser.add_argument("-l", dest="listing", action="store_true", help="print each line with its address and words")
+    parser.add_argument("-s", dest="symbols", action="store_true", help="with a table of symbols, also in the listing")
     parser.add_argument("--disassemble", action="store_true", help="print source for programs")
-    options = parser.parse_args(words)
-    try:
+    add_version(parser)
+
+    def body():
+        options = parser.parse_args(words)
         return disassemble(options) if options.disassemble else assemble(options)
-    except OSError as error:
-        print(f"as.py: {told(error)}", file=sys.stderr)
-        return 1
-    except KeyboardInterrupt:
-        return 130
+
+    return guarded("as.py", body)
 
 
 if __name__ == "__main__":

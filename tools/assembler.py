@@ -3,16 +3,19 @@ import re
 import struct
 from dataclasses import dataclass
 
-from pdp11 import CALLS, CODES, INSTRUCTIONS, MAGIC, REGISTERS, SECOND_NAMES, SEGMENT, SHARED, signed
+from pdp11 import CALLS, CODES, INSTRUCTIONS, JUMPS, MAGIC, REGISTERS, SECOND_NAMES, SEGMENT, SHARED, signed
 
 TOKEN = re.compile(r"""(?P<blank>[ \t]+) | (?P<comment>/.*) | (?P<text><(?:\\.|[^>\\])*>) | (?P<open><.*)
     | (?P<local>[0-9][fb](?![\w.~])) | (?P<number>[0-9][\w]*\.?) | (?P<name>[A-Za-z_.~][\w.~]*)
-    | (?P<char>'(?:\\.|[^\\])) | (?P<pair>"(?:\\.|[^\\])(?:\\.|[^\\])) | (?P<mark>[-+&|*$(),:;=])""", re.X | re.A)
+    | (?P<char>'(?:\\.|[^\\])) | (?P<pair>"(?:\\.|[^\\])(?:\\.|[^\\])) | (?P<mark>\\[/<>] | [-+&|*$(),:;=!%^[\]])""", re.X | re.A)
 ESCAPES = {"n": 0o12, "t": 0o11, "e": 0o4, "0": 0, "r": 0o15, "a": 0o6, "p": 0o33, "\\": 0o134, ">": 0o76}
 WORD = 0o177777
 MOST = 65536
 TOO_LARGE = f"the program has more than {MOST} bytes"
 HEADER = struct.Struct("<8H")
+SYMBOL = struct.Struct("<8s2H")  # a name, a type and a value: a.out(V)
+TYPES = {None: 1, "text": 2, "data": 3, "bss": 4}
+GLOBAL = 0o40  # of the type of a symbol that other programs may name
 
 
 class SourceError(Exception):
@@ -72,6 +75,19 @@ def tokens(line):
     return found
 
 
+def tokens_if_any(line):
+    """The tokens of a line that is passed over, which may be anything."""
+    try:
+        return tokens(line)
+    except SourceError:
+        return []
+
+
+def near_name(jump):
+    name = {"jbr": "br", "jec": "bcc", "jes": "bcs"}.get(jump, "b" + jump[1:])
+    return SECOND_NAMES.get(name, name)
+
+
 def number_of(text):
     digits = text.rstrip(".")
     base = 10 if text.endswith(".") else 8
@@ -86,28 +102,44 @@ def number_of(text):
 
 class Assembler:
     def __init__(self):
-        self.labels, self.places = {}, {}
+        self.labels, self.places, self.registers = {}, {}, dict(REGISTERS)
         self.constants = {name: Value(word) for name, word in CODES.items()}
-        self.errors, self.lines, self.last = [], [], False
+        self.common, self.common_at, self.globals = {}, {}, set()
+        self.errors, self.lines, self.first, self.last = [], [], True, False
+        self.origin = 0  # what `..` is: where address 0 of the text stands
+        self.long, self.grew = set(), False  # the jumps that need more than a branch, by their count
 
-    def assemble(self, sources, shared=False):
-        """The file of a program, of its sources: (name, text). None where one has an error: see `errors`."""
-        for self.last in (False, True):
+    def assemble(self, sources, shared=False, symbols=False):
+        """The file of a program, of its sources: (name, text). None where one has an error: see `errors`. The first pass finds
+        what the names are, others which jumps need more than a branch, and the last makes the words."""
+        while True:
             self.parts = {name: Part() for name in ("text", "data", "bss")}
-            if self.last:
+            if not self.first:
                 self.put_bases(shared)
             self.passes(sources)
             if self.errors:
                 return None
             self.sizes = {name: even(part.size) for name, part in self.parts.items()}
+            if self.last:
+                break
+            self.last = not self.first and not self.grew or not self.count
+            self.first, self.grew = False, False
         if self.parts["bss"].base + self.sizes["bss"] > MOST:
             self.errors.append(TOO_LARGE)
         self.errors += [f"the {name} has more than {WORD - 1} bytes" for name, size in self.sizes.items() if size > WORD]
         if self.errors:
             return None
         text, data = (bytes(self.parts[name].bytes).ljust(self.sizes[name], b"\0") for name in ("text", "data"))
-        header = HEADER.pack(SHARED if shared else MAGIC, len(text), len(data), self.sizes["bss"], 0, 0, 0, 0)
-        return header + text + data
+        table = b"".join(SYMBOL.pack(name.encode()[:8], kind, value) for name, kind, value in self.symbols() if symbols)
+        header = HEADER.pack(SHARED if shared else MAGIC, len(text), len(data), self.sizes["bss"], len(table), 0, 0, 0)
+        return header + text + data + table
+
+    def symbols(self):
+        """The names that the source gives, with the types of a.out(V) and their values, by address."""
+        named = {**{name: value for name, value in self.constants.items() if name not in CODES}, **self.common_at, **self.labels}
+        found = [(name, TYPES[value.part] + GLOBAL * (name in self.globals), self.resolve(value) & WORD)
+                 for name, value in named.items()]
+        return sorted(found, key=lambda symbol: (symbol[1] & 7, symbol[2], symbol[0]))
 
     def put_bases(self, shared):
         text, data = self.sizes["text"], self.sizes["data"]
@@ -116,7 +148,7 @@ class Assembler:
 
     def passes(self, sources):
         """One pass over all lines."""
-        self.part, self.seen = "text", {}
+        self.part, self.seen, self.count, self.ifs = "text", {}, 0, []
         for file, source in sources:
             for count, line in enumerate(source.split("\n"), 1):
                 start, self.at = (self.part, self.here().size), f"{file}:{count}: "
@@ -126,6 +158,13 @@ class Assembler:
                     self.complain(error)
                 if self.last:
                     self.lines.append((*start, line))
+        if self.ifs:
+            self.complain(".if without .endif")
+        bss = self.parts["bss"]
+        for name in self.common.keys() - self.labels.keys():
+            bss.size = even(bss.size)
+            self.common_at[name] = Value(bss.size, "bss")
+            bss.size += self.common[name]
 
     def complain(self, error):
         """Tells what is wrong in this line. It keeps its words in the second pass, so that all others stay in place."""
@@ -135,10 +174,13 @@ class Assembler:
         return self.parts[self.part]
 
     def line(self, line):
-        self.tokens = tokens(line)
+        self.tokens = tokens(line) if all(self.ifs) else tokens_if_any(line)
         self.tokens.append(("end", ""))
         while True:
-            self.statement()
+            if all(self.ifs) or self.peek("name", ".if") or self.peek("name", ".endif"):
+                self.statement()
+            else:
+                self.skip()
             if self.accept("end"):
                 return
             if not self.accept("mark", ";"):
@@ -154,10 +196,16 @@ class Assembler:
             return self.tokens.pop(0)
         return None
 
+    def skip(self):
+        """Passes over a statement."""
+        while not self.peek("end") and not self.peek("mark", ";"):
+            self.tokens.pop(0)
+
     def want(self, kind, text=None):
         found = self.accept(kind, text)
         if not found:
-            raise SourceError(f"{self.found()} where '{text}' is wanted")
+            wanted = f"'{text}'" if text else "a name"
+            raise SourceError(f"{self.found()} where {wanted} is wanted")
         return found[1]
 
     def found(self, token=None):
@@ -178,6 +226,8 @@ class Assembler:
             self.assignment()
         elif self.peek("name") and self.tokens[0][1] in DIRECTIVES:
             DIRECTIVES[self.want("name")](self)
+        elif self.peek("name") and self.tokens[0][1] in JUMPS:
+            self.jump(self.want("name"))
         elif self.peek("name") and SECOND_NAMES.get(self.tokens[0][1], self.tokens[0][1]) in INSTRUCTIONS:
             self.instruction(self.want("name"))
         elif self.is_unknown():
@@ -199,9 +249,9 @@ class Assembler:
             self.places[name, self.seen[name]] = place
         elif kind != "name":
             raise SourceError(f"'{name}': no name for a label")
-        elif name == "." or name in OWN or name in self.constants:
+        elif name in (".", "..") or name in OWN or name in self.constants or name in self.registers:
             raise SourceError(f"'{name}' has a meaning already")
-        elif not self.last and name in self.labels:
+        elif self.first and name in self.labels:
             raise SourceError(f"'{name}' is defined twice")
         else:
             self.labels[name] = place
@@ -209,9 +259,14 @@ class Assembler:
     def assignment(self):
         name = self.want("name")
         self.want("mark", "=")
+        if self.peek("name") and self.tokens[0][1] in self.registers and name not in OWN:
+            self.registers[name] = self.register()
+            return
         value = self.expression()
         if name == ".":
             self.advance(value)
+        elif name == "..":
+            self.origin = self.number_now(value, name)
         elif name in OWN or name in self.labels:
             raise SourceError(f"'{name}' has a meaning already")
         else:
@@ -242,6 +297,36 @@ class Assembler:
             raise SourceError("a word at an odd address: .even is wanted before it")
         self.put(struct.pack(f"<{len(values)}H", *(self.resolve(value) & WORD for value in values)))
 
+    def number_now(self, value, name):
+        """A number that has to be known where it stands."""
+        if not value.known:
+            raise SourceError(f"'{name}' can't go by a name that stands further on")
+        return self.resolve(value) & WORD
+
+    def condition(self):
+        """.if: what follows up to .endif is read where the expression isn't 0."""
+        self.ifs.append(all(self.ifs) and self.number_now(self.expression(), ".if") != 0)
+        if not self.ifs[-1]:
+            self.skip()
+
+    def end_of_condition(self):
+        if not self.ifs:
+            raise SourceError(".endif without .if")
+        self.ifs.pop()
+
+    def global_names(self):
+        self.globals.add(self.want("name"))
+        while self.accept("mark", ","):
+            self.globals.add(self.want("name"))
+
+    def common_name(self):
+        """.comm: room in the bss, unless the name has a place elsewhere."""
+        name = self.want("name")
+        self.want("mark", ",")
+        size = self.number_now(self.expression(), ".comm")
+        self.globals.add(name)
+        self.common[name] = max(size, self.common.get(name, 0))
+
     def section(self, name):
         self.part = name
 
@@ -262,7 +347,7 @@ class Assembler:
     # expressions
 
     def expression(self):
-        value = Value(0) if self.peek("mark", "-") or self.peek("mark", "+") else self.term()
+        value = Value(0) if any(self.peek("mark", sign) for sign in "-+!") else self.term()
         while self.peek("mark") and self.tokens[0][1] in OPERATORS and not self.is_step():
             operator = self.tokens.pop(0)[1]
             value = self.combined(value, operator, self.term())
@@ -273,18 +358,26 @@ class Assembler:
         return self.peek("mark", "-") and self.peek("mark", "(", 1)
 
     def combined(self, left, operator, right):
+        if operator == "^":
+            return Value(left.number, right.part, left.known)
         if not (left.known and right.known):
             return Value(0, known=False)
         if left.part and right.part and operator == "-":
             return Value(self.resolve(left) - self.resolve(right) & WORD)
-        if right.part and not (operator == "+" and not left.part) or left.part and operator in "&|":
+        if right.part and not (operator == "+" and not left.part) or left.part and operator not in "+-":
             raise SourceError("addresses can't be put together so")
+        if operator in ("\\/", "%") and not right.number & WORD:
+            raise SourceError("division by 0")
         number, part = OPERATORS[operator](left.number, right.number), left.part or right.part
         return Value(number if part else number & WORD, part)
 
     def term(self):
         kind, text = self.tokens[0]
-        if kind not in TERMS or kind == "name" and text in REGISTERS:
+        if self.accept("mark", "["):
+            value = self.expression()
+            self.want("mark", "]")
+            return value
+        if kind not in TERMS or kind == "name" and text in self.registers:
             raise SourceError(f"{self.found()} where a value is wanted")
         self.tokens.pop(0)
         return TERMS[kind](self, text)
@@ -292,7 +385,9 @@ class Assembler:
     def named(self, name):
         if name == ".":
             return Value(self.here().size, self.part)
-        found = self.labels.get(name) or self.constants.get(name)
+        if name == "..":
+            return Value(self.origin)
+        found = self.labels.get(name) or self.constants.get(name) or self.common_at.get(name)
         if self.last and not (found and found.known):
             self.complain(f"'{name}' isn't defined")
         return found or Value(0, known=False)
@@ -305,7 +400,7 @@ class Assembler:
         return found or Value(0, known=False)
 
     def resolve(self, value):
-        return value.number + (self.parts[value.part].base if value.part else 0)
+        return value.number + (self.parts[value.part].base + self.origin if value.part else 0)
 
     # instructions
 
@@ -321,9 +416,9 @@ class Assembler:
 
     def register(self):
         found = self.accept("name")
-        if not found or found[1] not in REGISTERS:
+        if not found or found[1] not in self.registers:
             raise SourceError(f"{self.found(found)} where a register is wanted")
-        return REGISTERS[found[1]]
+        return self.registers[found[1]]
 
     def register_field(self, form, more, start):
         return self.register() << (0 if form == "r" else 6)
@@ -357,7 +452,7 @@ class Assembler:
         if self.is_step():
             self.accept("mark", "-")
             return 0o40 + deferred + self.in_brackets()
-        if self.peek("name") and self.tokens[0][1] in REGISTERS:
+        if self.peek("name") and self.tokens[0][1] in self.registers:
             return self.register() + deferred
         value = self.expression()
         if self.peek("mark", "("):
@@ -386,6 +481,23 @@ class Assembler:
             self.complain(f"the branch is too far: {distance} bytes")
         return steps & (0o77 if back else 0o377)
 
+    def jump(self, name):
+        """A branch where the target is near enough; else a jmp, after the opposite branch where there is a condition."""
+        self.count += 1
+        count, start, value = self.count, self.here().size, self.expression()
+        opposite = JUMPS[name]
+        distance = signed(self.resolve(value) - self.resolve(Value(start + 2, self.part)))
+        if not self.first and count not in self.long and not -256 <= distance <= 254:
+            self.long.add(count)
+            self.grew = True
+        if count not in self.long:
+            self.words(Value(INSTRUCTIONS[near_name(name)][1] | distance // 2 & 0o377))
+            return
+        words = [INSTRUCTIONS[opposite][1] | 2] if opposite else []
+        after = start + 2 * len(words) + 4
+        distance = self.resolve(value) - self.resolve(Value(after, self.part))
+        self.words(*map(Value, words), Value(INSTRUCTIONS["jmp"][1] | 0o67), Value(distance & WORD))
+
     def small(self, form, more, start):
         value, most = self.resolve(self.expression()), 63 if form == "n6" else 255
         if value > most:
@@ -400,12 +512,22 @@ class Assembler:
         return CALLS[name]
 
 
-OPERATORS = {"+": int.__add__, "-": int.__sub__, "&": int.__and__, "|": int.__or__}
+def quotient(left, right):
+    """Left divided by right, towards 0."""
+    size = abs(left) // abs(right)
+    return size if (left < 0) == (right < 0) else -size
+
+
+OPERATORS = {"+": int.__add__, "-": int.__sub__, "&": int.__and__, "|": int.__or__, "*": int.__mul__, "^": None,
+             "\\/": lambda a, b: quotient(signed(a), signed(b)),
+             "%": lambda a, b: signed(a) - quotient(signed(a), signed(b)) * signed(b),
+             "\\>": lambda a, b: (a & WORD) >> (b & 31), "\\<": lambda a, b: a << (b & 31), "!": lambda a, b: a | ~b & WORD}
 TERMS = {"number": lambda a, text: Value(number_of(text)), "name": Assembler.named, "local": Assembler.near,
          "char": lambda a, text: Value(plain_bytes(text[1:])[0]),
          "pair": lambda a, text: Value(int.from_bytes(plain_bytes(text[1:]), "little"))}
-DIRECTIVES = {".byte": Assembler.bytes_list, ".even": Assembler.even,
+DIRECTIVES = {".byte": Assembler.bytes_list, ".even": Assembler.even, ".if": Assembler.condition,
+              ".endif": Assembler.end_of_condition, ".globl": Assembler.global_names, ".comm": Assembler.common_name,
               **{"." + name: lambda a, name=name: a.section(name) for name in ("text", "data", "bss")}}
 OPERANDS = {"s": Assembler.source, "d": Assembler.destination, "j": Assembler.target, "r": Assembler.register_field,
             "b": Assembler.branch, "n6": Assembler.small, "n8": Assembler.small, "call": Assembler.call}
-OWN = {*REGISTERS, *INSTRUCTIONS, *SECOND_NAMES, *CODES, *DIRECTIVES}  # the names that have a meaning from the start
+OWN = {*REGISTERS, *INSTRUCTIONS, *SECOND_NAMES, *JUMPS, *CODES, *DIRECTIVES}  # the names that have a meaning from the start

@@ -7,93 +7,44 @@ import tempfile
 from dataclasses import dataclass
 
 sys.path.insert(0, os.path.dirname(os.path.abspath(__file__)))
-from files import place_of, read_bytes, replace, told
-from program import V6, ProgramError, call
+from dialogue import (END_OF_FILE, HEADER, INTERRUPT, MANY, OVER, RETURN, RUNS, SLEEPS, WAITS, Dialogue, DialogueError, Machine,
+                      Refused, keys, shown)
+from files import place_of, read_bytes, replace, same_file, told
+from processes import Processes
+from program import CORE, V6, ProgramError, add_version
+from screen import without_echo
 
-FIRST_SLOTS = 10000  # what a line is given at first; ten times as much each time that it isn't enough
-TYPE_BYTES = 290  # a longer line is typed byte by byte: see docs/manual/scripts.md
-RETURN, END_OF_FILE, INTERRUPT = 0o15, 0o4, 0o177
-WAITS, RUNS, OVER = "waits", "runs", "over"
 HELP = """~.      ends, and so does the end of a file that is read in the place of the keyboard
 ~^X     types a control character: ~^D is 004, ~^? is 0177
 ~:LINE  puts a line of a script: ~:clock 1000, ~:run 50000, ~:switch 000001
 ~~TEXT  types a line that begins with ~
+~l      lists the lines so far
+~u N    takes the last N lines back; without N, the last one
+~g N    goes to the state after line N, also forward to a line that was taken back
+~w      tells what each process does
+~?      prints these lines
 """
+LONGEST = 254  # of a line that is tried with others in one run: more than 255 keys don't wait
 
 
-class ConsoleError(Exception):
-    """Why a line, or the whole run, isn't taken; the text tells it."""
+class ConsoleError(DialogueError):
+    """What is wrong with words to the console."""
 
 
 @dataclass
-class Played:
-    """What a run came to: the program's status and its line, and what the terminal and the log got."""
+class Typed:
+    """A line for the machine: its lines of a script, and what the keyboard's own terminal has shown of it."""
 
-    status: int
-    said: str
-    term: bytes
-    log: bytes
+    lines: list
+    echo: bytes = b""
 
 
-class Machine:
-    """The program, an image and a core; it plays a script from the start."""
+@dataclass
+class Order:
+    """A line for the console: its letter and its number, if any."""
 
-    def __init__(self, v6, image, core, folder):
-        self.v6, self.image, self.core, self.folder = v6, image, str(core), folder
-
-    def path(self, name):
-        return os.path.join(self.folder, name)
-
-    def play(self, lines):
-        with open(self.path("script"), "wb") as file:
-            file.write(b"".join(line + b"\n" for line in lines))
-        outs = [self.path(name) for name in ("term", "log", "final")]
-        for out in outs:
-            open(out, "wb").close()
-        status, said = call(self.v6, "run", self.image, self.core, self.path("script"), *outs)
-        played = Played(status, said, read_bytes(outs[0]), read_bytes(outs[1]))
-        if not played.status:
-            os.replace(outs[2], self.path("disk"))
-        return played
-
-
-def state(log):
-    """Whether somebody waits for a key on an idle machine, the machine runs on, or nothing more can come; see
-    docs/manual/log.md. Who waits for a time counts as running, as long as ticks come."""
-    idle, sleepers, ticks = False, {b"keys": set(), b"tout": set()}, False
-    for line in log.split(b"\n"):
-        words = line.split(b" ")
-        if words[0] in (b"go", b"idle"):
-            idle = words[0] == b"idle"
-        elif words[0] == b"sleep" and words[3] in sleepers:
-            sleepers[words[3]].add(words[1])
-        elif words[0] == b"wake" and words[1] in sleepers:
-            sleepers[words[1]].clear()
-        elif words[0] == b"signal":
-            for waiting in sleepers.values():
-                waiting.discard(words[1])
-        ticks = ticks or words[0] == b"tick"
-    if not idle:
-        return RUNS
-    if sleepers[b"keys"]:
-        return WAITS
-    return RUNS if ticks and sleepers[b"tout"] else OVER
-
-
-def keys(data):
-    """The script's lines that type these bytes."""
-    if any(key > 0o177 for key in data):
-        raise ConsoleError("only characters of ASCII can be typed")
-    text = data[:-1]
-    if data[-1] == RETURN and len(text) <= TYPE_BYTES and all(0o40 <= key <= 0o176 for key in text):
-        return [b"type " + text if text else b"type"]
-    return [b"byte %03o" % key for key in data]
-
-
-def without_echo(new, data):
-    """What is new on the terminal, without the echo of a line that the keyboard's own terminal has shown."""
-    echo = data.upper().replace(b"\r", b"\r\n")
-    return new[len(echo) :] if new[: len(echo)].upper() == echo else new
+    letter: str
+    number: int = None
 
 
 class Keyboard:
@@ -101,20 +52,46 @@ class Keyboard:
 
     def __init__(self, file):
         self.file, self.person = file, file.isatty()
+        self.waiting, self.rest, self.ended = [], b"", False
+
+    def fill(self):
+        """Reads what there is; at least one line, but at the end."""
+        while not self.waiting and not self.ended:
+            piece = self.file.read1(65536)
+            if self.person:
+                self.waiting = piece.splitlines(keepends=True) or [b""]
+            elif piece:
+                *self.waiting, self.rest = (self.rest + piece).split(b"\n")
+                self.waiting = [line + b"\n" for line in self.waiting]
+            else:
+                self.waiting, self.ended = [self.rest + b"\n"] * bool(self.rest), True
 
     def read(self):
-        """The script's lines for the next line, and the bytes that are typed; None at the end."""
+        """The next line; None at the end."""
         try:
-            line = self.file.readline()
+            self.fill()
         except KeyboardInterrupt:
-            return keys(bytes([INTERRUPT])), b""
-        if not line.endswith(b"\n") and (self.person or not line):
-            return (keys(line + bytes([END_OF_FILE])), line) if self.person else None
-        line = line.rstrip(b"\n")
+            return Typed(keys(bytes([INTERRUPT])))
+        if not self.waiting:
+            return None
+        line = self.waiting.pop(0)
+        if not line.endswith(b"\n"):
+            return Typed(keys(line + bytes([END_OF_FILE])), line)
+        line = line[:-1]
         return self.command(line[1:]) if line.startswith(b"~") else self.typed(line)
 
+    def batch(self):
+        """The lines of a script for what waits in a file: lines that are typed as they stand, one after the other."""
+        found = []
+        for line in self.waiting[: MANY if not self.person else 0]:
+            text = line[:-1]
+            if text.startswith(b"~") or len(text) > LONGEST or not all(0o40 <= key <= 0o176 or key == 0o11 for key in text):
+                break
+            found.append(keys(text + bytes([RETURN])))
+        return found
+
     def typed(self, line):
-        return keys(line + bytes([RETURN])), line + b"\r" if self.person else b""
+        return Typed(keys(line + bytes([RETURN])), line + b"\r" if self.person else b"")
 
     def command(self, line):
         if line == b".":
@@ -122,73 +99,138 @@ class Keyboard:
         if line.startswith(b"~"):
             return self.typed(line)
         if line.startswith(b":"):
-            return [line[1:]], b""
+            return Typed([line[1:]])
         if len(line) == 2 and line.startswith(b"^") and 0o77 <= line[1] <= 0o176:
-            return keys(bytes([line[1] & 0o37 if line[1] != 0o77 else INTERRUPT])), b""
-        raise ConsoleError(f"no command of the console. These are:\n{HELP}".rstrip())
+            return Typed(keys(bytes([line[1] & 0o37 if line[1] != 0o77 else INTERRUPT])))
+        words = line.decode("ascii", "replace").split()
+        if words and words[0] in ORDERS and len(words) <= 1 + (words[0] in "ug"):
+            if words[1:] and not words[1].isdecimal():
+                raise ConsoleError(f"'{words[1]}': no number")
+            return Order(words[0], int(words[1]) if words[1:] else None)
+        raise ConsoleError("no command of the console; ~? tells which there are")
 
 
 class Console:
-    def __init__(self, machine, limit, lines):
-        self.machine, self.limit, self.lines, self.shown = machine, limit, lines, 0
+    """The dialogue, and how much of the terminal has been shown."""
 
-    def show(self, played, typed=b""):
-        new = played.term[self.shown :]
-        sys.stdout.buffer.write(without_echo(new, typed) if typed else new)
+    def __init__(self, dialogue, keyboard):
+        self.dialogue, self.keyboard, self.shown, self.refused = dialogue, keyboard, 0, False
+
+    def write(self, data):
+        sys.stdout.buffer.write(data)
         sys.stdout.buffer.flush()
-        self.shown = len(played.term)
 
-    def add(self, more, typed=b""):
-        """Plays the script with more lines, and slots for them until the machine is idle or the limit is met. Lines with
-        which the run doesn't come to its end are taken back."""
-        slots, before = min(FIRST_SLOTS, self.limit), self.shown
-        while True:
-            lines = [*self.lines, *more, b"run %d" % slots]
-            played = self.machine.play(lines)
-            if played.status:
-                self.show(played, typed)
-                self.shown = before
-                raise ConsoleError(played.said)
-            found = state(played.log)
-            if found != RUNS or slots >= self.limit:
-                break
-            slots = min(10 * slots, self.limit)
-        self.lines = lines
-        self.show(played, typed)
+    def show(self, term, typed=b""):
+        new = term[self.shown :]
+        self.write(without_echo(term[: self.shown], new, typed) if typed else new)
+        self.shown = len(term)
+
+    def prompt(self):
+        """Shows the last line of the terminal again, to a person to whom something was told in between."""
+        self.shown = len(self.dialogue.played.term)
+        if self.keyboard.person:
+            self.write(self.dialogue.played.term.rsplit(b"\n", 1)[-1])
+
+    def add(self, line):
+        try:
+            found = self.dialogue.add(line.lines)
+        except Refused as error:
+            self.show(error.term, line.echo)
+            raise
+        self.show(self.dialogue.played.term, line.echo)
         return found
 
-    def begin(self, lines):
-        """Shows what a script comes to that is there already, or what the machine does before the first key."""
-        if not lines:
-            return self.add([])
-        played = self.machine.play(lines)
-        if played.status:
-            raise ConsoleError(played.said)
-        self.lines = lines
-        self.show(played)
-        return state(played.log)
+    def add_all(self, most):
+        """Adds what waits in a file in as few runs as can be. Gives whether it was any."""
+        batch = self.keyboard.batch()[:most]
+        count = self.dialogue.add_all(batch) if len(batch) > 1 else 0
+        del self.keyboard.waiting[:count]
+        if count:
+            self.show(self.dialogue.played.term)
+        return count
+
+    def order(self, order):
+        found = ORDERS[order.letter](self, order.number)
+        self.prompt()
+        return found
+
+    def help(self, _):
+        tell(HELP.rstrip())
+
+    def list(self, _):
+        first = self.dialogue.first()
+        lines = [f"{n:5}  {shown(step)}" for n, step in enumerate(self.dialogue.steps[first:], 1)]
+        at = self.dialogue.at - first
+        listed = lines[:at] + (["taken back:"] if lines[at:] else []) + lines[at:]
+        tell("\n".join([f"{at} lines, as they were typed", *listed]))
+
+    def back(self, count):
+        at = self.dialogue.at - (1 if count is None else count)
+        if at < self.dialogue.first():
+            raise ConsoleError(f"{self.dialogue.at - self.dialogue.first()} lines can be taken back")
+        return self.dialogue.go_to(at)
+
+    def go(self, line):
+        if line is None:
+            raise ConsoleError("~g wants the number of a line; ~l lists them")
+        lines = len(self.dialogue.steps) - self.dialogue.first()
+        if line > lines:
+            raise ConsoleError(f"there are {lines} lines")
+        before, old = self.dialogue.at, self.shown
+        found = self.dialogue.go_to(line + self.dialogue.first())
+        if self.dialogue.at > before:
+            self.shown = old
+            self.show(self.dialogue.played.term)
+            self.write(b"\n" * self.keyboard.person)
+        return found
+
+    def who(self, _):
+        tell("\n".join(self.processes()))
+
+    def processes(self):
+        return Processes(self.dialogue.played.log).told()
+
+    def runs_on(self):
+        everybody = self.processes()
+        busy = "; ".join([line for line in everybody if line.endswith(" runs")] or everybody)
+        tell(f"the machine runs on after {self.dialogue.limit} slots ({busy}); ~:run N gives it more, and what you type waits "
+             "for it")
+
+
+ORDERS = {"?": Console.help, "l": Console.list, "u": Console.back, "g": Console.go, "w": Console.who}
 
 
 def tell(text):
     print(f"\nconsole: {text}", file=sys.stderr, flush=True)
 
 
-def talk(console, keyboard, found, save):
-    """Reads lines until the end, or until nobody waits for a key."""
+def talk(console, found, save):
+    """Reads lines until the end, or until no key can change anything any more."""
+    many = MANY
     while found != OVER:
         if found == RUNS:
-            tell(f"the machine runs on after {console.limit} slots; ~:run N gives it more, and what you type waits for it")
+            console.runs_on()
+        elif found == SLEEPS:
+            tell("everybody sleeps for a time, and that is long: ~:clock 1000 and ~:run N let it pass")
         try:
-            line = keyboard.read()
+            if found == WAITS and console.add_all(many):
+                found, many = console.dialogue.state(), min(2 * many, MANY)
+                save()
+                continue
+            many = 16
+            line = console.keyboard.read()
             if line is None:
                 return
-            found = console.add(*line)
+            found = (console.add(line) if isinstance(line, Typed) else console.order(line)) or console.dialogue.state()
             save()
-        except ConsoleError as error:
-            tell(f"{error}\nconsole: this line is taken back")
+        except DialogueError as error:
+            console.refused = True
+            tell(f"{error}" + ("" if isinstance(error, ConsoleError) else "\nconsole: this line is taken back"))
+            console.prompt()
             found = WAITS
         except KeyboardInterrupt:
             tell("stopped; this line is taken back")
+            console.prompt()
             found = WAITS
     tell("nobody waits for a key any more: the run is over")
 
@@ -206,38 +248,63 @@ def options_of(words):
     parser.add_argument("--script", metavar="FILE", help="where the dialogue is kept; one that is there is gone on with")
     parser.add_argument("--disk", metavar="FILE", help="where the disk goes that the dialogue leaves")
     parser.add_argument("--v6", metavar="COMMAND", default=V6, help="the program (bin/v6)")
-    parser.add_argument("--core", type=number, default=1200, help="the size of core, in clicks (1200)")
+    parser.add_argument("--core", type=number, help=f"the size of core, in clicks ({CORE}, or that of the script)")
     parser.add_argument("--clock", type=number, default=0, help="a new dialogue has a tick after each N slots (0: none)")
     parser.add_argument("--slots", type=number, default=2000000, help="what a line is given at most (2000000)")
+    parser.add_argument("--replay", action="store_true", help="play a script also where it was typed at another disk or core")
+    add_version(parser)
     options = parser.parse_args(words)
     if options.slots < 1:
         parser.error("--slots: at least 1")
-    if options.script and options.disk and os.path.realpath(options.script) == os.path.realpath(options.disk):
-        parser.error("--script and --disk are the same file")
+    for one, other in (("script", "disk"), ("script", "image")):
+        if same_file(getattr(options, one), getattr(options, other)):
+            parser.error(f"{'--' * (one != 'image')}{one} and {'--' * (other != 'image')}{other} are the same file")
     return options
 
 
+def old_script(options):
+    """The lines of a script that is there, with the core that they were typed at."""
+    if not (options.script and os.path.exists(options.script)):
+        return [], None
+    lines = read_bytes(options.script).removesuffix(b"\n").split(b"\n")
+    found = HEADER.fullmatch(lines[0])
+    return (lines[1:] if found else lines if lines != [b""] else []), found
+
+
+def check_header(options, machine, found):
+    """A script goes on only over the disk and the core that it was typed at."""
+    if not found or options.replay or found[0] == machine.header:
+        return
+    same = HEADER.fullmatch(machine.header)[1] == found[1]
+    what = "with another size of core" if same else f"at another disk than {options.image}"
+    raise ConsoleError(f"{options.script} was typed {what}: another --script begins a new dialogue, and --replay plays this one")
+
+
 def run(options, folder):
+    old, found = old_script(options)
+    core = options.core if options.core is not None else int(found[2]) if found else CORE
+    machine = Machine(options.v6, options.image, core, folder)
     start = [b"clock %d" % options.clock] if options.clock else []
-    console = Console(Machine(options.v6, options.image, options.core, folder), options.slots, start)
+    console = Console(Dialogue(machine, options.slots, start), Keyboard(sys.stdin.buffer))
 
     def save():
         if options.script:
-            replace(options.script, b"".join(line + b"\n" for line in console.lines))
+            replace(options.script, console.dialogue.script())
 
-    old = read_bytes(options.script) if options.script and os.path.exists(options.script) else b""
     if options.disk:
         place_of(options.disk)  # what can't be written is told before anything is typed
     try:
-        found = console.begin(old.removesuffix(b"\n").split(b"\n") if old else [])
-    except ConsoleError as error:
+        check_header(options, machine, found)
+        found = console.dialogue.begin(old)
+        console.show(console.dialogue.played.term)
+    except DialogueError as error:
         tell(error)
         return 1
     save()
-    talk(console, Keyboard(sys.stdin.buffer), found, save)
+    talk(console, found, save)
     if options.disk:
-        replace(options.disk, read_bytes(console.machine.path("disk")))
-    return 0
+        replace(options.disk, machine.disk(console.dialogue.lines()))
+    return int(console.refused and not console.keyboard.person)
 
 
 def main(words):
@@ -247,6 +314,8 @@ def main(words):
             return run(options, folder)
     except ProgramError as error:
         tell(error)
+    except BrokenPipeError:
+        sys.stderr.close()
     except OSError as error:
         tell(told(error))
     except KeyboardInterrupt:

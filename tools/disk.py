@@ -1,44 +1,82 @@
 #!/usr/bin/env python3
-"""Takes files out of disks of the Sixth Edition, puts files in, and makes new disks: see docs/tools/disk.md."""
+"""Takes files out of disks of the Sixth Edition, puts files in, and makes, checks and repairs disks: see docs/tools/disk.md."""
 import argparse
+import datetime
 import os
-import re
-import stat
 import sys
 import tempfile
-from dataclasses import dataclass
 
 sys.path.insert(0, os.path.dirname(os.path.abspath(__file__)))
-from files import place_of, read_bytes, replace, told
-from program import V6, ProgramError, call
-from volume import BLOCKS, CHARACTER, DIRECTORY, FILE_BYTES, PLAIN, ROOT, DiskError, Volume, check_name, components, shown
+from archives import FORMS, Member
+from files import STREAMS, guarded, place_of, put_out, read_bytes, replace, same_file
+from program import V6, ProgramError, add_version, call
+from repair import Repair, grow
+from survey import Survey, damaged, walk
+from tree import KINDS, MOST_TIME, PERMISSIONS, Item, above, apply_table, number, own, place_all, plain_name, row, scan
+from volume import BLOCK, BLOCKS, DIRECTORY, PACK, PLAIN, ROOT, DiskError, Volume, check_name, components, shown
 
-PERMISSIONS = 0o7777
-KINDS = {PLAIN: "-", CHARACTER: "c", DIRECTORY: "d", BLOCKS: "b"}
-DEVICES = {"c": CHARACTER, "b": BLOCKS}
+MOST = PACK * BLOCK + 1  # what is read of a disk: one that is longer is too long
 
 
 # the file of the disk
 
 
-def check(v6, name):
+def check(v6, image, name):
     """Asks `v6 check` for the disk's first fault."""
-    status, said = call(v6, "check", name)
+    status, said = call(v6, "check", "/dev/stdin", data=image)
     if status:
         raise DiskError(f"{name}: {said}")
 
 
 def open_disk(options):
-    os.stat(options.disk)
-    check(options.v6, options.disk)
-    return Volume(read_bytes(options.disk))
+    """The volume of the disk, which v6 has accepted as it was read."""
+    options.image = read_bytes(options.disk, MOST)
+    check(options.v6, options.image, options.disk)
+    return Volume(options.image)
+
+
+def open_for_reading(options):
+    """The volume of a disk that isn't changed. It may fill a whole pack, which leaves no swap; and it may have any fault where
+    that is asked for."""
+    image = read_bytes(options.disk, MOST)
+    if options.damaged:
+        return damaged(image)
+    try:
+        check(options.v6, image, options.disk)
+    except DiskError as error:
+        volume = damaged(image)
+        if not str(error).endswith(f"file system of {volume.fsize} blocks leaves no swap") or volume.fsize > PACK:
+            raise
+        faults = Survey(image)
+        if faults.outside or faults.twice or len(faults.lines) > 1 or not volume.inode(ROOT).is_directory():
+            raise DiskError(f"{options.disk}: a pack with faults: `check` tells them, and --damaged reads it") from None
+        return volume
+    return Volume(image)
 
 
 def save(options, volume, short=False):
-    replace(options.disk, volume.image(short), look=lambda name: check(options.v6, name))
+    """Writes the disk beside its place, has it checked there, and puts it there, where the disk is still what was read."""
+    def look(name):
+        check(options.v6, read_bytes(name), options.disk)
+        if options.image is not None and read_bytes(options.disk, MOST) != options.image:
+            raise DiskError(f"{options.disk}: it has changed since it was read")
+
+    replace(options.disk, volume.image(short), look=look)
 
 
-# list
+def path_of(text):
+    return b"/" + b"/".join(components(os.fsencode(text)))
+
+
+def find(volume, path):
+    """The inode under a path; `#12` is the inode 12, and what follows is below it."""
+    top, _, rest = path.lstrip(b"/").partition(b"/")
+    if not (top.startswith(b"#") and top[1:].isdigit() and volume.is_used(int(top[1:]))):
+        return volume.find(path)
+    return volume.find(rest, int(top[1:]))
+
+
+# list, cat and get
 
 
 def bits(mode):
@@ -51,50 +89,51 @@ def bits(mode):
     return text
 
 
-def line(volume, number, path):
+def date(seconds):
+    return datetime.datetime.fromtimestamp(seconds, datetime.timezone.utc).strftime("%Y-%m-%d %H:%M:%S")
+
+
+def line(volume, number, path, long=False):
+    dates = "  " + " " * 19 if long else ""
     if not volume.is_used(number):
-        return f"{number:5}  ?                                   {shown(path)}"
+        return f"{number:5}  ?                                 {dates}  {shown(path)}"
     inode = volume.inode(number)
     device = inode.addresses[0]
     size = f"{device >> 8},{device & 255}" if inode.is_device() else str(inode.size)
     kind = KINDS[inode.mode & BLOCKS]
-    return f"{number:5}  {kind}{bits(inode.mode)} {inode.links:3} {inode.owner:3} {inode.group:3} {size:>9}  {shown(path)}"
-
-
-def walk(volume, number, path):
-    """A file and each one below it: its number, its path, and its name in its directory, which may be an odd one. A
-    directory is entered once, also where it has two names."""
-    waiting, met = [(number, path, path.split(b"/")[-1])], set()
-    while waiting:
-        number, path, name = waiting.pop()
-        yield number, path, name
-        if volume.is_used(number) and volume.inode(number).is_directory() and number not in met:
-            met.add(number)
-            entries = [entry for entry in volume.entries(volume.inode(number)) if entry[1] not in (b".", b"..")]
-            waiting += [(below, path.rstrip(b"/") + b"/" + name, name) for below, name in reversed(entries)]
+    dates = f"  {date(inode.changed)}" if long else ""
+    return (f"{number:5}  {kind}{bits(inode.mode)} {inode.links:3} {inode.owner:3} {inode.group:3} {size:>9}{dates}"
+            f"  {shown(path)}")
 
 
 def list_disk(options):
-    volume = open_disk(options)
-    path = b"/" + b"/".join(components(os.fsencode(options.path)))
-    for number, below, _ in walk(volume, volume.find(path), path):
-        print(line(volume, number, below))
+    volume = open_for_reading(options)
+    path = path_of(options.path)
+    tops = [(find(volume, path), path)]
+    if options.damaged and path == b"/":
+        tops = tops[: volume.inode(ROOT).is_directory()]
+        tops += [(inode, b"#%d" % inode) for inode in Survey(read_bytes(options.disk, MOST)).nameless()]
+    for top, path in tops:
+        for inode, below, _ in walk(volume, top, path):
+            print(line(volume, inode, below, options.long))
 
 
-# get
+def cat(options):
+    volume = open_for_reading(options)
+    for path in options.paths:
+        put_out("-", file_bytes(volume, path_of(path))[1])
 
 
-def row(volume, number, path):
-    """The line of a table for a file: see docs/tools/disk.md."""
-    inode = volume.inode(number)
-    name = shown(path).replace(" ", "\\040") + ("/" if inode.is_directory() and path != b"/" else "")
-    device = inode.addresses[0]
-    numbers = f" {KINDS[inode.mode & BLOCKS]} {device >> 8} {device & 255}" if inode.is_device() else ""
-    return f"{name} {inode.mode & PERMISSIONS:04o} {inode.owner} {inode.group}{numbers}\n"
+def file_bytes(volume, path):
+    """The inode of a file, or of a directory, and its bytes."""
+    inode = volume.inode(find(volume, path))
+    if inode.is_device():
+        raise DiskError(f"{shown(path)}: a device has no bytes")
+    return inode, volume.read(inode)
 
 
-def get_file(inode, data, target):
-    replace(target, data, 0o755 if inode.mode & 0o111 else 0o644)
+def get_file(volume, inode, data, target):
+    replace(target, data, 0o755 if inode.mode & 0o111 else 0o644, holes=volume.holes(inode))
 
 
 def refusal(volume, number, name, target, made):
@@ -110,212 +149,166 @@ def refusal(volume, number, name, target, made):
     return "a directory under a second name" if number in made else None
 
 
-def get_folder(volume, start, target, rows):
-    """Makes a folder of a directory, and tells what was passed over."""
-    made, absent = set(), set()
-    for number, path, name in walk(volume, start, b""):
-        if any(path.startswith(above + b"/") for above in absent):
-            continue
-        why = refusal(volume, number, name, target + path, made) if path else None
-        if why:
-            absent.add(path)
-            print(f"disk.py: {shown(path)}: passed over: {why}", file=sys.stderr)
-            continue
-        absent.discard(path)
-        rows.append(row(volume, number, path or b"/"))
-        inode = volume.inode(number)
+class Folder:
+    """A folder that is made of a directory of the disk, and its table."""
+
+    def __init__(self, volume, target, table):
+        self.volume, self.target, self.table = volume, target, table
+        self.rows, self.made, self.names = [], set(), {}
+        self.devices, self.others = 0, 0
+
+    def fill(self, start):
+        absent = set()
+        for number, path, name in walk(self.volume, start, b""):
+            if any(path.startswith(above + b"/") for above in absent):
+                continue
+            why = refusal(self.volume, number, name, self.target + path, self.made) if path else None
+            if why:
+                absent.add(path)
+                print(f"disk.py: {shown(path)}: passed over: {why}", file=sys.stderr)
+                continue
+            absent.discard(path)
+            self.put(number, path)
+        if not self.table and (self.devices or self.others):
+            print(f"disk.py: {self.devices} devices, and modes, owners or times of {self.others} files are not in the folder: "
+                  "--table FILE keeps them", file=sys.stderr)
+
+    def put(self, number, path):
+        inode = self.volume.inode(number)
+        if number in self.names:
+            self.rows.append(f"{plain_name(path)} = {plain_name(self.names[number])}\n")
+            if not inode.is_device():
+                os.link(self.target + self.names[number], self.target + path)
+            return
+        self.rows.append(row(self.volume, number, path or b"/"))
         if inode.is_directory():
-            made.add(number)
-            os.mkdir(target + path)
-        elif not inode.is_device():
-            get_file(inode, volume.read(inode), target + path)
+            self.made.add(number)
+            os.mkdir(self.target + path)
+        else:
+            self.names[number] = path
+            self.devices += inode.is_device()
+        if inode.mode & BLOCKS == PLAIN:
+            get_file(self.volume, inode, self.volume.read(inode), self.target + path)
+        usual = (0o755,) if inode.is_directory() else (0o644, 0o755)
+        times = (inode.accessed, inode.changed) == (self.volume.time,) * 2
+        self.others += not (inode.is_device() or times and (inode.owner, inode.group) == (0, 0) and inode.mode & PERMISSIONS in usual)
 
 
 def get(options):
-    volume = open_disk(options)
-    path = b"/" + b"/".join(components(os.fsencode(options.path)))
-    number, target, rows = volume.find(path), os.fsencode(options.out), []
-    inode, name = volume.inode(number), b"/" + path.split(b"/")[-1]
+    volume = open_for_reading(options)
+    path = path_of(options.path)
+    if options.form:
+        put_out(options.out, FORMS[options.form][1](members_of(volume, find(volume, path), path)))
+        return
+    start, target = find(volume, path), os.fsencode(options.out)
+    inode, name = volume.inode(start), b"/" + path.split(b"/")[-1]
     if inode.is_device():
         raise DiskError(f"{shown(path)}: a device has no bytes")
     if options.table:
         place_of(options.table)
     if inode.is_directory():
-        if os.path.lexists(target):
-            raise DiskError(f"{options.out}: there already, and a folder is to be made")
-        with tempfile.TemporaryDirectory(dir=os.path.dirname(os.path.abspath(target)), prefix=b".new-") as beside:
-            get_folder(volume, number, beside + b"/it", rows)
-            os.rename(beside + b"/it", target)
+        rows = get_folder(options, volume, start, target)
     else:
-        get_file(inode, volume.read(inode), target + name if os.path.isdir(target) else target)
-        rows.append(row(volume, number, name))
+        data, rows = volume.read(inode), [row(volume, start, name)]
+        if options.out in STREAMS:
+            put_out(options.out, data)
+        else:
+            get_file(volume, inode, data, target + name if os.path.isdir(target) else target)
     if options.table:
-        replace(options.table, "".join(rows).encode("ascii"))
+        sizes = f"disk {volume.fsize} {16 * volume.isize} {volume.time}\n"
+        replace(options.table, (sizes + "".join(rows)).encode("ascii"))
+
+
+def members_of(volume, start, path):
+    """The files below a directory, or a file, for an archive; what isn't a plain file is passed over, and told."""
+    members, top = [], path.rstrip(b"/")
+    for number, full, name in walk(volume, start, path):
+        if not volume.is_used(number) or volume.inode(number).is_device():
+            print(f"disk.py: {shown(full)}: passed over: no file", file=sys.stderr)
+            continue
+        inode = volume.inode(number)
+        if not inode.is_directory():
+            inner = full[len(top) + 1 :] if full != path else name
+            members.append(Member(inner, volume.read(inode), inode.changed, inode.mode & PERMISSIONS, inode.owner, inode.group))
+    return members
+
+
+def get_folder(options, volume, start, target):
+    if os.path.lexists(target):
+        raise DiskError(f"{options.out}: there already, and a folder is to be made")
+    with tempfile.TemporaryDirectory(dir=os.path.dirname(os.path.abspath(target)), prefix=b".new-") as beside:
+        folder = Folder(volume, beside + b"/it", options.table)
+        folder.fill(start)
+        os.rename(beside + b"/it", target)
+    return folder.rows
 
 
 # put and new
 
 
-@dataclass
-class Item:
-    """What is to be on a disk: a directory with what is below it, a device, or a file of the host."""
-
-    mode: int
-    source: bytes = b""
-    owner: int = 0
-    group: int = 0
-    device: int = 0
-    below: dict = None
-
-
-def scan(source):
-    """The item for a file or a folder of the host, with all that is below it."""
-    root = alone(source)
-    waiting = [(source, root)]
-    for folder, item in waiting:
-        for name in sorted(os.listdir(folder)) if item.below is not None else ():
-            path = os.path.join(folder, name)
-            item.below[name] = alone(path)
-            waiting.append((path, item.below[name]))
-    return root
-
-
-def alone(source):
-    """The item for a file of the host, or for a folder as if it were empty."""
-    mode = os.lstat(source).st_mode
-    if stat.S_ISDIR(mode):
-        return Item(DIRECTORY | 0o755, below={})
-    if not stat.S_ISREG(mode):
-        kind = "a symbolic link" if stat.S_ISLNK(mode) else "a socket, a pipe or a device"
-        raise DiskError(f"{os.fsdecode(source)}: {kind}, and only files and folders can be put on a disk")
-    size = os.path.getsize(source)
-    if size > FILE_BYTES:
-        raise DiskError(f"{os.fsdecode(source)}: {size} bytes are too many for a file: at most {FILE_BYTES}")
-    return Item(0o755 if mode & 0o100 else 0o644, source)
-
-
-def number(text, base, most, what):
-    try:
-        value = int(text, base)
-    except ValueError:
-        value = -1
-    if not (text.isdigit() and 0 <= value <= most):
-        raise DiskError(f"'{text}': no {what}")
-    return value
-
-
-def read_row(words):
-    """A line of a table: its path, whether it is a directory's, and the item."""
-    if len(words) not in (2, 4, 7) or not words[0].startswith("/"):
-        raise DiskError("PATH MODE, PATH MODE OWNER GROUP, or these and c or b MAJOR MINOR is wanted")
-    path = re.sub(rb"\\([0-3][0-7][0-7])", lambda m: bytes([int(m[1], 8)]), os.fsencode(words[0]))
-    item = Item(number(words[1], 8, PERMISSIONS, "mode: four octal digits, at most 7777"))
-    if len(words) > 2:
-        item.owner, item.group = (number(word, 10, 255, "owner or group: 0 to 255") for word in words[2:4])
-    if len(words) == 7:
-        if words[4] not in DEVICES:
-            raise DiskError(f"'{words[4]}': a device is c or b")
-        major, minor = (number(word, 10, 255, "number of a device: 0 to 255") for word in words[5:])
-        item.mode, item.device = item.mode | DEVICES[words[4]], major << 8 | minor
-    elif path.endswith(b"/"):
-        item.mode, item.below = item.mode | DIRECTORY, {}
-    return components(path), item
-
-
-def apply_row(root, names, item):
-    """Puts a line of a table into the tree of a folder: the modes of what is there, devices and directories that aren't."""
-    at = root
-    for name in names[:-1]:
-        at = at.below.setdefault(name, Item(DIRECTORY | 0o755, below={}))
-        if at.below is None:
-            raise DiskError(f"{shown(name)}: not a directory")
-    there = at.below.get(names[-1]) if names else root
-    kind = item.mode & BLOCKS
-    if there is None and kind == PLAIN:
-        raise DiskError("the folder has no such file; the path of a directory ends with a slash")
-    if there is None:
-        at.below[names[-1]] = item
-    elif there.mode & BLOCKS != kind:
-        raise DiskError("the folder has something else under this name")
-    else:
-        there.mode, there.owner, there.group = item.mode, item.owner, item.group
-
-
-def apply_table(root, name):
-    for count, text in enumerate(read_bytes(name).decode("ascii", "replace").split("\n"), 1):
-        words = text.split()
-        if words and not words[0].startswith("#"):
-            try:
-                apply_row(root, *read_row(words))
-            except DiskError as error:
-                raise DiskError(f"{name}: line {count}: {error}") from None
-
-
-def place(volume, directory, name, item, time):
-    """An item under a name of a directory of the disk. What is there already keeps its mode and its owner."""
-    there = volume.look(directory, name)
-    if there is not None and volume.inode(there).mode & BLOCKS != item.mode & BLOCKS:
-        raise DiskError("the disk has something else under this name")
-    if there is None:
-        if item.below is not None:
-            there = volume.make_directory(directory, name, item.mode & PERMISSIONS, time)
-        else:
-            there = volume.make(directory, name, item.mode, time, item.device)
-        own(volume, there, item)
-    if item.below is None and not item.mode & CHARACTER:
-        volume.write_file(there, read_bytes(item.source), time)
-    return there
-
-
-def own(volume, inode_number, item):
-    inode = volume.inode(inode_number)
-    inode.mode = inode.mode & ~PERMISSIONS | item.mode & PERMISSIONS
-    inode.owner, inode.group = item.owner, item.group
-    volume.set_inode(inode_number, inode)
-
-
-def place_all(volume, directory, path, root, time):
-    """What is below an item, level by level and each level by the names' bytes."""
-    waiting = [(directory, path, root)]
-    for directory, path, item in waiting:
-        for name, below in sorted(item.below.items()):
-            full = path.rstrip(b"/") + b"/" + name
-            try:
-                there = place(volume, directory, name, below, time)
-            except DiskError as error:
-                raise DiskError(f"{shown(full)}: {error}") from None
-            if below.below is not None:
-                waiting.append((there, full, below))
-
-
 def put(options):
     volume = open_disk(options)
-    time = volume.time if options.time is None else options.time
+    time = time_of(options, volume)
     source = os.fsencode(options.source)
-    item, names = scan(source), components(os.fsencode(options.path))
-    try:
-        at = volume.find(b"/".join(names))
-    except DiskError:
-        at = None
+    item, names = items_of(options, source) if options.form else scan(source), components(os.fsencode(options.path))
+    at = maybe(volume, names)
     if item.below is None and at is not None and volume.inode(at).is_directory():
+        if source == b"-":
+            raise DiskError("-: a name on the disk is wanted for the standard input")
         names.append(os.path.basename(source))
     if item.below is not None and at is not None and volume.inode(at).is_directory():
         place_all(volume, at, b"/" + b"/".join(names), item, time)
     else:
-        if not names:
-            raise DiskError("the root is a directory")
-        above = b"/" + b"/".join(names[:-1])
-        parent = volume.find(above)
-        if not volume.inode(parent).is_directory():
-            raise DiskError(f"{shown(above)}: not a directory")
-        place_all(volume, parent, above, Item(DIRECTORY, below={names[-1]: item}), time)
+        parent, name, folder = parent_of(volume, names)
+        place_all(volume, parent, folder, Item(0, below={name: item}), time)
     if options.mode is not None:
         if item.below is not None:
             raise DiskError("--mode is for a file")
-        changed = volume.find(b"/".join(names))
-        inode = volume.inode(changed)
-        own(volume, changed, Item(options.mode, owner=inode.owner, group=inode.group))
+        set_mode(volume, volume.find(b"/".join(names)), options.mode)
     save(options, volume)
+
+
+def items_of(options, source):
+    """What is in an archive, as the folder that it is of."""
+    root = Item(DIRECTORY | 0o755, below={})
+    try:
+        for one in FORMS[options.form][0](read_bytes(source)):
+            names = components(one.path)
+            if not names:
+                raise DiskError("a file without a name")
+            mode = 0o644 if one.mode is None else one.mode
+            above(root, names).below[names[-1]] = Item(mode, b"", one.owner, one.group, times=(one.time, one.time), data=one.data)
+    except DiskError as error:
+        raise DiskError(f"{options.source}: {error}") from None
+    return root
+
+
+def time_of(options, volume):
+    return volume.time if options.time is None else options.time
+
+
+def maybe(volume, names):
+    """The inode under a path, or None."""
+    try:
+        return volume.find(b"/".join(names))
+    except DiskError:
+        return None
+
+
+def parent_of(volume, names):
+    """The directory of a path, the last name, and the directory's path."""
+    if not names:
+        raise DiskError("the root is a directory")
+    folder = b"/" + b"/".join(names[:-1])
+    parent = volume.find(folder)
+    if not volume.inode(parent).is_directory():
+        raise DiskError(f"{shown(folder)}: not a directory")
+    return parent, names[-1], folder
+
+
+def set_mode(volume, at, mode):
+    inode = volume.inode(at)
+    own(volume, at, Item(mode, owner=inode.owner, group=inode.group))
 
 
 def new(options):
@@ -324,13 +317,159 @@ def new(options):
     root = scan(os.fsencode(options.folder))
     if root.below is None:
         raise DiskError(f"{options.folder}: not a folder")
-    if options.table:
-        apply_table(root, options.table)
-    volume = Volume.empty(options.blocks, options.inodes, options.time or 0)
+    sizes = (apply_table(root, options.table) if options.table else None) or (4000, 960, 0)
+    given = (options.blocks, options.inodes, options.time)
+    blocks, inodes, time = (old if one is None else one for one, old in zip(given, sizes))
+    volume = Volume.empty(blocks, inodes, time)
     own(volume, ROOT, root)
-    place_all(volume, ROOT, b"/", root, options.time or 0)
-    volume.length = options.blocks * 512
+    place_all(volume, ROOT, b"/", root, time)
+    volume.length = blocks * BLOCK
     save(options, volume, options.short)
+
+
+# what changes names
+
+
+def make_directory(options):
+    volume = open_disk(options)
+    for path in options.paths:
+        names = components(os.fsencode(path))
+        parent, name, _ = parent_of(volume, names)
+        refuse_if_there(volume, parent, name, path)
+        volume.make_directory(parent, name, 0o755, time_of(options, volume))
+    save(options, volume)
+
+
+def refuse_if_there(volume, parent, name, path):
+    if name in (b".", b"..") or volume.look(parent, name) is not None:
+        raise DiskError(f"{path}: there already")
+
+
+def remove(options):
+    volume = open_disk(options)
+    for path in options.paths:
+        names = components(os.fsencode(path))
+        parent, name, _ = parent_of(volume, names)
+        volume.find(b"/".join(names))
+        remove_entry(volume, parent, name, options.all, path, time_of(options, volume))
+    save(options, volume)
+
+
+def remove_entry(volume, parent, name, everything, path, time):
+    """Takes a name out of a directory, and what is below a directory before it."""
+    if name in (b".", b".."):
+        raise DiskError(f"{path}: a directory keeps its entries . and ..")
+    at = volume.look(parent, name)
+    if at is not None and volume.inode(at).is_directory():
+        below = [entry for _, entry in volume.entries(volume.inode(at)) if entry not in (b".", b"..")]
+        if below and not everything:
+            raise DiskError(f"{path}: a directory that isn't empty; -r removes what is in it")
+        for entry in below:
+            remove_entry(volume, at, entry, True, f"{path}/{shown(entry)}", time)
+        for own_name, up in ((b".", at), (b"..", parent)):
+            if own_name in volume.directory(at).names:
+                volume.remove(at, own_name, time) if own_name == b"." else volume.link(up, -1)
+    volume.remove(parent, name, time)
+
+
+def link(options):
+    volume = open_disk(options)
+    old = volume.find(path_of(options.old))
+    if volume.inode(old).is_directory():
+        raise DiskError(f"{options.old}: a directory has one name")
+    parent, name, _ = target_of(volume, options)
+    refuse_if_there(volume, parent, name, options.new)
+    volume.enter(parent, name, old, time_of(options, volume))
+    save(options, volume)
+
+
+def target_of(volume, options):
+    """Where a new name goes: a path, or a directory, where the old name is kept."""
+    names = components(os.fsencode(options.new))
+    at = maybe(volume, names)
+    if at is not None and volume.inode(at).is_directory():
+        names.append(components(os.fsencode(options.old))[-1])
+    return parent_of(volume, names)
+
+
+def move(options):
+    volume, time = open_disk(options), None
+    time = time_of(options, volume)
+    names = components(os.fsencode(options.old))
+    from_parent, from_name, _ = parent_of(volume, names)
+    old = volume.find(b"/".join(names))
+    parent, name, folder = target_of(volume, options)
+    if from_name in (b".", b"..") or old in ancestors(volume, folder):
+        raise DiskError(f"{options.old}: a directory can't go below itself")
+    there = volume.look(parent, name)
+    if there == old:
+        raise DiskError(f"{options.old} and {options.new} are one file")
+    if there is not None and (volume.inode(there).is_directory() or volume.inode(old).is_directory()):
+        raise DiskError(f"{options.new}: there already")
+    if there is not None:
+        volume.remove(parent, name, time)
+    volume.enter(parent, name, old, time)
+    volume.remove(from_parent, from_name, time)
+    if volume.inode(old).is_directory() and parent != from_parent:
+        at, _ = volume.directory(old).names[b".."]
+        volume.set_entry(old, at, parent, b"..", time)
+        del volume.directories[old]
+        volume.link(from_parent, -1)
+        volume.link(parent, 1)
+    save(options, volume)
+
+
+def ancestors(volume, path):
+    names = components(path)
+    return [volume.find(b"/".join(names[:count])) for count in range(1, len(names) + 1)]
+
+
+def change_mode(options):
+    volume = open_disk(options)
+    for path in options.paths:
+        set_mode(volume, volume.find(path_of(path)), options.mode)
+    save(options, volume)
+
+
+def change_owner(options):
+    volume = open_disk(options)
+    for path in options.paths:
+        at = volume.find(path_of(path))
+        own(volume, at, Item(volume.inode(at).mode, owner=options.owner, group=options.group))
+    save(options, volume)
+
+
+# the disk as a whole
+
+
+def grow_disk(options):
+    volume = open_disk(options)
+    blocks = options.blocks if options.blocks is not None else volume.fsize
+    grow(volume, blocks, -(-options.inodes // 16) if options.inodes is not None else volume.isize)
+    save(options, volume)
+
+
+def check_disk(options):
+    """Tells all faults; the status is 1 where there is any."""
+    image = read_bytes(options.disk, MOST)
+    lines = Survey(image).report()
+    for text in lines:
+        print(f"{options.disk}: {text}")
+    return int(bool(lines))
+
+
+def repair_disk(options):
+    if os.path.lexists(options.new) and not options.replace:
+        raise DiskError(f"{options.new}: there already; --replace makes it anew")
+    if same_file(options.disk, options.new):
+        raise DiskError(f"{options.new}: the damaged disk itself, which is kept")
+    repair = Repair(read_bytes(options.disk, MOST))
+    image = repair.image()
+    replace(options.new, image, look=lambda name: check(options.v6, read_bytes(name), options.new))
+    for text in repair.lost:
+        print(f"{options.disk}: lost: {text}")
+    kept = sum(item is not None for item in repair.items.values())
+    print(f"{options.new}: {kept} files and directories, {len(repair.lost)} lost")
 
 
 # the command line
@@ -341,51 +480,80 @@ def octal(text):
 
 
 def seconds(text):
-    return number(text, 10, 2**32 - 1, "time: 0 to 4294967295 seconds")
+    return number(text, 10, MOST_TIME, f"time: 0 to {MOST_TIME} seconds")
+
+
+def byte(text):
+    return number(text, 10, 255, "owner or group: 0 to 255")
+
+
+class Commands:
+    """The words of each command."""
+
+    def __init__(self, parser):
+        self.all = parser.add_subparsers(dest="command", required=True, metavar="COMMAND")
+
+    def add(self, name, does, about, *places, **options):
+        one = self.all.add_parser(name, help=about, description=about)
+        one.set_defaults(does=does, image=None, damaged=False)
+        one.add_argument("disk")
+        for where in places:
+            one.add_argument(where, **({"nargs": "+"} if where == "paths" else {}))
+        for option, (what, told) in options.items():
+            flag = {"action": "store_true"} if what is bool else {"type": what} if what else {}
+            one.add_argument("--" + option, help=told, **flag)
+        return one
+
+
+DAMAGED = {"damaged": (bool, "read what can be read of a disk with faults")}
+TIME = {"time": (seconds, "the time of what is put, in seconds")}
+REPLACE = {"replace": (bool, "in the place of a disk that is there")}
 
 
 def options_of(words):
     parser = argparse.ArgumentParser(prog="disk.py", description="Disks of the Sixth Edition: docs/tools/disk.md")
     parser.add_argument("--v6", metavar="COMMAND", default=V6, help="the program that checks disks (bin/v6)")
-    commands = parser.add_subparsers(dest="command", required=True)
-
-    def command(name, does, about, *places):
-        one = commands.add_parser(name, help=about, description=about)
-        one.set_defaults(does=does)
-        for where in places:
-            one.add_argument(where)
-        return one
-
-    listing = command("list", list_disk, "lists what is on a disk", "disk")
+    add_version(parser)
+    add = Commands(parser).add
+    listing = add("list", list_disk, "lists what is on a disk", **DAMAGED)
     listing.add_argument("path", nargs="?", default="/")
-    getting = command("get", get, "takes a file or a folder out of a disk", "disk", "path", "out")
-    getting.add_argument("--table", help="write a table of modes, owners and devices to this file")
-    putting = command("put", put, "puts a file or a folder on a disk", "disk", "source", "path")
-    putting.add_argument("--mode", type=octal, help="the permissions of the file, in octal")
-    making = command("new", new, "makes a disk of a folder", "disk", "folder")
-    making.add_argument("--table", help="a table of modes, owners and devices")
-    making.add_argument("--blocks", type=int, default=4000, help="the size of the file system (4000)")
-    making.add_argument("--inodes", type=int, default=960, help="how many files it can have (960)")
-    making.add_argument("--short", action="store_true", help="leave out the zeros at the end")
-    making.add_argument("--replace", action="store_true", help="in the place of a disk that is there")
-    for one in (putting, making):
-        one.add_argument("--time", type=seconds, help="the time of what is put, in seconds")
+    listing.add_argument("-l", dest="long", action="store_true", help="with the time of the last change")
+    add("cat", cat, "writes files of a disk to the standard output", "paths", **DAMAGED)
+    getting = add("get", get, "takes a file or a folder out of a disk", "path", "out", **DAMAGED,
+                  table=(None, "write a table of modes, owners, times and devices to this file"))
+    putting = add("put", put, "puts a file or a folder on a disk", "source", "path", **TIME,
+                  mode=(octal, "the permissions of the file, in octal"))
+    for one in (getting, putting):
+        one.add_argument("--as", dest="form", choices=FORMS, help="an archive of ar(I), a tape of tp(I), or one of SIMH")
+    making = add("new", new, "makes a disk of a folder", "folder", **TIME, **REPLACE,
+                 table=(None, "a table of modes, owners, times and devices"), short=(bool, "leave out the zeros at the end"))
+    growing = add("grow", grow_disk, "gives a disk more blocks and inodes")
+    for one in (making, growing):
+        one.add_argument("--blocks", type=int, help="the size of the file system (4000 for a new one)")
+        one.add_argument("--inodes", type=int, help="how many files it can have (960 for a new one)")
+    add("mkdir", make_directory, "makes directories", "paths", **TIME)
+    removing = add("rm", remove, "removes files and empty directories", "paths", **TIME)
+    removing.add_argument("-r", dest="all", action="store_true", help="directories with all that is in them")
+    add("mv", move, "gives a file or a directory another name", "old", "new", **TIME)
+    add("ln", link, "gives a file a second name", "old", "new", **TIME)
+    modes = add("chmod", change_mode, "sets permissions")
+    modes.add_argument("mode", type=octal)
+    owners = add("chown", change_owner, "sets owner and group, by their numbers")
+    owners.add_argument("owner", type=byte)
+    owners.add_argument("group", type=byte)
+    for one in (modes, owners):
+        one.add_argument("paths", nargs="+")
+    add("check", check_disk, "tells all faults of a disk")
+    add("repair", repair_disk, "makes a good disk of what is whole on a damaged one", "new", **REPLACE)
     return parser.parse_args(words)
 
 
 def main(words):
-    try:
+    def body():
         options = options_of(words)
-        options.does(options)
-    except (DiskError, ProgramError) as error:
-        print(f"disk.py: {error}", file=sys.stderr)
-        return 1
-    except OSError as error:
-        print(f"disk.py: {told(error)}", file=sys.stderr)
-        return 1
-    except KeyboardInterrupt:
-        return 130
-    return 0
+        return options.does(options)
+
+    return guarded("disk.py", body, DiskError, ProgramError)
 
 
 if __name__ == "__main__":

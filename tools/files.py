@@ -1,19 +1,97 @@
 """Files of the host that the tools read and write."""
 import errno
 import os
+import signal
 import stat
+import sys
 import tempfile
+
+BLOCK = 512  # in which holes are counted
+STREAMS = ("-", b"-", "/dev/stdout", b"/dev/stdout")
 
 
 def told(error):
-    """What an OSError says, behind the name of its file, where it has one."""
+    """What an OSError says, after the name of its file, where it has one."""
     name = "" if error.filename is None else (os.fsdecode(error.filename) or "''") + ": "
     return f"{name}{error.strerror}"
 
 
-def read_bytes(name):
+def guarded(tool, body, *known, failed=1):
+    """The status of a tool: what `body` gives, or `failed` where it fails with an error of the host or a known one, which is told
+    in a line. An interrupt, also by another program's signal, ends it as an error does, so that nothing is left beside a
+    file; so does a pipe that is closed, without a word."""
+    for number in (signal.SIGTERM, signal.SIGHUP):
+        if signal.getsignal(number) == signal.SIG_DFL:
+            signal.signal(number, _interrupt)
+    try:
+        status = body() or 0
+        sys.stdout.flush()
+        return status
+    except BrokenPipeError:
+        os.dup2(os.open(os.devnull, os.O_WRONLY), 1)
+        return 128 + signal.SIGPIPE
+    except OSError as error:
+        print(f"{tool}: {told(error)}", file=sys.stderr)
+    except known as error:
+        print(f"{tool}: {error}", file=sys.stderr)
+    except KeyboardInterrupt:
+        return 128 + signal.SIGINT
+    return failed
+
+
+def _interrupt(*_):
+    raise KeyboardInterrupt
+
+
+def read_bytes(name, most=-1):
+    """The bytes of a file, or the first of them; those of the standard input for `-`."""
+    if name in ("-", b"-"):
+        return sys.stdin.buffer.read(most)
     with open(name, "rb") as file:
-        return file.read()
+        return file.read(most)
+
+
+def read_sparse(name):
+    """The bytes of a file, and the numbers of the blocks that lie in its holes."""
+    if name in ("-", b"-"):
+        return sys.stdin.buffer.read(), []
+    with open(name, "rb") as file:
+        data = file.read()
+        return data, holes_of(file.fileno(), len(data))
+
+
+def holes_of(handle, size):
+    """The blocks of an open file, of this size, that lie in holes. A host that doesn't tell has none."""
+    holes, at = [], 0
+    try:
+        while at < size:
+            try:
+                start = min(os.lseek(handle, at, os.SEEK_DATA), size)
+            except OSError as error:
+                if error.errno != errno.ENXIO:
+                    raise
+                start = size
+            end = -(-size // BLOCK) if start == size else start // BLOCK
+            holes += range(-(-at // BLOCK), end)
+            at = os.lseek(handle, start, os.SEEK_HOLE) if start < size else size
+    except OSError:
+        return []
+    return holes
+
+
+def write_sparse(file, data, holes):
+    """Writes bytes to a new file, but not the blocks of its holes."""
+    without = set(holes)
+    for at in range(0, len(data), BLOCK):
+        if at // BLOCK not in without:
+            file.seek(at)
+            file.write(data[at : at + BLOCK])
+    file.truncate(len(data))
+
+
+def same_file(one, other):
+    """Whether two names, of which one may be missing, are of one file."""
+    return bool(one and other) and os.path.realpath(one) == os.path.realpath(other)
 
 
 def place_of(name):
@@ -30,7 +108,17 @@ def place_of(name):
     return place
 
 
-def replace(name, data, mode=0o644, look=None):
+def put_out(name, data, mode=0o644):
+    """The bytes of an output: a file is replaced, and `-` and /dev/stdout are the standard output."""
+    if name in STREAMS:
+        sys.stdout.flush()
+        sys.stdout.buffer.write(data)
+        sys.stdout.buffer.flush()
+    else:
+        replace(name, data, mode)
+
+
+def replace(name, data, mode=0o644, look=None, holes=()):
     """Makes these the bytes of a file. They are written beside it first, and `look` is asked about them there, so that the
     file is never half written. One that is there keeps its permissions."""
     place, beside = place_of(name), None
@@ -38,7 +126,10 @@ def replace(name, data, mode=0o644, look=None):
         prefix = b".new-" if isinstance(name, bytes) else ".new-"
         handle, beside = tempfile.mkstemp(dir=os.path.dirname(place), prefix=prefix)
         with os.fdopen(handle, "wb") as file:
-            file.write(data)
+            if holes:
+                write_sparse(file, data, holes)
+            else:
+                file.write(data)
         os.chmod(beside, stat.S_IMODE(os.stat(place).st_mode) if os.path.exists(place) else mode)
         if look:
             look(beside)

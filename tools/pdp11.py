@@ -32,7 +32,12 @@ OTHERS = {
     "call": {"sys": 0o104400},
     "": {"wait": 0o000001, "rti": 0o000002, "bpt": 0o000003, "iot": 0o000004, "reset": 0o000005, "rtt": 0o000006},
 }
-SECOND_NAMES = {"bec": "bcc", "bes": "bcs", "bhis": "bcc", "blo": "bcs"}
+SECOND_NAMES = {"bec": "bcc", "bes": "bcs", "bhis": "bcc", "blo": "bcs", "mpy": "mul", "dvd": "div", "als": "ash",
+                "alsc": "ashc"}
+# Jumps that are branches where the target is near: by their names the opposite branch, if they have a condition.
+JUMPS = {"jbr": None, "jne": "beq", "jeq": "bne", "jge": "blt", "jlt": "bge", "jgt": "ble", "jle": "bgt", "jpl": "bmi",
+         "jmi": "bpl", "jhi": "blos", "jlos": "bhi", "jvc": "bvs", "jvs": "bvc", "jcc": "bcs", "jec": "bcs", "jhis": "bcs",
+         "jcs": "bcc", "jes": "bcc", "jlo": "bcc"}
 INSTRUCTIONS = {name: (form, word) for part in (WORDS, BYTES, OTHERS) for form, table in part.items()
                 for name, word in table.items()}
 

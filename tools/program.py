@@ -1,21 +1,38 @@
 """The program v6: which command it is, and what it answers."""
+import argparse
+import hashlib
 import os
 import shlex
 import subprocess
 
 TOP = os.path.dirname(os.path.dirname(os.path.abspath(__file__)))
+CORE = 3968  # clicks: as much as a machine may have; 1200 are too few for a larger program
 V6 = os.environ.get("V6") or shlex.quote(os.path.join(TOP, "bin", "v6"))
+
+
+class Version(argparse.Action):
+    """Tells which program the tools stand beside: the first digits of the sha256 of bin/v6."""
+
+    def __call__(self, parser, *_):
+        with open(os.path.join(TOP, "bin", "v6"), "rb") as file:
+            print(f"{parser.prog} of the repository whose bin/v6 is {hashlib.sha256(file.read()).hexdigest()[:12]}")
+        parser.exit()
+
+
+def add_version(parser):
+    parser.add_argument("--version", action=Version, nargs=0, help="which program stands beside this tool")
 
 
 class ProgramError(Exception):
     """Why the program can't be started; the text tells it."""
 
 
-def call(command, *words):
-    """The program's status, and the line that it says."""
+def call(command, *words, data=None):
+    """The program's status, and the line that it says. It gets these bytes as its standard input."""
     try:
-        done = subprocess.run([*shlex.split(command), *words], capture_output=True, text=True)
+        done = subprocess.run([*shlex.split(command), *words], input=data, capture_output=True)
     except (OSError, ValueError) as error:
         why = error.strerror if isinstance(error, OSError) else error
         raise ProgramError(f"{command}: {why}: the program v6 is wanted; --v6 names it") from None
-    return done.returncode, (done.stdout + done.stderr).strip() or f"status {done.returncode}"
+    said = (done.stdout + done.stderr).decode("utf-8", "replace").strip()
+    return done.returncode, said or f"status {done.returncode}"

@@ -1,13 +1,16 @@
 """A disk of the Sixth Edition in memory: its inodes, its files, its directories and its free blocks.
 
 The layout is that of docs/manual/disk-image.md, the free list goes by docs/manual/blocks.md. A `Volume` is made of an
-image that `v6 check` has accepted, so no address is outside and no block comes twice.
+image that `v6 check` has accepted, so no address is outside and no block comes twice; or of one that is read alone, whose
+addresses outside count as blocks that a file doesn't hold.
 """
+import heapq
 import struct
 from dataclasses import dataclass, field
 
 BLOCK = 512
 SWAP = 4000  # the first block of the swap area: a file system ends here at the latest
+PACK = 4872  # blocks of a disk
 ROOT = 1
 NAME_BYTES, ENTRY_BYTES = 14, 16
 FILE_BYTES, DIRECTORY_BYTES = 2**24 - 1, 65520
@@ -62,12 +65,36 @@ class Inode:
         return self.mode & TYPE in (CHARACTER, BLOCKS)
 
 
-def blocks_for(size):
-    """How many blocks a file of this many bytes holds, with its indirect ones."""
-    data = -(-size // BLOCK)
-    if data <= DIRECT:
-        return data
-    return data + -(-data // IN_BLOCK) + (data > SINGLE)
+def blocks_for(held):
+    """How many blocks a file takes that holds these of its own, in rising order, with its indirect ones."""
+    if not held or held[-1] < DIRECT:
+        return len(held)
+    return len(held) + len({0} | {number // IN_BLOCK for number in held}) + (held[-1] >= SINGLE)
+
+
+def length(size):
+    """How many blocks these bytes have."""
+    return -(-size // BLOCK)
+
+
+class Directory:
+    """Where the names of a directory stand, so that one of many is found at once."""
+
+    def __init__(self, data):
+        self.end = len(data) // ENTRY_BYTES * ENTRY_BYTES
+        self.names, self.empty = {}, []
+        for at in range(0, self.end, ENTRY_BYTES):
+            number, name = struct.unpack_from("<H14s", data, at)
+            if number:
+                self.names.setdefault(name.rstrip(b"\0"), (at, number))
+            else:
+                self.empty.append(at)
+
+    def put(self, at, name, number):
+        self.names.setdefault(name, (at, number))
+        if self.names[name][0] == at:
+            self.names[name] = at, number
+        self.end = max(self.end, at + ENTRY_BYTES)
 
 
 class Volume:
@@ -82,6 +109,8 @@ class Volume:
         self.spares = list(fields[104 : 104 + spares])
         self.flags = fields[204:208]
         self.time = fields[208] << 16 | fields[209]
+        self.directories = {}  # by their numbers, those whose names were asked for
+        self.free = None  # how many blocks are free, where that was counted
 
     @staticmethod
     def empty(blocks, inodes, time):
@@ -144,9 +173,16 @@ class Volume:
             raise DiskError("no block is free")
         self.group = self.group or self.group_in(block)
         self.change(block, 0, bytes(BLOCK))
+        self.free = None if self.free is None else self.free - 1
         return block
 
+    def count_free(self):
+        if self.free is None:
+            self.free = len(self.free_blocks())
+        return self.free
+
     def give(self, block):
+        self.free = None if self.free is None else self.free + 1
         if not self.group:
             self.group.append(0)
         if len(self.group) == GROUP:
@@ -182,8 +218,12 @@ class Volume:
 
     # the bytes of files
 
-    def held(self, inode):
-        """The blocks of a file: (number in the file, block) for its data in rising order, (None, block) for the others."""
+    def is_data(self, block):
+        return self.isize + 2 <= block < self.fsize
+
+    def named(self, inode):
+        """The addresses of a file, also those outside: (number in the file, block) for its data in rising order,
+        (None, block) for the others."""
         if inode.is_device():
             return
         if not inode.mode & LARGE:
@@ -193,14 +233,25 @@ class Volume:
         double = inode.addresses[7]
         if double:
             yield None, double
-            yield from self.below(enumerate(self.words(double), 7))
+            if self.is_data(double):
+                yield from self.below(enumerate(self.words(double), 7))
 
     def below(self, tables):
         """Indirect blocks, given as (number among those of the file, block), each with the blocks that it names."""
         for k, table in tables:
             if table:
                 yield None, table
-                yield from ((IN_BLOCK * k + n, block) for n, block in enumerate(self.words(table)) if block)
+                if self.is_data(table):
+                    yield from ((IN_BLOCK * k + n, block) for n, block in enumerate(self.words(table)) if block)
+
+    def held(self, inode):
+        """The blocks of a file, as `named` gives them."""
+        return ((number, block) for number, block in self.named(inode) if self.is_data(block))
+
+    def holes(self, inode):
+        """The numbers of the blocks before its end that a file doesn't hold."""
+        held = {number for number, _ in self.held(inode)}
+        return [number for number in range(length(inode.size)) if number not in held] if not inode.is_device() else []
 
     def read(self, inode):
         """The bytes of a file. Blocks that it doesn't hold are zeros."""
@@ -241,16 +292,17 @@ class Volume:
         inode.addresses, inode.size = [0] * DIRECT, 0
         inode.mode &= ~LARGE
 
-    def write(self, inode, data):
-        """Makes these the bytes of a file, in the place of those that it had."""
+    def write(self, inode, data, holes=()):
+        """Makes these the bytes of a file, in the place of those that it had. Of the blocks `holes` it holds none."""
         if len(data) > FILE_BYTES:
             raise DiskError(f"{len(data)} bytes are too many for a file: at most {FILE_BYTES}")
         self.truncate(inode)
-        needs, free = blocks_for(len(data)), len(self.free_blocks())
+        held = sorted(set(range(length(len(data)))) - set(holes))
+        needs, free = blocks_for(held), self.count_free()
         if needs > free:
             raise DiskError(f"no room for {len(data)} bytes: they need {needs} blocks, and {free} are free")
-        for at in range(0, len(data), BLOCK):
-            self.change(self.touch(inode, at // BLOCK), 0, data[at : at + BLOCK])
+        for number in held:
+            self.change(self.touch(inode, number), 0, data[number * BLOCK : number * BLOCK + BLOCK])
         inode.size = len(data)
 
     # directories
@@ -263,17 +315,22 @@ class Volume:
             if number:
                 yield number, name.rstrip(b"\0")
 
+    def directory(self, number):
+        if number not in self.directories:
+            inode = self.inode(number)
+            self.directories[number] = Directory(self.read(inode)[: inode.size % 65536])
+        return self.directories[number]
+
     def look(self, number, name):
         """The inode under a name of a directory, or None."""
-        inode = self.inode(number)
-        if not inode.is_directory():
+        if not self.inode(number).is_directory():
             raise DiskError("not a directory")
-        found = next((n for n, other in self.entries(inode) if other == name), None)
+        _, found = self.directory(number).names.get(name, (None, None))
         return found if found and self.is_used(found) else None
 
-    def find(self, path):
-        """The inode under a path from the root."""
-        number, past = ROOT, b""
+    def find(self, path, start=ROOT):
+        """The inode under a path from the root, or from another directory."""
+        number, past = start, b""
         for name in components(path):
             try:
                 found = self.look(number, name)
@@ -287,26 +344,49 @@ class Volume:
 
     def enter(self, directory, name, number, time):
         """A new entry of a directory, in the place of one of this name, whose inode is free, or in the first empty one, or
-        behind the others. The inode gets a link more."""
+        after the others. The inode gets a link more."""
         check_name(name)
-        inode = self.inode(directory)
-        data = self.read(inode)
-        end = inode.size % 65536 // ENTRY_BYTES * ENTRY_BYTES
-        entries = {at: struct.unpack_from("<H14s", data, at) for at in range(0, end, ENTRY_BYTES)}
-        same = (at for at, (free, other) in entries.items() if free and other.rstrip(b"\0") == name)
-        empty = (at for at, (free, _) in entries.items() if not free)
-        at = next(same, next(empty, end))
+        names = self.directory(directory)
+        at = names.names[name][0] if name in names.names else names.empty[0] if names.empty else names.end
         if at + ENTRY_BYTES > DIRECTORY_BYTES:
             raise DiskError(f"a directory has at most {DIRECTORY_BYTES // ENTRY_BYTES} entries")
+        if self.inode(number).links >= MOST_LINKS:
+            raise DiskError(f"at most {MOST_LINKS} links: the directories in a directory are links to it")
+        self.set_entry(directory, at, number, name, time)
+        if names.empty and names.empty[0] == at:
+            heapq.heappop(names.empty)
+        names.put(at, name, number)
+        self.link(number, 1)
+
+    def set_entry(self, directory, at, number, name, time):
+        inode = self.inode(directory)
         self.change(self.touch(inode, at // BLOCK), at % BLOCK, struct.pack("<H14s", number, name))
         inode.size = max(inode.size, at + ENTRY_BYTES)
         inode.accessed = inode.changed = time
         self.set_inode(directory, inode)
-        linked = self.inode(number)
-        if linked.links >= MOST_LINKS:
-            raise DiskError(f"at most {MOST_LINKS} links: the directories in a directory are links to it")
-        linked.links += 1
-        self.set_inode(number, linked)
+
+    def link(self, number, count):
+        inode = self.inode(number)
+        inode.links += count
+        self.set_inode(number, inode)
+
+    def remove(self, directory, name, time):
+        """Takes a name out of a directory. A file whose last name this was gives its blocks back, and its inode is free."""
+        at, number = self.directory(directory).names[name]
+        self.set_entry(directory, at, 0, name, time)
+        del self.directories[directory]
+        inode = self.inode(number)
+        inode.links = max(inode.links - 1, 0)
+        self.set_inode(number, inode)
+        if not inode.links:
+            self.set_free(number)
+
+    def set_free(self, number):
+        inode = self.inode(number)
+        self.truncate(inode)
+        self.set_inode(number, Inode())
+        self.directories.pop(number, None)
+        self.lowest = min(self.lowest, number)
 
     def make_root(self, time):
         self.set_inode(ROOT, Inode(USED | DIRECTORY | 0o755, accessed=time, changed=time))
@@ -327,10 +407,10 @@ class Volume:
         self.enter(parent, name, number, time)
         return number
 
-    def write_file(self, number, data, time):
+    def write_file(self, number, data, time, holes=()):
         """Makes these the bytes of a plain file."""
         inode = self.inode(number)
-        self.write(inode, data)
+        self.write(inode, data, holes)
         inode.accessed = inode.changed = time
         self.set_inode(number, inode)
 

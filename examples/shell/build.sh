@@ -9,8 +9,8 @@ trap 'rm -rf "$out"' EXIT
 
 cp -R $here/disk "$out/disk"
 mkdir "$out/disk/bin" "$out/disk/etc"
-for name in cat cp echo ln ls mkdir rm sh; do
+for name in cat cp date echo ed ln ls mkdir mv od rm sh stty wc; do
     tools/as.py -o "$out/disk/bin/$name" $here/src/$name.s $here/src/lib.s
 done
 cp "$out/disk/bin/sh" "$out/disk/etc/init"
-tools/disk.py new --replace --short --blocks 128 --inodes 48 --table $here/table "$image" "$out/disk"
+tools/disk.py new --replace --short --blocks 400 --inodes 96 --table $here/table "$image" "$out/disk"

@@ -4,5 +4,5 @@ set -eu
 cd "$(dirname "$0")/../.."
 out=$(mktemp -d)
 trap 'rm -rf "$out"' EXIT
-"${V6:-bin/v6}" run examples/shell/image 1200 examples/shell/script "$out/term" "$out/log" "$out/final"
+"${V6:-bin/v6}" run examples/shell/image 3968 examples/shell/script "$out/term" "$out/log" "$out/final"
 cat "$out/term"

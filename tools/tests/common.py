@@ -64,10 +64,11 @@ class Case(unittest.TestCase):
 
     def call(self, main, *words):
         """The status of a tool, and what it says on its two outputs."""
-        out, error = io.StringIO(), io.StringIO()
+        out, error = io.TextIOWrapper(io.BytesIO(), encoding="utf-8", newline="\n"), io.StringIO()
         with contextlib.redirect_stdout(out), contextlib.redirect_stderr(error):
             try:
                 status = main(list(words))
             except SystemExit as ended:
                 status = ended.code
-        return status, out.getvalue(), error.getvalue()
+        out.flush()
+        return status, out.buffer.getvalue().decode(), error.getvalue()

@@ -1,8 +1,11 @@
 """The assembler and the disassembler. Words are those of the PDP-11/40 Processor Handbook, written by hand."""
+import os
 import struct
+import subprocess
+import sys
 import unittest
 
-from common import Case, read, tool, words
+from common import TOOLS, Case, read, tool, words
 
 import disassembler
 from assembler import Assembler
@@ -93,6 +96,18 @@ LINES = {  # a line, and its words at address 0
     "<a/b;\\>\\\\\\t>": "027541 035542 056076 011", "a=3; a+a": "6", "a: b: b": "0", "mov a,r0; a: 1": "016700 0 1",
     "br 1f; 1: br 1b": "000400 000777", "mov r0,r1 / a comment": "010001", "": "", ".byte 1; .even; 2": "1 2",
     ".=.+4; 1": "0 0 1",
+    # operators and brackets of as(I)
+    "6*[2+3]": "36", "-7\\/2": "177775", "-7%2": "177777", "7%3": "1", "1\\<3": "10", "177777\\>17": "1", "!7": "177770",
+    "5!177776": "5", "[1+2]*[3+4]; 5-[2-1]": "25 4", "mov [3*4](r1),r0": "016100 14",
+    "a: 0; b=5; b^a; a^b": "0 5 0",
+    # jumps: near, and with a condition
+    "jbr 1f; 1: jeq 1b; jne 1b; jlo 1b; jec 1b": "000400 001777 001376 103775 103374",
+    "mpy r1,r0; dvd r1,r0; als r1,r0; alsc r1,r0": "070001 071001 072001 073001",
+    # registers, and programs that stand elsewhere
+    "x=r5; mov x,(x)+; rts x": "010525 000205", "..=1000; a: mov $a,r0; jmp a; b-a; b: .": "012700 1000 000167 177770 12 1012",
+    # conditions
+    ".if 1; 5; .endif; 6": "5 6", ".if 0; 5; .endif; 6": "6", "a=2; .if a-2\n{garbage\n.if 1; 4; .endif; 5\n.endif\n6": "6",
+    ".if 1\n.if 0\n4\n.endif\n5\n.endif": "5", ".globl a,b; a: 3; b=4": "3",
 }
 FAULTS = {  # a source, and the fault of its last line
     "mov r0": "the end of the line where ',' is wanted", "mov r0,r1 r2": "'r2' isn't expected here",
@@ -115,6 +130,10 @@ FAULTS = {  # a source, and the fault of its last line
     "frob r0,r1": "'frob': no instruction", "MOV (r0),r1": "'MOV': no instruction", "mov: 1": "'mov' has a meaning already",
     ".even = 1": "'.even' has a meaning already", "1 = 2": "'=' isn't expected here",
     ".=.+n; n=2": "'.' can't go by a name that stands further on", "mov $x,r0; x=n; n=2": "'x' isn't defined",
+    ".if 1": ".if without .endif", ".endif": ".endif without .if", ".if n; .endif; n=1": "'.if' can't go by a name that stands further on",
+    "5\\/0": "division by 0", "a: 5*a": "addresses can't be put together so", "[5": "the end of the line where ']' is wanted",
+    "jbr": "the end of the line where a value is wanted", "jbr nosuch": "'nosuch' isn't defined", "jeq = 3": "'jeq' has a meaning already",
+    ".comm a": "the end of the line where ',' is wanted", ".globl 5": "'5' where a name is wanted", "x=r5; x: 0": "'x' has a meaning already",
     ".=.+1f; 1: 0": "'.' can't go by a name that stands further on", "x=x+1": "'x' isn't defined",
 }
 
@@ -171,6 +190,35 @@ class Words(Case):
                                ("a: mov $1f-a,r0; 1: 0", "012700 4 0"), ("a: .byte b-a,7&n; b: n=5", "002402")):
             self.assertEqual((self.assemble(source)[0] or b"")[16:], words(wanted), source)
 
+    def test_jumps(self):
+        """A jump is a branch as far as one reaches, on both sides, and no further: by hand, 127 words ahead and 128 behind."""
+        for gap, wanted in ((127, "000577"), (128, "000167 000400")):
+            self.assertEqual(self.assemble(f"jbr 1f; .=.+{2 * gap:o}; 1: 0")[0][16:16 + 2 * len(wanted.split())], words(wanted))
+        for gap, wanted in ((127, "001177"), (128, "001402 000167 000400")):
+            self.assertEqual(self.assemble(f"jne 1f; .=.+{2 * gap:o}; 1: 0")[0][16:16 + 2 * len(wanted.split())], words(wanted))
+        for gap, wanted in ((127, "000600"), (128, "000167 177374")):
+            self.assertEqual(self.assemble(f"1: .=.+{2 * gap:o}; jbr 1b")[0][16 + 2 * gap:], words(wanted))
+        # one that grows moves the target of another out of reach
+        made, errors = self.assemble("jbr a; .=.+374; jbr b; a: .=.+1000; b: 0")
+        self.assertEqual((errors, made[16:20], made[20 + 252:24 + 252]), ([], words("000167 000400"), words("000167 001000")))
+
+    def test_common(self):
+        """Names that .comm gives room stand in the bss after what else is there; one that has a place keeps it."""
+        source = ".comm a,3; .comm b,4; .comm c,2; .globl a; mov $a,r0; mov $b,r0; c: 0; .bss; .=.+2; .comm b,6"
+        made, errors = self.assemble(source)
+        self.assertEqual(errors, [])
+        self.assertEqual(made[:16], words("407 12 0 14 0 0 0 0"))
+        self.assertEqual(sorted((words(f"012700 {a:o} 012700 {b:o} 0") for a, b in ((12, 16), (18, 12))), key=lambda w: w != made[16:])[0],
+                         made[16:])
+
+    def test_symbols(self):
+        """The table of a.out(V): eight bytes of a name, a type and a value, after the data."""
+        assembler = Assembler()
+        made = assembler.assemble([("it.s", ".globl a,longer_name; x=5; a: 0; b: 0; .data; longer_name: 6; .bss; z: .=.+2")], False, True)
+        table = [(b"x", 0o1, 5), (b"a", 0o42, 0), (b"b", 0o2, 2), (b"longer_n", 0o43, 4), (b"z", 0o4, 6)]
+        self.assertEqual(made[:16], words("407 4 2 2 74 0 0 0"))
+        self.assertEqual(made[22:], b"".join(struct.pack("<8s2H", *row) for row in table))
+
     def test_size(self):
         half, fault = ".bss; .=.+100000; .=.+77776; .text; 1", "the program has more than 65536 bytes"
         self.assertEqual(self.assemble(half)[1], [])
@@ -200,6 +248,34 @@ class Command(Case):
                                "    4 000004                           \t.data\n"
                                "    4 000004  061141 000143            <abc>\n"
                                "    7 000007\n")
+
+    def test_the_source_itself(self):
+        source = self.put("x.s", b"\tnop\n")
+        wanted = f"as.py: {source}: the source itself, and the program would take its place\n"
+        self.assertEqual((self.call(as_main, "-o", source, source), read(source)), ((1, "", wanted), b"\tnop\n"))
+
+    def test_standard_streams(self):
+        source = self.put("x.s", b"\tnop\n")
+        made = words("407 2 0 0 0 0 0 0 240")
+        for name in ("-", "/dev/stdout"):
+            done = subprocess.run([sys.executable, os.path.join(TOOLS, "as.py"), "-o", name, source], capture_output=True)
+            self.assertEqual((done.returncode, done.stdout, done.stderr), (0, made, b""))
+        done = subprocess.run([sys.executable, os.path.join(TOOLS, "as.py"), "-o", "-", "-"], input=b"\tnop\n", capture_output=True)
+        self.assertEqual((done.returncode, done.stdout), (0, made))
+
+    def test_a_closed_pipe(self):
+        source = self.put("x.s", b"\tnop\n" * 20000)
+        reads, writes = os.pipe()
+        os.close(reads)
+        done = subprocess.run([sys.executable, os.path.join(TOOLS, "as.py"), "-l", "-o", self.path("out"), source], stdout=writes,
+                              stderr=subprocess.PIPE)
+        os.close(writes)
+        self.assertEqual((done.returncode, done.stderr), (141, b""))
+
+    def test_listing_with_symbols(self):
+        source = self.put("a.s", b"a:\tmov\t$5,r0\nx = 7\n.globl a\n")
+        text = self.call(as_main, "-l", "-s", "-o", self.path("out"), source)[1]
+        self.assertTrue(text.endswith("\n    7 000007  absolute          x\n    0 000000  text      global  a\n"), text)
 
     def test_faults_leave_the_program(self):
         out = self.put("out", b"before")

@@ -1,14 +1,22 @@
 """The console: what it makes of what is typed, of the log, and of a run that goes on or isn't taken."""
+import hashlib
 import io
 import os
+import pty
+import re
+import select
 import shutil
 import subprocess
 import sys
+import time
 import unittest
 
 from common import DISK_BYTES, TOOLS, TOP, V6, Case, read, tool, v6, write
 
-from volume import Volume
+import dialogue
+from processes import Processes
+from screen import echo, without_echo
+from volume import CHARACTER, Volume
 
 console = tool("console")
 as_main = tool("as").main
@@ -41,6 +49,29 @@ with open(words[-3], "wb") as term:
 print("not built: pc 2")
 sys.exit(11)
 """
+READER = """
+	sys	open; tty; 2
+{}loop:	clr	r0
+	sys	read; line; 100.
+	mov	r0,0f
+	clr	r0
+	sys	write; line; 0:0
+	br	loop
+spin:	mov	$20.,r0
+	sys	nice
+	br	.
+tty:	</dev/tty8\\0>
+	.even
+	.bss
+line:	.=.+100.
+"""
+COUNT = """	cmpb	line,$'c
+	bne	2f
+	mov	$30000.,r1
+1:	sob	r1,1b
+2:
+"""
+FORK = "fork 1 2 at 60\n"
 LOGS = (
     ("", "runs"),
     ("sleep 1 10 keys\nidle\n", "waits"),
@@ -49,11 +80,23 @@ LOGS = (
     ("exit 1 swap 4000\nidle\n", "over"),
     ("sleep 1 10 keys\nwake keys\nidle\n", "over"),
     ("sleep 1 10 keys\nsignal 1 2\nidle\n", "over"),
-    ("sleep 2 90 tout\nsleep 1 40 wait.1\nidle\n", "over"),
-    ("tick u\nsleep 2 90 tout\nsleep 1 40 wait.1\nidle\ntick i\n", "runs"),
-    ("tick u\nsleep 2 90 tout\nsleep 1 10 keys\nidle\ntick i\n", "waits"),
+    (FORK + "sleep 2 90 tout\nsleep 1 40 wait.1\nidle\n", "sleeps"),
+    (FORK + "tick u\nsleep 2 90 tout\nsleep 1 40 wait.1\nidle\ntick i\n", "sleeps"),
+    (FORK + "tick u\nsleep 2 90 tout\nsleep 1 10 keys\nidle\ntick i\n", "waits"),
+    (FORK + "sleep 1 10 keys\ngo 2\n", "waits"),  # a child runs, and the reader reads again
+    (FORK + "sleep 1 10 keys\ngo 2\nwake keys\ngo 1\n", "runs"),
+    (FORK + "sleep 1 10 keys\ngo 2\nwake keys\ngo 1\nsleep 1 10 keys\ngo 2\n", "waits"),
+    # two read, and one has the line: whether he is done can't be seen from the other
+    (FORK + "sleep 1 10 keys\ngo 2\nsleep 2 10 keys\nidle\nwake keys\ngo 1\nsleep 1 10 keys\ngo 2\n", "busy"),
+    (FORK + "sleep 1 10 keys\ngo 2\nsleep 2 10 keys\nidle\nwake keys\ngo 1\nsleep 1 10 keys\ngo 2\nexit 2 swap 4000\n", "waits"),
 )
 BOOT = "boot 1200 0\nsleep 0 -100 runout\ngo 1\n"
+
+
+def used():
+    """Seconds of a processor that the programs have taken that were run so far."""
+    times = os.times()
+    return times.children_user + times.children_system
 
 
 class Person(io.BytesIO):
@@ -62,7 +105,7 @@ class Person(io.BytesIO):
     def isatty(self):
         return True
 
-    def readline(self):
+    def read1(self, size=-1):
         line = super().readline()
         if line == b"INTERRUPT\n":
             raise KeyboardInterrupt
@@ -72,37 +115,76 @@ class Person(io.BytesIO):
 class Parts(unittest.TestCase):
     def test_state(self):
         for log, wanted in LOGS:
-            self.assertEqual(console.state((BOOT + log + "end\n").encode()), wanted, log)
+            self.assertEqual(Processes((BOOT + log + "end\n").encode()).state(), wanted, log)
+
+    def test_who_does_what(self):
+        log = FORK + "go 2\nfork 2 3 at 99\nsleep 2 40 wait.2\ngo 3\nsleep 3 10 keys\ngo 1\n"
+        self.assertEqual(Processes((BOOT + log).encode()).told(),
+                         ["process 1 runs", "process 2, a child of 1, waits for a child",
+                          "process 3, a child of 2, reads the terminal"])
+        log += "exit 2 swap 4000\nreap 2\nfork 1 2 at 60\nsleep 1 90 tout\n"
+        self.assertEqual(Processes((BOOT + log).encode()).told(),
+                         ["process 1 sleeps for a time", "process 4, a child of 1, runs",
+                          "process 3, a child of 1, reads the terminal"])
 
     def test_keys(self):
-        self.assertEqual(console.keys(b"ls -l\r"), [b"type ls -l"])
-        self.assertEqual(console.keys(b"\r"), [b"type"])
-        self.assertEqual(console.keys(b"a\tb\r"), [b"byte 141", b"byte 011", b"byte 142", b"byte 015"])
-        self.assertEqual(console.keys(b"x" * 290 + b"\r"), [b"type " + b"x" * 290])
-        self.assertEqual(console.keys(b"x" * 291 + b"\r"), [b"byte 170"] * 291 + [b"byte 015"])
-        with self.assertRaisesRegex(console.ConsoleError, "only characters of ASCII can be typed"):
-            console.keys("é\r".encode())
+        self.assertEqual(dialogue.keys(b"ls -l\r"), [b"type ls -l"])
+        self.assertEqual(dialogue.keys(b"\r"), [b"type"])
+        self.assertEqual(dialogue.keys(b"a\tb\r"), [b"byte 141", b"byte 011", b"byte 142", b"byte 015"])
+        self.assertEqual(dialogue.keys(b"x" * 290 + b"\r"), [b"type " + b"x" * 290])
+        self.assertEqual(dialogue.keys(b"x" * 291 + b"\r"), [b"byte 170"] * 291 + [b"byte 015"])
+        with self.assertRaisesRegex(dialogue.DialogueError, "only characters of ASCII can be typed"):
+            dialogue.keys("é\r".encode())
+
+    def read(self, keyboard):
+        line = keyboard.read()
+        return (line.lines, line.echo) if isinstance(line, console.Typed) else line
 
     def test_a_person(self):
-        keyboard = console.Keyboard(Person(b"ls\nINTERRUPT\n~^D\n~^?\n~^\\\n~~a\n~:tick\n~x\n~.\n"))
+        keyboard = console.Keyboard(Person(b"ls\nINTERRUPT\n~^D\n~^?\n~^\\\n~~a\n~:tick\n~u 3\n~l\n~x\n~l 3\n~u x\n~.\n"))
         wanted = [([b"type ls"], b"ls\r"), ([b"byte 177"], b""), ([b"byte 004"], b""), ([b"byte 177"], b""),
-                  ([b"byte 034"], b""), ([b"type ~a"], b"~a\r"), ([b"tick"], b"")]
-        self.assertEqual([keyboard.read() for _ in wanted], wanted)
-        with self.assertRaisesRegex(console.ConsoleError, "no command of the console"):
-            keyboard.read()
+                  ([b"byte 034"], b""), ([b"type ~a"], b"~a\r"), ([b"tick"], b""), console.Order("u", 3), console.Order("l")]
+        self.assertEqual([self.read(keyboard) for _ in wanted], wanted)
+        for said in ("no command of the console", "no command of the console", "'x': no number"):
+            with self.assertRaisesRegex(console.ConsoleError, said):
+                keyboard.read()
         self.assertIsNone(keyboard.read())
         # the end of a file at the keyboard is typed; what stands before it on the line too
         keyboard = console.Keyboard(Person(b"ab"))
-        self.assertEqual(keyboard.read(), ([b"byte 141", b"byte 142", b"byte 004"], b"ab"))
-        self.assertEqual(keyboard.read(), ([b"byte 004"], b""))
+        self.assertEqual(self.read(keyboard), ([b"byte 141", b"byte 142", b"byte 004"], b"ab"))
+        self.assertEqual(self.read(keyboard), ([b"byte 004"], b""))
 
     def test_a_file(self):
         keyboard = console.Keyboard(io.BytesIO(b"ls\nno return"))
-        self.assertEqual([keyboard.read() for _ in range(3)], [([b"type ls"], b""), ([b"type no return"], b""), None])
+        self.assertEqual([self.read(keyboard) for _ in range(3)], [([b"type ls"], b""), ([b"type no return"], b""), None])
+
+    def test_lines_that_are_tried_in_one_run(self):
+        keyboard = console.Keyboard(io.BytesIO(b"a\nb\tc\n\n" + b"x" * 255 + b"\n"))
+        keyboard.fill()
+        self.assertEqual(keyboard.batch(), [[b"type a"], [b"byte 142", b"byte 011", b"byte 143", b"byte 015"], [b"type"]])
+        for odd in (b"a\n~l\n", b"a\n\4\n", b"a\n\377\n"):
+            keyboard = console.Keyboard(io.BytesIO(odd))
+            keyboard.fill()
+            self.assertEqual(keyboard.batch(), [[b"type a"]])
 
     def test_echo(self):
-        self.assertEqual(console.without_echo(b"LS\r\nBIN\r\n# ", b"ls\r"), b"BIN\r\n# ")
-        self.assertEqual(console.without_echo(b"BIN\r\n# ", b"ls\r"), b"BIN\r\n# ")
+        """By the table of docs/manual/terminal.md: what goes out with LCASE, XTABS and CRMOD."""
+        self.assertEqual(echo(b"a{b}|`~\r", 2, True, True, True), b"A\\(B\\)\\!\\'\\^\r\n")
+        self.assertEqual(echo(b"a\tb\r", 2, True, True, True), b"A     B\r\n")
+        self.assertEqual(echo(b"a\tb{\r", 2, False, False, False), b"a\tb{\r")
+        for typed, shown in ((b"ls\r", b"LS\r\n"), (b"a{|}~\r", b"A\\(\\!\\)\\^\r\n"), (b"\tx\ty\r", b"      X       Y\r\n"),
+                             (b"a\tb\r", b"a     b\r\n"), (b"a|b\r", b"a|b\r\n")):
+            self.assertEqual(without_echo(b"LAST\r\n# ", shown + b"BIN\r\n# ", typed), b"BIN\r\n# ")
+        self.assertEqual(without_echo(b"# ", b"BIN\r\n# ", b"ls\r"), b"BIN\r\n# ")
+
+    def test_steps(self):
+        lines = [b"clock 100", b"run 10000", b"type a", b"run 10000", b"byte 142", b"byte 004", b"run 5", dialogue.PASSES,
+                 b"clock 1", b"run 60", b"clock 0", b"run 9", b"tick", b"run 7"]
+        steps = dialogue.steps_of(lines)
+        self.assertEqual([len(step) for step in steps], [2, 2, 8, 2])
+        self.assertEqual([dialogue.shown(step) for step in steps], ["~:clock 100", "a", "b^D", "~:tick"])
+        self.assertEqual(sum(steps, []), lines)
+        self.assertEqual((dialogue.total(lines), dialogue.clock(lines), dialogue.clock(lines[:2])), (20081, False, True))
 
 
 class Sessions(Case):
@@ -111,12 +193,17 @@ class Sessions(Case):
         done = subprocess.run(command, input=typed.encode(), capture_output=True)
         return done.returncode, done.stdout, done.stderr.decode()
 
+    def script(self, lines, image=os.path.join(SHELL, "image"), core=3968):
+        """A script of the console, with the line with which it begins."""
+        return f"; console: image sha256 {hashlib.sha256(read(image)).hexdigest()} core {core}\n{lines}".encode()
+
     def disk_with(self, source):
-        """The generator's disk with another program."""
-        out, image, program = self.path("init"), self.path("image"), self.put("init.s", source.encode())
+        """A small disk with a console and a first program."""
+        out, program = self.path("init"), self.put("init.s", source.encode())
         self.assertEqual(self.call(as_main, "-o", out, program), (0, "", ""))
         volume = Volume.empty(100, 16, 0)
-        etc = volume.make_directory(1, b"etc", 0o755, 0)
+        etc, dev = (volume.make_directory(1, name, 0o755, 0) for name in (b"etc", b"dev"))
+        volume.make(dev, b"tty8", CHARACTER | 0o666, 0)
         volume.write_file(volume.make(etc, b"init", 0o755, 0), read(out), 0)
         return self.put("image", volume.image())
 
@@ -138,17 +225,51 @@ class Sessions(Case):
     def test_a_script_goes_on(self):
         script = self.put("script", b"run 10000\ntype chdir /usr\nrun 10000\n")
         self.assertEqual(self.session("ls\n", "--script", script), (0, b"# CHDIR /USR\r\n# LS\r\nSYS\r\n# ", ""))
-        self.assertEqual(read(script), b"run 10000\ntype chdir /usr\nrun 10000\ntype ls\nrun 10000\n")
+        wanted = self.script("run 10000\ntype chdir /usr\nrun 10000\ntype ls\nrun 10000\n")
+        self.assertEqual(read(script), wanted)
+        self.assertEqual(self.session("", "--script", script)[0], 0)
+
+    def test_a_script_of_another_disk(self):
+        """After --disk has written the disk back, its script would do all once more."""
+        image, script = self.put("image", read(os.path.join(SHELL, "image"))), self.path("script")
+        words = ("--script", script, "--disk", image)
+        self.assertEqual(self.session("mkdir /tmp\n", *words, image=image)[0], 0)
+        before = read(script), read(image)
+        said = f"\nconsole: {script} was typed at another disk than {image}: another --script begins a new dialogue, and --replay plays this one\n"
+        self.assertEqual(self.session("ls\n", *words, image=image), (1, b"", said))
+        self.assertEqual((read(script), read(image)), before)
+        status, term, _ = self.session("ls\n", "--replay", "--script", script, image=image)
+        self.assertEqual((status, term.count(b"CANNOT MAKE DIRECTORY")), (0, 1))
+        self.assertIn(hashlib.sha256(read(image)).hexdigest().encode(), read(script))
+        self.assertIn("was typed with another size of core", self.session("", "--script", script, "--core", "1200", image=image)[2])
+        self.assertEqual(self.session("", "--script", self.put("old", self.script("run 9000\n", core=1200)))[0], 0)
+        self.assertIn(b" core 1200\n", read(self.path("old")))
 
     def test_what_is_taken_back(self):
         script = self.path("script")
-        status, term, said = self.session("echo a\n~:walk\n~?\necho é\necho b\n", "--script", script)
-        self.assertEqual((status, term), (0, b"# ECHO A\r\nA\r\n# ECHO B\r\nB\r\n# "))
+        status, term, said = self.session("echo a\n~:walk\necho é\necho b\n", "--script", script)
+        self.assertEqual((status, term), (1, b"# ECHO A\r\nA\r\n# ECHO B\r\nB\r\n# "))
         back = "\nconsole: this line is taken back\n"
-        help_text = "no command of the console. These are:\n" + console.HELP.rstrip()
-        self.assertEqual(said, f"\nconsole: script: line 4{back}\nconsole: {help_text}{back}"
-                               f"\nconsole: only characters of ASCII can be typed{back}")
-        self.assertEqual(read(script), b"run 10000\ntype echo a\nrun 10000\ntype echo b\nrun 10000\n")
+        self.assertEqual(said, f"\nconsole: script: line 5: 'walk'{back}\nconsole: only characters of ASCII can be typed{back}")
+        self.assertEqual(read(script), self.script("run 10000\ntype echo a\nrun 10000\ntype echo b\nrun 10000\n"))
+        self.assertEqual(self.session("~x\n"), (1, b"# ", "\nconsole: no command of the console; ~? tells which there are\n"))
+        self.assertEqual(self.session("~?\n"), (0, b"# ", f"\nconsole: {console.HELP}"))
+
+    def test_signals(self):
+        status, _, said = self.session("~^?\n")
+        self.assertEqual((status, said), (1, "\nconsole: not built: line 3: the keys that interrupt (0177, control-C) and quit (034) "
+                                             "make signals, which aren't built yet\nconsole: this line is taken back\n"))
+
+    def test_back_and_forth(self):
+        status, term, said = self.session("chdir /usr\nls\n~u 2\n~l\nls\nls\n~u\n~l\n~w\n~g 2\n~u 3\n~g 4\n", "--script",
+                                          self.path("new"))
+        root = b"LS\r\nBIN\r\nDEV\r\nETC\r\nUSR\r\n# "
+        self.assertEqual(term, b"# CHDIR /USR\r\n# LS\r\nSYS\r\n# " + root + root + root)
+        self.assertEqual(said, "\nconsole: 0 lines, as they were typed\ntaken back:\n    1  chdir /usr\n    2  ls\n"
+                               "\nconsole: 1 lines, as they were typed\n    1  ls\ntaken back:\n    2  ls\n"
+                               "\nconsole: process 1 reads the terminal\n"
+                               "\nconsole: 2 lines can be taken back\n\nconsole: there are 2 lines\n")
+        self.assertEqual(read(self.path("new")), self.script("run 10000\n" + "type ls\nrun 10000\n" * 2))
 
     def test_a_run_that_does_not_end(self):
         """A program that answers as v6 does where it comes to something that isn't built."""
@@ -156,29 +277,84 @@ class Sessions(Case):
         script = self.path("script")
         words = ("--v6", f"{sys.executable} {other} {V6}", "--script", script)
         status, term, said = self.session("echo a\n~^?\necho b\n", *words)
-        self.assertEqual((status, term), (0, b"# ECHO A\r\nA\r\n# OOPSECHO B\r\nB\r\n# "))
+        self.assertEqual((status, term), (1, b"# ECHO A\r\nA\r\n# OOPSECHO B\r\nB\r\n# "))
         self.assertEqual(said, "\nconsole: not built: pc 2\nconsole: this line is taken back\n")
-        self.assertEqual(read(script), b"run 10000\ntype echo a\nrun 10000\ntype echo b\nrun 10000\n")
+        self.assertEqual(read(script), self.script("run 10000\ntype echo a\nrun 10000\ntype echo b\nrun 10000\n"))
 
     def test_a_program_that_runs_on(self):
         image = self.disk_with("\tbr\t.\n")
         script = self.path("script")
-        more = "\nconsole: the machine runs on after 500 slots; ~:run N gives it more, and what you type waits for it\n"
+        more = ("\nconsole: the machine runs on after 500 slots (process 1 runs); ~:run N gives it more, and what you type waits "
+                "for it\n")
         self.assertEqual(self.session("x\n", "--slots", "500", "--script", script, image=image), (0, b"", more + more))
-        self.assertEqual(read(script), b"run 500\ntype x\nrun 500\n")
+        self.assertEqual(read(script), self.script("run 500\ntype x\nrun 500\n", image))
+
+    def test_the_slots_of_a_script(self):
+        """At most 200,000,000: what a line is given is what is left of them, and without any it isn't the line's fault."""
+        image = self.disk_with(READER.format(""))
+        script = self.put("script", self.script("run 199999000\n", image))
+        status, term, said = self.session("x\ny\n", "--script", script, image=image)
+        self.assertEqual(read(script), self.script("run 199999000\ntype x\nrun 1000\n", image))
+        self.assertEqual((status, term, said.count("are used up; ~u takes lines back")), (1, b"X\r\nX\r\n", 1))
+
+    def test_a_child_in_the_background(self):
+        """A line costs no more slots than without the child, which counts for ever."""
+        image = self.disk_with(READER.format("\tsys\tfork\n\tbr\tspin\n"))
+        script = self.path("script")
+        self.assertEqual(self.session("ab\ncd\n", "--script", script, image=image), (0, b"AB\r\nAB\r\nCD\r\nCD\r\n", ""))
+        self.assertEqual(read(script), self.script("run 10000\ntype ab\nrun 10000\ntype cd\nrun 10000\n", image))
 
     def test_the_clock(self):
         """A program that sleeps for two seconds, which are 120 ticks, and then ends."""
         image = self.disk_with("\tmov\t$2,r0\n\tsys\tsleep\n\tsys\texit\n")
         script = self.path("script")
         self.assertEqual(self.session("", "--clock", "100", "--script", script, image=image), (0, b"", OVER))
-        self.assertEqual(read(script), b"clock 100\nrun 100000\n")
+        self.assertEqual(read(script), self.script("clock 100\nrun 100000\n", image))
+
+    def test_sleep_without_a_clock(self):
+        """Time passes at once where all sleep: as many ticks as are missing, and a line can be typed after them."""
+        image = self.disk_with(READER.format("\tmov\t$2,r0\n\tsys\tsleep\n"))
+        script = self.path("script")
+        self.assertEqual(self.session("ab\n", "--script", script, image=image), (0, b"AB\r\nAB\r\n", ""))
+        passes = "; time passes until the next sleeper wakes\nclock 1\nrun 120\nclock 0\n"
+        self.assertEqual(read(script), self.script(f"run 10000\n{passes}run 10000\ntype ab\nrun 10000\n", image))
+        again = self.session("cd\n", "--script", script, image=image)
+        self.assertEqual(again, (0, b"AB\r\nAB\r\nCD\r\nCD\r\n", ""))
+        # a time that is too long for the limit: the console says so, and goes on
+        image = self.disk_with("\tmov\t$100.,r0\n\tsys\tsleep\n\tsys\texit\n")
+        status, _, said = self.session("~:clock 1\n~:run 4000\n", "--slots", "2000", image=image)
+        self.assertEqual((status, said.count("everybody sleeps for a time, and that is long"), OVER in said), (0, 1, True))
+
+    def test_a_long_file(self):
+        """One run for a piped file of many lines. The script is that of lines that are typed one by one."""
+        typed = "".join(f"echo {n}\n" for n in range(1000))
+        script, began = self.path("script"), used()
+        status, term, said = self.session(typed, "--script", script)
+        self.assertLess(used() - began, 3)
+        self.assertEqual((status, said), (0, ""))
+        self.assertEqual(term, b"# " + b"".join(b"ECHO %d\r\n%d\r\n# " % (n, n) for n in range(1000)))
+        self.assertEqual(read(script), self.script("run 10000\n" + "".join(f"type echo {n}\nrun 10000\n" for n in range(1000))))
+        began = used()
+        self.assertEqual(self.session("echo x\n", "--script", script)[1], term + b"ECHO X\r\nX\r\n# ")
+        self.assertLess(used() - began, 1.5)  # of which two runs of the script, one for this line
+
+    def test_lines_with_more_and_fewer_slots(self):
+        """Each has what it needs, also where many are tried in one run: a line `c` counts for a while."""
+        image = self.disk_with(READER.format("").replace("\tclr\tr0\n\tsys\twrite", COUNT + "\tclr\tr0\n\tsys\twrite"))
+        one, many = self.path("one"), self.path("many")
+        typed = ["a", "c", "a", "a", "c", "c", "a"]
+        status, term, said = self.session("".join(line + "\n" for line in typed), "--script", many, image=image)
+        self.assertEqual((status, term, said), (0, b"".join(2 * (line.upper().encode() + b"\r\n") for line in typed), ""))
+        for line in typed:
+            self.session(line + "\n", "--script", one, image=image)
+        self.assertEqual(read(many), read(one))
+        self.assertEqual(read(many).count(b"run 100000\n"), 3)
 
     def test_faults(self):
         bad = self.put("bad", bytes(2000))
         self.assertEqual(self.session("", image=bad), (1, b"", "\nconsole: image: bad super-block\n"))
         script = self.put("script", b"walk\n")
-        self.assertEqual(self.session("", "--script", script), (1, b"", "\nconsole: script: line 1\n"))
+        self.assertEqual(self.session("", "--script", script), (1, b"", "\nconsole: script: line 2: 'walk'\n"))
         self.assertEqual(read(script), b"walk\n")
         self.assertEqual(self.session("", "--core", "63"), (1, b"", "\nconsole: core size\n"))
         absent = os.path.join(self.folder, "no", "file")
@@ -189,7 +365,8 @@ class Sessions(Case):
         for words, fault in ((("--core", "-5"), "argument --core: '-5': no number of one to nine digits"),
                              (("--clock", "1000000000"), "argument --clock: '1000000000': no number of one to nine digits"),
                              (("--slots", "0"), "--slots: at least 1"),
-                             (("--script", absent, "--disk", absent), "--script and --disk are the same file")):
+                             (("--script", absent, "--disk", absent), "--script and --disk are the same file"),
+                             (("--script", os.path.join(SHELL, "image")), "--script and image are the same file")):
             status, _, said = self.session("", *words)
             self.assertEqual((status, said.splitlines()[-1]), (2, f"console.py: error: {fault}"))
 
@@ -207,6 +384,53 @@ class Sessions(Case):
         done = subprocess.run([*command, "--v6", "'"], stdin=subprocess.DEVNULL, capture_output=True, text=True)
         said = "\nconsole: ': No closing quotation: the program v6 is wanted; --v6 names it\n"
         self.assertEqual((done.returncode, done.stderr), (1, said))
+
+
+class Terminals(Case):
+    """A person at a terminal of the host: a pair of pseudo-terminals."""
+
+    def setUp(self):
+        super().setUp()
+        self.ours, theirs = pty.openpty()
+        self.addCleanup(os.close, self.ours)
+        command = [sys.executable, os.path.join(TOOLS, "console.py"), self.image(), "--v6", V6]
+        self.console = subprocess.Popen(command, stdin=theirs, stdout=theirs, stderr=theirs)
+        os.close(theirs)
+        self.addCleanup(self.console.wait)
+        self.addCleanup(self.console.kill)
+
+    def image(self):
+        image = self.path("made")
+        v6("make", "0", image)
+        return image
+
+    def until(self, wanted):
+        """What the host's terminal shows until there is this."""
+        shown, end = b"", time.monotonic() + 60
+        while wanted not in shown and select.select([self.ours], [], [], max(end - time.monotonic(), 0))[0]:
+            shown += os.read(self.ours, 4096)
+        self.assertIn(wanted, shown)
+        return shown
+
+    def test_the_end_of_a_file_on_a_line(self):
+        self.until(b"% ")
+        os.write(self.ours, b"abc\4")
+        self.assertEqual(self.until(b"ABC% "), b"abcABC% ")
+
+    def test_echo_and_prompt(self):
+        self.until(b"% ")
+        os.write(self.ours, b"a{b}\n")
+        self.assertEqual(self.until(b"% ").replace(b"\r", b""), b"a{b}\nA\\(B\\)\n% ")
+        os.write(self.ours, b"a\tb\n")
+        self.assertEqual(re.sub(b"[ \t]+", b" ", self.until(b"% ").replace(b"\r", b"")), b"a b\nA B\n% ")
+        os.write(self.ours, "é\n".encode())
+        self.assertTrue(self.until(b"taken back\r\n% "))
+        os.write(self.ours, b"~u\n")
+        self.until(b"% ")
+        os.write(self.ours, b"~l\n")
+        self.assertIn(b"    1  a{b}\r\ntaken back:\r\n    2  a^Ib\r\n% ", self.until(b"a^Ib\r\n% "))
+        os.write(self.ours, b"~.\n")
+        self.assertEqual(self.console.wait(10), 0)
 
 
 if __name__ == "__main__":

@@ -1,6 +1,7 @@
 """The example of the shell: its disk, its dialogue, and more that its commands do. What they must show is by hand."""
 import os
 import subprocess
+import sys
 import unittest
 
 from common import DISK_BYTES, TOP, V6, Case, read, tool, v6
@@ -99,7 +100,47 @@ NOSUCH: NON EXISTENT
 # chdir ..
 # ls
 E
+# date
+THU JAN  1 00:00:00 GMT 1970
+# echo one two >n
+# wc n nosuch
+      1      2      8 N
+WC: CANNOT OPEN NOSUCH
+# wc <n
+      1      2      8
+# od n
+0000000 067157 020145 073564 005157
+0000010
+# mv n e
+# mv e/n m
+# ls e
+# cat m
+ONE TWO
+# mv e f
+MV: A DIRECTORY KEEPS ITS NAME
+# mv nosuch f
+MV: CANNOT FIND THE FILE
+# mv m m
+MV: ONE FILE
+# mv m
+USAGE: MV OLDNAME NEWNAME
+# stty
+ERASE = '#'; KILL = '@'
+-TABS LCASE ECHO -NL -RAW\x20
+# stty nosuch
+NOSUCH: UNKNOWN MODE
+# stty erase
+ERASE: UNKNOWN MODE
 """
+EDITED = (
+    ("a\none\ntwo\nthree\n.\n", ""), ("1,$p\n", "one\ntwo\nthree\n"), ("2\n", "two\n"), ("=\n", "3\n"), (".=\n", "2\n"),
+    ("s/two/deux/p\n", "deux\n"), ("1i\nzero\n.\n", ""), ("$\n", "three\n"), ("\n", "?\n"), ("-\n", "deux\n"), ("/one/\n", "one\n"),
+    ("/o/p\n", "zero\n"), ("\n", "one\n"), ("2,3d\n", ""), ("1,$p\n", "zero\nthree\n"), ("w f\n", "11\n"), ("1,2c\nx\n.\n", ""),
+    ("1,$p\n", "x\n"), ("r f\n", "11\n"), ("1,$p\n", "x\nzero\nthree\n"), ("s/nosuch/y/\n", "?\n"), ("9p\n", "?\n"), ("zz\n", "?\n"),
+    ("2,1p\n", "?\n"), ("/nosuch/\n", "?\n"), ("e f\n", "11\n"), ("1,$s/e/E/p\n", "thrEe\n"), ("1,$p\n", "zEro\nthrEe\n"),
+    ("$a\nlast\n.\n", ""), ("w\n", "16\n"), ("f\n", "f\n"), ("$-1p\n", "thrEe\n"), ("1+1p\n", "thrEe\n"), ("e g\n", "?\n"),
+    ("0a\nfirst\n.\n", ""), (".-1,.p\n", "?\n"), ("1s,first,a/b,p\n", "a/b\n"), ("f h\n", "h\n"), ("q\n", ""),
+)
 
 
 class Shell(Case):
@@ -139,7 +180,8 @@ class Shell(Case):
 
     def test_build(self):
         image = self.path("image")
-        done = subprocess.run([os.path.join(SHELL, "build.sh"), image], env={**os.environ, "V6": V6}, capture_output=True)
+        path = f"{os.path.dirname(sys.executable)}:{os.environ['PATH']}"  # the tools with the same Python
+        done = subprocess.run([os.path.join(SHELL, "build.sh"), image], env={**os.environ, "V6": V6, "PATH": path}, capture_output=True)
         self.assertEqual((done.returncode, done.stderr), (0, b""))
         self.assertEqual(read(image), read(os.path.join(SHELL, "image")))
 
@@ -148,7 +190,7 @@ class Shell(Case):
         self.assertEqual(term, read(os.path.join(SHELL, "term")))
         self.assertEqual(len(final), DISK_BYTES)
         back, disk = self.path("back"), self.put("disk", final)
-        self.assertEqual(self.call(disk_main, "--v6", V6, "get", disk, "/", back), (0, "", ""))
+        self.assertEqual(self.call(disk_main, "--v6", V6, "get", disk, "/", back, "--table", self.path("table")), (0, "", ""))
         source = read(os.path.join(SHELL, "disk", "usr", "sys", "ken", "slp.c"))
         for name, data in (("again", source), ("slp.c", source), ("greeting", b"hello, world\n")):
             self.assertEqual(read(f"{back}/tmp/{name}"), data)
@@ -158,6 +200,54 @@ class Shell(Case):
         typed = [line[2:] for line in MORE.splitlines() if line.startswith("# ")]
         script = "run 10000\n" + "".join(f"type {line}\nrun 20000\n" for line in typed)
         self.assertEqual(self.play(script.encode())[0].decode().split("\r\n"), (MORE.upper() + "# ").split("\n"))
+
+    def test_modes_of_the_terminal(self):
+        """Small letters, another key that erases, and none is shown; then all as before."""
+        typed = ["stty -lcase erase %", "echo Ab#%%c", "stty", "stty -echo", "echo x", "stty echo lcase erase #", "echo Y#z"]
+        script = "run 10000\n" + "".join(f"type {line}\nrun 20000\n" for line in typed)
+        shown = ("# STTY -LCASE ERASE %\n# echo Ab#%%c\nAc\n# stty\nerase = '%'; kill = '@'\n-tabs -lcase echo -nl -raw \n"
+                 "# stty -echo\n# x\n# # ECHO Y#Z\nZ\n# ")
+        self.assertEqual(self.play(script.encode())[0].decode().replace("\r\n", "\n"), shown)
+
+    def try_it(self, name, *words):
+        """What a command prints, run alone."""
+        more = ("--with", os.path.join(SHELL, "src", "lib.s"), *words[:2], os.path.join(SHELL, "src", name + ".s"), *words[2:])
+        done = subprocess.run([sys.executable, os.path.join(TOP, "tools", "try.py"), "--v6", V6, *more], capture_output=True, input=b"")
+        self.assertEqual((done.returncode, done.stderr), (0, b""))
+        return done.stdout.decode()
+
+    def test_ed(self):
+        """Each command and each form of an address; what is typed stands before what ed must answer."""
+        told, typed = "", ""
+        for lines, answer in EDITED:
+            typed += lines
+            told += answer
+        command = [sys.executable, os.path.join(TOP, "tools", "try.py"), "--v6", V6, "--final", self.path("final"), "--with",
+                   os.path.join(SHELL, "src", "lib.s"), os.path.join(SHELL, "src", "ed.s")]
+        done = subprocess.run(command, input=typed.encode(), capture_output=True)
+        self.assertEqual((done.returncode, done.stdout.decode(), done.stderr), (0, told, b""))
+        self.assertEqual(self.call(disk_main, "--v6", V6, "cat", self.path("final"), "/f"), (0, "zEro\nthrEe\nlast\n", ""))
+
+    def test_dates(self):
+        """Of times that others tell: the last second of February and the first of a leap day, the end of a year, and 1975."""
+        empty, image = self.path("empty"), self.path("image")
+        os.mkdir(empty)
+        for time, shown in ((68169599, "Mon Feb 28 23:59:59 GMT 1972"), (68169600, "Tue Feb 29 00:00:00 GMT 1972"),
+                            (94694399, "Sun Dec 31 23:59:59 GMT 1972"), (169171203, "Tue May 13 00:00:03 GMT 1975"),
+                            (4102444799, "Thu Dec 31 23:59:59 GMT 2099")):
+            self.assertEqual(self.call(disk_main, "--v6", V6, "new", "--replace", "--short", "--time", str(time), image, empty)[0], 0)
+            self.assertEqual(self.try_it("date", "--disk", image), shown + "\n")
+
+    def test_a_large_file(self):
+        """Beyond what a word counts: 70,400 bytes in 1,000 lines of two words, and each of their words by its place."""
+        data = b"".join(b"%05d %s\n" % (n, bytes(97 + (n + k) % 26 for k in range(63))) for n in range(1000))
+        data += bytes(400)
+        file = self.put("large", data)
+        self.assertEqual(self.try_it("wc", "--file", file, "large"), "   1000   2000  70400 large\n")
+        rows = [" ".join(f"{int.from_bytes(data[n : n + 2], 'little'):06o}" for n in range(at, at + 16, 2))
+                for at in range(0, len(data), 16)]
+        wanted = [f"{16 * n:07o} {row}\n" for n, row in enumerate(rows[:4376])] + ["*\n", f"{len(data):07o}\n"]
+        self.assertEqual(self.try_it("od", "--file", file, "large"), "".join(wanted))
 
     def test_a_long_line(self):
         """The shell takes lines of 254 bytes, as many as the terminal gives; so a longer one comes from a file."""

@@ -1,0 +1,98 @@
+"""What the processes of a machine do at the end of a run, as its log tells: docs/manual/log.md."""
+from dataclasses import dataclass
+
+# What a machine comes to when the slots of a line are done.
+WAITS = "waits"  # for a key: whoever was woken by the last line reads the terminal again, or nobody can run
+BUSY = "busy"  # somebody waits for a key, and others run on
+SLEEPS = "sleeps"  # nobody can run, nobody waits for a key, and somebody sleeps for a time
+RUNS = "runs"  # somebody runs, and nobody waits for a key
+OVER = "over"  # nobody can run, and no key and no tick changes that
+KEYS, TIME = b"keys", b"tout"
+MOST_NUMBER = 32767
+DOES = {"keys": "reads the terminal", "tout": "sleeps for a time", "runs": "runs", "ended": "has ended"}
+
+
+@dataclass
+class Process:
+    number: int
+    parent: int
+    does: str = "runs"
+
+
+class Processes:
+    """The table of processes, kept line by line."""
+
+    def __init__(self, log):
+        self.slots, self.last, self.idle = {1: Process(1, 0)}, 1, False
+        self.woken = set()  # who was woken by keys, and has neither read the terminal again nor ended
+        self.answered = []  # for each time that keys woke somebody: whether the machine was idle
+        for line in log.split(b"\n"):
+            words = line.split(b" ")
+            does = LINES.get(words[0])
+            if does:
+                does(self, words)
+
+    def sleepers(self, channel):
+        return {slot for slot, one in self.slots.items() if one.does == channel.decode()}
+
+    def choice(self, words):
+        self.idle = words[0] == b"idle"
+
+    def sleep(self, words):
+        slot = int(words[1])
+        if slot in self.slots:
+            self.slots[slot].does = words[3].decode()
+            if words[3] == KEYS:
+                self.woken.discard(slot)
+
+    def wake(self, words):
+        woken = self.sleepers(words[1])
+        for slot in woken:
+            self.slots[slot].does = "runs"
+        if words[1] == KEYS:
+            self.answered.append(self.idle and bool(woken))
+            self.woken |= woken
+
+    def signal(self, words):
+        if int(words[1]) in self.slots:
+            self.slots[int(words[1])].does = "runs"
+
+    def fork(self, words):
+        taken = {one.number for one in self.slots.values()}
+        while True:
+            self.last = self.last % MOST_NUMBER + 1
+            if self.last not in taken:
+                break
+        self.slots[int(words[2])] = Process(self.last, self.slots[int(words[1])].number)
+
+    def exit(self, words):
+        gone = self.slots[int(words[1])]
+        gone.does = "ended"
+        self.woken.discard(int(words[1]))
+        for one in self.slots.values():
+            if one.parent == gone.number:
+                one.parent = 1
+
+    def reap(self, words):
+        self.slots.pop(int(words[1]), None)
+
+    def state(self):
+        readers = self.sleepers(KEYS)
+        if readers:
+            return WAITS if self.idle or self.woken <= readers else BUSY
+        if not self.idle:
+            return RUNS
+        return SLEEPS if self.sleepers(TIME) else OVER
+
+    def told(self):
+        """What each process does, in words."""
+        lines = []
+        for _, one in sorted(self.slots.items()):
+            does = DOES.get(one.does) or "waits for a child"
+            lines.append(f"process {one.number}, a child of {one.parent}, {does}" if one.parent else
+                         f"process {one.number} {does}")
+        return lines
+
+
+LINES = {b"go": Processes.choice, b"idle": Processes.choice, b"sleep": Processes.sleep, b"wake": Processes.wake,
+         b"signal": Processes.signal, b"fork": Processes.fork, b"exit": Processes.exit, b"reap": Processes.reap}

@@ -1,0 +1,59 @@
+#!/usr/bin/env python3
+"""Plays a script on a disk and shows the terminal; no file is lost where the run isn't done: see docs/tools/run.md."""
+import argparse
+import itertools
+import os
+import sys
+import tempfile
+
+sys.path.insert(0, os.path.dirname(os.path.abspath(__file__)))
+from files import STREAMS, guarded, place_of, put_out, read_bytes, same_file
+from program import CORE, V6, ProgramError, add_version, call
+
+OUTPUTS = ("term", "log", "disk")
+
+
+def options_of(words):
+    parser = argparse.ArgumentParser(prog="run.py", description="Plays a script on a disk: docs/tools/run.md")
+    parser.add_argument("image", help="the disk")
+    parser.add_argument("script", help="the script: docs/manual/scripts.md")
+    parser.add_argument("--term", metavar="FILE", default="-", help="where what the terminal shows goes (the standard output)")
+    parser.add_argument("--log", metavar="FILE", help="where the log goes")
+    parser.add_argument("--disk", metavar="FILE", help="where the disk goes that the run leaves; it may be the image")
+    parser.add_argument("--core", type=int, default=CORE, help=f"the size of core, in clicks ({CORE})")
+    parser.add_argument("--v6", metavar="COMMAND", default=V6, help="the program (bin/v6)")
+    add_version(parser)
+    options = parser.parse_args(words)
+    named = {name: getattr(options, name) for name in ("image", "script", *OUTPUTS)}
+    for (one, first), (other, second) in itertools.combinations(named.items(), 2):
+        if (same_file(first, second) or first in STREAMS and second in STREAMS) and {one, other} != {"image", "disk"}:
+            parser.error(f"{one} and {other} are the same file")
+    return options
+
+
+def run(options):
+    """The status of the program. What it writes goes to files of its own first. The disk takes its place where the run is done;
+    what was shown and logged up to there is kept in any case, but not of a run that never began."""
+    outputs = {name: getattr(options, name) for name in OUTPUTS if getattr(options, name)}
+    for name in outputs.values():
+        if name not in STREAMS:
+            place_of(name)
+    with tempfile.TemporaryDirectory() as folder:
+        made = {name: os.path.join(folder, name) for name in OUTPUTS}
+        words = ["run", options.image, str(options.core), options.script, *made.values()]
+        status, said = call(options.v6, *words)
+        for name, target in outputs.items():
+            if os.path.exists(made[name]) and (name != "disk" or not status):
+                put_out(target, read_bytes(made[name]))
+        if status:
+            print(f"run.py: {said}", file=sys.stderr)
+        return status
+
+
+def main(words):
+    options = options_of(words)
+    return guarded("run.py", lambda: run(options), ProgramError, failed=3)
+
+
+if __name__ == "__main__":
+    sys.exit(main(sys.argv[1:]))

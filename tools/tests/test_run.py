@@ -1,0 +1,58 @@
+"""run.py: what it refuses, and that no file is lost where a run isn't done."""
+import os
+import unittest
+
+from common import DISK_BYTES, TOP, V6, Case, read, tool
+
+run_main, as_main = tool("run").main, tool("as").main
+HI = os.path.join(TOP, "examples", "hi")
+SHOWN = "HI\r\n"
+
+
+class Run(Case):
+    def run_it(self, *words):
+        return self.call(run_main, "--v6", V6, *words)
+
+    def image(self):
+        return self.put("image", read(os.path.join(HI, "image")))
+
+    def test_outputs(self):
+        image, script = self.image(), os.path.join(HI, "script")
+        self.assertEqual(self.run_it(image, script), (0, SHOWN, ""))
+        term, log = self.path("term"), self.path("log")
+        self.assertEqual(self.run_it(image, script, "--term", term, "--log", log, "--disk", image), (0, "", ""))
+        self.assertEqual((read(term), read(log)[:10], len(read(image))), (SHOWN.encode(), b"boot 3968 ", DISK_BYTES))
+
+    def test_one_file_for_two(self):
+        image, script = self.image(), os.path.join(HI, "script")
+        before, one = read(image), self.path("one")
+        for words, said in ((("--term", one, "--log", one), "term and log"), (("--log", one, "--disk", one), "log and disk"),
+                            (("--term", image), "image and term"), (("--disk", script), "script and disk"),
+                            (("--log", "-"), "term and log"), (("--log", "/dev/stdout"), "term and log")):
+            status, out, error = self.run_it(image, script, *words)
+            self.assertEqual((status, out, error.splitlines()[-1]), (2, "", f"run.py: error: {said} are the same file"))
+        self.assertEqual((read(image), os.path.exists(one)), (before, False))
+
+    def test_a_run_that_is_not_done(self):
+        """The image keeps its bytes though it is the disk of the run too; what was shown until then is kept."""
+        program, image = self.path("init"), self.image()
+        source = self.put("init.s", b"\tsys\topen; tty; 2\n\tsys\twrite; hi; 3\n\tsys\tpipe\ntty:\t</dev/tty8\\0>\nhi:\t<hi\\n>\n")
+        self.assertEqual(self.call(as_main, "-o", program, source), (0, "", ""))
+        self.assertEqual(self.call(tool("disk").main, "--v6", V6, "put", image, program, "/etc/init"), (0, "", ""))
+        before, log = read(image), self.path("log")
+        script = self.put("script", b"run 100\n")
+        said = "run.py: not built: pc 12\n"
+        self.assertEqual(self.run_it(image, script, "--log", log, "--disk", image), (11, SHOWN, said))
+        self.assertEqual((read(image), b"boot 3968" in read(log)), (before, True))
+
+    def test_a_run_that_does_not_begin(self):
+        term = self.put("term", b"before")
+        bad = self.put("bad", b"walk\n")
+        self.assertEqual(self.run_it(self.image(), bad, "--term", term), (5, "", "run.py: script: line 1\n"))
+        self.assertEqual(read(term), b"before")
+        absent = self.path("no") + "/term"
+        self.assertEqual(self.run_it(self.image(), bad, "--term", absent), (3, "", f"run.py: {absent}: No such file or directory\n"))
+
+
+if __name__ == "__main__":
+    unittest.main()
