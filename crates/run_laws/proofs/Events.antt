@@ -1,5 +1,5 @@
 -- Each event of a run adds lines that fit, as long as the run goes on: the slots.
-use Rattle.std.proofs.Common.{◌≡◌, ◌≢◌, ◌∙◌, ◌==◌, ◌&&◌, ◌||◌, inl, inr, ℕ, zero, suc, not, Bool, true, false, cond, List, [], ◌∷◌, ◌++◌, append-nil, fold, Option, Some, None, refl, sym, ap, subst}
+use Rattle.std.proofs.Common.{◌≡◌, ◌∙◌, ◌==◌, ◌&&◌, ◌||◌, inl, inr, ℕ, zero, suc, not, Bool, true, false, List, [], ◌∷◌, ◌++◌, append-nil, fold, Option, Some, None, refl, sym, ap, subst}
 use Rattle.v6_base.specs.Trace.{Item, Byte, Log, entries_of}
 use Rattle.v6_base.specs.declared.entry.Chan.TheVariants.{RunOut}
 use Rattle.v6_base.specs.declared.entry.Place.{Place}
@@ -9,8 +9,7 @@ use Rattle.v6_base.specs.declared.entry.Entry.TheVariants as line
 use Rattle.pick_rules.specs.declared.table.Table.{Table}
 use Rattle.pick_rules.specs.Priority.{pswp}
 use Rattle.pick_rules.specs.Table.{row_at, is_ready, is_loaded, is_in_core}
-use Rattle.pick_rules.specs.Sleepers.{fall_asleep}
-use Rattle.pick_rules.specs.Choice.{chosen, gives_up, line_of_choice, settle}
+use Rattle.pick_rules.specs.Choice.{settle}
 use Rattle.pick_rules.specs.Board.{Board}
 use Rattle.pick_rules.specs.Apply.{applied}
 use Rattle.pick_rules.specs.Effects.{Effect, Show, Size, Fork, Text, Image, Exit, came}
@@ -18,17 +17,17 @@ use Rattle.pick_rules.specs.Logged.{Stop, Logged, log_one, logged, left_by}
 use Rattle.pick_rules.specs.Swapper.{Waits, candidate, move_for, swap_move}
 use Rattle.pick_rules.specs.Lawful.{Seen, FitAll, seen_after}
 use Rattle.pick_rules.proofs.Found.{least_in}
-use Rattle.pick_rules.proofs.Laws.{set_each}
 use Rattle.pick_rules.proofs.Movers.{Lives, candidate_lives}
 use Rattle.pick_rules.proofs.Shapes.{shape_at}
-use Rattle.log_laws.proofs.Fitting.{fit_item, seen_append, seen_items, Apt, Ends, Fitted, apt_fits, apt_more}
+use Rattle.log_laws.proofs.Fitting.{fit_item, seen_append, seen_items, Apt, Ends, Fitted, apt_fits}
 use Rattle.log_laws.proofs.Seats.{Seat, Seats, seat_at, stands, rule_of, AgreesAt, Agrees, RunnerAt, Paused, Holds}
 use Rattle.log_laws.proofs.Settles.{Settled, IsSettled, settling}
 use Rattle.log_laws.proofs.Passes.{Moves, pass_ends}
 use Rattle.sys_procs.specs.Process.{register}
 use Rattle.unix_core.specs.Unix.{Unix, System, process_of}
 use Rattle.unix_core.specs.Steps.{Steps}
-use Rattle.unix_core.specs.Turn.{Turn, end_effects, ending_at, ending_by, settled_as, settled, settles, turn_of, pass_effects, pass_of, slot_of}
+use Rattle.unix_core.specs.Turn.{Turn, happens, settled_after, end_effects, ending_at, ending_by, settled_as, settled, turn_of, pass_effects, pass_of, slot_of}
+use Rattle.unix_core.proofs.RunsLemmas.{settled_ending}
 use Rattle.run_laws.proofs.Sitting.{is_core, seats_of}
 use Rattle.run_laws.proofs.Steps.{AptSteps}
 use Rattle.run_laws.proofs.Turning.{turn_apt}
@@ -52,7 +51,7 @@ pub record FineTurn (seen : Seen) (t : Turn) : Type 0 where
   pub fine : t.ending ≡ None → Fine seen t.items t.next
 
 -- the kernel settles
-module _ (m : System) (u : Unix) (first : Seen) (l : Logged Unix) (fit : FitAll first (entries_of l.items)) (board : (seen_items first l.items).board ≡ l.board)
+module _ (u : Unix) (first : Seen) (l : Logged Unix) (fit : FitAll first (entries_of l.items)) (board : (seen_items first l.items).board ≡ l.board)
     (p : Paused (seats_of u) (seen_items first l.items)) where
   abbrev now : Seen
   now = seen_items first l.items
@@ -85,7 +84,7 @@ module _ (m : System) (u : Unix) (first : Seen) (l : Logged Unix) (fit : FitAll 
       by None f s = rw (append-nil l.items) (rests_fine s)
       by (Some e) f s = chosen_fine e f s
 
-  pub settles_fine : l.stop ≡ None → Fine first (settles m u l).items (settles m u l).next
+  pub settles_fine : l.stop ≡ None → Fine first (settled_after (happens u l)).items (settled_after (happens u l)).next
   settles_fine stop = subst (λ x. Fine first (l.items ++ (settled l.board).items) (record { unix = x; board = (settled l.board).board }))
       (sym (ap (λ o. left_by o u) stop)) settled_fine
 
@@ -121,11 +120,11 @@ ends_none Q (Some stop) seen e h = absurd (cc e)
 
 pub event_by : (u v : Unix) (seen : Seen) (es : List (Effect Unix))
     → Apt (Paused (seats_of v)) seen es → (logged seen.board es).stop ≡ None
-    → Fine seen (settles (system_at u seen) v (logged seen.board es)).items (settles (system_at u seen) v (logged seen.board es)).next
+    → Fine seen (settled_after (happens v (logged seen.board es))).items (settled_after (happens v (logged seen.board es))).next
 event_by u v seen es a stop =
     let l : Logged Unix = logged seen.board es in
     let f : Fitted (Paused (seats_of v)) seen l = apt_fits (Paused (seats_of v)) seen es a in
-    settles_fine (system_at u seen) v seen l f.fit f.board (ends_none (Paused (seats_of v)) l.stop (seen_items seen l.items) stop f.ends) stop
+    settles_fine v seen l f.fit f.board (ends_none (Paused (seats_of v)) l.stop (seen_items seen l.items) stop f.ends) stop
 
 -- A turn.
 stops : (pc : ℕ) (o : Option (Stop Unix)) (steps : Steps) → ending_by pc o steps.ending ≡ None
@@ -134,10 +133,13 @@ stops pc None steps e = (refl, e)
 stops pc (Some stop) steps e = absurd (cc e)
 
 turned_fine : (s : ℕ) (u : Unix) (seen : Seen) (steps : Steps) → AptSteps s seen steps
-    → FineTurn seen (turn_of (system_at u seen) s steps)
+    → FineTurn seen (settled_after (turn_of (system_at u seen) s steps))
 turned_fine s u seen steps a = record {
-  fine = λ e. let k = stops (register (process_of u s) 7) (logged seen.board es).stop steps e in
-      event_by u steps.unix seen es (a.apt (register (process_of u s) 7) k.1) k.0;
+  fine = λ e.
+      let none : (turn_of (system_at u seen) s steps).ending ≡ None = sym (settled_ending (turn_of (system_at u seen) s steps)) ∙ e in
+      let k = stops (register (process_of u s) 7) (logged seen.board es).stop steps none in
+      subst (λ (t : Turn). Fine seen t.items t.next) (ap (λ o. settled_after (record (happens steps.unix (logged seen.board es)) { ending = o })) (sym none))
+      (event_by u steps.unix seen es (a.apt (register (process_of u s) 7) k.1) k.0);
 }
   where
     es : List (Effect Unix)
@@ -188,7 +190,7 @@ unfolding swap_move
 pass_waits v seen core a = ap (move_for seen.board) (nobody_out v seen core a)
 
 pass_fine : (u : Unix) (seen : Seen) → Paused (seats_of u) seen → seen.board.table.running ≡ Some 0
-    → FineTurn seen (pass_of (system_at u seen))
+    → FineTurn seen (settled_after (pass_of (system_at u seen)))
 unfolding Apt came
 pass_fine u seen p r = record {
   fine = λ e. event_by u u seen pass_effects
@@ -198,12 +200,12 @@ pass_fine u seen p r = record {
 
 -- a slot
 pub slot_fine : (u : Unix) (seen : Seen) → Holds (seats_of u) seen
-    → FineTurn seen (slot_of (system_at u seen) seen.board.table.running)
+    → FineTurn seen (settled_after (slot_of (system_at u seen) seen.board.table.running))
 unfolding FitAll
 slot_fine u seen h = by seen.board.table.running refl h.paused.runner
   where
     by : (o : Option ℕ) → seen.board.table.running ≡ o → RunnerAt (seats_of u) seen.board o
-        → FineTurn seen (slot_of (system_at u seen) o)
+        → FineTurn seen (settled_after (slot_of (system_at u seen) o))
     by None e r =
         record { fine = λ f. record { fit = tt; stands = record { board = refl; holds = h } } }
     by (Some zero) e r = pass_fine u seen h.paused e

@@ -1,10 +1,9 @@
 -- exec(II), break(II) and the growth of a stack: their effects are apt. Images have a place in core.
-use Rattle.std.proofs.Common.{◌≡◌, ◌∙◌, ◌<◌, ◌≤◌, ◌+◌, ◌-◌, ◌*◌, ◌/◌, ◌==◌, ◌&&◌, ◌||◌, ℕ, not, nat_lt, nat_le, Bool, true, false, cond, List, [], ◌∷◌, ◌++◌, map, flat_map, length, Option, Some, None, is_some, option_map, Result, Ok, Err, set, set-set, get_or-set_same, bit_and, refl, sym, ap, subst, arith}
+use Rattle.std.proofs.Common.{◌≡◌, ◌∙◌, ◌<◌, ◌≤◌, ◌+◌, ◌-◌, ◌*◌, ◌/◌, ◌==◌, ◌&&◌, ◌||◌, ℕ, not, nat_le, Bool, true, false, cond, List, [], ◌++◌, map, flat_map, length, Option, Some, None, is_some, option_map, Result, Ok, Err, set, set-set, get_or-set_same, bit_and, refl, sym, ap, subst, arith}
 use Rattle.std.proofs.lemmas.Bool.{ltb-false, leb-true, eqb-true}
 use Rattle.v6_base.specs.Image.{Image, nseg}
 use Rattle.v6_base.specs.declared.errno.Errno.{Errno}
 use Rattle.v6_base.specs.declared.errno.Errno.TheVariants.{ENOEXEC, ENOMEM, EACCES, ETXTBSY}
-use Rattle.v6_base.specs.declared.entry.Place.{Place}
 use Rattle.v6_base.specs.declared.entry.Entry.TheVariants as line
 use Rattle.fs_codec.specs.Modes.{file_type}
 use Rattle.fs_codec.specs.Store.{Node}
@@ -20,7 +19,7 @@ use Rattle.aout_head.specs.Header.{Header, header_of, plan_of}
 use Rattle.aout_head.specs.declared.parts.Plan.{Plan}
 use Rattle.pick_rules.specs.declared.row.TableRow.{TableRow}
 use Rattle.pick_rules.specs.Table.{empty_row, row_at, with_row}
-use Rattle.pick_rules.specs.Board.{Board, limit, core_of_row, core_of_text, core_fit, placed}
+use Rattle.pick_rules.specs.Board.{Board, limit, core_of_row, core_of_text, core_fit}
 use Rattle.pick_rules.specs.Apply.{change_row, applied}
 use Rattle.pick_rules.specs.Effects.{lifted}
 use Rattle.pick_rules.specs.Effects as effect
@@ -46,9 +45,9 @@ use Rattle.sys_procs.specs.Stack.{arguments, first_stack, stack_clicks}
 use Rattle.sys_procs.specs.Break as break
 use Rattle.sys_procs.specs.ExecFile as exec
 use Rattle.unix_core.specs.Unix.{Unix}
-use Rattle.unix_core.specs.Steps.{Steps, quietly}
+use Rattle.unix_core.specs.Steps.{quietly}
 use Rattle.unix_core.specs.Calls.{world_of, with_world, came_by, halted_as, unless_halted, tried_by, grows, grown_by, grows_to}
-use Rattle.run_laws.proofs.Sitting.{is_core, seat_for, seats_in, seats_of, runner_seat, put_in}
+use Rattle.run_laws.proofs.Sitting.{seat_for, seats_in, runner_seat, put_in}
 use Rattle.run_laws.proofs.Steps.{AptSteps, unbuilt_apt, roomless_apt, apt_lifted, trapped, came_apt}
 use Rattle.run_laws.proofs.Rows.{FineComes, Calling, fails_fine}
 use Rattle.run_laws.proofs.Children.{core_place}

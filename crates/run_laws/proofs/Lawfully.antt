@@ -20,7 +20,7 @@ use Rattle.log_laws.proofs.Seats.{Seat, seat_at, rule_of, AgreesAt, Agrees, Paus
 use Rattle.log_laws.proofs.Settles.{end_fits}
 use Rattle.unix_core.specs.declared.turned.Unbuilt.{Unbuilt}
 use Rattle.unix_core.specs.Unix.{Unix, System}
-use Rattle.unix_core.specs.Turn.{Turn, pass_effects, pass_of}
+use Rattle.unix_core.specs.Turn.{Turn, settled_after, pass_effects, pass_of}
 use Rattle.unix_core.specs.Runs.{first_unix, system_with, Event, Slot, Tick, Byte, Switch, event_of, Course, goes_on_by, unless_ended, after_event, course, started, boots}
 use Rattle.run_laws.specs.Law.{log_of, LogsAreLawful}
 use Rattle.run_laws.proofs.Sitting.{seats_of}
@@ -112,7 +112,7 @@ module _ (store : Store) (core : ℕ) (low : 64 ≤ core) where
   unfolding applied fall_asleep
   first_paused = record { going = tt; agrees = first_agrees; runner = tt }
 
-  start_fine : FineTurn booted_seen (pass_of (system_at u booted_seen))
+  start_fine : FineTurn booted_seen (settled_after (pass_of (system_at u booted_seen)))
   unfolding Apt came
   start_fine =
       record { fine = λ e. event_by u u booted_seen pass_effects (refl, first_paused) (shown_stop (first_board core store.stamp) pass_effects tt) }

@@ -1,33 +1,24 @@
 -- Ticks, keys and switches add lines that fit.
-use Rattle.std.proofs.Common.{◌≡◌, ◌∙◌, ◌==◌, ◌+◌, ◌%◌, ◌^◌, inl, inr, ℕ, not, Bool, true, false, cond, if◌then◌else◌, List, [], ◌∷◌, ◌++◌, map, Option, Some, None, get_or, refl, sym, ap, subst}
+use Rattle.std.proofs.Common.{◌≡◌, ◌∙◌, ◌==◌, ◌+◌, ◌%◌, ◌^◌, inl, inr, ℕ, not, Bool, true, false, cond, if◌then◌else◌, List, [], ◌∷◌, ◌++◌, map, Option, Some, None, refl, sym, ap, subst}
 use Rattle.std.proofs.lemmas.Bool.{eqb-false}
 use Rattle.v6_base.specs.Trace.{Log, sent}
 use Rattle.v6_base.specs.declared.entry.Chan.{Chan}
 use Rattle.v6_base.specs.declared.entry.Chan.TheVariants.{Tout, Keys}
-use Rattle.v6_base.specs.declared.entry.Entry.TheVariants as line
 use Rattle.tty_line.specs.Input.{Typed, typed}
 use Rattle.pick_rules.specs.declared.row.Mode.{Mode}
 use Rattle.pick_rules.specs.declared.row.Mode.TheVariants.{User, Kernel, Idle}
-use Rattle.pick_rules.specs.Table.{empty_row}
-use Rattle.pick_rules.specs.Sleepers.{wakeup}
-use Rattle.pick_rules.specs.Clock.{tick}
-use Rattle.pick_rules.specs.Board.{Board}
-use Rattle.pick_rules.specs.Apply.{applied}
 use Rattle.pick_rules.specs.Effects.{Show, came}
 use Rattle.pick_rules.specs.Fits as fits
 use Rattle.pick_rules.specs.Fits.{mode_now}
 use Rattle.pick_rules.specs.Lawful.{Seen, FitsStage, FitAll, seen_after}
-use Rattle.pick_rules.proofs.Laws.{time_passed, passed_rows}
-use Rattle.pick_rules.proofs.Shapes.{same_none, wakeup_same}
-use Rattle.pick_rules.proofs.TickShapes.{tick_same}
 use Rattle.log_laws.proofs.Fitting.{Apt, wake_apt}
-use Rattle.log_laws.proofs.Seats.{Seats, Agrees, InTurn, RunnerAt, Paused, Holds}
+use Rattle.log_laws.proofs.Seats.{Seats, InTurn, RunnerAt, Paused, Holds}
 use Rattle.log_laws.proofs.Lines.{wake_paused}
 use Rattle.log_laws.proofs.Clocks.{tick_line, ticked_at, a_tick_later, tick_paused, tick_fits, mode_is}
 use Rattle.sys_procs.specs.Process.{Process}
 use Rattle.sys_procs.specs.World.{Clock}
 use Rattle.unix_core.specs.Unix.{Unix, process_of, with_process}
-use Rattle.unix_core.specs.Turn.{is_user}
+use Rattle.unix_core.specs.Turn.{stays, settled_after, is_user}
 use Rattle.unix_core.specs.Outside.{mode_by, tick_entry, timed, charged, clock_after, is_due, ticked, wakes, tick_of, calls, typed_of, switched_of}
 use Rattle.run_laws.proofs.Sitting.{seat_for, seats_of, runner_seat}
 use Rattle.run_laws.proofs.Turning.{same_seats}
@@ -124,7 +115,7 @@ shown_wakes true chan = tt
 shown_wakes false chan = tt
 
 pub tick_fine : (u : Unix) (seen : Seen) → Paused (seats_of u) seen
-    → FineTurn seen (tick_of (system_at u seen))
+    → FineTurn seen (settled_after (tick_of (system_at u seen)))
 unfolding Apt came
 tick_fine u seen p = record {
   fine = λ e. event_by u now seen (Show (Log (tick_entry mode)) ∷ wakes due Tout)
@@ -157,7 +148,7 @@ shown_keys [] due = shown_wakes due Keys
 shown_keys (byte ∷ bytes) due = shown_keys bytes due
 
 pub typed_fine : (u : Unix) (seen : Seen) (byte : ℕ) → Paused (seats_of u) seen
-    → FineTurn seen (typed_of (system_at u seen) byte)
+    → FineTurn seen (settled_after (typed_of (system_at u seen) byte))
 typed_fine u seen byte p =
     let k : Typed = typed u.line byte in
     let now : Unix = record u { line = k.terminal } in
@@ -168,7 +159,7 @@ typed_fine u seen byte p =
     }
 
 -- the switches
-pub switched_fine : (u : Unix) (seen : Seen) (word : ℕ) → Holds (seats_of u) seen → FineTurn seen (switched_of (system_at u seen) word)
+pub switched_fine : (u : Unix) (seen : Seen) (word : ℕ) → Holds (seats_of u) seen → FineTurn seen (stays (switched_of (system_at u seen) word))
 unfolding FitAll
 switched_fine u seen word h =
     record { fine = λ e. record { fit = tt; stands = record { board = refl; holds = h } } }

@@ -1,5 +1,5 @@
 -- The turn of each slot is apt.
-use Rattle.std.proofs.Common.{◌≡◌, ◌∙◌, ◌==◌, ◌||◌, ℕ, not, Bool, true, false, cond, if◌then◌else◌, List, [], ◌∷◌, find, Option, Some, None, is_none, is_some, slice_index, replicate, set, refl, sym, ap, subst}
+use Rattle.std.proofs.Common.{◌≡◌, ◌∙◌, ◌==◌, ◌||◌, ℕ, not, Bool, true, false, cond, List, [], ◌∷◌, find, Option, Some, None, is_none, is_some, slice_index, replicate, set, refl, sym, ap, subst}
 use Rattle.pdp_step.specs.declared.outcome.Kind.{Kind}
 use Rattle.pdp_step.specs.declared.outcome.Kind.TheVariants as kind
 use Rattle.pdp_step.specs.declared.outcome.Outcome.{Outcome}

@@ -26,8 +26,6 @@ use Rattle.unix_core.specs.Unix.{Unix, no_texts}
 use Rattle.unix_core.specs.References.{is_in, is_text_of, referrers}
 use Rattle.unix_core.specs.Runs.{first_process, first_unix, system_with}
 use Rattle.pdp_step.specs.declared.regs.Regs.{Regs}
-use Rattle.pick_rules.specs.Choice.{settle}
-use Rattle.unix_core.proofs.BoardLemmas.{settle_none}
 use Rattle.unix_core.specs.Parts.{unix_of, system_at, named, numbers_in, first_held, IsGood, IsKernel}
 use Rattle.unix_core.proofs.ReferenceLemmas.{one_in}
 
@@ -214,15 +212,12 @@ module _ (fs : FileSystem) (core : ℕ) (referred : (ino : ℕ) → slice_index 
     core = clicks ∙ sym (ap (λ (k : Kept). k.core) images);
   }
 
-  pub first_kernel : IsKernel stage.Resting w
+  pub first_kernel : IsKernel stage.New w
   first_kernel = record {
+    new = λ e. first_good;
     running = λ s e. absurd (cc e);
-    resting = λ e. first_good;
-    settled = λ s runs. ap settle slots ∙ settle_none (first_table fs.store.stamp) refl;
-    idle = λ none. absurd (let swapper : w.procs.table.running ≡ Some 0 = ap (λ (t : Table). t.running) slots in cc (none, swapper));
-    calls = λ s e runs above. absurd (let zero_ : Some 0 ≡ Some s = sym (ap (λ (t : Table). t.running) slots) ∙ runs in
-        let same : 0 ≡ s = cc zero_ in omega (arith, same, above));
+    resting = λ e. absurd (cc e);
   }
 
-  pub first_system : (regs : Regs) → system_at stage.Resting regs w ≡ system_with fs.store core
+  pub first_system : (regs : Regs) → system_at stage.New regs w ≡ system_with fs.store core
   first_system regs = λ i. record { unix = unix_is i; board = board_of (slots i) (images i) }

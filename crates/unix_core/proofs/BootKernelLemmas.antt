@@ -1,6 +1,5 @@
 -- What a kernel is beside its events: the start of its run, the switches, and the end.
-use Rattle.std.proofs.Common.{◌≡◌, ℕ, [], ◌∷◌, refl, sym, ap, ◌∙◌}
-use Rattle.std.specs.Prelude.{slice_index}
+use Rattle.std.proofs.Common.{◌≡◌, ℕ, [], ◌∷◌, refl, sym, ap}
 use Rattle.v6_base.specs.Trace.{Log, Took, Taken}
 use Rattle.v6_base.specs.declared.entry.Entry.TheVariants.{Boot}
 use Rattle.v6_base.proofs.Took.{took_then}
@@ -10,32 +9,35 @@ use Rattle.pdp_step.specs.declared.regs.Regs.{Regs}
 use Rattle.unix_core.specs.declared.world.World.{World}
 use Rattle.unix_core.specs.declared.machine.Stage.{Stage}
 use Rattle.unix_core.specs.declared.machine.Stage.TheVariants as stage
-use Rattle.unix_core.specs.Unix.{Unix, process_of, with_process}
-use Rattle.unix_core.specs.Turn.{pass_of}
+use Rattle.unix_core.specs.Unix.{Unix, New, Started}
+use Rattle.unix_core.specs.Turn.{pass_of, settled_after}
 use Rattle.unix_core.specs.Runs.{start_of, event_of, Switch, finished}
-use Rattle.unix_core.specs.Parts.{unix_of, board_in, holding, with_regs, system_at, IsGood, IsUser, IsKernel}
+use Rattle.unix_core.specs.Parts.{unix_of, board_in, with_regs, system_at, phase_of, IsGood, IsUser, IsKernel}
 
-pub kernel_good : (at : Stage) (w : World) → IsKernel at w → IsGood w
-kernel_good (stage.Running s) w kernel = ((kernel.running s refl).ready.good)
-kernel_good stage.Resting w kernel = (kernel.resting refl)
+pub kernel_good : (at : Stage) (w : World) → phase_of at ≡ Started → IsKernel at w → IsGood w
+kernel_good stage.New w started kernel = kernel.new refl
+kernel_good (stage.Running s) w started kernel = (kernel.running s refl).ready.good
+kernel_good stage.Resting w started kernel = (kernel.resting refl).good
+kernel_good stage.Stopped w started kernel = absurd (cc started)
+kernel_good stage.Finished w started kernel = absurd (cc started)
 
 -- The registers that stand apart tell of nothing but the process.
 regs_time : (at : Stage) (regs : Regs) (u : Unix) → (with_regs at regs u).clock.time ≡ u.clock.time
 regs_time (stage.Running s) regs u = refl
-regs_time stage.Resting regs u = refl
+regs_time at regs u = refl
 
 pub regs_store : (at : Stage) (regs : Regs) (u : Unix) → (with_regs at regs u).store ≡ u.store
 regs_store (stage.Running s) regs u = refl
-regs_store stage.Resting regs u = refl
+regs_store at regs u = refl
 
 -- The first line of the log tells of core and of the time.
-pub start_items : (at : Stage) (regs : Regs) (w : World) → IsKernel at w → (a b c : Taken) → Took a (Log (Boot w.core w.procs.table.now) ∷ []) b
-    → Took b (pass_of (system_at at regs w)).items c → Took a (start_of (system_at at regs w)).items c
-start_items at regs w kernel a b c first second =
-    let core = (kernel_good at w kernel).core in
+pub start_items : (at : Stage) (regs : Regs) (w : World) → IsGood w → (a b c : Taken) → Took a (Log (Boot w.core w.procs.table.now) ∷ []) b
+    → Took b (settled_after (pass_of (system_at at regs w))).items c → Took a (start_of (system_at at regs w)).items c
+start_items at regs w good a b c first second =
+    let core = good.core in
     let time = regs_time at regs (unix_of w) in
-    took_then a b c (Log (Boot w.core w.procs.table.now) ∷ []) (pass_of (system_at at regs w)).items (start_of (system_at at regs w)).items first second
-    (λ i. Log (Boot (core i) (sym time i)) ∷ (pass_of (system_at at regs w)).items)
+    took_then a b c (Log (Boot w.core w.procs.table.now) ∷ []) (settled_after (pass_of (system_at at regs w))).items (start_of (system_at at regs w)).items first second
+    (λ i. Log (Boot (core i) (sym time i)) ∷ (settled_after (pass_of (system_at at regs w))).items)
 
 -- Nothing of the parts but the Unix itself knows of the switches.
 module _ (w : World) (word : ℕ) where
@@ -66,56 +68,37 @@ module _ (w : World) (word : ℕ) where
 
   pub switched_kernel : (at : Stage) → IsKernel at w → IsKernel at switched
   switched_kernel at kernel = record {
+    new = λ e. switched_good (kernel.new e);
     running = λ s e. switched_user s (kernel.running s e);
-    resting = λ e. switched_good (kernel.resting e);
-    settled = kernel.settled;
-    idle = kernel.idle;
-    calls = kernel.calls;
+    resting = λ e. let was = kernel.resting e in record {
+      good = switched_good was.good;
+      settled = was.settled;
+      idle = was.idle;
+      calls = was.calls;
+    };
   }
 
   pub switched_system : (at : Stage) (regs : Regs) → system_at at regs switched ≡ (event_of (Switch word) (system_at at regs w)).next
   switched_system (stage.Running s) regs = refl
-  switched_system stage.Resting regs = refl
+  switched_system at regs = refl
 
 -- All is on the disk: the file system is this one.
-module _ (w : World) (new : FileSystem) (store : new.store ≡ synced w.files.tree.nodes.store w.procs.table.now)
-    (references : new.references ≡ w.files.tree.nodes.references) where
+module _ (w : World) (new : FileSystem) (store : new.store ≡ synced w.files.tree.nodes.store w.procs.table.now) where
   abbrev pub updated : World
   updated = record w { files = record w.files { tree = record w.files.tree { nodes = new } } }
 
-  updated_good : IsGood w → IsGood updated
-  updated_good good = record {
-    agree = good.agree;
-    in_core = good.in_core;
-    fifteen = good.fifteen;
-    numbers = good.numbers;
-    no_pipe = good.no_pipe;
-    marks = good.marks;
-    referred = λ ino. ap (λ l. slice_index l ino) references ∙ good.referred ino;
-    running = good.running;
-    entries = good.entries;
-    bytes = good.bytes;
-    core = good.core;
-  }
-
-  updated_user : (s : ℕ) → IsUser s w → IsUser s updated
-  updated_user s user = record {
-    ready = record { good = updated_good user.ready.good; runs = user.ready.runs; user = user.ready.user };
-    user = user.user;
-    settled = user.settled;
-  }
-
-  pub updated_kernel : (at : Stage) → IsKernel at w → IsKernel at updated
-  updated_kernel at kernel = record {
-    running = λ s e. updated_user s (kernel.running s e);
-    resting = λ e. updated_good (kernel.resting e);
-    settled = kernel.settled;
-    idle = kernel.idle;
-    calls = kernel.calls;
-  }
-
-  pub updated_system : (at : Stage) (regs : Regs) → system_at at regs updated ≡ finished (system_at at regs w)
-  updated_system (stage.Running s) regs =
-      ap (λ t. record { unix = record (with_process (unix_of w) s (holding regs (process_of (unix_of w) s))) { store = t }; board = board_in w }) store
-  updated_system stage.Resting regs =
+  pub updated_system : (regs : Regs) → system_at stage.Finished regs updated ≡ finished (system_at stage.Finished regs w)
+  updated_system regs =
       ap (λ s. record { unix = record (unix_of w) { store = s }; board = board_in w }) store
+
+-- A run that is finished keeps nothing together but its files.
+pub finished_kernel : (w : World) → IsKernel stage.Finished w
+finished_kernel w = record { new = λ e. absurd (cc e); running = λ s e. absurd (cc e); resting = λ e. absurd (cc e) }
+
+-- the stage of a run that hasn't been started
+pub new_stage : (at : Stage) → phase_of at ≡ New → at ≡ stage.New
+new_stage stage.New is = refl
+new_stage (stage.Running s) is = absurd (cc is)
+new_stage stage.Resting is = absurd (cc is)
+new_stage stage.Stopped is = absurd (cc is)
+new_stage stage.Finished is = absurd (cc is)

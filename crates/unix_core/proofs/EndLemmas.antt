@@ -1,6 +1,8 @@
 -- A turn ends: what belongs together still does, whether the process goes on, sleeps or has exited.
-use Rattle.std.proofs.Common.{◌≡◌, ◌≢◌, ◌<◌, ◌==◌, cond, ℕ, Bool, true, false, ℤ, int_lt, pos, Some, refl, sym, ap, ◌∙◌, subst, arith}
+use Rattle.std.proofs.Common.{◌≡◌, ◌≢◌, ◌<◌, ◌==◌, ◌++◌, cond, ℕ, Bool, true, false, ℤ, int_lt, pos, [], Option, Some, None, is_some, refl, sym, ap, ◌∙◌, subst, arith}
 use Rattle.std.proofs.lemmas.List.{get_or-set_same, get_or-set_other, length-set}
+use Rattle.v6_base.specs.Trace.{Took, Taken}
+use Rattle.v6_base.proofs.Took.{took_then}
 use Rattle.v6_base.specs.declared.entry.Chan.{Chan}
 use Rattle.v6_base.specs.declared.entry.Chan.TheVariants.{RunIn}
 use Rattle.pick_rules.specs.declared.row.Stat.TheVariants.{Sleeping, Waiting}
@@ -10,6 +12,7 @@ use Rattle.pick_rules.specs.Table.{empty_row, row_at, same_chan, IsTable}
 use Rattle.pick_rules.specs.Priority.{setpri}
 use Rattle.pick_rules.specs.Sleepers.{sleep_stat, runin_told, asleep, flagged, fall_asleep}
 use Rattle.pick_rules.specs.Board.{Board}
+use Rattle.pick_rules.specs.Logged.{logged}
 use Rattle.pick_rules.proofs.Laws.{sleep_now, sleep_ticks, sleep_tout, sleep_running}
 use Rattle.pdp_step.specs.declared.regs.Regs.{Regs}
 use Rattle.image_keep.specs.Kept.{Kept, HasImage, keeping}
@@ -18,13 +21,15 @@ use Rattle.sys_procs.specs.World.{clock_of}
 use Rattle.sys_procs.specs.Agree.{Lives, kind_of_stat, kind_of_member, kind_of_keeping, Agrees, Agree}
 use Rattle.sys_procs.proofs.Agreement.{AreLike, agree_like, agree_but, tables_same}
 use Rattle.unix_core.specs.declared.world.World.{World}
+use Rattle.unix_core.specs.declared.machine.Stage.{Stage}
 use Rattle.unix_core.specs.declared.machine.Stage.TheVariants as stage
 use Rattle.unix_core.specs.declared.ending.Ending.{Ending}
 use Rattle.unix_core.specs.declared.ending.Ending.TheVariants as ending
-use Rattle.unix_core.specs.Unix.{System}
+use Rattle.unix_core.specs.declared.turned.Unbuilt.{Unbuilt}
+use Rattle.unix_core.specs.Unix.{Unix, System, Started}
 use Rattle.unix_core.specs.Passing.{trapped, ended_table}
-use Rattle.unix_core.specs.Turn.{settled}
-use Rattle.unix_core.specs.Parts.{unix_of, board_in, system_at, IsGood, IsRested}
+use Rattle.unix_core.specs.Turn.{Turn, end_effects, ending_at, settled, settled_after, turned_by, turned}
+use Rattle.unix_core.specs.Parts.{unix_of, board_in, system_at, turn_end, phase_of, IsGood, IsRested, IsKernel, Takes}
 use Rattle.unix_core.proofs.TableLemmas.{RunsImage, with_table, good_table}
 use Rattle.unix_core.proofs.TickLemmas.{trapped_like, runin_like}
 
@@ -122,8 +127,8 @@ module _ (w : World) (good : IsGood w) (s : ℕ) (above : 0 < s) (low : s < 50) 
     (t : Table) (is : t ≡ ended_table w.procs.table s e) (table : IsTable t) where
   pub ended_rested : IsRested stage.Resting (with_table w t)
   ended_rested = record {
-    apart = λ r x. absurd (cc x);
-    good = λ x. good_table w t
+    resting = refl;
+    good = good_table w t
         (ended_agree w.procs.rows w.procs.images w.procs.table s good.agree above low t e is table (λ alive. good.running s (runs alive) above))
         (ended_image w.procs.images w.procs.table t s e is good.running) good;
   }
@@ -134,3 +139,54 @@ module _ (w : World) (good : IsGood w) (s : ℕ) (above : 0 < s) (low : s < 50) 
   ended_system regs b board now final =
       let clock : clock_of t ≡ clock_of w.procs.table = ap clock_of is ∙ ended_clock w.procs.table s e in
       final ∙ (λ i. record { unix = record (unix_of w) { clock = clock i }; board = (settled (board i)).board })
+
+  -- the run goes on
+  module _ (pc : ℕ) (goes : ending_at pc e ≡ None) where
+    ended_is : settled_after (record { unix = unix_of w; log = logged (board_in w) (end_effects s e); is_idle = false; ending = None })
+        ≡ turn_end w s pc e
+    ended_is = ap (λ o. settled_after (record { unix = unix_of w; log = logged (board_in w) (end_effects s e); is_idle = false; ending = o })) (sym goes)
+
+    pub ended_takes : (at : Stage) (regs old : Regs) (v : World) → IsKernel at v → phase_of at ≡ Started
+        → board_in (with_table w t) ≡ (logged {W = Unix} (board_in w) (end_effects s e)).board
+        → system_at at regs v ≡ record (system_at stage.Resting old (with_table w t)) { board = (settled (board_in (with_table w t))).board }
+        → Takes (turn_end w s pc e) at regs v
+    ended_takes at regs old v kernel started board final =
+        subst (λ (x : Turn). Takes x at regs v) ended_is
+        (record { kernel = kernel; system = ended_system old _ board (system_at at regs v) final; phase = started })
+
+    pub ended_items : (a b c : Taken) → board_in (with_table w t) ≡ (logged {W = Unix} (board_in w) (end_effects s e)).board
+        → Took a (logged {W = Unix} (board_in w) (end_effects s e)).items b → Took b (settled (board_in (with_table w t))).items c
+        → Took a (turn_end w s pc e).items c
+    ended_items a b c board one two =
+        subst (λ (x : Turn). Took a x.items c) ended_is
+        (took_then a b c _ _ _ one two (ap (λ (x : Board). (logged {W = Unix} (board_in w) (end_effects s e)).items ++ (settled x).items) board))
+
+-- The run ends.
+pub stopped_kernel : (w : World) → IsKernel stage.Stopped w
+stopped_kernel w = record { new = λ f. absurd (cc f); running = λ s f. absurd (cc f); resting = λ f. absurd (cc f) }
+
+module _ (w : World) (s pc : ℕ) where
+  pub stopped_takes : (e : Ending) → is_some (ending_at pc e) ≡ true → (regs : Regs) → Takes (turn_end w s pc e) stage.Stopped regs w
+  stopped_takes ending.Next f regs = absurd (cc f)
+  stopped_takes ending.Trapped f regs = absurd (cc f)
+  stopped_takes (ending.Slept pri chan) f regs = absurd (cc f)
+  stopped_takes ending.Ended f regs = absurd (cc f)
+  stopped_takes ending.NoRoom f regs = record { kernel = stopped_kernel w; system = refl; phase = refl }
+  stopped_takes ending.NotBuilt f regs = record { kernel = stopped_kernel w; system = refl; phase = refl }
+
+  pub stopped_items : (e : Ending) → is_some (ending_at pc e) ≡ true → (turn_end w s pc e).items ≡ []
+  stopped_items ending.Next f = absurd (cc f)
+  stopped_items ending.Trapped f = absurd (cc f)
+  stopped_items (ending.Slept pri chan) f = absurd (cc f)
+  stopped_items ending.Ended f = absurd (cc f)
+  stopped_items ending.NoRoom f = refl
+  stopped_items ending.NotBuilt f = refl
+
+  -- what is answered of it
+  pub end_answer : (e : Ending) → turned_by (ending_at pc e) false ≡ turned (turn_end w s pc e)
+  end_answer e = by (ending_at pc e)
+    where
+      by : (o : Option Unbuilt) → turned_by o false
+          ≡ turned (settled_after (record { unix = unix_of w; log = logged (board_in w) (end_effects s e); is_idle = false; ending = o }))
+      by None = refl
+      by (Some place) = refl

@@ -28,7 +28,7 @@ use Rattle.unix_core.specs.declared.world.World.{World}
 use Rattle.unix_core.specs.declared.machine.Stage.{Stage}
 use Rattle.unix_core.specs.Unix.{Unix, System}
 use Rattle.unix_core.specs.Passing.{called_table}
-use Rattle.unix_core.specs.Turn.{Turn, settled, settles, pass_effects, pass_of}
+use Rattle.unix_core.specs.Turn.{Happened, happens, settled, settled_after, pass_effects, pass_of}
 use Rattle.unix_core.specs.Outside as outside
 use Rattle.unix_core.specs.Outside.{wakes, typed_of}
 use Rattle.unix_core.specs.Parts.{unix_of, board_in, with_regs, system_at, IsRested}
@@ -38,15 +38,15 @@ use Rattle.unix_core.proofs.MachineLemmas.{rested_unix, some_good}
 use Rattle.unix_core.proofs.TableLemmas.{RunsImage, with_table, rested_table, table_system}
 
 -- An event has left this Unix and this log, and the kernel has settled.
-module _ (m was now : System) (u : Unix) (l : Logged Unix) (stop : l.stop ≡ None) (is : was ≡ record m { unix = u; board = l.board }) where
-  pub settles_next : now ≡ record was { board = (settled was.board).board } → now ≡ (settles m u l).next
+module _ (was now : System) (u : Unix) (l : Logged Unix) (stop : l.stop ≡ None) (is : was ≡ record { unix = u; board = l.board }) where
+  pub settles_next : now ≡ record was { board = (settled was.board).board } → now ≡ (settled_after (happens u l)).next
   settles_next final =
       final ∙ ap (λ (s : System). record s { board = (settled s.board).board }) is
-      ∙ ap (λ o. record m { unix = left_by o u; board = (settled l.board).board }) (sym stop)
+      ∙ ap (λ o. record { unix = left_by o u; board = (settled l.board).board }) (sym stop)
 
-  pub settles_items : (a b c : Taken) → Took a l.items b → Took b (settled was.board).items c → Took a (settles m u l).items c
+  pub settles_items : (a b c : Taken) → Took a l.items b → Took b (settled was.board).items c → Took a (settled_after (happens u l)).items c
   settles_items a b c first second =
-      took_then a b c l.items (settled was.board).items (settles m u l).items first second (ap (λ (s : System). l.items ++ (settled s.board).items) is)
+      took_then a b c l.items (settled was.board).items (settled_after (happens u l)).items first second (ap (λ (s : System). l.items ++ (settled s.board).items) is)
 
 -- The pass of the swapper.
 pub pass_stop : (b : Board) → (logged {W = Unix} b pass_effects).stop ≡ None
@@ -128,8 +128,8 @@ module _ (at : Stage) (regs : Regs) (w : World) (byte : ℕ) (rested : IsRested 
 
   pub typed_rested : IsRested at w1
   typed_rested = record {
-    apart = rested.apart;
-    good = λ e. let good = rested.good e in record {
+    resting = rested.resting;
+    good = let good = rested.good in record {
       agree = good.agree;
       in_core = good.in_core;
       fifteen = good.fifteen;
@@ -167,7 +167,7 @@ module _ (at : Stage) (regs : Regs) (w : World) (byte : ℕ) (rested : IsRested 
     typed_stop : l.stop ≡ None
     typed_stop = ap (λ (x : Logged Unix). x.stop) l_is ∙ wakes_stop (board_in w) called Keys
 
-    typed_is : system_at at regs (with_table w1 t) ≡ record m { unix = record m.unix { line = (typed w.files.line byte).terminal }; board = l.board }
+    typed_is : system_at at regs (with_table w1 t) ≡ record { unix = record m.unix { line = (typed w.files.line byte).terminal }; board = l.board }
     typed_is =
         let clock : clock_of t ≡ clock_of w.procs.table = ap clock_of table_is ∙ called_clock w.procs.table called Keys in
         let unix : with_regs at regs (unix_of (with_table w1 t)) ≡ record m.unix { line = (typed w.files.line byte).terminal } =
@@ -177,24 +177,24 @@ module _ (at : Stage) (regs : Regs) (w : World) (byte : ℕ) (rested : IsRested 
         let board : board_of t w.procs.images ≡ l.board = board_is ∙ ap (λ (x : Logged Unix). x.board) (sym l_is) in
         λ i. record { unix = unix i; board = board i }
 
-    abbrev turn_by : Terminal → Turn
-    turn_by line = settles m (record m.unix { line = (typed line byte).terminal })
+    abbrev turn_by : Terminal → Happened
+    turn_by line = happens (record m.unix { line = (typed line byte).terminal })
         (logged m.board (map Show (sent 0 (typed line byte).shown) ++ wakes (outside.calls (typed line byte).keyed) Keys))
 
     turn_is : turn_by w.files.line ≡ typed_of m byte
     turn_is = ap turn_by (sym (ap (λ (u : Unix). u.line) (rested_unix at regs w rested)))
 
     pub typed_next : (now : System) → now ≡ record (system_at at regs (with_table w1 t)) { board = (settled (board_in (with_table w1 t))).board }
-        → now ≡ (typed_of m byte).next
+        → now ≡ (settled_after (typed_of m byte)).next
     typed_next now final =
-        settles_next m (system_at at regs (with_table w1 t)) now (record m.unix { line = (typed w.files.line byte).terminal }) l typed_stop typed_is final
-        ∙ ap (λ (x : Turn). x.next) turn_is
+        settles_next (system_at at regs (with_table w1 t)) now (record m.unix { line = (typed w.files.line byte).terminal }) l typed_stop typed_is final
+        ∙ ap (λ x. (settled_after x).next) turn_is
 
     pub typed_items : (n : System) → m ≡ n → (a b c d : Taken) → Took a (sent 0 shown) b → Took b (logged {W = Unix} (board_in w) (wakes called Keys)).items c
-        → Took c (settled (board_in (with_table w1 t))).items d → Took a (typed_of n byte).items d
+        → Took c (settled (board_in (with_table w1 t))).items d → Took a (settled_after (typed_of n byte)).items d
     typed_items n same a b c d one two three =
-        subst (λ (x : Turn). Took a x.items d) (turn_is ∙ ap (λ x. typed_of x byte) same)
-        (settles_items m (system_at at regs (with_table w1 t)) (system_at at regs (with_table w1 t)) (record m.unix { line = (typed w.files.line byte).terminal }) l typed_stop typed_is a c d
+        subst (λ x. Took a (settled_after x).items d) (turn_is ∙ ap (λ x. typed_of x byte) same)
+        (settles_items (system_at at regs (with_table w1 t)) (system_at at regs (with_table w1 t)) (record m.unix { line = (typed w.files.line byte).terminal }) l typed_stop typed_is a c d
         (took_then a b c (sent 0 shown) (logged {W = Unix} (board_in w) (wakes called Keys)).items l.items one two (ap (λ (x : Logged Unix). x.items) (sym l_is))) three)
 
 -- The pass of the swapper.
@@ -209,16 +209,16 @@ module _ (at : Stage) (regs : Regs) (w : World) (rested : IsRested at w) (t : Ta
   abbrev began : System
   began = system_at at regs w
 
-  pass_is : system_at at regs (with_table w t) ≡ record began { unix = began.unix; board = (logged {W = Unix} began.board pass_effects).board }
+  pass_is : system_at at regs (with_table w t) ≡ record { unix = began.unix; board = (logged {W = Unix} began.board pass_effects).board }
   pass_is =
       table_system at regs w t (ap clock_of table_is ∙ pass_clock w.procs.table)
       ∙ ap (λ (b : Board). record began { board = b }) board_is
 
-  pub pass_next : (now : System) → now ≡ record (system_at at regs (with_table w t)) { board = (settled (board_in (with_table w t))).board } → now ≡ (pass_of began).next
-  pass_next now final = settles_next began (system_at at regs (with_table w t)) now began.unix (logged began.board pass_effects) (pass_stop began.board) pass_is final
+  pub pass_next : (now : System) → now ≡ record (system_at at regs (with_table w t)) { board = (settled (board_in (with_table w t))).board } → now ≡ (settled_after (pass_of began)).next
+  pass_next now final = settles_next (system_at at regs (with_table w t)) now began.unix (logged began.board pass_effects) (pass_stop began.board) pass_is final
 
   pub pass_items : (n : System) → began ≡ n → (a b c : Taken) → Took a (logged {W = Unix} (board_in w) pass_effects).items b → Took b (settled (board_in (with_table w t))).items c
-      → Took a (pass_of n).items c
+      → Took a (settled_after (pass_of n)).items c
   pass_items n same a b c one two =
-      subst (λ (s : System). Took a (pass_of s).items c) same
-      (settles_items began (system_at at regs (with_table w t)) (system_at at regs (with_table w t)) began.unix (logged began.board pass_effects) (pass_stop began.board) pass_is a b c one two)
+      subst (λ (s : System). Took a (settled_after (pass_of s)).items c) same
+      (settles_items (system_at at regs (with_table w t)) (system_at at regs (with_table w t)) began.unix (logged began.board pass_effects) (pass_stop began.board) pass_is a b c one two)

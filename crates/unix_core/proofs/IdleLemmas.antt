@@ -1,5 +1,5 @@
 -- Where a slot finds nobody to run, no slot is loaded and ready.
-use Rattle.std.proofs.Common.{◌≡◌, ◌∙◌, ◌<◌, ◌≤◌, ◌&&◌, ℕ, zero, suc, nat_lt, length, Bool, true, false, Option, Some, None, refl, sym, ap, subst, arith}
+use Rattle.std.proofs.Common.{◌≡◌, ◌∙◌, ◌<◌, ◌≤◌, ◌&&◌, cond, ℕ, zero, suc, nat_lt, length, Bool, true, false, Option, Some, None, refl, sym, ap, subst, arith}
 use Rattle.std.proofs.lemmas.Bool.{ltb-true, ltb-false}
 use Rattle.std.proofs.lemmas.List.{get_or_past}
 use Rattle.pick_rules.specs.declared.row.TableRow.{TableRow}
@@ -13,10 +13,11 @@ use Rattle.unix_core.specs.declared.machine.Stage.{Stage}
 use Rattle.unix_core.specs.declared.turned.Unbuilt.{Unbuilt}
 use Rattle.unix_core.specs.declared.turned.Turned.{Turned}
 use Rattle.unix_core.specs.declared.turned.Turned.TheVariants.{Idle}
-use Rattle.unix_core.specs.Unix.{System}
-use Rattle.unix_core.specs.Turn.{turned_by, turned, slot_of, NobodyCanRun}
+use Rattle.unix_core.specs.declared.machine.Stage.TheVariants as stage
+use Rattle.unix_core.specs.Unix.{System, Started}
+use Rattle.unix_core.specs.Turn.{Happened, turned_by, turned, stays, settles, calls_for_settling, settled_after, slot_of, NobodyCanRun}
 use Rattle.unix_core.specs.Runs.{Slot, event_of}
-use Rattle.unix_core.specs.Parts.{system_at, IsGood, IsKernel}
+use Rattle.unix_core.specs.Parts.{system_at, phase_of, IsGood, IsKernel}
 use Rattle.unix_core.proofs.BootKernelLemmas.{kernel_good}
 
 -- The choice is nobody.
@@ -38,19 +39,35 @@ never_idle : (o : Option Unbuilt) → turned_by o false ≡ Idle → ⊥
 never_idle None idle = cc idle
 never_idle (Some place) idle = cc idle
 
-nobody_by : (m : System) (runs : Option ℕ) → turned (slot_of m runs) ≡ Idle → runs ≡ None
+settled_answer : (h : Happened) → turned (settled_after h) ≡ turned_by h.ending h.is_idle
+settled_answer h = by (calls_for_settling h)
+  where
+    by : (b : Bool) → turned (cond b (settles h) (stays h)) ≡ turned_by h.ending h.is_idle
+    by true = refl
+    by false = refl
+
+nobody_by : (m : System) (runs : Option ℕ) → turned (settled_after (slot_of m runs)) ≡ Idle → runs ≡ None
 nobody_by m None idle = refl
 nobody_by m (Some zero) idle = absurd (never_idle (slot_of m (Some zero)).ending idle)
-nobody_by m (Some (suc s)) idle = absurd (never_idle (slot_of m (Some (suc s))).ending idle)
+nobody_by m (Some (suc s)) idle =
+    absurd (never_idle (slot_of m (Some (suc s))).ending (sym (settled_answer (slot_of m (Some (suc s)))) ∙ idle))
 
 pub nobody_runs : (m : System) → turned (event_of Slot m) ≡ Idle → m.board.table.running ≡ None
 nobody_runs m idle = nobody_by m m.board.table.running idle
 
-module _ (at : Stage) (regs : Regs) (w : World) (kernel : IsKernel at w) where
+-- in a run that has been started
+idle_chosen : (at : Stage) (w : World) → phase_of at ≡ Started → IsKernel at w → w.procs.table.running ≡ None → chosen w.procs.table ≡ None
+idle_chosen stage.New w started kernel none = absurd (cc started)
+idle_chosen (stage.Running s) w started kernel none = absurd (let runs = (kernel.running s refl).ready.runs in cc (none, runs))
+idle_chosen stage.Resting w started kernel none = (kernel.resting refl).idle none
+idle_chosen stage.Stopped w started kernel none = absurd (cc started)
+idle_chosen stage.Finished w started kernel none = absurd (cc started)
+
+module _ (at : Stage) (regs : Regs) (w : World) (started : phase_of at ≡ Started) (kernel : IsKernel at w) where
   nobody_here : w.procs.table.running ≡ None → NobodyCanRun w.procs.table
   nobody_here none =
-      let good : IsGood w = kernel_good at w kernel in
-      nobody_can w.procs.table good.agree.table.last good.agree.rows (kernel.idle none)
+      let good : IsGood w = kernel_good at w started kernel in
+      nobody_can w.procs.table good.agree.table.last good.agree.rows (idle_chosen at w started kernel none)
 
   pub idle_nobody : (m : System) → system_at at regs w ≡ m → (answer : Turned) → answer ≡ turned (event_of Slot m) → answer ≡ Idle → NobodyCanRun m.board.table
   idle_nobody m same answer is idle =

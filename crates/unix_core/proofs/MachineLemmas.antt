@@ -26,12 +26,10 @@ use Rattle.unix_core.proofs.PutLemmas.{IsLikeArea, with_images, alive_slot, unix
 
 -- Where no registers stand apart, the Unix is the world's.
 pub rested_unix : (at : Stage) (regs : Regs) (w : World) → IsRested at w → with_regs at regs (unix_of w) ≡ unix_of w
-rested_unix (stage.Running s) regs w r = absurd (r.apart s refl)
-rested_unix stage.Resting regs w r = refl
+rested_unix at regs w r = ap (λ x. with_regs x regs (unix_of w)) r.resting
 
 pub some_good : (at : Stage) (w : World) → IsRested at w → IsGood w
-some_good (stage.Running s) w r = absurd (r.apart s refl)
-some_good stage.Resting w r = (r.good refl)
+some_good at w r = r.good
 
 -- who runs lives
 pub good_alive : (w : World) (s : ℕ) → IsGood w → w.procs.table.running ≡ Some s → 0 < s → IsAlive w.procs s
@@ -81,8 +79,8 @@ module _ (w : World) (s : ℕ) (regs : Regs) (ready : IsReady w s) (u : UArea) (
 
   pub back_rested : IsRested stage.Resting (with_images w k)
   back_rested = record {
-    apart = λ r e. absurd (cc e);
-    good = λ e. subst (λ l. IsGood (with_images w l)) (sym kept) (good_put w s u alive (like_held u regs p is) ready.good);
+    resting = refl;
+    good = subst (λ l. IsGood (with_images w l)) (sym kept) (good_put w s u alive (like_held u regs p is) ready.good);
   }
 
 -- The registers are taken out.
@@ -108,15 +106,13 @@ module _ (w : World) (s : ℕ) (regs : Regs) (ready : IsReady w s) (r : regs.r �
 
 abbrev slot_or : Stage → ℕ
 slot_or (stage.Running s) = s
-slot_or stage.Resting = 0
+slot_or at = 0
 
 pub runs_kernel : (w : World) (s : ℕ) → IsUser s w → IsKernel (stage.Running s) w
 runs_kernel w s user = record {
+  new = λ e. absurd (cc e);
   running = λ r e. subst (λ x. IsUser x w) (ap slot_or e) user;
   resting = λ e. absurd (cc e);
-  settled = λ r e. user.settled;
-  idle = λ none. let runs = user.ready.runs in absurd (cc (none, runs));
-  calls = λ r e. absurd (cc e);
 }
 
 pub user_is : (w : World) (s : ℕ) (b : Bool) → IsAlive w.procs s → ((area_of w.procs.images s).pending == 0) ≡ b → is_user (process_of (unix_of w) s) ≡ b
@@ -128,11 +124,14 @@ one_of (Some s) = s
 
 pub calls_kernel : (w : World) (s : ℕ) → IsReady w s → settle w.procs.table ≡ None → is_user (process_of (unix_of w) s) ≡ false → IsKernel stage.Resting w
 calls_kernel w s ready settled calls = record {
+  new = λ e. absurd (cc e);
   running = λ r e. absurd (cc e);
-  resting = λ e. ready.good;
-  settled = λ r e. settled;
-  idle = λ none. let runs = ready.runs in absurd (cc (none, runs));
-  calls = λ r e runs above. subst (λ x. is_user (process_of (unix_of w) x) ≡ false) (ap one_of (sym ready.runs ∙ runs)) calls;
+  resting = λ e. record {
+    good = ready.good;
+    settled = λ r e. settled;
+    idle = λ none. let runs = ready.runs in absurd (cc (none, runs));
+    calls = λ r runs above. subst (λ x. is_user (process_of (unix_of w) x) ≡ false) (ap one_of (sym ready.runs ∙ runs)) calls;
+  };
 }
 
 -- where a tick comes
@@ -181,6 +180,6 @@ module _ (mode : Mode) (at : Stage) (w : World) (s : ℕ) (rested : IsRested at 
 
   pub charge_rested : IsRested at (with_images w k)
   charge_rested = record {
-    apart = rested.apart;
-    good = λ e. subst (λ l. IsGood (with_images w l)) (sym kept) (good_put w s u lives charge_like (rested.good e));
+    resting = rested.resting;
+    good = subst (λ l. IsGood (with_images w l)) (sym kept) (good_put w s u lives charge_like rested.good);
   }

@@ -1,5 +1,5 @@
 -- Processes are private: what each event leaves of those whose turn it isn't.
-use Rattle.std.proofs.Common.{◌≢◌, ℕ, zero, suc, Bool, true, false, ◌||◌, ◌==◌, nat_lt, if◌then◌else◌, List, ◌∷◌, ◌++◌, set, map, Option, Some, None, sym, ap}
+use Rattle.std.proofs.Common.{◌≡◌, ◌≢◌, ℕ, zero, suc, Bool, true, false, cond, ◌||◌, ◌==◌, nat_lt, if◌then◌else◌, List, ◌∷◌, ◌++◌, set, map, Option, Some, None, refl, sym, ap, subst}
 use Rattle.std.specs.Prelude.{⊤, MatchOption, slice_index}
 use Rattle.v6_base.specs.Trace.{Log, sent}
 use Rattle.v6_base.specs.declared.answer.Answer.{Answer}
@@ -38,7 +38,7 @@ use Rattle.unix_core.specs.Unix.{Unix, System, process_of, with_process}
 use Rattle.unix_core.specs.Steps.{Steps, quietly, returns, not_built, no_room}
 use Rattle.unix_core.specs.Errors.{error_number}
 use Rattle.unix_core.specs.Calls.{FileCall, ProcessCall, handed_of, with_handed, world_of, with_world, with_area, entered_area, words_passed, asked, given_area, refused_area, answers, file_call, process_call, did_by, came_by, forks, is_full, has_room, closes_all, exits, by_process_row, by_file_row, halted_as, unless_halted, tried_by, grows, grown_by, does_call, count_of, does_if_built, pending_read, resumed}
-use Rattle.unix_core.specs.Turn.{machine_of, with_machine, faults, comes_to, instruction, is_user, turn, end_effects, turn_of, pass_effects, pass_of, slot_of}
+use Rattle.unix_core.specs.Turn.{Happened, stays, settles, calls_for_settling, settled_after, machine_of, with_machine, faults, comes_to, instruction, is_user, turn, end_effects, turn_of, pass_effects, pass_of, slot_of}
 use Rattle.unix_core.specs.Outside.{mode_of, timed, charged, ticked, is_due, wakes, tick_entry, tick_of, calls, typed_of}
 use Rattle.unix_core.specs.Runs.{Slot, Tick, Byte, Switch, event_of, start_of}
 use Rattle.unix_core.specs.Private.{IsUndisturbed, AllUndisturbed, OthersUndisturbed}
@@ -202,7 +202,7 @@ module _ (m : System) (r : ℕ) where
   abbrev before : List (Option Process)
   before = m.unix.processes
 
-  spared_turn : (s : ℕ) → r ≢ s → IsUndisturbed m.unix (turn_of m s (turn m s)).next.unix r
+  spared_turn : (s : ℕ) → r ≢ s → IsUndisturbed m.unix (turn_of m s (turn m s)).unix r
   spared_turn s other =
       let u : Unix = m.unix in
       let same = spared_same before r in
@@ -214,10 +214,10 @@ module _ (m : System) (r : ℕ) where
       (carry_both (HasSpared before r) done.effects (end_effects s done.ending) h.effects
       (carry_end before r s other done.ending)) h.unix
 
-  spared_pass : IsUndisturbed m.unix (pass_of m).next.unix r
+  spared_pass : IsUndisturbed m.unix (pass_of m).unix r
   spared_pass = left_carried (HasSpared before r) m.board pass_effects m.unix (tt, tt) (spared_same before r)
 
-  spared_slot : (o : Option ℕ) → o ≢ Some r → IsUndisturbed m.unix (slot_of m o).next.unix r
+  spared_slot : (o : Option ℕ) → o ≢ Some r → IsUndisturbed m.unix (slot_of m o).unix r
   spared_slot None other = spared_same before r
   spared_slot (Some zero) other = spared_pass
   spared_slot (Some (suc s)) other = spared_turn (suc s) (λ same. other (ap (λ n. Some n) (sym same)))
@@ -235,13 +235,13 @@ module _ (m : System) (r : ℕ) where
   carry_wakes true chan = (tt, tt)
   carry_wakes false chan = tt
 
-  spared_tick : IsUndisturbed m.unix (tick_of m).next.unix r
+  spared_tick : IsUndisturbed m.unix (tick_of m).unix r
   spared_tick =
       left_carried (HasSpared before r) m.board
       (Show (Log (tick_entry (mode_of m))) ∷ wakes (is_due m.unix.clock) Tout) (ticked m)
       (tt, carry_wakes (is_due m.unix.clock) Tout) (spared_charged (mode_of m) m.board.table.running)
 
-  spared_typed : (byte : ℕ) → IsUndisturbed m.unix (typed_of m byte).next.unix r
+  spared_typed : (byte : ℕ) → IsUndisturbed m.unix (typed_of m byte).unix r
   spared_typed byte =
       let k : Typed = typed m.unix.line byte in
       left_carried (HasSpared before r) m.board (map Show (sent 0 k.shown) ++ wakes (calls k.keyed) Keys)
@@ -250,13 +250,23 @@ module _ (m : System) (r : ℕ) where
       (carry_shown (HasSpared before r) (sent 0 k.shown)) (carry_wakes (calls k.keyed) Keys))
       (spared_same before r)
 
+-- settling leaves the Unix as it is
+settled_unix : (h : Happened) → (settled_after h).next.unix ≡ h.unix
+settled_unix h = by (calls_for_settling h)
+  where
+    by : (b : Bool) → (cond b (settles h) (stays h)).next.unix ≡ h.unix
+    by true = refl
+    by false = refl
+
 -- The law, event by event: at the start,
 pub start_private : (m : System) → AllUndisturbed m (start_of m).next
 start_private m r = spared_pass m r
 
 -- by a slot,
 pub slot_private : (m : System) → OthersUndisturbed m (event_of Slot m).next
-slot_private m r other = spared_slot m r m.board.table.running other
+slot_private m r other =
+    let o : Option ℕ = m.board.table.running in
+    subst (λ (u : Unix). IsUndisturbed m.unix u r) (sym (settled_unix (slot_of m o))) (spared_slot m r o other)
 
 -- a tick, a key and the switches.
 pub tick_private : (m : System) → AllUndisturbed m (event_of Tick m).next

@@ -1,6 +1,6 @@
 -- How a run over a list of events is made of runs over its parts, and what it may end at.
 use Rattle.std.specs.Bool.{⊤}
-use Rattle.std.proofs.Common.{◌≡◌, ℕ, zero, suc, Bool, true, false, List, [], ◌∷◌, ◌++◌, Option, Some, None, refl, sym, ◌∙◌, ap, append_assoc}
+use Rattle.std.proofs.Common.{◌≡◌, ℕ, zero, suc, cond, subst, Bool, true, false, List, [], ◌∷◌, ◌++◌, Option, Some, None, refl, sym, ◌∙◌, ap, append_assoc}
 use Rattle.std.proofs.lemmas.List.{append-nil}
 use Rattle.v6_base.specs.Trace.{Item}
 use Rattle.pick_rules.specs.Logged.{Stop, logged}
@@ -12,7 +12,7 @@ use Rattle.unix_core.specs.declared.turned.Unbuilt.TheVariants as unbuilt
 use Rattle.unix_core.specs.declared.turned.Turned.TheVariants.{NotBuilt}
 use Rattle.unix_core.specs.Unix.{Unix, System, process_of}
 use Rattle.unix_core.specs.Steps.{Steps}
-use Rattle.unix_core.specs.Turn.{Turn, ending_at, ending_by, end_effects, turn_of, slot_of, turn, turned_by, turned}
+use Rattle.unix_core.specs.Turn.{Happened, Turn, stays, settles, calls_for_settling, settled_after, ending_at, ending_by, end_effects, turn_of, slot_of, turn, turned_by, turned}
 use Rattle.unix_core.specs.Runs.{Event, Slot, Tick, Byte, Switch, Course, begun, event_of, start_of, goes_on_by, unless_ended, after_event, course, started, after_items}
 
 -- first these events and then those
@@ -106,8 +106,17 @@ slot_is m None = tt
 slot_is m (Some zero) = tt
 slot_is m (Some (suc s)) = turn_is m (suc s) (turn m (suc s))
 
+-- settling ends no run
+pub settled_ending : (h : Happened) → (settled_after h).ending ≡ h.ending
+settled_ending h = by (calls_for_settling h)
+  where
+    by : (b : Bool) → (cond b (settles h) (stays h)).ending ≡ h.ending
+    by true = refl
+    by false = refl
+
 event_is : (event : Event) (m : System) → IsMet (event_of event m).ending
-event_is Slot m = slot_is m m.board.table.running
+event_is Slot m =
+    let o : Option ℕ = m.board.table.running in subst IsMet (sym (settled_ending (slot_of m o))) (slot_is m o)
 event_is Tick m = tt
 event_is (Byte byte) m = tt
 event_is (Switch word) m = tt

@@ -15,16 +15,16 @@ use Rattle.unix_core.specs.declared.ending.Ending.{Ending}
 use Rattle.unix_core.specs.declared.machine.Stage.{Stage}
 use Rattle.unix_core.specs.declared.machine.Stage.TheVariants as stage
 use Rattle.unix_core.specs.declared.world.World.{World}
-use Rattle.unix_core.specs.Unix.{Unix, System, process_of}
+use Rattle.unix_core.specs.Unix.{Started, Unix, System, process_of}
 use Rattle.unix_core.specs.Steps.{Steps}
 use Rattle.unix_core.specs.Calls.{resumed}
 use Rattle.unix_core.specs.Turn.{is_user, instruction, turn}
-use Rattle.unix_core.specs.Parts.{unix_of, with_regs, pc_by, pc_at, IsUser, IsRested, IsKernel, HasCome}
+use Rattle.unix_core.specs.Parts.{unix_of, with_regs, pc_by, pc_at, phase_of, IsUser, IsRested, IsKernel, HasCome}
 use Rattle.unix_core.proofs.MachineLemmas.{rested_unix, some_good, rested_alive}
 use Rattle.unix_core.proofs.TurnSteps.{apart_process}
 
-pub kernel_rested : (at : Stage) (w : World) → IsKernel at w → ((r : ℕ) → at ≢ stage.Running r) → IsRested at w
-kernel_rested at w kernel other = record { apart = other; good = kernel.resting }
+pub kernel_rested : (at : Stage) (w : World) → IsKernel at w → at ≡ stage.Resting → IsRested at w
+kernel_rested at w kernel resting = record { resting = resting; good = (kernel.resting resting).good }
 
 -- The PC of the process that runs.
 pub pc_apart : (w : World) (s : ℕ) (regs : Regs) → IsUser s w → slice_index regs.r 7 ≡ pc_at (stage.Running s) regs w
@@ -72,7 +72,10 @@ module _ (m : System) (s : ℕ) (u : Unix) (same : u ≡ m.unix) where
 pub resting_unix : (at : Stage) (regs : Regs) (u : Unix) → at ≡ stage.Resting → u ≡ with_regs at regs u
 resting_unix at regs u is = ap (λ x. with_regs x regs u) (sym is)
 
--- A stage in which no registers stand apart.
-pub is_resting : (at : Stage) → ((r : ℕ) → at ≢ stage.Running r) → at ≡ stage.Resting
-is_resting (stage.Running s) other = absurd (other s refl)
-is_resting stage.Resting other = refl
+-- A run that has been started, in which no registers stand apart.
+pub is_resting : (at : Stage) → phase_of at ≡ Started → ((r : ℕ) → at ≢ stage.Running r) → at ≡ stage.Resting
+is_resting stage.New started other = absurd (cc started)
+is_resting (stage.Running s) started other = absurd (other s refl)
+is_resting stage.Resting started other = refl
+is_resting stage.Stopped started other = absurd (cc started)
+is_resting stage.Finished started other = absurd (cc started)

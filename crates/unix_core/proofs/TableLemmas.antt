@@ -43,8 +43,8 @@ module _ (w : World) (t : Table) (agree : Agree w.procs.rows t w.procs.images) (
 
   pub rested_table : (at : Stage) → IsRested at w → IsRested at (with_table w t)
   rested_table at rested = record {
-    apart = rested.apart;
-    good = λ e. good_table (rested.good e);
+    resting = rested.resting;
+    good = good_table rested.good;
   }
 
 -- what stands in core can run

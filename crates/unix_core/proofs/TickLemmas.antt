@@ -31,7 +31,7 @@ use Rattle.unix_core.specs.declared.world.World.{World}
 use Rattle.unix_core.specs.declared.machine.Stage.{Stage}
 use Rattle.unix_core.specs.Unix.{Unix, System}
 use Rattle.unix_core.specs.Passing.{trapped, called_table}
-use Rattle.unix_core.specs.Turn.{settled}
+use Rattle.unix_core.specs.Turn.{settled_after, settled}
 use Rattle.unix_core.specs.Outside as outside
 use Rattle.unix_core.specs.Outside.{mode_of, tick_entry, clock_after, wakes, tick_of}
 use Rattle.unix_core.specs.Parts.{unix_of, board_in, with_regs, system_at, IsRested}
@@ -269,7 +269,7 @@ module _ (at : Stage) (regs : Regs) (w : World) (rested : IsRested at w) (mode :
   board_then =
       ap (λ x. board_of x w'.procs.images) t_is ∙ board_ticked mode w'.procs.table w'.procs.images ∙ ap (λ b. applied b (tick_entry mode)) board
 
-  tick_is : system_at at' regs' (with_table w' u) ≡ record m { unix = outside.ticked m; board = l.board }
+  tick_is : system_at at' regs' (with_table w' u) ≡ record { unix = outside.ticked m; board = l.board }
   tick_is =
       let clock : clock_of u ≡ clock_after (clock_of w.procs.table) =
       ap clock_of u_is ∙ called_clock t called Tout ∙ ap clock_of t_is ∙ tick_clock mode w'.procs.table ∙ ap (λ x. clock_after (clock_of x)) table in
@@ -283,13 +283,13 @@ module _ (at : Stage) (regs : Regs) (w : World) (rested : IsRested at w) (mode :
       woken ∙ ap (λ b. (logged {W = Unix} b (wakes called Tout)).board) board_then ∙ ap (λ (x : Logged Unix). x.board) (sym l_is) in
       λ i. record { unix = after i; board = log i }
 
-  pub tick_next : (now : System) → now ≡ record (system_at at' regs' (with_table w' u)) { board = (settled (board_in (with_table w' u))).board } → now ≡ (tick_of m).next
-  tick_next now final = settles_next m (system_at at' regs' (with_table w' u)) now (outside.ticked m) l tick_stop tick_is final
+  pub tick_next : (now : System) → now ≡ record (system_at at' regs' (with_table w' u)) { board = (settled (board_in (with_table w' u))).board } → now ≡ (settled_after (tick_of m)).next
+  tick_next now final = settles_next (system_at at' regs' (with_table w' u)) now (outside.ticked m) l tick_stop tick_is final
 
   pub tick_items : (n : System) → m ≡ n → (a b c d : Taken) → Took a (Log (tick_entry mode) ∷ []) b → Took b (logged {W = Unix} (board_of t w'.procs.images) (wakes called Tout)).items c
-      → Took c (settled (board_in (with_table w' u))).items d → Took a (tick_of n).items d
+      → Took c (settled (board_in (with_table w' u))).items d → Took a (settled_after (tick_of n)).items d
   tick_items n equal a b c d one two three =
       let shown : Took b rest.items c = subst (λ x. Took b (logged {W = Unix} x (wakes called Tout)).items c) board_then two in
-      subst (λ (s : System). Took a (tick_of s).items d) equal
-      (settles_items m (system_at at' regs' (with_table w' u)) (system_at at' regs' (with_table w' u)) (outside.ticked m) l tick_stop tick_is a c d
+      subst (λ (s : System). Took a (settled_after (tick_of s)).items d) equal
+      (settles_items (system_at at' regs' (with_table w' u)) (system_at at' regs' (with_table w' u)) (outside.ticked m) l tick_stop tick_is a c d
       (took_then a b c (Log (tick_entry mode) ∷ []) rest.items l.items one shown (ap (λ (x : Logged Unix). x.items) (sym l_is))) three)

@@ -16,13 +16,15 @@ use Rattle.pdp_step.specs.Instruction.{instr}
 use Rattle.sys_procs.specs.Process.{register}
 use Rattle.unix_core.specs.declared.ending.Ending.{Ending}
 use Rattle.unix_core.specs.declared.ending.Ending.TheVariants as ending
+use Rattle.unix_core.specs.declared.machine.Stage.{Stage}
 use Rattle.unix_core.specs.declared.machine.Stage.TheVariants as stage
+use Rattle.unix_core.specs.declared.turned.Unbuilt.{Unbuilt}
 use Rattle.unix_core.specs.declared.world.World.{World}
 use Rattle.unix_core.specs.Unix.{Unix, System, process_of, with_process}
 use Rattle.unix_core.specs.Steps.{Steps}
 use Rattle.unix_core.specs.Calls.{resumed}
-use Rattle.unix_core.specs.Turn.{machine_of, with_machine, comes_to, instruction, turn, end_effects, settled, ending_at, ending_by, turn_of, turned_by, turned}
-use Rattle.unix_core.specs.Parts.{unix_of, board_in, system_at, ended_as, HasCome, HasStepped}
+use Rattle.unix_core.specs.Turn.{Happened, Turn, machine_of, with_machine, comes_to, instruction, turn, end_effects, settled, settled_after, ending_at, ending_by, turn_of}
+use Rattle.unix_core.specs.Parts.{unix_of, board_in, system_at, phase_after, turn_end, ended_as, HasCome, HasStepped, Takes}
 use Rattle.unix_core.proofs.BoardLemmas.{logged_line}
 
 -- after a panic nothing is logged
@@ -81,6 +83,10 @@ ending_same : (pc : ℕ) (o : Option (Stop Unix)) (own : Ending) → ending_at p
 ending_same pc None own = refl
 ending_same pc (Some stop) own = refl
 
+-- what was shown before stands in front of what a turn comes to
+abbrev pub shown_before : List Item → Turn → Turn
+shown_before items t = record t { items = items ++ t.items }
+
 -- A turn has come to this, and has ended.
 module _ (m : System) (s : ℕ) (steps : Steps) (e : Ending) (w : World) (come : HasCome m.board steps e w) where
   abbrev taken : Logged Unix
@@ -92,29 +98,60 @@ module _ (m : System) (s : ℕ) (steps : Steps) (e : Ending) (w : World) (come :
   whole_is : whole ≡ ended_log taken s e
   whole_is = turn_log m.board steps.effects s steps.ending e come.ending
 
-  pub turn_answer : turned_by (ending_at (register (process_of m.unix s) 7) e) false ≡ turned (turn_of m s steps)
-  turn_answer =
-      let pc : ℕ = register (process_of m.unix s) 7 in
-      ap (λ x. turned_by (ending_at pc x) false) come.ending
-      ∙ ap (λ o. turned_by o false) (ending_same pc taken.stop steps.ending)
-      ∙ ap (λ (x : Logged Unix). turned_by (ending_by pc x.stop steps.ending) false) (sym whole_is)
+  abbrev pc : ℕ
+  pc = register (process_of m.unix s) 7
 
-  pub turn_next : (now : System) → now ≡ record { unix = unix_of w; board = (settled (logged {W = Unix} (board_in w) (end_effects s e)).board).board }
-      → now ≡ (turn_of m s steps).next
-  turn_next now final =
-      final
-      ∙ (λ i. record { unix = come.unix i; board = (settled (logged {W = Unix} (come.board i) (end_effects s e)).board).board })
-      ∙ ap (λ (x : Logged Unix). record m { unix = left_by x.stop steps.unix; board = (settled x.board).board }) (sym whole_is)
+  -- what has happened then, by what the turn has left
+  abbrev left : Happened
+  left = record { unix = unix_of w; log = ended_log taken s e; is_idle = false; ending = ending_at pc e }
 
-  pub turn_items : (a b c : Taken) → Took a taken.items b
-      → Took b ((logged {W = Unix} (board_in w) (end_effects s e)).items ++ (settled (logged {W = Unix} (board_in w) (end_effects s e)).board).items) c
-      → Took a (turn_of m s steps).items c
+  left_is : turn_of m s steps ≡ left
+  left_is =
+      ap (λ (l : Logged Unix). record { unix = left_by l.stop steps.unix; log = l; is_idle = false; ending = ending_by pc l.stop steps.ending }) whole_is
+      ∙ (λ i. record {
+        unix = sym come.unix i;
+        log = ended_log taken s e;
+        is_idle = false;
+        ending = (sym (ending_same pc taken.stop steps.ending) ∙ ap (ending_at pc) (sym come.ending)) i;
+      })
+
+  -- the end of the turn, by the board that the turn has left
+  abbrev last : Board → Logged Unix
+  last b = logged b (end_effects s e)
+
+  abbrev with_last : Option Unbuilt → Board → Happened
+  with_last o b = record {
+    unix = unix_of w;
+    log = record { items = taken.items ++ (last b).items; board = (last b).board; stop = taken.stop };
+    is_idle = false;
+    ending = o;
+  }
+
+  ended_is : (o : Option Unbuilt) → settled_after (with_last o taken.board)
+      ≡ shown_before taken.items (settled_after (record { unix = unix_of w; log = last (board_in w); is_idle = false; ending = o }))
+  ended_is None =
+      ap (λ b. settled_after (with_last None b)) (sym come.board)
+      ∙ (λ i. record {
+        items = append_assoc taken.items (last (board_in w)).items (settled (last (board_in w)).board).items i;
+        next = record { unix = unix_of w; board = (settled (last (board_in w)).board).board };
+        is_idle = false;
+        ending = None;
+      })
+  ended_is (Some place) = ap (λ b. settled_after (with_last (Some place) b)) (sym come.board)
+
+  pub turn_is : settled_after (turn_of m s steps) ≡ shown_before taken.items (turn_end w s pc e)
+  turn_is = ap settled_after left_is ∙ ended_is (ending_at pc e)
+
+  pub turn_takes : (at : Stage) (regs : Regs) (now : World) → Takes (turn_end w s pc e) at regs now → Takes (settled_after (turn_of m s steps)) at regs now
+  turn_takes at regs now takes = record {
+    kernel = takes.kernel;
+    system = takes.system ∙ ap (λ (t : Turn). t.next) (sym turn_is);
+    phase = takes.phase ∙ ap (λ (t : Turn). phase_after t.ending) (sym turn_is);
+  }
+
+  pub turn_items : (a b c : Taken) → Took a taken.items b → Took b (turn_end w s pc e).items c → Took a (settled_after (turn_of m s steps)).items c
   turn_items a b c one two =
-      let last : Board → List Item = λ x. (logged {W = Unix} x (end_effects s e)).items ++ (settled (logged {W = Unix} x (end_effects s e)).board).items in
-      took_then a b c taken.items (last (board_in w)) (turn_of m s steps).items one two
-      (ap (λ x. taken.items ++ last x) come.board
-      ∙ sym (append_assoc taken.items (logged {W = Unix} taken.board (end_effects s e)).items (settled (logged {W = Unix} taken.board (end_effects s e)).board).items)
-      ∙ ap (λ (x : Logged Unix). x.items ++ (settled x.board).items) (sym whole_is))
+      took_then a b c taken.items (turn_end w s pc e).items (settled_after (turn_of m s steps)).items one two (ap (λ (t : Turn). t.items) (sym turn_is))
 
 -- The process that executes instructions has stepped, and its registers have been put back.
 module _ (m : System) (s : ℕ) (o : Outcome) (regs regs' : Regs) (w w' : World) (stepped : HasStepped m regs w s o)

@@ -31,7 +31,7 @@ use Rattle.unix_core.specs.Unix.{Unix, System, process_of, with_process}
 use Rattle.unix_core.specs.References.{referrers}
 use Rattle.unix_core.specs.Steps.{steps}
 use Rattle.unix_core.specs.Calls.{resumed}
-use Rattle.unix_core.specs.Turn.{Turn, machine_of, with_machine, is_user, comes_to, instruction, turn, turn_of, slot_by, slot_of, settled_as, turned}
+use Rattle.unix_core.specs.Turn.{Turn, machine_of, with_machine, is_user, comes_to, instruction, turn, turn_of, slot_by, slot_of, settled_as, settled_after, turned}
 use Rattle.unix_core.specs.Runs.{Slot, event_of}
 use Rattle.unix_core.specs.Parts.{unix_of, board_in, holding, with_regs, system_at, named, numbers_in, IsReady, IsUser, HasStepped}
 use Rattle.unix_core.proofs.ReferenceLemmas.{numbers_living, one_in, in_living, named_set, in_set, slot_within}
@@ -214,8 +214,8 @@ module _ (w : World) (s : ℕ) (user : IsUser s w) (text : (image_of w.procs.ima
   }
 
 -- the slot of a process that isn't the swapper
-pub user_slot : (m : System) (s : ℕ) → m.board.table.running ≡ Some s → 0 < s → event_of Slot m ≡ turn_of m s (turn m s)
-user_slot m s runs above = ap (slot_of m) runs ∙ by s above
+pub user_slot : (m : System) (s : ℕ) → m.board.table.running ≡ Some s → 0 < s → event_of Slot m ≡ settled_after (turn_of m s (turn m s))
+user_slot m s runs above = ap settled_after (ap (slot_of m) runs ∙ by s above)
   where
     by : (s : ℕ) → 0 < s → slot_by m s ≡ turn_of m s (turn m s)
     by zero above = absurd (omega (arith, above))
@@ -237,7 +237,7 @@ module _ (m : System) (s : ℕ) (above : 0 < s) (regs' : Regs) (w' : World) (don
   plain_is : event_of Slot m ≡ plain
   plain_is =
       user_slot m s done.runs above
-      ∙ ap (turn_of m s) turn_is
+      ∙ ap (λ x. settled_after (turn_of m s x)) turn_is
       ∙ ap (λ o. record {
         items = (settled_as o m.board).items;
         next = record m { unix = u; board = (settled_as o m.board).board };
@@ -247,6 +247,9 @@ module _ (m : System) (s : ℕ) (above : 0 < s) (regs' : Regs) (w' : World) (don
 
   pub plain_answer : Ran ≡ turned (event_of Slot m)
   plain_answer = ap turned (sym plain_is)
+
+  pub plain_goes : (event_of Slot m).ending ≡ None
+  plain_goes = ap (λ (t : Turn). t.ending) plain_is
 
   pub plain_next : system_at (stage.Running s) regs' w' ≡ (event_of Slot m).next
   plain_next =

@@ -12,12 +12,12 @@ use Rattle.tty_line.specs.Input.{Typed, typed}
 use Rattle.pick_rules.specs.declared.row.Mode.{Mode}
 use Rattle.pick_rules.specs.declared.row.Mode.TheVariants.{User, Kernel, Idle}
 use Rattle.pick_rules.specs.Effects.{Effect, Show}
-use Rattle.pick_rules.specs.Logged.{logged}
+use Rattle.pick_rules.specs.Logged.{nothing_logged, logged}
 use Rattle.u_area.specs.declared.area.UArea.{UArea}
 use Rattle.sys_procs.specs.Process.{Process}
 use Rattle.sys_procs.specs.World.{Clock}
 use Rattle.unix_core.specs.Unix.{Unix, System, process_of, with_process}
-use Rattle.unix_core.specs.Turn.{Turn, is_user, settles}
+use Rattle.unix_core.specs.Turn.{Happened, happens, is_user}
 
 -- where a tick comes
 abbrev pub mode_by : Unix → Option ℕ → Mode
@@ -67,9 +67,9 @@ abbrev pub wakes : Bool → Chan → List (Effect Unix)
 wakes true chan = Show (Log (Wake chan)) ∷ []
 wakes false chan = []
 
-abbrev pub tick_of : System → Turn
+abbrev pub tick_of : System → Happened
 tick_of m =
-    settles m (ticked m) (logged m.board (Show (Log (tick_entry (mode_of m))) ∷ wakes (is_due m.unix.clock) Tout))
+    happens (ticked m) (logged m.board (Show (Log (tick_entry (mode_of m))) ∷ wakes (is_due m.unix.clock) Tout))
 
 -- The keys that make signals, by their low seven bits. What they do to processes isn't built.
 abbrev pub is_signal_key : ℕ → Bool
@@ -82,11 +82,10 @@ calls Ready = true
 calls Flushed = true
 calls (Signal n) = true
 
-abbrev pub typed_of : System → ℕ → Turn
+abbrev pub typed_of : System → ℕ → Happened
 typed_of m byte =
     let k : Typed = typed m.unix.line byte in
-    settles m (record m.unix { line = k.terminal }) (logged m.board (map Show (sent 0 k.shown) ++ wakes (calls k.keyed) Keys))
+    happens (record m.unix { line = k.terminal }) (logged m.board (map Show (sent 0 k.shown) ++ wakes (calls k.keyed) Keys))
 
-abbrev pub switched_of : System → ℕ → Turn
-switched_of m word =
-    record { items = []; next = record m { unix = record m.unix { switches = word } }; is_idle = false; ending = None }
+abbrev pub switched_of : System → ℕ → Happened
+switched_of m word = happens (record m.unix { switches = word }) (nothing_logged m.board)

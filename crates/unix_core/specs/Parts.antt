@@ -1,6 +1,6 @@
 -- How the parts of a kernel are the Unix and the board: the world of files and processes, and the registers of the process
 -- that executes instructions.
-use Rattle.std.specs.Prelude.{◌≡◌, ◌≢◌, ◌<◌, ℕ, min, true, false, List, [], map, length, Option, Some, None, if◌then◌else◌, slice_index}
+use Rattle.std.specs.Prelude.{◌≡◌, ◌<◌, ℕ, min, true, false, List, [], map, length, Option, Some, None, if◌then◌else◌, slice_index}
 use Rattle.std.specs.List.{sum_by}
 use Rattle.open_files.specs.Files.{file_at, times}
 use Rattle.sys_files.specs.Handed.{Handed}
@@ -32,16 +32,17 @@ use Rattle.unix_core.specs.declared.machine.Went.{Went}
 use Rattle.unix_core.specs.declared.machine.Went.TheVariants as went
 use Rattle.unix_core.specs.declared.turned.Turned.{Turned}
 use Rattle.unix_core.specs.declared.turned.Turned.TheVariants as turned
+use Rattle.unix_core.specs.declared.turned.Unbuilt.{Unbuilt}
 use Rattle.unix_core.specs.declared.turned.Unbuilt.TheVariants.{At, Room}
 use Rattle.unix_core.specs.declared.machine.Stage.{Stage}
 use Rattle.unix_core.specs.declared.machine.Stage.TheVariants as stage
-use Rattle.unix_core.specs.Unix.{Unix, System, no_texts, process_of, with_process}
+use Rattle.unix_core.specs.Unix.{Unix, System, Phase, New, Started, Stopped, Finished, no_texts, process_of, with_process}
 use Rattle.unix_core.specs.References.{referrers}
 use Rattle.unix_core.specs.Init.{init_data}
 use Rattle.unix_core.specs.Calls.{FileCall, ProcessCall}
 use Rattle.unix_core.specs.Steps.{Steps}
 use Rattle.unix_core.specs.Passing.{shown_by, all_woken}
-use Rattle.unix_core.specs.Turn.{Turn, machine_of, with_machine, is_user, slot_of}
+use Rattle.unix_core.specs.Turn.{Turn, machine_of, with_machine, is_user, end_effects, ending_at, settled_after, slot_of}
 
 -- the Unix of a world
 abbrev pub unix_of : parts.World → Unix
@@ -68,14 +69,23 @@ holding regs p = record p { u = record p.u { r = regs.r; cc = regs.cc; codes = r
 -- the Unix while the registers of the process that executes instructions stand apart
 abbrev pub with_regs : Stage → Regs → Unix → Unix
 with_regs (stage.Running s) regs u = with_process u s (holding regs (process_of u s))
-with_regs stage.Resting regs u = u
+with_regs at regs u = u
 
 abbrev pub system_at : Stage → Regs → parts.World → System
 system_at at regs w = record { unix = with_regs at regs (unix_of w); board = board_in w }
 
 -- what the next slot comes to
 abbrev pub turn_at : Stage → Regs → parts.World → Turn
-turn_at at regs w = slot_of (system_at at regs w) w.procs.table.running
+turn_at at regs w = settled_after (slot_of (system_at at regs w) w.procs.table.running)
+
+-- what a turn comes to of which this is left, and which ends so, with the PC where it began
+abbrev pub turn_end : parts.World → ℕ → ℕ → Ending → Turn
+turn_end w s pc e = settled_after (record {
+  unix = unix_of w;
+  log = logged (board_in w) (end_effects s e);
+  is_idle = false;
+  ending = ending_at pc e;
+})
 
 -- the PC of the process that runs, or 0
 abbrev pub pc_by : Unix → Option ℕ → ℕ
@@ -160,23 +170,35 @@ pub record IsUser (s : ℕ) (w : parts.World) : Type 0 where
   pub user : is_user (process_of (unix_of w) s) ≡ true
   pub settled : settle w.procs.table ≡ None
 
--- what is so of a kernel's parts while no registers stand apart
+-- Between two things that happen in an event no registers stand apart.
 pub record IsRested (at : Stage) (w : parts.World) : Type 0 where
-  pub apart : (s : ℕ) → at ≢ stage.Running s
-  pub good : at ≡ stage.Resting → IsGood w
+  pub resting : at ≡ stage.Resting
+  pub good : IsGood w
 
--- the stage when the registers have been put back
-abbrev pub rested : Stage → Stage
-rested (stage.Running s) = stage.Resting
-rested stage.Resting = stage.Resting
+-- Between two events a process goes on with a call, or nobody runs but the swapper, or nobody.
+pub record IsPaused (w : parts.World) : Type 0 where
+  pub good : IsGood w
+  pub settled : (s : ℕ) → w.procs.table.running ≡ Some s → settle w.procs.table ≡ None
+  pub idle : w.procs.table.running ≡ None → chosen w.procs.table ≡ None
+  pub calls : (s : ℕ) → w.procs.table.running ≡ Some s → 0 < s → is_user (process_of (unix_of w) s) ≡ false
+
+abbrev pub phase_of : Stage → Phase
+phase_of stage.New = New
+phase_of (stage.Running s) = Started
+phase_of stage.Resting = Started
+phase_of stage.Stopped = Stopped
+phase_of stage.Finished = Finished
+
+-- how far the run has come after an event that ends it so, where it does
+abbrev pub phase_after : Option Unbuilt → Phase
+phase_after None = Started
+phase_after (Some place) = Stopped
 
 -- what is so of every kernel
 pub record IsKernel (at : Stage) (w : parts.World) : Type 0 where
+  pub new : at ≡ stage.New → IsGood w
   pub running : (s : ℕ) → at ≡ stage.Running s → IsUser s w
-  pub resting : at ≡ stage.Resting → IsGood w
-  pub settled : (s : ℕ) → w.procs.table.running ≡ Some s → settle w.procs.table ≡ None
-  pub idle : w.procs.table.running ≡ None → chosen w.procs.table ≡ None
-  pub calls : (s : ℕ) → at ≡ stage.Resting → w.procs.table.running ≡ Some s → 0 < s → is_user (process_of (unix_of w) s) ≡ false
+  pub resting : at ≡ stage.Resting → IsPaused w
 
 -- A system whose running process was in user mode, and of which these are the registers and the world after the instruction.
 pub record HasStepped (m : System) (regs : Regs) (w : parts.World) (s : ℕ) (o : Outcome) : Type 0 where
@@ -191,6 +213,7 @@ pub record HasStepped (m : System) (regs : Regs) (w : parts.World) (s : ℕ) (o 
 pub record Takes (turn : Turn) (at : Stage) (regs : Regs) (w : parts.World) : Type 0 where
   pub kernel : IsKernel at w
   pub system : system_at at regs w ≡ turn.next
+  pub phase : phase_of at ≡ phase_after turn.ending
 
 -- what a slot answers that went so, with the PC where it began
 abbrev pub turned_at : ℕ → Went → Turned

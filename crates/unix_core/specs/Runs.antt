@@ -16,7 +16,7 @@ use Rattle.sys_procs.specs.Process.{Process, no_process}
 use Rattle.unix_core.specs.declared.turned.Unbuilt.{Unbuilt}
 use Rattle.unix_core.specs.Unix.{Unix, System, no_texts}
 use Rattle.unix_core.specs.Init.{init_data}
-use Rattle.unix_core.specs.Turn.{Turn, pass_of, slot_of}
+use Rattle.unix_core.specs.Turn.{Happened, Turn, stays, settled_after, pass_of, slot_of}
 use Rattle.unix_core.specs.Outside.{tick_of, typed_of, switched_of}
 
 -- process 1, whose program executes `/etc/init`: it has no parent, one click of data, and the root as its directory
@@ -66,12 +66,17 @@ pub data Event : Type 0 where
   Byte : ℕ → Event  -- a byte is typed at the console
   Switch : ℕ → Event  -- the switches of the console are set to a word
 
--- what an event comes to
+-- what happens in an event
+abbrev pub happened : Event → System → Happened
+happened Slot m = slot_of m m.board.table.running
+happened Tick m = tick_of m
+happened (Byte byte) m = typed_of m byte
+happened (Switch word) m = switched_of m word
+
+-- and what the event comes to: the switches let nobody settle
 abbrev pub event_of : Event → System → Turn
-event_of Slot m = slot_of m m.board.table.running
-event_of Tick m = tick_of m
-event_of (Byte byte) m = typed_of m byte
-event_of (Switch word) m = switched_of m word
+event_of (Switch word) m = stays (happened (Switch word) m)
+event_of e m = settled_after (happened e m)
 
 -- a run up to some point: what it has shown, the system there, and how it has ended, where it has
 pub record Course : Type 0 where
@@ -85,7 +90,7 @@ begun m = record { items = []; system = m; ending = None }
 -- The log begins with the size of core and the time; the swapper makes a pass before the first event, and then there is a
 -- choice.
 abbrev pub start_of : System → Turn
-start_of m = let pass : Turn = pass_of m in
+start_of m = let pass : Turn = settled_after (pass_of m) in
     record pass { items = Log (Boot m.board.core m.unix.clock.time) ∷ pass.items }
 
 abbrev pub goes_on_by : Course → Turn → Course

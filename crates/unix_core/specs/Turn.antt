@@ -1,5 +1,5 @@
 -- The turn of a slot, where there is a process: an instruction, or a call that it goes on with, until it exits. `trap` and `swtch` in Lions' Commentary, `trap.c` and `slp.c`.
-use Rattle.std.specs.Prelude.{◌≡◌, ℕ, zero, suc, ◌==◌, Bool, true, false, List, [], ◌∷◌, ◌++◌, Option, Some, None, if◌then◌else◌}
+use Rattle.std.specs.Prelude.{◌≡◌, ℕ, zero, suc, ◌==◌, ◌&&◌, Bool, true, false, not, is_none, List, [], ◌∷◌, ◌++◌, Option, Some, None, if◌then◌else◌}
 use Rattle.v6_base.specs.Trace.{Item, Log}
 use Rattle.v6_base.specs.declared.entry.Chan.TheVariants.{RunOut}
 use Rattle.v6_base.specs.declared.entry.Entry.{Entry}
@@ -17,7 +17,7 @@ use Rattle.pick_rules.specs.Choice.{settle}
 use Rattle.pick_rules.specs.Board.{Board}
 use Rattle.pick_rules.specs.Apply.{applied}
 use Rattle.pick_rules.specs.Effects.{Effect, Show}
-use Rattle.pick_rules.specs.Logged.{Logged, Stop, logged, left_by}
+use Rattle.pick_rules.specs.Logged.{Logged, Stop, nothing_logged, logged, left_by}
 use Rattle.sys_procs.specs.Process.{Process, with_state, register, image_of}
 use Rattle.unix_core.specs.declared.ending.Ending.{Ending}
 use Rattle.unix_core.specs.declared.ending.Ending.TheVariants as ending
@@ -82,9 +82,21 @@ abbrev pub settled_as : Option Entry → Board → Settled
 settled_as None b = record { items = []; board = b }
 settled_as (Some e) b = record { items = Log e ∷ []; board = applied b e }
 
--- The kernel settles after each event: who must gives up, and with nobody running there is a choice.
+-- The kernel settles: who must gives up, and with nobody running there is a choice.
 abbrev pub settled : Board → Settled
 settled b = settled_as (settle b.table) b
+
+-- What has happened in an event, before the kernel settles: the Unix and the log then, whether nobody was there to run, and
+-- how the run ends, where it ends here.
+pub record Happened : Type 0 where
+  pub unix : Unix
+  pub log : Logged Unix
+  pub is_idle : Bool
+  pub ending : Option Unbuilt
+
+-- An event leaves this Unix and this log. A panic leaves the Unix that stood before it.
+abbrev pub happens : Unix → Logged Unix → Happened
+happens u l = record { unix = left_by l.stop u; log = l; is_idle = false; ending = None }
 
 -- what an event comes to: what is shown, the system then, whether nobody was there to run, and how the run ends, where it
 -- ends here
@@ -94,16 +106,27 @@ pub record Turn : Type 0 where
   pub is_idle : Bool
   pub ending : Option Unbuilt
 
--- An event leaves this Unix and this log; and then the kernel settles. A panic leaves the Unix that stood before it.
-abbrev pub settles : System → Unix → Logged Unix → Turn
-settles m u l =
-    let now : Settled = settled l.board in
-    record {
-      items = l.items ++ now.items;
-      next = record { unix = left_by l.stop u; board = now.board };
-      is_idle = false;
-      ending = None;
-    }
+-- nothing follows what has happened
+abbrev pub stays : Happened → Turn
+stays h = record {
+  items = h.log.items;
+  next = record { unix = h.unix; board = h.log.board };
+  is_idle = h.is_idle;
+  ending = h.ending;
+}
+
+-- the kernel settles after it
+abbrev pub settles : Happened → Turn
+settles h =
+    let now : Settled = settled h.log.board in
+    record (stays h) { items = h.log.items ++ now.items; next = record { unix = h.unix; board = now.board } }
+
+-- Settling comes where somebody ran, or something came from outside, and the run goes on.
+abbrev pub calls_for_settling : Happened → Bool
+calls_for_settling h = is_none h.ending && not h.is_idle
+
+abbrev pub settled_after : Happened → Turn
+settled_after h = if calls_for_settling h then settles h else stays h
 
 -- what isn't built stands where the PC was
 abbrev pub ending_at : ℕ → Ending → Option Unbuilt
@@ -119,10 +142,10 @@ abbrev pub ending_by : ℕ → Option (Stop Unix) → Ending → Option Unbuilt
 ending_by pc None ending = ending_at pc ending
 ending_by pc (Some stop) ending = Some (At pc)
 
-abbrev pub turn_of : System → ℕ → Steps → Turn
+abbrev pub turn_of : System → ℕ → Steps → Happened
 turn_of m slot steps =
     let l : Logged Unix = logged m.board (steps.effects ++ end_effects slot steps.ending) in
-    record (settles m steps.unix l) {
+    record (happens steps.unix l) {
       ending = ending_by (register (process_of m.unix slot) 7) l.stop steps.ending;
     }
 
@@ -130,16 +153,16 @@ turn_of m slot steps =
 abbrev pub pass_effects : List (Effect Unix)
 pass_effects = Show (Log (entry.Sleep 0 pswp RunOut)) ∷ []
 
-abbrev pub pass_of : System → Turn
-pass_of m = settles m m.unix (logged m.board pass_effects)
+abbrev pub pass_of : System → Happened
+pass_of m = happens m.unix (logged m.board pass_effects)
 
-abbrev pub slot_by : System → ℕ → Turn
+abbrev pub slot_by : System → ℕ → Happened
 slot_by m zero = pass_of m
 slot_by m (suc s) = turn_of m (suc s) (turn m (suc s))
 
 -- A slot with nobody running does nothing.
-abbrev pub slot_of : System → Option ℕ → Turn
-slot_of m None = record { items = []; next = m; is_idle = true; ending = None }
+abbrev pub slot_of : System → Option ℕ → Happened
+slot_of m None = record (happens m.unix (nothing_logged m.board)) { is_idle = true }
 slot_of m (Some slot) = slot_by m slot
 
 -- what a kernel answers of a turn

@@ -33,10 +33,18 @@ pub record System : Type 0 where
   pub unix : Unix
   pub board : Board
 
--- a system and the blocks of its disk
+-- how far a run has come
+pub data Phase : Type 0 where
+  New : Phase  -- it hasn't been started
+  Started : Phase
+  Stopped : Phase  -- it has come to what isn't built, and takes no event any more
+  Finished : Phase  -- all that has changed is on the disk
+
+-- a system, the blocks of its disk, and how far its run has come
 pub record SystemOnDisk : Type 0 where
   pub system : System
   pub blocks : List (List ℕ)
+  pub phase : Phase
 
 abbrev pub process_at : Unix → ℕ → Option Process
 process_at u slot = slice_index_or u.processes slot None

@@ -46,6 +46,7 @@ fn file_system_of(alloc: Global, image: &[u8]) -> Result<(Nodes, u32), AllocErro
 
 impl Kernel {
     ghost use Rattle.unix_core.specs.Boots.{RefusesBoot};
+    ghost use Rattle.unix_core.specs.Unix.{New};
     ghost use Rattle.unix_core.specs.Runs.{boots};
 
     /// Makes the kernel for a disk image and so many clicks of core, before the start of its run.
@@ -56,6 +57,7 @@ impl Kernel {
         requires most { core ≤ 3968 }
         ensures system { IfOk result (λ kernel. boots image.now core ≡ Some kernel.system) }
         ensures blocks { IfOk result (λ kernel. kernel.blocks ≡ blocks_of image.now) }
+        ensures phase { IfOk result (λ kernel. kernel.phase ≡ New) }
         ensures refused { IfErr result (RefusesBoot image.now) }
     {
         if let Err(fault) = accept(image) {

@@ -1,5 +1,5 @@
 //! The kernel, which takes one event a call.
-ghost use Rattle.std.specs.Prelude.{◌≡◌, ◌≢◌, ◌==◌, ◌<◌, ◌≤◌, ℕ, [], slice_index, if◌then◌else◌, Ok, false};
+ghost use Rattle.std.specs.Prelude.{◌≡◌, ◌≢◌, ◌⊎◌, ◌==◌, ◌<◌, ◌≤◌, ℕ, [], slice_index, if◌then◌else◌, Ok, false};
 ghost use Rattle.v6_base.specs.Trace.{Took};
 ghost use Rattle.fs_codec.specs.Stands.{StandsFor};
 ghost use Rattle.buf_cache.specs.Blocks.{block_at, IsDisk};
@@ -61,19 +61,22 @@ pub struct Kernel {
 
 impl Model for Kernel {
     ghost use Rattle.unix_core.specs.Unix.{SystemOnDisk};
-    ghost use Rattle.unix_core.specs.Parts.{IsKernel, system_at};
+    ghost use Rattle.unix_core.specs.Parts.{IsKernel, system_at, phase_of};
 
     ghost Value = { SystemOnDisk };
 
     ghost view = { λ k. record {
       system = system_at k.machine.stage k.machine.regs k.machine.world;
       blocks = k.machine.world.files.tree.nodes.blocks;
+      phase = phase_of k.machine.stage;
     } };
 
     ghost invariant = { λ k. IsKernel k.machine.stage k.machine.world };
 }
 
 impl Kernel {
+    ghost use Rattle.unix_core.specs.Unix.{New, Started, Stopped, Finished};
+    ghost use Rattle.unix_core.specs.Parts.{phase_after};
     ghost use Rattle.unix_core.specs.Runs.{Slot, Tick, Byte, Switch, start_of, event_of, system_with, finished};
 
     /// A kernel with a file system, whose process 1 is about to execute `/etc/init`, with images and a tape of which nothing
@@ -87,6 +90,7 @@ impl Kernel {
         requires time { time ≡ nodes.store.stamp }
         ensures system { result.system ≡ system_with nodes.store core }
         ensures blocks { result.blocks ≡ nodes.blocks }
+        ensures phase { result.phase ≡ New }
     {
         see_nodes(&nodes);
         let tree = Tree::new(nodes);
@@ -104,7 +108,7 @@ impl Kernel {
         make_first(&mut procs);
         Kernel {
             machine: Machine {
-                stage: Stage::Resting,
+                stage: Stage::New,
                 regs: Regs { r: [0; 8], cc: 0 },
                 world: World {
                     files,
@@ -119,6 +123,8 @@ impl Kernel {
     /// Takes the start of a run, once, before the first event: the swapper finds nobody to bring in, and there is a choice.
     /// `main` and `sched` in Lions' Commentary, `main.c` and `slp.c`.
     pub fn start<T: Trace>(&mut self, trace: &mut T)
+        requires { self.old.phase ≡ New }
+        ensures phase { self.new.phase ≡ Started }
         ensures next { self.new.system ≡ (start_of self.old.system).next }
         ensures private { AllUndisturbed self.old.system self.new.system }
         ensures rest { SameRest self.old.blocks self.new.blocks }
@@ -129,12 +135,15 @@ impl Kernel {
             core: self.machine.world.core,
             time: self.machine.world.procs.table.now,
         });
+        self.machine.stage = Stage::Resting;
         self.machine.pass(trace);
     }
 
     /// Takes one slot: the turn of the running process, which is one instruction with its call, or the rest of a call in which
-    /// it slept.
+    /// it slept. Where it comes to what isn't built, the run has stopped: no event is taken any more.
     pub fn turn<T: Trace>(&mut self, trace: &mut T) -> Turned
+        requires { self.old.phase ≡ Started }
+        ensures phase { self.new.phase ≡ phase_after (event_of Slot self.old.system).ending }
         ensures answer { result ≡ turned (event_of Slot self.old.system) }
         ensures idle { result ≡ Turned.Idle → NobodyCanRun self.old.system.board.table }
         ensures next { self.new.system ≡ (event_of Slot self.old.system).next }
@@ -160,12 +169,15 @@ impl Kernel {
                 let at = self.machine.pc();
                 turned_at(self.machine.other_slot(trace), at)
             }
+            Stage::New | Stage::Stopped | Stage::Finished => unreachable!(),
         }
     }
 
     /// Takes one tick of the clock, a sixtieth of a second: `clock` in Lions' Commentary, `clock.c`. What isn't built never
     /// comes of it yet.
     pub fn tick<T: Trace>(&mut self, trace: &mut T) -> Result<(), Unbuilt>
+        requires { self.old.phase ≡ Started }
+        ensures phase { self.new.phase ≡ Started }
         ensures answer { result ≡ Ok tt }
         ensures next { self.new.system ≡ (event_of Tick self.old.system).next }
         ensures private { AllUndisturbed self.old.system self.new.system }
@@ -180,7 +192,9 @@ impl Kernel {
     /// Takes a byte that is typed at the console: `klrint` in Lions' Commentary, `kl.c`; tty(IV) of the manual. A key that
     /// makes a signal isn't built: 0177 and 034, by the low seven bits.
     pub fn typed<T: Trace>(&mut self, b: u8, trace: &mut T)
-        requires { is_signal_key b ≡ false }
+        requires started { self.old.phase ≡ Started }
+        requires signal { is_signal_key b ≡ false }
+        ensures phase { self.new.phase ≡ Started }
         ensures next { self.new.system ≡ (event_of (Byte b) self.old.system).next }
         ensures private { AllUndisturbed self.old.system self.new.system }
         ensures rest { SameRest self.old.blocks self.new.blocks }
@@ -192,6 +206,8 @@ impl Kernel {
 
     /// Sets the switches of the console, 16 bits: csw(II) of the manual tells them.
     pub fn set_switches(&mut self, w: u16)
+        requires { self.old.phase ≡ Started }
+        ensures phase { self.new.phase ≡ Started }
         ensures next { self.new.system ≡ (event_of (Switch w) self.old.system).next }
         ensures private { AllUndisturbed self.old.system self.new.system }
         ensures blocks { self.new.blocks ≡ self.old.blocks }
@@ -202,11 +218,14 @@ impl Kernel {
     /// Ends a run: writes to the disk what has changed, and the super-block with the time where that has. sync(II) of
     /// the manual; `update` in Lions' Commentary, `alloc.c`.
     pub fn finish(&mut self)
+        requires { self.old.phase ≡ Started ⊎ self.old.phase ≡ Stopped }
+        ensures phase { self.new.phase ≡ Finished }
         ensures system { self.new.system ≡ finished self.old.system }
         ensures stands { StandsFor DISK_BLOCKS (block_at self.new.blocks) self.new.system.unix.store }
         ensures rest { SameRest self.old.blocks self.new.blocks }
         ensures form { IsDisk self.new.blocks }
     {
+        self.machine.put_away();
         self.machine
             .world
             .files
@@ -218,7 +237,8 @@ impl Kernel {
 
     /// Block `n` of the disk, as a run that has been finished leaves it.
     pub fn final_block(&self, n: u16) -> [u8; 512]
-        requires { n < DISK_BLOCKS }
+        requires finished { self.now.phase ≡ Finished }
+        requires block { n < DISK_BLOCKS }
         ensures { result ≡ block_at self.now.blocks n }
     {
         *self.machine.world.files.tree.nodes.on_disk(n)

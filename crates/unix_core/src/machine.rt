@@ -1,14 +1,14 @@
 //! The parts of a kernel, and what each event does to them.
-ghost use Rattle.std.specs.Prelude.{◌≡◌, ◌≢◌, ◌<◌, ◌++◌, ℕ, Bool, true, false, None, Some};
+ghost use Rattle.std.specs.Prelude.{◌≡◌, ◌≢◌, ◌<◌, ℕ, Bool, true, false, is_some, None, Some};
 ghost use Rattle.v6_base.specs.Trace.{Took};
 ghost use Rattle.fs_laws.specs.Rest.{SameRest};
 ghost use Rattle.pick_rules.specs.Choice.{chosen, settle};
 ghost use Rattle.pick_rules.specs.Logged.{logged};
 ghost use Rattle.sys_procs.specs.Process.{register};
-ghost use Rattle.unix_core.specs.Unix.{Unix, System, process_of};
-ghost use Rattle.unix_core.specs.Turn.{turned, turned_by, ending_at, turn, turn_of, end_effects, settled, pass_of};
+ghost use Rattle.unix_core.specs.Unix.{Unix, System, Started, process_of};
+ghost use Rattle.unix_core.specs.Turn.{turned, turned_by, ending_at, turn, turn_of, settled, settled_after, pass_of};
 ghost use Rattle.unix_core.specs.Outside.{calls, charged, mode_of, tick_entry, timed_area, tick_of, typed_of};
-ghost use Rattle.unix_core.specs.Parts.{unix_of, board_in, system_at, turn_at, turned_at, pc_at, rested, IsGood, IsReady, IsUser, IsRested, IsKernel, HasCome, HasStepped, Takes};
+ghost use Rattle.unix_core.specs.Parts.{unix_of, board_in, system_at, turn_at, turned_at, turn_end, pc_at, phase_of, IsGood, IsReady, IsUser, IsRested, IsKernel, HasCome, HasStepped, Takes};
 
 use crate::ending::Ending;
 use crate::process::{come_to, resume};
@@ -21,13 +21,19 @@ use tty_line::Keyed;
 use u_area::UArea;
 use v6_base::{Chan, Entry, Slot, Trace};
 
-/// What the next slot finds.
+/// How far a run has come, and what the next slot finds.
 #[derive(Clone, Copy, Debug, PartialEq, Eq)]
 pub enum Stage {
+    /// The run hasn't been started.
+    New,
     /// The process in this slot executes instructions. Its registers stand apart from its u area.
     Running(Slot),
     /// A process goes on with a call, or nobody runs but the swapper, or nobody.
     Resting,
+    /// The run has come to what isn't built, and takes no event any more.
+    Stopped,
+    /// All that has changed is on the disk.
+    Finished,
 }
 
 /// How a slot went. It is one byte, so that a slot's answer stays in a register.
@@ -103,7 +109,9 @@ fn calls(keyed: Keyed) -> bool
 
 /// How a turn went that ended so.
 fn went_by(ending: Ending) -> Went
-    ensures { (at : ℕ) → turned_at at result ≡ turned_by (ending_at at ending) false }
+    ensures went { (pc : ℕ) → turned_at pc result ≡ turned_by (ending_at pc ending) false }
+    ensures goes { result ≡ Went.Ran → (pc : ℕ) → ending_at pc ending ≡ None }
+    ensures stops { result ≢ Went.Ran → (pc : ℕ) → is_some (ending_at pc ending) ≡ true }
 {
     match ending {
         Ending::NoRoom => Went::NoRoom,
@@ -129,11 +137,11 @@ impl Machine {
     /// Puts the registers of the process that executes instructions, where there is one, back into its u area.
     fn put_back(&mut self)
         requires { IsKernel self.old.stage self.old.world }
-        ensures stage { self.new.stage ≡ rested self.old.stage }
         ensures system { system_at self.new.stage self.new.regs self.new.world
             ≡ system_at self.old.stage self.old.regs self.old.world }
         ensures table { self.new.world.procs.table ≡ self.old.world.procs.table }
-        ensures rested { IsRested self.new.stage self.new.world }
+        ensures apart { (s : ℕ) → self.new.stage ≢ Stage.Running s }
+        ensures rested { phase_of self.old.stage ≡ Started → IsRested self.new.stage self.new.world }
         ensures blocks { self.new.world.files.tree.nodes.blocks ≡ self.old.world.files.tree.nodes.blocks }
     {
         if let Stage::Running(s) = self.stage {
@@ -146,18 +154,31 @@ impl Machine {
         }
     }
 
+    /// Takes no event any more.
+    pub(crate) fn put_away(&mut self)
+        requires { IsKernel self.old.stage self.old.world }
+        ensures stage { self.new.stage ≡ Stage.Finished }
+        ensures system { system_at self.new.stage self.new.regs self.new.world
+            ≡ system_at self.old.stage self.old.regs self.old.world }
+        ensures blocks { self.new.world.files.tree.nodes.blocks ≡ self.old.world.files.tree.nodes.blocks }
+    {
+        self.put_back();
+        self.stage = Stage::Finished;
+    }
+
     /// Sees whether a process executes instructions, when the kernel has settled: its registers then stand apart.
     fn refresh(&mut self)
         requires rested { IsRested self.old.stage self.old.world }
         requires settled { (s : ℕ) → self.old.world.procs.table.running ≡ Some s → settle self.old.world.procs.table ≡ None }
         requires idle { self.old.world.procs.table.running ≡ None → chosen self.old.world.procs.table ≡ None }
         ensures kernel { IsKernel self.new.stage self.new.world }
+        ensures started { phase_of self.new.stage ≡ Started }
         ensures system { system_at self.new.stage self.new.regs self.new.world
             ≡ system_at self.old.stage self.old.regs self.old.world }
         ensures blocks { self.new.world.files.tree.nodes.blocks ≡ self.old.world.files.tree.nodes.blocks }
     {
-        match (self.stage, self.world.procs.table.running) {
-            (Stage::Resting, Some(s)) if s != 0 => self.take_out(s),
+        match self.world.procs.table.running {
+            Some(s) if s != 0 => self.take_out(s),
             _ => {}
         }
     }
@@ -168,6 +189,7 @@ impl Machine {
         requires ready { IsReady self.old.world s }
         requires settled { settle self.old.world.procs.table ≡ None }
         ensures kernel { IsKernel self.new.stage self.new.world }
+        ensures started { phase_of self.new.stage ≡ Started }
         ensures system { system_at self.new.stage self.new.regs self.new.world
             ≡ system_at self.old.stage self.old.regs self.old.world }
         ensures blocks { self.new.world.files.tree.nodes.blocks ≡ self.old.world.files.tree.nodes.blocks }
@@ -184,6 +206,7 @@ impl Machine {
     fn settle<T: Trace>(&mut self, trace: &mut T)
         requires { IsRested self.old.stage self.old.world }
         ensures kernel { IsKernel self.new.stage self.new.world }
+        ensures started { phase_of self.new.stage ≡ Started }
         ensures system { system_at self.new.stage self.new.regs self.new.world
             ≡ record (system_at self.old.stage self.old.regs self.old.world) {
               board = (settled (board_in self.old.world)).board;
@@ -198,15 +221,14 @@ impl Machine {
 
     /// Takes a pass of the swapper.
     pub(crate) fn pass<T: Trace>(&mut self, trace: &mut T)
-        requires { IsKernel self.old.stage self.old.world }
-        ensures takes { Takes (pass_of (system_at self.old.stage self.old.regs self.old.world))
+        requires { IsRested self.old.stage self.old.world }
+        ensures takes { Takes (settled_after (pass_of (system_at self.old.stage self.old.regs self.old.world)))
             self.new.stage self.new.regs self.new.world }
         ensures rest { SameRest self.old.world.files.tree.nodes.blocks self.new.world.files.tree.nodes.blocks }
         ensures items { Took (T.taken trace.old)
-            (pass_of (system_at self.old.stage self.old.regs self.old.world)).items (T.taken trace.new) }
+            (settled_after (pass_of (system_at self.old.stage self.old.regs self.old.world))).items (T.taken trace.new) }
         ensures frame { T.leads_to trace.old trace.new }
     {
-        self.put_back();
         pass(&mut self.world.procs.table, trace);
         self.settle(trace);
     }
@@ -216,7 +238,7 @@ impl Machine {
         requires kernel { IsKernel self.old.stage self.old.world }
         requires runs { self.old.world.procs.table.running ≡ Some s }
         requires user { 0 < s }
-        requires other { (r : ℕ) → self.old.stage ≢ Stage.Running r }
+        requires resting { self.old.stage ≡ Stage.Resting }
         ensures come { HasCome (board_in self.old.world)
             (turn (system_at self.old.stage self.old.regs self.old.world) s) result self.new.world }
         ensures stage { self.new.stage ≡ Stage.Resting }
@@ -230,7 +252,8 @@ impl Machine {
         resume(&mut self.world, s, trace)
     }
 
-    /// Ends a turn of a process that has come to this, and settles. It stands out of line, beside the loop over slots.
+    /// Ends a turn of a process that has come to this: the kernel settles, where the run goes on. It stands out of line, beside
+    /// the loop over slots.
     #[inline(never)]
     fn end<T: Trace>(&mut self, s: Slot, ending: Ending, trace: &mut T) -> Went
         requires good { IsGood self.old.world }
@@ -238,20 +261,23 @@ impl Machine {
         requires slot { s < 50 }
         requires runs { ending ≢ Ending.Ended → self.old.world.procs.table.running ≡ Some s }
         requires stage { self.old.stage ≡ Stage.Resting }
-        ensures answer { (at : ℕ) → turned_at at result ≡ turned_by (ending_at at ending) false }
-        ensures kernel { IsKernel self.new.stage self.new.world }
-        ensures system { system_at self.new.stage self.new.regs self.new.world ≡ record {
-          unix = unix_of self.old.world;
-          board = (settled (logged {W = Unix} (board_in self.old.world) (end_effects s ending)).board).board;
-        } }
+        ensures answer { (pc : ℕ) → turned_at pc result ≡ turned (turn_end self.old.world s pc ending) }
+        ensures takes { (pc : ℕ) → Takes (turn_end self.old.world s pc ending) self.new.stage self.new.regs self.new.world }
         ensures blocks { self.new.world.files.tree.nodes.blocks ≡ self.old.world.files.tree.nodes.blocks }
-        ensures items { Took (T.taken trace.old) ((logged {W = Unix} (board_in self.old.world) (end_effects s ending)).items
-            ++ (settled (logged {W = Unix} (board_in self.old.world) (end_effects s ending)).board).items) (T.taken trace.new) }
+        ensures items { (pc : ℕ) → Took (T.taken trace.old) (turn_end self.old.world s pc ending).items (T.taken trace.new) }
         ensures frame { T.leads_to trace.old trace.new }
     {
-        end_turn(&mut self.world.procs.table, s, ending, trace);
-        self.settle(trace);
-        went_by(ending)
+        match went_by(ending) {
+            Went::Ran => {
+                end_turn(&mut self.world.procs.table, s, ending, trace);
+                self.settle(trace);
+                Went::Ran
+            }
+            went => {
+                self.stage = Stage::Stopped;
+                went
+            }
+        }
     }
 
     /// Takes what an instruction comes to, where that isn't the next one, and settles. It stands out of line, beside the loop
@@ -261,13 +287,13 @@ impl Machine {
         requires stage { self.old.stage ≡ Stage.Running s }
         requires user { IsUser s self.old.world }
         ensures answer { (m : System) → HasStepped m self.old.regs self.old.world s outcome
-            → turned_at (register (process_of m.unix s) 7) result ≡ turned (turn_of m s (turn m s)) }
+            → turned_at (register (process_of m.unix s) 7) result ≡ turned (settled_after (turn_of m s (turn m s))) }
+        ensures takes { (m : System) → HasStepped m self.old.regs self.old.world s outcome
+            → Takes (settled_after (turn_of m s (turn m s))) self.new.stage self.new.regs self.new.world }
         ensures kernel { IsKernel self.new.stage self.new.world }
-        ensures system { (m : System) → HasStepped m self.old.regs self.old.world s outcome
-            → system_at self.new.stage self.new.regs self.new.world ≡ (turn_of m s (turn m s)).next }
         ensures rest { SameRest self.old.world.files.tree.nodes.blocks self.new.world.files.tree.nodes.blocks }
         ensures items { (m : System) → HasStepped m self.old.regs self.old.world s outcome
-            → Took (T.taken trace.old) (turn_of m s (turn m s)).items (T.taken trace.new) }
+            → Took (T.taken trace.old) (settled_after (turn_of m s (turn m s))).items (T.taken trace.new) }
         ensures frame { T.leads_to trace.old trace.new }
     {
         self.put_back();
@@ -281,7 +307,7 @@ impl Machine {
     #[inline(never)]
     pub(crate) fn other_slot<T: Trace>(&mut self, trace: &mut T) -> Went
         requires kernel { IsKernel self.old.stage self.old.world }
-        requires other { (r : ℕ) → self.old.stage ≢ Stage.Running r }
+        requires resting { self.old.stage ≡ Stage.Resting }
         ensures answer { turned_at (pc_at self.old.stage self.old.regs self.old.world) result
             ≡ turned (turn_at self.old.stage self.old.regs self.old.world) }
         ensures takes { Takes (turn_at self.old.stage self.old.regs self.old.world)
@@ -304,14 +330,13 @@ impl Machine {
         }
     }
 
-    /// The PC of the process that runs, or 0.
+    /// The PC of the process that runs, or 0, where no registers stand apart.
     pub(crate) fn pc(&self) -> u16
-        requires { IsKernel self.now.stage self.now.world }
+        requires { IsRested self.now.stage self.now.world }
         ensures { result ≡ pc_at self.now.stage self.now.regs self.now.world }
     {
-        match (self.stage, self.world.procs.table.running) {
-            (Stage::Running(_), _) => self.regs.r[7],
-            (_, Some(s)) if s != 0 => self.world.procs.images.area(s).r[7],
+        match self.world.procs.table.running {
+            Some(s) if s != 0 => self.world.procs.images.area(s).r[7],
             _ => 0,
         }
     }
@@ -356,12 +381,13 @@ impl Machine {
 
     /// Takes a tick of the clock.
     pub(crate) fn tick<T: Trace>(&mut self, trace: &mut T)
-        requires { IsKernel self.old.stage self.old.world }
-        ensures takes { Takes (tick_of (system_at self.old.stage self.old.regs self.old.world))
+        requires kernel { IsKernel self.old.stage self.old.world }
+        requires started { phase_of self.old.stage ≡ Started }
+        ensures takes { Takes (settled_after (tick_of (system_at self.old.stage self.old.regs self.old.world)))
             self.new.stage self.new.regs self.new.world }
         ensures rest { SameRest self.old.world.files.tree.nodes.blocks self.new.world.files.tree.nodes.blocks }
         ensures items { Took (T.taken trace.old)
-            (tick_of (system_at self.old.stage self.old.regs self.old.world)).items (T.taken trace.new) }
+            (settled_after (tick_of (system_at self.old.stage self.old.regs self.old.world))).items (T.taken trace.new) }
         ensures frame { T.leads_to trace.old trace.new }
     {
         self.put_back();
@@ -380,12 +406,13 @@ impl Machine {
 
     /// Takes a byte that is typed at the console.
     pub(crate) fn typed<T: Trace>(&mut self, byte: u8, trace: &mut T)
-        requires { IsKernel self.old.stage self.old.world }
-        ensures takes { Takes (typed_of (system_at self.old.stage self.old.regs self.old.world) byte)
+        requires kernel { IsKernel self.old.stage self.old.world }
+        requires started { phase_of self.old.stage ≡ Started }
+        ensures takes { Takes (settled_after (typed_of (system_at self.old.stage self.old.regs self.old.world) byte))
             self.new.stage self.new.regs self.new.world }
         ensures rest { SameRest self.old.world.files.tree.nodes.blocks self.new.world.files.tree.nodes.blocks }
         ensures items { Took (T.taken trace.old)
-            (typed_of (system_at self.old.stage self.old.regs self.old.world) byte).items (T.taken trace.new) }
+            (settled_after (typed_of (system_at self.old.stage self.old.regs self.old.world) byte)).items (T.taken trace.new) }
         ensures frame { T.leads_to trace.old trace.new }
     {
         self.put_back();

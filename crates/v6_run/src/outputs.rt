@@ -7,6 +7,7 @@ ghost use Rattle.v6_port.specs.Causes.{Calm, FaultAt};
 ghost use Rattle.fs_codec.specs.Stands.{StandsFor};
 ghost use Rattle.buf_cache.specs.Blocks.{block_at, IsDisk};
 ghost use Rattle.fs_laws.specs.Rest.{SameRest};
+ghost use Rattle.unix_core.specs.Unix.{Started, Finished};
 ghost use Rattle.unix_core.specs.Runs.{finished};
 ghost use Rattle.v6_run.specs.Words.{run_words_value};
 ghost use Rattle.v6_run.specs.Ports.{final_of};
@@ -70,7 +71,8 @@ pub(crate) fn open_outputs<H: Host>(words: &RunWords<'_>, host: &mut H) -> Resul
 
 /// Writes all blocks of the kernel's disk.
 fn write_disk<H: Host>(kernel: &Kernel, host: &mut H) -> Result<(), Failed>
-    requires { IsOpen (H.outside host.old) (Out out_port.Final) }
+    requires finished { kernel.now.phase ≡ Finished }
+    requires is_open { IsOpen (H.outside host.old) (Out out_port.Final) }
     ensures only { OnlyAt (same (Out out_port.Final)) (H.outside host.old) (H.outside host.new) }
     ensures is_open { IsOpen (H.outside host.new) (Out out_port.Final) }
     ensures whole { OnOk result (Tells (H.outside host.old)
@@ -88,7 +90,8 @@ fn write_disk<H: Host>(kernel: &Kernel, host: &mut H) -> Result<(), Failed>
 
 /// Finishes the run, and writes all blocks of the disk that it leaves.
 pub(crate) fn leave_disk<H: Host>(kernel: &mut Kernel, host: &mut H) -> Result<(), Failed>
-    requires { IsOpen (H.outside host.old) (Out out_port.Final) }
+    requires started { kernel.old.phase ≡ Started }
+    requires is_open { IsOpen (H.outside host.old) (Out out_port.Final) }
     ensures system { kernel.new.system ≡ finished kernel.old.system }
     ensures stands { StandsFor DISK_BLOCKS (block_at kernel.new.blocks) kernel.new.system.unix.store }
     ensures rest { SameRest kernel.old.blocks kernel.new.blocks }

@@ -10,6 +10,8 @@ ghost use Rattle.fs_codec.specs.Disk.{head};
 ghost use Rattle.buf_cache.specs.Blocks.{block_at, blocks_of};
 ghost use Rattle.fs_laws.specs.Rest.{SameRest};
 ghost use Rattle.script_text.specs.Script.{is_signal};
+ghost use Rattle.unix_core.specs.Unix.{New};
+ghost use Rattle.unix_core.specs.Parts.{phase_after};
 ghost use Rattle.unix_core.specs.Runs.{boots, started, course};
 ghost use Rattle.v6_run.specs.Words.{Run, run_words_value};
 ghost use Rattle.v6_run.specs.Events.{events_of};
@@ -108,6 +110,7 @@ fn boot(alloc: Global, image: &[u8], core: u32) -> Result<Kernel, NoMemory>
     requires good { image_fault image.now ≡ None }
     ensures system { IfOk result (λ kernel. boots image.now core ≡ Some kernel.system) }
     ensures blocks { IfOk result (λ kernel. kernel.blocks ≡ blocks_of image.now) }
+    ensures phase { IfOk result (λ kernel. kernel.phase ≡ New) }
 {
     match Kernel::boot(alloc, image, core as u16) {
         Ok(kernel) => Ok(kernel),
@@ -126,6 +129,8 @@ fn play<H: Host>(
     requires term { IsOpen (H.outside host.old) (Out Term) }
     requires log { IsOpen (H.outside host.old) (Out Log) }
     requires unsignalled { list_any is_signal events.now ≡ false }
+    requires new { kernel.old.phase ≡ New }
+    ensures phase { IfOk result (λ ending. kernel.new.phase ≡ phase_after ending) }
     ensures only { OnlyAt is_shown (H.outside host.old) (H.outside host.new) }
     ensures term { IsOpen (H.outside host.new) (Out Term) }
     ensures log { IsOpen (H.outside host.new) (Out Log) }
@@ -160,6 +165,7 @@ fn run_with_outputs<H: Host>(
     requires closed { (p : OutPort) → is_output (Out p) ≡ true → ((H.outside host.old).port (Out p)).is_open ≡ false }
     requires root { (head (block_at kernel.old.blocks)).f_size ≤ SWAP_START }
     requires unsignalled { list_any is_signal events.now ≡ false }
+    requires new { kernel.old.phase ≡ New }
     ensures only { OnlyAt is_output (H.outside host.old) (H.outside host.new) }
     ensures outcome { MatchResult result
         (λ ending. EndsRun (block_at kernel.old.blocks) (course (started kernel.old.system) (events_of events.now)) ending

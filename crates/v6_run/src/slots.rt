@@ -3,6 +3,8 @@ ghost use Rattle.std.specs.Prelude.{◌≡◌, ◌<◌, ◌+◌, false, replicat
 ghost use Rattle.std.specs.List.{list_any, range_with_len};
 ghost use Rattle.script_text.specs.Script.{is_signal};
 ghost use Rattle.fs_laws.specs.Rest.{SameRest};
+ghost use Rattle.unix_core.specs.Unix.{New, Started};
+ghost use Rattle.unix_core.specs.Parts.{phase_after};
 ghost use Rattle.unix_core.specs.Runs.{Slot, begun, started, course};
 ghost use Rattle.v6_run.specs.Events.{slot_with, slot_numbered, happens, clock_after, events_of};
 ghost use Rattle.v6_run.specs.Clocks.{clock_value, TicksAlike};
@@ -19,6 +21,8 @@ use v6_base::{Entry, Trace};
 /// its loop has all registers.
 #[inline(never)]
 fn run_slots<T: Trace>(kernel: &mut Kernel, count: u32, trace: &mut T) -> Option<Unbuilt>
+    requires started { kernel.old.phase ≡ Started }
+    ensures phase { kernel.new.phase ≡ phase_after result }
     ensures run { HasRun (begun kernel.old.system) (replicate count Slot) result kernel.new.system
         (T.taken trace.old) (T.taken trace.new) }
     ensures rest { SameRest kernel.old.blocks kernel.new.blocks }
@@ -35,6 +39,8 @@ fn run_slots<T: Trace>(kernel: &mut Kernel, count: u32, trace: &mut T) -> Option
 /// Takes one slot, and a tick after it where there is one. The turn is that of `run_slots`: with a second place where a turn
 /// is taken it would stand out of line in both.
 fn take_slot<T: Trace>(kernel: &mut Kernel, ticks: bool, trace: &mut T) -> Option<Unbuilt>
+    requires started { kernel.old.phase ≡ Started }
+    ensures phase { kernel.new.phase ≡ phase_after result }
     ensures run { HasRun (begun kernel.old.system) (slot_with ticks) result kernel.new.system
         (T.taken trace.old) (T.taken trace.new) }
     ensures rest { SameRest kernel.old.blocks kernel.new.blocks }
@@ -59,7 +65,9 @@ fn run_clocked<T: Trace>(
     count: u32,
     trace: &mut T,
 ) -> Option<Unbuilt>
-    requires { since < every }
+    requires within { since < every }
+    requires started { kernel.old.phase ≡ Started }
+    ensures phase { kernel.new.phase ≡ phase_after result }
     ensures run { HasRun (begun kernel.old.system) (flat_map (slot_numbered every) (range_with_len (since + 1) count))
         result kernel.new.system (T.taken trace.old) (T.taken trace.new) }
     ensures rest { SameRest kernel.old.blocks kernel.new.blocks }
@@ -82,6 +90,8 @@ fn run_line<T: Trace>(
     count: u32,
     trace: &mut T,
 ) -> Option<Unbuilt>
+    requires started { kernel.old.phase ≡ Started }
+    ensures phase { kernel.new.phase ≡ phase_after result }
     ensures run { HasRun (begun kernel.old.system) (happens (clock_value clock.old) (Event.Run count)) result kernel.new.system
         (T.taken trace.old) (T.taken trace.new) }
     ensures rest { SameRest kernel.old.blocks kernel.new.blocks }
@@ -106,7 +116,9 @@ fn take_event<T: Trace>(
     event: Event,
     trace: &mut T,
 ) -> Option<Unbuilt>
-    requires { is_signal event ≡ false }
+    requires unsignalled { is_signal event ≡ false }
+    requires started { kernel.old.phase ≡ Started }
+    ensures phase { kernel.new.phase ≡ phase_after result }
     ensures run { HasRun (begun kernel.old.system) (happens (clock_value clock.old) event) result kernel.new.system
         (T.taken trace.old) (T.taken trace.new) }
     ensures rest { SameRest kernel.old.blocks kernel.new.blocks }
@@ -133,7 +145,9 @@ fn take_event<T: Trace>(
 
 /// Takes the events of a script in turn, up to the first that comes to what isn't built.
 fn run_events<T: Trace>(kernel: &mut Kernel, events: &[Event], trace: &mut T) -> Option<Unbuilt>
-    requires { list_any is_signal events.now ≡ false }
+    requires unsignalled { list_any is_signal events.now ≡ false }
+    requires started { kernel.old.phase ≡ Started }
+    ensures phase { kernel.new.phase ≡ phase_after result }
     ensures run { HasRun (begun kernel.old.system) (events_of events.now) result kernel.new.system
         (T.taken trace.old) (T.taken trace.new) }
     ensures rest { SameRest kernel.old.blocks kernel.new.blocks }
@@ -150,7 +164,9 @@ fn run_events<T: Trace>(kernel: &mut Kernel, events: &[Event], trace: &mut T) ->
 
 /// Starts the kernel, and takes the events of a script in turn.
 fn run_script<T: Trace>(kernel: &mut Kernel, events: &[Event], trace: &mut T) -> Option<Unbuilt>
-    requires { list_any is_signal events.now ≡ false }
+    requires unsignalled { list_any is_signal events.now ≡ false }
+    requires new { kernel.old.phase ≡ New }
+    ensures phase { kernel.new.phase ≡ phase_after result }
     ensures run { HasRun (started kernel.old.system) (events_of events.now) result kernel.new.system
         (T.taken trace.old) (T.taken trace.new) }
     ensures rest { SameRest kernel.old.blocks kernel.new.blocks }
@@ -166,7 +182,9 @@ pub(crate) fn show_run<T: Trace>(
     events: &[Event],
     trace: &mut T,
 ) -> Option<Unbuilt>
-    requires { list_any is_signal events.now ≡ false }
+    requires unsignalled { list_any is_signal events.now ≡ false }
+    requires new { kernel.old.phase ≡ New }
+    ensures phase { kernel.new.phase ≡ phase_after result }
     ensures ends { result ≡ (course (started kernel.old.system) (events_of events.now)).ending }
     ensures system { kernel.new.system ≡ (course (started kernel.old.system) (events_of events.now)).system }
     ensures shown { Took (T.taken trace.old) (shown_by (course (started kernel.old.system) (events_of events.now)))

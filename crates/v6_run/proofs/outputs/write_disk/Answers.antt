@@ -9,7 +9,7 @@ pub numbers-init : goal.numbers-init
 numbers-init g c = record {
   only = search rules;
   calm = search rules;
-  is_open = c.requires;
+  is_open = c.requires.is_open;
   bytes = λ told. no_blocks c.args.kernel.now.blocks _;
 }
 

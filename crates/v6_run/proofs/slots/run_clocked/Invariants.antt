@@ -1,6 +1,7 @@
 use Rattle.std.proofs.Common.{◌≡◌, ◌+◌, ◌%◌, None, flat_map}
 use Rattle.std.specs.List.{range_with_len}
 use Rattle.fs_laws.specs.Rest.{SameRest}
+use Rattle.unix_core.specs.Unix.{Started}
 use Rattle.unix_core.specs.Runs.{begun}
 use Rattle.v6_run.specs.Events.{slot_numbered}
 use Rattle.v6_run.specs.Courses.{HasRun}
@@ -11,6 +12,7 @@ invariant-slots g l = record {
   run : HasRun (begun l.initial.kernel.system) (flat_map (slot_numbered l.every) (range_with_len (l.since + 1) l.counter)) None l.kernel.system
       (g.T.Trace.taken l.initial.trace) (g.T.Trace.taken l.trace);
   gone : l.gone ≡ (l.since + l.counter) % l.every;
+  phase : l.kernel.phase ≡ Started;
   rest : SameRest l.initial.kernel.blocks l.kernel.blocks;
   frame : g.T.Trace.leads_to l.initial.trace l.trace;
 }

@@ -1,4 +1,5 @@
-use Rattle.std.proofs.Common.{refl, Some, None}
+use Rattle.std.proofs.Common.{◌∙◌, ap, refl, Some, None}
+use Rattle.unix_core.specs.Parts.{phase_after}
 use Rattle.fs_laws.proofs.RestLemmas.{rest_then}
 use Rattle.v6_run.specs.Clocks.{clock_value}
 use Rattle.v6_run.proofs.SlotLemmas.{ends_as}
@@ -12,6 +13,9 @@ returns-in-Some-clause-run g c =
     taken_last c.args.events.now c.events.event-index (clock_value c.events.clock) (clock_value c.take_event.new.clock) _ _ _ _ _ _ c.events.invariant.taken
     _ _ c.events-test.true refl event.clock c.in-Some.place run
 
+pub returns-in-Some-clause-phase : goal.returns-in-Some-clause-phase
+returns-in-Some-clause-phase g c = c.take_event.ensures.phase ∙ ap phase_after c.in-Some.is
+
 pub events-preserved : goal.events-preserved
 events-preserved g c =
     let event = c.take_event.ensures in
@@ -19,6 +23,7 @@ events-preserved g c =
     record {
       taken = taken_more c.args.events.now c.events.event-index (clock_value c.events.clock) (clock_value c.take_event.new.clock) _ _ _ _ _ _ c.events.invariant.taken
           _ _ c.events-test.true refl event.clock run;
+      phase = event.phase ∙ ap phase_after c.in_default.is;
       rest = rest_then _ _ _ c.events.invariant.rest event.rest;
       frame = g.met.T.Trace.goes_on _ _ _ c.events.invariant.frame event.frame;
     }

@@ -1,4 +1,6 @@
+use Rattle.std.proofs.Common.{◌≡◌}
 use Rattle.fs_laws.specs.Rest.{SameRest}
+use Rattle.unix_core.specs.Unix.{Started}
 use Rattle.unix_core.specs.Runs.{begun}
 use Rattle.v6_run.specs.Clocks.{clock_value}
 use Rattle.v6_run.proofs.ClockLemmas.{HasTaken}
@@ -7,6 +9,7 @@ use Rattle.v6_run.proofs.slots.run_events.Given as goal
 abbrev pub invariant-events : goal.invariant-events
 invariant-events g l = record {
   taken : HasTaken l.events l.event-index (clock_value l.clock) (begun l.initial.kernel.system) l.kernel.system (g.T.Trace.taken l.initial.trace) (g.T.Trace.taken l.trace);
+  phase : l.kernel.phase ≡ Started;
   rest : SameRest l.initial.kernel.blocks l.kernel.blocks;
   frame : g.T.Trace.leads_to l.initial.trace l.trace;
 }

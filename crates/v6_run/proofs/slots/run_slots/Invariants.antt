@@ -1,5 +1,6 @@
-use Rattle.std.proofs.Common.{None, replicate}
+use Rattle.std.proofs.Common.{◌≡◌, None, replicate}
 use Rattle.fs_laws.specs.Rest.{SameRest}
+use Rattle.unix_core.specs.Unix.{Started}
 use Rattle.unix_core.specs.Runs.{Slot, begun}
 use Rattle.v6_run.specs.Courses.{HasRun}
 use Rattle.v6_run.proofs.slots.run_slots.Given as goal
@@ -7,6 +8,7 @@ use Rattle.v6_run.proofs.slots.run_slots.Given as goal
 abbrev pub invariant-slots : goal.invariant-slots
 invariant-slots g l = record {
   run : HasRun (begun l.initial.kernel.system) (replicate l.counter Slot) None l.kernel.system (g.T.Trace.taken l.initial.trace) (g.T.Trace.taken l.trace);
+  phase : l.kernel.phase ≡ Started;
   rest : SameRest l.initial.kernel.blocks l.kernel.blocks;
   frame : g.T.Trace.leads_to l.initial.trace l.trace;
 }

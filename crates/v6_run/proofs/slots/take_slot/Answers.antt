@@ -1,6 +1,7 @@
 use Rattle.std.proofs.Common.{rules, ◌≡◌, ◌∙◌, sym, ap, refl, true, None}
 use Rattle.std.specs.Result.{result_err}
 use Rattle.fs_laws.proofs.RestLemmas.{rest_then}
+use Rattle.unix_core.specs.Parts.{phase_after}
 use Rattle.unix_core.specs.Runs.{Tick}
 use Rattle.v6_run.specs.Events.{slot_with}
 use Rattle.v6_run.proofs.SlotLemmas.{run_event, run_more, run_as, ends_as}
@@ -16,6 +17,7 @@ returns-then-ticks g c =
     let both = run_more _ _ _ _ _ _ _ _ _ (slot_with true) slot then refl in
     let none : c.err.result ≡ None = c.err.ensures.value ∙ ap result_err tick.answer in
     record {
+      phase = tick.phase ∙ ap phase_after (sym none);
       run = ends_as _ _ None c.err.result _ _ _ (sym none) (run_as _ _ _ _ _ _ _ (ap slot_with (sym c.if-ticks.true)) both);
       rest = rest_then _ _ _ slots.rest tick.rest;
       frame = g.met.T.Trace.goes_on _ _ _ slots.frame tick.frame;

@@ -1,13 +1,20 @@
 use Rattle.std.proofs.Common.{◌∙◌, ap, sym, subst}
 use Rattle.v6_base.specs.Trace.{Took}
 use Rattle.unix_core.specs.Unix.{System, SystemOnDisk}
+use Rattle.unix_core.specs.Turn.{settled_after}
 use Rattle.unix_core.specs.Outside.{typed_of}
 use Rattle.unix_core.specs.Private.{AllUndisturbed}
 use Rattle.unix_core.proofs.PrivateLemmas.{typed_private}
 use Rattle.unix_core.proofs.kernel.Kernel.typed.Goals as goal
 
+pub typed-requires-clause-started : goal.typed-requires-clause-started
+typed-requires-clause-started g c = ap (λ (v : SystemOnDisk). v.phase) c.self.view_is ∙ c.requires.started
+
+pub returns-clause-phase : goal.returns-clause-phase
+returns-clause-phase g c = c.typed.ensures.takes.phase
+
 pub returns-clause-next : goal.returns-clause-next
-returns-clause-next g c = c.typed.ensures.takes.system ∙ ap (λ (k : SystemOnDisk). (typed_of k.system c.args.b).next) c.self.view_is
+returns-clause-next g c = c.typed.ensures.takes.system ∙ ap (λ (k : SystemOnDisk). (settled_after (typed_of k.system c.args.b)).next) c.self.view_is
 
 pub returns-clause-private : goal.returns-clause-private
 returns-clause-private g c =
@@ -16,5 +23,5 @@ returns-clause-private g c =
 
 pub returns-clause-items : goal.returns-clause-items
 returns-clause-items g c =
-    subst (λ (k : SystemOnDisk). Took (g.T.Trace.taken c.args.trace.now) (typed_of k.system c.args.b).items (g.T.Trace.taken c.typed.new.trace))
+    subst (λ (k : SystemOnDisk). Took (g.T.Trace.taken c.args.trace.now) (settled_after (typed_of k.system c.args.b)).items (g.T.Trace.taken c.typed.new.trace))
     c.self.view_is c.typed.ensures.items

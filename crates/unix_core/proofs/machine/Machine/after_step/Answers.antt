@@ -5,10 +5,10 @@ use Rattle.unix_core.specs.declared.world.World.{World}
 use Rattle.unix_core.specs.declared.machine.Stage.{Stage}
 use Rattle.unix_core.specs.declared.machine.Stage.TheVariants as stage
 use Rattle.unix_core.specs.Unix.{process_of}
-use Rattle.unix_core.specs.Turn.{turn}
-use Rattle.unix_core.specs.Parts.{system_at, rested, HasCome, IsKernel}
+use Rattle.unix_core.specs.Turn.{turn, turned}
+use Rattle.unix_core.specs.Parts.{system_at, phase_of, HasCome, IsKernel}
 use Rattle.unix_core.proofs.MachineLemmas.{runs_kernel}
-use Rattle.unix_core.proofs.TurnLemmas.{turn_answer, turn_next, turn_items, stepped_come, stepped_items}
+use Rattle.unix_core.proofs.TurnLemmas.{turn_is, turn_takes, turn_items, stepped_come, stepped_items}
 use Rattle.unix_core.proofs.machine.Machine.after_step.Goals as goal
 
 pub put_back-requires : goal.put_back-requires
@@ -17,7 +17,7 @@ put_back-requires g c =
 
 pub come_to-ending-requires : goal.come_to-ending-requires
 come_to-ending-requires g c = record {
-  good = c.put_back.ensures.rested.good (c.put_back.ensures.stage ∙ ap rested c.requires.stage);
+  good = (c.put_back.ensures.rested (ap phase_of c.requires.stage)).good;
   runs = ap (λ (t : Table). t.running) c.put_back.ensures.table ∙ c.requires.user.ready.runs;
   user = c.requires.user.ready.user;
 }
@@ -29,24 +29,27 @@ returns-clause-answer g c p stepped =
     let s = c.args.s in
     let e = c.come_to-ending.result in
     let w' : World = c.come_to-ending.new.world in
-    let resting : n.stage ≡ stage.Resting = c.put_back.ensures.stage ∙ ap rested c.requires.stage in
+    let resting : n.stage ≡ stage.Resting = (c.put_back.ensures.rested (ap phase_of c.requires.stage)).resting in
     let back : system_at stage.Resting n.regs n.world ≡ system_at (stage.Running s) m.regs m.world =
     ap (λ at. system_at at n.regs n.world) (sym resting) ∙ c.put_back.ensures.system ∙ ap (λ at. system_at at m.regs m.world) c.requires.stage in
     let come : HasCome p.board (turn p s) e w' = stepped_come p s c.args.outcome m.regs n.regs m.world n.world stepped back e w' c.come_to-ending.ensures.come in
-    c.end.ensures.answer (register (process_of p.unix s) 7) ∙ turn_answer p s (turn p s) e w' come
+    c.end.ensures.answer (register (process_of p.unix s) 7) ∙ ap turned (sym (turn_is p s (turn p s) e w' come))
 
-pub returns-clause-system : goal.returns-clause-system
-returns-clause-system g c p stepped =
+pub returns-clause-takes : goal.returns-clause-takes
+returns-clause-takes g c p stepped =
     let m = c.args.self.now in
     let n = c.put_back.new.self in
     let s = c.args.s in
     let e = c.come_to-ending.result in
     let w' : World = c.come_to-ending.new.world in
-    let resting : n.stage ≡ stage.Resting = c.put_back.ensures.stage ∙ ap rested c.requires.stage in
+    let resting : n.stage ≡ stage.Resting = (c.put_back.ensures.rested (ap phase_of c.requires.stage)).resting in
     let back : system_at stage.Resting n.regs n.world ≡ system_at (stage.Running s) m.regs m.world =
     ap (λ at. system_at at n.regs n.world) (sym resting) ∙ c.put_back.ensures.system ∙ ap (λ at. system_at at m.regs m.world) c.requires.stage in
     let come : HasCome p.board (turn p s) e w' = stepped_come p s c.args.outcome m.regs n.regs m.world n.world stepped back e w' c.come_to-ending.ensures.come in
-    turn_next p s (turn p s) e w' come _ c.end.ensures.system
+    turn_takes p s (turn p s) e w' come _ _ _ (c.end.ensures.takes (register (process_of p.unix s) 7))
+
+pub returns-clause-kernel : goal.returns-clause-kernel
+returns-clause-kernel g c = (c.end.ensures.takes 0).kernel
 
 pub returns-clause-items : goal.returns-clause-items
 returns-clause-items g c p stepped =
@@ -55,9 +58,10 @@ returns-clause-items g c p stepped =
     let s = c.args.s in
     let e = c.come_to-ending.result in
     let w' : World = c.come_to-ending.new.world in
-    let resting : n.stage ≡ stage.Resting = c.put_back.ensures.stage ∙ ap rested c.requires.stage in
+    let resting : n.stage ≡ stage.Resting = (c.put_back.ensures.rested (ap phase_of c.requires.stage)).resting in
     let back : system_at stage.Resting n.regs n.world ≡ system_at (stage.Running s) m.regs m.world =
     ap (λ at. system_at at n.regs n.world) (sym resting) ∙ c.put_back.ensures.system ∙ ap (λ at. system_at at m.regs m.world) c.requires.stage in
     let come : HasCome p.board (turn p s) e w' = stepped_come p s c.args.outcome m.regs n.regs m.world n.world stepped back e w' c.come_to-ending.ensures.come in
     turn_items p s (turn p s) e w' come _ _ _
-    (stepped_items p s c.args.outcome m.regs n.regs m.world n.world stepped back _ _ c.come_to-ending.ensures.items) c.end.ensures.items
+    (stepped_items p s c.args.outcome m.regs n.regs m.world n.world stepped back _ _ c.come_to-ending.ensures.items)
+    (c.end.ensures.items (register (process_of p.unix s) 7))

@@ -1,14 +1,11 @@
-use Rattle.std.proofs.Common.{◌∙◌, ◌++◌, ap, sym, subst}
-use Rattle.v6_base.proofs.Took.{took_then}
-use Rattle.pick_rules.specs.Board.{Board}
-use Rattle.pick_rules.specs.Logged.{logged}
+use Rattle.std.proofs.Common.{◌∙◌, refl, ap, sym, subst}
+use Rattle.v6_base.proofs.Took.{took_nothing}
 use Rattle.unix_core.specs.declared.world.World.{World}
 use Rattle.unix_core.specs.declared.machine.Stage.{Stage}
-use Rattle.unix_core.specs.Unix.{Unix}
-use Rattle.unix_core.specs.Turn.{settled, end_effects}
+use Rattle.unix_core.specs.Turn.{settled}
 use Rattle.unix_core.specs.Parts.{board_in, system_at, IsRested}
 use Rattle.unix_core.proofs.TableLemmas.{with_table}
-use Rattle.unix_core.proofs.EndLemmas.{ended_rested, ended_system}
+use Rattle.unix_core.proofs.EndLemmas.{ended_rested, ended_takes, ended_items, stopped_takes, stopped_items, end_answer}
 use Rattle.unix_core.proofs.machine.Machine.end.Goals as goal
 
 pub settle-requires : goal.settle-requires
@@ -17,17 +14,33 @@ settle-requires g c =
     subst (λ (at : Stage). IsRested at (with_table w c.end_turn.new.table)) (sym c.requires.stage)
     (ended_rested w c.requires.good c.args.s c.requires.user c.requires.slot c.args.ending c.requires.runs c.end_turn.new.table c.end_turn.ensures.table c.end_turn.ensures.good)
 
-pub returns-clause-system : goal.returns-clause-system
-returns-clause-system g c =
+pub returns-in-Ran-clause-answer : goal.returns-in-Ran-clause-answer
+returns-in-Ran-clause-answer g c pc = c.in-Ran.ensures.went pc ∙ end_answer c.args.self.now.world c.args.s pc c.args.ending
+
+pub returns-in-Ran-clause-takes : goal.returns-in-Ran-clause-takes
+returns-in-Ran-clause-takes g c pc =
     let m = c.args.self.now in
     let w : World = m.world in
     let w' : World = with_table w c.end_turn.new.table in
-    ended_system w c.requires.good c.args.s c.requires.user c.requires.slot c.args.ending c.requires.runs c.end_turn.new.table c.end_turn.ensures.table c.end_turn.ensures.good
-    m.regs _ (c.end_turn.ensures.board w.procs.images) _
+    ended_takes w c.requires.good c.args.s c.requires.user c.requires.slot c.args.ending c.requires.runs c.end_turn.new.table c.end_turn.ensures.table c.end_turn.ensures.good
+    pc (c.in-Ran.ensures.goes refl pc) _ _ m.regs _ c.settle.ensures.kernel c.settle.ensures.started (c.end_turn.ensures.board w.procs.images)
     (c.settle.ensures.system ∙ ap (λ (at : Stage). record (system_at at m.regs w') { board = (settled (board_in w')).board }) c.requires.stage)
 
-pub returns-clause-items : goal.returns-clause-items
-returns-clause-items g c =
+pub returns-in-Ran-clause-items : goal.returns-in-Ran-clause-items
+returns-in-Ran-clause-items g c pc =
     let w : World = c.args.self.now.world in
-    took_then _ _ _ _ _ _ (c.end_turn.ensures.items (board_in w)) c.settle.ensures.items
-    (ap (λ (b : Board). (logged {W = Unix} (board_in w) (end_effects c.args.s c.args.ending)).items ++ (settled b).items) (c.end_turn.ensures.board w.procs.images))
+    ended_items w c.requires.good c.args.s c.requires.user c.requires.slot c.args.ending c.requires.runs c.end_turn.new.table c.end_turn.ensures.table c.end_turn.ensures.good
+    pc (c.in-Ran.ensures.goes refl pc) _ _ _ (c.end_turn.ensures.board w.procs.images) (c.end_turn.ensures.items (board_in w)) c.settle.ensures.items
+
+pub returns-in_default-clause-answer : goal.returns-in_default-clause-answer
+returns-in_default-clause-answer g c pc = c.went_by.ensures.went pc ∙ end_answer c.args.self.now.world c.args.s pc c.args.ending
+
+pub returns-in_default-clause-takes : goal.returns-in_default-clause-takes
+returns-in_default-clause-takes g c pc =
+    let m = c.args.self.now in
+    stopped_takes m.world c.args.s pc c.args.ending (c.went_by.ensures.stops c.in_default.not-Ran pc) m.regs
+
+pub returns-in_default-clause-items : goal.returns-in_default-clause-items
+returns-in_default-clause-items g c pc =
+    let m = c.args.self.now in
+    took_nothing _ _ (stopped_items m.world c.args.s pc c.args.ending (c.went_by.ensures.stops c.in_default.not-Ran pc))

@@ -4,7 +4,7 @@ use Rattle.unix_core.specs.declared.machine.Stage.TheVariants as stage
 use Rattle.unix_core.specs.Unix.{process_of}
 use Rattle.unix_core.specs.Turn.{is_user}
 use Rattle.unix_core.specs.Parts.{unix_of, with_regs, system_at}
-use Rattle.unix_core.proofs.SlotLemmas.{is_resting, resting_unix, later_come, later_took}
+use Rattle.unix_core.proofs.SlotLemmas.{resting_unix, later_come, later_took}
 use Rattle.unix_core.proofs.machine.Machine.go_on.Goals as goal
 
 pub returns : goal.returns
@@ -12,8 +12,8 @@ returns g c =
     let n = c.args.self.now in
     let w : World = n.world in
     let kernel = c.requires.kernel in
-    let resting : n.stage ≡ stage.Resting = is_resting n.stage c.requires.other in
-    let calls : is_user (process_of (unix_of w) c.args.s) ≡ false = kernel.calls c.args.s resting c.requires.runs c.requires.user in
+    let resting : n.stage ≡ stage.Resting = c.requires.resting in
+    let calls : is_user (process_of (unix_of w) c.args.s) ≡ false = (kernel.resting resting).calls c.args.s c.requires.runs c.requires.user in
     let still : unix_of w ≡ with_regs n.stage n.regs (unix_of w) = resting_unix n.stage n.regs (unix_of w) resting in
     record {
       come = later_come (system_at n.stage n.regs w) c.args.s (unix_of w) still calls c.resume.result c.resume.new.world c.resume.ensures.come;
