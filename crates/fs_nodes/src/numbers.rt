@@ -1,5 +1,5 @@
 //! Numbers of inodes are drawn and given back: `ialloc` and `ifree` in Lions' Commentary, `alloc.c`.
-ghost use Rattle.std.specs.Prelude.{◌≡◌, ◌≢◌, true, ℕ, ◌+◌, ◌-◌, ◌*◌, ◌/◌, ◌%◌, ◌<◌, ◌≤◌, ◌==◌, ◌&&◌, ◌||◌, nat_lt, not, min, List, [], ◌∷◌, length, take, reverse, slice_index, slice_index_or, slice_set, if◌then◌else◌, MatchOption, MatchResult, Some, None};
+ghost use Rattle.std.specs.Prelude.{◌≡◌, ◌≢◌, true, ℕ, ◌+◌, ◌-◌, ◌*◌, ◌/◌, ◌%◌, ◌<◌, ◌≤◌, ◌==◌, ◌&&◌, ◌||◌, nat_lt, not, min, List, [], ◌∷◌, length, take, drop, reverse, slice_index, slice_index_or, slice_set, if◌then◌else◌, MatchOption, MatchResult, IfSome, Some, None};
 ghost use Rattle.buf_cache.specs.Blocks.{block_at};
 ghost use Rattle.fs_codec.specs.Fields.{fields_of};
 ghost use Rattle.fs_codec.specs.Disk.{inode, inode_count};
@@ -14,7 +14,7 @@ ghost use Rattle.fs_nodes.specs.FileSystem.{store_now, SameRest};
 ghost use Rattle.fs_nodes.specs.Table.{files_of, IsNodes};
 ghost use Rattle.fs_nodes.specs.Inodes.{Writes};
 ghost use Rattle.fs_nodes.specs.declared.table.Referenced.{Referenced};
-ghost use Rattle.fs_nodes.specs.Numbers.{refers_to, once_less, drawn_from, emptied, pushed, ChangesList, ChangesInode, MakesNode, MakesNone};
+ghost use Rattle.fs_nodes.specs.Numbers.{refers_to, once_less, drawn_list, drawn_from, emptied, pushed, ChangesList, ChangesInode, MakesNode, MakesNone};
 
 use crate::inodes::{read_inode, see, write_inode};
 use crate::nodes::Nodes;
@@ -110,6 +110,9 @@ fn set_list(volume: &mut Volume, list: &[u16])
     requires whole { IsWhole (disk volume.old.state) }
     requires few { length list.now ≤ 100 }
     ensures store { store_now volume.new.state ≡ record (store_now volume.old.state) { spare = list.now; mark = true } }
+    ensures words { take (length list.now) volume.new.state.head.inode ≡ list.now }
+    ensures behind { drop (length list.now) volume.new.state.head.inode
+        ≡ drop (length list.now) volume.old.state.head.inode }
     ensures rest { ChangesList volume.old.state volume.new.state }
 {
     see(volume);
@@ -117,16 +120,19 @@ fn set_list(volume: &mut Volume, list: &[u16])
     see(volume);
 }
 
-/// Draws the last free number of a list, and makes what comes before it the list of the super-block.
+/// Draws the last free number of a list, and makes what comes before it the list of the super-block. The whole list is
+/// written there first: the words after those that are left still have the number that was drawn.
 fn draw_from(volume: &mut Volume, list: &[u16]) -> Option<u16>
     requires whole { IsWhole (disk volume.old.state) }
     requires few { length list.now ≤ 100 }
     ensures number { result ≡ (drawn (store_now volume.old.state) (reverse list.now)).number }
     ensures store { store_now volume.new.state ≡ drawn_from (store_now volume.old.state) list.now }
+    ensures words { IfSome result (λ _. take (length list.now) volume.new.state.head.inode ≡ list.now) }
     ensures rest { ChangesList volume.old.state volume.new.state }
 {
     match last_free(volume, list) {
         Some(place) => {
+            set_list(volume, list);
             set_list(volume, &list[..place]);
             Some(list[place])
         }
@@ -153,6 +159,8 @@ fn draw_number(volume: &mut Volume, table: &[Referenced]) -> Option<u16>
     ensures number { result ≡ (draw (store_now volume.old.state) (refers_to table.now)).number }
     ensures store { store_now volume.new.state
         ≡ with_draw (store_now volume.old.state) (draw (store_now volume.old.state) (refers_to table.now)) }
+    ensures words { IfSome result (λ _. let list = drawn_list (store_now volume.old.state) (refers_to table.now)
+        in take (length list) volume.new.state.head.inode ≡ list) }
     ensures rest { ChangesList volume.old.state volume.new.state }
 {
     see(volume);

@@ -1,11 +1,11 @@
-use Rattle.std.proofs.Common.{◌≡◌, ℕ, Option, Some, None, take, reverse, sym, ap, ◌∙◌, arith}
+use Rattle.std.proofs.Common.{◌≡◌, ℕ, cond, List, length, Option, Some, None, IfSome, take, reverse, sym, ap, ◌∙◌, subst, arith}
 use Rattle.std.specs.Option.{is_some}
 use Rattle.fs_codec.specs.Store.{Store}
 use Rattle.fs_codec.specs.declared.super_block.SuperBlock.{SuperBlock}
 use Rattle.fs_laws.specs.Numbers.{Draw, drawn, refill}
 use Rattle.fs_blocks.proofs.VolumeLemmas.{good_volume}
 use Rattle.fs_nodes.specs.FileSystem.{store_now}
-use Rattle.fs_nodes.specs.Numbers.{refers_to, drawn_from, emptied}
+use Rattle.fs_nodes.specs.Numbers.{refers_to, drawn_list, drawn_from, emptied}
 use Rattle.fs_nodes.proofs.NumbersLemmas.{now_spare, draw_one, draw_two, drawn_first, second_number, none_drawn}
 use Rattle.fs_nodes.proofs.numbers.draw_number.Goals as goal
 use Rattle.fs_nodes.proofs.numbers.draw_number.Goals.{After-draw_from, After-draw_from-2}
@@ -66,3 +66,20 @@ returns-clause-store c =
     let s : Store = store_now c.args.volume.now.state in
     c.draw_from-2.ensures.store ∙ ap (λ t. drawn_from t c.deref.result.now) (now_empty c) ∙ ap (drawn_from (emptied s)) (found c)
     ∙ draw_two s (refers_to c.args.table.now) (was_drawn b None c.in_default.is)
+
+pub returns-in-Some-clause-words : goal.returns-in-Some-clause-words
+returns-in-Some-clause-words c =
+    let b = (goal.at.returns-in-Some-clause-words c).After-draw_from in
+    let s : Store = store_now c.args.volume.now.state in
+    let is = sym (list_is b) ∙ sym (ap (λ t. cond t s.spare (refill s (refers_to c.args.table.now))) (was_drawn b (Some c.in-Some.ino) c.in-Some.is)) in
+    let P : List ℕ → Type 0 = λ l. take (length l) c.draw_from.new.volume.state.head.inode ≡ l in
+    subst P is c.in-Some.ensures.words
+
+pub returns-clause-words : goal.returns-clause-words
+returns-clause-words c =
+    let b = (goal.at.returns-clause-words c).After-draw_from in
+    let s : Store = store_now c.args.volume.now.state in
+    let is : c.deref.result.now ≡ drawn_list s (refers_to c.args.table.now) =
+    found c ∙ sym (ap (λ t. cond t s.spare (refill s (refers_to c.args.table.now))) (was_drawn b None c.in_default.is)) in
+    let P : List ℕ → Type 0 = λ l. IfSome c.draw_from-2.result (λ _. take (length l) c.draw_from-2.new.volume.state.head.inode ≡ l) in
+    subst P is c.draw_from-2.ensures.words

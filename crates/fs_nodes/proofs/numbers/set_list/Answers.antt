@@ -1,4 +1,4 @@
-use Rattle.std.proofs.Common.{ap, ◌∙◌}
+use Rattle.std.proofs.Common.{take, sym, ap, ◌∙◌}
 use Rattle.fs_codec.specs.Store.{Store}
 use Rattle.fs_nodes.specs.FileSystem.{store_now}
 use Rattle.fs_nodes.proofs.NumbersLemmas.{spare_set, spare_whole, with_spare}
@@ -20,3 +20,6 @@ returns-clause-rest c =
       head = e.others;
       free = e.free;
     }
+
+pub returns-clause-words : goal.returns-clause-words
+returns-clause-words c = let e = c.set_spare.ensures in ap (λ n. take n c.set_spare.new.self.state.head.inode) (sym e.count) ∙ e.spare
