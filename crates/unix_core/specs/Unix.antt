@@ -33,10 +33,11 @@ pub record System : Type 0 where
   pub unix : Unix
   pub board : Board
 
--- a system and the blocks of its disk
+-- A system and the blocks that it reads and writes. `stored` is what its disk has of them.
 pub record SystemOnDisk : Type 0 where
   pub system : System
   pub blocks : List (List ℕ)
+  pub stored : List (List ℕ)
 
 abbrev pub process_at : Unix → ℕ → Option Process
 process_at u slot = slice_index_or u.processes slot None

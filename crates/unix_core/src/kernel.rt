@@ -68,6 +68,7 @@ impl Model for Kernel {
     ghost view = { λ k. record {
       system = system_at k.machine.stage k.machine.regs k.machine.world;
       blocks = k.machine.world.files.tree.nodes.blocks;
+      stored = k.machine.world.files.tree.nodes.stored;
     } };
 
     ghost invariant = { λ k. IsKernel k.machine.stage k.machine.world };
@@ -203,7 +204,8 @@ impl Kernel {
     /// the manual; `update` in Lions' Commentary, `alloc.c`.
     pub fn finish(&mut self)
         ensures system { self.new.system ≡ finished self.old.system }
-        ensures stands { StandsFor DISK_BLOCKS (block_at self.new.blocks) self.new.system.unix.store }
+        ensures stored { self.new.stored ≡ self.new.blocks }
+        ensures stands { StandsFor DISK_BLOCKS (block_at self.new.stored) self.new.system.unix.store }
         ensures rest { SameRest self.old.blocks self.new.blocks }
         ensures form { IsDisk self.new.blocks }
     {
@@ -219,7 +221,7 @@ impl Kernel {
     /// Block `n` of the disk, as a run that has been finished leaves it.
     pub fn final_block(&self, n: u16) -> [u8; 512]
         requires { n < DISK_BLOCKS }
-        ensures { result ≡ block_at self.now.blocks n }
+        ensures { result ≡ block_at self.now.stored n }
     {
         *self.machine.world.files.tree.nodes.on_disk(n)
     }

@@ -23,5 +23,5 @@ pub returns-clause-stands : goal.returns-clause-stands
 returns-clause-stands c =
     let m = c.self.inside.machine in
     let new = c.update_all.new.self in
-    subst (StandsFor DISK_BLOCKS (block_at new.blocks))
+    subst (StandsFor DISK_BLOCKS (block_at new.stored))
     (sym (regs_store m.stage m.regs (unix_of (updated m.world new c.update_all.ensures.store c.update_all.ensures.references)))) c.update_all.ensures.stands
