@@ -3,6 +3,7 @@ ghost use Rattle.std.specs.Prelude.{◌≡◌, ◌+◌, ◌<◌, ◌≤◌, leng
 ghost use Rattle.std.specs.Borrow.{sem};
 ghost use Rattle.std.specs.Io.BufRead.{Rests};
 ghost use Rattle.buf_cache.specs.Blocks.{block_at, patched, IsDisk};
+ghost use Rattle.buf_cache.specs.Cached.{cached_blocks};
 ghost use Rattle.buf_cache.specs.contracts.cache.Cache.{the_row};
 
 use crate::disk::Disk;
@@ -17,16 +18,17 @@ pub struct Cache {
 }
 
 impl Model for Cache {
-    ghost use Rattle.std.specs.Prelude.{ℕ, List};
     ghost use Rattle.buf_cache.specs.Blocks.{IsDisk};
+    ghost use Rattle.buf_cache.specs.Cached.{Cached};
 
-    ghost Value = { List (List ℕ) };
+    ghost Value = { Cached };
 
-    ghost view = { λ c. c.blocks.items };
+    ghost view = { λ c. record { disk = c.blocks.items } };
 
     ghost invariant = { λ c. IsDisk c.blocks.items };
 }
 
+#[tactic(auto, unfolding(crate::specs::Cached::cached_blocks))]
 impl Cache {
     /// A cache over a disk. It takes no memory so far, and `alloc` is for the buffers that are to come.
     ///
@@ -34,7 +36,8 @@ impl Cache {
     ///
     /// There is no memory for the buffers.
     pub fn new(alloc: Global, disk: Disk) -> Result<Cache, AllocError>
-        ensures { IfOk result (λ cache. cache ≡ disk) }
+        ensures disk { IfOk result (λ cache. cache.disk ≡ disk) }
+        ensures blocks { IfOk result (λ cache. cached_blocks cache ≡ disk) }
     {
         let _ = alloc;
         let Disk { blocks } = disk;
@@ -44,9 +47,9 @@ impl Cache {
     /// The bytes of block `n`. `getblk` and `bread`.
     pub fn block(&mut self, n: u16) -> &[u8; 512]
         requires { n < DISK_BLOCKS }
-        ensures* same { sem 𝓛 (Rests the_row self.entry (λ v. v ≡ self.old)) }
-        ensures value { result.now ≡ block_at self.old n }
-        ensures form { IsDisk self.old }
+        ensures* same { sem 𝓛 (Rests the_row self.entry (λ v. cached_blocks v ≡ cached_blocks self.old)) }
+        ensures value { result.now ≡ block_at (cached_blocks self.old) n }
+        ensures form { IsDisk (cached_blocks self.old) }
     {
         &self.blocks[n as usize]
     }
@@ -55,8 +58,9 @@ impl Cache {
     pub fn change(&mut self, n: u16, at: u16, bytes: &[u8])
         requires block { n < DISK_BLOCKS }
         requires within { at + length bytes.now ≤ BLOCK_SIZE }
-        ensures changed { self.new ≡ slice_set self.old n (patched at bytes.now (block_at self.old n)) }
-        ensures form { IsDisk self.old }
+        ensures blocks { cached_blocks self.new
+            ≡ slice_set (cached_blocks self.old) n (patched at bytes.now (block_at (cached_blocks self.old) n)) }
+        ensures form { IsDisk (cached_blocks self.old) }
     {
         let block = &mut self.blocks[n as usize];
         let from = at as usize;
@@ -65,14 +69,16 @@ impl Cache {
 
     /// Writes to the disk what has changed. `bflush`.
     pub fn sync(&mut self)
-        ensures { self.new ≡ self.old }
+        ensures blocks { cached_blocks self.new ≡ cached_blocks self.old }
+        ensures disk { self.new.disk ≡ cached_blocks self.old }
     {}
 
     /// The bytes of block `n` on the disk.
     pub fn on_disk(&self, n: u16) -> &[u8; 512]
         requires { n < DISK_BLOCKS }
-        ensures value { result.now ≡ block_at self.now n }
-        ensures form { IsDisk self.now }
+        ensures value { result.now ≡ block_at self.now.disk n }
+        ensures disk { IsDisk self.now.disk }
+        ensures form { IsDisk (cached_blocks self.now) }
     {
         &self.blocks[n as usize]
     }

@@ -52,7 +52,7 @@ pub enum Look {
 
 /// The inode of a number: one that no disk has where it is free.
 fn inode(nodes: &mut Nodes, ino: u16) -> DiskNode
-    ensures { nodes.new ≡ nodes.old }
+    ensures { nodes.new.references ≡ nodes.old.references }
 {
     match nodes.peek(ino) {
         Some(inode) => inode,
@@ -84,7 +84,7 @@ fn has_address(inode: &DiskNode, place: usize, address: u16) -> bool {
 }
 
 fn has_body(nodes: &mut Nodes, ino: u16, offset: u32, bytes: &[u8]) -> bool
-    ensures { nodes.new ≡ nodes.old }
+    ensures { nodes.new.references ≡ nodes.old.references }
 {
     let mut found = [0; 16];
     if nodes.peek(ino).is_none() {
@@ -169,7 +169,7 @@ fn stands(nodes: &Nodes, at: usize, bytes: &[u8]) -> bool {
 }
 
 fn shows_inode(nodes: &mut Nodes, look: Look) -> bool
-    ensures { nodes.new ≡ nodes.old }
+    ensures { nodes.new.references ≡ nodes.old.references }
 {
     match look {
         Look::Inode(ino, mode, owners, size) => is_inode(&inode(nodes, ino), mode, owners, size),

@@ -81,7 +81,7 @@ fn memory(alloc: Global) -> Result<Whole, AllocError> {
 
 /// A file system to which nobody refers.
 fn fresh(volume: Volume) -> Nodes
-    requires sound { disk_fault DISK_BLOCKS (disk volume) ≡ None }
+    requires sound { disk_fault DISK_BLOCKS (disk volume.state) ≡ None }
     ensures { (i : ℕ) → slice_index result.references i ≡ 0 }
 {
     Nodes::new(volume)

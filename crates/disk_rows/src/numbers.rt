@@ -303,3 +303,19 @@ fn a_list_of_a_hundred_takes_no_more(rt: HostRuntime) {
         );
     }
 }
+
+/// Whether a list that was filled with 30, 31 and 32 stands whole on the disk, with a count of two, once 32 is drawn.
+fn is_filled_whole(alloc: Global) -> Result<bool, AllocError> {
+    let Some(mut nodes) = open(alloc, &disk_with(2, &[(30, 32)]))? else {
+        return Ok(false);
+    };
+    let is_made = nodes.new_node(0o644, 1, 2, 3) == Ok(32);
+    nodes.update_all(4);
+    let words = &nodes.on_disk(1)[206..214];
+    Ok(is_made && words == [2, 0, 30, 0, 31, 0, 32, 0].as_slice())
+}
+
+#[test]
+fn a_list_is_filled_before_numbers_are_drawn(rt: HostRuntime) {
+    assert!(rt; is_filled_whole(rt.alloc()).expect(&rt, "memory"));
+}

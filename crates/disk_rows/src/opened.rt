@@ -22,9 +22,9 @@ use v6_base::Errno;
 /// The volume on an image without a fault, and the blocks of the file of its inode 2.
 fn volume_on(alloc: Global, image: &[u8]) -> Result<Volume, AllocError>
     requires { image_fault image.now ≡ None }
-    ensures none { IfOk result (λ volume. disk_fault DISK_BLOCKS (disk volume) ≡ None) }
+    ensures none { IfOk result (λ volume. disk_fault DISK_BLOCKS (disk volume.state) ≡ None) }
     ensures apart { IfOk result (λ volume. (node : Inode) → node ≡ inode (disk_of image.now) 2
-        → holds_blocks node.mode ≡ true → IsApart (disk volume) (addresses (disk volume) node)) }
+        → holds_blocks node.mode ≡ true → IsApart (disk volume.state) (addresses (disk volume.state) node)) }
 {
     let cache = Cache::new(alloc, Disk::from_bytes(alloc, image)?)?;
     let volume = Volume::open_on(cache);
@@ -34,7 +34,7 @@ fn volume_on(alloc: Global, image: &[u8]) -> Result<Volume, AllocError>
 
 /// The volume on an image, where that has no fault.
 pub fn open_volume(alloc: Global, image: &[u8]) -> Result<Option<Volume>, AllocError>
-    ensures { IfOk result (λ opened. IfSome opened (λ volume. disk_fault DISK_BLOCKS (disk volume) ≡ None)) }
+    ensures { IfOk result (λ opened. IfSome opened (λ volume. disk_fault DISK_BLOCKS (disk volume.state) ≡ None)) }
 {
     match accept(image) {
         Ok(()) => Ok(Some(volume_on(alloc, image)?)),
@@ -52,7 +52,7 @@ pub struct OpenFile {
 /// The volume on an image, where that has no fault, with its inode 2, where that is used.
 pub fn open_file(alloc: Global, image: &[u8]) -> Result<Option<OpenFile>, AllocError>
     ensures { IfOk result (λ opened. IfSome opened (λ file. is_device file.node.mode ≡ false
-        → IsApart (disk file.volume) (addresses (disk file.volume) (fields_of file.node)))) }
+        → IsApart (disk file.volume.state) (addresses (disk file.volume.state) (fields_of file.node)))) }
 {
     let node = inode_in(image, 2);
     match accept(image) {
@@ -66,7 +66,7 @@ pub fn open_file(alloc: Global, image: &[u8]) -> Result<Option<OpenFile>, AllocE
 
 /// A file system to which nobody refers.
 fn fresh(volume: Volume) -> Nodes
-    requires sound { disk_fault DISK_BLOCKS (disk volume) ≡ None }
+    requires sound { disk_fault DISK_BLOCKS (disk volume.state) ≡ None }
     ensures { (i : ℕ) → slice_index result.references i ≡ 0 }
 {
     Nodes::new(volume)
@@ -97,7 +97,7 @@ pub fn takes(nodes: &mut Nodes, ino: u16) -> bool
 
 /// Whether there is no free block.
 pub fn is_spent(volume: &mut Volume) -> bool
-    ensures { result ≡ true → free (disk volume.new) ≡ [] }
+    ensures { result ≡ true → free (disk volume.new.state) ≡ [] }
 {
     match volume.alloc_block() {
         Err(Errno::ENOSPC) => true,

@@ -352,7 +352,7 @@ static FILES: [Row; 24] = [
 
 /// Touches these blocks in order, and says whether each answer is the one that it must be.
 fn answers(volume: &mut Volume, node: &mut DiskNode, touches: &[(u32, Result<u16, Errno>)]) -> bool
-    requires { IsApart (disk volume.old) (addresses (disk volume.old) (fields_of node.old)) }
+    requires { IsApart (disk volume.old.state) (addresses (disk volume.old.state) (fields_of node.old)) }
 {
     for (number, answer) in touches {
         if is_device(node.mode) {

@@ -133,7 +133,7 @@ fn wanted(before: DiskNode, mode: u16) -> DiskNode {
 /// Truncates an inode. The super-block is written by the sync where blocks have been given back.
 fn truncates(volume: &mut Volume, node: &mut DiskNode, mode: u16, some: bool) -> bool
     requires { is_device node.old.mode ≡ false
-        → IsApart (disk volume.old) (addresses (disk volume.old) (fields_of node.old)) }
+        → IsApart (disk volume.old.state) (addresses (disk volume.old.state) (fields_of node.old)) }
 {
     let before = *node;
     volume.truncate(node);

@@ -122,8 +122,8 @@ fn takes(volume: &mut Volume, order: &[Down]) -> bool {
 
 /// Whether a block can be given back, where none from it on is free.
 fn gives_block(volume: &mut Volume, b: u16) -> bool
-    requires { (k : ℕ) → b ≤ k → count_by (nat_eq k) (free (disk volume.old)) ≡ 0 }
-    ensures { (k : ℕ) → b < k → count_by (nat_eq k) (free (disk volume.new)) ≡ 0 }
+    requires { (k : ℕ) → b ≤ k → count_by (nat_eq k) (free (disk volume.old.state)) ≡ 0 }
+    ensures { (k : ℕ) → b < k → count_by (nat_eq k) (free (disk volume.new.state)) ≡ 0 }
 {
     let head = volume.head();
     if head.i_size != 1 || head.f_size != BLOCKS || b < 3 || b >= BLOCKS {

@@ -2,6 +2,7 @@
 use Rattle.std.specs.Prelude.{◌≡◌, ◌≢◌, ℕ, Bool, true, false, ◌^◌, ◌<◌, ◌==◌, if◌then◌else◌}
 use Rattle.std.specs.Prelude.{List, [], length, replicate, slice_index}
 use Rattle.buf_cache.specs.Blocks.{block_at}
+use Rattle.buf_cache.specs.Cached.{Cached, cached_blocks}
 use Rattle.fs_codec.specs.Fields.{super_of}
 use Rattle.fs_codec.specs.Disk.{Disk}
 use Rattle.fs_codec.specs.Words.{word, words}
@@ -16,6 +17,15 @@ pub record State : Type 0 where
   pub blocks : List (List ℕ)
   pub head : SuperBlock
   pub changed : Bool
+
+-- A volume: its state, and what the disk has of it.
+pub record Mounted : Type 0 where
+  pub state : State
+  pub stored : List (List ℕ)
+
+-- the volume of a cache
+abbrev pub mounted : Cached → SuperBlock → Bool → Mounted
+mounted cache head changed = record { state = record { blocks = cached_blocks cache; head = head; changed = changed }; stored = cache.disk }
 
 -- Its fields are words and bytes, its two lists have a hundred numbers each, and its time is two words.
 pub record Fits (s : SuperBlock) : Type 0 where

@@ -21,12 +21,12 @@ use v6_base::Errno;
 
 /// The block of a name: the one that the file has, or else the first free block.
 fn take(volume: &mut Volume, node: &mut DiskNode, name: BlockName) -> Result<u16, Errno>
-    requires apart { IsApart (disk volume.old) (addresses (disk volume.old) (fields_of node.old)) }
+    requires apart { IsApart (disk volume.old.state) (addresses (disk volume.old.state) (fields_of node.old)) }
     requires place { IsPlace name }
-    requires open { IsOpen (disk volume.old) (fields_of node.old) name }
-    ensures taken { HoldsOrLacks volume.old (fields_of node.old) volume.new (fields_of node.new) name result }
-    ensures before { Fits volume.old.head }
-    ensures behind { Fits volume.new.head }
+    requires open { IsOpen (disk volume.old.state) (fields_of node.old) name }
+    ensures taken { HoldsOrLacks volume.old.state (fields_of node.old) volume.new.state (fields_of node.new) name result }
+    ensures before { Fits volume.old.state.head }
+    ensures behind { Fits volume.new.state.head }
 {
     volume.see();
     let held = block_of(volume, node, name);
@@ -50,12 +50,13 @@ impl Volume {
     /// what it took.
     pub fn touch(&mut self, node: &mut DiskNode, bn: u32) -> Result<u16, Errno>
         requires file { is_device node.old.mode ≡ false }
-        requires apart { IsApart (disk self.old) (addresses (disk self.old) (fields_of node.old)) }
-        ensures large { 32767 < bn → (result ≡ Err Errno.EFBIG) × (self.new ≡ self.old) × (node.new ≡ node.old) }
+        requires apart { IsApart (disk self.old.state) (addresses (disk self.old.state) (fields_of node.old)) }
+        ensures large { 32767 < bn → (result ≡ Err Errno.EFBIG) × (self.new.state ≡ self.old.state)
+            × (node.new ≡ node.old) }
         ensures takes { bn ≤ 32767 →
-            TakesPath self.old (fields_of node.old) bn self.new (fields_of node.new) (is_ok result) }
+            TakesPath self.old.state (fields_of node.old) bn self.new.state (fields_of node.new) (is_ok result) }
         ensures answer { bn ≤ 32767 → MatchResult result
-            (λ b. (b ≡ address (disk self.new) (fields_of node.new) (Data bn)) × (b ≢ 0))
+            (λ b. (b ≡ address (disk self.new.state) (fields_of node.new) (Data bn)) × (b ≢ 0))
             (λ e. e ≡ Errno.ENOSPC) }
     {
         if bn > 32767 {

@@ -4,6 +4,7 @@ ghost use Rattle.std.specs.Prelude.{◌≡◌, ◌≢◌, ℕ, ◌+◌, ◌-◌,
 ghost use Rattle.std.specs.Borrow.{sem};
 ghost use Rattle.std.specs.Io.BufRead.{Rests};
 ghost use Rattle.buf_cache.specs.Blocks.{block_at, patched, IsDisk};
+ghost use Rattle.buf_cache.specs.Cached.{cached_blocks};
 ghost use Rattle.v6_base.specs.declared.errno.Errno.{Errno};
 ghost use Rattle.fs_codec.specs.Words.{word, words};
 ghost use Rattle.fs_codec.specs.Disk.{is_data};
@@ -33,13 +34,14 @@ pub struct Volume {
 }
 
 impl Model for Volume {
-    ghost use Rattle.fs_blocks.specs.State.{State, IsKept};
+    ghost use Rattle.buf_cache.specs.Cached.{cached_blocks};
+    ghost use Rattle.fs_blocks.specs.State.{Mounted, mounted, IsKept};
 
-    ghost Value = { State };
+    ghost Value = { Mounted };
 
-    ghost view = { λ v. record { blocks = v.cache; head = v.head; changed = v.changed } };
+    ghost view = { λ v. mounted v.cache v.head v.changed };
 
-    ghost invariant = { λ v. IsKept v.cache v.head v.changed };
+    ghost invariant = { λ v. IsKept (cached_blocks v.cache) v.head v.changed };
 }
 
 /// Sees that each number is a word.
@@ -80,9 +82,9 @@ fn see_fields(head: &SuperBlock)
 /// The count and the numbers of the group that block `b` holds.
 fn load_group(cache: &mut Cache, b: u16, free: &mut [u16; 100]) -> u16
     requires { b < DISK_BLOCKS }
-    ensures same { cache.new ≡ cache.old }
-    ensures count { result ≡ word (block_at cache.old b) 0 }
-    ensures numbers { free.new ≡ words (block_at cache.old b) 2 LIST_SIZE }
+    ensures same { cached_blocks cache.new ≡ cached_blocks cache.old }
+    ensures count { result ≡ word (block_at (cached_blocks cache.old) b) 0 }
+    ensures numbers { free.new ≡ words (block_at (cached_blocks cache.old) b) 2 LIST_SIZE }
 {
     let block = cache.block(b);
     read_words(block, 2, free);
@@ -94,9 +96,9 @@ fn take_top(cache: &mut Cache, head: &mut SuperBlock) -> u16
     requires some { 0 < head.old.nfree }
     requires few { head.old.nfree ≤ LIST_SIZE }
     requires block { slice_index head.old.free (head.old.nfree - 1) < DISK_BLOCKS }
-    ensures same { cache.new ≡ cache.old }
+    ensures same { cached_blocks cache.new ≡ cached_blocks cache.old }
     ensures taken { result ≡ slice_index head.old.free (head.old.nfree - 1) }
-    ensures next { head.old.nfree ≡ 1 → IsGroup (block_at cache.old result) head.new }
+    ensures next { head.old.nfree ≡ 1 → IsGroup (block_at (cached_blocks cache.old) result) head.new }
     ensures more { 1 < head.old.nfree → (head.new.nfree ≡ head.old.nfree - 1) × (head.new.free ≡ head.old.free) }
     ensures others { SameButFree head.old head.new }
     ensures flags { SameFlags head.old head.new }
@@ -114,8 +116,8 @@ fn take_top(cache: &mut Cache, head: &mut SuperBlock) -> u16
 /// Makes a block all zeros.
 fn clear(cache: &mut Cache, b: u16)
     requires { b < DISK_BLOCKS }
-    ensures zeros { block_at cache.new b ≡ blank }
-    ensures others { (k : ℕ) → k ≢ b → block_at cache.new k ≡ block_at cache.old k }
+    ensures zeros { block_at (cached_blocks cache.new) b ≡ blank }
+    ensures others { (k : ℕ) → k ≢ b → block_at (cached_blocks cache.new) k ≡ block_at (cached_blocks cache.old) k }
 {
     cache.change(b, 0, &[0; BLOCK_SIZE]);
 }
@@ -123,9 +125,9 @@ fn clear(cache: &mut Cache, b: u16)
 /// Writes the group of the super-block into the first 202 bytes of a block.
 fn save_group(cache: &mut Cache, head: &SuperBlock, b: u16)
     requires { b < DISK_BLOCKS }
-    ensures saved { IsGroup (block_at cache.new b) head.now }
-    ensures behind { drop 202 (block_at cache.new b) ≡ drop 202 (block_at cache.old b) }
-    ensures others { (k : ℕ) → k ≢ b → block_at cache.new k ≡ block_at cache.old k }
+    ensures saved { IsGroup (block_at (cached_blocks cache.new) b) head.now }
+    ensures behind { drop 202 (block_at (cached_blocks cache.new) b) ≡ drop 202 (block_at (cached_blocks cache.old) b) }
+    ensures others { (k : ℕ) → k ≢ b → block_at (cached_blocks cache.new) k ≡ block_at (cached_blocks cache.old) k }
 {
     let mut group = [0; 202];
     put_word(&mut group, 0, head.nfree);
@@ -136,13 +138,15 @@ fn save_group(cache: &mut Cache, head: &SuperBlock, b: u16)
 
 /// Takes the first free block and clears it.
 fn take_first(cache: &mut Cache, head: &mut SuperBlock) -> Option<u16>
-    requires { IsVolume cache.old head.old }
-    ensures sound { IsVolume cache.new head.new }
-    ensures some { IfSome result (λ b. Takes (disk_with cache.old head.old) b (disk_with cache.new head.new)
-        × (block_at cache.new b ≡ blank)
-        × ((k : ℕ) → k ≢ b → block_at cache.new k ≡ block_at cache.old k)) }
-    ensures none { IfNone result ((free (disk_with cache.old head.old) ≡ [])
-        × (free (disk_with cache.new head.new) ≡ []) × (cache.new ≡ cache.old)) }
+    requires { IsVolume (cached_blocks cache.old) head.old }
+    ensures sound { IsVolume (cached_blocks cache.new) head.new }
+    ensures some { IfSome result (λ b.
+        Takes (disk_with (cached_blocks cache.old) head.old) b (disk_with (cached_blocks cache.new) head.new)
+        × (block_at (cached_blocks cache.new) b ≡ blank)
+        × ((k : ℕ) → k ≢ b → block_at (cached_blocks cache.new) k ≡ block_at (cached_blocks cache.old) k)) }
+    ensures none { IfNone result ((free (disk_with (cached_blocks cache.old) head.old) ≡ [])
+        × (free (disk_with (cached_blocks cache.new) head.new) ≡ [])
+        × (cached_blocks cache.new ≡ cached_blocks cache.old)) }
     ensures others { SameButFree head.old head.new }
     ensures flags { SameFlags head.old head.new }
 {
@@ -162,15 +166,16 @@ fn take_first(cache: &mut Cache, head: &mut SuperBlock) -> Option<u16>
 
 /// Puts a block that is not free at the front of the free list.
 fn push_free(cache: &mut Cache, head: &mut SuperBlock, b: u16)
-    requires sound { IsVolume cache.old head.old }
-    requires zone { is_data (disk_with cache.old head.old) b ≡ true }
-    requires fresh { count_by (nat_eq b) (free (disk_with cache.old head.old)) ≡ 0 }
-    ensures sound { IsVolume cache.new head.new }
-    ensures first { free (disk_with cache.new head.new) ≡ b ∷ free (disk_with cache.old head.old) }
-    ensures still { SameZone (disk_with cache.old head.old) (disk_with cache.new head.new) }
-    ensures blocks { (k : ℕ) → k ≢ b → block_at cache.new k ≡ block_at cache.old k }
-    ensures behind { drop 202 (block_at cache.new b) ≡ drop 202 (block_at cache.old b) }
-    ensures room { head.old.nfree ≢ LIST_SIZE → cache.new ≡ cache.old }
+    requires sound { IsVolume (cached_blocks cache.old) head.old }
+    requires zone { is_data (disk_with (cached_blocks cache.old) head.old) b ≡ true }
+    requires fresh { count_by (nat_eq b) (free (disk_with (cached_blocks cache.old) head.old)) ≡ 0 }
+    ensures sound { IsVolume (cached_blocks cache.new) head.new }
+    ensures first { free (disk_with (cached_blocks cache.new) head.new)
+        ≡ b ∷ free (disk_with (cached_blocks cache.old) head.old) }
+    ensures still { SameZone (disk_with (cached_blocks cache.old) head.old) (disk_with (cached_blocks cache.new) head.new) }
+    ensures blocks { (k : ℕ) → k ≢ b → block_at (cached_blocks cache.new) k ≡ block_at (cached_blocks cache.old) k }
+    ensures behind { drop 202 (block_at (cached_blocks cache.new) b) ≡ drop 202 (block_at (cached_blocks cache.old) b) }
+    ensures room { head.old.nfree ≢ LIST_SIZE → cached_blocks cache.new ≡ cached_blocks cache.old }
     ensures others { SameButFree head.old head.new }
     ensures flags { SameFlags head.old head.new }
 {
@@ -195,13 +200,14 @@ fn push_free(cache: &mut Cache, head: &mut SuperBlock, b: u16)
 
 /// Writes the super-block with a time into block 1.
 fn write_head(cache: &mut Cache, head: &mut SuperBlock, time: u32)
-    requires { IsVolume cache.old head.old }
+    requires { IsVolume (cached_blocks cache.old) head.old }
     ensures head { head.new ≡ record head.old { time = time } }
-    ensures written { super_of (block_at cache.new 1) ≡ head.new }
-    ensures rest { drop 416 (block_at cache.new 1) ≡ drop 416 (block_at cache.old 1) }
-    ensures blocks { (k : ℕ) → k ≢ 1 → block_at cache.new k ≡ block_at cache.old k }
-    ensures sound { IsVolume cache.new head.new }
-    ensures free { free (disk_with cache.new head.new) ≡ free (disk_with cache.old head.old) }
+    ensures written { super_of (block_at (cached_blocks cache.new) 1) ≡ head.new }
+    ensures rest { drop 416 (block_at (cached_blocks cache.new) 1) ≡ drop 416 (block_at (cached_blocks cache.old) 1) }
+    ensures blocks { (k : ℕ) → k ≢ 1 → block_at (cached_blocks cache.new) k ≡ block_at (cached_blocks cache.old) k }
+    ensures sound { IsVolume (cached_blocks cache.new) head.new }
+    ensures free { free (disk_with (cached_blocks cache.new) head.new)
+        ≡ free (disk_with (cached_blocks cache.old) head.old) }
 {
     head.time = time;
     see_fields(head);
@@ -214,14 +220,16 @@ impl Volume {
     /// The volume on a disk whose free list is sound, and the same store. It reads the super-block, whose four flags are 0
     /// from then on. `iinit`.
     pub fn open_on(mut cache: Cache) -> Volume
-        requires { IsSound (block_at cache) }
-        ensures blocks { result.blocks ≡ cache }
-        ensures head { result.head ≡ opened (super_of (block_at cache 1)) }
-        ensures free { free (disk result) ≡ free (block_at cache) }
-        ensures clean { result.changed ≡ false }
-        ensures faults { (limit : ℕ) → disk_fault limit (disk result) ≡ disk_fault limit (block_at cache) }
-        ensures whole { IsWhole (block_at cache) → IsWhole (disk result) }
-        ensures stands { IsWhole (block_at cache) → store_of (disk result) ≡ store_of (block_at cache) }
+        requires { IsSound (block_at (cached_blocks cache)) }
+        ensures blocks { result.state.blocks ≡ cached_blocks cache }
+        ensures head { result.state.head ≡ opened (super_of (block_at (cached_blocks cache) 1)) }
+        ensures free { free (disk result.state) ≡ free (block_at (cached_blocks cache)) }
+        ensures clean { result.state.changed ≡ false }
+        ensures faults { (limit : ℕ) → disk_fault limit (disk result.state)
+            ≡ disk_fault limit (block_at (cached_blocks cache)) }
+        ensures whole { IsWhole (block_at (cached_blocks cache)) → IsWhole (disk result.state) }
+        ensures stands { IsWhole (block_at (cached_blocks cache)) → store_of (disk result.state)
+            ≡ store_of (block_at (cached_blocks cache)) }
     {
         let mut head = read_super(cache.block(1));
         head.flock = 0;
@@ -239,8 +247,8 @@ impl Volume {
     /// The bytes of block `n`, of which block 1 may have an older super-block than `head` gives. `bread`.
     pub fn block(&mut self, n: u16) -> &[u8; 512]
         requires { n < DISK_BLOCKS }
-        ensures* same { sem 𝓛 (Rests the_row self.entry (λ v. v ≡ self.old)) }
-        ensures value { result.now ≡ block_at self.old.blocks n }
+        ensures* same { sem 𝓛 (Rests the_row self.entry (λ v. v.state ≡ self.old.state)) }
+        ensures value { result.now ≡ block_at self.old.state.blocks n }
     {
         self.cache.block(n)
     }
@@ -250,11 +258,12 @@ impl Volume {
         requires block { n < DISK_BLOCKS }
         requires within { at + length bytes.now ≤ BLOCK_SIZE }
         requires other { n ≢ 1 }
-        requires used { count_by (nat_eq n) (free (disk self.old)) ≡ 0 }
-        ensures blocks { self.new.blocks ≡ slice_set self.old.blocks n (patched at bytes.now (block_at self.old.blocks n)) }
-        ensures free { free (disk self.new) ≡ free (disk self.old) }
-        ensures head { self.new.head ≡ self.old.head }
-        ensures changed { self.new.changed ≡ self.old.changed }
+        requires used { count_by (nat_eq n) (free (disk self.old.state)) ≡ 0 }
+        ensures blocks { self.new.state.blocks
+            ≡ slice_set self.old.state.blocks n (patched at bytes.now (block_at self.old.state.blocks n)) }
+        ensures free { free (disk self.new.state) ≡ free (disk self.old.state) }
+        ensures head { self.new.state.head ≡ self.old.state.head }
+        ensures changed { self.new.state.changed ≡ self.old.state.changed }
     {
         self.cache.change(n, at, bytes);
     }
@@ -263,12 +272,13 @@ impl Volume {
     /// blocks of 512 bytes, the free list is sound, the flags are 0, and where the super-block has not changed the one on
     /// the disk says the same.
     pub fn head(&self) -> &SuperBlock
-        ensures head { result.now ≡ self.now.head }
-        ensures blocks { IsDisk self.now.blocks }
-        ensures sound { IsVolume self.now.blocks self.now.head }
-        ensures flags { HasNoFlags self.now.head }
-        ensures sizes { SameSizes self.now.blocks self.now.head }
-        ensures stored { self.now.changed ≡ false → ReadsAlike (disk self.now) (block_at self.now.blocks) }
+        ensures head { result.now ≡ self.now.state.head }
+        ensures blocks { IsDisk self.now.state.blocks }
+        ensures sound { IsVolume self.now.state.blocks self.now.state.head }
+        ensures flags { HasNoFlags self.now.state.head }
+        ensures sizes { SameSizes self.now.state.blocks self.now.state.head }
+        ensures stored { self.now.state.changed ≡ false
+            → ReadsAlike (disk self.now.state) (block_at self.now.state.blocks) }
     {
         let _boot = self.cache.on_disk(0);
         &self.head
@@ -276,11 +286,12 @@ impl Volume {
 
     /// Sees what always holds, as `head` tells it, and costs nothing.
     pub(crate) fn see(&self)
-        ensures blocks { IsDisk self.now.blocks }
-        ensures sound { IsVolume self.now.blocks self.now.head }
-        ensures flags { HasNoFlags self.now.head }
-        ensures sizes { SameSizes self.now.blocks self.now.head }
-        ensures stored { self.now.changed ≡ false → ReadsAlike (disk self.now) (block_at self.now.blocks) }
+        ensures blocks { IsDisk self.now.state.blocks }
+        ensures sound { IsVolume self.now.state.blocks self.now.state.head }
+        ensures flags { HasNoFlags self.now.state.head }
+        ensures sizes { SameSizes self.now.state.blocks self.now.state.head }
+        ensures stored { self.now.state.changed ≡ false
+            → ReadsAlike (disk self.now.state) (block_at self.now.state.blocks) }
     {
         let _head = &self.head;
         let _boot = self.cache.on_disk(0);
@@ -292,9 +303,9 @@ impl Volume {
     ///
     /// `ENOSPC`: no block is free. No block has changed then, nor whether the super-block is to be written.
     pub fn alloc_block(&mut self) -> Result<u16, Errno>
-        ensures taken { MatchResult result (λ b. Allocates self.old b self.new)
-            (λ e. (e ≡ Errno.ENOSPC) × IsFull self.old self.new) }
-        ensures others { SameButFree self.old.head self.new.head }
+        ensures taken { MatchResult result (λ b. Allocates self.old.state b self.new.state)
+            (λ e. (e ≡ Errno.ENOSPC) × IsFull self.old.state self.new.state) }
+        ensures others { SameButFree self.old.state.head self.new.state.head }
     {
         match take_first(&mut self.cache, &mut self.head) {
             Some(b) => {
@@ -308,15 +319,15 @@ impl Volume {
     /// Gives back a data block that nothing holds and that is not free. It is the first to be taken again. Where the
     /// super-block's group has 100 numbers, the first 202 bytes of the block become that group. `free`.
     pub fn free_block(&mut self, b: u16)
-        requires zone { is_data (disk self.old) b ≡ true }
-        requires fresh { count_by (nat_eq b) (free (disk self.old)) ≡ 0 }
-        ensures first { free (disk self.new) ≡ b ∷ free (disk self.old) }
-        ensures still { SameZone (disk self.old) (disk self.new) }
-        ensures blocks { (k : ℕ) → k ≢ b → block_at self.new.blocks k ≡ block_at self.old.blocks k }
-        ensures behind { drop 202 (block_at self.new.blocks b) ≡ drop 202 (block_at self.old.blocks b) }
-        ensures room { self.old.head.nfree ≢ LIST_SIZE → self.new.blocks ≡ self.old.blocks }
-        ensures others { SameButFree self.old.head self.new.head }
-        ensures changed { self.new.changed ≡ true }
+        requires zone { is_data (disk self.old.state) b ≡ true }
+        requires fresh { count_by (nat_eq b) (free (disk self.old.state)) ≡ 0 }
+        ensures first { free (disk self.new.state) ≡ b ∷ free (disk self.old.state) }
+        ensures still { SameZone (disk self.old.state) (disk self.new.state) }
+        ensures blocks { (k : ℕ) → k ≢ b → block_at self.new.state.blocks k ≡ block_at self.old.state.blocks k }
+        ensures behind { drop 202 (block_at self.new.state.blocks b) ≡ drop 202 (block_at self.old.state.blocks b) }
+        ensures room { self.old.state.head.nfree ≢ LIST_SIZE → self.new.state.blocks ≡ self.old.state.blocks }
+        ensures others { SameButFree self.old.state.head self.new.state.head }
+        ensures changed { self.new.state.changed ≡ true }
     {
         push_free(&mut self.cache, &mut self.head, b);
         self.changed = true;
@@ -325,13 +336,14 @@ impl Volume {
     /// Makes these numbers, at most 100, the super-block's list of free inodes. `ialloc` and `ifree`.
     pub fn set_spare(&mut self, list: &[u16])
         requires { length list.now ≤ LIST_SIZE }
-        ensures spare { take self.new.head.ninode self.new.head.inode ≡ list.now }
-        ensures count { self.new.head.ninode ≡ length list.now }
-        ensures behind { drop (length list.now) self.new.head.inode ≡ drop (length list.now) self.old.head.inode }
-        ensures others { SameButSpare self.old.head self.new.head }
-        ensures free { free (disk self.new) ≡ free (disk self.old) }
-        ensures blocks { self.new.blocks ≡ self.old.blocks }
-        ensures changed { self.new.changed ≡ true }
+        ensures spare { take self.new.state.head.ninode self.new.state.head.inode ≡ list.now }
+        ensures count { self.new.state.head.ninode ≡ length list.now }
+        ensures behind { drop (length list.now) self.new.state.head.inode
+            ≡ drop (length list.now) self.old.state.head.inode }
+        ensures others { SameButSpare self.old.state.head self.new.state.head }
+        ensures free { free (disk self.new.state) ≡ free (disk self.old.state) }
+        ensures blocks { self.new.state.blocks ≡ self.old.state.blocks }
+        ensures changed { self.new.state.changed ≡ true }
     {
         self.head.ninode = list.len() as u16;
         self.head.inode[0..list.len()].copy_from_slice(list);
@@ -342,15 +354,20 @@ impl Volume {
     /// Writes to the disk what has changed. A super-block that has changed gets this time, in seconds, and is written into
     /// the first 416 bytes of block 1. The blocks of the disk then stand for the same store as the volume. `update`.
     pub fn sync(&mut self, time: u32)
-        ensures head { self.new.head ≡ (if self.old.changed then record self.old.head { time = time } else self.old.head) }
-        ensures written { self.old.changed ≡ true → super_of (block_at self.new.blocks 1) ≡ self.new.head }
-        ensures rest { drop 416 (block_at self.new.blocks 1) ≡ drop 416 (block_at self.old.blocks 1) }
-        ensures still { self.old.changed ≡ false → self.new.blocks ≡ self.old.blocks }
-        ensures blocks { (k : ℕ) → k ≢ 1 → block_at self.new.blocks k ≡ block_at self.old.blocks k }
-        ensures free { free (disk self.new) ≡ free (disk self.old) }
-        ensures changed { self.new.changed ≡ false }
-        ensures faults { (limit : ℕ) → disk_fault limit (block_at self.new.blocks) ≡ disk_fault limit (disk self.new) }
-        ensures stands { IsWhole (disk self.new) → store_of (block_at self.new.blocks) ≡ store_of (disk self.new) }
+        ensures head { self.new.state.head
+            ≡ (if self.old.state.changed then record self.old.state.head { time = time } else self.old.state.head) }
+        ensures written { self.old.state.changed ≡ true → super_of (block_at self.new.state.blocks 1)
+            ≡ self.new.state.head }
+        ensures rest { drop 416 (block_at self.new.state.blocks 1) ≡ drop 416 (block_at self.old.state.blocks 1) }
+        ensures still { self.old.state.changed ≡ false → self.new.state.blocks ≡ self.old.state.blocks }
+        ensures blocks { (k : ℕ) → k ≢ 1 → block_at self.new.state.blocks k ≡ block_at self.old.state.blocks k }
+        ensures free { free (disk self.new.state) ≡ free (disk self.old.state) }
+        ensures changed { self.new.state.changed ≡ false }
+        ensures stored { self.new.stored ≡ self.new.state.blocks }
+        ensures faults { (limit : ℕ) → disk_fault limit (block_at self.new.state.blocks)
+            ≡ disk_fault limit (disk self.new.state) }
+        ensures stands { IsWhole (disk self.new.state) → store_of (block_at self.new.state.blocks)
+            ≡ store_of (disk self.new.state) }
     {
         if self.changed {
             write_head(&mut self.cache, &mut self.head, time);
@@ -359,10 +376,10 @@ impl Volume {
         self.cache.sync();
     }
 
-    /// The bytes of block `n` on the disk, as the last sync left them.
+    /// The bytes of block `n` on the disk. A block that has changed is written there by a sync, and may be before.
     pub fn on_disk(&self, n: u16) -> &[u8; 512]
         requires { n < DISK_BLOCKS }
-        ensures { result.now ≡ block_at self.now.blocks n }
+        ensures { result.now ≡ block_at self.now.stored n }
     {
         self.cache.on_disk(n)
     }

@@ -7,7 +7,7 @@ use Rattle.fs_codec.specs.Disk.{Disk, inode, inode_count}
 use Rattle.fs_codec.specs.declared.node.DiskNode.{DiskNode}
 use Rattle.fs_laws.specs.Chain.{SameZone}
 use Rattle.fs_laws.specs.Whole.{IsWhole}
-use Rattle.fs_blocks.specs.State.{State, disk, Fits}
+use Rattle.fs_blocks.specs.State.{State, Mounted, disk, Fits}
 use Rattle.fs_nodes.specs.declared.table.Referenced.{Referenced}
 use Rattle.fs_nodes.specs.FileSystem.{FileSystem, store_now}
 
@@ -48,13 +48,18 @@ pub record IsNodes (volume : State) (entries : List Referenced) : Type 0 where
   pub sizes : SameZone (block_at volume.blocks) (disk volume)
   pub table : IsTable (disk volume) entries
 
--- A file system on a volume, with a table of inodes.
+-- A file system on a volume, with a table of inodes, of which the disk has all.
 abbrev pub file_system : State → List Referenced → FileSystem
 file_system volume entries = record {
   store = store_now volume;
   references = references_in (inode_count (disk volume)) entries;
   blocks = volume.blocks;
+  stored = volume.blocks;
 }
+
+-- the same, where the disk has what it has of the volume
+abbrev pub files_of : Mounted → List Referenced → FileSystem
+files_of volume entries = record (file_system volume.state entries) { stored = volume.stored }
 
 -- an entry with another inode
 abbrev pub with_inode : Referenced → DiskNode → Referenced

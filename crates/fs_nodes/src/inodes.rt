@@ -14,11 +14,12 @@ use fs_codec::{DiskNode, read_node, write_node};
 
 /// Sees what always holds of a volume, and costs nothing.
 pub(crate) fn see(volume: &Volume)
-    ensures blocks { IsDisk volume.now.blocks }
-    ensures sound { IsVolume volume.now.blocks volume.now.head }
-    ensures flags { HasNoFlags volume.now.head }
-    ensures sizes { SameSizes volume.now.blocks volume.now.head }
-    ensures stored { volume.now.changed ≡ false → ReadsAlike (disk volume.now) (block_at volume.now.blocks) }
+    ensures blocks { IsDisk volume.now.state.blocks }
+    ensures sound { IsVolume volume.now.state.blocks volume.now.state.head }
+    ensures flags { HasNoFlags volume.now.state.head }
+    ensures sizes { SameSizes volume.now.state.blocks volume.now.state.head }
+    ensures stored { volume.now.state.changed ≡ false
+        → ReadsAlike (disk volume.now.state) (block_at volume.now.state.blocks) }
 {
     let _head = volume.head();
 }
@@ -26,9 +27,9 @@ pub(crate) fn see(volume: &Volume)
 /// The inode of this number, as the disk has it.
 pub(crate) fn read_inode(volume: &mut Volume, ino: u16) -> DiskNode
     requires low { 1 ≤ ino }
-    requires high { ino ≤ inode_count (disk volume.old) }
-    ensures node { fields_of result ≡ inode (disk volume.old) ino }
-    ensures same { volume.new ≡ volume.old }
+    requires high { ino ≤ inode_count (disk volume.old.state) }
+    ensures node { fields_of result ≡ inode (disk volume.old.state) ino }
+    ensures same { volume.new.state ≡ volume.old.state }
 {
     see(volume);
     let place = 32 * ((ino - 1) % 16) as usize;
@@ -41,8 +42,8 @@ pub(crate) fn read_inode(volume: &mut Volume, ino: u16) -> DiskNode
 /// Writes the inode of this number into its block.
 pub(crate) fn write_inode(volume: &mut Volume, ino: u16, node: &DiskNode)
     requires low { 1 ≤ ino }
-    requires high { ino ≤ inode_count (disk volume.old) }
-    ensures { WritesInode volume.old ino (fields_of node.now) volume.new }
+    requires high { ino ≤ inode_count (disk volume.old.state) }
+    ensures { WritesInode volume.old.state ino (fields_of node.now) volume.new.state }
 {
     see(volume);
     let place = 32 * ((ino - 1) % 16);
@@ -53,10 +54,10 @@ pub(crate) fn write_inode(volume: &mut Volume, ino: u16, node: &DiskNode)
 
 /// The inode of a number, where it is used.
 pub(crate) fn read_used(volume: &mut Volume, ino: u16) -> Option<DiskNode>
-    ensures used { MatchOption result (node_numbered (store_now volume.old) ino ≡ None)
-        (λ inode. ShowsNode (node_numbered (store_now volume.old) ino) inode) }
-    ensures fields { IfSome result (λ inode. fields_of inode ≡ the_inode (disk volume.old) ino) }
-    ensures same { volume.new ≡ volume.old }
+    ensures used { MatchOption result (node_numbered (store_now volume.old.state) ino ≡ None)
+        (λ inode. ShowsNode (node_numbered (store_now volume.old.state) ino) inode) }
+    ensures fields { IfSome result (λ inode. fields_of inode ≡ the_inode (disk volume.old.state) ino) }
+    ensures same { volume.new.state ≡ volume.old.state }
 {
     see(volume);
     if ino == 0 || u32::from(ino) > 16 * u32::from(volume.head().i_size) {

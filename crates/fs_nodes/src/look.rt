@@ -9,7 +9,7 @@ ghost use Rattle.fs_codec.specs.Store.{Node, node_numbered};
 ghost use Rattle.fs_codec.specs.Stands.{data_of, body_of};
 ghost use Rattle.fs_laws.specs.Whole.{IsApart};
 ghost use Rattle.fs_blocks.specs.State.{disk};
-ghost use Rattle.fs_nodes.specs.FileSystem.{file_byte, near_byte};
+ghost use Rattle.fs_nodes.specs.FileSystem.{file_byte, near_byte, SameFiles};
 
 use crate::inodes::{read_inode, see};
 use crate::nodes::Nodes;
@@ -27,8 +27,8 @@ fn see_addresses(addr: &[u16; 8])
 fn block_or_zeros(volume: &mut Volume, b: u16) -> [u8; 512]
     requires { b < DISK_BLOCKS }
     ensures none { b ≡ 0 → result ≡ replicate 512 0 }
-    ensures some { b ≢ 0 → result ≡ block_at volume.old.blocks b }
-    ensures same { volume.new ≡ volume.old }
+    ensures some { b ≢ 0 → result ≡ block_at volume.old.state.blocks b }
+    ensures same { volume.new.state ≡ volume.old.state }
 {
     if b == 0 {
         return [0; 512];
@@ -39,9 +39,9 @@ fn block_or_zeros(volume: &mut Volume, b: u16) -> [u8; 512]
 /// Data block `n` of a file, or zeros where the file does not have the block.
 fn data_block(volume: &mut Volume, node: &DiskNode, n: u16) -> [u8; 512]
     requires { holds_blocks node.now.mode ≡ true
-        → IsApart (disk volume.old) (addresses (disk volume.old) (fields_of node.now)) }
-    ensures bytes { result ≡ data_of (disk volume.old) (fields_of node.now) n }
-    ensures same { volume.new ≡ volume.old }
+        → IsApart (disk volume.old.state) (addresses (disk volume.old.state) (fields_of node.now)) }
+    ensures bytes { result ≡ data_of (disk volume.old.state) (fields_of node.now) n }
+    ensures same { volume.new.state ≡ volume.old.state }
 {
     if !holds_blocks(node.mode) {
         return [0; 512];
@@ -81,10 +81,10 @@ fn fill(first: &[u8; 512], second: &[u8; 512], offset: u32, size: u32, buf: &mut
 /// The 16 bytes of a file from an offset on, with zeros for what it does not have and behind its size.
 fn look_at(volume: &mut Volume, node: &DiskNode, offset: u32, buf: &mut [u8; 16])
     requires { holds_blocks node.now.mode ≡ true
-        → IsApart (disk volume.old) (addresses (disk volume.old) (fields_of node.now)) }
+        → IsApart (disk volume.old.state) (addresses (disk volume.old.state) (fields_of node.now)) }
     ensures bytes { (k : ℕ) → k < 16 → slice_index buf.new k
-        ≡ file_byte node.now.size (body_of (disk volume.old) (fields_of node.now)) (offset + k) }
-    ensures same { volume.new ≡ volume.old }
+        ≡ file_byte node.now.size (body_of (disk volume.old.state) (fields_of node.now)) (offset + k) }
+    ensures same { volume.new.state ≡ volume.old.state }
 {
     if offset >= node.size {
         *buf = [0; 16];
@@ -110,7 +110,7 @@ impl Nodes {
         requires node { IsSome (node_numbered self.old.store ino) }
         ensures bytes { (node : Node) → node_numbered self.old.store ino ≡ Some node
             → (k : ℕ) → k < 16 → slice_index buf.new k ≡ file_byte node.size node.body (offset + k) }
-        ensures same { self.new ≡ self.old }
+        ensures same { SameFiles self.old self.new }
     {
         let node = read_inode(&mut self.volume, ino);
         look_at(&mut self.volume, &node, offset, buf);

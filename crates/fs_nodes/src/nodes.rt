@@ -7,7 +7,7 @@ ghost use Rattle.fs_codec.specs.declared.layout.TheConstants.{DISK_BLOCKS};
 ghost use Rattle.fs_laws.specs.Chain.{SameZone};
 ghost use Rattle.fs_blocks.specs.State.{disk, IsVolume};
 ghost use Rattle.fs_codec.specs.Store.{node_numbered};
-ghost use Rattle.fs_nodes.specs.FileSystem.{store_now, referenced, ShowsNode, IsFileSystem};
+ghost use Rattle.fs_nodes.specs.FileSystem.{store_now, referenced, ShowsNode, SameFiles, IsFileSystem};
 
 use crate::inodes::{read_inode, read_used, see};
 use crate::table::{Referenced, find, place, refer_again};
@@ -26,19 +26,19 @@ pub struct Nodes {
 
 impl Model for Nodes {
     ghost use Rattle.fs_nodes.specs.FileSystem.{FileSystem};
-    ghost use Rattle.fs_nodes.specs.Table.{file_system, IsNodes};
+    ghost use Rattle.fs_nodes.specs.Table.{files_of, IsNodes};
 
     ghost Value = { FileSystem };
 
-    ghost view = { λ n. file_system n.volume n.table.items };
+    ghost view = { λ n. files_of n.volume n.table.items };
 
-    ghost invariant = { λ n. IsNodes n.volume n.table.items };
+    ghost invariant = { λ n. IsNodes n.volume.state n.table.items };
 }
 
 /// Sees that the super-block on the disk has the sizes that the one in memory has.
 pub(crate) fn see_sizes(volume: &Volume)
-    ensures volume { IsVolume volume.now.blocks volume.now.head }
-    ensures sizes { SameZone (block_at volume.now.blocks) (disk volume.now) }
+    ensures volume { IsVolume volume.now.state.blocks volume.now.state.head }
+    ensures sizes { SameZone (block_at volume.now.state.blocks) (disk volume.now.state) }
 {
     see(volume);
 }
@@ -46,10 +46,11 @@ pub(crate) fn see_sizes(volume: &Volume)
 impl Nodes {
     /// The file system on a volume without a fault, to whose inodes nobody refers yet.
     pub fn new(volume: Volume) -> Nodes
-        requires sound { disk_fault DISK_BLOCKS (disk volume) ≡ None }
-        ensures store { result.store ≡ store_now volume }
+        requires sound { disk_fault DISK_BLOCKS (disk volume.state) ≡ None }
+        ensures store { result.store ≡ store_now volume.state }
         ensures none { result.references ≡ replicate (result.store.count + 1) 0 }
-        ensures blocks { result.blocks ≡ volume.blocks }
+        ensures blocks { result.blocks ≡ volume.state.blocks }
+        ensures stored { result.stored ≡ volume.stored }
     {
         see_sizes(&volume);
         Nodes {
@@ -80,9 +81,9 @@ impl Nodes {
         requires few { slice_index self.old.references ino < 65535 }
         ensures outcome { MatchResult result
             (λ u. ((0 < slice_index self.old.references ino) ⊎ (referenced self.old.references < 100))
-            × (self.new ≡ record self.old {
+            × SameFiles (record self.old {
               references = slice_set self.old.references ino (slice_index self.old.references ino + 1);
-            }))
+            }) self.new)
             (λ e. (e ≡ Errno.ENFILE) × (slice_index self.old.references ino ≡ 0)
             × (referenced self.old.references ≡ 100) × (self.new ≡ self.old)) }
     {
@@ -114,15 +115,15 @@ impl Nodes {
     pub fn peek(&mut self, ino: u16) -> Option<DiskNode>
         ensures found { MatchOption result (node_numbered self.old.store ino ≡ None)
             (λ inode. ShowsNode (node_numbered self.old.store ino) inode) }
-        ensures same { self.new ≡ self.old }
+        ensures same { SameFiles self.old self.new }
     {
         read_used(&mut self.volume, ino)
     }
 
-    /// The bytes of block `n` on the disk.
+    /// The bytes of block `n` on the disk. `update_all` writes a block there that has changed, and others may before.
     pub fn on_disk(&self, n: u16) -> &[u8; 512]
         requires { n < DISK_BLOCKS }
-        ensures { result.now ≡ block_at self.now.blocks n }
+        ensures { result.now ≡ block_at self.now.stored n }
     {
         self.volume.on_disk(n)
     }

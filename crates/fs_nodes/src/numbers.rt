@@ -1,5 +1,5 @@
 //! Numbers of inodes are drawn and given back: `ialloc` and `ifree` in Lions' Commentary, `alloc.c`.
-ghost use Rattle.std.specs.Prelude.{◌≡◌, ◌≢◌, true, ℕ, ◌+◌, ◌-◌, ◌*◌, ◌/◌, ◌%◌, ◌<◌, ◌≤◌, ◌==◌, ◌&&◌, ◌||◌, nat_lt, not, min, List, [], ◌∷◌, length, take, reverse, slice_index, slice_index_or, slice_set, if◌then◌else◌, MatchOption, MatchResult, Some, None};
+ghost use Rattle.std.specs.Prelude.{◌≡◌, ◌≢◌, true, ℕ, ◌+◌, ◌-◌, ◌*◌, ◌/◌, ◌%◌, ◌<◌, ◌≤◌, ◌==◌, ◌&&◌, ◌||◌, nat_lt, not, min, List, [], ◌∷◌, length, take, drop, reverse, slice_index, slice_index_or, slice_set, if◌then◌else◌, MatchOption, MatchResult, IfSome, Some, None};
 ghost use Rattle.buf_cache.specs.Blocks.{block_at};
 ghost use Rattle.fs_codec.specs.Fields.{fields_of};
 ghost use Rattle.fs_codec.specs.Disk.{inode, inode_count};
@@ -11,10 +11,10 @@ ghost use Rattle.fs_laws.specs.Whole.{IsWhole};
 ghost use Rattle.fs_laws.specs.Numbers.{is_free_number, drawn, refill, draw, with_draw, without_node, without_reference};
 ghost use Rattle.fs_blocks.specs.State.{disk};
 ghost use Rattle.fs_nodes.specs.FileSystem.{store_now, SameRest};
-ghost use Rattle.fs_nodes.specs.Table.{file_system, IsNodes};
+ghost use Rattle.fs_nodes.specs.Table.{files_of, IsNodes};
 ghost use Rattle.fs_nodes.specs.Inodes.{Writes};
 ghost use Rattle.fs_nodes.specs.declared.table.Referenced.{Referenced};
-ghost use Rattle.fs_nodes.specs.Numbers.{refers_to, once_less, drawn_from, emptied, pushed, ChangesList, ChangesInode, MakesNode, MakesNone};
+ghost use Rattle.fs_nodes.specs.Numbers.{refers_to, once_less, drawn_list, drawn_from, emptied, pushed, ChangesList, ChangesInode, MakesNode, MakesNone};
 
 use crate::inodes::{read_inode, see, write_inode};
 use crate::nodes::Nodes;
@@ -26,7 +26,7 @@ use v6_base::Errno;
 
 /// How many inodes there are.
 fn count_inodes(volume: &Volume) -> u32
-    ensures count { result ≡ inode_count (disk volume.now) }
+    ensures count { result ≡ inode_count (disk volume.now.state) }
     ensures few { result ≤ 77920 }
 {
     see(volume);
@@ -35,8 +35,8 @@ fn count_inodes(volume: &Volume) -> u32
 
 /// Whether a number is that of an inode that is not used.
 fn is_free(volume: &mut Volume, ino: u16) -> bool
-    ensures same { volume.new ≡ volume.old }
-    ensures free { result ≡ is_free_number (store_now volume.old) ino }
+    ensures same { volume.new.state ≡ volume.old.state }
+    ensures free { result ≡ is_free_number (store_now volume.old.state) ino }
 {
     if ino == 0 {
         return false;
@@ -56,10 +56,10 @@ fn is_referenced(table: &[Referenced], ino: u16) -> bool
 
 /// The place of the last free number of a list.
 fn last_free(volume: &mut Volume, list: &[u16]) -> Option<usize>
-    ensures same { volume.new ≡ volume.old }
+    ensures same { volume.new.state ≡ volume.old.state }
     ensures last { MatchOption result
-        (drawn (store_now volume.old) (reverse list.now) ≡ record { number = None; spare = [] })
-        (λ k. (k < length list.now) × (drawn (store_now volume.old) (reverse list.now)
+        (drawn (store_now volume.old.state) (reverse list.now) ≡ record { number = None; spare = [] })
+        (λ k. (k < length list.now) × (drawn (store_now volume.old.state) (reverse list.now)
         ≡ record { number = Some (slice_index list.now k); spare = take k list.now })) }
 {
     let mut left = list.len();
@@ -74,7 +74,7 @@ fn last_free(volume: &mut Volume, list: &[u16]) -> Option<usize>
 
 /// The last number that a word can be and that an inode has.
 fn last_number(volume: &Volume) -> u16
-    ensures { result ≡ min (inode_count (disk volume.now)) 65535 }
+    ensures { result ≡ min (inode_count (disk volume.now.state)) 65535 }
 {
     let count = count_inodes(volume);
     if count > 65535 { 65535 } else { count as u16 }
@@ -82,16 +82,16 @@ fn last_number(volume: &Volume) -> u16
 
 /// Whether a number is free and nothing refers to it.
 fn is_spare(volume: &mut Volume, table: &[Referenced], ino: u16) -> bool
-    ensures same { volume.new ≡ volume.old }
-    ensures spare { result ≡ (is_free_number (store_now volume.old) ino && not (refers_to table.now ino)) }
+    ensures same { volume.new.state ≡ volume.old.state }
+    ensures spare { result ≡ (is_free_number (store_now volume.old.state) ino && not (refers_to table.now ino)) }
 {
     is_free(volume, ino) && !is_referenced(table, ino)
 }
 
 /// The first hundred free numbers to which nothing refers.
 fn refill(volume: &mut Volume, table: &[Referenced]) -> ArrayVec<u16, 100>
-    ensures same { volume.new ≡ volume.old }
-    ensures found { result.items ≡ refill (store_now volume.old) (refers_to table.now) }
+    ensures same { volume.new.state ≡ volume.old.state }
+    ensures found { result.items ≡ refill (store_now volume.old.state) (refers_to table.now) }
 {
     let mut found = ArrayVec::new();
     for below in 0..last_number(volume) {
@@ -107,26 +107,32 @@ fn refill(volume: &mut Volume, table: &[Referenced]) -> ArrayVec<u16, 100>
 
 /// Makes these numbers the list of the super-block.
 fn set_list(volume: &mut Volume, list: &[u16])
-    requires whole { IsWhole (disk volume.old) }
+    requires whole { IsWhole (disk volume.old.state) }
     requires few { length list.now ≤ 100 }
-    ensures store { store_now volume.new ≡ record (store_now volume.old) { spare = list.now; mark = true } }
-    ensures rest { ChangesList volume.old volume.new }
+    ensures store { store_now volume.new.state ≡ record (store_now volume.old.state) { spare = list.now; mark = true } }
+    ensures words { take (length list.now) volume.new.state.head.inode ≡ list.now }
+    ensures behind { drop (length list.now) volume.new.state.head.inode
+        ≡ drop (length list.now) volume.old.state.head.inode }
+    ensures rest { ChangesList volume.old.state volume.new.state }
 {
     see(volume);
     volume.set_spare(list);
     see(volume);
 }
 
-/// Draws the last free number of a list, and makes what comes before it the list of the super-block.
+/// Draws the last free number of a list, and makes what comes before it the list of the super-block. The whole list is
+/// written there first: the words after those that are left still have the number that was drawn.
 fn draw_from(volume: &mut Volume, list: &[u16]) -> Option<u16>
-    requires whole { IsWhole (disk volume.old) }
+    requires whole { IsWhole (disk volume.old.state) }
     requires few { length list.now ≤ 100 }
-    ensures number { result ≡ (drawn (store_now volume.old) (reverse list.now)).number }
-    ensures store { store_now volume.new ≡ drawn_from (store_now volume.old) list.now }
-    ensures rest { ChangesList volume.old volume.new }
+    ensures number { result ≡ (drawn (store_now volume.old.state) (reverse list.now)).number }
+    ensures store { store_now volume.new.state ≡ drawn_from (store_now volume.old.state) list.now }
+    ensures words { IfSome result (λ _. take (length list.now) volume.new.state.head.inode ≡ list.now) }
+    ensures rest { ChangesList volume.old.state volume.new.state }
 {
     match last_free(volume, list) {
         Some(place) => {
+            set_list(volume, list);
             set_list(volume, &list[..place]);
             Some(list[place])
         }
@@ -136,10 +142,10 @@ fn draw_from(volume: &mut Volume, list: &[u16]) -> Option<u16>
 
 /// Empties the list of the super-block, whose numbers these are.
 fn empty_list(volume: &mut Volume, list: &[u16])
-    requires whole { IsWhole (disk volume.old) }
-    requires list { (store_now volume.old).spare ≡ list.now }
-    ensures store { store_now volume.new ≡ emptied (store_now volume.old) }
-    ensures rest { ChangesList volume.old volume.new }
+    requires whole { IsWhole (disk volume.old.state) }
+    requires list { (store_now volume.old.state).spare ≡ list.now }
+    ensures store { store_now volume.new.state ≡ emptied (store_now volume.old.state) }
+    ensures rest { ChangesList volume.old.state volume.new.state }
 {
     if !list.is_empty() {
         set_list(volume, &[]);
@@ -149,11 +155,13 @@ fn empty_list(volume: &mut Volume, list: &[u16])
 /// Draws the number of an inode that is not used, where there is one: from the end of the super-block's list, which is filled
 /// where nothing is left of it. A number of the list that is not free is dropped.
 fn draw_number(volume: &mut Volume, table: &[Referenced]) -> Option<u16>
-    requires { IsWhole (disk volume.old) }
-    ensures number { result ≡ (draw (store_now volume.old) (refers_to table.now)).number }
-    ensures store { store_now volume.new
-        ≡ with_draw (store_now volume.old) (draw (store_now volume.old) (refers_to table.now)) }
-    ensures rest { ChangesList volume.old volume.new }
+    requires { IsWhole (disk volume.old.state) }
+    ensures number { result ≡ (draw (store_now volume.old.state) (refers_to table.now)).number }
+    ensures store { store_now volume.new.state
+        ≡ with_draw (store_now volume.old.state) (draw (store_now volume.old.state) (refers_to table.now)) }
+    ensures words { IfSome result (λ _. let list = drawn_list (store_now volume.old.state) (refers_to table.now)
+        in take (length list) volume.new.state.head.inode ≡ list) }
+    ensures rest { ChangesList volume.old.state volume.new.state }
 {
     see(volume);
     let head = *volume.head();
@@ -168,9 +176,9 @@ fn draw_number(volume: &mut Volume, table: &[Referenced]) -> Option<u16>
 
 /// Puts the number of an inode that was freed at the end of the super-block's list, where there is room.
 fn push_number(volume: &mut Volume, ino: u16)
-    requires { IsWhole (disk volume.old) }
-    ensures store { store_now volume.new ≡ pushed (store_now volume.old) ino }
-    ensures rest { ChangesList volume.old volume.new }
+    requires { IsWhole (disk volume.old.state) }
+    ensures store { store_now volume.new.state ≡ pushed (store_now volume.old.state) ino }
+    ensures rest { ChangesList volume.old.state volume.new.state }
 {
     see(volume);
     let head = *volume.head();
@@ -184,15 +192,15 @@ fn push_number(volume: &mut Volume, ino: u16)
 
 /// Gives the blocks of an inode back and makes it free on the disk.
 fn clear_inode(volume: &mut Volume, ino: u16, mut node: DiskNode)
-    requires whole { IsWhole (disk volume.old) }
-    requires sizes { SameZone (block_at volume.old.blocks) (disk volume.old) }
+    requires whole { IsWhole (disk volume.old.state) }
+    requires sizes { SameZone (block_at volume.old.state.blocks) (disk volume.old.state) }
     requires low { 1 < ino }
-    requires high { ino ≤ inode_count (disk volume.old) }
-    requires node { fields_of node ≡ inode (disk volume.old) ino }
+    requires high { ino ≤ inode_count (disk volume.old.state) }
+    requires node { fields_of node ≡ inode (disk volume.old.state) ino }
     requires used { node.mode ≢ 0 }
-    ensures { (file : Node) → node_of (disk volume.old) (fields_of node) ≡ Some file
-        → Writes volume.old ino None (length (free (disk volume.old)) + names_held file)
-        (volume.old.changed || nat_lt 0 (names_held file)) volume.new }
+    ensures { (file : Node) → node_of (disk volume.old.state) (fields_of node) ≡ Some file
+        → Writes volume.old.state ino None (length (free (disk volume.old.state)) + names_held file)
+        (volume.old.state.changed || nat_lt 0 (names_held file)) volume.new.state }
 {
     see(volume);
     volume.truncate(&mut node);
@@ -203,15 +211,15 @@ fn clear_inode(volume: &mut Volume, ino: u16, mut node: DiskNode)
 
 /// Frees an inode: gives its blocks back, and puts its number into the list of the super-block, where there is room.
 pub(crate) fn free_inode(volume: &mut Volume, ino: u16, node: DiskNode)
-    requires whole { IsWhole (disk volume.old) }
-    requires sizes { SameZone (block_at volume.old.blocks) (disk volume.old) }
+    requires whole { IsWhole (disk volume.old.state) }
+    requires sizes { SameZone (block_at volume.old.state.blocks) (disk volume.old.state) }
     requires low { 1 < ino }
-    requires high { ino ≤ inode_count (disk volume.old) }
-    requires node { fields_of node ≡ inode (disk volume.old) ino }
+    requires high { ino ≤ inode_count (disk volume.old.state) }
+    requires node { fields_of node ≡ inode (disk volume.old.state) ino }
     requires used { node.mode ≢ 0 }
-    ensures store { (file : Node) → node_of (disk volume.old) (fields_of node) ≡ Some file
-        → store_now volume.new ≡ without_node (store_now volume.old) ino file }
-    ensures others { ChangesInode volume.old ino volume.new }
+    ensures store { (file : Node) → node_of (disk volume.old.state) (fields_of node) ≡ Some file
+        → store_now volume.new.state ≡ without_node (store_now volume.old.state) ino file }
+    ensures others { ChangesInode volume.old.state ino volume.new.state }
 {
     clear_inode(volume, ino, node);
     see(volume);
@@ -228,12 +236,12 @@ fn make_node(
     gid: u8,
     time: u32,
 ) -> Result<u16, Errno>
-    requires { IsNodes volume.old table.old.items }
-    ensures nodes { IsNodes volume.new table.new.items }
+    requires { IsNodes volume.old.state table.old.items }
+    ensures nodes { IsNodes volume.new.state table.new.items }
     ensures outcome { MatchResult result
-        (λ i. MakesNode (file_system volume.old table.old.items) mode uid gid time i (file_system volume.new table.new.items))
-        (λ e. MakesNone (file_system volume.old table.old.items) e (file_system volume.new table.new.items)) }
-    ensures rest { SameRest volume.old.blocks volume.new.blocks }
+        (λ i. MakesNode (files_of volume.old table.old.items) mode uid gid time i (files_of volume.new table.new.items))
+        (λ e. MakesNone (files_of volume.old table.old.items) e (files_of volume.new table.new.items)) }
+    ensures rest { SameRest volume.old.state.blocks volume.new.state.blocks }
 {
     let number = draw_number(volume, table);
     see(volume);
@@ -274,16 +282,17 @@ fn refer_less(table: &mut [Referenced], k: usize)
 
 /// Refers once less to an inode of a volume, and frees it where that was the last reference to one without links.
 fn put_inode(volume: &mut Volume, table: &mut ArrayVec<Referenced, 100>, ino: u16)
-    requires nodes { IsNodes volume.old table.old.items }
-    requires referenced { 0 < slice_index (file_system volume.old table.old.items).references ino }
-    ensures nodes { IsNodes volume.new table.new.items }
-    ensures references { (file_system volume.new table.new.items).references
-        ≡ slice_set (file_system volume.old table.old.items).references ino
-        (slice_index (file_system volume.old table.old.items).references ino - 1) }
-    ensures store { (node : Node) → node_numbered (store_now volume.old) ino ≡ Some node → store_now volume.new
-        ≡ (if slice_index (file_system volume.old table.old.items).references ino == 1
-        then without_reference (store_now volume.old) ino node else store_now volume.old) }
-    ensures rest { SameRest volume.old.blocks volume.new.blocks }
+    requires nodes { IsNodes volume.old.state table.old.items }
+    requires referenced { 0 < slice_index (files_of volume.old table.old.items).references ino }
+    ensures nodes { IsNodes volume.new.state table.new.items }
+    ensures references { (files_of volume.new table.new.items).references
+        ≡ slice_set (files_of volume.old table.old.items).references ino
+        (slice_index (files_of volume.old table.old.items).references ino - 1) }
+    ensures store { (node : Node) → node_numbered (store_now volume.old.state) ino ≡ Some node
+        → store_now volume.new.state
+        ≡ (if slice_index (files_of volume.old table.old.items).references ino == 1
+        then without_reference (store_now volume.old.state) ino node else store_now volume.old.state) }
+    ensures rest { SameRest volume.old.state.blocks volume.new.state.blocks }
 {
     let k = place(table, ino);
     let entry = table[k];

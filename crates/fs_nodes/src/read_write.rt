@@ -67,8 +67,8 @@ fn read_file<S: Space>(
     time: u32,
 ) -> Moved
     requires used { node.old.mode ≢ 0 }
-    requires apart { is_device node.old.mode ≡ false → IsApart (disk volume.old) (addresses (disk volume.old) (fields_of node.old)) }
-    ensures ends { Ends volume.old (fields_of node.old) volume.new (fields_of node.new) (read_file (put_into at) (file_of (disk volume.old) (fields_of node.old)) (length (free (disk volume.old))) (S.image space.old) offset count time) (S.image space.new) result.done result.error }
+    requires apart { is_device node.old.mode ≡ false → IsApart (disk volume.old.state) (addresses (disk volume.old.state) (fields_of node.old)) }
+    ensures ends { Ends volume.old.state (fields_of node.old) volume.new.state (fields_of node.new) (read_file (put_into at) (file_of (disk volume.old.state) (fields_of node.old)) (length (free (disk volume.old.state))) (S.image space.old) offset count time) (S.image space.new) result.done result.error }
     ensures rest { S.rest space.new ≡ S.rest space.old }
 {
     set_access(node, count, time);
@@ -88,9 +88,9 @@ fn read_file_kernel(
     time: u32,
 ) -> Moved
     requires used { node.old.mode ≢ 0 }
-    requires apart { is_device node.old.mode ≡ false → IsApart (disk volume.old) (addresses (disk volume.old) (fields_of node.old)) }
+    requires apart { is_device node.old.mode ≡ false → IsApart (disk volume.old.state) (addresses (disk volume.old.state) (fields_of node.old)) }
     requires few { length buf.old ≤ 65535 }
-    ensures ends { Ends volume.old (fields_of node.old) volume.new (fields_of node.new) (read_file put_kernel (file_of (disk volume.old) (fields_of node.old)) (length (free (disk volume.old))) buf.old offset (length buf.old) time) buf.new result.done result.error }
+    ensures ends { Ends volume.old.state (fields_of node.old) volume.new.state (fields_of node.new) (read_file put_kernel (file_of (disk volume.old.state) (fields_of node.old)) (length (free (disk volume.old.state))) buf.old offset (length buf.old) time) buf.new result.done result.error }
 {
     set_access(node, buf.len() as u16, time);
     if is_device(node.mode) {
@@ -111,8 +111,8 @@ fn write_file<S: Space>(
     time: u32,
 ) -> Moved
     requires used { node.old.mode ≢ 0 }
-    requires apart { is_device node.old.mode ≡ false → IsApart (disk volume.old) (addresses (disk volume.old) (fields_of node.old)) }
-    ensures { Ends volume.old (fields_of node.old) volume.new (fields_of node.new) (write_file (get_from (S.image space.now) at) (file_of (disk volume.old) (fields_of node.old)) (length (free (disk volume.old))) (tt {0}) offset count time) (tt {0}) result.done result.error }
+    requires apart { is_device node.old.mode ≡ false → IsApart (disk volume.old.state) (addresses (disk volume.old.state) (fields_of node.old)) }
+    ensures { Ends volume.old.state (fields_of node.old) volume.new.state (fields_of node.new) (write_file (get_from (S.image space.now) at) (file_of (disk volume.old.state) (fields_of node.old)) (length (free (disk volume.old.state))) (tt {0}) offset count time) (tt {0}) result.done result.error }
 {
     set_times(node, count, time);
     if is_device(node.mode) {
@@ -131,9 +131,9 @@ fn write_file_kernel(
     time: u32,
 ) -> Moved
     requires used { node.old.mode ≢ 0 }
-    requires apart { is_device node.old.mode ≡ false → IsApart (disk volume.old) (addresses (disk volume.old) (fields_of node.old)) }
+    requires apart { is_device node.old.mode ≡ false → IsApart (disk volume.old.state) (addresses (disk volume.old.state) (fields_of node.old)) }
     requires few { length buf.now ≤ 65535 }
-    ensures { Ends volume.old (fields_of node.old) volume.new (fields_of node.new) (write_file (get_kernel buf.now) (file_of (disk volume.old) (fields_of node.old)) (length (free (disk volume.old))) (tt {0}) offset (length buf.now) time) (tt {0}) result.done result.error }
+    ensures { Ends volume.old.state (fields_of node.old) volume.new.state (fields_of node.new) (write_file (get_kernel buf.now) (file_of (disk volume.old.state) (fields_of node.old)) (length (free (disk volume.old.state))) (tt {0}) offset (length buf.now) time) (tt {0}) result.done result.error }
 {
     set_times(node, buf.len() as u16, time);
     if is_device(node.mode) {
@@ -152,8 +152,8 @@ fn carry_inode(
 )
     requires some { 1 ≤ entries_of table.old.items ino }
     requires low { 1 ≤ ino }
-    requires high { ino ≤ 16 * volume.old.head.i_size }
-    ensures { (old : State) → IsNodes old table.old.items → Carries old (inode (disk old) ino) volume.old (fields_of node.now) → node.now.mode ≢ 0 → (ino ≡ 1 → is_directory node.now.mode ≡ true) → Carried old volume.old volume.new table.old.items table.new.items ino (fields_of node.now) }
+    requires high { ino ≤ 16 * volume.old.state.head.i_size }
+    ensures { (old : State) → IsNodes old table.old.items → Carries old (inode (disk old) ino) volume.old.state (fields_of node.now) → node.now.mode ≢ 0 → (ino ≡ 1 → is_directory node.now.mode ≡ true) → Carried old volume.old.state volume.new.state table.old.items table.new.items ino (fields_of node.now) }
 {
     see(volume);
     let k = place(table, ino);

@@ -91,8 +91,8 @@ pub(crate) fn save(
 )
     requires place { k < length table.old }
     requires low { 1 ≤ ino }
-    requires high { ino ≤ inode_count (disk volume.old) }
-    ensures written { WritesInode volume.old ino (fields_of node.now) volume.new }
+    requires high { ino ≤ inode_count (disk volume.old.state) }
+    ensures written { WritesInode volume.old.state ino (fields_of node.now) volume.new.state }
     ensures table { (entry : Referenced)
         → table.new ≡ slice_set table.old k (with_inode (slice_index_or table.old k entry) node.now) }
 {
@@ -115,16 +115,16 @@ pub(crate) fn set_inode(
     ino: u16,
     node: &DiskNode,
 )
-    requires sound { IsNodes volume.old table.old.items }
+    requires sound { IsNodes volume.old.state table.old.items }
     requires some { 1 ≤ entries_of table.old.items ino }
-    requires keeps { KeepsBlocks (inode (disk volume.old) ino) (fields_of node.now) }
-    ensures sound { IsNodes volume.new table.new.items }
-    ensures references { references_in (inode_count (disk volume.new)) table.new.items
-        ≡ references_in (inode_count (disk volume.old)) table.old.items }
-    ensures store { (file renewed : Node) → node_numbered (store_now volume.old) ino ≡ Some file
+    requires keeps { KeepsBlocks (inode (disk volume.old.state) ino) (fields_of node.now) }
+    ensures sound { IsNodes volume.new.state table.new.items }
+    ensures references { references_in (inode_count (disk volume.new.state)) table.new.items
+        ≡ references_in (inode_count (disk volume.old.state)) table.old.items }
+    ensures store { (file renewed : Node) → node_numbered (store_now volume.old.state) ino ≡ Some file
         → Renews (fields_of node.now) file renewed
-        → store_now volume.new ≡ with_node (store_now volume.old) ino renewed (store_now volume.old).room }
-    ensures rest { SameRest volume.old.blocks volume.new.blocks }
+        → store_now volume.new.state ≡ with_node (store_now volume.old.state) ino renewed (store_now volume.old.state).room }
+    ensures rest { SameRest volume.old.state.blocks volume.new.state.blocks }
 {
     let k = place(table, ino);
     save(volume, table, k, ino, node);

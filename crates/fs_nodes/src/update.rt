@@ -14,7 +14,8 @@ impl Nodes {
         ensures store { self.new.store
             ≡ (if self.old.store.mark then record self.old.store { stamp = time; mark = false } else self.old.store) }
         ensures references { self.new.references ≡ self.old.references }
-        ensures stands { StandsFor DISK_BLOCKS (block_at self.new.blocks) self.new.store }
+        ensures stored { self.new.stored ≡ self.new.blocks }
+        ensures stands { StandsFor DISK_BLOCKS (block_at self.new.stored) self.new.store }
         ensures rest { SameRest self.old.blocks self.new.blocks }
     {
         self.volume.sync(time);

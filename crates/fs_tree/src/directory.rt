@@ -2,6 +2,7 @@
 ghost use Rattle.std.specs.Prelude.{◌≡◌, ◌+◌, ◌*◌, ◌<◌, ◌==◌, ◌&&◌, ℕ, not, if◌then◌else◌, Some, None, is_some};
 ghost use Rattle.std.specs.Prelude.{IsSome, bytes_eq};
 ghost use Rattle.fs_codec.specs.Store.{Node, node_numbered};
+ghost use Rattle.fs_nodes.specs.FileSystem.{SameFiles};
 ghost use Rattle.fs_tree.specs.Directory.{entry_at, looked};
 
 use fs_codec::{DirEntry, read_entry};
@@ -20,7 +21,7 @@ pub(crate) enum Looked {
 fn entry(nodes: &mut Nodes, dir: u16, place: u16) -> DirEntry
     requires node { IsSome (node_numbered nodes.old.store dir) }
     ensures entry { (node : Node) → node_numbered nodes.old.store dir ≡ Some node → result ≡ entry_at node place }
-    ensures same { nodes.new ≡ nodes.old }
+    ensures same { SameFiles nodes.old nodes.new }
 {
     let mut bytes = [0; 16];
     nodes.look(dir, 16 * place as u32, &mut bytes);
@@ -50,7 +51,7 @@ pub(crate) fn look_up(nodes: &mut Nodes, dir: u16, size: u32, name: &[u8; 14]) -
     requires node { IsSome (node_numbered nodes.old.store dir) }
     ensures looked { (node : Node) → node_numbered nodes.old.store dir ≡ Some node → node.size ≡ size
         → result ≡ looked node name.now }
-    ensures same { nodes.new ≡ nodes.old }
+    ensures same { SameFiles nodes.old nodes.new }
 {
     let count = (size % 65536 / 16) as u16;
     let mut empty: Option<u16> = None;

@@ -2,6 +2,7 @@
 ghost use Rattle.std.specs.Prelude.{◌≡◌, ◌≢◌, ◌+◌, ◌*◌, ◌||◌, ◌<◌, ℕ, List, [], ◌∷◌, true, false, not, length, Some};
 ghost use Rattle.std.specs.Prelude.{None, IsSome, IfOk, slice_index};
 ghost use Rattle.fs_codec.specs.Store.{Node, node_numbered};
+ghost use Rattle.fs_nodes.specs.FileSystem.{SameFiles};
 ghost use Rattle.fs_tree.specs.Name.{components, is_whole, begins, start_of};
 ghost use Rattle.fs_tree.specs.Path.{used_number, entry_number, in_directory, is_last, way, found, to_make, to_remove};
 
@@ -36,7 +37,7 @@ pub(crate) enum Way {
 /// A number that an inode is used of.
 fn used_number(nodes: &mut Nodes, ino: u16) -> Result<u16, Errno>
     ensures result { result ≡ used_number nodes.old.store ino }
-    ensures same { nodes.new ≡ nodes.old }
+    ensures same { SameFiles nodes.old nodes.new }
 {
     match nodes.peek(ino) {
         Some(_) => Ok(ino),
@@ -47,7 +48,7 @@ fn used_number(nodes: &mut Nodes, ino: u16) -> Result<u16, Errno>
 /// The inode number that a search of a directory found.
 fn entry_number(nodes: &mut Nodes, looked: Looked) -> Result<u16, Errno>
     ensures result { result ≡ entry_number nodes.old.store looked }
-    ensures same { nodes.new ≡ nodes.old }
+    ensures same { SameFiles nodes.old nodes.new }
 {
     match looked {
         Looked::Entry(_, ino) => used_number(nodes, ino),
@@ -69,7 +70,7 @@ fn look_in<S: Space>(
     ensures whole { IfOk result (λ _. is_whole name.new ≡ is_whole name.old) }
     ensures read { IfOk result (λ _. is_last (components name.new) ≡ not (begins name.new)) }
     ensures shorter { IfOk result (λ _. length name.new < length name.old) }
-    ensures same { nodes.new ≡ nodes.old }
+    ensures same { SameFiles nodes.old nodes.new }
 {
     let Some(node) = nodes.peek(dir) else {
         return Err(Errno::ENOENT);
@@ -108,7 +109,7 @@ pub(crate) fn walk<S: Space>(
     name: &mut NameBytes<'_, S>,
 ) -> Result<Way, Errno>
     ensures result { result ≡ way nodes.old.store user dir name.old }
-    ensures same { nodes.new ≡ nodes.old }
+    ensures same { SameFiles nodes.old nodes.new }
 {
     let mut at = name.start(dir);
     name.pass_slashes();
@@ -130,7 +131,7 @@ pub(crate) fn walk<S: Space>(
 /// The inode that a name leads to.
 pub(crate) fn found(nodes: &mut Nodes, way: Way) -> Result<u16, Errno>
     ensures result { result ≡ found nodes.old.store way }
-    ensures same { nodes.new ≡ nodes.old }
+    ensures same { SameFiles nodes.old nodes.new }
 {
     match way {
         Way::Start(ino) => Ok(ino),
@@ -141,7 +142,7 @@ pub(crate) fn found(nodes: &mut Nodes, way: Way) -> Result<u16, Errno>
 /// The inode that a name leads to, or the room for an entry of this name.
 pub(crate) fn to_make(nodes: &mut Nodes, way: Way) -> Result<Made, Errno>
     ensures result { result ≡ to_make nodes.old.store way }
-    ensures same { nodes.new ≡ nodes.old }
+    ensures same { SameFiles nodes.old nodes.new }
 {
     let Way::End(last) = way else {
         return Err(Errno::ENOENT);
@@ -160,7 +161,7 @@ pub(crate) fn to_make(nodes: &mut Nodes, way: Way) -> Result<Made, Errno>
 /// The entry that a name leads to: its directory, its first byte there, and its inode.
 pub(crate) fn to_remove(nodes: &mut Nodes, way: Way) -> Result<(u16, u32, u16), Errno>
     ensures result { result ≡ to_remove nodes.old.store way }
-    ensures same { nodes.new ≡ nodes.old }
+    ensures same { SameFiles nodes.old nodes.new }
 {
     let Way::End(last) = way else {
         return Err(Errno::ENOENT);

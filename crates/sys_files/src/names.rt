@@ -1,6 +1,9 @@
 //! A directory is entered, a file's permissions and its owner are changed: chdir(II), chmod(II), chown(II), sync(II).
 //! Lions' Commentary, `sys4.c`.
 ghost use Rattle.std.specs.Prelude.{◌≡◌, ◌+◌, ◌/◌, ◌%◌, ◌<◌, ◌≤◌, ◌==◌, ◌||◌, if◌then◌else◌, ℕ, [], slice_index};
+ghost use Rattle.buf_cache.specs.Blocks.{block_at};
+ghost use Rattle.fs_codec.specs.Stands.{StandsFor};
+ghost use Rattle.fs_codec.specs.declared.layout.TheConstants.{DISK_BLOCKS};
 ghost use Rattle.fs_laws.specs.Numbers.{with_node};
 ghost use Rattle.fs_nodes.specs.FileSystem.{SameRest};
 ghost use Rattle.fs_tree.specs.Finding.{inodes_of, with_reference, put_back};
@@ -281,7 +284,8 @@ pub fn chown_to<S: Space, T: Trace>(
     done(u)
 }
 
-/// 36, sync(II): writes the super-block to the disk, where it has changed. R0 stays.
+/// 36, sync(II): writes to the disk what has changed, and the super-block with the time where that has. The blocks of the disk
+/// stand for the file system then. R0 stays.
 #[tactic(auto, using(v6_base::proofs::Took::takes))]
 pub fn sync_all<S: Space, T: Trace>(
     f: &mut Files,
@@ -305,6 +309,8 @@ pub fn sync_all<S: Space, T: Trace>(
     ensures frame { T.leads_to trace.old trace.new }
     ensures memory { S.rest space.new ≡ S.rest space.old }
     ensures blocks { SameRest f.old.tree.nodes.blocks f.new.tree.nodes.blocks }
+    ensures stored { f.new.tree.nodes.stored ≡ f.new.tree.nodes.blocks }
+    ensures stands { StandsFor DISK_BLOCKS (block_at f.new.tree.nodes.stored) f.new.tree.nodes.store }
 {
     f.tree.nodes.update_all(now);
     done(u)

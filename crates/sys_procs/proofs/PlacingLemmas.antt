@@ -156,4 +156,5 @@ no_files = record {
   store = record { nodes = []; count = 0; room = 0; spare = []; stamp = 0; mark = false };
   references = [];
   blocks = [];
+  stored = [];
 }

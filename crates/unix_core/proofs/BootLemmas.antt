@@ -1,17 +1,17 @@
 -- A volume on the disk of an image is what a kernel begins with.
-use Rattle.std.proofs.Common.{◌≡◌, if◌then◌else◌, ℕ, false, List, Some, None, is_some, sym, ap, ◌∙◌, subst, arith}
+use Rattle.std.proofs.Common.{◌≡◌, ◌≤◌, if◌then◌else◌, ℕ, false, List, Some, None, is_some, sym, ap, ◌∙◌, subst, arith}
 use Rattle.fs_codec.specs.Fields.{super_of}
 use Rattle.fs_codec.specs.Store.{Store}
-use Rattle.fs_codec.specs.Disk.{disk_of, head}
+use Rattle.fs_codec.specs.Disk.{Disk, disk_of, head}
 use Rattle.fs_codec.specs.Faults.{disk_fault, image_fault}
-use Rattle.fs_codec.specs.Stands.{store_of}
-use Rattle.fs_codec.specs.declared.layout.TheConstants.{DISK_BLOCKS}
+use Rattle.fs_codec.specs.Stands.{store_of, StandsFor}
+use Rattle.fs_codec.specs.declared.layout.TheConstants.{DISK_BLOCKS, SWAP_START}
 use Rattle.fs_codec.specs.declared.super_block.SuperBlock.{SuperBlock}
 use Rattle.buf_cache.specs.Blocks.{block_at, blocks_of}
 use Rattle.fs_laws.specs.Whole.{IsWhole}
 use Rattle.fs_laws.proofs.ImageLemmas.{block_of_image, image_within, image_files, image_whole}
 use Rattle.fs_laws.specs.Sync.{ReadsAlike}
-use Rattle.fs_laws.proofs.WholeLemmas.{whole_is, whole_has_none}
+use Rattle.fs_laws.proofs.WholeLemmas.{whole_is, whole_has_none, whole_within}
 use Rattle.fs_laws.proofs.SyncLemmas.{alike_fault, alike_store}
 use Rattle.fs_laws.proofs.AgreeLemmas.{files_store}
 use Rattle.fs_blocks.specs.State.{State, disk, opened}
@@ -50,3 +50,7 @@ pub boots_as : (image : List ℕ) (core : ℕ) (store : Store) (m : System) → 
 boots_as image core store m none is system =
     ap (λ f. if is_some f then None else Some (system_of image core)) none
     ∙ ap (λ (s : Store). Some (system_with s core)) (sym is) ∙ ap (λ (n : System). Some n) (sym system)
+
+-- A file system that keeps clear of the swap area has no fault there either.
+pub stands_below : (d : Disk) (store : Store) → (head d).f_size ≤ SWAP_START → StandsFor DISK_BLOCKS d store → StandsFor SWAP_START d store
+stands_below d store low stands = record { sound = whole_within SWAP_START d (whole_is d stands.sound) low; same = stands.same }

@@ -1,7 +1,9 @@
 //! The kernel, which takes one event a call.
 ghost use Rattle.std.specs.Prelude.{◌≡◌, ◌≢◌, ◌⊎◌, ◌==◌, ◌<◌, ◌≤◌, ℕ, [], slice_index, if◌then◌else◌, Ok, false};
 ghost use Rattle.v6_base.specs.Trace.{Took};
+ghost use Rattle.fs_codec.specs.Disk.{head};
 ghost use Rattle.fs_codec.specs.Stands.{StandsFor};
+ghost use Rattle.fs_codec.specs.declared.layout.TheConstants.{SWAP_START};
 ghost use Rattle.buf_cache.specs.Blocks.{block_at, IsDisk};
 ghost use Rattle.fs_laws.specs.Rest.{SameRest};
 ghost use Rattle.image_keep.specs.Kept.{Alive, first_kept, with_keeping};
@@ -68,6 +70,7 @@ impl Model for Kernel {
     ghost view = { λ k. record {
       system = system_at k.machine.stage k.machine.regs k.machine.world;
       blocks = k.machine.world.files.tree.nodes.blocks;
+      stored = k.machine.world.files.tree.nodes.stored;
       phase = phase_of k.machine.stage;
     } };
 
@@ -215,13 +218,17 @@ impl Kernel {
         self.machine.world.procs.switches = w;
     }
 
-    /// Ends a run: writes to the disk what has changed, and the super-block with the time where that has. sync(II) of
-    /// the manual; `update` in Lions' Commentary, `alloc.c`.
+    /// Ends a run: writes to the disk what has changed, and the super-block with the time where that has. A file system that
+    /// keeps clear of the swap area, as each that was booted does, is without a fault there too. sync(II) of the manual;
+    /// `update` in Lions' Commentary, `alloc.c`.
     pub fn finish(&mut self)
         requires { self.old.phase ≡ Started ⊎ self.old.phase ≡ Stopped }
         ensures phase { self.new.phase ≡ Finished }
         ensures system { self.new.system ≡ finished self.old.system }
-        ensures stands { StandsFor DISK_BLOCKS (block_at self.new.blocks) self.new.system.unix.store }
+        ensures stored { self.new.stored ≡ self.new.blocks }
+        ensures stands { StandsFor DISK_BLOCKS (block_at self.new.stored) self.new.system.unix.store }
+        ensures below { (head (block_at self.old.blocks)).f_size ≤ SWAP_START
+            → StandsFor SWAP_START (block_at self.new.stored) self.new.system.unix.store }
         ensures rest { SameRest self.old.blocks self.new.blocks }
         ensures form { IsDisk self.new.blocks }
     {
@@ -239,7 +246,7 @@ impl Kernel {
     pub fn final_block(&self, n: u16) -> [u8; 512]
         requires finished { self.now.phase ≡ Finished }
         requires block { n < DISK_BLOCKS }
-        ensures { result ≡ block_at self.now.blocks n }
+        ensures { result ≡ block_at self.now.stored n }
     {
         *self.machine.world.files.tree.nodes.on_disk(n)
     }

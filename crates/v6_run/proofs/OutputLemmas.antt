@@ -156,11 +156,11 @@ module _ (first : Disk) (run : Course) (a b c : Outside) (opens : OnlyAt is_outp
 
 -- the disk that a run leaves, where it has come to its end
 pub run_leaves : (old played ended : SystemOnDisk) (run : Course) → (head (block_at old.blocks)).f_size ≤ SWAP_START → played.system ≡ run.system → SameRest old.blocks played.blocks
-    → ended.system ≡ finished played.system → StandsFor DISK_BLOCKS (block_at ended.blocks) ended.system.unix.store → SameRest played.blocks ended.blocks → IsDisk ended.blocks
-    → IsFinal (block_at old.blocks) (finished run.system).unix.store (disk_text ended.blocks)
+    → ended.system ≡ finished played.system → StandsFor DISK_BLOCKS (block_at ended.stored) ended.system.unix.store → SameRest played.blocks ended.stored → IsDisk ended.stored
+    → IsFinal (block_at old.blocks) (finished run.system).unix.store (disk_text ended.stored)
 run_leaves old played ended run low plays first ends stands second form =
-    subst (λ (m : System). IsFinal (block_at old.blocks) m.unix.store (disk_text ended.blocks)) (ends ∙ ap finished plays)
-    (final_is old.blocks ended.blocks ended.system.unix.store low (rest_then _ _ _ first second) form stands)
+    subst (λ (m : System). IsFinal (block_at old.blocks) m.unix.store (disk_text ended.stored)) (ends ∙ ap finished plays)
+    (final_is old.blocks ended.stored ended.system.unix.store low (rest_then _ _ _ first second) form stands)
 
 pub came_to_none : (ending last : Option Unbuilt) → false ≡ is_some ending → ending ≡ last → None ≡ last
 came_to_none None last none is = is

@@ -76,9 +76,9 @@ fn write_disk<H: Host>(kernel: &Kernel, host: &mut H) -> Result<(), Failed>
     ensures only { OnlyAt (same (Out out_port.Final)) (H.outside host.old) (H.outside host.new) }
     ensures is_open { IsOpen (H.outside host.new) (Out out_port.Final) }
     ensures whole { OnOk result (Tells (H.outside host.old)
-        → (final_of (H.outside host.new)).bytes ≡ (final_of (H.outside host.old)).bytes ++ disk_text kernel.now.blocks) }
+        → (final_of (H.outside host.new)).bytes ≡ (final_of (H.outside host.old)).bytes ++ disk_text kernel.now.stored) }
     ensures front { Tells (H.outside host.old)
-        → HoldsFront (final_of (H.outside host.old)).bytes (disk_text kernel.now.blocks) (final_of (H.outside host.new)).bytes }
+        → HoldsFront (final_of (H.outside host.old)).bytes (disk_text kernel.now.stored) (final_of (H.outside host.new)).bytes }
     ensures cause { MatchResult result (λ _. Calm (H.outside host.old) (H.outside host.new))
         (λ _. FaultAt (Out out_port.Final) true (H.outside host.old) (H.outside host.new)) }
 {
@@ -93,15 +93,15 @@ pub(crate) fn leave_disk<H: Host>(kernel: &mut Kernel, host: &mut H) -> Result<(
     requires started { kernel.old.phase ≡ Started }
     requires is_open { IsOpen (H.outside host.old) (Out out_port.Final) }
     ensures system { kernel.new.system ≡ finished kernel.old.system }
-    ensures stands { StandsFor DISK_BLOCKS (block_at kernel.new.blocks) kernel.new.system.unix.store }
-    ensures rest { SameRest kernel.old.blocks kernel.new.blocks }
-    ensures form { IsDisk kernel.new.blocks }
+    ensures stands { StandsFor DISK_BLOCKS (block_at kernel.new.stored) kernel.new.system.unix.store }
+    ensures rest { SameRest kernel.old.blocks kernel.new.stored }
+    ensures form { IsDisk kernel.new.stored }
     ensures only { OnlyAt (same (Out out_port.Final)) (H.outside host.old) (H.outside host.new) }
     ensures is_open { IsOpen (H.outside host.new) (Out out_port.Final) }
     ensures whole { OnOk result (Tells (H.outside host.old)
-        → (final_of (H.outside host.new)).bytes ≡ (final_of (H.outside host.old)).bytes ++ disk_text kernel.new.blocks) }
+        → (final_of (H.outside host.new)).bytes ≡ (final_of (H.outside host.old)).bytes ++ disk_text kernel.new.stored) }
     ensures front { Tells (H.outside host.old)
-        → HoldsFront (final_of (H.outside host.old)).bytes (disk_text kernel.new.blocks) (final_of (H.outside host.new)).bytes }
+        → HoldsFront (final_of (H.outside host.old)).bytes (disk_text kernel.new.stored) (final_of (H.outside host.new)).bytes }
     ensures cause { MatchResult result (λ _. Calm (H.outside host.old) (H.outside host.new))
         (λ _. FaultAt (Out out_port.Final) true (H.outside host.old) (H.outside host.new)) }
 {

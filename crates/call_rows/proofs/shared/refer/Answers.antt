@@ -1,6 +1,5 @@
 use Rattle.std.proofs.Common.{◌+◌, ◌==◌, if◌then◌else◌, slice_index, IsSome, ap, ◌∙◌, rules}
 use Rattle.fs_codec.specs.Store.{node_numbered}
-use Rattle.fs_nodes.specs.FileSystem.{FileSystem}
 use Rattle.sys_files.proofs.OwingLemmas.{once_more}
 use Rattle.sys_files.proofs.EnteringLemmas.{used_low}
 use Rattle.call_rows.proofs.shared.refer.Goals as goal
@@ -9,6 +8,6 @@ pub returns-in-Ok : goal.returns-in-Ok
 returns-in-Ok c = λ is i.
     let fs = c.peek.new.self in
     let some : IsSome (node_numbered fs.store 3) = search rules in
-    ap (λ (f : FileSystem). slice_index f.references i) (c.in-Ok.ensures.outcome.1)
+    ap (λ l. slice_index l i) c.in-Ok.ensures.outcome.1.references
     ∙ once_more fs.references 3 i (used_low fs c.refs.ensures.form 3 some)
-    ∙ ap (λ (f : FileSystem). slice_index f.references i + (if 3 == i then 1 else 0)) c.peek.ensures.same
+    ∙ ap (λ l. slice_index l i + (if 3 == i then 1 else 0)) c.peek.ensures.same.references

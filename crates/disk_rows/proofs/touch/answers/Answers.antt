@@ -22,4 +22,4 @@ still Answer old new node next n t apart large takes = elim (cases_lt 32767 n) [
 
 pub loop-number-preserved : goal.loop-number-preserved
 loop-number-preserved c =
-    still _ c.loop-number.volume c.touch-found.new.self c.loop-number.node c.touch-found.new.node _ _ c.loop-number.invariant c.touch-found.ensures.large c.touch-found.ensures.takes
+    still _ c.loop-number.volume.state c.touch-found.new.self.state c.loop-number.node c.touch-found.new.node _ _ c.loop-number.invariant c.touch-found.ensures.large c.touch-found.ensures.takes

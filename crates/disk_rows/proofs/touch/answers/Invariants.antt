@@ -5,4 +5,4 @@ use Rattle.fs_blocks.specs.State.{disk}
 use Rattle.disk_rows.proofs.touch.answers.Given as goal
 
 abbrev pub invariant-loop-number : goal.invariant-loop-number
-invariant-loop-number l = IsApart (disk l.volume) (addresses (disk l.volume) (fields_of l.node))
+invariant-loop-number l = IsApart (disk l.volume.state) (addresses (disk l.volume.state) (fields_of l.node))

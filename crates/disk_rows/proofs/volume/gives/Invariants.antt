@@ -5,4 +5,4 @@ use Rattle.disk_rows.proofs.volume.gives.Given as goal
 
 -- no block from the next on is free
 abbrev pub invariant-loop-b : goal.invariant-loop-b
-invariant-loop-b l = (k : ℕ) → l.b ≤ k → count_by (nat_eq k) (free (disk l.volume)) ≡ 0
+invariant-loop-b l = (k : ℕ) → l.b ≤ k → count_by (nat_eq k) (free (disk l.volume.state)) ≡ 0

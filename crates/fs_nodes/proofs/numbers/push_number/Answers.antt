@@ -5,13 +5,13 @@ use Rattle.fs_nodes.proofs.numbers.push_number.Goals as goal
 
 pub returns-then-head-lt-LIST_SIZE-clause-store : goal.returns-then-head-lt-LIST_SIZE-clause-store
 returns-then-head-lt-LIST_SIZE-clause-store c =
-    let v = c.args.volume.now in
+    let v = c.args.volume.now.state in
     let e : c.head-head.result.now.ninode ≡ v.head.ninode = ap (λ (h : SuperBlock). h.ninode) c.head-head.ensures.head in
     c.set_list.ensures.store
     ∙ pushed_room v c.args.ino _ c.see.ensures.sound (omega (arith, e)) (ap (λ (h : SuperBlock). take (h.ninode + 1) (slice_set h.inode h.ninode c.args.ino)) c.head-head.ensures.head)
 
 pub returns-else-head-lt-LIST_SIZE-clause-store : goal.returns-else-head-lt-LIST_SIZE-clause-store
 returns-else-head-lt-LIST_SIZE-clause-store c =
-    let v = c.args.volume.now in
+    let v = c.args.volume.now.state in
     let e : c.head-head.result.now.ninode ≡ v.head.ninode = ap (λ (h : SuperBlock). h.ninode) c.head-head.ensures.head in
     pushed_full v c.args.ino c.see.ensures.sound (omega (arith, e))

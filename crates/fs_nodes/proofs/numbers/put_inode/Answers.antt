@@ -19,7 +19,7 @@ use Rattle.fs_nodes.proofs.numbers.put_inode.Goals.{After-place-k, After-index-d
 pub place-k-requires : goal.place-k-requires
 place-k-requires c =
     let P : List Referenced → Type 0 = λ l. 1 ≤ entries_of l c.args.ino in
-    subst P (sym c.deref.ensures.0) (has_entry (disk c.args.volume.now) c.args.table.now.items c.args.ino c.requires.nodes.table c.requires.referenced)
+    subst P (sym c.deref.ensures.0) (has_entry (disk c.args.volume.now.state) c.args.table.now.items c.args.ino c.requires.nodes.table c.requires.referenced)
 
 -- the entry
 at : (c : After-index-deref-k) → IsAt c.args.table.now.items c.place-k.result c.index-deref-k.result c.args.ino
@@ -36,21 +36,21 @@ at c =
       ino = sym (ap (λ (x : Referenced). x.ino) here) ∙ ap (λ l. (get_or l c.place-k.result c.index-deref-k.result).ino) (sym c.deref.ensures.0) ∙ c.place-k.ensures.here c.index-deref-k.result;
     }
 
-is_entry : (c : After-index-deref-k) → IsEntry (disk c.args.volume.now) c.index-deref-k.result
-is_entry c = entry_is c.args.volume.now c.args.table.now.items c.place-k.result c.index-deref-k.result c.args.ino c.requires.nodes (at c)
+is_entry : (c : After-index-deref-k) → IsEntry (disk c.args.volume.now.state) c.index-deref-k.result
+is_entry c = entry_is c.args.volume.now.state c.args.table.now.items c.place-k.result c.index-deref-k.result c.args.ino c.requires.nodes (at c)
 
-count : (c : After-index-deref-k) → slice_index (references_in (inode_count (disk c.args.volume.now)) c.args.table.now.items) c.args.ino ≡ c.index-deref-k.result.references
-count c = references_are c.args.volume.now c.args.table.now.items c.place-k.result c.index-deref-k.result c.args.ino c.requires.nodes (at c)
+count : (c : After-index-deref-k) → slice_index (references_in (inode_count (disk c.args.volume.now.state)) c.args.table.now.items) c.args.ino ≡ c.index-deref-k.result.references
+count c = references_are c.args.volume.now.state c.args.table.now.items c.place-k.result c.index-deref-k.result c.args.ino c.requires.nodes (at c)
 
 -- the file of its node
-file : (c : After-index-deref-k) (node : Node) → node_numbered (store_now c.args.volume.now) c.args.ino ≡ Some node → node_of (disk c.args.volume.now) (fields_of c.index-deref-k.result.node) ≡ Some node
-file c node is = sym (entry_node c.args.volume.now c.index-deref-k.result c.args.ino (is_entry c) (at c).ino) ∙ is
+file : (c : After-index-deref-k) (node : Node) → node_numbered (store_now c.args.volume.now.state) c.args.ino ≡ Some node → node_of (disk c.args.volume.now.state) (fields_of c.index-deref-k.result.node) ≡ Some node
+file c node is = sym (entry_node c.args.volume.now.state c.index-deref-k.result c.args.ino (is_entry c) (at c).ino) ∙ is
 
-links : (c : After-index-deref-k) (node : Node) → node_numbered (store_now c.args.volume.now) c.args.ino ≡ Some node → node.nlink ≡ c.index-deref-k.result.node.nlink
-links c node is = file_links (disk c.args.volume.now) (fields_of c.index-deref-k.result.node) node (file c node is)
+links : (c : After-index-deref-k) (node : Node) → node_numbered (store_now c.args.volume.now.state) c.args.ino ≡ Some node → node.nlink ≡ c.index-deref-k.result.node.nlink
+links c node is = file_links (disk c.args.volume.now.state) (fields_of c.index-deref-k.result.node) node (file c node is)
 
 -- where it is referred to more than once
-less : (c : After-refer_less) → Loses c.args.volume.now c.args.table.now.items c.args.ino c.args.volume.now (refill (length c.args.table.now.items) c.args.table.now.items c.refer_less.new.table)
+less : (c : After-refer_less) → Loses c.args.volume.now.state c.args.table.now.items c.args.ino c.args.volume.now.state (refill (length c.args.table.now.items) c.args.table.now.items c.refer_less.new.table)
 less c =
     let b = (goal.at.After-refer_less c).After-index-deref-k in
     let es = c.args.table.now.items in
@@ -61,8 +61,8 @@ less c =
     ∙ ap (λ x. slice_set c.args.table.now.items c.place-k.result (once_less x)) a.here in
     let next : refill (length c.args.table.now.items) c.args.table.now.items c.refer_less.new.table ≡ slice_set c.args.table.now.items c.place-k.result (once_less c.index-deref-k.result) =
     refilled c.args.table.now.items c.refer_less.new.table (ap length set ∙ length-set c.args.table.now.items c.place-k.result (once_less c.index-deref-k.result)) ∙ set in
-    let P : List Referenced → Type 0 = Loses c.args.volume.now c.args.table.now.items c.args.ino c.args.volume.now in
-    subst P (sym next) (put_less c.args.volume.now c.args.table.now.items c.place-k.result c.index-deref-k.result c.args.ino c.requires.nodes a c.if-entry-gt1.true)
+    let P : List Referenced → Type 0 = Loses c.args.volume.now.state c.args.table.now.items c.args.ino c.args.volume.now.state in
+    subst P (sym next) (put_less c.args.volume.now.state c.args.table.now.items c.place-k.result c.index-deref-k.result c.args.ino c.requires.nodes a c.if-entry-gt1.true)
 
 pub returns-then-entry-gt1-clause-nodes : goal.returns-then-entry-gt1-clause-nodes
 returns-then-entry-gt1-clause-nodes c = (less (goal.at.returns-then-entry-gt1-clause-nodes c).After-refer_less).nodes
@@ -74,17 +74,17 @@ pub returns-then-entry-gt1-clause-store : goal.returns-then-entry-gt1-clause-sto
 returns-then-entry-gt1-clause-store c = λ node is.
     let n = count (goal.at.returns-then-entry-gt1-clause-store c).After-index-deref-k in
     let many = c.if-entry-gt1.true in
-    kept_many (slice_index (references_in (inode_count (disk c.args.volume.now)) c.args.table.now.items) c.args.ino) _ (store_now c.args.volume.now) (omega (arith, n, many))
+    kept_many (slice_index (references_in (inode_count (disk c.args.volume.now.state)) c.args.table.now.items) c.args.ino) _ (store_now c.args.volume.now.state) (omega (arith, n, many))
 
 -- where that was the last reference
 once : (c : After-remove) → c.index-deref-k.result.references ≡ 1
 once c = let s = (is_entry (goal.at.After-remove c).After-index-deref-k).some in let f = c.if-entry-gt1.false in omega (arith, s, f)
 
-last : (c : After-remove) → Loses c.args.volume.now c.args.table.now.items c.args.ino c.args.volume.now c.remove.new.self.items
+last : (c : After-remove) → Loses c.args.volume.now.state c.args.table.now.items c.args.ino c.args.volume.now.state c.remove.new.self.items
 last c =
-    let P : List Referenced → Type 0 = Loses c.args.volume.now c.args.table.now.items c.args.ino c.args.volume.now in
+    let P : List Referenced → Type 0 = Loses c.args.volume.now.state c.args.table.now.items c.args.ino c.args.volume.now.state in
     subst P (sym c.remove.ensures.items)
-    (put_last c.args.volume.now c.args.table.now.items c.place-k.result c.index-deref-k.result c.args.ino c.requires.nodes (at (goal.at.After-remove c).After-index-deref-k) (once c))
+    (put_last c.args.volume.now.state c.args.table.now.items c.place-k.result c.index-deref-k.result c.args.ino c.requires.nodes (at (goal.at.After-remove c).After-index-deref-k) (once c))
 
 pub returns-then-entry-gt0-clause-nodes : goal.returns-then-entry-gt0-clause-nodes
 returns-then-entry-gt0-clause-nodes c = (last (goal.at.returns-then-entry-gt0-clause-nodes c).After-remove).nodes
@@ -96,7 +96,7 @@ pub returns-then-entry-gt0-clause-store : goal.returns-then-entry-gt0-clause-sto
 returns-then-entry-gt0-clause-store c = λ node is.
     let l = links (goal.at.returns-then-entry-gt0-clause-store c).After-index-deref-k node is in
     let some = c.if-entry-gt0.true in
-    kept_linked (slice_index (references_in (inode_count (disk c.args.volume.now)) c.args.table.now.items) c.args.ino) node.nlink c.args.ino _ (store_now c.args.volume.now) (omega (arith, l, some))
+    kept_linked (slice_index (references_in (inode_count (disk c.args.volume.now.state)) c.args.table.now.items) c.args.ino) node.nlink c.args.ino _ (store_now c.args.volume.now.state) (omega (arith, l, some))
 
 pub returns-then-ino-eq1-clause-nodes : goal.returns-then-ino-eq1-clause-nodes
 returns-then-ino-eq1-clause-nodes c = (last (goal.at.returns-then-ino-eq1-clause-nodes c).After-remove).nodes
@@ -106,19 +106,19 @@ returns-then-ino-eq1-clause-references c = (last (goal.at.returns-then-ino-eq1-c
 
 pub returns-then-ino-eq1-clause-store : goal.returns-then-ino-eq1-clause-store
 returns-then-ino-eq1-clause-store c = λ node is.
-    kept_root (slice_index (references_in (inode_count (disk c.args.volume.now)) c.args.table.now.items) c.args.ino) node.nlink c.args.ino _ (store_now c.args.volume.now) c.if-ino-eq1.true
+    kept_root (slice_index (references_in (inode_count (disk c.args.volume.now.state)) c.args.table.now.items) c.args.ino) node.nlink c.args.ino _ (store_now c.args.volume.now.state) c.if-ino-eq1.true
 
 pub free_inode-requires-clause-node : goal.free_inode-requires-clause-node
 free_inode-requires-clause-node c =
     let b = (goal.at.free_inode-requires-clause-node c).After-index-deref-k in
-    (is_entry b).same ∙ ap (inode (disk c.args.volume.now)) (at b).ino
+    (is_entry b).same ∙ ap (inode (disk c.args.volume.now.state)) (at b).ino
 
-freed : (c : After-free_inode) → Loses c.args.volume.now c.args.table.now.items c.args.ino c.free_inode.new.volume c.remove.new.self.items
+freed : (c : After-free_inode) → Loses c.args.volume.now.state c.args.table.now.items c.args.ino c.free_inode.new.volume.state c.remove.new.self.items
 freed c =
     let b = (goal.at.After-free_inode c).After-remove in
     let none : entries_of c.remove.new.self.items c.args.ino ≡ 0 = ap (λ l. entries_of l c.args.ino) c.remove.ensures.items
-    ∙ none_left c.args.volume.now c.args.table.now.items c.place-k.result c.index-deref-k.result c.args.ino c.requires.nodes (at (goal.at.After-free_inode c).After-index-deref-k) in
-    put_freed c.args.volume.now c.free_inode.new.volume c.args.table.now.items c.remove.new.self.items c.args.ino (last b) none c.free_inode.ensures.others
+    ∙ none_left c.args.volume.now.state c.args.table.now.items c.place-k.result c.index-deref-k.result c.args.ino c.requires.nodes (at (goal.at.After-free_inode c).After-index-deref-k) in
+    put_freed c.args.volume.now.state c.free_inode.new.volume.state c.args.table.now.items c.remove.new.self.items c.args.ino (last b) none c.free_inode.ensures.others
 
 pub returns-clause-nodes : goal.returns-clause-nodes
 returns-clause-nodes c = (freed (goal.at.returns-clause-nodes c).After-free_inode).nodes
@@ -134,7 +134,7 @@ returns-clause-store c = λ node is.
     let l = links b node is in
     let none = c.if-entry-gt0.false in
     c.free_inode.ensures.store node (file b node is)
-    ∙ gone (slice_index (references_in (inode_count (disk c.args.volume.now)) c.args.table.now.items) c.args.ino) node.nlink c.args.ino (without_node (store_now c.args.volume.now) c.args.ino node) (store_now c.args.volume.now)
+    ∙ gone (slice_index (references_in (inode_count (disk c.args.volume.now.state)) c.args.table.now.items) c.args.ino) node.nlink c.args.ino (without_node (store_now c.args.volume.now.state) c.args.ino node) (store_now c.args.volume.now.state)
     (omega (arith, n, o)) (omega (arith, l, none)) c.if-ino-eq1.false
 
 pub returns-clause-rest : goal.returns-clause-rest

@@ -12,13 +12,13 @@ use Rattle.fs_nodes.proofs.numbers.refill.Goals.{Joined-is_spare, then-is_spare,
 
 pub returns-then-is_full-clause-found : goal.returns-then-is_full-clause-found
 returns-then-is_full-clause-found c =
-    let v = c.args.volume.now in
+    let v = c.args.volume.now.state in
     let n = count_is v in
     let e = c.last_number-below-end.ensures in
     let long : length c.loop-below.found.items ≡ 100 = let t = c.if-is_full.true in let s = c.is_full.ensures.value in grind (arith, nat_tests) in
     refill_full (store_now v) (refers_to c.args.table.now) c.loop-below.below c.loop-below.found.items c.loop-below.invariant.found long (omega (arith, n, e))
 
-tests : (c : Joined-is_spare) → c.is_spare.result ≡ (is_free_number (store_now c.args.volume.now) (c.loop-below.below + 1) && not (refers_to c.args.table.now (c.loop-below.below + 1)))
+tests : (c : Joined-is_spare) → c.is_spare.result ≡ (is_free_number (store_now c.args.volume.now.state) (c.loop-below.below + 1) && not (refers_to c.args.table.now (c.loop-below.below + 1)))
 tests c =
     c.is_spare.ensures.spare
     ∙ ap (λ (s : State). is_free_number (store_now s) (c.loop-below.below + 1) && not (refers_to c.args.table.now (c.loop-below.below + 1))) c.loop-below.invariant.same
@@ -28,7 +28,7 @@ few_before c = let t = c.if-is_full.false in let s = c.is_full.ensures.value in 
 
 pub loop-below-preserved : goal.loop-below-preserved
 loop-below-preserved c =
-    let p : ℕ → Bool = λ i. is_free_number (store_now c.args.volume.now) i && not (refers_to c.args.table.now i) in
+    let p : ℕ → Bool = λ i. is_free_number (store_now c.args.volume.now.state) i && not (refers_to c.args.table.now i) in
     let n : ℕ = c.loop-below.below in
     record {
       same = c.is_spare.ensures.same ∙ c.loop-below.invariant.same;
@@ -48,7 +48,7 @@ loop-below-preserved c =
 
 pub returns-clause-found : goal.returns-clause-found
 returns-clause-found c =
-    let v = c.args.volume.now in
+    let v = c.args.volume.now.state in
     let n = count_is v in
     let e = c.last_number-below-end.ensures in
     refill_end (store_now v) (refers_to c.args.table.now) c.loop-below.below c.loop-below.found.items c.loop-below.invariant.found c.loop-below.invariant.few (omega (arith, n, e))

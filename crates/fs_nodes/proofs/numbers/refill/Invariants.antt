@@ -8,7 +8,7 @@ use Rattle.fs_nodes.proofs.numbers.refill.Given as goal
 -- the numbers found are those so far
 abbrev pub invariant-loop-below : goal.invariant-loop-below
 invariant-loop-below l = record {
-  same : l.volume ≡ l.fn.volume;
+  same : l.volume.state ≡ l.fn.volume.state;
   few : length l.found.items ≤ 100;
-  found : l.found.items ≡ filter (λ i. is_free_number (store_now l.fn.volume) i && not (refers_to l.table i)) (range_with_len 1 l.below);
+  found : l.found.items ≡ filter (λ i. is_free_number (store_now l.fn.volume.state) i && not (refers_to l.table i)) (range_with_len 1 l.below);
 }

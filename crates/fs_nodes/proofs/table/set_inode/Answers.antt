@@ -7,17 +7,17 @@ use Rattle.fs_nodes.proofs.table.set_inode.Goals as goal
 use Rattle.fs_nodes.proofs.table.set_inode.Goals.{After-save}
 
 pub save-requires-clause-low : goal.save-requires-clause-low
-save-requires-clause-low c = (entry_used c.args.volume.now c.args.table.now.items c.args.ino c.requires.sound c.requires.some).low
+save-requires-clause-low c = (entry_used c.args.volume.now.state c.args.table.now.items c.args.ino c.requires.sound c.requires.some).low
 
 pub save-requires-clause-high : goal.save-requires-clause-high
-save-requires-clause-high c = (entry_used c.args.volume.now c.args.table.now.items c.args.ino c.requires.sound c.requires.some).high
+save-requires-clause-high c = (entry_used c.args.volume.now.state c.args.table.now.items c.args.ino c.requires.sound c.requires.some).high
 
-step : (c : After-save) → Sets c.args.volume.now c.save.new.volume c.args.table.now.items (refill (length c.args.table.now.items) c.args.table.now.items c.save.new.table) c.args.ino c.args.node.now
+step : (c : After-save) → Sets c.args.volume.now.state c.save.new.volume.state c.args.table.now.items (refill (length c.args.table.now.items) c.args.table.now.items c.save.new.table) c.args.ino c.args.node.now
 step c =
     let from = c.deref.ensures.0 in
     let to = c.deref_mut.ensures.value in
     let P : List Referenced → Type 0 = λ l. c.place-k.result < length l in
-    set_done c.args.volume.now c.save.new.volume c.args.table.now.items c.deref_mut.result.now c.save.new.table c.place-k.result c.args.ino c.args.node.now c.requires.sound c.requires.keeps c.save.ensures.written
+    set_done c.args.volume.now.state c.save.new.volume.state c.args.table.now.items c.deref_mut.result.now c.save.new.table c.place-k.result c.args.ino c.args.node.now c.requires.sound c.requires.keeps c.save.ensures.written
     to (subst P (sym to) (subst P from c.place-k.ensures.low)) (λ e. ap (λ l. (get_or l c.place-k.result e).ino) (to ∙ sym from) ∙ c.place-k.ensures.here e) c.save.ensures.table
 
 pub returns-clause-sound : goal.returns-clause-sound

@@ -1,11 +1,12 @@
-use Rattle.std.proofs.Common.{◌≡◌, not, false, true, Ok, Err, refl, sym, ap, ◌∙◌, rules, arith}
+use Rattle.std.proofs.Common.{◌≡◌, not, false, true, Ok, Err, sym, ap, ◌∙◌, rules, arith}
 use Rattle.std.proofs.lemmas.Grind.{common_steps}
-use Rattle.fs_nodes.specs.FileSystem.{FileSystem}
+use Rattle.fs_codec.specs.Store.{Store}
 use Rattle.fs_tree.specs.declared.walk.Way.TheVariants.{Start}
 use Rattle.fs_tree.specs.Name.{split, cut, components, is_whole, begins}
 use Rattle.fs_tree.specs.Path.{walk, way, is_last, entry_number}
 use Rattle.fs_tree.proofs.NameLemmas.{component_first, reads_on, whole_none, last_begins}
 use Rattle.fs_tree.proofs.PathLemmas.{way_unread, way_start, way_walks, stops, ends, misses, goes, begins_on}
+use Rattle.fs_tree.proofs.FindingLemmas.{same_refl, same_then}
 use Rattle.fs_tree.proofs.walk.walk.Goals as goal
 
 pub returns-in-Some-clause-result : goal.returns-in-Some-clause-result
@@ -32,7 +33,7 @@ loop-last-init g c =
     let b : begins name ≡ true = sym c.begins.ensures ∙ c.if-not-begins.false in
     record {
       begins = b;
-      same = refl;
+      same = same_refl _;
       walk = way_walks c.args.nodes.now.store c.args.user c.args.dir c.args.name.now (ap is_last (sym slashes.components) ∙ last_begins name slashes.none ∙ ap not b)
           ∙ (λ i. walk c.args.nodes.now.store c.args.user (sym slashes.whole i) (sym c.start-at.ensures i) (sym slashes.components i));
     }
@@ -43,7 +44,7 @@ returns-in_err-last-clause-result g c =
     let first = component_first c.loop-last.name i.begins in
     let refused : Err c.in_err-last.field-0.0 ≡ way c.args.nodes.now.store c.args.user c.args.dir c.args.name.now =
     sym (i.walk ∙ stops c.args.nodes.now.store c.args.user (is_whole c.loop-last.name) c.loop-last.at (components c.loop-last.name) (cut 14 (split c.loop-last.name).first) (split c.loop-last.name).later first
-    c.in_err-last.field-0.0 (sym (c.in_err-last.ensures.result (cut 14 (split c.loop-last.name).first) (split c.loop-last.name).later first ∙ ap (λ (f : FileSystem). begins_on f.store c.args.user c.loop-last.at (cut 14 (split c.loop-last.name).first) (split c.loop-last.name).later (is_whole c.loop-last.name)) i.same))) in
+    c.in_err-last.field-0.0 (sym (c.in_err-last.ensures.result (cut 14 (split c.loop-last.name).first) (split c.loop-last.name).later first ∙ ap (λ (s : Store). begins_on s c.args.user c.loop-last.at (cut 14 (split c.loop-last.name).first) (split c.loop-last.name).later (is_whole c.loop-last.name)) i.same.store))) in
     first_of (search rules, grind (arith, common_steps))
 
 pub returns-then-not-begins-2-clause-result : goal.returns-then-not-begins-2-clause-result
@@ -51,7 +52,7 @@ returns-then-not-begins-2-clause-result g c =
     let i = c.loop-last.invariant in
     let e = c.in_ok-last.ensures in
     sym (i.walk ∙ ends c.args.nodes.now.store c.args.user (is_whole c.loop-last.name) c.loop-last.at (components c.loop-last.name) c.in_ok-last.last.name (components c.look_in.new.name) e.rest
-    c.in_ok-last.last (sym (e.result c.in_ok-last.last.name (components c.look_in.new.name) e.rest ∙ ap (λ (f : FileSystem). begins_on f.store c.args.user c.loop-last.at c.in_ok-last.last.name (components c.look_in.new.name) (is_whole c.loop-last.name)) i.same))
+    c.in_ok-last.last (sym (e.result c.in_ok-last.last.name (components c.look_in.new.name) e.rest ∙ ap (λ (s : Store). begins_on s c.args.user c.loop-last.at c.in_ok-last.last.name (components c.look_in.new.name) (is_whole c.loop-last.name)) i.same.store))
     (e.read ∙ ap not (sym c.begins-in-loop-last.ensures ∙ c.if-not-begins-2.true)))
 
 pub returns-in_err-at-clause-result : goal.returns-in_err-at-clause-result
@@ -60,9 +61,9 @@ returns-in_err-at-clause-result g c =
     let e = c.in_ok-last.ensures in
     let refused : Err c.in_err-at.field-0.0 ≡ way c.args.nodes.now.store c.args.user c.args.dir c.args.name.now =
     sym (i.walk ∙ misses c.args.nodes.now.store c.args.user (is_whole c.loop-last.name) c.loop-last.at (components c.loop-last.name) c.in_ok-last.last.name (components c.look_in.new.name) e.rest
-    c.in_ok-last.last c.in_err-at.field-0.0 (sym (e.result c.in_ok-last.last.name (components c.look_in.new.name) e.rest ∙ ap (λ (f : FileSystem). begins_on f.store c.args.user c.loop-last.at c.in_ok-last.last.name (components c.look_in.new.name) (is_whole c.loop-last.name)) i.same))
+    c.in_ok-last.last c.in_err-at.field-0.0 (sym (e.result c.in_ok-last.last.name (components c.look_in.new.name) e.rest ∙ ap (λ (s : Store). begins_on s c.args.user c.loop-last.at c.in_ok-last.last.name (components c.look_in.new.name) (is_whole c.loop-last.name)) i.same.store))
     (e.read ∙ ap not (sym c.begins-in-loop-last.ensures ∙ c.if-not-begins-2.false))
-    (sym (c.in_err-at.ensures.result ∙ ap (λ (f : FileSystem). entry_number f.store c.in_ok-last.last.looked) (c.look_in.ensures.same ∙ i.same)))) in
+    (sym (c.in_err-at.ensures.result ∙ ap (λ (s : Store). entry_number s c.in_ok-last.last.looked) (c.look_in.ensures.same.store ∙ i.same.store)))) in
     first_of (search rules, grind (arith, common_steps))
 
 pub loop-last-preserved : goal.loop-last-preserved
@@ -71,10 +72,10 @@ loop-last-preserved g c =
     let e = c.in_ok-last.ensures in
     record {
       begins = sym c.begins-in-loop-last.ensures ∙ c.if-not-begins-2.false;
-      same = c.entry_number.ensures.same ∙ c.look_in.ensures.same ∙ i.same;
+      same = same_then _ _ _ i.same (same_then _ _ _ c.look_in.ensures.same c.entry_number.ensures.same);
       walk = i.walk ∙ goes c.args.nodes.now.store c.args.user (is_whole c.loop-last.name) c.loop-last.at (components c.loop-last.name) c.in_ok-last.last.name (components c.look_in.new.name) e.rest
-          c.in_ok-last.last c.in_ok-at.at (sym (e.result c.in_ok-last.last.name (components c.look_in.new.name) e.rest ∙ ap (λ (f : FileSystem). begins_on f.store c.args.user c.loop-last.at c.in_ok-last.last.name (components c.look_in.new.name) (is_whole c.loop-last.name)) i.same))
+          c.in_ok-last.last c.in_ok-at.at (sym (e.result c.in_ok-last.last.name (components c.look_in.new.name) e.rest ∙ ap (λ (s : Store). begins_on s c.args.user c.loop-last.at c.in_ok-last.last.name (components c.look_in.new.name) (is_whole c.loop-last.name)) i.same.store))
           (e.read ∙ ap not (sym c.begins-in-loop-last.ensures ∙ c.if-not-begins-2.false))
-          (sym (c.in_ok-at.ensures.result ∙ ap (λ (f : FileSystem). entry_number f.store c.in_ok-last.last.looked) (c.look_in.ensures.same ∙ i.same)))
+          (sym (c.in_ok-at.ensures.result ∙ ap (λ (s : Store). entry_number s c.in_ok-last.last.looked) (c.look_in.ensures.same.store ∙ i.same.store)))
           ∙ ap (λ t. walk c.args.nodes.now.store c.args.user t c.in_ok-at.at (components c.look_in.new.name)) (sym e.whole);
     }

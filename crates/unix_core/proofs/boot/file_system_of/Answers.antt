@@ -1,5 +1,6 @@
 use Rattle.std.proofs.Common.{◌≡◌, ◌∙◌, sym, ap, subst}
 use Rattle.buf_cache.specs.Blocks.{block_at, blocks_of}
+use Rattle.buf_cache.specs.Cached.{cached_blocks}
 use Rattle.fs_codec.specs.Fields.{super_of}
 use Rattle.fs_blocks.specs.State.{opened}
 use Rattle.fs_laws.specs.Chain.{IsSound}
@@ -10,26 +11,26 @@ use Rattle.unix_core.proofs.boot.file_system_of.Goals as goal
 pub from_bytes-requires : goal.from_bytes-requires
 from_bytes-requires c = image_short c.args.image.now c.requires
 
-cache_is : (c : goal.In_ok-cache) → c.in_ok-cache.cache ≡ blocks_of c.args.image.now
-cache_is c = c.in_ok-cache.ensures ∙ c.in_ok-disk.ensures
+cache_is : (c : goal.In_ok-cache) → cached_blocks c.in_ok-cache.cache ≡ blocks_of c.args.image.now
+cache_is c = c.in_ok-cache.ensures.blocks ∙ c.in_ok-disk.ensures
 
 pub open_on-volume-requires : goal.open_on-volume-requires
 open_on-volume-requires c = subst (λ l. IsSound (block_at l)) (sym (cache_is c)) (image_whole c.args.image.now c.requires).sound
 
-opened_is : (c : goal.After-head) → c.open_on-volume.result.blocks ≡ blocks_of c.args.image.now
-opened_is c = c.open_on-volume.ensures.blocks ∙ c.in_ok-cache.ensures ∙ c.in_ok-disk.ensures
+opened_is : (c : goal.After-head) → c.open_on-volume.result.state.blocks ≡ blocks_of c.args.image.now
+opened_is c = c.open_on-volume.ensures.blocks ∙ c.in_ok-cache.ensures.blocks ∙ c.in_ok-disk.ensures
 
 pub new-requires-2 : goal.new-requires-2
-new-requires-2 c = record { sound = volume_sound c.args.image.now c.requires c.open_on-volume.result (opened_is c) c.open_on-volume.ensures.clean c.head.ensures.stored }
+new-requires-2 c = record { sound = volume_sound c.args.image.now c.requires c.open_on-volume.result.state (opened_is c) c.open_on-volume.ensures.clean c.head.ensures.stored }
 
 pub returns-clause-store : goal.returns-clause-store
 returns-clause-store c =
     c.new-2.ensures.store
-    ∙ volume_store c.args.image.now c.requires c.open_on-volume.result (c.open_on-volume.ensures.blocks ∙ c.in_ok-cache.ensures ∙ c.in_ok-disk.ensures) c.open_on-volume.ensures.clean c.head.ensures.stored
+    ∙ volume_store c.args.image.now c.requires c.open_on-volume.result.state (c.open_on-volume.ensures.blocks ∙ c.in_ok-cache.ensures.blocks ∙ c.in_ok-disk.ensures) c.open_on-volume.ensures.clean c.head.ensures.stored
 
 pub returns-clause-time : goal.returns-clause-time
 returns-clause-time c =
     let is = c.open_on-volume.ensures in
     ap (λ (h : _). h.time) c.head.ensures.head
-    ∙ volume_stamp c.args.image.now c.requires c.open_on-volume.result (is.blocks ∙ c.in_ok-cache.ensures ∙ c.in_ok-disk.ensures) is.clean c.head.ensures.stored
-    (is.head ∙ ap (λ l. opened (super_of (block_at l 1))) (c.in_ok-cache.ensures ∙ c.in_ok-disk.ensures))
+    ∙ volume_stamp c.args.image.now c.requires c.open_on-volume.result.state (is.blocks ∙ c.in_ok-cache.ensures.blocks ∙ c.in_ok-disk.ensures) is.clean c.head.ensures.stored
+    (is.head ∙ ap (λ l. opened (super_of (block_at l 1))) (c.in_ok-cache.ensures.blocks ∙ c.in_ok-disk.ensures))

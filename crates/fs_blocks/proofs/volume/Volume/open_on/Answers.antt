@@ -1,3 +1,4 @@
+use Rattle.buf_cache.specs.Cached.{cached_blocks}
 use Rattle.std.proofs.Common.{◌≡◌, false, refl, ap, sym, subst, ◌∙◌, List, ℕ}
 use Rattle.buf_cache.specs.Blocks.{block_at}
 use Rattle.fs_codec.specs.Disk.{head}
@@ -20,18 +21,18 @@ Opens : List (List ℕ) → SuperBlock → List (List ℕ) → Type 0
 Opens cache s blocks =
     (free (disk_with blocks (opened s)) ≡ free (block_at cache)) × IsKept blocks (opened s) false × ReadsAlike (disk_with blocks (opened s)) (block_at cache)
 
-step : (c : After-see_fields) → Opens c.args.cache (read c) c.block.follows.lender-at-none
+step : (c : After-see_fields) → Opens (cached_blocks c.args.cache) (read c) (cached_blocks c.block.follows.lender-at-none)
 unfolding Opens read
 step c =
-    let is : c.read_super-head.result ≡ head (block_at c.args.cache) = c.read_super-head.ensures ∙ ap super_of c.block.ensures.value in
-    let v = volume_opened c.args.cache (opened c.read_super-head.result) c.requires c.see_fields.ensures (ap (λ (h : SuperBlock). h.i_size) is) (ap (λ (h : SuperBlock). h.f_size) is)
+    let is : c.read_super-head.result ≡ head (block_at (cached_blocks c.args.cache)) = c.read_super-head.ensures ∙ ap super_of c.block.ensures.value in
+    let v = volume_opened (cached_blocks c.args.cache) (opened c.read_super-head.result) c.requires c.see_fields.ensures (ap (λ (h : SuperBlock). h.i_size) is) (ap (λ (h : SuperBlock). h.f_size) is)
     (ap (λ (h : SuperBlock). h.nfree) is) (ap (λ (h : SuperBlock). h.free) is) (ap (λ (h : SuperBlock). h.ninode) is) in
-    let k = kept_opened c.args.cache c.read_super-head.result v.1 c.requires v.0 is in
-    subst (Opens c.args.cache (read c)) (sym c.block.follows.holds-at-none) (v.0, k, k.stored refl)
+    let k = kept_opened (cached_blocks c.args.cache) c.read_super-head.result v.1 c.requires v.0 is in
+    subst (Opens (cached_blocks c.args.cache) (read c)) (sym c.block.follows.holds-at-none) (v.0, k, k.stored refl)
 
-alike : (c : After-see_fields) → ReadsAlike (block_at c.args.cache) (disk_with c.block.follows.lender-at-none (opened c.read_super-head.result))
+alike : (c : After-see_fields) → ReadsAlike (block_at (cached_blocks c.args.cache)) (disk_with (cached_blocks c.block.follows.lender-at-none) (opened c.read_super-head.result))
 unfolding Opens read
-alike c = alike_back (disk_with c.block.follows.lender-at-none (opened c.read_super-head.result)) (block_at c.args.cache) (step c).2
+alike c = alike_back (disk_with (cached_blocks c.block.follows.lender-at-none) (opened c.read_super-head.result)) (block_at (cached_blocks c.args.cache)) (step c).2
 
 pub invariant_of-result : goal.invariant_of-result
 unfolding Opens read
@@ -42,10 +43,10 @@ unfolding Opens read
 returns-clause-free c = (step c).0
 
 pub returns-clause-faults : goal.returns-clause-faults
-returns-clause-faults c = λ limit. alike_fault limit (block_at c.args.cache) (disk_with c.block.follows.lender-at-none (opened c.read_super-head.result)) (alike c)
+returns-clause-faults c = λ limit. alike_fault limit (block_at (cached_blocks c.args.cache)) (disk_with (cached_blocks c.block.follows.lender-at-none) (opened c.read_super-head.result)) (alike c)
 
 pub returns-clause-whole : goal.returns-clause-whole
-returns-clause-whole c = λ whole. alike_whole (block_at c.args.cache) (disk_with c.block.follows.lender-at-none (opened c.read_super-head.result)) (alike c) whole
+returns-clause-whole c = λ whole. alike_whole (block_at (cached_blocks c.args.cache)) (disk_with (cached_blocks c.block.follows.lender-at-none) (opened c.read_super-head.result)) (alike c) whole
 
 pub returns-clause-stands : goal.returns-clause-stands
-returns-clause-stands c = λ whole. alike_store (block_at c.args.cache) (disk_with c.block.follows.lender-at-none (opened c.read_super-head.result)) (alike c) whole
+returns-clause-stands c = λ whole. alike_store (block_at (cached_blocks c.args.cache)) (disk_with (cached_blocks c.block.follows.lender-at-none) (opened c.read_super-head.result)) (alike c) whole

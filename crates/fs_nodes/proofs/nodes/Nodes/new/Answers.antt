@@ -10,9 +10,9 @@ use Rattle.fs_nodes.proofs.nodes.Nodes.new.Goals as goal
 
 pub invariant_of-result : goal.invariant_of-result
 invariant_of-result c =
-    let P : List Referenced → Type 0 = IsNodes c.args.volume in
-    subst P (sym c.new.ensures) (new_nodes c.args.volume (whole_is (disk c.args.volume) c.requires.sound) c.see_sizes.ensures.volume.fits c.see_sizes.ensures.sizes)
+    let P : List Referenced → Type 0 = IsNodes c.args.volume.state in
+    subst P (sym c.new.ensures) (new_nodes c.args.volume.state (whole_is (disk c.args.volume.state) c.requires.sound) c.see_sizes.ensures.volume.fits c.see_sizes.ensures.sizes)
 
 pub returns-clause-none : goal.returns-clause-none
 returns-clause-none c =
-    ap (references_in (inode_count (disk c.args.volume))) c.new.ensures ∙ no_references (inode_count (disk c.args.volume)) ∙ ap (λ n. replicate (n + 1) 0) (sym (count_is c.args.volume))
+    ap (references_in (inode_count (disk c.args.volume.state))) c.new.ensures ∙ no_references (inode_count (disk c.args.volume.state)) ∙ ap (λ n. replicate (n + 1) 0) (sym (count_is c.args.volume.state))

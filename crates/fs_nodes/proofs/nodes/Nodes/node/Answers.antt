@@ -10,7 +10,7 @@ use Rattle.fs_nodes.proofs.nodes.Nodes.node.Goals as goal
 pub place-requires : goal.place-requires
 place-requires c =
     let P : FileSystem → Type 0 = λ f. 0 < slice_index f.references c.args.ino in
-    let some = has_entry (disk c.self.inside.volume) c.self.inside.table.items c.args.ino c.self.invariant.table (subst P (sym c.self.view_is) c.requires.referenced) in
+    let some = has_entry (disk c.self.inside.volume.state) c.self.inside.table.items c.args.ino c.self.invariant.table (subst P (sym c.self.view_is) c.requires.referenced) in
     let Q : List Referenced → Type 0 = λ l. 1 ≤ entries_of l c.args.ino in
     subst Q (sym c.deref-2.ensures.0) some
 
@@ -21,7 +21,7 @@ returns c =
     let to = c.deref.ensures.0 in
     let from = c.deref-2.ensures.0 in
     let P : List Referenced → Type 0 = λ l. c.place.result < length l in
-    let e = shows_entry i.volume i.table.items c.args.ino c.place.result c.index-deref-place.result c.self.invariant.table (subst P from c.place.ensures.low)
+    let e = shows_entry i.volume.state i.table.items c.args.ino c.place.result c.index-deref-place.result c.self.invariant.table (subst P from c.place.ensures.low)
     (ap (λ l. (get_or l c.place.result c.index-deref-place.result).ino) (sym from) ∙ c.place.ensures.here c.index-deref-place.result) in
     let Q : List Referenced → Type 0 = λ l. ShowsNode (node_numbered c.args.self.now.store c.args.ino) (get_or l c.place.result c.index-deref-place.result).node in
     let R : FileSystem → Type 0 = λ f. ShowsNode (node_numbered f.store c.args.ino) (get_or i.table.items c.place.result c.index-deref-place.result).node in

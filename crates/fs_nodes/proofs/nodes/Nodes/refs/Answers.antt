@@ -13,7 +13,7 @@ returns-in-Some-clause-count c =
     let found = c.in-Some.ensures.some in
     let same = c.deref.ensures.0 in
     let low = found.0 in
-    let at = entry_at (disk c.self.inside.volume) c.self.inside.table.items c.args.ino c.in-Some.k c.index-deref-k.result c.self.invariant.table
+    let at = entry_at (disk c.self.inside.volume.state) c.self.inside.table.items c.args.ino c.in-Some.k c.index-deref-k.result c.self.invariant.table
     (let P : List Referenced → Type 0 = λ l. c.in-Some.k < length l in subst P same low)
     (ap (λ l. (slice_index_or l c.in-Some.k c.index-deref-k.result).ino) (sym same) ∙ found.1 c.index-deref-k.result) in
     ap (λ l. (slice_index_or l c.in-Some.k c.index-deref-k.result).references) es ∙ sym at ∙ ap (λ (f : FileSystem). slice_index f.references c.args.ino) c.self.view_is
@@ -28,7 +28,7 @@ returns-in-Some-clause-form c =
 pub returns-in-None-clause-count : goal.returns-in-None-clause-count
 returns-in-None-clause-count c =
     sym (ap (λ (f : FileSystem). slice_index f.references c.args.ino) (sym c.self.view_is)
-    ∙ no_entry (disk c.self.inside.volume) c.self.inside.table.items c.args.ino c.self.invariant.table (ap (λ l. entries_of l c.args.ino) (sym c.deref.ensures.0) ∙ c.in-None.ensures.none))
+    ∙ no_entry (disk c.self.inside.volume.state) c.self.inside.table.items c.args.ino c.self.invariant.table (ap (λ l. entries_of l c.args.ino) (sym c.deref.ensures.0) ∙ c.in-None.ensures.none))
 
 pub returns-in-None-clause-form : goal.returns-in-None-clause-form
 returns-in-None-clause-form c =

@@ -6,16 +6,17 @@ use Rattle.fs_blocks.specs.State.{disk}
 use Rattle.fs_nodes.specs.declared.table.Referenced.{Referenced}
 use Rattle.fs_nodes.specs.Table.{entries_of, IsTable}
 use Rattle.fs_nodes.proofs.SetLemmas.{Entered, entered, told_by, store_seen, addresses_long, device_set}
+use Rattle.fs_nodes.proofs.NodesLemmas.{plain, plain_of}
 use Rattle.fs_nodes.proofs.nodes.Nodes.set_device.Goals as goal
 use Rattle.fs_nodes.proofs.nodes.Nodes.set_device.Goals.{After-deref, After-inode_in-node}
 
-has : (c : After-deref) → Entered c.self.inside.volume c.self.inside.table.items c.args.self.now c.args.ino
-has c = entered c.self.inside.volume c.self.inside.table.items c.args.self.now c.args.ino c.self.invariant c.self.view_is c.requires.referenced
+has : (c : After-deref) → Entered c.self.inside.volume.state c.self.inside.table.items (plain_of c.self.inside.volume c.args.self.now) c.args.ino
+has c = entered c.self.inside.volume.state c.self.inside.table.items (plain_of c.self.inside.volume c.args.self.now) c.args.ino c.self.invariant (plain c.self.inside.volume c.self.inside.table.items c.args.self.now c.self.view_is) c.requires.referenced
 
-same : (c : After-inode_in-node) → fields_of c.inode_in-node.result ≡ inode (disk c.self.inside.volume) c.args.ino
+same : (c : After-inode_in-node) → fields_of c.inode_in-node.result ≡ inode (disk c.self.inside.volume.state) c.args.ino
 same c =
-    let P : List Referenced → Type 0 = IsTable (disk c.self.inside.volume) in
-    c.inode_in-node.ensures (disk c.self.inside.volume) (subst P (sym c.deref.ensures.0) c.self.invariant.table)
+    let P : List Referenced → Type 0 = IsTable (disk c.self.inside.volume.state) in
+    c.inode_in-node.ensures (disk c.self.inside.volume.state) (subst P (sym c.deref.ensures.0) c.self.invariant.table)
 
 pub inode_in-node-requires : goal.inode_in-node-requires
 inode_in-node-requires c =
@@ -29,7 +30,7 @@ pub set_inode-requires-clause-keeps : goal.set_inode-requires-clause-keeps
 set_inode-requires-clause-keeps c =
     let e = has (goal.at.set_inode-requires-clause-keeps c).After-deref in
     let is = same (goal.at.set_inode-requires-clause-keeps c).After-inode_in-node in
-    let device : is_device (inode (disk c.self.inside.volume) c.args.ino).mode ≡ true = ap is_device (sym e.shows) ∙ c.requires.device e.file e.found in
+    let device : is_device (inode (disk c.self.inside.volume.state) c.args.ino).mode ≡ true = ap is_device (sym e.shows) ∙ c.requires.device e.file e.found in
     record {
       before = e.used.used;
       used = λ z. e.used.used (sym (ap (λ (n : Inode). n.mode) is) ∙ z);
@@ -42,9 +43,9 @@ pub returns-clause-store : goal.returns-clause-store
 returns-clause-store c = λ file found.
     let e = has (goal.at.returns-clause-store c).After-deref in
     let is = same (goal.at.returns-clause-store c).After-inode_in-node in
-    let t = told_by c.self.inside.volume c.self.inside.table.items c.args.self.now c.args.ino (fields_of c.inode_in-node.result) file c.self.view_is e.used is found in
-    store_seen c.self.inside.volume c.set_inode.new.volume c.self.inside.table.items c.args.self.now c.args.ino _ c.self.view_is c.set_inode.ensures.store file _ found (record {
-      fields = record { mode = t.mode; nlink = t.nlink; uid = t.uid; gid = t.gid; size = t.size; device = device_set (fields_of c.inode_in-node.result) file c.args.device (ap (λ (n : Inode). length n.addr) is ∙ addresses_long (disk c.self.inside.volume) c.args.ino) t (c.requires.device file found); actime = t.actime; modtime = t.modtime };
+    let t = told_by c.self.inside.volume.state c.self.inside.table.items (plain_of c.self.inside.volume c.args.self.now) c.args.ino (fields_of c.inode_in-node.result) file (plain c.self.inside.volume c.self.inside.table.items c.args.self.now c.self.view_is) e.used is found in
+    store_seen c.self.inside.volume.state c.set_inode.new.volume.state c.self.inside.table.items (plain_of c.self.inside.volume c.args.self.now) c.args.ino _ (plain c.self.inside.volume c.self.inside.table.items c.args.self.now c.self.view_is) c.set_inode.ensures.store file _ found (record {
+      fields = record { mode = t.mode; nlink = t.nlink; uid = t.uid; gid = t.gid; size = t.size; device = device_set (fields_of c.inode_in-node.result) file c.args.device (ap (λ (n : Inode). length n.addr) is ∙ addresses_long (disk c.self.inside.volume.state) c.args.ino) t (c.requires.device file found); actime = t.actime; modtime = t.modtime };
       held = refl;
       body = refl;
     })

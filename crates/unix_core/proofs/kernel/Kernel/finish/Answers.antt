@@ -1,4 +1,5 @@
-use Rattle.std.proofs.Common.{◌∙◌, ap, sym, subst}
+use Rattle.std.proofs.Common.{◌≡◌, ◌∙◌, ap, sym, subst, arith}
+use Rattle.fs_codec.specs.Disk.{head}
 use Rattle.fs_codec.specs.Stands.{StandsFor}
 use Rattle.fs_codec.specs.declared.layout.TheConstants.{DISK_BLOCKS}
 use Rattle.buf_cache.specs.Blocks.{block_at}
@@ -6,6 +7,7 @@ use Rattle.unix_core.specs.declared.machine.Stage.{Stage}
 use Rattle.unix_core.specs.Unix.{SystemOnDisk}
 use Rattle.unix_core.specs.Runs.{finished}
 use Rattle.unix_core.specs.Parts.{system_at, IsKernel}
+use Rattle.unix_core.proofs.BootLemmas.{stands_below}
 use Rattle.unix_core.proofs.BootKernelLemmas.{updated, finished_kernel, updated_system}
 use Rattle.unix_core.proofs.kernel.Kernel.finish.Goals as goal
 
@@ -30,5 +32,14 @@ returns-clause-stands c =
     let m = c.put_away.new.self in
     let w = updated m.world c.update_all.new.self c.update_all.ensures.store in
     let new = c.update_all.new.self in
-    subst (StandsFor DISK_BLOCKS (block_at new.blocks))
+    subst (StandsFor DISK_BLOCKS (block_at new.stored))
     (ap (λ (at : Stage). (system_at at m.regs w).unix.store) (sym c.put_away.ensures.stage)) c.update_all.ensures.stands
+
+pub returns-clause-below : goal.returns-clause-below
+returns-clause-below c = λ low.
+    let new = c.update_all.new.self in
+    let size : (head (block_at new.stored)).f_size ≡ (head (block_at c.args.self.now.blocks)).f_size =
+    ap (λ l. (head (block_at l)).f_size) c.update_all.ensures.stored ∙ c.update_all.ensures.rest.f_size
+    ∙ ap (λ l. (head (block_at l)).f_size) c.put_away.ensures.blocks
+    ∙ ap (λ (v : SystemOnDisk). (head (block_at v.blocks)).f_size) c.self.view_is in
+    stands_below (block_at new.stored) _ (omega (arith, size, low)) (returns-clause-stands c)
