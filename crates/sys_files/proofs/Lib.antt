@@ -4,6 +4,7 @@ pub mod CheckLemmas
 pub mod AreaLemmas
 pub mod NamingLemmas
 pub mod OwingLemmas
+pub mod DoesLemmas
 pub mod DescriptorLemmas
 pub mod NumberLemmas
 pub mod AnyLemmas
