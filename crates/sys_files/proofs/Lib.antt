@@ -29,4 +29,6 @@ pub mod ShowingLemmas
 pub mod ModesLemmas
 pub mod CreatingLemmas
 pub mod Bounds
+pub mod Lengths
+pub mod Walks
 pub mod Steady
