@@ -1,5 +1,5 @@
 -- How the words of rows go on: a test that is passed, and one that is not.
-use Rattle.std.proofs.Common.{◌≡◌, Bool, true, false, Option, Some, None, Result, Ok, Err, [], refl, ap}
+use Rattle.std.proofs.Common.{◌≡◌, Bool, true, false, Option, Some, Result, Ok, Err, [], refl, ap}
 use Rattle.v6_base.specs.declared.errno.Errno.{Errno}
 use Rattle.sys_files.specs.Handed.{Handed}
 use Rattle.sys_files.specs.Did.{Did, check, must, need, fails}
@@ -18,9 +18,6 @@ must_fail h e holds next is = ap (λ b. check h (must e b) next) is
 
 pub need_there : {A : Type 0} (h : Handed) (e : Errno) (there : Option A) (next : A → Did) (a : A) → there ≡ Some a → check h (need e there) next ≡ next a
 need_there h e there next a is = ap (λ o. check h (need e o) next) is
-
-pub need_none : {A : Type 0} (h : Handed) (e : Errno) (there : Option A) (next : A → Did) → there ≡ None → check h (need e there) next ≡ fails h e
-need_none h e there next is = ap (λ o. check h (need e o) next) is
 
 -- Nothing is shown on any way.
 pub check_quiet : {A : Type 0} (h : Handed) (test : Result A Errno) (next : A → Did) → ((a : A) → (next a).items ≡ []) → (check h test next).items ≡ []

@@ -7,6 +7,11 @@ use Rattle.std.proofs.lemmas.List.FromFn.{map-range_with_len_more}
 use Rattle.std.proofs.lemmas.List.{append-nil, map-id, set_past, get_or-set_same, get_or-set_other}
 use Rattle.std.proofs.lemmas.List.Sums.{fold_push}
 use Rattle.v6_base.specs.Image.{Image}
+use Rattle.v6_base.specs.Trace.{Taken, Took}
+use Rattle.v6_base.specs.declared.answer.Answer.{Answer}
+use Rattle.v6_base.specs.declared.answer.Answer.TheVariants.{Ret, Fail}
+use Rattle.v6_base.specs.declared.errno.Errno.{Errno}
+use Rattle.v6_base.specs.declared.errno.Errno.TheVariants.{EBADF}
 use Rattle.proc_tab.specs.declared.row.Row.{Row}
 use Rattle.u_area.specs.declared.area.UArea.{UArea}
 use Rattle.sys_files.specs.declared.files.Files.{Files}
@@ -14,12 +19,16 @@ use Rattle.open_files.specs.declared.file.OpenFile.{OpenFile}
 use Rattle.open_files.specs.declared.file.Closed.{Closed}
 use Rattle.open_files.specs.declared.file.Closed.TheVariants.{Still, Last}
 use Rattle.open_files.specs.Files.{file_at, entry_of, times, with_fewer, closed, left, HaveRoom}
-use Rattle.sys_files.specs.Handed.{Handed, handed, file_of}
+use Rattle.sys_files.specs.Handed.{Handed, handed, r0, r1, file_of}
+use Rattle.sys_files.specs.Did.{Did, fails}
 use Rattle.sys_files.specs.Sound.{numbers_of, IsSound, IsKept}
-use Rattle.sys_files.specs.Descriptors.{Closing, released, told_by, dropped, closes, then_closes, close_all}
+use Rattle.sys_files.specs.Does.{Does}
+use Rattle.sys_files.specs.Descriptors.{Closing, open_entry, released, told_by, dropped, closes, then_closes, close_file, close_all}
 use Rattle.sys_files.proofs.NumberLemmas.{free_times}
-use Rattle.sys_files.proofs.DescriptorLemmas.{same_file, closes_open, closes_not}
-use Rattle.sys_files.proofs.ClosedLemmas.{closes_kept}
+use Rattle.sys_files.proofs.CheckLemmas.{check_ok}
+use Rattle.sys_files.proofs.DescriptorLemmas.{entry_ok, same_file, closes_open, closes_not}
+use Rattle.sys_files.proofs.ClosedLemmas.{closes_kept, close_refused}
+use Rattle.sys_files.proofs.DoesLemmas.{does_by}
 
 -- Each number of the process is counted by its file, also where the entry is free.
 times_few : (h : Handed) → IsSound h → (entry : ℕ) → times h.u.files entry ≤ numbers_of (file_at h.files entry)
@@ -115,6 +124,40 @@ next_sound c fd sound = elim (cases_eq (slice_index c.state.u.files fd) 0) [
       let used : 0 < slice_index c.state.u.files fd = omega (arith, some) in subst P (sym (closes_open c fd used)) (closes_sound c.state fd sound used)
 ]
 
+-- what close comes to, by what closing the number comes to
+abbrev answering : Closing → Answer → Did
+answering c a = record { answer = a; state = c.state; items = c.items }
+
+abbrev only : Handed → Closing
+only h = record { state = h; items = [] }
+
+-- It leaves R1.
+released_area : (h : Handed) (told : Closed) → (released h told).state.u ≡ h.u
+released_area h (Still file) = refl
+released_area h (Last file) = refl
+
+module _ (h : Handed) {new : Handed} {start end : Taken} (sound : IsSound h) (state : new ≡ (then_closes (only h) (r0 h)).state)
+    (items : Took start (then_closes (only h) (r0 h)).items end) where
+  closed_as : (a result : Answer) → answering (then_closes (only h) (r0 h)) a ≡ close_file h → result ≡ a → Does h new result start end (close_file h)
+  closed_as a result is answer =
+      let P : Handed → Type 0 = λ k. IsKept h k in
+      does_by (answering (then_closes (only h) (r0 h)) a) is answer state items
+      (subst P (ap (λ (d : Did). d.state) is) (next_kept (only h) (r0 h) sound))
+
+  pub closed_open : 0 < slice_index h.u.files (r0 h) → Does h new (Ret (r0 h) (r1 new)) start end (close_file h)
+  closed_open some =
+      let open_ = closes_open (only h) (r0 h) some in
+      closed_as (Ret (r0 h) (r1 h)) (Ret (r0 h) (r1 new))
+      (ap (λ (c : Closing). answering c (Ret (r0 h) (r1 h))) open_
+      ∙ sym (check_ok h (open_entry h (r0 h)) _ (entry_of h.u.files (r0 h)) (entry_ok h (r0 h) some)))
+      (ap (λ (k : Handed). Ret (r0 h) (r1 k)) (state ∙ ap (λ (c : Closing). c.state) open_)
+      ∙ ap (λ (u : UArea). Ret (r0 h) (slice_index u.r 1)) (released_area (dropped h (r0 h)) (told_by h (r0 h))))
+
+  pub closed_not : (e : Errno) → e ≡ EBADF → slice_index h.u.files (r0 h) ≡ 0 → Does h new (Fail e) start end (close_file h)
+  closed_not e is none =
+      closed_as (Fail e) (Fail e)
+      (ap (λ (c : Closing). answering c (Fail e)) (closes_not (only h) (r0 h) none) ∙ ap (fails h) is ∙ sym (close_refused h none)) refl
+
 -- What closing comes to does not depend on what was shown before it.
 pub next_state : (c : Closing) (fd : ℕ) → (then_closes c fd).state ≡ (then_closes (record { state = c.state; items = [] }) fd).state
 next_state c fd = by (slice_index c.state.u.files fd == 0)
@@ -160,14 +203,4 @@ sound_any f u row other image another sound = record {
   referred = sound.referred;
   few = sound.few;
   no_pipe = sound.no_pipe;
-}
-
-pub kept_any : (f new : Files) (u u_new : UArea) (row other : Row) (image another : Image) → IsKept (handed f u row image) (handed new u_new row image)
-    → IsKept (handed f u other another) (handed new u_new other another)
-kept_any f new u u_new row other image another kept = record {
-  is_open = kept.is_open;
-  numbers = kept.numbers;
-  references = kept.references;
-  count = kept.count;
-  no_pipe = kept.no_pipe;
 }

@@ -4,8 +4,6 @@ use Rattle.v6_base.specs.declared.answer.Answer.{Answer}
 use Rattle.v6_base.specs.declared.answer.Answer.TheVariants.{Fail}
 use Rattle.v6_base.specs.declared.errno.Errno.{Errno}
 use Rattle.v6_base.specs.declared.errno.Errno.TheVariants.{EMFILE, ENFILE, ENXIO}
-use Rattle.v6_base.specs.Trace.{Taken, Took}
-use Rattle.v6_base.proofs.Took.{took_nothing}
 use Rattle.fs_codec.specs.Modes.{is_device}
 use Rattle.fs_codec.specs.Store.{Node, Store}
 use Rattle.fs_laws.specs.Numbers.{with_truncated}
@@ -27,7 +25,6 @@ use Rattle.sys_files.proofs.OwingLemmas.{IsKeptBut, kept_ends, once_more, referr
 use Rattle.sys_files.proofs.EnteringLemmas.{taken}
 use Rattle.sys_files.proofs.GivingLemmas.{OneReferenceLess, gives}
 use Rattle.sys_files.proofs.OpeningLemmas.{opens_kept}
-use Rattle.sys_files.proofs.PartLemmas.{named, not_named}
 
 -- A file that gives its blocks back is one of as many.
 truncated_when : (t : Bool) (store other : Store) → other.count ≡ store.count → (cond t store other).count ≡ store.count
@@ -121,47 +118,30 @@ module _ (old mid last : Handed) (a b c d : FileSystem) (ino : ℕ) (takes : One
   between_blocks same =
       rest_then a.blocks b.blocks d.blocks takes.blocks (rest_then b.blocks c.blocks d.blocks same rest)
 
--- What a call comes to that shows nothing.
-module _ (d : Did) (h : Handed) (a : Answer) (is : d ≡ did_with h a) where
-  pub answered_answer : a ≡ d.answer
-  answered_answer = sym (ap (λ (x : Did). x.answer) is)
-
-  pub answered_state : h ≡ d.state
-  answered_state = sym (ap (λ (x : Did). x.state) is)
-
-  pub answered_items : (t : Taken) → Took t d.items t
-  answered_items t = took_nothing t d.items (ap (λ (x : Did). x.items) is)
-
 until_answered : (after : Handed) (ino : ℕ) (d : Did) (a : Answer) (last : Inodes) → d ≡ did_with after a
     → last ≡ put_back after.inodes ino → until_end ino d ≡ did_with (with_inodes after last) a
 until_answered after ino d a last did is = ap (until_end ino) did ∙ sym (ap (λ m. did_with (with_inodes after m) a) is)
 
-module _ (h : Handed) (name mode now : ℕ) (n : Inodes)
-    (inodes : n ≡ (make_in h.inodes (user_of h.u) h.u.dir (name_at h.image name)).inodes) where
+-- what creat comes to, by the parts after the search for the name
+module _ (h after : Handed) (name mode now : ℕ)
+    (parts : after ≡ with_inodes h (make_in h.inodes (user_of h.u) h.u.dir (name_at h.image name)).inodes) where
+  made_is : (r : Result Made Errno) → r ≡ (make_in h.inodes (user_of h.u) h.u.dir (name_at h.image name)).answer
+      → creat_file h name mode now ≡ check after r (by_made (opens_again now) (makes_file mode now) after)
+  made_is r answer = sym (λ i. check (parts i) (answer i) (by_made (opens_again now) (makes_file mode now) (parts i)))
+
   pub creat_refused : (e : Errno) → Err e ≡ (make_in h.inodes (user_of h.u) h.u.dir (name_at h.image name)).answer
-      → creat_file h name mode now ≡ did_with (with_inodes h n) (Fail e)
-  creat_refused e answer =
-      not_named h (make_in h.inodes (user_of h.u) h.u.dir (name_at h.image name)) e n
-      (by_made (opens_again now) (makes_file mode now)) answer inodes
+      → creat_file h name mode now ≡ did_with after (Fail e)
+  creat_refused e answer = made_is (Err e) answer
 
-  made_is : (m : Made) → Ok m ≡ (make_in h.inodes (user_of h.u) h.u.dir (name_at h.image name)).answer
-      → creat_file h name mode now ≡ by_made (opens_again now) (makes_file mode now) (with_inodes h n) m
-  made_is m answer = named h (make_in h.inodes (user_of h.u) h.u.dir (name_at h.image name)) m n
-      (by_made (opens_again now) (makes_file mode now)) answer inodes
+  module _ (m : Made) (a : Answer) (end : Handed) (last : Inodes)
+      (answer : Ok m ≡ (make_in h.inodes (user_of h.u) h.u.dir (name_at h.image name)).answer) where
+    pub creat_found : (ino : ℕ) → m ≡ made.Found ino → opens_again now after ino ≡ did_with end a → last ≡ put_back end.inodes ino
+        → creat_file h name mode now ≡ did_with (with_inodes end last) a
+    creat_found ino is did back =
+        made_is (Ok m) answer ∙ ap (by_made (opens_again now) (makes_file mode now) after) is ∙ until_answered end ino _ a last did back
 
-  pub creat_found : (m : Made) (ino : ℕ) (after : Handed) (a : Answer) (last : Inodes)
-      → Ok m ≡ (make_in h.inodes (user_of h.u) h.u.dir (name_at h.image name)).answer → m ≡ made.Found ino
-      → opens_again now (with_inodes h n) ino ≡ did_with after a → last ≡ put_back after.inodes ino
-      → creat_file h name mode now ≡ did_with (with_inodes after last) a
-  creat_found m ino after a last answer is did back =
-      made_is m answer ∙ ap (by_made (opens_again now) (makes_file mode now) (with_inodes h n)) is
-      ∙ until_answered after ino (opens_again now (with_inodes h n) ino) a last did back
-
-  pub creat_new : (m : Made) (dir offset : ℕ) (entry : List ℕ) (after : Handed) (a : Answer) (last : Inodes)
-      → Ok m ≡ (make_in h.inodes (user_of h.u) h.u.dir (name_at h.image name)).answer
-      → m ≡ made.Room dir offset entry → makes_file mode now (with_inodes h n) dir offset entry ≡ did_with after a
-      → last ≡ put_back after.inodes dir
-      → creat_file h name mode now ≡ did_with (with_inodes after last) a
-  creat_new m dir offset entry after a last answer is did back =
-      made_is m answer ∙ ap (by_made (opens_again now) (makes_file mode now) (with_inodes h n)) is
-      ∙ until_answered after dir (makes_file mode now (with_inodes h n) dir offset entry) a last did back
+    pub creat_new : (dir offset : ℕ) (entry : List ℕ) → m ≡ made.Room dir offset entry
+        → makes_file mode now after dir offset entry ≡ did_with end a → last ≡ put_back end.inodes dir
+        → creat_file h name mode now ≡ did_with (with_inodes end last) a
+    creat_new dir offset entry is did back =
+        made_is (Ok m) answer ∙ ap (by_made (opens_again now) (makes_file mode now) after) is ∙ until_answered end dir _ a last did back

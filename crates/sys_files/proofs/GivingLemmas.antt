@@ -28,13 +28,6 @@ gives old new ino some is blocks = record {
   blocks = blocks;
 }
 
-pub keeps_then : (a b c : FileSystem) → SameReferences a b → SameReferences b c → SameReferences a c
-keeps_then a b c first second = record {
-  references = λ i. second.references i ∙ first.references i;
-  count = second.count ∙ first.count;
-  blocks = rest_then a.blocks b.blocks c.blocks first.blocks second.blocks;
-}
-
 pub takes_gives : (a b c : FileSystem) (ino : ℕ) → OneReferenceMore a ino b → OneReferenceLess b ino c
     → SameReferences a c
 takes_gives a b c ino more less = record {

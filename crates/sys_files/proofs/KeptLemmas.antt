@@ -1,23 +1,22 @@
 -- What a call keeps that gives back what it has taken.
-use Rattle.std.proofs.Common.{◌≡◌, ◌<◌, ◌+◌, ◌-◌, ℕ, List, length, slice_index, slice_set, refl, ap, ◌∙◌, arith}
-use Rattle.std.proofs.lemmas.List.{get_or-set_same, set-set, set-get_or}
+use Rattle.std.proofs.Common.{◌≡◌, ℕ, slice_index, refl, ap, arith}
 use Rattle.sys_files.specs.Handed.{Handed}
-use Rattle.sys_files.specs.Sound.{IsSound, IsKept}
-
--- A reference that was taken and has gone again.
-pub back_again : (r : List ℕ) (i : ℕ) → i < length r → slice_set (slice_set r i (slice_index r i + 1)) i (slice_index (slice_set r i (slice_index r i + 1)) i - 1) ≡ r
-back_again r i low =
-    let there : slice_index (slice_set r i (slice_index r i + 1)) i ≡ slice_index r i + 1 = get_or-set_same r i (slice_index r i + 1) 0 low in
-    let less : slice_index (slice_set r i (slice_index r i + 1)) i - 1 ≡ slice_index r i = omega (arith, there) in
-    ap (slice_set (slice_set r i (slice_index r i + 1)) i) less ∙ set-set r i (slice_index r i + 1) (slice_index r i) ∙ set-get_or r i 0
+use Rattle.sys_files.specs.Sound.{owed, IsSound, IsKept}
 
 -- Nothing has changed that counts numbers and references.
-pub kept_same : (old new : Handed) → IsSound old → new.files ≡ old.files → new.u.files ≡ old.u.files → new.u.dir ≡ old.u.dir
-    → new.inodes.references ≡ old.inodes.references → new.inodes.store.count ≡ old.inodes.store.count → IsKept old new
-kept_same old new sound files numbers dir references count = record {
+pub kept_references : (old new : Handed) → IsSound old → new.files ≡ old.files → new.u.files ≡ old.u.files → new.u.dir ≡ old.u.dir
+    → ((i : ℕ) → slice_index new.inodes.references i ≡ slice_index old.inodes.references i) → new.inodes.store.count ≡ old.inodes.store.count
+    → IsKept old new
+kept_references old new sound files numbers dir references count = record {
   is_open = rw (files, numbers) sound.is_open;
   numbers = λ entry. rw (files, numbers) refl;
-  references = λ ino. rw (files, dir, references) refl;
+  references = λ i. let owes : owed new i ≡ owed old i = rw (files, dir) refl in let same = references i in omega (arith, owes, same);
   count = count;
   no_pipe = rw files sound.no_pipe;
 }
+
+-- the same, where the references are one list
+pub kept_same : (old new : Handed) → IsSound old → new.files ≡ old.files → new.u.files ≡ old.u.files → new.u.dir ≡ old.u.dir
+    → new.inodes.references ≡ old.inodes.references → new.inodes.store.count ≡ old.inodes.store.count → IsKept old new
+kept_same old new sound files numbers dir references count =
+    kept_references old new sound files numbers dir (λ i. ap (λ l. slice_index l i) references) count

@@ -4,6 +4,7 @@ pub mod CheckLemmas
 pub mod AreaLemmas
 pub mod NamingLemmas
 pub mod OwingLemmas
+pub mod DoesLemmas
 pub mod DescriptorLemmas
 pub mod NumberLemmas
 pub mod AnyLemmas
@@ -28,4 +29,6 @@ pub mod ShowingLemmas
 pub mod ModesLemmas
 pub mod CreatingLemmas
 pub mod Bounds
+pub mod Lengths
+pub mod Walks
 pub mod Steady

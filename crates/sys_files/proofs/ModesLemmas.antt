@@ -1,6 +1,5 @@
 -- What stty and gtty come to, by their tests.
-use Rattle.std.proofs.Common.{◌≡◌, ◌<◌, ℕ, Bool, true, false, List, [], length, slice_index, arith, Option, Some, None, Result, Ok, Err, not, refl, sym, ap, ◌∙◌}
-use Rattle.v6_base.specs.Image.{Image}
+use Rattle.std.proofs.Common.{◌≡◌, ◌<◌, ℕ, Bool, true, false, List, length, slice_index, arith, Result, Ok, Err, not, refl, sym, ap, ◌∙◌}
 use Rattle.v6_base.specs.declared.errno.Errno.{Errno}
 use Rattle.v6_base.specs.declared.errno.Errno.TheVariants.{ENOTTY, ENODEV}
 use Rattle.fs_codec.specs.Bytes.{bytes_of}
@@ -12,9 +11,8 @@ use Rattle.sys_files.specs.Handed.{Handed, r0, node_at, file_of, is_null}
 use Rattle.sys_files.specs.Did.{Did, fails, check, must}
 use Rattle.sys_files.specs.Descriptors.{open_entry}
 use Rattle.sys_files.specs.Opening.{or_earlier}
-use Rattle.sys_files.specs.Status.{with_stored}
-use Rattle.sys_files.specs.Modes.{of_terminal, gtty_get}
-use Rattle.sys_files.proofs.CheckLemmas.{check_ok, check_err, check_quiet}
+use Rattle.sys_files.specs.Modes.{of_terminal}
+use Rattle.sys_files.proofs.CheckLemmas.{check_ok, check_err}
 
 -- the bytes of three words
 pub mode_bytes_are : (modes b : List ℕ) → length modes ≡ 3 → length b ≡ 6 → ((k : ℕ) → slice_index b k < 256) → words b 0 (length modes) ≡ modes
@@ -42,14 +40,3 @@ terminal_is h does entry file tests found is tested =
 
 pub terminal_refused : (h : Handed) (does : Did) (e : Errno) → Err e ≡ open_entry h (r0 h) → of_terminal h does ≡ fails h e
 terminal_refused h does e found = check_err h (open_entry h (r0 h)) _ e (sym found)
-
--- gtty shows nothing
-stored_quiet : (h : Handed) (o : Option Image) → (with_stored h o).items ≡ []
-stored_quiet h (Some image) = refl
-stored_quiet h None = refl
-
-pub gtty_quiet : (h : Handed) (at : ℕ) → (gtty_get h at).items ≡ []
-gtty_quiet h at =
-    check_quiet h (open_entry h (r0 h)) _ (λ entry.
-    check_quiet h (must ENOTTY (is_character_device (node_at h (file_of h entry).ino).mode)) _ (λ is.
-    check_quiet h (must ENODEV (not (is_null (node_at h (file_of h entry).ino)))) _ (λ is. stored_quiet h _)))

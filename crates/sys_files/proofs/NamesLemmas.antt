@@ -9,18 +9,18 @@ use Rattle.fs_codec.specs.Modes.{is_directory, file_type, is_large}
 use Rattle.fs_codec.specs.declared.modes.TheConstants.{IALLOC, IFMT, ILARG}
 use Rattle.fs_codec.specs.declared.node.DiskNode.{DiskNode}
 use Rattle.fs_codec.specs.Store.{Node}
-use Rattle.fs_nodes.specs.FileSystem.{FileSystem, IsFileSystem, ShowsNode}
+use Rattle.fs_nodes.specs.FileSystem.{ShowsNode}
 use Rattle.fs_tree.specs.declared.user.User.{User}
 use Rattle.sys_files.proofs.NamingLemmas.{found_few}
 use Rattle.fs_tree.specs.declared.user.Want.TheVariants.{Execute}
 use Rattle.fs_tree.specs.Permission.{permission}
-use Rattle.fs_tree.specs.Finding.{Inodes, inodes_of, find_in}
+use Rattle.fs_tree.specs.Finding.{Inodes, find_in}
 use Rattle.sys_files.specs.Handed.{Handed, node_at, user_of, with_changed}
 use Rattle.sys_files.specs.Did.{Did, is_done, check, must, finds}
 use Rattle.sys_files.specs.Making.{is_super_user}
 use Rattle.sys_files.specs.Names.{with_directory, enters_directory, chdir_to, is_owner, changed_mode, changes_mode, chmod_to, chown_to}
 use Rattle.sys_files.specs.Sound.{IsSound, IsKept}
-use Rattle.sys_files.proofs.OwingLemmas.{IsKeptBut, CanFind, can_find, kept_begins, kept_ends, kept_goes_on, kept_takes, kept_lets_go, kept_check, kept_finds, is_referred, referred_low, taken_more}
+use Rattle.sys_files.proofs.OwingLemmas.{IsKeptBut, CanFind, kept_begins, kept_ends, kept_goes_on, kept_takes, kept_lets_go, kept_check, kept_finds, is_referred, referred_low, taken_more}
 
 -- The current directory is another one: the reference to it was the call's, and the one to the old directory is now.
 directory_moved : (old now : Handed) (ino : ℕ) (taken : List ℕ) → IsKeptBut old now (ino ∷ taken)
@@ -90,22 +90,6 @@ chown_kept h name owner time sound can =
       modtime =
           time;
     }) (ino ∷ []) k)))
-
--- the same, where they have come to an end
-pub chdir_ends : (fs : FileSystem) (h new : Handed) (name : ℕ) → h.inodes ≡ inodes_of fs → IsFileSystem fs
-    → IsSound h → new ≡ (chdir_to h name).state → IsKept h new
-chdir_ends fs h new name same is sound state =
-    subst (IsKept h) (sym state) (chdir_kept h name sound (can_find fs h name same is sound))
-
-pub chmod_ends : (fs : FileSystem) (h new : Handed) (name mode time : ℕ) → h.inodes ≡ inodes_of fs
-    → IsFileSystem fs → IsSound h → new ≡ (chmod_to h name mode time).state → IsKept h new
-chmod_ends fs h new name mode time same is sound state =
-    subst (IsKept h) (sym state) (chmod_kept h name mode time sound (can_find fs h name same is sound))
-
-pub chown_ends : (fs : FileSystem) (h new : Handed) (name owner time : ℕ) → h.inodes ≡ inodes_of fs
-    → IsFileSystem fs → IsSound h → new ≡ (chown_to h name owner time).state → IsKept h new
-chown_ends fs h new name owner time same is sound state =
-    subst (IsKept h) (sym state) (chown_kept h name owner time sound (can_find fs h name same is sound))
 
 -- A bit that is none of those that chmod sets stays.
 bits_stay : (old mode bits q : ℕ) → bit_and bits q ≡ 0 → bit_and IALLOC q ≡ 0 → bit_and 0o170000 q ≡ q

@@ -1,40 +1,29 @@
 -- The row of the opening itself, by its tests, and what it keeps.
 use Rattle.std.proofs.Common.{◌≡◌, ℕ, true, false, ◌+◌, ◌<◌, ◌≤◌, ◌==◌, List, [], ◌∷◌, length, Option, Some, None, is_none, Result, Ok, Err, MatchResult, cond, eqb, slice_index, slice_set, refl, sym, ap, ◌∙◌, subst, inl, inr, arith}
 use Rattle.std.proofs.lemmas.Bool.{ne_eqb, eq-eqb, eqb-true, cases_lt, false≢true}
-use Rattle.std.proofs.lemmas.Option.{none-some, same_Some}
+use Rattle.std.proofs.lemmas.Option.{same_Some}
 use Rattle.std.proofs.lemmas.List.{set-set, set-get_or, set_past, get_or-set_same}
 use Rattle.std.proofs.lemmas.List.Quantifiers.{position-Some}
 use Rattle.v6_base.specs.declared.errno.Errno.{Errno}
-use Rattle.fs_nodes.specs.FileSystem.{FileSystem, IsFileSystem}
 use Rattle.fs_tree.specs.Name.{name_at}
 use Rattle.fs_tree.specs.declared.user.User.{User}
-use Rattle.fs_tree.specs.Finding.{Inodes, inodes_of, with_reference, find_in}
+use Rattle.fs_tree.specs.Finding.{Inodes, with_reference, find_in}
 use Rattle.v6_base.specs.declared.errno.Errno.TheVariants.{EBADF, EMFILE, ENFILE, ENXIO}
 use Rattle.open_files.specs.declared.file.OpenFile.{OpenFile}
 use Rattle.open_files.specs.declared.file.FileKind.{FileKind}
 use Rattle.open_files.specs.declared.file.Closed.{Closed}
 use Rattle.open_files.specs.declared.file.Closed.TheVariants.{Still, Last}
-use Rattle.open_files.specs.Files.{file_at, entry_of, free_number, free_entry, opened, with_fewer, closed, left, AreOpen, Adds, Drops, add_error}
+use Rattle.open_files.specs.Files.{file_at, entry_of, free_number, free_entry, opened, with_fewer, closed, left, Adds, Drops}
 use Rattle.sys_files.specs.Handed.{Handed, node_at, user_of, with_inodes}
-use Rattle.sys_files.specs.Did.{Did, check, must, need, until_end, fails, returns}
+use Rattle.sys_files.specs.Did.{must, need, until_end, fails, returns}
 use Rattle.sys_files.specs.Sound.{is_of, numbers_of, IsSound, IsKept}
 use Rattle.sys_files.specs.Opening.{opens_to_read, opens_to_write, last_failure, open_tests, can_open, with_opened, opens, opens_named, open_file}
 use Rattle.sys_files.proofs.NamingLemmas.{found_more}
 use Rattle.sys_files.proofs.CheckLemmas.{check_quiet, must_hold, must_fail, need_there}
 use Rattle.sys_files.proofs.NumberLemmas.{given_times, numbers_change, open_given, pipes_set, set_here}
 use Rattle.sys_files.proofs.OwedLemmas.{count_changed}
-use Rattle.sys_files.proofs.OwingLemmas.{IsKeptBut, CanFind, can_find, kept_begins, kept_ends, kept_check, kept_finds, is_referred, referred_low, once_more}
+use Rattle.sys_files.proofs.OwingLemmas.{IsKeptBut, CanFind, kept_begins, kept_ends, kept_check, kept_finds, is_referred, referred_low, once_more}
 use Rattle.sys_files.proofs.DescriptorLemmas.{need_is}
-
-full_by : (h : Handed) (number entry : Option ℕ) (next : ℕ → ℕ → Did) (e : Errno) → cond (is_none number) (Some EMFILE) (cond (is_none entry) (Some ENFILE) None) ≡ Some e
-    → check h (need EMFILE number) (λ fd. check h (need ENFILE entry) (next fd)) ≡ fails h e
-full_by h None entry next e is = ap (fails h) (same_Some EMFILE e is)
-full_by h (Some fd) None next e is = ap (fails h) (same_Some ENFILE e is)
-full_by h (Some fd) (Some entry) next e is = absurd (none-some e is)
-
--- There is no number, or no entry.
-pub opens_full : (h : Handed) (ino : ℕ) (kind : FileKind) (e : Errno) → add_error h.files h.u.files ≡ Some e → opens h ino kind ≡ fails h e
-opens_full h ino kind e is = full_by h (free_number h.u.files) (free_entry h.files) _ e is
 
 -- It is a device that cannot be opened.
 pub opens_not : (h : Handed) (ino : ℕ) (kind : FileKind) (fd entry : ℕ) → free_number h.u.files ≡ Some fd → free_entry h.files ≡ Some entry → can_open (node_at h ino) ≡ false → opens h ino kind ≡ fails h ENXIO
@@ -56,13 +45,6 @@ none_is (Some file) is = absurd (false≢true is)
 
 pub entry_free : (files : List (Option OpenFile)) (entry : ℕ) → free_entry files ≡ Some entry → (entry < length files) × (file_at files entry ≡ None)
 entry_free files entry is = let first = position-Some is_none files entry None is in (first.0, none_is (file_at files entry) first.1)
-
--- Each number names an entry in use, with the new one.
-pub added_open : (files new : List (Option OpenFile)) (mine new_mine : List ℕ) (file : OpenFile) (fd : ℕ) → AreOpen files mine → Adds files mine file fd new new_mine → AreOpen new new_mine
-added_open files new mine new_mine file fd all a =
-    let entry : ℕ = a.1 in
-    let there : AreOpen (slice_set files entry (Some file)) (slice_set mine fd (entry + 1)) = open_given files mine fd entry (Some file) (entry_free files entry a.2).0 refl all in
-    rw (a.3, a.4) there
 
 -- The new number names the new entry.
 added_number : (files new : List (Option OpenFile)) (mine new_mine : List ℕ) (file : OpenFile) (fd : ℕ) (a : Adds files mine file fd new new_mine) → slice_index new_mine fd ≡ a.1 + 1
@@ -157,9 +139,6 @@ pub open_quiet : (h : Handed) (name mode : ℕ) → (open_file h name mode).item
 open_quiet h name mode =
     let now : Handed = with_inodes h (find_in h.inodes (user_of h.u) h.u.dir (name_at h.image name)).inodes in
     check_quiet now (find_in h.inodes (user_of h.u) h.u.dir (name_at h.image name)).answer (λ ino. until_end ino (opens_named now ino mode)) (λ ino. named_quiet now ino mode)
-
-pub open_ends : (fs : FileSystem) (h new : Handed) (name mode : ℕ) → h.inodes ≡ inodes_of fs → IsFileSystem fs → IsSound h → new ≡ (open_file h name mode).state → IsKept h new
-open_ends fs h new name mode same is sound state = subst (IsKept h) (sym state) (open_kept h name mode sound (can_find fs h name same is sound))
 
 -- A search leaves room for one reference more to what it finds.
 pub few_found : (n new : Inodes) (user : User) (dir : ℕ) (bytes : List ℕ) (ino : ℕ) → slice_index n.references ino ≤ 65500 → (find_in n user dir bytes).answer ≡ Ok ino

@@ -14,7 +14,7 @@ use Rattle.sys_files.specs.Handed.{Handed, user_of, with_inodes, let_go}
 use Rattle.sys_files.specs.Did.{Did, check, then_named, until_end, finds}
 use Rattle.sys_files.specs.Sound.{owed, numbers_of, HasNoPipe, IsSound, IsKept}
 use Rattle.sys_files.proofs.NamingLemmas.{found_more, found_none, found_referred}
-use Rattle.sys_files.proofs.OwedLemmas.{owed_directory, directory_referred}
+use Rattle.sys_files.proofs.OwedLemmas.{directory_referred}
 
 -- how many of the references that a call has taken are to an inode
 abbrev pub taken_of : List ℕ → ℕ → ℕ
@@ -122,14 +122,6 @@ is_referred old now ino taken sound k =
     let one : cond {A = ℕ} (eqb ino ino) 1 0 ≡ 1 = ap (λ b. cond b 1 0) (eq-eqb ino ino refl) in
     let more = taken_more ino taken ino in
     omega (arith, r, least, one, more)
-
-pub directory_stays : (old now : Handed) (taken : List ℕ) → IsSound old → IsKeptBut old now taken
-    → 0 < slice_index now.inodes.references now.u.dir
-directory_stays old now taken sound k =
-    let r = k.references now.u.dir in
-    let least = sound.referred now.u.dir in
-    let own = owed_directory now in
-    omega (arith, r, least, own)
 
 -- A reference is taken.
 pub kept_takes : (old now : Handed) (ino : ℕ) (taken : List ℕ) → ino < length now.inodes.references

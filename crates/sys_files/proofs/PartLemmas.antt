@@ -1,9 +1,6 @@
 -- A call goes from one part to the next.
-use Rattle.std.proofs.Common.{◌≡◌, ℕ, Bool, true, false, [], Result, Ok, Err, refl, sym, ap, ◌∙◌}
+use Rattle.std.proofs.Common.{◌≡◌, ℕ, Bool, true, false, Result, Ok, Err, refl, sym, ap, ◌∙◌}
 use Rattle.v6_base.specs.declared.errno.Errno.{Errno}
-use Rattle.v6_base.specs.declared.answer.Answer.{Answer}
-use Rattle.v6_base.specs.Trace.{Taken, Took}
-use Rattle.v6_base.proofs.Took.{took_nothing}
 use Rattle.fs_tree.specs.Finding.{Inodes, Finding, put_back}
 use Rattle.sys_files.specs.Handed.{Handed, with_inodes}
 use Rattle.sys_files.specs.Did.{Did, fails, is_done, check, must, until_end, then_named}
@@ -40,22 +37,3 @@ until_told h ino (Err e) n is = sym (ap (λ m. fails (with_inodes h m) e) is)
 pub until : (h : Handed) (ino : ℕ) (d : Did) (r : Result (Unit {0}) Errno) (n : Inodes) → d ≡ did_of h r
     → n ≡ put_back h.inodes ino → until_end ino d ≡ did_of (with_inodes h n) r
 until h ino d r n did is = ap (until_end ino) did ∙ until_told h ino r n is
-
-told_state : (h : Handed) (r : Result (Unit {0}) Errno) → (did_of h r).state ≡ h
-told_state h (Ok u) = refl
-told_state h (Err e) = refl
-
-told_items : (h : Handed) (r : Result (Unit {0}) Errno) → (did_of h r).items ≡ []
-told_items h (Ok u) = refl
-told_items h (Err e) = refl
-
--- what a call comes to that gives no value
-module _ (d : Did) (h : Handed) (r : Result (Unit {0}) Errno) (is : d ≡ did_of h r) where
-  pub did_answer : (a : Answer) → a ≡ (did_of h r).answer → a ≡ d.answer
-  did_answer a same = same ∙ ap (λ (x : Did). x.answer) (sym is)
-
-  pub did_state : h ≡ d.state
-  did_state = sym (ap (λ (x : Did). x.state) is ∙ told_state h r)
-
-  pub did_items : (t : Taken) → Took t d.items t
-  did_items t = took_nothing t d.items (ap (λ (x : Did). x.items) is ∙ told_items h r)

@@ -1,11 +1,9 @@
 -- What a read comes to, by its tests, and what it keeps.
 use Rattle.std.proofs.Common.{◌≡◌, ◌+◌, ◌%◌, ◌^◌, ℕ, Bool, true, false, [], Option, Some, None, Result, Ok, Err, if◌then◌else◌, slice_index, refl, sym, ap, ◌∙◌, subst}
 use Rattle.v6_base.specs.Image.{Image}
-use Rattle.v6_base.specs.Trace as items
-use Rattle.v6_base.specs.Trace.{Taken}
+use Rattle.v6_base.specs.declared.answer.Answer.{Answer}
 use Rattle.v6_base.specs.declared.errno.Errno.{Errno}
 use Rattle.v6_base.specs.declared.errno.Errno.TheVariants.{EBADF}
-use Rattle.v6_base.proofs.Took.{took_nothing}
 use Rattle.open_files.specs.declared.file.OpenFile.{OpenFile}
 use Rattle.fs_laws.specs.Pieces.{Moving}
 use Rattle.sys_files.specs.Handed.{Handed, r0, node_at, file_of, is_console}
@@ -19,6 +17,7 @@ use Rattle.tty_line.specs.Reading.{Reading, reads}
 use Rattle.sys_files.specs.Moving.{gives_count, read_of, with_read, line_read, with_line_read, takes_line, reads_line, reads_from, read_file_of}
 use Rattle.sys_files.specs.Moving.{without_pending, resume_read}
 use Rattle.sys_files.specs.Sound.{IsSound, IsKept}
+use Rattle.sys_files.specs.Entering.{did_with}
 use Rattle.sys_files.proofs.KeptLemmas.{kept_same}
 use Rattle.sys_files.proofs.OffsetLemmas.{kept_moved}
 
@@ -31,34 +30,24 @@ pub gives_items : (h : Handed) (count : ℕ) (e : Option Errno) → (gives_count
 gives_items h count None = refl
 gives_items h count (Some e) = refl
 
+pub gives_told : (h : Handed) (count : ℕ) (e : Option Errno) (a : Answer) → a ≡ (gives_count h count e).answer → gives_count h count e ≡ did_with h a
+gives_told h count None a is = sym (ap (did_with h) is)
+gives_told h count (Some e) a is = sym (ap (did_with h) is)
+
 -- what a read of a line comes to, by what it took
 pub line_is : (h : Handed) (line : Terminal) (image : Image) (entry at count : ℕ) (took : Took) → h.line ≡ line → h.image ≡ image
-    → took ≡ (reads line image at count).took → takes_line (with_line_read h (reads line image at count)) entry at count took ≡ reads_line h entry at count
+    → took ≡ (reads line image at count).took → reads_line h entry at count ≡ takes_line (with_line_read h (reads line image at count)) entry at count took
 line_is h line image entry at count took line_same image_same is =
-    ap (takes_line (with_line_read h (reads line image at count)) entry at count) is
-    ∙ ap (λ (r : Reading). takes_line (with_line_read h r) entry at count r.took)
-    (sym (ap (λ (l : Terminal). reads l h.image at count) line_same ∙ ap (λ (m : Image). reads line m at count) image_same))
+    ap (λ (r : Reading). takes_line (with_line_read h r) entry at count r.took)
+    (ap (λ (l : Terminal). reads l h.image at count) line_same ∙ ap (λ (m : Image). reads line m at count) image_same)
+    ∙ sym (ap (takes_line (with_line_read h (reads line image at count)) entry at count) is)
 
--- the parts after a read of a line
-pub line_parts : (h : Handed) (r : Reading) (line : Terminal) (image : Image) (u : UArea) → line ≡ r.terminal → image ≡ r.image → h.u ≡ u
-    → ◌≡◌ {A = Handed} (record h { line = line; u = u; image = image }) (with_line_read h r)
-line_parts h r line image u line_same image_same u_same =
-    ap (λ (l : Terminal). record h { line = l; u = u; image = image }) line_same
-    ∙ ap (λ (m : Image). record h { line = r.terminal; u = u; image = m }) image_same
-    ∙ ap (λ (v : UArea). record h { line = r.terminal; u = v; image = r.image }) (sym u_same)
-
--- and where the process waits then
-pub line_waits : (h : Handed) (r : Reading) (line : Terminal) (image : Image) (u : UArea) (d : Did) → line ≡ r.terminal → image ≡ r.image
-    → ◌≡◌ {A = Handed} (record (with_line_read h r) { u = u }) d.state → ◌≡◌ {A = Handed} (record h { line = line; u = u; image = image }) d.state
-line_waits h r line image u d line_same image_same waits =
-    ap (λ (l : Terminal). record h { line = l; u = u; image = image }) line_same
-    ∙ ap (λ (m : Image). record h { line = r.terminal; u = u; image = m }) image_same ∙ waits
-
--- A read of a line shows nothing.
-pub line_quiet : (h : Handed) (entry at count : ℕ) (took : Took) → (takes_line h entry at count took).items ≡ []
-line_quiet h entry at count (Done n) = refl
-line_quiet h entry at count Wait = refl
-line_quiet h entry at count Fault = refl
+-- the parts after a read of a line, with what it answers
+pub line_left : (h : Handed) (r : Reading) (line : Terminal) (image : Image) (u : UArea) (answer : UArea → Answer) → line ≡ r.terminal → image ≡ r.image
+    → h.u ≡ u → did_with (with_line_read h r) (answer h.u) ≡ did_with (record h { line = line; u = u; image = image }) (answer u)
+line_left h r line image u answer line_same image_same u_same =
+    let of_code = sym u_same in
+    sym (λ i. did_with (record h { line = line_same i; u = of_code i; image = image_same i }) (answer (of_code i)))
 
 abbrev read_as : Handed → ℕ → ℕ → ℕ → ℕ → Bool → Did
 read_as h entry at count now console =
@@ -122,43 +111,14 @@ kept_found h at count now (Err e) sound = kept_same h h sound refl refl refl ref
 pub read_kept : (h : Handed) (at count now : ℕ) → IsSound h → IsKept h (read_file_of h at count now).state
 read_kept h at count now sound = kept_found h at count now (open_entry h (r0 h)) sound
 
-pub kept_by_read : (h new : Handed) (at count now : ℕ) → IsSound h → new ≡ (read_file_of h at count now).state → IsKept h new
-kept_by_read h new at count now sound is = subst (IsKept h) (sym is) (read_kept h at count now sound)
-
--- A read shows nothing.
-none_as : (h : Handed) (entry at count now : ℕ) (console : Bool) → (read_as h entry at count now console).items ≡ []
-none_as h entry at count now true =
-    let r : Reading = line_read (with_read h entry (read_of h entry at count now)) at count in
-    line_quiet (with_line_read (with_read h entry (read_of h entry at count now)) r) entry at count r.took
-none_as h entry at count now false =
-    let m : Moving Image = read_of h entry at count now in
-    gives_items (with_read h entry m) m.done m.error
-
-none_if : (h : Handed) (entry at count now : ℕ) (reading : Bool) → (read_if h entry at count now reading).items ≡ []
-none_if h entry at count now true = none_as h entry at count now (is_console (node_at h (file_of h entry).ino))
-none_if h entry at count now false = refl
-
-none_found : (h : Handed) (at count now : ℕ) (found : Result ℕ Errno) → (read_found h at count now found).items ≡ []
-none_found h at count now (Ok entry) = none_if h entry at count now (file_of h entry).kind.reading
-none_found h at count now (Err e) = refl
-
-pub took_by_read : (h : Handed) (at count now : ℕ) (t : Taken) → items.Took t (read_file_of h at count now).items t
-took_by_read h at count now t = took_nothing t (read_file_of h at count now).items (none_found h at count now (open_entry h (r0 h)))
-
--- A read that is taken up again keeps all that is counted, and shows nothing.
+-- A read that is taken up again keeps all that is counted.
 resumed_took : (h : Handed) (r : Reading) (entry at count : ℕ) (took : Took) → IsSound h
     → IsKept h (takes_line (with_line_read (without_pending h) r) entry at count took).state
 resumed_took h r entry at count (Done n) sound = kept_same h _ sound refl refl refl refl refl
 resumed_took h r entry at count Wait sound = kept_same h _ sound refl refl refl refl refl
 resumed_took h r entry at count Fault sound = kept_same h _ sound refl refl refl refl refl
 
-pub kept_by_resume : (h new : Handed) → IsSound h → new ≡ (resume_read h).state → IsKept h new
-kept_by_resume h new sound is =
+pub resume_kept : (h : Handed) → IsSound h → IsKept h (resume_read h).state
+resume_kept h sound =
     let r : Reading = line_read (without_pending h) (slice_index h.u.call 1) (slice_index h.u.call 2) in
-    subst (IsKept h) (sym is) (resumed_took h r (slice_index h.u.call 0) (slice_index h.u.call 1) (slice_index h.u.call 2) r.took sound)
-
-pub took_by_resume : (h : Handed) (t : Taken) → items.Took t (resume_read h).items t
-took_by_resume h t =
-    let r : Reading = line_read (without_pending h) (slice_index h.u.call 1) (slice_index h.u.call 2) in
-    took_nothing t (resume_read h).items
-    (line_quiet (with_line_read (without_pending h) r) (slice_index h.u.call 0) (slice_index h.u.call 1) (slice_index h.u.call 2) r.took)
+    resumed_took h r (slice_index h.u.call 0) (slice_index h.u.call 1) (slice_index h.u.call 2) r.took sound

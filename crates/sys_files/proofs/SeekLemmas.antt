@@ -1,5 +1,5 @@
 -- What a seek comes to, by its tests, and what it keeps.
-use Rattle.std.proofs.Common.{◌≡◌, ℕ, Bool, true, false, not, Result, Ok, Err, refl, sym, ap, ◌∙◌, subst}
+use Rattle.std.proofs.Common.{◌≡◌, ℕ, Bool, true, false, not, Result, Ok, Err, refl, sym, ap, ◌∙◌}
 use Rattle.v6_base.specs.declared.errno.Errno.{Errno}
 use Rattle.v6_base.specs.declared.errno.Errno.TheVariants.{ESPIPE}
 use Rattle.open_files.specs.declared.file.OpenFile.{OpenFile}
@@ -47,7 +47,3 @@ kept_of_entry h offset mode (Err e) sound = kept_same h h sound refl refl refl r
 
 pub seek_kept : (h : Handed) (offset mode : ℕ) → IsSound h → IsKept h (seek_to h offset mode).state
 seek_kept h offset mode sound = kept_of_entry h offset mode (open_entry h (r0 h)) sound
-
--- the same of what the parts are then
-pub kept_by_seek : (h new : Handed) (offset mode : ℕ) → IsSound h → new ≡ (seek_to h offset mode).state → IsKept h new
-kept_by_seek h new offset mode sound is = subst (IsKept h) (sym is) (seek_kept h offset mode sound)

@@ -1,7 +1,7 @@
 -- The bytes that are told of a file are its two numbers and then its inode's 32 bytes.
 use Rattle.std.proofs.lemmas.List.{append-nil, drop_all, take-append-le}
 use Rattle.std.proofs.Math.Seq.{drop-append_seam}
-use Rattle.std.proofs.Common.{◌≡◌, ◌<◌, ℕ, Bool, true, false, cond, List, [], ◌∷◌, ◌++◌, length, take, drop, Option, None, Some, IsSome, unwrap_or, slice_index, refl, sym, ap, ◌∙◌, subst, arith, take_all}
+use Rattle.std.proofs.Common.{◌≡◌, ◌<◌, ℕ, Bool, true, false, cond, List, [], ◌∷◌, ◌++◌, length, take, drop, Option, None, Some, slice_index, refl, sym, ap, ◌∙◌, arith, take_all}
 use borrow.Rule.Slice.PartMut.{put_mid}
 use Rattle.fs_codec.specs.Bytes.{bytes_of, inode_bytes}
 use Rattle.fs_codec.specs.Words.{words}
@@ -11,18 +11,14 @@ use Rattle.fs_codec.specs.Modes.{is_device}
 use Rattle.fs_codec.specs.Store.{Node}
 use Rattle.fs_codec.specs.declared.node.DiskNode.{DiskNode}
 use Rattle.fs_codec.proofs.FieldsLemmas.{one_inode}
-use Rattle.fs_nodes.specs.FileSystem.{FileSystem, IsFileSystem, Shows}
+use Rattle.fs_nodes.specs.FileSystem.{Shows}
 use Rattle.v6_base.specs.Image.{Image}
 use Rattle.v6_base.specs.Copy.{store_bytes}
-use Rattle.open_files.specs.declared.file.OpenFile.{OpenFile}
-use Rattle.open_files.specs.Files.{file_at}
-use Rattle.sys_files.proofs.OwedLemmas.{file_referred}
-use Rattle.sys_files.specs.Handed.{Handed, r0, node_at, no_file, file_of}
-use Rattle.fs_tree.specs.Finding.{inodes_of}
+use Rattle.sys_files.specs.Handed.{Handed, r0, node_at, file_of}
 use Rattle.sys_files.specs.Descriptors.{open_entry}
 use Rattle.sys_files.specs.Sound.{IsSound, IsKept}
 use Rattle.sys_files.specs.Status.{status_bytes, with_stored, tells_status, stat_file, stat_open}
-use Rattle.sys_files.proofs.OwingLemmas.{IsKeptBut, CanFind, can_find, kept_begins, kept_ends, kept_goes_on, kept_check, kept_finds}
+use Rattle.sys_files.proofs.OwingLemmas.{IsKeptBut, CanFind, kept_begins, kept_ends, kept_goes_on, kept_check, kept_finds}
 
 -- an inode with no addresses but the number of a device
 abbrev first_of : ℕ → ℕ → List ℕ
@@ -93,27 +89,9 @@ stat_kept h name at sound can =
     kept_ends h _ (kept_finds h h name [] (λ h ino. tells_status h ino at) sound (kept_begins h sound) can (λ now ino k.
     stored_same now (store_bytes now.image at (status_bytes ino (node_at now ino))) (ino ∷ []) h k))
 
--- the same, where it has come to an end
-pub stat_ends : (fs : FileSystem) (h new : Handed) (name at : ℕ) → h.inodes ≡ inodes_of fs → IsFileSystem fs
-    → IsSound h → new ≡ (stat_file h name at).state → IsKept h new
-stat_ends fs h new name at same is sound state =
-    subst (IsKept h) (sym state) (stat_kept h name at sound (can_find fs h name same is sound))
-
 pub stat_open_kept : (h : Handed) (at : ℕ) → IsSound h → IsKept h (stat_open h at).state
 stat_open_kept h at sound =
     kept_ends h _ (kept_check h h [] (open_entry h (r0 h)) (λ entry. tells_status h (file_of h entry).ino at)
     (kept_begins h sound) (λ entry is.
     stored_same h (store_bytes h.image at (status_bytes (file_of h entry).ino (node_at h
     (file_of h entry).ino))) [] h (kept_begins h sound)))
-
--- an open file refers to its inode
-open_by : (h : Handed) (entry : ℕ) (o : Option OpenFile) → IsSound h → file_at h.files entry ≡ o → IsSome o
-    → 0 < slice_index h.inodes.references (unwrap_or o no_file).ino
-open_by h entry (Some file) sound is some = file_referred h entry file sound is
-open_by h entry None sound is some = absurd (cc)
-
-pub open_referred : (h : Handed) (entry : ℕ) (file : OpenFile) → IsSound h → IsSome (file_at h.files entry)
-    → file ≡ file_of h entry → 0 < slice_index h.inodes.references file.ino
-open_referred h entry file sound some is =
-    let P : OpenFile → Type 0 = λ f. 0 < slice_index h.inodes.references f.ino in
-    subst P (sym is) (open_by h entry (file_at h.files entry) sound refl some)

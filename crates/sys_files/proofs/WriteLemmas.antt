@@ -1,5 +1,5 @@
 -- What a write comes to, by its tests, and what it keeps.
-use Rattle.std.proofs.Common.{◌≡◌, ◌+◌, ◌%◌, ◌^◌, ◌==◌, ℕ, Bool, true, false, List, [], length, Result, Ok, Err, if◌then◌else◌, refl, sym, ap, ◌∙◌, subst}
+use Rattle.std.proofs.Common.{◌≡◌, ◌+◌, ◌%◌, ◌^◌, ◌==◌, ℕ, Bool, true, false, List, length, Result, Ok, Err, if◌then◌else◌, refl, sym, ap, ◌∙◌, subst}
 use Rattle.v6_base.specs.Trace.{Item, Taken, Took, sent}
 use Rattle.v6_base.specs.declared.errno.Errno.{Errno}
 use Rattle.v6_base.specs.declared.errno.Errno.TheVariants.{EBADF, EFAULT}
@@ -86,13 +86,6 @@ pub write_done : (h : Handed) (at count now entry : ℕ) (file : OpenFile) → O
 write_done h at count now entry file found is writing =
     ap (write_if h entry at count now) (sym writing ∙ ap (λ (x : OpenFile). x.kind.writing) is) ∙ ap (write_found h at count now) found
 
--- what is shown by what a write comes to
-pub took_as : (a b : Taken) (before after : Did) → before ≡ after → Took a before.items b → Took a after.items b
-took_as a b before after is took = subst (λ (d : Did). Took a d.items b) is took
-
-pub took_nothing_as : (t : Taken) (before after : Did) → before ≡ after → before.items ≡ [] → Took t after.items t
-took_nothing_as t before after is none = took_nothing t after.items (sym (ap (λ (d : Did). d.items) is) ∙ none)
-
 abbrev write_place : Handed → ℕ → ℕ → ℕ → ℕ → ℕ
 write_place h entry at count now = ((file_of h entry).offset + (write_of h entry at count now).done) % 2 ^ 32
 
@@ -116,6 +109,3 @@ kept_found h at count now (Err e) sound = kept_same h h sound refl refl refl ref
 
 pub write_kept : (h : Handed) (at count now : ℕ) → IsSound h → IsKept h (write_file_of h at count now).state
 write_kept h at count now sound = kept_found h at count now (open_entry h (r0 h)) sound
-
-pub kept_by_write : (h new : Handed) (at count now : ℕ) → IsSound h → new ≡ (write_file_of h at count now).state → IsKept h new
-kept_by_write h new at count now sound is = subst (IsKept h) (sym is) (write_kept h at count now sound)

@@ -8,4 +8,5 @@ pub mod Modes
 pub mod Status
 pub mod Names
 pub mod Sound
+pub mod Does
 pub mod Entering

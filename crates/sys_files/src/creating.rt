@@ -2,13 +2,13 @@
 ghost use Rattle.std.specs.Prelude.{◌≡◌, ◌<◌, ◌≤◌, ℕ, not, slice_index};
 ghost use Rattle.v6_base.specs.declared.errno.Errno.TheVariants.{EISDIR};
 ghost use Rattle.v6_base.specs.Image.{Image};
-ghost use Rattle.v6_base.specs.Trace.{Took};
 ghost use Rattle.open_files.specs.Files.{AreOpen};
 ghost use Rattle.fs_codec.specs.Modes.{is_directory};
 ghost use Rattle.fs_nodes.specs.FileSystem.{SameRest};
 ghost use Rattle.fs_tree.specs.Finding.{inodes_of};
 ghost use Rattle.sys_files.specs.Handed.{handed, node_in, user_of};
 ghost use Rattle.sys_files.specs.Sound.{HasNoPipe, IsSound, IsKept};
+ghost use Rattle.sys_files.specs.Does.{Does};
 ghost use Rattle.sys_files.specs.Did.{must};
 ghost use Rattle.sys_files.specs.Making.{truncated_in, opens_for_writing, opens_again, enters_new, makes_file, creat_file};
 ghost use Rattle.sys_files.specs.Entering.{HasEntry, SameReferences, did_with};
@@ -165,17 +165,9 @@ pub fn creat_file<S: Space, T: Trace>(
     trace: &mut T,
 ) -> Answer
     requires sound { IsSound (handed f.old u.old row.old (S.image space.old)) }
-    ensures answer { result
-        ≡ (creat_file (handed f.old u.old row.old (S.image space.old))
-        (slice_index args 0) (slice_index args 1) now).answer }
-    ensures state { handed f.new u.new row.new (S.image space.new)
-        ≡ (creat_file (handed f.old u.old row.old (S.image space.old))
-        (slice_index args 0) (slice_index args 1) now).state }
-    ensures items { Took (T.taken trace.old)
-        (creat_file (handed f.old u.old row.old (S.image space.old))
-        (slice_index args 0) (slice_index args 1) now).items (T.taken trace.new) }
-    ensures kept { IsKept (handed f.old u.old row.old (S.image space.old))
-        (handed f.new u.new row.new (S.image space.new)) }
+    ensures does { Does (handed f.old u.old row.old (S.image space.old))
+        (handed f.new u.new row.new (S.image space.new)) result (T.taken trace.old) (T.taken trace.new)
+        (creat_file (handed f.old u.old row.old (S.image space.old)) (slice_index args 0) (slice_index args 1) now) }
     ensures frame { T.leads_to trace.old trace.new }
     ensures memory { S.rest space.new ≡ S.rest space.old }
     ensures blocks { SameRest f.old.tree.nodes.blocks f.new.tree.nodes.blocks }

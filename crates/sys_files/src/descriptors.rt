@@ -11,6 +11,7 @@ ghost use Rattle.open_files.specs.declared.file.Closed.{Closed};
 ghost use Rattle.open_files.specs.Files.{file_at, AreOpen, HaveRoom};
 ghost use Rattle.sys_files.specs.Handed.{handed, file_of, node_at, is_console};
 ghost use Rattle.sys_files.specs.Sound.{IsSound, IsKept};
+ghost use Rattle.sys_files.specs.Does.{Does};
 ghost use Rattle.sys_files.specs.Descriptors.{open_entry, dup_file, is_of_console, is_console_open, with_closed, console_closed, released, told_by, dropped, then_closes, close_file, close_all, AreReferred};
 
 use crate::devices::is_console_at;
@@ -76,13 +77,9 @@ pub fn dup_file<S: Space, T: Trace>(
     trace: &mut T,
 ) -> Answer
     requires sound { IsSound (handed f.old u.old row.old (S.image space.old)) }
-    ensures answer { result ≡ (dup_file (handed f.old u.old row.old (S.image space.old))).answer }
-    ensures state { handed f.new u.new row.new (S.image space.new)
-        ≡ (dup_file (handed f.old u.old row.old (S.image space.old))).state }
-    ensures items { Took (T.taken trace.old)
-        (dup_file (handed f.old u.old row.old (S.image space.old))).items (T.taken trace.new) }
-    ensures kept { IsKept (handed f.old u.old row.old (S.image space.old))
-        (handed f.new u.new row.new (S.image space.new)) }
+    ensures does { Does (handed f.old u.old row.old (S.image space.old))
+        (handed f.new u.new row.new (S.image space.new)) result (T.taken trace.old) (T.taken trace.new)
+        (dup_file (handed f.old u.old row.old (S.image space.old))) }
     ensures frame { T.leads_to trace.old trace.new }
     ensures memory { S.rest space.new ≡ S.rest space.old }
     ensures blocks { SameRest f.old.tree.nodes.blocks f.new.tree.nodes.blocks }
@@ -228,13 +225,9 @@ pub fn close_file<S: Space, T: Trace>(
     trace: &mut T,
 ) -> Answer
     requires sound { IsSound (handed f.old u.old row.old (S.image space.old)) }
-    ensures answer { result ≡ (close_file (handed f.old u.old row.old (S.image space.old))).answer }
-    ensures state { handed f.new u.new row.new (S.image space.new)
-        ≡ (close_file (handed f.old u.old row.old (S.image space.old))).state }
-    ensures items { Took (T.taken trace.old)
-        (close_file (handed f.old u.old row.old (S.image space.old))).items (T.taken trace.new) }
-    ensures kept { IsKept (handed f.old u.old row.old (S.image space.old))
-        (handed f.new u.new row.new (S.image space.new)) }
+    ensures does { Does (handed f.old u.old row.old (S.image space.old))
+        (handed f.new u.new row.new (S.image space.new)) result (T.taken trace.old) (T.taken trace.new)
+        (close_file (handed f.old u.old row.old (S.image space.old))) }
     ensures frame { T.leads_to trace.old trace.new }
     ensures memory { S.rest space.new ≡ S.rest space.old }
     ensures blocks { SameRest f.old.tree.nodes.blocks f.new.tree.nodes.blocks }

@@ -1,12 +1,12 @@
 //! Files get other names, and lose them: `link` in Lions' Commentary, `sys2.c`, and `unlink` in `sys4.c`.
 ghost use Rattle.std.specs.Prelude.{◌≡◌, ◌<◌, ◌≤◌, ℕ, slice_index};
 ghost use Rattle.v6_base.specs.Image.{Image};
-ghost use Rattle.v6_base.specs.Trace.{Took};
 ghost use Rattle.proc_tab.specs.declared.row.Row.{Row};
 ghost use Rattle.fs_codec.specs.Modes.{is_directory};
 ghost use Rattle.fs_nodes.specs.FileSystem.{SameRest};
 ghost use Rattle.sys_files.specs.Handed.{handed, node_in};
-ghost use Rattle.sys_files.specs.Sound.{IsSound, IsKept};
+ghost use Rattle.sys_files.specs.Sound.{IsSound};
+ghost use Rattle.sys_files.specs.Does.{Does};
 ghost use Rattle.sys_files.specs.Making.{may_link, enters_again, links_to, link_file, empties, unlink_file};
 ghost use Rattle.sys_files.specs.Entering.{HasEntry, SameReferences, did_of};
 
@@ -126,17 +126,9 @@ pub fn link_file<S: Space, T: Trace>(
     trace: &mut T,
 ) -> Answer
     requires sound { IsSound (handed f.old u.old row.old (S.image space.old)) }
-    ensures answer { result
-        ≡ (link_file (handed f.old u.old row.old (S.image space.old))
-        (slice_index args 0) (slice_index args 1) now).answer }
-    ensures state { handed f.new u.new row.new (S.image space.new)
-        ≡ (link_file (handed f.old u.old row.old (S.image space.old))
-        (slice_index args 0) (slice_index args 1) now).state }
-    ensures items { Took (T.taken trace.old)
-        (link_file (handed f.old u.old row.old (S.image space.old))
-        (slice_index args 0) (slice_index args 1) now).items (T.taken trace.new) }
-    ensures kept { IsKept (handed f.old u.old row.old (S.image space.old))
-        (handed f.new u.new row.new (S.image space.new)) }
+    ensures does { Does (handed f.old u.old row.old (S.image space.old))
+        (handed f.new u.new row.new (S.image space.new)) result (T.taken trace.old) (T.taken trace.new)
+        (link_file (handed f.old u.old row.old (S.image space.old)) (slice_index args 0) (slice_index args 1) now) }
     ensures frame { T.leads_to trace.old trace.new }
     ensures memory { S.rest space.new ≡ S.rest space.old }
     ensures blocks { SameRest f.old.tree.nodes.blocks f.new.tree.nodes.blocks }
@@ -203,17 +195,9 @@ pub fn unlink_file<S: Space, T: Trace>(
     trace: &mut T,
 ) -> Answer
     requires sound { IsSound (handed f.old u.old row.old (S.image space.old)) }
-    ensures answer { result
-        ≡ (unlink_file (handed f.old u.old row.old (S.image space.old))
-        (slice_index args 0) now).answer }
-    ensures state { handed f.new u.new row.new (S.image space.new)
-        ≡ (unlink_file (handed f.old u.old row.old (S.image space.old))
-        (slice_index args 0) now).state }
-    ensures items { Took (T.taken trace.old)
-        (unlink_file (handed f.old u.old row.old (S.image space.old))
-        (slice_index args 0) now).items (T.taken trace.new) }
-    ensures kept { IsKept (handed f.old u.old row.old (S.image space.old))
-        (handed f.new u.new row.new (S.image space.new)) }
+    ensures does { Does (handed f.old u.old row.old (S.image space.old))
+        (handed f.new u.new row.new (S.image space.new)) result (T.taken trace.old) (T.taken trace.new)
+        (unlink_file (handed f.old u.old row.old (S.image space.old)) (slice_index args 0) now) }
     ensures frame { T.leads_to trace.old trace.new }
     ensures memory { S.rest space.new ≡ S.rest space.old }
     ensures blocks { SameRest f.old.tree.nodes.blocks f.new.tree.nodes.blocks }

@@ -1,12 +1,12 @@
 //! Files are made: `creat` and `mknod` in Lions' Commentary, `sys2.c`, and `maknode` in `iget.c`.
 ghost use Rattle.std.specs.Prelude.{◌≡◌, ◌<◌, ◌≤◌, ℕ, slice_index};
 ghost use Rattle.v6_base.specs.Image.{Image};
-ghost use Rattle.v6_base.specs.Trace.{Took};
 ghost use Rattle.fs_codec.specs.Modes.{is_device};
 ghost use Rattle.fs_nodes.specs.FileSystem.{SameRest};
 ghost use Rattle.fs_tree.specs.Finding.{inodes_of};
 ghost use Rattle.sys_files.specs.Handed.{handed, node_in};
-ghost use Rattle.sys_files.specs.Sound.{IsSound, IsKept};
+ghost use Rattle.sys_files.specs.Sound.{IsSound};
+ghost use Rattle.sys_files.specs.Does.{Does};
 ghost use Rattle.sys_files.specs.Did.{is_done};
 ghost use Rattle.sys_files.specs.Making.{device_in, with_device, enters_new, makes_any, mknod_at};
 ghost use Rattle.sys_files.specs.Entering.{HasEntry, SameReferences, did_of};
@@ -131,17 +131,9 @@ pub fn mknod_at<S: Space, T: Trace>(
     trace: &mut T,
 ) -> Answer
     requires sound { IsSound (handed f.old u.old row.old (S.image space.old)) }
-    ensures answer { result
-        ≡ (mknod_at (handed f.old u.old row.old (S.image space.old))
-        (slice_index args 0) (slice_index args 1) (slice_index args 2) now).answer }
-    ensures state { handed f.new u.new row.new (S.image space.new)
-        ≡ (mknod_at (handed f.old u.old row.old (S.image space.old))
-        (slice_index args 0) (slice_index args 1) (slice_index args 2) now).state }
-    ensures items { Took (T.taken trace.old)
-        (mknod_at (handed f.old u.old row.old (S.image space.old))
-        (slice_index args 0) (slice_index args 1) (slice_index args 2) now).items (T.taken trace.new) }
-    ensures kept { IsKept (handed f.old u.old row.old (S.image space.old))
-        (handed f.new u.new row.new (S.image space.new)) }
+    ensures does { Does (handed f.old u.old row.old (S.image space.old))
+        (handed f.new u.new row.new (S.image space.new)) result (T.taken trace.old) (T.taken trace.new)
+        (mknod_at (handed f.old u.old row.old (S.image space.old)) (slice_index args 0) (slice_index args 1) (slice_index args 2) now) }
     ensures frame { T.leads_to trace.old trace.new }
     ensures memory { S.rest space.new ≡ S.rest space.old }
     ensures blocks { SameRest f.old.tree.nodes.blocks f.new.tree.nodes.blocks }

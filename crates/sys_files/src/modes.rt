@@ -15,7 +15,9 @@ ghost use Rattle.sys_files.specs.Handed.{Handed, handed, node_in, is_null};
 ghost use Rattle.sys_files.specs.Did.{Did, check, must};
 ghost use Rattle.sys_files.specs.Opening.{or_earlier};
 ghost use Rattle.sys_files.specs.Modes.{of_terminal, words_at, sets_modes, tells_modes, stty_set, gtty_get};
-ghost use Rattle.sys_files.specs.Sound.{IsSound, IsKept};
+ghost use Rattle.sys_files.specs.Sound.{IsSound};
+ghost use Rattle.sys_files.specs.Does.{Does};
+ghost use Rattle.sys_files.specs.Entering.{did_with};
 
 use crate::answers::done;
 use crate::descriptors::{file_of, open_entry};
@@ -98,10 +100,8 @@ fn bytes_of(modes: [u16; 3]) -> [u8; 6]
 
 /// Puts the modes of a line to an even address, all three words or none.
 fn put_modes<S: Space>(line: &Line, u: &UArea, space: &mut S, at: u16) -> Answer
-    ensures answer { (h : Handed) → h.line ≡ line.now → h.u ≡ u.now → h.image ≡ S.image space.old
-        → result ≡ (tells_modes h at).answer }
-    ensures state { (h : Handed) → h.line ≡ line.now → h.u ≡ u.now → h.image ≡ S.image space.old
-        → record h { image = S.image space.new } ≡ (tells_modes h at).state }
+    ensures did { (h : Handed) → h.line ≡ line.now → h.u ≡ u.now → h.image ≡ S.image space.old
+        → tells_modes h at ≡ did_with (record h { image = S.image space.new }) result }
     ensures memory { S.rest space.new ≡ S.rest space.old }
 {
     if at % 2 == 1 || !copy_out(space, at, &bytes_of(line.modes())) {
@@ -128,14 +128,9 @@ pub fn stty_set<S: Space, T: Trace>(
     trace: &mut T,
 ) -> Answer
     requires sound { IsSound (handed f.old u.old row.old (S.image space.old)) }
-    ensures answer { result ≡ (stty_set (handed f.old u.old row.old (S.image space.old)) (slice_index args 0)).answer }
-    ensures state { handed f.new u.new row.new (S.image space.new)
-        ≡ (stty_set (handed f.old u.old row.old (S.image space.old)) (slice_index args 0)).state }
-    ensures items { Took (T.taken trace.old) (stty_set (handed f.old u.old row.old (S.image space.old))
-        (slice_index args 0)).items
-        (T.taken trace.new) }
-    ensures kept { IsKept (handed f.old u.old row.old (S.image space.old)) (handed f.new u.new row.new
-        (S.image space.new)) }
+    ensures does { Does (handed f.old u.old row.old (S.image space.old))
+        (handed f.new u.new row.new (S.image space.new)) result (T.taken trace.old) (T.taken trace.new)
+        (stty_set (handed f.old u.old row.old (S.image space.old)) (slice_index args 0)) }
     ensures frame { T.leads_to trace.old trace.new }
     ensures memory { S.rest space.new ≡ S.rest space.old }
     ensures blocks { SameRest f.old.tree.nodes.blocks f.new.tree.nodes.blocks }
@@ -167,14 +162,9 @@ pub fn gtty_get<S: Space, T: Trace>(
     trace: &mut T,
 ) -> Answer
     requires sound { IsSound (handed f.old u.old row.old (S.image space.old)) }
-    ensures answer { result ≡ (gtty_get (handed f.old u.old row.old (S.image space.old)) (slice_index args 0)).answer }
-    ensures state { handed f.new u.new row.new (S.image space.new)
-        ≡ (gtty_get (handed f.old u.old row.old (S.image space.old)) (slice_index args 0)).state }
-    ensures items { Took (T.taken trace.old) (gtty_get (handed f.old u.old row.old (S.image space.old))
-        (slice_index args 0)).items
-        (T.taken trace.new) }
-    ensures kept { IsKept (handed f.old u.old row.old (S.image space.old)) (handed f.new u.new row.new
-        (S.image space.new)) }
+    ensures does { Does (handed f.old u.old row.old (S.image space.old))
+        (handed f.new u.new row.new (S.image space.new)) result (T.taken trace.old) (T.taken trace.new)
+        (gtty_get (handed f.old u.old row.old (S.image space.old)) (slice_index args 0)) }
     ensures frame { T.leads_to trace.old trace.new }
     ensures memory { S.rest space.new ≡ S.rest space.old }
     ensures blocks { SameRest f.old.tree.nodes.blocks f.new.tree.nodes.blocks }

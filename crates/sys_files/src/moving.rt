@@ -12,7 +12,9 @@ ghost use Rattle.tty_line.specs.Output.{shows, after_shown};
 ghost use Rattle.sys_files.specs.Moving.{IsFileOf, with_moved, gives_count, waits_for_keys, read_of, with_read, reads_from, reads_line, resume_read, read_file_of};
 ghost use Rattle.sys_files.specs.Moving.{write_of, shows_bytes, writes_to, write_file_of};
 ghost use Rattle.sys_files.specs.Moving.{extended, seek_mode, seek_base, seek_move, sought, seek_to};
-ghost use Rattle.sys_files.specs.Sound.{IsSound, IsKept};
+ghost use Rattle.sys_files.specs.Sound.{IsSound};
+ghost use Rattle.sys_files.specs.Does.{Does};
+ghost use Rattle.sys_files.specs.Entering.{did_with};
 
 use crate::descriptors::{file_of, open_entry};
 use crate::devices::is_console_at;
@@ -55,8 +57,7 @@ fn give_count(u: &UArea, count: u16, error: Option<Errno>) -> Answer
 
 /// Lets the process wait for keys, with what it needs to go on.
 fn wait_for_keys(u: &mut UArea, entry: u16, at: u16, count: u16) -> Answer
-    ensures answer { (h : Handed) → h.u ≡ u.old → result ≡ (waits_for_keys h entry at count).answer }
-    ensures state { (h : Handed) → h.u ≡ u.old → record h { u = u.new } ≡ (waits_for_keys h entry at count).state }
+    ensures { (h : Handed) → h.u ≡ u.old → waits_for_keys h entry at count ≡ did_with (record h { u = u.new }) result }
 {
     u.pending = CONSOLE_READ;
     u.call = [entry, at, count, 0, 0, 0, 0, 0];
@@ -75,10 +76,9 @@ fn read_line<S: Space>(
     at: u16,
     count: u16,
 ) -> Answer
-    ensures answer { (h : Handed) → h.line ≡ line.old → h.u ≡ u.old → h.image ≡ S.image space.old
-        → result ≡ (reads_line h entry at count).answer }
-    ensures state { (h : Handed) → h.line ≡ line.old → h.u ≡ u.old → h.image ≡ S.image space.old
-        → record h { line = line.new; u = u.new; image = S.image space.new } ≡ (reads_line h entry at count).state }
+    ensures did { (h : Handed) → h.line ≡ line.old → h.u ≡ u.old → h.image ≡ S.image space.old
+        → reads_line h entry at count
+        ≡ did_with (record h { line = line.new; u = u.new; image = S.image space.new }) result }
     ensures memory { S.rest space.new ≡ S.rest space.old }
 {
     match line.read(space, at, count) {
@@ -130,10 +130,8 @@ fn read_from<S: Space>(
     now: u32,
 ) -> Answer
     requires file { IsFileOf f.old entry file.now }
-    ensures answer { (row : Row) → result
-        ≡ (reads_from (handed f.old u.old row (S.image space.old)) entry at count now).answer }
-    ensures state { (row : Row) → handed f.new u.new row (S.image space.new)
-        ≡ (reads_from (handed f.old u.old row (S.image space.old)) entry at count now).state }
+    ensures did { (row : Row) → reads_from (handed f.old u.old row (S.image space.old)) entry at count now
+        ≡ did_with (handed f.new u.new row (S.image space.new)) result }
     ensures memory { S.rest space.new ≡ S.rest space.old }
     ensures blocks { SameRest f.old.tree.nodes.blocks f.new.tree.nodes.blocks }
 {
@@ -166,16 +164,9 @@ pub fn read_file<S: Space, T: Trace>(
     trace: &mut T,
 ) -> Answer
     requires sound { IsSound (handed f.old u.old row.old (S.image space.old)) }
-    ensures answer { result
-        ≡ (read_file_of (handed f.old u.old row.old (S.image space.old)) (slice_index args 0)
-        (slice_index args 1) now).answer }
-    ensures state { handed f.new u.new row.new (S.image space.new)
-        ≡ (read_file_of (handed f.old u.old row.old (S.image space.old)) (slice_index args 0)
-        (slice_index args 1) now).state }
-    ensures items { Took (T.taken trace.old) (read_file_of (handed f.old u.old row.old (S.image space.old))
-        (slice_index args 0) (slice_index args 1) now).items (T.taken trace.new) }
-    ensures kept { IsKept (handed f.old u.old row.old (S.image space.old)) (handed f.new u.new row.new
-        (S.image space.new)) }
+    ensures does { Does (handed f.old u.old row.old (S.image space.old))
+        (handed f.new u.new row.new (S.image space.new)) result (T.taken trace.old) (T.taken trace.new)
+        (read_file_of (handed f.old u.old row.old (S.image space.old)) (slice_index args 0) (slice_index args 1) now) }
     ensures frame { T.leads_to trace.old trace.new }
     ensures memory { S.rest space.new ≡ S.rest space.old }
     ensures blocks { SameRest f.old.tree.nodes.blocks f.new.tree.nodes.blocks }
@@ -207,13 +198,9 @@ pub fn resume_file<S: Space, T: Trace>(
 ) -> Answer
     requires sound { IsSound (handed f.old u.old row.old (S.image space.old)) }
     requires pending { u.old.pending ≡ 1 }
-    ensures answer { result ≡ (resume_read (handed f.old u.old row.old (S.image space.old))).answer }
-    ensures state { handed f.new u.new row.new (S.image space.new)
-        ≡ (resume_read (handed f.old u.old row.old (S.image space.old))).state }
-    ensures items { Took (T.taken trace.old) (resume_read (handed f.old u.old row.old (S.image space.old))).items
-        (T.taken trace.new) }
-    ensures kept { IsKept (handed f.old u.old row.old (S.image space.old)) (handed f.new u.new row.new
-        (S.image space.new)) }
+    ensures does { Does (handed f.old u.old row.old (S.image space.old))
+        (handed f.new u.new row.new (S.image space.new)) result (T.taken trace.old) (T.taken trace.new)
+        (resume_read (handed f.old u.old row.old (S.image space.old))) }
     ensures frame { T.leads_to trace.old trace.new }
     ensures memory { S.rest space.new ≡ S.rest space.old }
     ensures blocks { SameRest f.old.tree.nodes.blocks f.new.tree.nodes.blocks }
@@ -374,16 +361,9 @@ pub fn write_file<S: Space, T: Trace>(
     trace: &mut T,
 ) -> Answer
     requires sound { IsSound (handed f.old u.old row.old (S.image space.old)) }
-    ensures answer { result
-        ≡ (write_file_of (handed f.old u.old row.old (S.image space.old)) (slice_index args 0)
-        (slice_index args 1) now).answer }
-    ensures state { handed f.new u.new row.new (S.image space.new)
-        ≡ (write_file_of (handed f.old u.old row.old (S.image space.old)) (slice_index args 0)
-        (slice_index args 1) now).state }
-    ensures items { Took (T.taken trace.old) (write_file_of (handed f.old u.old row.old (S.image space.old))
-        (slice_index args 0) (slice_index args 1) now).items (T.taken trace.new) }
-    ensures kept { IsKept (handed f.old u.old row.old (S.image space.old)) (handed f.new u.new row.new
-        (S.image space.new)) }
+    ensures does { Does (handed f.old u.old row.old (S.image space.old))
+        (handed f.new u.new row.new (S.image space.new)) result (T.taken trace.old) (T.taken trace.new)
+        (write_file_of (handed f.old u.old row.old (S.image space.old)) (slice_index args 0) (slice_index args 1) now) }
     ensures frame { T.leads_to trace.old trace.new }
     ensures memory { S.rest space.new ≡ S.rest space.old }
     ensures blocks { SameRest f.old.tree.nodes.blocks f.new.tree.nodes.blocks }
@@ -472,14 +452,9 @@ pub fn seek_to<S: Space, T: Trace>(
     trace: &mut T,
 ) -> Answer
     requires sound { IsSound (handed f.old u.old row.old (S.image space.old)) }
-    ensures answer { result
-        ≡ (seek_to (handed f.old u.old row.old (S.image space.old)) (slice_index args 0) (slice_index args 1)).answer }
-    ensures state { handed f.new u.new row.new (S.image space.new)
-        ≡ (seek_to (handed f.old u.old row.old (S.image space.old)) (slice_index args 0) (slice_index args 1)).state }
-    ensures items { Took (T.taken trace.old) (seek_to (handed f.old u.old row.old (S.image space.old))
-        (slice_index args 0) (slice_index args 1)).items (T.taken trace.new) }
-    ensures kept { IsKept (handed f.old u.old row.old (S.image space.old)) (handed f.new u.new row.new
-        (S.image space.new)) }
+    ensures does { Does (handed f.old u.old row.old (S.image space.old))
+        (handed f.new u.new row.new (S.image space.new)) result (T.taken trace.old) (T.taken trace.new)
+        (seek_to (handed f.old u.old row.old (S.image space.old)) (slice_index args 0) (slice_index args 1)) }
     ensures frame { T.leads_to trace.old trace.new }
     ensures memory { S.rest space.new ≡ S.rest space.old }
     ensures blocks { SameRest f.old.tree.nodes.blocks f.new.tree.nodes.blocks }

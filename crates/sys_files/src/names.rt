@@ -9,11 +9,11 @@ ghost use Rattle.fs_nodes.specs.FileSystem.{SameRest};
 ghost use Rattle.fs_tree.specs.Finding.{inodes_of, with_reference, put_back};
 ghost use Rattle.proc_tab.specs.declared.row.Row.{Row};
 ghost use Rattle.v6_base.specs.Image.{Image};
-ghost use Rattle.v6_base.specs.Trace.{Took};
 ghost use Rattle.sys_files.specs.Handed.{handed, node_in};
 ghost use Rattle.sys_files.specs.Names.{enters_directory, chdir_to, changed_mode, changes_mode, chmod_to};
 ghost use Rattle.sys_files.specs.Names.{chown_to, sync_all};
-ghost use Rattle.sys_files.specs.Sound.{IsSound, IsKept};
+ghost use Rattle.sys_files.specs.Sound.{IsSound};
+ghost use Rattle.sys_files.specs.Does.{Does};
 
 use crate::answers::done;
 use crate::files::Files;
@@ -164,14 +164,9 @@ pub fn chdir_to<S: Space, T: Trace>(
     trace: &mut T,
 ) -> Answer
     requires sound { IsSound (handed f.old u.old row.old (S.image space.old)) }
-    ensures answer { result ≡ (chdir_to (handed f.old u.old row.old (S.image space.old)) (slice_index args 0)).answer }
-    ensures state { handed f.new u.new row.new (S.image space.new)
-        ≡ (chdir_to (handed f.old u.old row.old (S.image space.old)) (slice_index args 0)).state }
-    ensures items { Took (T.taken trace.old)
-        (chdir_to (handed f.old u.old row.old (S.image space.old)) (slice_index args 0)).items
-        (T.taken trace.new) }
-    ensures kept { IsKept (handed f.old u.old row.old (S.image space.old))
-        (handed f.new u.new row.new (S.image space.new)) }
+    ensures does { Does (handed f.old u.old row.old (S.image space.old))
+        (handed f.new u.new row.new (S.image space.new)) result (T.taken trace.old) (T.taken trace.new)
+        (chdir_to (handed f.old u.old row.old (S.image space.old)) (slice_index args 0)) }
     ensures frame { T.leads_to trace.old trace.new }
     ensures memory { S.rest space.new ≡ S.rest space.old }
     ensures blocks { SameRest f.old.tree.nodes.blocks f.new.tree.nodes.blocks }
@@ -202,17 +197,9 @@ pub fn chmod_to<S: Space, T: Trace>(
     trace: &mut T,
 ) -> Answer
     requires sound { IsSound (handed f.old u.old row.old (S.image space.old)) }
-    ensures answer { result
-        ≡ (chmod_to (handed f.old u.old row.old (S.image space.old))
-        (slice_index args 0) (slice_index args 1) now).answer }
-    ensures state { handed f.new u.new row.new (S.image space.new)
-        ≡ (chmod_to (handed f.old u.old row.old (S.image space.old))
-        (slice_index args 0) (slice_index args 1) now).state }
-    ensures items { Took (T.taken trace.old)
-        (chmod_to (handed f.old u.old row.old (S.image space.old)) (slice_index args 0) (slice_index args 1) now).items
-        (T.taken trace.new) }
-    ensures kept { IsKept (handed f.old u.old row.old (S.image space.old))
-        (handed f.new u.new row.new (S.image space.new)) }
+    ensures does { Does (handed f.old u.old row.old (S.image space.old))
+        (handed f.new u.new row.new (S.image space.new)) result (T.taken trace.old) (T.taken trace.new)
+        (chmod_to (handed f.old u.old row.old (S.image space.old)) (slice_index args 0) (slice_index args 1) now) }
     ensures frame { T.leads_to trace.old trace.new }
     ensures memory { S.rest space.new ≡ S.rest space.old }
     ensures blocks { SameRest f.old.tree.nodes.blocks f.new.tree.nodes.blocks }
@@ -257,17 +244,9 @@ pub fn chown_to<S: Space, T: Trace>(
     trace: &mut T,
 ) -> Answer
     requires sound { IsSound (handed f.old u.old row.old (S.image space.old)) }
-    ensures answer { result
-        ≡ (chown_to (handed f.old u.old row.old (S.image space.old))
-        (slice_index args 0) (slice_index args 1) now).answer }
-    ensures state { handed f.new u.new row.new (S.image space.new)
-        ≡ (chown_to (handed f.old u.old row.old (S.image space.old))
-        (slice_index args 0) (slice_index args 1) now).state }
-    ensures items { Took (T.taken trace.old)
-        (chown_to (handed f.old u.old row.old (S.image space.old)) (slice_index args 0) (slice_index args 1) now).items
-        (T.taken trace.new) }
-    ensures kept { IsKept (handed f.old u.old row.old (S.image space.old))
-        (handed f.new u.new row.new (S.image space.new)) }
+    ensures does { Does (handed f.old u.old row.old (S.image space.old))
+        (handed f.new u.new row.new (S.image space.new)) result (T.taken trace.old) (T.taken trace.new)
+        (chown_to (handed f.old u.old row.old (S.image space.old)) (slice_index args 0) (slice_index args 1) now) }
     ensures frame { T.leads_to trace.old trace.new }
     ensures memory { S.rest space.new ≡ S.rest space.old }
     ensures blocks { SameRest f.old.tree.nodes.blocks f.new.tree.nodes.blocks }
@@ -298,14 +277,9 @@ pub fn sync_all<S: Space, T: Trace>(
     trace: &mut T,
 ) -> Answer
     requires sound { IsSound (handed f.old u.old row.old (S.image space.old)) }
-    ensures answer { result ≡ (sync_all (handed f.old u.old row.old (S.image space.old)) now).answer }
-    ensures state { handed f.new u.new row.new (S.image space.new)
-        ≡ (sync_all (handed f.old u.old row.old (S.image space.old)) now).state }
-    ensures items { Took (T.taken trace.old)
-        (sync_all (handed f.old u.old row.old (S.image space.old)) now).items
-        (T.taken trace.new) }
-    ensures kept { IsKept (handed f.old u.old row.old (S.image space.old))
-        (handed f.new u.new row.new (S.image space.new)) }
+    ensures does { Does (handed f.old u.old row.old (S.image space.old))
+        (handed f.new u.new row.new (S.image space.new)) result (T.taken trace.old) (T.taken trace.new)
+        (sync_all (handed f.old u.old row.old (S.image space.old)) now) }
     ensures frame { T.leads_to trace.old trace.new }
     ensures memory { S.rest space.new ≡ S.rest space.old }
     ensures blocks { SameRest f.old.tree.nodes.blocks f.new.tree.nodes.blocks }

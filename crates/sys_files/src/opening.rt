@@ -1,7 +1,6 @@
 //! Files are opened: open(II); Lions' Commentary, `open1` in `sys2.c` and `falloc` in `fio.c`.
 ghost use Rattle.std.specs.Prelude.{◌≡◌, ◌<◌, ◌+◌, ℕ, not, Some, MatchResult, slice_index, slice_set};
 ghost use Rattle.v6_base.specs.Image.{Image};
-ghost use Rattle.v6_base.specs.Trace.{Took};
 ghost use Rattle.fs_codec.specs.Modes.{is_directory};
 ghost use Rattle.fs_nodes.specs.FileSystem.{SameRest};
 ghost use Rattle.fs_tree.specs.declared.user.Want.TheVariants.{Write};
@@ -12,7 +11,8 @@ ghost use Rattle.open_files.specs.Files.{AreOpen, opened};
 ghost use Rattle.sys_files.specs.Did.{check, must, fails, returns};
 ghost use Rattle.sys_files.specs.Handed.{handed, node_in, node_at, user_of, with_number};
 ghost use Rattle.sys_files.specs.Opening.{opens_to_read, opens_to_write, or_earlier, last_failure, open_tests, can_open, with_terminal, with_console, with_opened, opens, opens_named, open_file};
-ghost use Rattle.sys_files.specs.Sound.{IsSound, IsKept};
+ghost use Rattle.sys_files.specs.Sound.{IsSound};
+ghost use Rattle.sys_files.specs.Does.{Does};
 
 use crate::devices::{is_console, is_console_at, is_null};
 use crate::files::Files;
@@ -227,15 +227,9 @@ pub fn open_file<S: Space, T: Trace>(
     trace: &mut T,
 ) -> Answer
     requires sound { IsSound (handed f.old u.old row.old (S.image space.old)) }
-    ensures answer { result ≡ (open_file (handed f.old u.old row.old (S.image space.old))
-        (slice_index args 0) (slice_index args 1)).answer }
-    ensures state { handed f.new u.new row.new (S.image space.new)
-        ≡ (open_file (handed f.old u.old row.old (S.image space.old))
-        (slice_index args 0) (slice_index args 1)).state }
-    ensures items { Took (T.taken trace.old) (open_file (handed f.old u.old row.old (S.image space.old))
-        (slice_index args 0) (slice_index args 1)).items (T.taken trace.new) }
-    ensures kept { IsKept (handed f.old u.old row.old (S.image space.old))
-        (handed f.new u.new row.new (S.image space.new)) }
+    ensures does { Does (handed f.old u.old row.old (S.image space.old))
+        (handed f.new u.new row.new (S.image space.new)) result (T.taken trace.old) (T.taken trace.new)
+        (open_file (handed f.old u.old row.old (S.image space.old)) (slice_index args 0) (slice_index args 1)) }
     ensures frame { T.leads_to trace.old trace.new }
     ensures memory { S.rest space.new ≡ S.rest space.old }
     ensures blocks { SameRest f.old.tree.nodes.blocks f.new.tree.nodes.blocks }

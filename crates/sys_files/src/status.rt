@@ -7,10 +7,10 @@ ghost use Rattle.fs_codec.specs.Modes.{is_device};
 ghost use Rattle.fs_codec.specs.Store.{Node};
 ghost use Rattle.fs_nodes.specs.FileSystem.{SameRest, Shows};
 ghost use Rattle.proc_tab.specs.declared.row.Row.{Row};
-ghost use Rattle.v6_base.specs.Trace.{Took};
 ghost use Rattle.sys_files.specs.Handed.{handed, node_in};
 ghost use Rattle.sys_files.specs.Status.{status_bytes, tells_status, stat_file, stat_open};
-ghost use Rattle.sys_files.specs.Sound.{IsSound, IsKept};
+ghost use Rattle.sys_files.specs.Sound.{IsSound};
+ghost use Rattle.sys_files.specs.Does.{Does};
 
 use crate::answers::done;
 use crate::descriptors::{file_of, open_entry};
@@ -133,16 +133,9 @@ pub fn stat_file<S: Space, T: Trace>(
     trace: &mut T,
 ) -> Answer
     requires sound { IsSound (handed f.old u.old row.old (S.image space.old)) }
-    ensures answer { result
-        ≡ (stat_file (handed f.old u.old row.old (S.image space.old))
-        (slice_index args 0) (slice_index args 1)).answer }
-    ensures state { handed f.new u.new row.new (S.image space.new)
-        ≡ (stat_file (handed f.old u.old row.old (S.image space.old)) (slice_index args 0) (slice_index args 1)).state }
-    ensures items { Took (T.taken trace.old)
-        (stat_file (handed f.old u.old row.old (S.image space.old)) (slice_index args 0) (slice_index args 1)).items
-        (T.taken trace.new) }
-    ensures kept { IsKept (handed f.old u.old row.old (S.image space.old))
-        (handed f.new u.new row.new (S.image space.new)) }
+    ensures does { Does (handed f.old u.old row.old (S.image space.old))
+        (handed f.new u.new row.new (S.image space.new)) result (T.taken trace.old) (T.taken trace.new)
+        (stat_file (handed f.old u.old row.old (S.image space.old)) (slice_index args 0) (slice_index args 1)) }
     ensures frame { T.leads_to trace.old trace.new }
     ensures memory { S.rest space.new ≡ S.rest space.old }
     ensures blocks { SameRest f.old.tree.nodes.blocks f.new.tree.nodes.blocks }
@@ -173,14 +166,9 @@ pub fn stat_open<S: Space, T: Trace>(
     trace: &mut T,
 ) -> Answer
     requires sound { IsSound (handed f.old u.old row.old (S.image space.old)) }
-    ensures answer { result ≡ (stat_open (handed f.old u.old row.old (S.image space.old)) (slice_index args 0)).answer }
-    ensures state { handed f.new u.new row.new (S.image space.new)
-        ≡ (stat_open (handed f.old u.old row.old (S.image space.old)) (slice_index args 0)).state }
-    ensures items { Took (T.taken trace.old)
-        (stat_open (handed f.old u.old row.old (S.image space.old)) (slice_index args 0)).items
-        (T.taken trace.new) }
-    ensures kept { IsKept (handed f.old u.old row.old (S.image space.old))
-        (handed f.new u.new row.new (S.image space.new)) }
+    ensures does { Does (handed f.old u.old row.old (S.image space.old))
+        (handed f.new u.new row.new (S.image space.new)) result (T.taken trace.old) (T.taken trace.new)
+        (stat_open (handed f.old u.old row.old (S.image space.old)) (slice_index args 0)) }
     ensures frame { T.leads_to trace.old trace.new }
     ensures memory { S.rest space.new ≡ S.rest space.old }
     ensures blocks { SameRest f.old.tree.nodes.blocks f.new.tree.nodes.blocks }

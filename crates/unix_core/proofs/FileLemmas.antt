@@ -1,6 +1,7 @@
 -- What a call on files shows, and what the board of the log comes to by it.
-use Rattle.std.proofs.Common.{◌≡◌, ◌≤◌, ◌==◌, ℕ, suc, Bool, true, false, cond, List, [], ◌∷◌, ◌++◌, map, fold, find, All, Option, Some, None, slice_index, refl, sym, ap, ◌∙◌, arith}
-use Rattle.std.specs.Prelude.{⊤, MatchOption}
+use Rattle.std.proofs.Common.{◌≡◌, ◌≤◌, ◌==◌, ℕ, suc, Bool, true, false, cond, List, [], ◌∷◌, ◌++◌, map, fold, find, All, Option, Some, None, slice_index, refl, sym, ap, ◌∙◌, subst, arith}
+use Rattle.std.specs.Prelude.{⊤}
+use Rattle.std.proofs.lemmas.Option.{same_Some}
 use Rattle.v6_base.specs.Trace.{Item, Log, sent, line_bytes, entries_of}
 use Rattle.v6_base.specs.declared.entry.Entry.{Entry}
 use Rattle.pick_rules.specs.declared.table.Table.{Table}
@@ -10,8 +11,10 @@ use Rattle.pick_rules.specs.Effects.{Show, came}
 use Rattle.pick_rules.specs.Logged.{Logged, logged, log_one, board_after}
 use Rattle.image_keep.specs.Kept.{Kept}
 use Rattle.sys_files.specs.Handed.{Handed}
-use Rattle.sys_files.proofs.Bounds.{IsWake, Fits, fits_bytes}
-use Rattle.sys_files.proofs.Steady.{Confined, steady_same, read_confined, write_confined, open_confined, close_confined, creat_confined, link_confined, unlink_confined, chdir_confined, mknod_confined, chmod_confined, chown_confined, stat_confined, stat_open_confined, seek_confined, stty_confined, gtty_confined, sync_confined, dup_confined}
+use Rattle.sys_files.specs.Did.{Did}
+use Rattle.sys_files.proofs.Bounds.{IsWake, Fits, fits_none}
+use Rattle.sys_files.proofs.Steady.{Confined, steady_same, confined_walks}
+use Rattle.sys_files.proofs.Walks.{Walks, walk_read, walk_write, walk_open, walk_close, walk_creat, walk_link, walk_unlink, walk_chdir, walk_mknod, walk_chmod, walk_chown, walk_stat, walk_stat_open, walk_seek, walk_stty, walk_gtty, walk_sync, walk_dup}
 use Rattle.sys_procs.specs.Agree.{board_of}
 use Rattle.sys_procs.proofs.Tables.{board_woken}
 use Rattle.unix_core.specs.Unix.{Unix}
@@ -19,51 +22,47 @@ use Rattle.unix_core.specs.Calls.{FileCall, file_calls, file_call}
 use Rattle.unix_core.specs.Parts.{row_of}
 use Rattle.unix_core.specs.Passing.{woken_by, all_woken}
 
--- Each row of a list is confined: it shows little, and leaves as it is what has to stay. A word counts up to 65535.
-abbrev IsConfined : FileCall → Type 0
-IsConfined row = (h : Handed) (args : List ℕ) (now : ℕ) → slice_index args 1 ≤ 65535 → Confined h (row.does h args now)
+-- A fact that the words of the rows keep holds of what each row of a list comes to.
+module _ {P : Handed → Type 0} {Q : Did → Type 0} {Few : ℕ → Type 0} (k : Walks P Q Few) where
+  abbrev IsWalked : FileCall → Type 0
+  IsWalked row = (h : Handed) (args : List ℕ) (now : ℕ) → Few (slice_index args 1) → P h → Q (row.does h args now)
 
-abbrev AreConfined : List FileCall → Type 0
-AreConfined [] = ⊤
-AreConfined (row ∷ rows) = IsConfined row × AreConfined rows
+  abbrev AreWalked : List FileCall → Type 0
+  AreWalked [] = ⊤
+  AreWalked (row ∷ rows) = IsWalked row × AreWalked rows
 
-all_confined : AreConfined file_calls
-all_confined = (
-  (λ h a now few. read_confined h (slice_index a 0) (slice_index a 1) now),
-  (
-    (λ h a now few. write_confined h (slice_index a 0) (slice_index a 1) now few),
+  every_row : AreWalked file_calls
+  every_row = (
+    λ h a now few p. walk_read k h (slice_index a 0) (slice_index a 1) now p,
     (
-      (λ h a now few. open_confined h (slice_index a 0) (slice_index a 1)),
+      λ h a now few p. walk_write k h (slice_index a 0) (slice_index a 1) now few p,
       (
-        (λ h a now few. close_confined h),
+        λ h a now few p. walk_open k h (slice_index a 0) (slice_index a 1) p,
         (
-          (λ h a now few. creat_confined h (slice_index a 0) (slice_index a 1) now),
+          λ h a now few p. walk_close k h p,
           (
-            (λ h a now few. link_confined h (slice_index a 0) (slice_index a 1) now),
+            λ h a now few p. walk_creat k h (slice_index a 0) (slice_index a 1) now p,
             (
-              (λ h a now few. unlink_confined h (slice_index a 0) now),
+              λ h a now few p. walk_link k h (slice_index a 0) (slice_index a 1) now p,
               (
-                (λ h a now few. chdir_confined h (slice_index a 0)),
+                λ h a now few p. walk_unlink k h (slice_index a 0) now p,
                 (
-                  (λ h a now few. mknod_confined h (slice_index a 0) (slice_index a 1) (slice_index a 2) now),
+                  λ h a now few p. walk_chdir k h (slice_index a 0) p,
                   (
-                    (λ h a now few. chmod_confined h (slice_index a 0) (slice_index a 1) now),
+                    λ h a now few p. walk_mknod k h (slice_index a 0) (slice_index a 1) (slice_index a 2) now p,
                     (
-                      (λ h a now few. chown_confined h (slice_index a 0) (slice_index a 1) now),
+                      λ h a now few p. walk_chmod k h (slice_index a 0) (slice_index a 1) now p,
                       (
-                        (λ h a now few. stat_confined h (slice_index a 0) (slice_index a 1)),
+                        λ h a now few p. walk_chown k h (slice_index a 0) (slice_index a 1) now p,
                         (
-                          (λ h a now few. seek_confined h (slice_index a 0) (slice_index a 1)),
+                          λ h a now few p. walk_stat k h (slice_index a 0) (slice_index a 1) p,
                           (
-                            (λ h a now few. stat_open_confined h (slice_index a 0)),
+                            λ h a now few p. walk_seek k h (slice_index a 0) (slice_index a 1) p,
                             (
-                              (λ h a now few. stty_confined h (slice_index a 0)),
+                              λ h a now few p. walk_stat_open k h (slice_index a 0) p,
                               (
-                                (λ h a now few. gtty_confined h (slice_index a 0)),
-                                (
-                                  (λ h a now few. sync_confined h now),
-                                  ((λ h a now few. dup_confined h), tt),
-                                ),
+                                λ h a now few p. walk_stty k h (slice_index a 0) p,
+                                (λ h a now few p. walk_gtty k h (slice_index a 0) p, (λ h a now few p. walk_sync k h now p, (λ h a now few p. walk_dup k h p, tt))),
                               ),
                             ),
                           ),
@@ -78,23 +77,25 @@ all_confined = (
         ),
       ),
     ),
-  ),
-)
+  )
 
-found_confined : (test : FileCall → Bool) (rows : List FileCall) → AreConfined rows → MatchOption (find test rows) ⊤ IsConfined
-found_confined test [] all = tt
-found_confined test (row ∷ rows) all = elim (test row) as (λ b. MatchOption (cond b (Some row) (find test rows)) ⊤ IsConfined) [
-  | true ↦ all.0
-  | false ↦ found_confined test rows all.1
-]
+  found_by : (test : FileCall → Bool) (rows : List FileCall) → AreWalked rows → (row : FileCall) → find test rows ≡ Some row → IsWalked row
+  found_by test [] all row is = absurd (cc)
+  found_by test (first ∷ rows) all row is = by (test first) is (found_by test rows all.1 row) where
+    by : (b : Bool) → cond b (Some first) (find test rows) ≡ Some row → (find test rows ≡ Some row → IsWalked row) → IsWalked row
+    by true here rest = subst IsWalked (same_Some first row here) all.0
+    by false later rest = rest later
 
-by_row : (o : Option FileCall) → MatchOption o ⊤ IsConfined → (h : Handed) (args : List ℕ) (now : ℕ) → slice_index args 1 ≤ 65535 → Confined h (row_of o h args now)
-by_row None confined h args now few = record { fits = fits_bytes [] (omega arith); steady = steady_same h }
-by_row (Some row) confined h args now few = confined h args now few
+  pub found_row : (number : ℕ) (row : FileCall) → file_call number ≡ Some row → IsWalked row
+  unfolding file_call
+  found_row number row is = found_by (λ (c : FileCall). c.number == number) file_calls every_row row is
 
+-- What a call on files does is confined, where its second argument is a word.
 pub row_confined : (number : ℕ) (h : Handed) (args : List ℕ) (now : ℕ) → slice_index args 1 ≤ 65535 → Confined h (row_of (file_call number) h args now)
-unfolding file_call
-row_confined number h args now few = by_row (file_call number) (found_confined (λ (c : FileCall). c.number == number) file_calls all_confined) h args now few
+row_confined number h args now few = by (file_call number) refl where
+  by : (o : Option FileCall) → file_call number ≡ o → Confined h (row_of o h args now)
+  by None is = record { fits = fits_none; steady = steady_same h }
+  by (Some row) is = found_row (confined_walks h) number row is h args now few (steady_same h)
 
 -- Items that are shown in order: the board takes them one after another.
 abbrev so_far : List Item → Board → Logged Unix

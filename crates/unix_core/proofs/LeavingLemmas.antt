@@ -1,22 +1,24 @@
 -- What a call on files leaves, by what it has done to the parts that were lent to it.
-use Rattle.std.proofs.Common.{◌≡◌, ◌∙◌, ◌+◌, ℕ, List, [], length, refl, sym, ap, subst, arith}
+use Rattle.std.proofs.Common.{◌≡◌, ◌∙◌, ◌+◌, ℕ, List, [], length, refl, ap, subst, arith}
 use Rattle.v6_base.specs.Image.{Image}
 use Rattle.v6_base.specs.Tape.{Recording, taken_on}
+use Rattle.v6_base.specs.declared.answer.Answer.{Answer}
 use Rattle.v6_base.specs.declared.answer.Answer.TheVariants.{Ret}
 use Rattle.v6_base.specs.Trace.{Item, Took}
 use Rattle.u_area.specs.declared.area.UArea.{UArea}
 use Rattle.proc_tab.specs.declared.row.Row.{Row}
 use Rattle.proc_tab.specs.Processes.{Processes, member_at, row_at, with_change, with_row}
-use Rattle.image_keep.specs.Kept.{Kept, keeping, with_image, with_area, area_of, image_of, clicks_of}
+use Rattle.image_keep.specs.Kept.{Kept, HasSizes, keeping, with_image, with_area, area_of, image_of, clicks_of}
 use Rattle.fs_nodes.specs.FileSystem.{IsFileSystem}
 use Rattle.sys_files.specs.Handed.{Handed, handed}
 use Rattle.sys_files.specs.Sound.{IsKept}
+use Rattle.sys_files.specs.Does.{Does}
 use Rattle.sys_files.proofs.Bounds.{Fits, HasAll, never_filled}
 use Rattle.sys_files.proofs.Steady.{Steady, Confined, close_all_fits, close_all_steady}
 use Rattle.sys_files.specs.Did.{Did}
 use Rattle.sys_files.specs.Descriptors.{close_all}
 use Rattle.sys_files.specs.declared.files.Files.{Files}
-use Rattle.sys_procs.proofs.Alive.{SameSizes, area_here}
+use Rattle.sys_procs.proofs.Alive.{area_here}
 use Rattle.unix_core.specs.declared.world.World.{World}
 use Rattle.unix_core.specs.Unix.{process_of}
 use Rattle.unix_core.specs.Calls.{handed_of, with_handed}
@@ -96,49 +98,77 @@ module _ (w w' : World) (s : ℕ) (u : UArea) (row : Row) (image : Image) (state
   pub leaves_shown : IsFileSystem w.files.tree.nodes → IsReadyToShow w w' s items
   leaves_shown form = ready_to_show w w' s ready u row image is_after form items leaves.fits has_all
 
--- A call on files, which works on what was lent to it, has left this u area, this row and this memory.
-module _ (w : World) (s : ℕ) (u : UArea) (r : Row) (m : Image) (ready : IsReady w s) (form : IsFileSystem w.files.tree.nodes) (none : (image_of w.procs.images s).text ≡ [])
-    (area : u ≡ area_of w.procs.images s) (row_is : r ≡ row_at w.procs.rows s) (image_is : m ≡ image_of w.procs.images s) where
-  pub lent_parts : handed w.files u r m ≡ given w s
-  lent_parts =
-      ap (λ (x : Row). handed w.files u x m) row_is
-      ∙ (ap (λ (x : Image). handed w.files u (row_at w.procs.rows s) x) image_is ∙ lent_is w s u ready form none area)
+-- What a call on files of the process in a slot is lent: its u area, its row and its memory.
+pub record IsLent (w : World) (s : ℕ) (u : UArea) (r : Row) (m : Image) : Type 0 where
+  pub ready : IsReady w s
+  pub form : IsFileSystem w.files.tree.nodes
+  pub sizes : HasSizes u (image_of w.procs.images s)
+  pub area : u ≡ area_of w.procs.images s
+  pub row : r ≡ row_at w.procs.rows s
+  pub image : m ≡ image_of w.procs.images s
 
-  pub call_leaves : (does : Handed → Did) (f : Files) (v : UArea) (row : Row) (image : Image) (cleared tape : Recording) (rows : Processes) (k : Kept)
-      → cleared ≡ record w.tape { entries = []; bytes = [] } → Confined (given w s) (does (given w s))
-      → handed f v row image ≡ (does (handed w.files u r m)).state
-      → Took (taken_on cleared) (does (handed w.files u r m)).items (taken_on tape)
-      → IsKept (handed w.files u r m) (handed f v row image)
-      → (tape.entry_room ≡ cleared.entry_room) × (tape.byte_room ≡ cleared.byte_room) → length v.files ≡ 15
-      → rows ≡ with_change w.procs.rows s (with_row row) → k ≡ with_area (with_image w.procs.images s image) s v
-      → Leaves w (record w { files = f; procs = record w.procs { rows = rows; images = k }; tape = tape }) s v row image
-      (does (given w s)).state (does (given w s)).items
-  call_leaves does f v row image cleared tape rows k clear confined state took kept rooms fifteen rows_are images = record {
-    kept = subst (λ (h : Handed). IsKept h (handed f v row image)) lent_parts kept;
-    is = state ∙ ap (λ h. (does h).state) lent_parts;
-    steady = confined.steady;
-    fits = confined.fits;
-    took = subst (λ (t : Recording). Took (taken_on t) (does (given w s)).items (taken_on tape)) clear
-        (subst (λ (h : Handed). Took (taken_on cleared) (does h).items (taken_on tape)) lent_parts took);
-    rooms = (rooms.0 ∙ ap (λ (t : Recording). t.entry_room) clear, rooms.1 ∙ ap (λ (t : Recording). t.byte_room) clear);
-    fifteen = fifteen;
-    rows = rows_are;
-    images = images;
-    table = refl;
-    switches = refl;
-    core = refl;
-  }
+pub lends : (w : World) (s : ℕ) {u : UArea} {r : Row} (before : Kept) (was : ℕ) → IsReady w s → IsFileSystem w.files.tree.nodes
+    → HasSizes u (image_of w.procs.images s) → u ≡ area_of w.procs.images s → r ≡ row_at w.procs.rows s → before ≡ w.procs.images → was ≡ s
+    → IsLent w s u r (image_of before was)
+lends w s {u} {r} before was ready form sizes area row images slot = record {
+  ready = ready;
+  form = form;
+  sizes = sizes;
+  area = area;
+  row = row;
+  image = ap (λ (k : Kept). image_of k was) images ∙ ap (image_of w.procs.images) slot;
+}
 
-  -- the sizes that are put back
-  pub sizes_left : (does : Handed → Did) (h : Handed) → Confined (given w s) (does (given w s)) → h ≡ (does (handed w.files u r m)).state → SameSizes h.u (area_of w.procs.images s)
-  sizes_left does h confined state =
-      let is : h ≡ (does (given w s)).state = state ∙ ap (λ x. (does x).state) lent_parts in
-      let old : (given w s).u ≡ area_of w.procs.images s = sym (ap (λ (x : Handed). x.u) lent_parts) ∙ area in
-      record {
-        text = ap (λ (x : Handed). x.u.text_size) is ∙ (confined.steady.area.text_size ∙ ap (λ (x : UArea). x.text_size) old);
-        «data» = ap (λ (x : Handed). x.u.data_size) is ∙ (confined.steady.area.data_size ∙ ap (λ (x : UArea). x.data_size) old);
-        stack = ap (λ (x : Handed). x.u.stack_size) is ∙ (confined.steady.area.stack_size ∙ ap (λ (x : UArea). x.stack_size) old);
-      }
+pub lent_parts : (w : World) (s : ℕ) {u : UArea} {r : Row} {m : Image} → IsLent w s u r m → handed w.files u r m ≡ given w s
+lent_parts w s {u} {r} {m} lent =
+    ap (λ (x : Row). handed w.files u x m) lent.row
+    ∙ (ap (λ (x : Image). handed w.files u (row_at w.procs.rows s) x) lent.image ∙ lent_is w s u lent.ready lent.form lent.sizes.text lent.area)
+
+-- A call on files of a process has done what its row says: the Unix is the row's, and what it shows stands on the tape.
+pub record HasDone (w w' : World) (s : ℕ) (a : Answer) (row : Did) : Type 0 where
+  pub answer : a ≡ row.answer
+  pub unix : unix_of w' ≡ with_handed (unix_of w) s row.state
+  pub shown : IsReadyToShow w w' s row.items
+
+-- It has worked on what it was lent, and has left this u area, this row and this memory.
+module _ (w : World) (s : ℕ) {u : UArea} {r : Row} {m : Image} (lent : IsLent w s u r m) (does : Handed → Did)
+    (confined : Confined (given w s) (does (given w s))) (cleared tape : Recording) (f : Files) (v : UArea) (row : Row) (image : Image) {a : Answer}
+    (done : Does (handed w.files u r m) (handed f v row image) a (taken_on cleared) (taken_on tape) (does (handed w.files u r m))) where
+  pub given_done : Does (given w s) (handed f v row image) a (taken_on cleared) (taken_on tape) (does (given w s))
+  given_done =
+      let P : Handed → Type 0 = λ h. Does h (handed f v row image) a (taken_on cleared) (taken_on tape) (does h) in
+      subst P (lent_parts w s lent) done
+
+  module _ (rows : Processes) (k : Kept) (clear : cleared ≡ record w.tape { entries = []; bytes = [] })
+      (rooms : (tape.entry_room ≡ cleared.entry_room) × (tape.byte_room ≡ cleared.byte_room)) (fifteen : length v.files ≡ 15)
+      (rows_are : rows ≡ with_change w.procs.rows s (with_row row)) (images : k ≡ with_area (with_image w.procs.images s image) s v) where
+    abbrev after : World
+    after = record w { files = f; procs = record w.procs { rows = rows; images = k }; tape = tape }
+
+    call_leaves : Leaves w after s v row image (does (given w s)).state (does (given w s)).items
+    call_leaves =
+        let P : Recording → Type 0 = λ t. Took (taken_on t) (does (given w s)).items (taken_on tape) in
+        record {
+          kept = given_done.kept;
+          is = given_done.state;
+          steady = confined.steady;
+          fits = confined.fits;
+          took = subst P clear given_done.items;
+          rooms = (rooms.0 ∙ ap (λ (t : Recording). t.entry_room) clear, rooms.1 ∙ ap (λ (t : Recording). t.byte_room) clear);
+          fifteen = fifteen;
+          rows = rows_are;
+          images = images;
+          table = refl;
+          switches = refl;
+          core = refl;
+        }
+
+    pub call_done : HasDone w after s a (does (given w s))
+    call_done = record {
+      answer = given_done.answer;
+      unix = leaves_unix w after s v row image _ _ lent.ready call_leaves;
+      shown = leaves_shown w after s v row image _ _ lent.ready call_leaves lent.form;
+    }
 
 -- Files that are closed, as what a call does. It answers nothing.
 abbrev pub closing : Handed → Did

@@ -8,17 +8,16 @@ use Rattle.pick_rules.specs.declared.row.Mode.{Mode}
 use Rattle.pick_rules.specs.declared.row.Mode.TheVariants.{User, Kernel, Idle}
 use Rattle.proc_tab.specs.declared.row.Row.{Row}
 use Rattle.proc_tab.specs.Processes.{row_at}
-use Rattle.image_keep.specs.Kept.{Kept, HasSizes, HasImage, image_of, area_of, with_image}
+use Rattle.image_keep.specs.Kept.{Kept, HasSizes, HasImage, image_of, with_image}
 use Rattle.image_keep.proofs.Frames.{image_alive, with_image_has, with_image_same}
-use Rattle.fs_nodes.specs.FileSystem.{IsFileSystem}
+use Rattle.sys_files.specs.declared.files.Files.{Files}
 use Rattle.sys_files.specs.Handed.{Handed, handed}
 use Rattle.sys_files.specs.Did.{Did}
 use Rattle.sys_files.proofs.Steady.{SameRow, Steady, Confined}
 use Rattle.sys_procs.proofs.Alive.{SameSizes, sizes_stay}
 use Rattle.unix_core.specs.declared.world.World.{World}
 use Rattle.unix_core.specs.Outside.{timed_area}
-use Rattle.unix_core.specs.Parts.{IsReady}
-use Rattle.unix_core.proofs.LeavingLemmas.{given, lent_parts}
+use Rattle.unix_core.proofs.LeavingLemmas.{given, IsLent, lent_parts}
 
 none_in : (xs : List ℕ) → length xs ≡ 0 → xs ≡ []
 none_in [] none = refl
@@ -33,35 +32,33 @@ sizes_kept u v m n has same long = record {
 }
 
 -- What a call on files of the process has left of its u area and of its memory.
-module _ (w : World) (s : ℕ) (u : UArea) (r : Row) (m : Image) (ready : IsReady w s)
-    (form : IsFileSystem w.files.tree.nodes) (sizes : HasSizes u (image_of w.procs.images s))
-    (area : u ≡ area_of w.procs.images s) (row_is : r ≡ row_at w.procs.rows s)
-    (image_is : m ≡ image_of w.procs.images s) where
-  steady_put : (does : Handed → Did) (h : Handed) → Confined (given w s) (does (given w s))
-      → h ≡ (does (handed w.files u r m)).state → Steady (handed w.files u r m) h
-  steady_put does h confined state =
-      let was : handed w.files u r m ≡ given w s = lent_parts w s u r m ready form sizes.text area row_is image_is in
-      let is : h ≡ (does (given w s)).state = state ∙ ap (λ x. (does x).state) was in
-      subst (λ x. Steady x h) (sym was) (subst (Steady (given w s)) (sym is) confined.steady)
+module _ (w : World) (s : ℕ) {u : UArea} {r : Row} {m : Image} (lent : IsLent w s u r m) (does : Handed → Did)
+    (confined : Confined (given w s) (does (given w s))) (f : Files) (v : UArea) (row : Row) (image : Image)
+    (state : handed f v row image ≡ (does (handed w.files u r m)).state) where
+  steady : Steady (handed w.files u r m) (handed f v row image)
+  steady =
+      let was : handed w.files u r m ≡ given w s = lent_parts w s lent in
+      let is : handed f v row image ≡ (does (given w s)).state = state ∙ ap (λ x. (does x).state) was in
+      let P : Handed → Type 0 = λ h. Steady h (handed f v row image) in
+      let Q : Handed → Type 0 = λ h. Steady (given w s) h in
+      subst P (sym was) (subst Q (sym is) confined.steady)
 
-  pub sizes_put : (does : Handed → Did) (h : Handed) → Confined (given w s) (does (given w s))
-      → h ≡ (does (handed w.files u r m)).state → HasSizes h.u h.image
-  sizes_put does h confined state =
-      let steady : Steady (handed w.files u r m) h = steady_put does h confined state in
-      sizes_kept u h.u m h.image (subst (HasSizes u) (sym image_is) sizes)
-      (record { text = steady.area.text_size; «data» = steady.area.data_size; stack = steady.area.stack_size })
-      steady.image
+  pub sizes_put : HasSizes v image
+  sizes_put =
+      let P : Image → Type 0 = λ x. HasSizes u x in
+      sizes_kept u v m image (subst P (sym lent.image) lent.sizes)
+      (record { text = steady.area.text_size; «data» = steady.area.data_size; stack = steady.area.stack_size }) steady.image
 
-  pub row_put : (does : Handed → Did) (h : Handed) → Confined (given w s) (does (given w s))
-      → h ≡ (does (handed w.files u r m)).state → SameRow (row_at w.procs.rows s) h.row
-  row_put does h confined state = subst (λ x. SameRow x h.row) row_is (steady_put does h confined state).row
+  -- The slot has its image when the memory has come back.
+  pub area_put : (now : Kept) → now ≡ with_image w.procs.images s image → HasImage now s × HasSizes v (image_of now s)
+  area_put now back =
+      let has : HasImage w.procs.images s = lent.ready.good.running s lent.ready.runs lent.ready.user in
+      let P : Kept → Type 0 = λ k. HasImage k s × HasSizes v (image_of k s) in
+      let Q : Image → Type 0 = λ x. HasSizes v x in
+      subst P (sym back) (with_image_has w.procs.images s s image has, subst Q (sym (with_image_same w.procs.images s image (image_alive w.procs.images s has))) sizes_put)
 
--- The slot has its image when the memory has come back.
-pub image_put : (k now : Kept) (s : ℕ) (m : Image) → now ≡ with_image k s m → HasImage k s → HasImage now s
-image_put k now s m back has = subst (λ x. HasImage x s) (sym back) (with_image_has k s s m has)
-
-pub image_is_put : (k now : Kept) (s : ℕ) (m : Image) → now ≡ with_image k s m → HasImage k s → image_of now s ≡ m
-image_is_put k now s m back has = ap (λ x. image_of x s) back ∙ with_image_same k s m (image_alive k s has)
+  pub row_put : SameRow (row_at w.procs.rows s) row
+  row_put = let P : Row → Type 0 = λ x. SameRow x row in subst P lent.row steady.row
 
 -- A tick leaves the sizes.
 same_timed : (mode : Mode) (u : UArea) → SameSizes (timed_area mode u) u

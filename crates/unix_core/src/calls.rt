@@ -7,7 +7,8 @@ ghost use Rattle.sys_files.specs.Handed as parts;
 ghost use Rattle.pick_rules.specs.Logged.{left_by};
 ghost use Rattle.sys_procs.specs.Agree.{answered};
 ghost use Rattle.sys_procs.specs.Handed.{handed, board, came, AreProcs, Calls};
-ghost use Rattle.sys_files.specs.Sound.{IsSound, IsKept};
+ghost use Rattle.sys_files.specs.Sound.{IsSound};
+ghost use Rattle.sys_files.specs.Does.{Does};
 ghost use Rattle.unix_core.specs.Errors.{error_number};
 ghost use Rattle.unix_core.specs.Calls.{file_call, process_call, count_of};
 ghost use Rattle.unix_core.specs.Parts.{row_of, process_row_of};
@@ -161,15 +162,9 @@ pub(crate) fn do_file_call<S: Space, T: Trace>(
     trace: &mut T,
 ) -> Answer
     requires sound { IsSound (parts.handed files.old u.old row.old (S.image space.old)) }
-    ensures answer { result
-        ≡ (row_of (file_call number) (parts.handed files.old u.old row.old (S.image space.old)) args now).answer }
-    ensures state { parts.handed files.new u.new row.new (S.image space.new)
-        ≡ (row_of (file_call number) (parts.handed files.old u.old row.old (S.image space.old)) args now).state }
-    ensures items { Took (T.taken trace.old)
-        (row_of (file_call number) (parts.handed files.old u.old row.old (S.image space.old)) args now).items
-        (T.taken trace.new) }
-    ensures kept { IsKept (parts.handed files.old u.old row.old (S.image space.old))
-        (parts.handed files.new u.new row.new (S.image space.new)) }
+    ensures does { Does (parts.handed files.old u.old row.old (S.image space.old))
+        (parts.handed files.new u.new row.new (S.image space.new)) result (T.taken trace.old) (T.taken trace.new)
+        (row_of (file_call number) (parts.handed files.old u.old row.old (S.image space.old)) args now) }
     ensures frame { T.leads_to trace.old trace.new }
     ensures memory { S.rest space.new ≡ S.rest space.old }
     ensures blocks { SameRest files.old.tree.nodes.blocks files.new.tree.nodes.blocks }

@@ -1,22 +1,8 @@
 use Rattle.std.proofs.Common.{refl}
-use Rattle.sys_files.specs.Handed.{handed}
-use Rattle.sys_files.proofs.PartLemmas.{did_answer, did_state, did_items}
+use Rattle.sys_files.proofs.DoesLemmas.{does_part}
 use Rattle.sys_files.proofs.making.mknod_at.Goals as goal
 
-pub returns-clause-answer : goal.returns-clause-answer
-returns-clause-answer g c =
-    did_answer _ (handed c.mknod-result.new.f c.args.u.now c.args.row.now (g.S.Space.image c.args.space.now))
-    c.mknod-result.result (c.mknod-result.ensures.did c.args.row.now) c.answer_of.result
-    (c.answer_of.ensures (handed c.mknod-result.new.f c.args.u.now c.args.row.now (g.S.Space.image c.args.space.now))
-    refl)
-
-pub returns-clause-state : goal.returns-clause-state
-returns-clause-state g c =
-    did_state _ (handed c.mknod-result.new.f c.args.u.now c.args.row.now (g.S.Space.image c.args.space.now))
-    c.mknod-result.result (c.mknod-result.ensures.did c.args.row.now)
-
-pub returns-clause-items : goal.returns-clause-items
-returns-clause-items g c =
-    did_items _ (handed c.mknod-result.new.f c.args.u.now c.args.row.now (g.S.Space.image c.args.space.now))
-    c.mknod-result.result (c.mknod-result.ensures.did c.args.row.now)
-    (g.T.Trace.taken c.args.trace.now)
+pub returns-clause-does : goal.returns-clause-does
+returns-clause-does g c =
+    does_part c.args.f.now c.mknod-result.new.f c.args.u.now c.args.row.now (g.S.Space.image c.args.space.now) c.mknod-result.result c.requires.sound
+    c.mknod-result.ensures.kept c.mknod-result.ensures.table (c.mknod-result.ensures.did c.args.row.now) (c.answer_of.ensures _ refl)

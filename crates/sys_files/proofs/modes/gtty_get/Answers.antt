@@ -1,31 +1,19 @@
-use Rattle.std.proofs.Common.{slice_index, refl, sym, ap, ◌∙◌}
-use Rattle.v6_base.proofs.Took.{took_nothing}
+use Rattle.std.proofs.Common.{slice_index, refl, sym, ◌∙◌}
 use Rattle.sys_files.specs.Handed.{Handed, handed}
-use Rattle.sys_files.specs.Did.{Did}
 use Rattle.sys_files.specs.Modes.{tells_modes}
-use Rattle.sys_files.proofs.ModesLemmas.{gtty_quiet}
+use Rattle.sys_files.proofs.DoesLemmas.{does_refused, does_as}
+use Rattle.sys_files.proofs.KeptLemmas.{kept_same}
 use Rattle.sys_files.proofs.modes.gtty_get.Goals as goal
 
-pub returns-in-Err-clause-items : goal.returns-in-Err-clause-items
-returns-in-Err-clause-items g c =
-    let h : Handed = handed c.args.f.now c.args.u.now c.args.row.now (g.S.Space.image c.args.space.now) in
-    took_nothing _ _ (gtty_quiet h (slice_index c.args.args 0))
-
-pub returns-clause-answer : goal.returns-clause-answer
-returns-clause-answer g c =
+pub returns-in-Err-clause-does : goal.returns-in-Err-clause-does
+returns-in-Err-clause-does g c =
     let image = g.S.Space.image c.args.space.now in
     let h : Handed = handed c.args.f.now c.args.u.now c.args.row.now image in
-    c.put_modes.ensures.answer h refl refl refl
-    ∙ sym (ap (λ (d : Did). d.answer) (c.in_default.ensures c.args.row.now image (tells_modes h (slice_index c.args.args 0))))
+    does_refused (sym (c.in-Err.ensures c.args.row.now image (tells_modes h (slice_index c.args.args 0)))) c.requires.sound
 
-pub returns-clause-state : goal.returns-clause-state
-returns-clause-state g c =
+pub returns-clause-does : goal.returns-clause-does
+returns-clause-does g c =
     let image = g.S.Space.image c.args.space.now in
     let h : Handed = handed c.args.f.now c.args.u.now c.args.row.now image in
-    c.put_modes.ensures.state h refl refl refl
-    ∙ sym (ap (λ (d : Did). d.state) (c.in_default.ensures c.args.row.now image (tells_modes h (slice_index c.args.args 0))))
-
-pub returns-clause-items : goal.returns-clause-items
-returns-clause-items g c =
-    let h : Handed = handed c.args.f.now c.args.u.now c.args.row.now (g.S.Space.image c.args.space.now) in
-    took_nothing _ _ (gtty_quiet h (slice_index c.args.args 0))
+    does_as (c.in_default.ensures c.args.row.now image (tells_modes h (slice_index c.args.args 0)) ∙ c.put_modes.ensures.did h refl refl refl)
+    (kept_same h _ c.requires.sound refl refl refl refl refl)

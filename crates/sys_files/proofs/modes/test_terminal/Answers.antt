@@ -3,7 +3,7 @@ use Rattle.v6_base.specs.declared.errno.Errno.{Errno}
 use Rattle.sys_files.specs.Handed.{Handed, handed}
 use Rattle.sys_files.specs.Did.{check}
 use Rattle.sys_files.proofs.AnyLemmas.{any_row, any_image}
-use Rattle.sys_files.proofs.StatusLemmas.{open_referred}
+use Rattle.sys_files.proofs.OffsetLemmas.{referred_there}
 use Rattle.sys_files.proofs.ModesLemmas.{terminal_is, terminal_refused}
 use Rattle.sys_files.proofs.modes.test_terminal.Goals as goal
 
@@ -21,7 +21,7 @@ pub test_device-requires : goal.test_device-requires
 test_device-requires c =
     let h : Handed = handed c.args.f.now c.args.u.now any_row any_image in
     record {
-      referenced = open_referred h c.in_ok-entry.entry c.file_of-file.result (c.requires.sound any_row any_image)
+      referenced = referred_there h c.in_ok-entry.entry c.file_of-file.result (c.requires.sound any_row any_image)
           (c.in_ok-entry.ensures.used (c.requires.sound any_row any_image).is_open) (c.file_of-file.ensures c.args.u.now any_row any_image);
     }
 

@@ -1,50 +1,24 @@
-use Rattle.std.proofs.Common.{slice_index, ap, ◌∙◌}
+use Rattle.std.proofs.Common.{slice_index, sym, ◌∙◌}
 use Rattle.v6_base.specs.Image.{Image}
 use Rattle.sys_files.specs.Handed.{Handed, handed}
-use Rattle.sys_files.specs.Did.{Did}
+use Rattle.sys_files.proofs.DoesLemmas.{does_refused, does_kept}
 use Rattle.sys_files.proofs.OffsetLemmas.{is_file_of}
-use Rattle.sys_files.proofs.ReadLemmas.{read_refused, read_not_open, read_done, kept_by_read, took_by_read}
+use Rattle.sys_files.proofs.ReadLemmas.{read_refused, read_not_open, read_done, read_kept}
 use Rattle.sys_files.proofs.moving.read_file.Goals as goal
 
-pub returns-in-Err-clause-answer : goal.returns-in-Err-clause-answer
-returns-in-Err-clause-answer g c =
+pub returns-in-Err-clause-does : goal.returns-in-Err-clause-does
+returns-in-Err-clause-does g c =
     let image : Image = g.S.Space.image c.args.space.now in
     let h : Handed = handed c.args.f.now c.args.u.now c.args.row.now image in
-    ap (λ (d : Did). d.answer) (read_refused h (slice_index c.args.args 0) (slice_index c.args.args 1) c.args.now c.in-Err.e
-    (c.in-Err.ensures.entry c.args.row.now image))
+    does_refused (read_refused h (slice_index c.args.args 0) (slice_index c.args.args 1) c.args.now c.in-Err.e
+    (c.in-Err.ensures.entry c.args.row.now image)) c.requires.sound
 
-pub returns-in-Err-clause-state : goal.returns-in-Err-clause-state
-returns-in-Err-clause-state g c =
+pub returns-then-not-file-clause-does : goal.returns-then-not-file-clause-does
+returns-then-not-file-clause-does g c =
     let image : Image = g.S.Space.image c.args.space.now in
     let h : Handed = handed c.args.f.now c.args.u.now c.args.row.now image in
-    ap (λ (d : Did). d.state) (read_refused h (slice_index c.args.args 0) (slice_index c.args.args 1) c.args.now c.in-Err.e
-    (c.in-Err.ensures.entry c.args.row.now image))
-
-pub returns-in-Err-clause-items : goal.returns-in-Err-clause-items
-returns-in-Err-clause-items g c =
-    let image : Image = g.S.Space.image c.args.space.now in
-    let h : Handed = handed c.args.f.now c.args.u.now c.args.row.now image in
-    took_by_read h (slice_index c.args.args 0) (slice_index c.args.args 1) c.args.now _
-
-pub returns-then-not-file-clause-answer : goal.returns-then-not-file-clause-answer
-returns-then-not-file-clause-answer g c =
-    let image : Image = g.S.Space.image c.args.space.now in
-    let h : Handed = handed c.args.f.now c.args.u.now c.args.row.now image in
-    ap (λ (d : Did). d.answer) (read_not_open h (slice_index c.args.args 0) (slice_index c.args.args 1) c.args.now c.in-Ok.entry c.file_of-file.result
-    (c.in-Ok.ensures.entry c.args.row.now image) (c.file_of-file.ensures c.args.u.now c.args.row.now image) c.if-not-file.true)
-
-pub returns-then-not-file-clause-state : goal.returns-then-not-file-clause-state
-returns-then-not-file-clause-state g c =
-    let image : Image = g.S.Space.image c.args.space.now in
-    let h : Handed = handed c.args.f.now c.args.u.now c.args.row.now image in
-    ap (λ (d : Did). d.state) (read_not_open h (slice_index c.args.args 0) (slice_index c.args.args 1) c.args.now c.in-Ok.entry c.file_of-file.result
-    (c.in-Ok.ensures.entry c.args.row.now image) (c.file_of-file.ensures c.args.u.now c.args.row.now image) c.if-not-file.true)
-
-pub returns-then-not-file-clause-items : goal.returns-then-not-file-clause-items
-returns-then-not-file-clause-items g c =
-    let image : Image = g.S.Space.image c.args.space.now in
-    let h : Handed = handed c.args.f.now c.args.u.now c.args.row.now image in
-    took_by_read h (slice_index c.args.args 0) (slice_index c.args.args 1) c.args.now _
+    does_refused (read_not_open h (slice_index c.args.args 0) (slice_index c.args.args 1) c.args.now c.in-Ok.entry c.file_of-file.result
+    (c.in-Ok.ensures.entry c.args.row.now image) (c.file_of-file.ensures c.args.u.now c.args.row.now image) c.if-not-file.true) c.requires.sound
 
 pub read_from-requires : goal.read_from-requires
 read_from-requires g c =
@@ -54,30 +28,10 @@ read_from-requires g c =
           (c.file_of-file.ensures c.args.u.now c.args.row.now image);
     }
 
-pub returns-clause-answer : goal.returns-clause-answer
-returns-clause-answer g c =
+pub returns-clause-does : goal.returns-clause-does
+returns-clause-does g c =
     let image : Image = g.S.Space.image c.args.space.now in
     let h : Handed = handed c.args.f.now c.args.u.now c.args.row.now image in
-    c.read_from.ensures.answer c.args.row.now
-    ∙ ap (λ (d : Did). d.answer) (read_done h (slice_index c.args.args 0) (slice_index c.args.args 1) c.args.now c.in-Ok.entry c.file_of-file.result
+    does_kept (sym (read_done h (slice_index c.args.args 0) (slice_index c.args.args 1) c.args.now c.in-Ok.entry c.file_of-file.result
     (c.in-Ok.ensures.entry c.args.row.now image) (c.file_of-file.ensures c.args.u.now c.args.row.now image) c.if-not-file.false)
-
-pub returns-clause-state : goal.returns-clause-state
-returns-clause-state g c =
-    let image : Image = g.S.Space.image c.args.space.now in
-    let h : Handed = handed c.args.f.now c.args.u.now c.args.row.now image in
-    c.read_from.ensures.state c.args.row.now
-    ∙ ap (λ (d : Did). d.state) (read_done h (slice_index c.args.args 0) (slice_index c.args.args 1) c.args.now c.in-Ok.entry c.file_of-file.result
-    (c.in-Ok.ensures.entry c.args.row.now image) (c.file_of-file.ensures c.args.u.now c.args.row.now image) c.if-not-file.false)
-
-pub returns-clause-items : goal.returns-clause-items
-returns-clause-items g c =
-    let image : Image = g.S.Space.image c.args.space.now in
-    let h : Handed = handed c.args.f.now c.args.u.now c.args.row.now image in
-    took_by_read h (slice_index c.args.args 0) (slice_index c.args.args 1) c.args.now _
-
-pub returns-clause-kept : goal.returns-clause-kept
-returns-clause-kept g c =
-    let image : Image = g.S.Space.image c.args.space.now in
-    let h : Handed = handed c.args.f.now c.args.u.now c.args.row.now image in
-    kept_by_read h _ (slice_index c.args.args 0) (slice_index c.args.args 1) c.args.now c.requires.sound (returns-clause-state g c)
+    ∙ c.read_from.ensures.did c.args.row.now) (read_kept h (slice_index c.args.args 0) (slice_index c.args.args 1) c.args.now c.requires.sound)

@@ -1,52 +1,24 @@
-use Rattle.std.proofs.Common.{slice_index, refl, ap, ◌∙◌}
+use Rattle.std.proofs.Common.{slice_index}
 use Rattle.v6_base.specs.Image.{Image}
 use Rattle.sys_files.specs.Handed.{Handed, handed}
-use Rattle.sys_files.specs.Did.{Did}
+use Rattle.sys_files.proofs.DoesLemmas.{does_refused, does_by}
 use Rattle.sys_files.proofs.OffsetLemmas.{is_file_of}
-use Rattle.sys_files.proofs.WriteLemmas.{write_refused, write_not_open, write_done, kept_by_write, took_as, took_nothing_as}
+use Rattle.sys_files.proofs.WriteLemmas.{write_refused, write_not_open, write_done, write_kept}
 use Rattle.sys_files.proofs.moving.write_file.Goals as goal
 
-pub returns-in-Err-clause-answer : goal.returns-in-Err-clause-answer
-returns-in-Err-clause-answer g c =
+pub returns-in-Err-clause-does : goal.returns-in-Err-clause-does
+returns-in-Err-clause-does g c =
     let image : Image = g.S.Space.image c.args.space.now in
     let h : Handed = handed c.args.f.now c.args.u.now c.args.row.now image in
-    ap (λ (d : Did). d.answer) (write_refused h (slice_index c.args.args 0) (slice_index c.args.args 1) c.args.now c.in-Err.e
-    (c.in-Err.ensures.entry c.args.row.now image))
+    does_refused (write_refused h (slice_index c.args.args 0) (slice_index c.args.args 1) c.args.now c.in-Err.e
+    (c.in-Err.ensures.entry c.args.row.now image)) c.requires.sound
 
-pub returns-in-Err-clause-state : goal.returns-in-Err-clause-state
-returns-in-Err-clause-state g c =
+pub returns-then-not-file-clause-does : goal.returns-then-not-file-clause-does
+returns-then-not-file-clause-does g c =
     let image : Image = g.S.Space.image c.args.space.now in
     let h : Handed = handed c.args.f.now c.args.u.now c.args.row.now image in
-    ap (λ (d : Did). d.state) (write_refused h (slice_index c.args.args 0) (slice_index c.args.args 1) c.args.now c.in-Err.e
-    (c.in-Err.ensures.entry c.args.row.now image))
-
-pub returns-in-Err-clause-items : goal.returns-in-Err-clause-items
-returns-in-Err-clause-items g c =
-    let image : Image = g.S.Space.image c.args.space.now in
-    let h : Handed = handed c.args.f.now c.args.u.now c.args.row.now image in
-    took_nothing_as _ _ _ (write_refused h (slice_index c.args.args 0) (slice_index c.args.args 1) c.args.now c.in-Err.e
-    (c.in-Err.ensures.entry c.args.row.now image)) refl
-
-pub returns-then-not-file-clause-answer : goal.returns-then-not-file-clause-answer
-returns-then-not-file-clause-answer g c =
-    let image : Image = g.S.Space.image c.args.space.now in
-    let h : Handed = handed c.args.f.now c.args.u.now c.args.row.now image in
-    ap (λ (d : Did). d.answer) (write_not_open h (slice_index c.args.args 0) (slice_index c.args.args 1) c.args.now c.in-Ok.entry c.file_of-file.result
-    (c.in-Ok.ensures.entry c.args.row.now image) (c.file_of-file.ensures c.args.u.now c.args.row.now image) c.if-not-file.true)
-
-pub returns-then-not-file-clause-state : goal.returns-then-not-file-clause-state
-returns-then-not-file-clause-state g c =
-    let image : Image = g.S.Space.image c.args.space.now in
-    let h : Handed = handed c.args.f.now c.args.u.now c.args.row.now image in
-    ap (λ (d : Did). d.state) (write_not_open h (slice_index c.args.args 0) (slice_index c.args.args 1) c.args.now c.in-Ok.entry c.file_of-file.result
-    (c.in-Ok.ensures.entry c.args.row.now image) (c.file_of-file.ensures c.args.u.now c.args.row.now image) c.if-not-file.true)
-
-pub returns-then-not-file-clause-items : goal.returns-then-not-file-clause-items
-returns-then-not-file-clause-items g c =
-    let image : Image = g.S.Space.image c.args.space.now in
-    let h : Handed = handed c.args.f.now c.args.u.now c.args.row.now image in
-    took_nothing_as _ _ _ (write_not_open h (slice_index c.args.args 0) (slice_index c.args.args 1) c.args.now c.in-Ok.entry c.file_of-file.result
-    (c.in-Ok.ensures.entry c.args.row.now image) (c.file_of-file.ensures c.args.u.now c.args.row.now image) c.if-not-file.true) refl
+    does_refused (write_not_open h (slice_index c.args.args 0) (slice_index c.args.args 1) c.args.now c.in-Ok.entry c.file_of-file.result
+    (c.in-Ok.ensures.entry c.args.row.now image) (c.file_of-file.ensures c.args.u.now c.args.row.now image) c.if-not-file.true) c.requires.sound
 
 pub write_to-requires : goal.write_to-requires
 write_to-requires g c =
@@ -56,32 +28,11 @@ write_to-requires g c =
           (c.file_of-file.ensures c.args.u.now c.args.row.now image);
     }
 
-pub returns-clause-answer : goal.returns-clause-answer
-returns-clause-answer g c =
+pub returns-clause-does : goal.returns-clause-does
+returns-clause-does g c =
     let image : Image = g.S.Space.image c.args.space.now in
     let h : Handed = handed c.args.f.now c.args.u.now c.args.row.now image in
-    c.write_to.ensures.answer c.args.row.now
-    ∙ ap (λ (d : Did). d.answer) (write_done h (slice_index c.args.args 0) (slice_index c.args.args 1) c.args.now c.in-Ok.entry c.file_of-file.result
+    does_by _ (write_done h (slice_index c.args.args 0) (slice_index c.args.args 1) c.args.now c.in-Ok.entry c.file_of-file.result
     (c.in-Ok.ensures.entry c.args.row.now image) (c.file_of-file.ensures c.args.u.now c.args.row.now image) c.if-not-file.false)
-
-pub returns-clause-state : goal.returns-clause-state
-returns-clause-state g c =
-    let image : Image = g.S.Space.image c.args.space.now in
-    let h : Handed = handed c.args.f.now c.args.u.now c.args.row.now image in
-    c.write_to.ensures.state c.args.row.now
-    ∙ ap (λ (d : Did). d.state) (write_done h (slice_index c.args.args 0) (slice_index c.args.args 1) c.args.now c.in-Ok.entry c.file_of-file.result
-    (c.in-Ok.ensures.entry c.args.row.now image) (c.file_of-file.ensures c.args.u.now c.args.row.now image) c.if-not-file.false)
-
-pub returns-clause-items : goal.returns-clause-items
-returns-clause-items g c =
-    let image : Image = g.S.Space.image c.args.space.now in
-    let h : Handed = handed c.args.f.now c.args.u.now c.args.row.now image in
-    took_as _ _ _ _ (write_done h (slice_index c.args.args 0) (slice_index c.args.args 1) c.args.now c.in-Ok.entry c.file_of-file.result
-    (c.in-Ok.ensures.entry c.args.row.now image) (c.file_of-file.ensures c.args.u.now c.args.row.now image) c.if-not-file.false)
-    (c.write_to.ensures.items c.args.row.now)
-
-pub returns-clause-kept : goal.returns-clause-kept
-returns-clause-kept g c =
-    let image : Image = g.S.Space.image c.args.space.now in
-    let h : Handed = handed c.args.f.now c.args.u.now c.args.row.now image in
-    kept_by_write h _ (slice_index c.args.args 0) (slice_index c.args.args 1) c.args.now c.requires.sound (returns-clause-state g c)
+    (c.write_to.ensures.answer c.args.row.now) (c.write_to.ensures.state c.args.row.now) (c.write_to.ensures.items c.args.row.now)
+    (write_kept h (slice_index c.args.args 0) (slice_index c.args.args 1) c.args.now c.requires.sound)

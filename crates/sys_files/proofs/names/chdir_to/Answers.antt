@@ -1,8 +1,9 @@
 use Rattle.std.proofs.Common.{rules, slice_index, refl}
 use Rattle.fs_tree.specs.Name.{name_at}
 use Rattle.fs_tree.specs.Finding.{inodes_of}
-use Rattle.sys_files.specs.Handed.{user_of}
-use Rattle.sys_files.proofs.NamesLemmas.{can_be_more, chdir_ends}
+use Rattle.sys_files.specs.Handed.{Handed, handed, user_of}
+use Rattle.sys_files.proofs.DoesLemmas.{does_named}
+use Rattle.sys_files.proofs.NamesLemmas.{can_be_more, chdir_kept}
 use Rattle.sys_files.proofs.names.chdir_to.Goals as goal
 
 pub enter_directory-answer-requires-clause-few : goal.enter_directory-answer-requires-clause-few
@@ -11,12 +12,14 @@ enter_directory-answer-requires-clause-few g c =
     (user_of c.args.u.now) c.args.u.now.dir (name_at (g.S.Space.image c.args.space.now)
     (slice_index c.args.args 0)) c.in-Ok.ino c.requires.sound.few c.find_name.ensures.inodes
 
-pub returns-in-Err-clause-kept : goal.returns-in-Err-clause-kept
-returns-in-Err-clause-kept g c =
-    chdir_ends c.args.f.now.tree.nodes _ _
-    (slice_index c.args.args 0) refl c.find_name.ensures.form c.requires.sound (search rules)
+pub returns-in-Err-clause-does : goal.returns-in-Err-clause-does
+returns-in-Err-clause-does g c =
+    let h : Handed = handed c.args.f.now c.args.u.now c.args.row.now (g.S.Space.image c.args.space.now) in
+    does_named c.args.f.now.tree.nodes h (slice_index c.args.args 0) refl c.find_name.ensures.form c.requires.sound
+    (chdir_kept h (slice_index c.args.args 0)) (search rules) (search rules) (search rules)
 
-pub returns-clause-kept : goal.returns-clause-kept
-returns-clause-kept g c =
-    chdir_ends c.args.f.now.tree.nodes _ _
-    (slice_index c.args.args 0) refl c.find_name.ensures.form c.requires.sound (search rules)
+pub returns-clause-does : goal.returns-clause-does
+returns-clause-does g c =
+    let h : Handed = handed c.args.f.now c.args.u.now c.args.row.now (g.S.Space.image c.args.space.now) in
+    does_named c.args.f.now.tree.nodes h (slice_index c.args.args 0) refl c.find_name.ensures.form c.requires.sound
+    (chdir_kept h (slice_index c.args.args 0)) (search rules) (search rules) (search rules)

@@ -1,5 +1,6 @@
-use Rattle.std.proofs.Common.{◌∙◌, refl, sym, ap}
+use Rattle.std.proofs.Common.{rules, ◌∙◌, refl, sym, ap}
 use Rattle.v6_base.specs.Image.{Image}
+use Rattle.v6_base.specs.declared.answer.Answer.TheVariants.{Ret}
 use Rattle.u_area.specs.declared.area.UArea.{UArea}
 use Rattle.proc_tab.specs.declared.row.Row.{Row}
 use Rattle.proc_tab.specs.Processes.{row_at}
@@ -9,7 +10,7 @@ use Rattle.unix_core.specs.declared.world.World.{World}
 use Rattle.unix_core.proofs.WorldLemmas.{sound_parts}
 use Rattle.unix_core.proofs.LoanLemmas.{row_back, area_alone}
 use Rattle.unix_core.proofs.LoanBack.{sizes_put}
-use Rattle.unix_core.proofs.LeavingLemmas.{given, area_is, call_leaves, closing, closing_confined, leaves_unix, leaves_shown}
+use Rattle.unix_core.proofs.LeavingLemmas.{given, area_is, lends, call_done, closing, closing_confined}
 use Rattle.unix_core.proofs.onfiles.close_files.Goals as goal
 
 pub area-u-requires : goal.area-u-requires
@@ -25,36 +26,30 @@ close_all-requires c =
           refl (ap (λ (u : UArea). u.files) area) (ap (λ (u : UArea). u.dir) area) refl;
     }
 
-pub set_area-requires-clause-image : goal.set_area-requires-clause-image
-set_area-requires-clause-image c = c.requires.good.running c.args.s c.requires.runs c.requires.user
-
-pub set_area-requires-clause-sizes : goal.set_area-requires-clause-sizes
-set_area-requires-clause-sizes c =
+pub set_area-requires : goal.set_area-requires
+set_area-requires c =
     let w : World = c.args.world.now in
     let row : Row = row_at w.procs.rows c.args.s in
     let image : Image = image_of w.procs.images c.args.s in
-    sizes_put w c.args.s c.area-u.result row image c.requires c.see_nodes.ensures c.area-u.ensures.sizes c.area-u.ensures.u refl refl
-    closing (handed c.close_all.new.f c.close_all.new.u row image) (closing_confined (given w c.args.s)) (c.close_all.ensures.state row image)
+    let lent = lends w c.args.s {r = row} w.procs.images c.args.s c.requires c.see_nodes.ensures c.area-u.ensures.sizes c.area-u.ensures.u refl refl refl in
+    record {
+      image = c.requires.good.running c.args.s c.requires.runs c.requires.user;
+      sizes = sizes_put w c.args.s lent closing (closing_confined (given w c.args.s)) c.close_all.new.f c.close_all.new.u row image (c.close_all.ensures.state row image);
+    }
 
-pub returns-clause-unix : goal.returns-clause-unix
-returns-clause-unix c =
+pub returns : goal.returns
+returns c =
     let w : World = c.args.world.now in
     let row : Row = row_at w.procs.rows c.args.s in
     let image : Image = image_of w.procs.images c.args.s in
-    leaves_unix w _ c.args.s c.close_all.new.u row image _ _ c.requires
-    (call_leaves w c.args.s c.area-u.result row image c.requires c.see_nodes.ensures c.area-u.ensures.sizes.text c.area-u.ensures.u refl refl
-    closing c.close_all.new.f c.close_all.new.u row image c.clear.new.self c.close_all.new.trace w.procs.rows c.set_area.new.self c.clear.ensures (closing_confined (given w c.args.s))
-    (c.close_all.ensures.state row image) (c.close_all.ensures.items row image) (c.close_all.ensures.kept row image) c.close_all.ensures.frame c.see_numbers.ensures
-    (sym (row_back w.procs.rows c.args.s)) (c.set_area.ensures ∙ area_alone w.procs.images c.args.s c.close_all.new.u))
-
-pub returns-clause-shown : goal.returns-clause-shown
-returns-clause-shown c =
-    let w : World = c.args.world.now in
-    let row : Row = row_at w.procs.rows c.args.s in
-    let image : Image = image_of w.procs.images c.args.s in
-    leaves_shown w _ c.args.s c.close_all.new.u row image _ _ c.requires
-    (call_leaves w c.args.s c.area-u.result row image c.requires c.see_nodes.ensures c.area-u.ensures.sizes.text c.area-u.ensures.u refl refl
-    closing c.close_all.new.f c.close_all.new.u row image c.clear.new.self c.close_all.new.trace w.procs.rows c.set_area.new.self c.clear.ensures (closing_confined (given w c.args.s))
-    (c.close_all.ensures.state row image) (c.close_all.ensures.items row image) (c.close_all.ensures.kept row image) c.close_all.ensures.frame c.see_numbers.ensures
-    (sym (row_back w.procs.rows c.args.s)) (c.set_area.ensures ∙ area_alone w.procs.images c.args.s c.close_all.new.u))
-    c.see_nodes.ensures
+    let lent = lends w c.args.s {r = row} w.procs.images c.args.s c.requires c.see_nodes.ensures c.area-u.ensures.sizes c.area-u.ensures.u refl refl refl in
+    let done = call_done w c.args.s lent closing (closing_confined (given w c.args.s)) c.clear.new.self c.close_all.new.trace c.close_all.new.f c.close_all.new.u row image
+    {a = Ret 0 0}
+    (record {
+      answer = refl;
+      state = c.close_all.ensures.state row image;
+      items = c.close_all.ensures.items row image;
+      kept = c.close_all.ensures.kept row image;
+    }) w.procs.rows c.set_area.new.self c.clear.ensures c.close_all.ensures.frame c.see_numbers.ensures
+    (sym (row_back w.procs.rows c.args.s)) (c.set_area.ensures ∙ area_alone w.procs.images c.args.s c.close_all.new.u) in
+    record { unix = done.unix; shown = done.shown; rest = search rules }
