@@ -22,11 +22,12 @@ use Rattle.sys_procs.specs.Resume.{awake, resume_proc}
 use Rattle.sys_procs.specs.Times.{until_of}
 use Rattle.unix_core.specs.Unix.{Unix, process_of, with_process}
 use Rattle.unix_core.specs.Steps.{Steps, no_room}
-use Rattle.unix_core.specs.Calls.{handed_of, world_of, with_area, entered_area, words_passed, asked, forks, is_full, has_room, fork_if_room, FileCall, file_calls, file_call, ProcessCall, process_calls, process_call, by_process_row, by_file_row, does_call, count_of, does_if_built, system_call, resumed}
+use Rattle.unix_core.specs.Calls.{handed_of, world_of, with_area, entered_area, words_passed, asked, forks, is_full, has_room, fork_if_room, FileCall, file_call, ProcessCall, process_calls, process_call, by_process_row, by_file_row, does_call, count_of, does_if_built, system_call, resumed}
 use Rattle.unix_core.specs.Turn.{machine_of, with_machine, faults, comes_to, instruction, is_user, turn}
 use Rattle.run_laws.proofs.Sitting.{seat_for, seats_in, seats_of, found_in, runner_seat, runner_alive, put_in, kept_in, changed_in}
 use Rattle.run_laws.proofs.Steps.{AptSteps, unbuilt_apt, roomless_apt, returns_apt, came_apt}
-use Rattle.run_laws.proofs.Quiet.{Calm, same_call, read_calm, write_calm, open_calm, close_calm, creat_calm, link_calm, unlink_calm, chdir_calm, mknod_calm, chmod_calm, chown_calm, stat_calm, seek_calm, stat_open_calm, stty_calm, gtty_calm, sync_calm, dup_calm, resume_calm}
+use Rattle.run_laws.proofs.Quiet.{Calm, same_call, calm_walks, resume_calm}
+use Rattle.unix_core.proofs.FileLemmas.{found_row}
 use Rattle.run_laws.proofs.Rows.{FineComes, Calling, if_fine, time_fine, pid_fine, set_uid_fine, get_uid_fine, set_time_fine, no_op_fine, nice_fine, sleep_fine, switches_fine, times_fine, set_gid_fine, get_gid_fine, until_fine}
 use Rattle.run_laws.proofs.Children.{wait_fine, fork_fine}
 use Rattle.run_laws.proofs.Ending.{did_apt, no_pending, exits_apt}
@@ -50,54 +51,9 @@ found_one P test (y ∷ xs) x h e = by (test y) e (found_one P test xs x h.1)
 IsCalm : FileCall → Type 0
 IsCalm c = (h : Handed) (args : List ℕ) (now : ℕ) → Calm h.u (c.does h args now)
 
-each_calm : Each IsCalm file_calls
+found_calm : (number : ℕ) (c : FileCall) → file_call number ≡ Some c → IsCalm c
 unfolding IsCalm
-each_calm = (
-  λ h a now. read_calm h (slice_index a 0) (slice_index a 1) now,
-  (
-    λ h a now. write_calm h (slice_index a 0) (slice_index a 1) now,
-    (
-      λ h a now. open_calm h (slice_index a 0) (slice_index a 1),
-      (
-        λ h a now. close_calm h,
-        (
-          λ h a now. creat_calm h (slice_index a 0) (slice_index a 1) now,
-          (
-            λ h a now. link_calm h (slice_index a 0) (slice_index a 1) now,
-            (
-              λ h a now. unlink_calm h (slice_index a 0) now,
-              (
-                λ h a now. chdir_calm h (slice_index a 0),
-                (
-                  λ h a now. mknod_calm h (slice_index a 0) (slice_index a 1) (slice_index a 2) now,
-                  (
-                    λ h a now. chmod_calm h (slice_index a 0) (slice_index a 1) now,
-                    (
-                      λ h a now. chown_calm h (slice_index a 0) (slice_index a 1) now,
-                      (
-                        λ h a now. stat_calm h (slice_index a 0) (slice_index a 1),
-                        (
-                          λ h a now. seek_calm h (slice_index a 0) (slice_index a 1),
-                          (
-                            λ h a now. stat_open_calm h (slice_index a 0),
-                            (
-                              λ h a now. stty_calm h (slice_index a 0),
-                              (λ h a now. gtty_calm h (slice_index a 0), (λ h a now. sync_calm h now, (λ h a now. dup_calm h, tt))),
-                            ),
-                          ),
-                        ),
-                      ),
-                    ),
-                  ),
-                ),
-              ),
-            ),
-          ),
-        ),
-      ),
-    ),
-  ),
-)
+found_calm number c is h a now = found_row (calm_walks h.u) number c is h a now tt (same_call h.u)
 
 -- a row of a call on processes
 IsFine : ProcessCall → Type 0
@@ -190,7 +146,7 @@ module _ (s : ℕ) (seen : Seen) where
       if_apt (number == 2) _ _ (fork_apt u i) (
       if_apt (number == 11) _ _ (tried_apt s seen u _ (exec_fine s seen (world_of u) (slice_index args 0) (slice_index args 1) i)) (
       if_apt (number == 17) _ _ (tried_apt s seen u _ (break_fine s seen (world_of u) (slice_index args 0) i))
-      (file_row_apt u args (file_call number) (process_call number) (λ c e. found_one IsCalm (λ (c : FileCall). c.number == number) file_calls c each_calm e)
+      (file_row_apt u args (file_call number) (process_call number) (found_calm number)
       (λ c e. found_one IsFine (λ (c : ProcessCall). c.number == number) process_calls c each_fine e) i)))))
 
   built_apt : (u : Unix) (count : Option ℕ) (number : ℕ) → Calling s (world_of u) seen
