@@ -3,6 +3,7 @@ pub mod Tables
 pub mod Agreement
 pub mod Alive
 pub mod Shown
+pub mod Dones
 pub mod IdsLemmas
 pub mod TimesLemmas
 pub mod MemoryLemmas
@@ -10,6 +11,7 @@ pub mod Places
 pub mod Ends
 pub mod Graves
 pub mod Forks
+pub mod ForkPlaces
 pub mod ResumeLemmas
 pub mod StackRows
 pub mod BreakRows

@@ -275,6 +275,7 @@ fn load<T: Trace>(
     ensures marks { tree.new.marks ≡ tree.old.marks }
     ensures blocks { SameRest tree.old.nodes.blocks tree.new.nodes.blocks }
 {
+    see(p, s);
     match unplaced(p, s, program) {
         Some(kind) => {
             leave_place(p, s, trace);

@@ -1,13 +1,12 @@
-use Rattle.std.proofs.Common.{◌∙◌, sym}
+use Rattle.std.proofs.Common.{◌≡◌, ◌∙◌, refl, sym}
 use Rattle.sys_procs.specs.World.{World}
 use Rattle.sys_procs.specs.Handed.{handed}
-use Rattle.sys_procs.specs.Ids.{set_gid}
-use Rattle.sys_procs.proofs.Shown.{says_none, its_state}
+use Rattle.sys_procs.proofs.Dones.{done_none}
 use Rattle.sys_procs.proofs.IdsLemmas.{gid_taken}
 use Rattle.sys_procs.proofs.ids.set_gid.Goals as goal
 
-pub returns-clause-state : goal.returns-clause-state
-returns-clause-state g c =
+pub returns-clause-does : goal.returns-clause-does
+returns-clause-does g c =
     let w : World = handed c.args.p.now c.args.tree.now.nodes in
-    let is = gid_taken w c.args.s c.area-u.result c.area-u.ensures (sym c.may_take.ensures ∙ c.if-not-may_take.false) in
-    c.set_group.ensures.state c.args.tree.now.nodes ∙ its_state (says_none c.args.p.now (set_gid w c.args.s) _ _ is)
+    done_none _ _ (sym (gid_taken w c.args.s c.area-u.result c.area-u.ensures (sym c.may_take.ensures ∙ c.if-not-may_take.false))) refl
+    (c.set_group.ensures.state c.args.tree.now.nodes) c.set_group.ensures.board
