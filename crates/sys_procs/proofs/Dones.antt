@@ -1,19 +1,24 @@
 -- What a call has done, from what it shows and from what it leaves.
-use Rattle.std.proofs.Common.{◌≡◌, ◌∙◌, ℕ, Bool, true, false, Option, Some, None, Result, Ok, Err, refl, sym, ap, subst}
+use Rattle.std.proofs.Common.{◌≡◌, ◌∙◌, ◌<◌, ℕ, Bool, true, false, List, length, get_or, Option, Some, None, Result, Ok, Err, refl, sym, ap, subst, arith}
 use Rattle.v6_base.specs.Trace.{Taken, Took}
 use Rattle.v6_base.specs.declared.answer.Answer.{Answer}
+use Rattle.v6_base.specs.declared.answer.Answer.TheVariants.{Ret}
 use Rattle.v6_base.specs.declared.entry.PanicKind.{PanicKind}
 use Rattle.v6_base.proofs.Took.{took_none}
 use Rattle.pick_rules.specs.Effects.{kind_of}
 use Rattle.pick_rules.specs.Logged.{Logged, Stop, left_by}
 use Rattle.fs_nodes.specs.FileSystem.{FileSystem}
 use Rattle.sys_procs.specs.declared.procs.Procs.{Procs}
-use Rattle.sys_procs.specs.World.{World}
-use Rattle.sys_procs.specs.Comes.{Comes, comes}
+use Rattle.u_area.specs.declared.area.UArea.{UArea}
+use Rattle.sys_procs.specs.Process.{Process}
+use Rattle.sys_procs.specs.World.{World, process_of, change}
+use Rattle.sys_procs.specs.Comes.{Comes, comes, returns}
 use Rattle.sys_procs.specs.Break.{grown_by}
 use Rattle.sys_procs.specs.Agree.{answered, ended_by}
-use Rattle.sys_procs.specs.Handed.{board, came, handed}
+use Rattle.sys_procs.specs.Handed.{IsAlive, board, came, handed}
 use Rattle.sys_procs.specs.Done.{HasDone, HasLeft, HasEnded, HasGrown}
+use Rattle.sys_procs.proofs.Slots.{fifty_processes}
+use Rattle.sys_procs.proofs.Alive.{put_here}
 
 -- by what the log says
 pub left_logged : {old new : Procs} {fs : FileSystem} {start end : Taken} {c : Comes} {l : Logged World} → came old c ≡ l
@@ -83,6 +88,18 @@ pub done_stopped : {old new : Procs} {fs : FileSystem} {r : Result (Unit {0}) Pa
     (kind : PanicKind) → r ≡ Err kind → HasEnded old new fs r start end c → HasDone old new fs (Err kind) start end c
 done_stopped {old} {new} {fs} {r} {start} {end} {c} kind err ended =
     done_left (sym (stopped (came old c).stop kind c.answer (sym ended.answer ∙ err))) ended.left
+
+-- A call that changes a process and lets its registers stay answers so.
+pub answer_stays : (p : Procs) (fs : FileSystem) (s : ℕ) (rule : Process → Process) (u : UArea) → IsAlive p s
+    → u ≡ (process_of (handed p fs) s).u → ((q : Process) → (rule q).u.r ≡ q.u.r)
+    → Ret (get_or u.r 0 0) (get_or u.r 1 0) ≡ (returns (change (handed p fs) s rule) s).answer
+answer_stays p fs s rule u alive is stays =
+    let w : World = handed p fs in
+    let low : s < length w.processes = let below = alive.below in omega (arith, below, fifty_processes p.rows.slots p.images) in
+    let r : u.r ≡ (process_of (change w s rule) s).u.r =
+    ap (λ (v : UArea). v.r) is ∙ sym (stays (process_of w s))
+    ∙ sym (ap (λ (q : Process). q.u.r) (put_here w.processes s (rule (process_of w s)) low)) in
+    ap (λ (l : List ℕ). Ret (get_or l 0 0) (get_or l 1 0)) r
 
 -- The growth of a stack.
 module _ {old new : Procs} {fs : FileSystem} (w : World) (s : ℕ) where

@@ -18,9 +18,10 @@ core_first : (core : Option ℕ) (swap : Option Place) (place : Place) → is_so
 core_first (Some c) swap place room is = is
 core_first None swap place room is = absurd (cc room)
 
-some_place : (core : Option ℕ) (swap : Option Place) → is_some core ≡ true → option_or (option_map Core core) swap ≡ None → ⊥
-some_place (Some c) swap room none = absurd (cc none)
-some_place None swap room none = absurd (cc room)
+some_place : (core : Option ℕ) (swap : Option Place) → is_some core ≡ true
+    → is_some (option_or (option_map Core core) swap) ≡ true
+some_place (Some c) swap room = refl
+some_place None swap room = absurd (cc room)
 
 no_core : (core : Option ℕ) → is_some core ≡ false → option_map Core core ≡ None
 no_core (Some c) e = absurd (cc e)
@@ -43,8 +44,8 @@ module _ (p : Procs) (s : ℕ) (alive : IsAlive p s) (long : length p.images.slo
   fork_fits place room is = fit_is ∙ core_first _ _ place room (sym placed_is ∙ is)
 
   pub fork_finds : is_some (images_of.core_fit p.images n) ≡ true
-      → images_of.placed p.images (clicks_of (area_of p.images s)) ≡ None → ⊥
-  fork_finds room none = some_place _ _ room (sym placed_is ∙ none)
+      → is_some (images_of.placed p.images (clicks_of (area_of p.images s))) ≡ true
+  fork_finds room = ap (λ (o : Option Place). is_some o) placed_is ∙ some_place _ _ room
 
   pub fork_stops : is_some (images_of.core_fit p.images n) ≡ false → in_core (placed (board p) s n) ≡ None
   fork_stops none = fit_is ∙ no_core (images_of.core_fit p.images n) none

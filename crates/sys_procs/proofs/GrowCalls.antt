@@ -2,7 +2,6 @@
 use Rattle.std.proofs.Common.{◌≡◌, ◌∙◌, ℕ, ◌+◌, ◌-◌, ◌*◌, ◌/◌, ◌==◌, ◌<◌, ◌||◌, nat_le, Bool, true, false, cond, List, length, get_or, Option, Some, None, Result, Ok, Err, refl, sym, ap}
 use Rattle.std.specs.Option.{option_map}
 use Rattle.std.specs.Prelude.{MatchResult, is_err}
-use Rattle.v6_base.specs.declared.answer.Answer.TheVariants.{Ret}
 use Rattle.v6_base.specs.declared.errno.Errno.TheVariants.{ENOMEM}
 use Rattle.u_area.specs.declared.area.UArea.{UArea}
 use Rattle.seg_regs.specs.Sizes.{is_refused}
@@ -10,7 +9,6 @@ use Rattle.sys_procs.specs.Process.{Process}
 use Rattle.sys_procs.specs.World.{World, process_of, change}
 use Rattle.sys_procs.specs.Comes.{Comes, fails}
 use Rattle.sys_procs.specs.Break.{sized, expands, clicks_up_to, break_at, grown_stack, increment, grow}
-use Rattle.sys_procs.proofs.Alive.{put_here}
 
 -- a result, by whether it is an error
 pub as_error : {A E : Type 0} (P : A → Type 0) (Q : Type 0) (r : Result A E) → is_err r ≡ true
@@ -22,19 +20,6 @@ pub as_made : {A E : Type 0} (P : A → Type 0) (Q R : Type 0) (r : Result A E) 
     → MatchResult r P (λ e. Q) → ((a : A) → P a → R) → R
 as_made P Q R (Ok a) e m out = out a m
 as_made P Q R (Err f) e m out = absurd (cc e)
-
--- Registers stay.
-pub registers_stay : (w : World) (s d stack : ℕ) → s < length w.processes
-    → (process_of (change w s (sized d stack)) s).u.r ≡ (process_of w s).u.r
-registers_stay w s d stack low =
-    ap (λ (q : Process). q.u.r) (put_here w.processes s (sized d stack (process_of w s)) low)
-
-pub answer_sized : (w : World) (s d stack : ℕ) (u : UArea) → s < length w.processes → u ≡ (process_of w s).u
-    → Ret (get_or u.r 0 0) (get_or u.r 1 0) ≡ (expands w s d stack).answer
-answer_sized w s d stack u low is =
-    let r : u.r ≡ (process_of (change w s (sized d stack)) s).u.r =
-    ap (λ (v : UArea). v.r) is ∙ sym (registers_stay w s d stack low) in
-    ap (λ (l : List ℕ). Ret (get_or l 0 0) (get_or l 1 0)) r
 
 -- break(II) of an area whose sizes are these
 pub break_row : (w : World) (s at : ℕ) (u : UArea) (d most : ℕ) (refused : Bool) → u ≡ (process_of w s).u

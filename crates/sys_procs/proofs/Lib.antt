@@ -6,6 +6,7 @@ pub mod Shown
 pub mod Dones
 pub mod IdsLemmas
 pub mod TimesLemmas
+pub mod TimesTo
 pub mod MemoryLemmas
 pub mod Places
 pub mod Ends

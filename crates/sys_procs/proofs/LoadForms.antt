@@ -182,8 +182,9 @@ module _ (p : Procs) (s : ℕ) (alive : IsAlive p s) (long : length p.images.slo
       → came p (loads w s program) ≡ left_bare (board p) s kind w
   stops_by kind false core text room is =
       let same : panic.Text ≡ kind = cc is in
+      let later : Comes = next w s program (no_text_here p s alive) (makes_text w s program.ino (text_clicks program.plan)) true in
       ap (λ (c : Comes). came p c) (loads_shares w s program (no_text_here p s alive) text (no_entry program.ino))
-      ∙ (logged_text (board p) s (text_clicks program.plan) w _ ∙ ap (λ k. left_bare (board p) s k w) same)
+      ∙ (logged_text (board p) s (text_clicks program.plan) w later.effects ∙ ap (λ k. left_bare (board p) s k w) same)
   stops_by kind true (Some c) text room is = absurd (cc is)
   stops_by kind true None text room is =
       let same : panic.Swap ≡ kind = cc is in

@@ -34,10 +34,10 @@ use Rattle.sys_procs.proofs.Places.{same_ranges, core_at}
 use Rattle.sys_procs.proofs.PlacingRows.{bared_row, seat, seated, row_low, no_text, board_bared, board_placed}
 
 -- The place of an image that core has room for.
-pub placed_in_core : (k : Kept) (n : ℕ) → is_some (core_fit k n) ≡ true
+pub place_in_core : (k : Kept) (n : ℕ) → is_some (core_fit k n) ≡ true
     → placed k n ≡ Some (Core (unwrap_or (core_fit k n) 0))
 unfolding placed
-placed_in_core k n room = by (core_fit k n) room
+place_in_core k n room = by (core_fit k n) room
   where
     by : (fit : Option ℕ) → is_some fit ≡ true
         → option_or (option_map Core fit) (option_map Swap (swap_fit k (blocks n))) ≡ Some (Core (unwrap_or fit 0))

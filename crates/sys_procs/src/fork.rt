@@ -1,10 +1,12 @@
 //! fork(II).
-ghost use Rattle.std.specs.Prelude.{◌≡◌, ◌≢◌, ◌+◌, ◌%◌, ◌<◌, ◌≤◌, ℕ, is_none, slice_index, slice_set, Some};
+ghost use Rattle.std.specs.Prelude.{◌≡◌, ◌≢◌, ◌+◌, ◌%◌, ◌<◌, ◌≤◌, ℕ, true, is_none, is_some, slice_index, slice_set, Some};
 ghost use Rattle.v6_base.specs.Trace.{Took};
 ghost use Rattle.fs_nodes.specs.FileSystem.{SameRest};
 ghost use Rattle.fs_tree.specs.Finding.{inodes_of, with_reference};
 ghost use Rattle.pick_rules.specs.Table.{IsTable, row_at, child_row, is_on};
 ghost use Rattle.pick_rules.specs.Sleepers.{runout_told};
+ghost use Rattle.image_keep.specs.Kept.{HasImage, Nothing, keeping, area_of, image_of, clicks_of};
+ghost use Rattle.image_keep.specs.Places.{placed, with_image_at};
 ghost use Rattle.proc_tab.specs.Processes.{lowest};
 ghost use Rattle.proc_tab.specs.Pids.{forked};
 ghost use Rattle.sys_procs.specs.Process.{register, with_register};
@@ -18,6 +20,7 @@ use crate::inodes::refer_again;
 use crate::procs::Procs;
 use crate::seen::see;
 use fs_tree::Tree;
+use image_keep::Images;
 use pick_rules::{Stat, Table, TableRow};
 use proc_tab::Rows;
 use u_area::UArea;
@@ -143,6 +146,22 @@ fn go_on(p: &mut Procs, tree: &mut Tree, s: Slot, child: Slot) -> Answer
     Answer::Ret { r0, r1: u.r[1] }
 }
 
+/// Copies the image of a process into the slot of its child, where there is a place for it. The answer is that place.
+fn copy_image(images: &mut Images, from: Slot, to: Slot) -> Place
+    requires image { HasImage images.old from }
+    requires slot { to < 50 }
+    requires nothing { keeping images.old to ≡ Nothing }
+    requires place { is_some (placed images.old (clicks_of (area_of images.old from))) ≡ true }
+    ensures place { placed images.old (clicks_of (area_of images.old from)) ≡ Some result }
+    ensures images { images.new
+        ≡ with_image_at images.old to (area_of images.old from) (image_of images.old from) (Some result) }
+{
+    match images.copy_for_fork(from, to) {
+        Ok(place) => place,
+        Err(_) => unreachable!(),
+    }
+}
+
 /// Makes a child in a free slot, with the rows that it gives.
 ///
 /// # Errors
@@ -171,19 +190,15 @@ fn fork_into<T: Trace>(
     if !p.images.has_room(p.table.rows[s as usize].size) {
         return Err(PanicKind::Swap);
     }
-    match p.images.copy_for_fork(s, child) {
-        Ok(place) => {
-            add_row(&mut p.table, s, child, place);
-            p.rows = *rows;
-            trace.entry(Entry::Fork {
-                slot: s,
-                child,
-                place,
-            });
-            Ok(go_on(p, tree, s, child))
-        }
-        Err(_) => unreachable!(),
-    }
+    let place = copy_image(&mut p.images, s, child);
+    add_row(&mut p.table, s, child, place);
+    p.rows = *rows;
+    trace.entry(Entry::Fork {
+        slot: s,
+        child,
+        place,
+    });
+    Ok(go_on(p, tree, s, child))
 }
 
 /// fork(II): makes a copy of the process in the lowest free slot. R0 is the child's pid for the parent, which passes the

@@ -1,5 +1,5 @@
 //! break(II), and the growth of a stack.
-ghost use Rattle.std.specs.Prelude.{◌≡◌, ◌+◌, ◌||◌, nat_le, is_some, true, false, None, Some, if◌then◌else◌, slice_index};
+ghost use Rattle.std.specs.Prelude.{◌≡◌, ◌+◌, ◌<◌, ◌≤◌, ◌||◌, nat_le, is_some, true, false, None, Some, if◌then◌else◌, slice_index};
 ghost use Rattle.v6_base.specs.Image.{nseg};
 ghost use Rattle.fs_nodes.specs.FileSystem.{FileSystem, SameRest};
 ghost use Rattle.image_keep.specs.Kept.{HasImage, Alive, with_keeping, area_of, image_of};

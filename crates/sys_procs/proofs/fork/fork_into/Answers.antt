@@ -35,70 +35,67 @@ returns-then-not-has_room-clause-does g c =
     (sym c.has_room.ensures ∙ c.if-not-has_room.true))) refl refl refl (took_none _)
 
 -- It has.
-pub prove-unreachable-requires : goal.prove-unreachable-requires
-prove-unreachable-requires g c =
+pub copy_image-place-requires-clause-slot : goal.copy_image-place-requires-clause-slot
+copy_image-place-requires-clause-slot g c =
+    (free_slot c.args.p.now c.args.s c.args.child (calls_alive c.args.p.now c.args.tree.now.nodes c.args.s c.requires.calls) c.requires.free).low
+
+pub copy_image-place-requires-clause-nothing : goal.copy_image-place-requires-clause-nothing
+copy_image-place-requires-clause-nothing g c =
+    (free_slot c.args.p.now c.args.s c.args.child (calls_alive c.args.p.now c.args.tree.now.nodes c.args.s c.requires.calls) c.requires.free).image
+
+pub copy_image-place-requires-clause-place : goal.copy_image-place-requires-clause-place
+copy_image-place-requires-clause-place g c =
     fork_finds c.args.p.now c.args.s (calls_alive c.args.p.now c.args.tree.now.nodes c.args.s c.requires.calls) c.see.ensures.images.slots
-    (sym c.has_room.ensures ∙ c.if-not-has_room.false) c.in-Err.ensures.place
-
-pub copy_for_fork-requires-clause-slot : goal.copy_for_fork-requires-clause-slot
-copy_for_fork-requires-clause-slot g c = (free_slot c.args.p.now c.args.s c.args.child (calls_alive c.args.p.now c.args.tree.now.nodes c.args.s c.requires.calls) c.requires.free).low
-
-pub copy_for_fork-requires-clause-nothing : goal.copy_for_fork-requires-clause-nothing
-copy_for_fork-requires-clause-nothing g c = (free_slot c.args.p.now c.args.s c.args.child (calls_alive c.args.p.now c.args.tree.now.nodes c.args.s c.requires.calls) c.requires.free).image
+    (sym c.has_room.ensures ∙ c.if-not-has_room.false)
 
 pub add_row-requires-clause-child : goal.add_row-requires-clause-child
-add_row-requires-clause-child g c = (free_slot c.args.p.now c.args.s c.args.child (calls_alive c.args.p.now c.args.tree.now.nodes c.args.s c.requires.calls) c.requires.free).low
+add_row-requires-clause-child g c =
+    (free_slot c.args.p.now c.args.s c.args.child (calls_alive c.args.p.now c.args.tree.now.nodes c.args.s c.requires.calls) c.requires.free).low
 
 pub go_on-requires-clause-parent : goal.go_on-requires-clause-parent
 go_on-requires-clause-parent g c =
+    let p : Procs = c.args.p.now in
+    let alive : IsAlive p c.args.s = calls_alive p c.args.tree.now.nodes c.args.s c.requires.calls in
     subst (λ (q : Procs). IsAlive q c.args.s)
-    (sym (is_seated c.args.p.now c.args.s c.args.child c.in-Ok.place c.args.rows.now c.add_row.new.table c.copy_for_fork.new.self c.requires.rows c.add_row.ensures.table
-    (c.copy_for_fork.ensures.kept ∙ ap (with_image_at c.args.p.now.images c.args.child (area_of c.args.p.now.images c.args.s) (image_of c.args.p.now.images c.args.s)) c.in-Ok.ensures.place)))
-    (parent_alive c.args.p.now c.args.s c.args.child c.in-Ok.place (calls_alive c.args.p.now c.args.tree.now.nodes c.args.s c.requires.calls) c.see.ensures.rows.long c.see.ensures.images.slots (free_slot c.args.p.now c.args.s c.args.child (calls_alive c.args.p.now c.args.tree.now.nodes c.args.s c.requires.calls) c.requires.free) (subst (λ (t : Table). IsTable t) c.add_row.ensures.table c.add_row.ensures.good))
+    (sym (is_seated p c.args.s c.args.child c.copy_image-place.result c.args.rows.now c.add_row.new.table c.copy_image-place.new.images
+    c.requires.rows c.add_row.ensures.table c.copy_image-place.ensures.images))
+    (parent_alive p c.args.s c.args.child c.copy_image-place.result alive c.see.ensures.rows.long c.see.ensures.images.slots
+    (free_slot p c.args.s c.args.child alive c.requires.free) (subst (λ (t : Table). IsTable t) c.add_row.ensures.table c.add_row.ensures.good))
 
 pub go_on-requires-clause-child : goal.go_on-requires-clause-child
 go_on-requires-clause-child g c =
+    let p : Procs = c.args.p.now in
+    let alive : IsAlive p c.args.s = calls_alive p c.args.tree.now.nodes c.args.s c.requires.calls in
     subst (λ (q : Procs). IsAlive q c.args.child)
-    (sym (is_seated c.args.p.now c.args.s c.args.child c.in-Ok.place c.args.rows.now c.add_row.new.table c.copy_for_fork.new.self c.requires.rows c.add_row.ensures.table
-    (c.copy_for_fork.ensures.kept ∙ ap (with_image_at c.args.p.now.images c.args.child (area_of c.args.p.now.images c.args.s) (image_of c.args.p.now.images c.args.s)) c.in-Ok.ensures.place)))
-    (child_alive c.args.p.now c.args.s c.args.child c.in-Ok.place (calls_alive c.args.p.now c.args.tree.now.nodes c.args.s c.requires.calls) c.see.ensures.rows.long c.see.ensures.images.slots (free_slot c.args.p.now c.args.s c.args.child (calls_alive c.args.p.now c.args.tree.now.nodes c.args.s c.requires.calls) c.requires.free) (subst (λ (t : Table). IsTable t) c.add_row.ensures.table c.add_row.ensures.good))
+    (sym (is_seated p c.args.s c.args.child c.copy_image-place.result c.args.rows.now c.add_row.new.table c.copy_image-place.new.images
+    c.requires.rows c.add_row.ensures.table c.copy_image-place.ensures.images))
+    (child_alive p c.args.s c.args.child c.copy_image-place.result alive c.see.ensures.rows.long c.see.ensures.images.slots
+    (free_slot p c.args.s c.args.child alive c.requires.free) (subst (λ (t : Table). IsTable t) c.add_row.ensures.table c.add_row.ensures.good))
 
 pub go_on-requires-clause-apart : goal.go_on-requires-clause-apart
-go_on-requires-clause-apart g c = (free_slot c.args.p.now c.args.s c.args.child (calls_alive c.args.p.now c.args.tree.now.nodes c.args.s c.requires.calls) c.requires.free).apart
+go_on-requires-clause-apart g c =
+    (free_slot c.args.p.now c.args.s c.args.child (calls_alive c.args.p.now c.args.tree.now.nodes c.args.s c.requires.calls) c.requires.free).apart
 
 pub go_on-requires-clause-referenced : goal.go_on-requires-clause-referenced
 go_on-requires-clause-referenced g c =
-    let here = is_here c.args.p.now c.args.s (calls_alive c.args.p.now c.args.tree.now.nodes c.args.s c.requires.calls) in
+    let p : Procs = c.args.p.now in
+    let alive : IsAlive p c.args.s = calls_alive p c.args.tree.now.nodes c.args.s c.requires.calls in
+    let here = is_here p c.args.s alive in
     subst (λ (q : Process). 0 < slice_index c.args.tree.now.nodes.references q.u.dir)
-    (sym (ap (λ (q : Procs). process_here q c.args.s) (is_seated c.args.p.now c.args.s c.args.child c.in-Ok.place c.args.rows.now c.add_row.new.table c.copy_for_fork.new.self c.requires.rows c.add_row.ensures.table
-    (c.copy_for_fork.ensures.kept ∙ ap (with_image_at c.args.p.now.images c.args.child (area_of c.args.p.now.images c.args.s) (image_of c.args.p.now.images c.args.s)) c.in-Ok.ensures.place))
-    ∙ (parent_stays c.args.p.now c.args.s c.args.child c.in-Ok.place (calls_alive c.args.p.now c.args.tree.now.nodes c.args.s c.requires.calls) c.see.ensures.rows.long c.see.ensures.images.slots (free_slot c.args.p.now c.args.s c.args.child (calls_alive c.args.p.now c.args.tree.now.nodes c.args.s c.requires.calls) c.requires.free) ∙ here.process_is)))
+    (sym (ap (λ (q : Procs). process_here q c.args.s)
+    (is_seated p c.args.s c.args.child c.copy_image-place.result c.args.rows.now c.add_row.new.table c.copy_image-place.new.images
+    c.requires.rows c.add_row.ensures.table c.copy_image-place.ensures.images)
+    ∙ (parent_stays p c.args.s c.args.child c.copy_image-place.result alive c.see.ensures.rows.long c.see.ensures.images.slots
+    (free_slot p c.args.s c.args.child alive c.requires.free) ∙ here.process_is)))
     (c.requires.calls.directory here.held here.image_is)
 
--- What the log says of the child.
-lines : (g : given.Over) (c : goal.After-go_on g) → came c.args.p.now (fork_into (handed c.args.p.now c.args.tree.now.nodes) c.args.s (Some c.args.child)) ≡ record {
-  items = Log (line.Fork c.args.s c.args.child c.in-Ok.place) ∷ [];
-  board = applied (board c.args.p.now) (line.Fork c.args.s c.args.child c.in-Ok.place);
-  stop = None;
-}
-lines g c =
-    let alive = calls_alive c.args.p.now c.args.tree.now.nodes c.args.s c.requires.calls in
-    logged_fork (board c.args.p.now) c.args.s c.args.child (handed c.args.p.now c.args.tree.now.nodes) c.in-Ok.place
-    (fork_fits c.args.p.now c.args.s alive c.see.ensures.images.slots c.in-Ok.place
-    (sym c.has_room.ensures ∙ c.if-not-has_room.false) c.in-Ok.ensures.place)
-
-now : (g : given.Over) (c : goal.After-go_on g) → ◌≡◌ {A = Procs}
-    (record c.args.p.now { rows = c.args.rows.now; table = c.add_row.new.table; images = c.copy_for_fork.new.self }) (seated c.args.p.now c.args.s c.args.child c.in-Ok.place)
-now g c = is_seated c.args.p.now c.args.s c.args.child c.in-Ok.place c.args.rows.now c.add_row.new.table c.copy_for_fork.new.self c.requires.rows c.add_row.ensures.table
-    (c.copy_for_fork.ensures.kept ∙ ap (with_image_at c.args.p.now.images c.args.child (area_of c.args.p.now.images c.args.s) (image_of c.args.p.now.images c.args.s)) c.in-Ok.ensures.place)
-
-pub returns-in-Ok-clause-does : goal.returns-in-Ok-clause-does
-returns-in-Ok-clause-does g c =
+pub returns-clause-does : goal.returns-clause-does
+returns-clause-does g c =
     let p : Procs = c.args.p.now in
     let fs : FileSystem = c.args.tree.now.nodes in
     let s : ℕ = c.args.s in
     let child : ℕ = c.args.child in
-    let place : Place = c.in-Ok.place in
+    let place : Place = c.copy_image-place.result in
     let w : World = handed p fs in
     let alive : IsAlive p s = calls_alive p fs s c.requires.calls in
     let free : IsFreeSlot p s child = free_slot p s child alive c.requires.free in
@@ -107,18 +104,21 @@ returns-in-Ok-clause-does g c =
     let done : Answer → Result Answer PanicKind = λ a. Ok a in
     let low : s < length w.processes = let below = alive.below in omega (arith, below, fifty_processes p.rows.slots p.images) in
     let child_low : child < length w.processes = let below = free.low in omega (arith, below, fifty_processes p.rows.slots p.images) in
+    let now : ◌≡◌ {A = Procs} (record p { rows = c.args.rows.now; table = c.add_row.new.table; images = c.copy_image-place.new.images }) (seated p s child place) =
+    is_seated p s child place c.args.rows.now c.add_row.new.table c.copy_image-place.new.images c.requires.rows c.add_row.ensures.table c.copy_image-place.ensures.images in
     let pid : (process_here (seated p s child place) child).row.pid ≡ next_pid w =
     ap (λ (q : Process). q.row.pid) (child_is p s child place alive fifty images free) ∙ next_is p fs fifty in
     let r1 : register (process_here (seated p s child place) s) 1 ≡ register (process_here p s) 1 =
     ap (λ (q : Process). register q 1) (parent_stays p s child place alive fifty images free) in
-    done_logged (lines g c)
+    done_logged (logged_fork (board p) s child w place
+    (fork_fits p s alive images place (sym c.has_room.ensures ∙ c.if-not-has_room.false) c.copy_image-place.ensures.place))
     (ap done (c.go_on.ensures.answer
-    ∙ (ap (λ (q : Procs). Ret (process_here q child).row.pid (register (process_here q s) 1)) (now g c)
+    ∙ (ap (λ (q : Procs). Ret (process_here q child).row.pid (register (process_here q s) 1)) now
     ∙ (ap (λ (n : ℕ). Ret n (register (process_here (seated p s child place) s) 1)) pid
     ∙ ap (λ (n : ℕ). Ret (next_pid w) n) (r1 ∙ register_forked w s child (next_pid w) free.apart child_low low)))))
     (c.go_on.ensures.state
-    ∙ (ap (λ (v : World). gone_on v s child) (ap (λ (q : Procs). handed q fs) (now g c) ∙ state_seated p s child place alive fifty images free fs)
+    ∙ (ap (λ (v : World). gone_on v s child) (ap (λ (q : Procs). handed q fs) now ∙ state_seated p s child place alive fifty images free fs)
     ∙ (world_forked w s child (child_pid p) free.apart child_low low
     ∙ ap (λ (n : ℕ). change (with_child w s child n) s past_word) (next_is p fs fifty))))
-    (c.go_on.ensures.board ∙ (ap (λ (q : Procs). board q) (now g c) ∙ board_seated p s child place alive fifty images free))
+    (c.go_on.ensures.board ∙ (ap (λ (q : Procs). board q) now ∙ board_seated p s child place alive fifty images free))
     c.entry.ensures.took

@@ -1,15 +1,16 @@
-use Rattle.std.proofs.Common.{◌≡◌, ◌<◌, true, false, length, slice_index, Result, Ok, sym, ap, refl, arith}
+use Rattle.std.proofs.Common.{◌≡◌, true, false, slice_index, Result, Ok, sym, ap, refl}
 use Rattle.v6_base.specs.declared.answer.Answer.{Answer}
 use Rattle.v6_base.specs.declared.answer.Answer.TheVariants.{Fail}
 use Rattle.v6_base.specs.declared.entry.PanicKind.{PanicKind}
 use Rattle.v6_base.specs.declared.errno.Errno.TheVariants.{ENOMEM}
+use Rattle.fs_nodes.specs.FileSystem.{FileSystem}
 use Rattle.sys_procs.specs.declared.procs.Procs.{Procs}
+use Rattle.sys_procs.specs.Break.{sized}
 use Rattle.sys_procs.specs.World.{World}
 use Rattle.sys_procs.specs.Handed.{handed}
 use Rattle.sys_procs.proofs.Alive.{calls_alive}
-use Rattle.sys_procs.proofs.Dones.{done_none, done_as, done_on, done_stopped}
-use Rattle.sys_procs.proofs.Slots.{fifty_processes}
-use Rattle.sys_procs.proofs.GrowCalls.{as_error, as_made, answer_sized, break_row}
+use Rattle.sys_procs.proofs.Dones.{answer_stays, done_none, done_as, done_on, done_stopped}
+use Rattle.sys_procs.proofs.GrowCalls.{as_error, as_made, break_row}
 use Rattle.sys_procs.proofs.growth.break_at.Goals as goal
 
 -- The sizes are refused.
@@ -26,15 +27,14 @@ returns-then-is_err-clause-does g c =
 pub returns-in-Ok-clause-does : goal.returns-in-Ok-clause-does
 returns-in-Ok-clause-does g c =
     let p : Procs = c.args.p.now in
-    let w : World = handed p c.args.tree.now.nodes in
+    let fs : FileSystem = c.args.tree.now.nodes in
     let done : Answer → Result Answer PanicKind = λ a. Ok a in
-    let low : c.args.s < length w.processes =
-    omega (arith, (calls_alive p c.args.tree.now.nodes c.args.s c.requires).below, fifty_processes p.rows.slots p.images) in
-    done_as (break_row w c.args.s (slice_index c.args.args 0) c.area-u.result c.clicks_up_to-d.result c.limit.result false
+    done_as (break_row (handed p fs) c.args.s (slice_index c.args.args 0) c.area-u.result c.clicks_up_to-d.result c.limit.result false
     c.area-u.ensures c.clicks_up_to-d.ensures c.limit.ensures
     (as_made _ _ _ c.make.result (sym c.if-is_err.ensures.value) c.make.ensures (λ proto made. made.0)))
     (done_on tt c.in-Ok.is
-    (ap done (answer_sized w c.args.s c.clicks_up_to-d.result c.area-u.result.stack_size c.area-u.result low c.area-u.ensures))
+    (ap done (answer_stays p fs c.args.s (sized c.clicks_up_to-d.result c.area-u.result.stack_size) c.area-u.result
+    (calls_alive p fs c.args.s c.requires) c.area-u.ensures (λ q. refl)))
     (c.expand.ensures.does c.args.tree.now.nodes))
 
 -- They are allowed, and it finds none.
