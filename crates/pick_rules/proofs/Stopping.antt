@@ -2,7 +2,6 @@
 use Rattle.std.proofs.Common.{◌≡◌, ◌∙◌, ℕ, cond, List, [], ◌∷◌, fold, Option, Some, None, option_map, refl, ap}
 use Rattle.std.specs.Option.{option_or}
 use Rattle.v6_base.specs.Trace.{Item}
-use Rattle.v6_base.specs.declared.entry.Place.{Place}
 use Rattle.v6_base.specs.declared.entry.Place.TheVariants.{Core, Swap}
 use Rattle.pick_rules.specs.Table.{row_at}
 use Rattle.pick_rules.specs.Board.{Board, blocks, core_fit, may_load, placed, swap_fit}

@@ -1,14 +1,13 @@
 -- The rows of break(II) and of the growth of a stack, by what the code has found.
-use Rattle.std.proofs.Common.{◌≡◌, ◌∙◌, ℕ, ◌+◌, ◌-◌, ◌*◌, ◌/◌, ◌==◌, ◌<◌, ◌||◌, nat_le, Bool, true, false, cond, List, length, get_or, Option, Some, None, Result, Ok, Err, refl, sym, ap}
+use Rattle.std.proofs.Common.{◌≡◌, ◌∙◌, ℕ, ◌+◌, ◌-◌, ◌*◌, ◌/◌, ◌==◌, ◌||◌, nat_le, Bool, true, false, cond, Option, Some, None, Result, Ok, Err, refl, sym, ap}
 use Rattle.std.specs.Option.{option_map}
 use Rattle.std.specs.Prelude.{MatchResult, is_err}
 use Rattle.v6_base.specs.declared.errno.Errno.TheVariants.{ENOMEM}
 use Rattle.u_area.specs.declared.area.UArea.{UArea}
 use Rattle.seg_regs.specs.Sizes.{is_refused}
-use Rattle.sys_procs.specs.Process.{Process}
-use Rattle.sys_procs.specs.World.{World, process_of, change}
+use Rattle.sys_procs.specs.World.{World, process_of}
 use Rattle.sys_procs.specs.Comes.{Comes, fails}
-use Rattle.sys_procs.specs.Break.{sized, expands, clicks_up_to, break_at, grown_stack, increment, grow}
+use Rattle.sys_procs.specs.Break.{expands, clicks_up_to, break_at, grown_stack, increment, grow}
 
 -- a result, by whether it is an error
 pub as_error : {A E : Type 0} (P : A → Type 0) (Q : Type 0) (r : Result A E) → is_err r ≡ true

@@ -1,5 +1,5 @@
 -- What exec(II) comes to for a program without a text of its own, and for one that finds no place.
-use Rattle.std.proofs.Common.{◌≡◌, ◌∙◌, ℕ, ◌+◌, ◌*◌, ◌==◌, ◌&&◌, ◌||◌, ◌<◌, Bool, true, false, not, cond, List, [], ◌∷◌, length, set, Option, Some, None, is_some, Result, Ok, Err, if◌then◌else◌, refl, sym, ap, arith}
+use Rattle.std.proofs.Common.{◌≡◌, ◌∙◌, ℕ, ◌+◌, ◌*◌, ◌==◌, ◌&&◌, ◌<◌, Bool, true, false, not, cond, List, [], ◌∷◌, length, set, Option, Some, None, is_some, Result, Ok, Err, refl, ap, arith}
 use Rattle.std.specs.Option.{unwrap_or}
 use Rattle.std.specs.Prelude.{bit_and}
 use Rattle.std.proofs.lemmas.Bool.{eqb-true}
@@ -20,12 +20,12 @@ use Rattle.aout_head.specs.declared.parts.Plan.{Plan}
 use Rattle.pick_rules.specs.Effects.{Show}
 use Rattle.pick_rules.specs.Effects as effect
 use Rattle.pick_rules.specs.Board.{Board, core_fit}
-use Rattle.pick_rules.specs.Logged.{Logged, logged}
+use Rattle.pick_rules.specs.Logged.{logged}
 use Rattle.fs_nodes.specs.FileSystem.{FileSystem}
 use Rattle.sys_procs.specs.declared.procs.Procs.{Procs}
 use Rattle.sys_procs.specs.declared.program.Program.{Program}
 use Rattle.sys_procs.specs.Process.{Process, no_process, register}
-use Rattle.sys_procs.specs.World.{World, process_of, with_process, change}
+use Rattle.sys_procs.specs.World.{World, process_of, with_process}
 use Rattle.sys_procs.specs.Texts.{no_texts, text_bytes, entry_of}
 use Rattle.sys_procs.specs.Comes.{Comes, does, logs, fails}
 use Rattle.sys_procs.specs.Stack.{first_stack}

@@ -1,5 +1,5 @@
 -- A process's image is given back, and a new one is placed: where that stands, and what the log says.
-use Rattle.std.proofs.Common.{◌≡◌, ◌∙◌, ℕ, ◌+◌, ◌<◌, ◌≤◌, ◌||◌, nat_lt, min, Bool, true, false, cond, List, [], ◌∷◌, length, flat_map, Option, Some, None, is_some, refl, sym, ap, inl, inr, arith}
+use Rattle.std.proofs.Common.{◌≡◌, ◌∙◌, ℕ, ◌+◌, ◌<◌, ◌≤◌, ◌||◌, nat_lt, min, Bool, true, false, List, [], ◌∷◌, length, flat_map, Option, Some, None, is_some, refl, sym, ap, inl, inr, arith}
 use Rattle.std.specs.Option.{option_map, option_or, unwrap_or}
 use Rattle.std.proofs.Math.Nat.{min-le_right}
 use Rattle.std.proofs.lemmas.Bool.{cases_eq, ltb-false}

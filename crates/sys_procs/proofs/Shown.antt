@@ -21,13 +21,6 @@ pub record Says (p : Procs) (c : Comes) (items : List Item) (b : Board) (w : Wor
   pub state : c.state ≡ w
   pub answer : c.answer ≡ a
 
-pub says_none : (p : Procs) (c : Comes) (w : World) (a : Answer) → c ≡ comes w a → Says p c [] (board p) w a
-says_none p c w a is = record {
-  shown = ap (λ (c : Comes). logged (board p) c.effects) is;
-  state = ap (λ (c : Comes). c.state) is;
-  answer = ap (λ (c : Comes). c.answer) is;
-}
-
 pub says_line : (p : Procs) (c : Comes) (line : Entry) (w : World) (a : Answer) → c ≡ logs line (comes w a) → Says p c (Log line ∷ []) (applied (board p) line) w a
 says_line p c line w a is = record {
   shown = ap (λ (c : Comes). logged (board p) c.effects) is ∙ logged_line (board p) line;

@@ -1,5 +1,5 @@
 -- The row of times(II), by what can be written.
-use Rattle.std.proofs.Common.{◌≡◌, ◌∙◌, ◌≢◌, ◌%◌, ◌==◌, ℕ, true, false, cond, List, get_or, Option, Some, None, is_some, Result, Ok, refl, sym, ap}
+use Rattle.std.proofs.Common.{◌≡◌, ◌∙◌, ◌≢◌, ◌%◌, ℕ, true, false, cond, List, get_or, Option, Some, None, is_some, Result, Ok, refl, sym, ap}
 use Rattle.std.proofs.lemmas.Bool.{ne_eqb}
 use Rattle.v6_base.specs.Copy.{store_bytes}
 use Rattle.v6_base.specs.Image.{Image}

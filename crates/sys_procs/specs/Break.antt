@@ -1,6 +1,6 @@
 -- break(II) of the UNIX Programmer's Manual, and the growth of a stack: `sbreak` in Lions' Commentary, `sys1.c`, `grow` in
 -- `sig.c`, `estabur` in `main.c`.
-use Rattle.std.specs.Prelude.{ℕ, ◌+◌, ◌-◌, ◌*◌, ◌/◌, ◌%◌, ◌==◌, ◌||◌, nat_le, Bool, true, false, if◌then◌else◌, Option, Some, None, Result, Ok, Err}
+use Rattle.std.specs.Prelude.{ℕ, ◌+◌, ◌-◌, ◌*◌, ◌/◌, ◌%◌, ◌==◌, ◌||◌, nat_le, Bool, if◌then◌else◌, Option, Some, None, Result, Ok, Err}
 use Rattle.std.specs.Option.{option_map}
 use Rattle.v6_base.specs.Image.{nseg}
 use Rattle.v6_base.specs.Sizes.{cut_back, cut_front}

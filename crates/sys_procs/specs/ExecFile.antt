@@ -1,5 +1,5 @@
 -- exec(II) of the UNIX Programmer's Manual; Lions' Commentary, `exec` in `sys1.c`, `xalloc` and `xfree` in `text.c`.
-use Rattle.std.specs.Prelude.{◌≡◌, ◌<◌, ◌≤◌, IsSome, is_some, ℕ, ◌+◌, ◌*◌, ◌/◌, ◌%◌, ◌==◌, ◌&&◌, ◌||◌, nat_lt, Bool, true, false, not, if◌then◌else◌, List, [], ◌∷◌, map, replicate, slice_index, slice_set, Option, Some, None, is_none, Result, Ok, Err, bit_and}
+use Rattle.std.specs.Prelude.{◌≡◌, ◌<◌, ◌≤◌, IsSome, ℕ, ◌+◌, ◌*◌, ◌/◌, ◌%◌, ◌==◌, ◌&&◌, nat_lt, Bool, true, false, not, if◌then◌else◌, List, [], ◌∷◌, map, replicate, slice_index, slice_set, Option, Some, None, is_none, Result, Ok, Err, bit_and}
 use Rattle.std.specs.Option.{unwrap_or}
 use Rattle.v6_base.specs.Image.{Image, nseg}
 use Rattle.v6_base.specs.declared.entry.Entry.TheVariants.{Leave, Bare, Share}

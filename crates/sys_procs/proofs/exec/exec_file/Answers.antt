@@ -5,13 +5,12 @@ use Rattle.pick_rules.specs.declared.row.TableRow.{TableRow}
 use Rattle.sys_procs.specs.declared.procs.Procs.{Procs}
 use Rattle.sys_procs.specs.World.{World}
 use Rattle.sys_procs.specs.Comes.{Comes}
-use Rattle.sys_procs.specs.ExecFile.{tests, loads}
+use Rattle.sys_procs.specs.ExecFile.{loads}
 use Rattle.sys_procs.specs.Handed.{board, handed, IsAlive}
 use Rattle.sys_procs.specs.Done.{HasDone}
 use Rattle.sys_procs.proofs.Alive.{calls_alive}
 use Rattle.sys_procs.proofs.Dones.{done_none, done_as}
 use Rattle.sys_procs.proofs.LoadForms.{refused, loaded}
-use Rattle.sys_procs.proofs.exec.exec_file.Given as given
 use Rattle.sys_procs.proofs.exec.exec_file.Goals as goal
 
 -- The tests leave the processes as they were.

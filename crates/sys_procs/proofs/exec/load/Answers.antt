@@ -1,4 +1,4 @@
-use Rattle.std.proofs.Common.{◌≡◌, ◌∙◌, Ok, Some, None, refl, sym, ap, subst}
+use Rattle.std.proofs.Common.{◌∙◌, Ok, None, refl, sym, ap, subst}
 use Rattle.fs_nodes.specs.FileSystem.{FileSystem}
 use Rattle.pick_rules.specs.Apply.{change_row}
 use Rattle.pick_rules.specs.declared.row.TableRow.{TableRow}

@@ -5,7 +5,6 @@ use Rattle.sys_procs.specs.World.{World}
 use Rattle.sys_procs.specs.Exit.{dies, end_proc}
 use Rattle.sys_procs.specs.Agree.{ended_by}
 use Rattle.sys_procs.specs.Handed.{came, handed}
-use Rattle.sys_procs.specs.Done.{HasEnded}
 use Rattle.sys_procs.proofs.exit.end_proc.Given as given
 use Rattle.sys_procs.proofs.exit.end_proc.Goals as goal
 

@@ -1,28 +1,22 @@
-use Rattle.std.proofs.Common.{◌≡◌, ◌∙◌, ◌<◌, ℕ, [], ◌∷◌, Some, None, Result, Ok, slice_index, length, refl, ap, sym, subst, arith}
-use Rattle.v6_base.specs.Trace.{Log}
+use Rattle.std.proofs.Common.{◌≡◌, ◌∙◌, ◌<◌, ℕ, Result, Ok, slice_index, length, refl, ap, sym, subst, arith}
 use Rattle.v6_base.proofs.Took.{took_none}
 use Rattle.v6_base.specs.declared.entry.Place.{Place}
 use Rattle.v6_base.specs.declared.answer.Answer.{Answer}
 use Rattle.v6_base.specs.declared.answer.Answer.TheVariants.{Ret}
-use Rattle.v6_base.specs.declared.entry.Entry.TheVariants as line
 use Rattle.v6_base.specs.declared.entry.PanicKind.{PanicKind}
 use Rattle.pick_rules.specs.declared.table.Table.{Table}
 use Rattle.pick_rules.specs.Table.{IsTable}
-use Rattle.pick_rules.specs.Apply.{applied}
-use Rattle.image_keep.specs.Kept.{area_of, image_of}
 use Rattle.fs_nodes.specs.FileSystem.{FileSystem}
-use Rattle.image_keep.specs.Places.{with_image_at}
 use Rattle.sys_procs.specs.declared.procs.Procs.{Procs}
 use Rattle.sys_procs.specs.Process.{Process, register}
 use Rattle.sys_procs.specs.World.{World, change}
-use Rattle.sys_procs.specs.Fork.{past_word, next_pid, with_child, fork_into}
-use Rattle.sys_procs.specs.Handed.{IsAlive, came, board, handed, process_here}
+use Rattle.sys_procs.specs.Fork.{past_word, next_pid, with_child}
+use Rattle.sys_procs.specs.Handed.{IsAlive, board, handed, process_here}
 use Rattle.sys_procs.proofs.Slots.{fifty_processes}
 use Rattle.sys_procs.proofs.Alive.{calls_alive, is_here}
 use Rattle.sys_procs.proofs.Dones.{done_logged}
 use Rattle.sys_procs.proofs.ForkPlaces.{fork_fits, fork_finds, fork_stops}
 use Rattle.sys_procs.proofs.Forks.{IsFreeSlot, free_slot, is_seated, seated, child_pid, gone_on, state_seated, board_seated, parent_alive, child_alive, parent_stays, child_is, world_forked, register_forked, next_is, logged_fork, logged_no_fork}
-use Rattle.sys_procs.proofs.fork.fork_into.Given as given
 use Rattle.sys_procs.proofs.fork.fork_into.Goals as goal
 
 -- Core has no room.

@@ -1,4 +1,4 @@
-use Rattle.std.proofs.Common.{◌≡◌, ◌∙◌, None, Some, sym, refl}
+use Rattle.std.proofs.Common.{◌∙◌, None, Some, sym, refl}
 use Rattle.seg_regs.specs.Sizes.{is_refused}
 use Rattle.sys_procs.specs.Handed.{handed}
 use Rattle.sys_procs.proofs.Dones.{grown_none, grown_on, grown_no_further}

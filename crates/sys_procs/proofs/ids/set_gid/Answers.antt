@@ -1,4 +1,4 @@
-use Rattle.std.proofs.Common.{◌≡◌, ◌∙◌, ◌%◌, get_or, Result, Ok, refl, ap, sym}
+use Rattle.std.proofs.Common.{◌∙◌, ◌%◌, get_or, Result, Ok, refl, ap, sym}
 use Rattle.v6_base.specs.declared.answer.Answer.{Answer}
 use Rattle.v6_base.specs.declared.entry.PanicKind.{PanicKind}
 use Rattle.fs_nodes.specs.FileSystem.{FileSystem}

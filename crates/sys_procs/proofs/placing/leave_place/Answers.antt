@@ -1,5 +1,4 @@
-use Rattle.std.proofs.Common.{◌≡◌, ◌∙◌, sym, ap}
-use Rattle.sys_procs.specs.declared.procs.Procs.{Procs}
+use Rattle.std.proofs.Common.{◌∙◌, sym, ap}
 use Rattle.sys_procs.specs.Handed.{board}
 use Rattle.sys_procs.proofs.PlacingRows.{row_low, no_text, board_bared}
 use Rattle.sys_procs.proofs.placing.leave_place.Goals as goal

@@ -1,4 +1,4 @@
-use Rattle.std.proofs.Common.{◌≡◌, ◌∙◌, Option, is_some, slice_index, sym}
+use Rattle.std.proofs.Common.{◌∙◌, Option, slice_index, sym}
 use Rattle.v6_base.specs.Copy.{store_bytes}
 use Rattle.v6_base.specs.Image.{Image}
 use Rattle.fs_nodes.specs.FileSystem.{FileSystem}
