@@ -31,10 +31,8 @@ fn put_program(image: &mut [u8], text: &[u8]) {
     let size = size_word(text.len().saturating_add(HEADER_BYTES));
     let count = size_word(text.len());
     put(image, &[(INIT_SIZE, size.as_slice())]);
-    put(
-        image,
-        &[(INIT_SIZES, count.as_slice()), (INIT_SIZES + 2, &[0; 4])],
-    );
+    put(image, &[(INIT_SIZES, count.as_slice())]);
+    put(image, &[(INIT_SIZES + 2, b"\0\0\0\0")]);
     put(image, &[(TEXT, text)]);
 }
 
