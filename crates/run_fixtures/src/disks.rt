@@ -1,4 +1,4 @@
-//! Bytes of disks: the disk of `examples/hi`, and programs that take the place of its `/etc/init`.
+//! Bytes of disks: the disk of `examples/hi`.
 use std::alloc::{AllocError, Global};
 
 /// Bytes and the place where they stand.
@@ -39,7 +39,7 @@ pub const HI_BYTES: usize = 34304;
 pub const TEXT: usize = 33808;
 
 /// The program `hi`: it opens `/dev/tty8`, writes `hi` and a new line, and exits.
-pub const HI: &[u8] =
+const HI: &[u8] =
     b"\x05\x89\x12\x00\x01\x00\x04\x89\x1c\x00\x03\x00\xc0\x15\x00\x00\x01\x89/dev/tty8\0hi\n\0";
 
 /// Puts each of these pieces at its place, where the bytes have it.
@@ -51,15 +51,6 @@ pub fn put(bytes: &mut [u8], pieces: &[Piece<'_>]) {
             }
         }
     }
-}
-
-/// Puts a program into the place of `/etc/init`, on this disk or on the generator's disk 0: the size in inode 7, the header, and the text.
-pub fn put_program(image: &mut [u8], text: &[u8]) {
-    let count = text.len().min(400) as u16;
-    put(image, &[(1222, (16 + count).to_le_bytes().as_slice())]);
-    put(image, &[(33794, count.to_le_bytes().as_slice())]);
-    put(image, &[(33796, b"\0\0\0\0")]);
-    put(image, &[(TEXT, text)]);
 }
 
 fn stands(bytes: &[u8], at: usize, piece: &[u8]) -> bool {

@@ -5,11 +5,9 @@
 mod disks;
 mod hosts;
 mod one_byte;
-mod repeats;
 mod rows;
 
-pub use disks::{HI, HI_BYTES, Piece, TEXT, have, hi_image, is_front, put, put_program};
+pub use disks::{HI_BYTES, Piece, TEXT, have, hi_image, is_front, put};
 pub use hosts::{ROOMS, RUN, Rooms, end_over, host_in, host_with};
 pub use one_byte::OneByte;
-pub use repeats::{Repeats, repeated};
 pub use rows::{Row, holds};

@@ -1,10 +1,10 @@
-//! The disk that a run leaves: docs/manual/final-image.md.
+//! The disk that a run leaves under other names, and that is run again: docs/manual/final-image.md.
 use fs_codec::DISK_BYTES;
-use run_fixtures::{HI_BYTES, Piece, RUN, TEXT, end_over, hi_image, host_with};
+use run_fixtures::{HI_BYTES, RUN, end_over, hi_image, host_with};
 use std::alloc::{AllocError, Global};
 use std::test::Fail;
 use v6_port::{MemHost, OutPort};
-use v6_run::{Status, Unbuilt};
+use v6_run::Status;
 
 /// The disk of `examples/hi`, of which so many bytes are given.
 fn run_over(
@@ -19,62 +19,6 @@ fn run_over(
     Ok((status, host))
 }
 
-/// A script, so many bytes of the image, and what the terminal then shows. The last byte of the disk that isn't 0 is before
-/// 33,840.
-const WHOLE_RUNS: [(&[u8], usize, &[u8]); 4] = [
-    (b"", 33_841, b""),
-    (b"", HI_BYTES, b""),
-    (b"run 20\n", 2_048_000, b"HI\r\n"),
-    (b"run 20\n", 2_494_464, b"HI\r\n"),
-];
-
-/// Whether the run ends well, and leaves the image filled up with zeros to 4,872 blocks.
-fn leaves_the_image(
-    alloc: Global,
-    script: &[u8],
-    bytes: usize,
-    term: &[u8],
-) -> Result<bool, AllocError> {
-    let (status, host) = run_over(alloc, bytes, script, RUN)?;
-    let disk = hi_image(alloc, 2_494_464, &[])?;
-    Ok(
-        status == Status::Done
-            && host.bytes(OutPort::Term) == term
-            && host.bytes(OutPort::Final) == disk.as_slice()
-            && host.bytes(OutPort::Report).is_empty(),
-    )
-}
-
-#[test]
-fn run_leaves_a_whole_disk(rt: HostRuntime) -> Result<(), Fail> {
-    for (script, bytes, term) in WHOLE_RUNS {
-        assert!(rt;
-            leaves_the_image(rt.alloc(), script, bytes, term)?,
-            "{bytes}"
-        );
-    }
-    Ok(())
-}
-
-/// What stands behind the file system, in the boot block, and in the flags and behind the super-block: all that a run leaves
-/// alone. Block 4000 begins at 2,048,000.
-const LEFT_ALONE: [Piece<'static>; 4] = [
-    (0, b"boot"),
-    (920, b"\x01\x02\x03\x04"),
-    (928, b"rest"),
-    (2_048_000, b"swap"),
-];
-
-#[test]
-fn what_no_file_holds_stays(rt: HostRuntime) -> Result<(), Fail> {
-    let image = hi_image(rt.alloc(), 2_048_004, &LEFT_ALONE)?;
-    let mut host = host_with(rt.alloc(), &image, b"run 20\n")?;
-    let status = end_over(rt.alloc(), RUN, &mut host)?;
-    let disk = hi_image(rt.alloc(), 2_494_464, &LEFT_ALONE)?;
-    assert!(rt; status == Status::Done && host.bytes(OutPort::Final) == disk.as_slice());
-    Ok(())
-}
-
 #[test]
 fn unknown_name_of_the_disk_is_a_write_fault(rt: HostRuntime) -> Result<(), Fail> {
     let words = "run image 1200 script term log other";
@@ -82,18 +26,6 @@ fn unknown_name_of_the_disk_is_a_write_fault(rt: HostRuntime) -> Result<(), Fail
     let is_unwritten = host.bytes(OutPort::Term).is_empty()
         && host.bytes(OutPort::Final).is_empty();
     assert!(rt; status == Status::WriteFault(OutPort::Final) && is_unwritten);
-    Ok(())
-}
-
-/// HALT in the place of the exit, at address 16.
-#[test]
-fn no_disk_is_left_at_what_is_not_built(rt: HostRuntime) -> Result<(), Fail> {
-    let image = hi_image(rt.alloc(), HI_BYTES, &[(TEXT + 16, b"\0\0")])?;
-    let mut host = host_with(rt.alloc(), &image, b"run 20\n")?;
-    let status = end_over(rt.alloc(), RUN, &mut host)?;
-    let is_shown = host.bytes(OutPort::Term) == b"HI\r\n".as_slice();
-    let is_left = !host.bytes(OutPort::Final).is_empty();
-    assert!(rt; status == Status::NotBuilt(Unbuilt::At(16)) && is_shown && !is_left);
     Ok(())
 }
 

@@ -1,6 +1,6 @@
 //! Rows of whole commands and runs, which judge the definitions. A function that is proved equal to its definition is
 //! as right as the definition: what a proof can't see is a rule of the manual that was misread in both. So each rule
-//! has rows that its likely misreadings fail: here, in `script_rows`, in `program_rows`, and in the crates of rows over the
+//! has rows that its likely misreadings fail: here, in the files that `run_rows` runs, and in the crates of rows over the
 //! crates below.
 //!
 //! There is no code here but tests, over the public calls of the crates below. A row is data, and the one question

@@ -1,12 +1,12 @@
-//! The log that a run writes beside the terminal's bytes: docs/manual/log.md and commands.md.
+//! The log that a run writes beside the terminal's bytes, one byte a call, into little room, and under an unknown name:
+//! docs/manual/log.md and commands.md.
 use run_fixtures::{
-    HI_BYTES, OneByte, Piece, ROOMS, RUN, Rooms, TEXT, end_over, hi_image, host_in, host_with,
-    is_front,
+    HI_BYTES, OneByte, ROOMS, RUN, Rooms, end_over, hi_image, host_in, host_with, is_front,
 };
 use std::alloc::{AllocError, Global};
 use std::test::Fail;
 use v6_port::OutPort;
-use v6_run::{Status, Unbuilt};
+use v6_run::Status;
 
 /// What the run of `examples/hi` shows, one thing after another: lines of the log, and bytes of the terminal. The exec gives
 /// back the seventeen clicks with which a system begins and takes 37, of its area, one of data and twenty of stack. The open,
@@ -44,52 +44,6 @@ pub fn shown_on(alloc: Global, port: OutPort, count: usize) -> Result<Vec<u8>, A
     Ok(bytes)
 }
 
-/// A script, pieces to change the disk, how the run ends, and how many of these it shows.
-type Logged<'a> = (&'a [u8], &'a [Piece<'a>], Status, usize);
-
-/// HALT in the place of the exit, at address 16, isn't built: there is no last line then.
-const LOGS: [Logged<'static>; 2] = [
-    (b"run 20\n", &[], Status::Done, 19),
-    (
-        b"run 20\n",
-        &[(TEXT + 16, b"\0\0")],
-        Status::NotBuilt(Unbuilt::At(16)),
-        13,
-    ),
-];
-
-fn is_logged(alloc: Global, row: &Logged<'_>) -> Result<bool, AllocError> {
-    let (script, pieces, wanted, count) = *row;
-    let image = hi_image(alloc, HI_BYTES, pieces)?;
-    let mut host = host_with(alloc, &image, script)?;
-    let status = end_over(alloc, RUN, &mut host)?;
-    let term = shown_on(alloc, OutPort::Term, count)?;
-    let log = shown_on(alloc, OutPort::Log, count)?;
-    Ok(
-        status == wanted
-            && host.bytes(OutPort::Term) == term.as_slice()
-            && host.bytes(OutPort::Log) == log.as_slice(),
-    )
-}
-
-#[test]
-fn runs_write_their_logs(rt: HostRuntime) -> Result<(), Fail> {
-    for row in LOGS {
-        assert!(rt; is_logged(rt.alloc(), &row)?, "{:?}", row.2);
-    }
-    Ok(())
-}
-
-#[test]
-fn empty_script_has_a_log(rt: HostRuntime) -> Result<(), Fail> {
-    let image = hi_image(rt.alloc(), HI_BYTES, &[])?;
-    let mut host = host_with(rt.alloc(), &image, b"")?;
-    let status = end_over(rt.alloc(), RUN, &mut host)?;
-    let log = b"boot 1200 0\nsleep 0 -100 runout\ngo 1\nend\n".as_slice();
-    assert!(rt; status == Status::Done && host.bytes(OutPort::Log) == log);
-    Ok(())
-}
-
 #[test]
 fn lines_go_out_one_byte_a_call(rt: HostRuntime) -> Result<(), Fail> {
     let image = hi_image(rt.alloc(), HI_BYTES, &[])?;
@@ -98,7 +52,9 @@ fn lines_go_out_one_byte_a_call(rt: HostRuntime) -> Result<(), Fail> {
     };
     let status = end_over(rt.alloc(), RUN, &mut host)?;
     let log = shown_on(rt.alloc(), OutPort::Log, 19)?;
-    assert!(rt; status == Status::Done && host.host.bytes(OutPort::Log) == log.as_slice());
+    let is_shown = host.host.bytes(OutPort::Term) == b"HI\r\n".as_slice();
+    let is_logged = host.host.bytes(OutPort::Log) == log.as_slice();
+    assert!(rt; status == Status::Done && is_shown && is_logged);
     Ok(())
 }
 

@@ -1,0 +1,216 @@
+#!/usr/bin/env python3
+"""Shows rows, which are whole runs with what they must come to, and runs them: see docs/rows.md."""
+import argparse
+import fnmatch
+import os
+import shlex
+import subprocess
+import sys
+import tempfile
+
+sys.path.insert(0, os.path.dirname(os.path.abspath(__file__)))
+import disassembler
+from files import read_bytes, told
+from pdp11 import ARGUMENTS
+from program import V6, ProgramError
+from rowfile import DATA, HI, TEXT, Row, RowError, names
+
+FILES = ("term", "log", "final")
+
+
+# running
+
+
+class Runner:
+    """Runs rows in a folder of its own, by the program v6."""
+
+    def __init__(self, v6, folder):
+        command, *more = shlex.split(v6)
+        self.words = [os.path.abspath(command) if os.sep in command else command, *more]
+        self.folder, self.bases = folder, {None: read_bytes(HI)}
+
+    def call(self, words, report=""):
+        """The status of a command, and its report."""
+        try:
+            done = subprocess.run([*self.words, *words], capture_output=True, cwd=self.folder)
+        except OSError as error:
+            raise ProgramError(f"{self.words[0]}: {error.strerror}: the program v6 is wanted; --v6 names it") from None
+        return done.returncode, done.stdout
+
+    def put(self, name, data):
+        with open(os.path.join(self.folder, name), "wb") as file:
+            file.write(data)
+
+    def get(self, name):
+        path = os.path.join(self.folder, name)
+        return read_bytes(path) if os.path.exists(path) else b""
+
+    def base(self, made):
+        """The disk of examples/hi, or the one of a number that `make` makes."""
+        if made not in self.bases:
+            self.call(["make", str(made), "made"])
+            self.bases[made] = self.get("made")
+        return self.bases[made]
+
+    def run(self, row):
+        """What a row comes to: its image and, by name, what is to be compared."""
+        base = self.base(row.numbers["made"])
+        image = row.image(base)
+        for name, data in (("image", image), ("script", row.script), ("empty", b"")):
+            self.put(name, data)
+        for name in FILES:
+            self.put(name, b"")
+        came = {}
+        came["status"], came["report"] = self.call(row.command().split(" ") if row.command() else [])
+        came.update((name, self.get(name)) for name in FILES)
+        if row.lines["check"] is not None:
+            self.put("left", came["final"])
+            came["check"] = self.call(["check", "left"])[1]
+        return image, came
+
+
+def differences(row, image, came):
+    """What a run came to otherwise than its row says: (what, wanted, came)."""
+    wanted = {"status": row.numbers["status"], "report": row.lines["report"]}
+    came = {**came, "shown": len(came["term"])}
+    wanted.update({"term": row.term} if row.numbers["shown"] is None else {"shown": row.numbers["shown"]})
+    log, disk = row.wanted_log(image), row.wanted_disk(image)
+    if log is not None:
+        wanted["log"] = log
+        came["log"] = came["log"][-len(log):] if row.is_end else came["log"]
+    if row.lines["check"] is not None:
+        wanted["check"] = row.lines["check"]
+    if disk is not None or wanted["status"]:
+        wanted["final"] = disk or b""
+    found = [(what, value, came[what]) for what, value in wanted.items() if came[what] != value]
+    if log is None and came["log"].endswith(b"end\n") != row.ends():
+        found.append(("last line of the log", b"end" if row.ends() else b"none", came["log"][-20:]))
+    for at, data in [] if disk is not None else row.left or []:
+        if came["final"][at : at + len(data)] != data:
+            found.append((f"disk at {at}", data, came["final"][at : at + len(data)]))
+    return found
+
+
+# showing
+
+
+def shown(data):
+    """Bytes as the lines of a row file have them, a line for each new line in them."""
+    lines = data.split(b"\n")
+    out = [plain(line) + "\\n" for line in lines[:-1]] + ([plain(lines[-1])] if lines[-1] else [])
+    return [f'    "{line}"' for line in out]
+
+
+def plain(data):
+    table = {0o15: "\\r", 0o11: "\\t", 0o134: "\\\\", 0o42: '\\"'}
+    return "".join(table.get(b) or (chr(b) if 32 <= b < 127 else f"\\{b:03o}") for b in data)
+
+
+def code(data, at):
+    """Lines of the words of a program, each instruction with its arguments."""
+    lines = list(disassembler.lines([int.from_bytes(data[i : i + 2], "little") for i in range(0, len(data), 2)], at))
+    while lines:
+        (at, text, words), *lines = lines
+        count = ARGUMENTS.get(text[4:], 0) if text.startswith("sys\t") else 0
+        for _, more, word in lines[:count]:
+            text, words = f"{text}; {more}", [*words, *word]
+        lines = lines[count:]
+        yield f"  {at:6o}  {' '.join(f'{w:06o}' for w in words):22}  ; {text}".replace("\t", " ")
+
+
+def whole_program(row, image):
+    """The program of a row, as it stands on the disk: its lines, those of its frames too."""
+    start = 0
+    for name in ("before", "init", "after"):
+        for at, data, source in row.sources[name]:
+            at += start if name == "after" else 0
+            now = image[TEXT + at : TEXT + at + len(data)]
+            if source is None:
+                yield f'  {at:6o}  "{plain(now)}"'.replace("\n", "\\n")
+            else:
+                yield from code(now, at)
+        start += len(row.parts[name] or b"")
+
+
+def show(row, image, came, found):
+    print("\n".join(f"# {line}" for line in row.remarks))
+    for name in row.frames:
+        print(f"frame {name}")
+    if row.program() is not None:
+        print("/etc/init", *whole_program(row, image), sep="\n")
+    for inode, block, data, sources in row.files:
+        print(f"the file of inode {inode}, in block {block}: header {' '.join(f'{w:o}' for w in header(data))}")
+        for at, part, source in sources:
+            print(*([f'  {at:6o}  "{plain(part)}"'] if source is None else code(part, at)), sep="\n")
+    print("v6", row.command())
+    for name, data in (("script", row.script), ("terminal", came["term"]), ("log", came["log"]), ("report", came["report"])):
+        print(name, *squeezed(shown(data)), sep="\n")
+    tell(row, found)
+
+
+def squeezed(lines):
+    """Lines, of which one that comes again and again stands once with its number."""
+    out = []
+    for line in lines:
+        if out and out[-1][1] == line:
+            out[-1][0] += 1
+        else:
+            out.append([1, line])
+    return [line if count == 1 else f"    {count} times {line.strip()}" for count, line in out]
+
+
+def header(data):
+    return [int.from_bytes(data[at : at + 2], "little") for at in range(0, 16, 2)]
+
+
+def tell(row, found):
+    if not found:
+        print("ok", row.name)
+    for what, wanted, came in found:
+        wanted, came = (value if isinstance(value, int) else f'"{plain(value[:200])}"' for value in (wanted, came))
+        print(f"{row.name}: {what}: {wanted} is wanted, and {came} came")
+
+
+# the command line
+
+
+def chosen(words):
+    every = names()
+    found = [name for name in every if any(fnmatch.fnmatch(name, word) or fnmatch.fnmatch(name, "*/" + word) for word in words)]
+    for word in words:
+        if not any(fnmatch.fnmatch(name, word) or fnmatch.fnmatch(name, "*/" + word) for name in every):
+            raise RowError(f"{word}: no such row")
+    return found
+
+
+def main(words):
+    parser = argparse.ArgumentParser(prog="row.py", description="Shows and runs rows of whole runs: docs/rows.md")
+    parser.add_argument("names", metavar="NAME", nargs="*", help="a row, or a pattern as 'calls/*'; none: the list of all")
+    parser.add_argument("-q", "--quiet", action="store_true", help="tell only whether each row came out as it says")
+    parser.add_argument("--v6", metavar="COMMAND", default=V6, help="the program that runs them (bin/v6)")
+    options = parser.parse_args(words)
+    failed = 0
+    try:
+        if not options.names:
+            for name in names():
+                print(f"{name}: {Row(name).remarks[0]}")
+            return 0
+        with tempfile.TemporaryDirectory() as folder:
+            runner = Runner(options.v6, folder)
+            for name in chosen(options.names):
+                row = Row(name)
+                image, came = runner.run(row)
+                found = differences(row, image, came)
+                failed += bool(found)
+                tell(row, found) if options.quiet else show(row, image, came, found)
+    except (RowError, ProgramError) as error:
+        print(f"row.py: {error}", file=sys.stderr)
+        return 1
+    except OSError as error:
+        print(f"row.py: {told(error)}", file=sys.stderr)
+        return 1
+    return 1 if failed else 0
+
+
+if __name__ == "__main__":
+    sys.exit(main(sys.argv[1:]))

@@ -1,0 +1,156 @@
+"""Rows: their sources make their words, their comments tell the places of the disk, and the tool runs them."""
+import os
+import re
+import unittest
+
+from common import TOP, Case, tool
+
+row_main = tool("row").main
+import rowfile
+from assembler import Assembler
+
+DATA = rowfile.DATA
+ROW = """\
+# hi, twice
+core 64
+over
+        10  000003 005000           ; 3; clr r0
+disk
+       924  05 00 34 12             ; super-block: time
+script
+    2 times run 10
+term
+    "H"
+    "I\\r\\012"
+log
+    booted
+    trap 1
+    ..
+"""
+
+
+def assembled(lines):
+    """The bytes of a program, of which each line with a source is assembled at its address, and zeros are between."""
+    assembler, text, end = Assembler(), "", 0
+    for at, words, source in lines:
+        if source:
+            text += f"\t.=.+{at - end:o}\n\t{source}\n"
+            end = at + len(words)
+    made = assembler.assemble([("row", text)])
+    return made and made[16:], assembler.errors
+
+
+def comments(path):
+    """The lines of bytes of a disk with their comments: (place, count of bytes, comment)."""
+    with open(path, encoding="ascii") as file:
+        for line in file:
+            found = re.fullmatch(r" +(\d+)  ([0-9a-f]{2}(?: [0-9a-f]{2})*) +; (.*)\n", line)
+            if found:
+                yield int(found[1]), len(found[2].split()), found[3]
+
+
+class Comments(Case):
+    def parts(self):
+        """The lines of each program, of each frame once: (address, words, source)."""
+        seen = set()
+        for name in rowfile.names():
+            row = rowfile.Row(name)
+            for key, sources in [*row.sources.items(), *((file[:2], file[3]) for file in row.files)]:
+                lines = tuple(line for line in sources if line[2] is not None)
+                if lines and lines not in seen:
+                    seen.add(lines)
+                    yield f"{name}: {key}", lines
+
+    def test_sources_make_their_words(self):
+        for name, lines in self.parts():
+            with self.subTest(name):
+                made, errors = assembled(lines)
+                self.assertEqual(errors, [])
+                for at, words, source in lines:
+                    wanted = made[at : at + len(words)] if source else bytes(len(words))
+                    self.assertEqual(wanted, words, f"at {at:o}")
+
+    def test_places_are_told(self):
+        for folder, _, files in os.walk(DATA):
+            for file in files:
+                for at, count, comment in comments(os.path.join(folder, file)):
+                    self.assertEqual(comment, rowfile.place(at, count), f"{file}: {at}")
+
+    def test_list(self):
+        """The program's output, which the gate compares, has each row in its order."""
+        with open(os.path.join(TOP, "crates", "run_rows", "stdout"), encoding="ascii") as file:
+            self.assertEqual(file.read(), "".join(f"ok {name}\n" for name in rowfile.names()))
+
+    def test_every_row_says_what_it_shows(self):
+        for name in rowfile.names():
+            title, page = rowfile.Row(name).remarks[:2]
+            self.assertTrue(title and page.startswith("docs/manual/"), name)
+            for there in re.findall(r"[\w-]+\.md", page):
+                self.assertTrue(os.path.exists(os.path.join(TOP, "docs", "manual", there)), f"{name}: {there}")
+
+
+class Language(Case):
+    def row(self, text):
+        """The row of a file."""
+        os.makedirs(os.path.join(self.folder, "rows", "some"), exist_ok=True)
+        self.put(os.path.join("rows", "some", "row"), text.encode())
+        return rowfile.Row(os.path.join("some", "row"), self.folder)
+
+    def fault(self, text):
+        with self.assertRaises(rowfile.RowError) as caught:
+            self.row(text)
+        return str(caught.exception)
+
+    def test_a_row(self):
+        row = self.row(ROW.replace("    ..\n", ""))
+        self.assertEqual((row.script, row.term), (b"run 10\nrun 10\n", b"HI\r\n"))
+        with open(rowfile.HI, "rb") as file:
+            base = file.read()
+        image = row.image(base)
+        wanted = bytearray(base)
+        wanted[rowfile.TEXT + 8 : rowfile.TEXT + 12] = b"\3\0\0\n"
+        wanted[924:928] = b"\5\0\x34\x12"
+        self.assertEqual(image, bytes(wanted))
+        log = b"boot 64 332340\nsleep 0 -100 runout\ngo 1\nbare 1\nimage 1 37 at 1\ntrap 1\ngo 1\ntrap 1\n"
+        self.assertEqual(row.wanted_log(image), log)
+        self.assertEqual(row.command(), "run image 64 script term log final")
+
+    def test_faults(self):
+        for text, wanted in ((ROW, "15: .. is the first line of a log"), ("init\n    2  0\n", "2: the address is 0, and not 2"),
+                             ("nothing\n", "1: nothing: no such line"), ("  run 5\n", "1: a line of no section"),
+                             ('term\n  "a\n', '2: "a: the text has no end'), ('term\n  "\\q"\n', '2: "\\q": \\q: no such escape'),
+                             ('term\n  "\\08"\n', '2: "\\08": \\0: no such escape'), ("told 8\n", "1: 8: octal words are wanted"),
+                             ("disk\n    5  1\n", "2: 1: bytes in hexadecimal are wanted"),
+                             ("file 8 67\n  header 407\n", "2: a header has eight words, and stands first")):
+            with self.subTest(text):
+                self.assertEqual(self.fault(text), f"rows/some/row:{wanted}")
+
+
+class Command(Case):
+    def test_rows_hold(self):
+        names = ["programs/hi_over_memory", "calls/wait_a_child_is_told_of_once", "checks/a_block_twice", "exec_refusals/511_bytes"]
+        self.assertEqual(self.call(row_main, "-q", *names), (0, "".join(f"ok {name}\n" for name in sorted(names)), ""))
+
+    def test_shown(self):
+        status, out, error = self.call(row_main, "a_child_is_told_of_once", "wait_a_child_is_told_of_once")
+        self.assertEqual((status, out, error), (1, "", "row.py: a_child_is_told_of_once: no such row\n"))
+        status, out, error = self.call(row_main, "wait_a_child_is_told_of_once")
+        self.assertEqual((status, error), (0, ""))
+        for line in ("# wait: a child is told of once", "      32  104402                  ; sys fork",
+                     "      42  010037 000014           ; mov r0,*$14", '    "run 60\\n"', '    "\\r\\n"', "ok calls/wait_a_child_is_told_of_once"):
+            self.assertIn(line, out.split("\n"))
+
+    def test_all_are_listed(self):
+        status, out, _ = self.call(row_main)
+        self.assertEqual((status, out.count("\n")), (0, len(rowfile.names())))
+
+    def test_a_row_that_does_not_hold(self):
+        image = rowfile.Row("programs/hi_over_memory")
+        image.term = b"HO\r\n"
+        runner = tool("row").Runner(tool("row").V6, self.folder)
+        found = tool("row").differences(image, *runner.run(image))
+        self.assertEqual(found, [("term", b"HO\r\n", b"HI\r\n")])
+
+
+if __name__ == "__main__":
+    unittest.main()
