@@ -1,9 +1,8 @@
--- A fork: its line fits, or there is no place for the child and the panic fits.
+-- A fork: its line fits, wherever in core the child's image stands.
 use Rattle.std.proofs.Common.{◌≡◌, ◌≢◌, ◌∙◌, ◌<◌, ◌≤◌, ◌==◌, ◌+◌, ℕ, zero, suc, Bool, true, false, List, ◌∷◌, Option, Some, None, is_none, find, length, get_or-set_other, refl, sym, ap, inl, arith}
 use Rattle.std.specs.List.{range_with_len}
 use Rattle.v6_base.specs.declared.entry.Place.{Place}
 use Rattle.v6_base.specs.declared.entry.Place.TheVariants.{Core, Swap}
-use Rattle.v6_base.specs.declared.entry.PanicKind.TheVariants as panic
 use Rattle.v6_base.specs.declared.entry.Entry.TheVariants as line
 use Rattle.pick_rules.specs.Search.{slots_above_0}
 use Rattle.pick_rules.specs.declared.row.TableRow.{TableRow}
@@ -11,12 +10,11 @@ use Rattle.pick_rules.specs.Table.{child_row, row_at, with_row}
 use Rattle.pick_rules.specs.Sleepers.{runout_told}
 use Rattle.pick_rules.specs.Board.{Board, placed}
 use Rattle.pick_rules.specs.Apply.{in_table, change_row, joins, applied}
-use Rattle.pick_rules.specs.Effects.{Effect, Came, Lets, at_fit, came}
+use Rattle.pick_rules.specs.Effects.{Effect, image_at, came}
 use Rattle.pick_rules.specs.Effects as effect
 use Rattle.pick_rules.specs.Fits.{IsRunning, FitsBoard, free_slot}
 use Rattle.pick_rules.specs.Lawful.{Seen, seen_after}
 use Rattle.pick_rules.proofs.Found.{IsFound, found_in}
-use Rattle.pick_rules.proofs.NoPlace.{no_place}
 use Rattle.pick_rules.proofs.Shapes.{Shape, shape_at, same_none, runout_same}
 use Rattle.pick_rules.proofs.Placing.{text_table, text_core, again_row, core_table, core_core}
 use Rattle.log_laws.proofs.Fitting.{going_fits, Apt, AptCame}
@@ -140,11 +138,11 @@ free_other s v b child t e f = absurd (
     let h : is_none (seat_at v s) ≡ false = ap is_none t.at in cc (g, h)
     )
 
--- the rest is to be apt whatever place the child gets
+-- the rest is to be apt whatever place in core the child gets
 pub fork_apt : {W : Type 0}
     → (Q : Seen → Type 0) (s : ℕ) (v : Seats) (seen : Seen) (child : ℕ) (before : W) (es : List (Effect W))
     → (i : InCall s false v seen) → free_seat v ≡ Some child
-    → ((place : Place) → placed seen.board s (row_at seen.board.table s).size ≡ Some place → v.may place ≡ true)
+    → ((c : ℕ) → v.may (Core c) ≡ true)
     → ((now : Seen) → InCall s false (with_seat v child (Some i.turn.seat)) now → Apt Q now es)
     → Apt Q seen (effect.Fork s child before ∷ es)
 unfolding Apt came FitsBoard
@@ -157,11 +155,11 @@ fork_apt Q s v seen child before es i f may rest = by (placed seen.board s (row_
     found = found_in _ 1 49 child f
 
     by : (o : Option Place) → placed seen.board s (row_at seen.board.table s).size ≡ o
-        → AptCame seen (at_fit panic.Swap before o (λ place. line.Fork s child place)) (λ now. Apt Q now es)
-    by (Some place) e = (
-      going_fits seen.stage seen.board (line.Fork s child place) i.going (running, sym (same_free s v seen.board i.agrees) ∙ f, e),
-      rest (seen_after seen (line.Fork s child place))
-          (fork_in s v seen child i (let l = found.below in omega (arith, l)) found.least (free_other s v seen.board child i.turn found.passes) place (may place e)),
+        → AptCame seen (image_at before o (λ place. line.Fork s child place)) (λ now. Apt Q now es)
+    by (Some (Core c)) e = (
+      going_fits seen.stage seen.board (line.Fork s child (Core c)) i.going (running, sym (same_free s v seen.board i.agrees) ∙ f, e),
+      rest (seen_after seen (line.Fork s child (Core c)))
+          (fork_in s v seen child i (let l = found.below in omega (arith, l)) found.least (free_other s v seen.board child i.turn found.passes) (Core c) (may c)),
     )
-    by None e = going_fits seen.stage seen.board (line.Panic panic.Swap) i.going
-        (inl ((s, running), no_place seen.board s _ (own s s v seen.board i.agrees i.turn).most e))
+    by (Some (Swap block)) e = tt
+    by None e = tt

@@ -11,7 +11,7 @@ use Rattle.pick_rules.specs.declared.row.TableRow.{TableRow}
 use Rattle.pick_rules.specs.Table.{empty_row, row_at, with_row, is_zombie, is_loaded}
 use Rattle.pick_rules.specs.Board.{Board, swap_fit}
 use Rattle.pick_rules.specs.Apply.{in_table, change_row, leaves_core, parted, goes_if_unused, applied}
-use Rattle.pick_rules.specs.Effects.{Effect, at_fit, came}
+use Rattle.pick_rules.specs.Effects.{Effect, Panicked, at_fit, came}
 use Rattle.pick_rules.specs.Effects as effect
 use Rattle.pick_rules.specs.Fits.{FitsBoard, IsRunning}
 use Rattle.pick_rules.specs.Lawful.{Seen, FitsStage, seen_after}
@@ -171,7 +171,7 @@ module _ (s : ℕ) (calling : Bool) (v : Seats) (seen : Seen) (i : InCall s call
       running = runs_in s v seen.board i.turn
 
       by : (o : Option ℕ) → swap_fit seen.board 1 ≡ o
-          → AptCame seen (at_fit panic.Zombie before o (λ block. line.Exit s block)) (λ now. Apt Q now es)
+          → AptCame seen (at_fit (Panicked panic.Zombie) before o (λ block. line.Exit s block)) (λ now. Apt Q now es)
       by (Some block) e = (
         going_fits seen.stage seen.board (line.Exit s block) i.going (running, (own s s v seen.board i.agrees i.turn).text ∙ bare, e),
         rest (seen_after seen (line.Exit s block)) (exit_paused block seat dead (text ∙ sym bare)),

@@ -5,10 +5,11 @@ use Rattle.v6_base.specs.declared.entry.Chan.{Chan}
 use Rattle.v6_base.specs.declared.entry.Entry.{Entry}
 use Rattle.v6_base.specs.declared.entry.Entry.TheVariants as line
 use Rattle.pick_rules.specs.Board.{Board}
-use Rattle.pick_rules.specs.Effects.{Effect, Show, Came, Lets, Panics, came}
+use Rattle.pick_rules.specs.Effects.{Effect, Show, Why, Panicked, Unbuilt, Came, Lets, Stops, came}
 use Rattle.pick_rules.specs.Logged.{Stop, Logged, with_what_came, log_one, logged}
 use Rattle.pick_rules.specs.Fits.{FitsBoard}
 use Rattle.pick_rules.specs.Lawful.{Stage, Blank, Booted, Open, Idling, Bared, Over, Seen, Fits, FitsStage, FitAll, seen_after}
+use Rattle.pick_rules.proofs.Stopping.{stays_stopped}
 
 pub fit_append : (seen : Seen) (xs ys : List Entry) → FitAll seen xs → FitAll (fold seen_after seen xs) ys
     → FitAll seen (xs ++ ys)
@@ -56,37 +57,32 @@ going_fits Idling b e g f = inr f
 going_fits (Bared s) b e g f = absurd g
 going_fits Over b e g f = absurd g
 
+-- a log that a panic has stopped has ended
+abbrev pub EndsBy : Why → Seen → Type 0
+EndsBy (Panicked kind) seen = seen.stage ≡ Over
+EndsBy (Unbuilt kind) seen = Unit {0}
+
 module _ {W : Type 0} where
   -- what comes of an effect fits
   abbrev pub AptCame : Seen → Came W → (Seen → Type 0) → Type 0
   AptCame seen (Lets (Log e)) rest = Fits seen e × rest (seen_after seen e)
   AptCame seen (Lets (Byte l byte)) rest = rest seen
-  AptCame seen (Panics kind before) rest = Fits seen (line.Panic kind)
+  AptCame seen (Stops (Panicked kind) before) rest = Fits seen (line.Panic kind)
+  AptCame seen (Stops (Unbuilt kind) before) rest = Unit {0}
 
   -- what comes of each effect fits what the effects before it give, and Q holds of what they all give
   unfoldable pub Apt : (Seen → Type 0) → Seen → List (Effect W) → Type 0
   Apt Q seen [] = Q seen
   Apt Q seen (e ∷ es) = AptCame seen (came seen.board e) (λ now. Apt Q now es)
 
-  -- a log that has stopped has ended
   abbrev pub Ends : (Seen → Type 0) → Option (Stop W) → Seen → Type 0
   Ends Q None seen = Q seen
-  Ends Q (Some stop) seen = seen.stage ≡ Over
+  Ends Q (Some stop) seen = EndsBy stop.why seen
 
   pub record Fitted (Q : Seen → Type 0) (seen : Seen) (l : Logged W) : Type 0 where
     pub fit : FitAll seen (entries_of l.items)
     pub board : (seen_items seen l.items).board ≡ l.board
     pub ends : Ends Q l.stop (seen_items seen l.items)
-
-  -- it stays as it is
-  abbrev halted : List Item → Board → Stop W → Logged W
-  halted xs b stop = record { items = xs; board = b; stop = Some stop }
-
-  stopped : (xs : List Item) (b : Board) (stop : Stop W) (es : List (Effect W))
-      → fold log_one (halted xs b stop) es ≡ halted xs b stop
-  unfolding log_one
-  stopped xs b stop [] = refl
-  stopped xs b stop (x ∷ es) = stopped xs b stop es
 
   abbrev going : List Item → Seen → Logged W
   going xs seen = record { items = xs; board = seen.board; stop = None }
@@ -106,11 +102,13 @@ module _ {W : Type 0} where
           (seen_append first xs (Log entry ∷ []) ∙ ap (λ s. seen_after s entry) e) a.1
       by rest (Lets (Byte l byte)) a = rest seen (xs ++ Byte l byte ∷ [])
           (fit_item first xs (Byte l byte) f tt) (seen_append first xs (Byte l byte ∷ []) ∙ e) a
-      by rest (Panics kind before) a = subst (Fitted Q first) (sym (stopped _ _ _ es)) (record {
+      by rest (Stops (Panicked kind) before) a = subst (Fitted Q first) (sym (stays_stopped _ _ _ es)) (record {
         fit = fit_item first xs (Log (line.Panic kind)) f (subst (λ s. FitAll s (line.Panic kind ∷ [])) (sym e) (a, tt));
         board = ap (λ s. s.board) (seen_append first xs (Log (line.Panic kind) ∷ []) ∙ ap (λ s. seen_after s (line.Panic kind)) e);
         ends = ap (λ s. s.stage) (seen_append first xs (Log (line.Panic kind) ∷ []));
       })
+      by rest (Stops (Unbuilt kind) before) a =
+          subst (Fitted Q first) (sym (stays_stopped _ _ _ es)) (record { fit = f; board = ap (λ s. s.board) e; ends = tt })
 
   -- the log of apt effects fits, and Q holds after it, unless it has stopped
   pub apt_fits : (Q : Seen → Type 0) (seen : Seen) (es : List (Effect W)) → Apt Q seen es
@@ -130,7 +128,8 @@ module _ {W : Type 0} where
           → AptCame seen c (λ now. Apt Q now (xs ++ ys))
       by (Lets (Log entry)) b rest = (b.0, rest (seen_after seen entry) b.1 h)
       by (Lets (Byte l byte)) b rest = rest seen b h
-      by (Panics kind before) b rest = b
+      by (Stops (Panicked kind) before) b rest = b
+      by (Stops (Unbuilt kind) before) b rest = tt
 
   pub apt_more : (P Q : Seen → Type 0) (seen : Seen) (es : List (Effect W)) → ((now : Seen) → P now → Q now)
       → Apt P seen es → Apt Q seen es
@@ -142,7 +141,8 @@ module _ {W : Type 0} where
           → AptCame seen c (λ now. Apt Q now es)
       by (Lets (Log entry)) b rest = (b.0, rest (seen_after seen entry) b.1)
       by (Lets (Byte l byte)) b rest = rest seen b
-      by (Panics kind before) b rest = b
+      by (Stops (Panicked kind) before) b rest = b
+      by (Stops (Unbuilt kind) before) b rest = tt
 
   -- a wake fits always
   pub wake_apt : (Q : Seen → Type 0) (seen : Seen) (chan : Chan) (es : List (Effect W)) → IsGoing seen.stage

@@ -1,10 +1,9 @@
 -- The lines of images: a size, and an exec, whose new image takes the place of the old one.
-use Rattle.std.proofs.Common.{◌≡◌, ◌≢◌, ◌∙◌, ◌≤◌, ◌<◌, ◌==◌, ℕ, nat_le, Bool, true, false, cond, List, ◌∷◌, Option, Some, None, set, set-set, length, get_or-set_same, refl, sym, ap, subst, inl}
+use Rattle.std.proofs.Common.{◌≡◌, ◌≢◌, ◌∙◌, ◌≤◌, ◌<◌, ◌==◌, ℕ, nat_le, Bool, true, false, cond, List, ◌∷◌, Option, Some, None, set, set-set, length, get_or-set_same, refl, sym, ap, subst}
 use Rattle.std.proofs.lemmas.Bool.{leb-true, leb-false}
 use Rattle.v6_base.specs.Trace.{Log}
 use Rattle.v6_base.specs.declared.entry.Place.{Place}
 use Rattle.v6_base.specs.declared.entry.Place.TheVariants.{Core, Swap}
-use Rattle.v6_base.specs.declared.entry.PanicKind.TheVariants as panic
 use Rattle.v6_base.specs.declared.entry.Entry.{Entry}
 use Rattle.v6_base.specs.declared.entry.Entry.TheVariants as line
 use Rattle.pick_rules.specs.declared.row.TableRow.{TableRow}
@@ -13,11 +12,10 @@ use Rattle.pick_rules.specs.Table.{empty_row, row_at, with_row}
 use Rattle.pick_rules.specs.Sleepers.{runout_told}
 use Rattle.pick_rules.specs.Board.{Board, limit, placed}
 use Rattle.pick_rules.specs.Apply.{change_row, applied}
-use Rattle.pick_rules.specs.Effects.{Effect, Show, Lets, at_fit, came}
+use Rattle.pick_rules.specs.Effects.{Effect, Show, Lets, image_at, came}
 use Rattle.pick_rules.specs.Effects as effect
 use Rattle.pick_rules.specs.Fits.{FitsBoard, IsRunning, IsSize}
 use Rattle.pick_rules.specs.Lawful.{Bared, Seen, FitsStage, seen_after}
-use Rattle.pick_rules.proofs.NoPlace.{no_place}
 use Rattle.pick_rules.proofs.Shapes.{shape, shape_at, Sleeps, same_none, runout_same}
 use Rattle.pick_rules.proofs.Placing.{again_row, row_in, row_out, core_table, core_core, bare_table, bare_core, moved_in, moved_out, moved_core}
 use Rattle.log_laws.proofs.Fitting.{going_fits, Apt, AptCame}
@@ -122,27 +120,26 @@ module _ (s : ℕ) (calling : Bool) (v : Seats) (seen : Seen) (i : InCall s call
         calls = i.calls;
       }
 
-  -- the rest is to be apt wherever the image of another size stands
+  -- the rest is to be apt wherever in core the image of another size stands
   pub size_apt : {W : Type 0} → (Q : Seen → Type 0) (clicks : ℕ) (before : W) (es : List (Effect W))
       → IsSize seen.board clicks
-      → (nat_le clicks (row_at seen.board.table s).size ≡ false → (place : Place) → placed seen.board s clicks ≡ Some place → v.may place ≡ true)
+      → ((c : ℕ) → v.may (Core c) ≡ true)
       → ((now : Seen) → InCall s calling (with_own s v (sized i.turn.seat clicks)) now → Apt Q now es)
       → Apt Q seen (effect.Size s clicks before ∷ es)
   unfolding Apt came FitsBoard
   size_apt Q clicks before es z may rest = by (nat_le clicks (row_at seen.board.table s).size) refl
     where
       placing : nat_le clicks (row_at seen.board.table s).size ≡ false → (o : Option Place) → placed seen.board s clicks ≡ o
-          → AptCame seen (at_fit panic.Swap before o (λ place. line.Size s clicks place)) (λ now. Apt Q now es)
-      placing g (Some place) e = (
-        going_fits seen.stage seen.board (line.Size s clicks place) i.going (running, z, leb-false _ _ g, e),
-        rest (seen_after seen (line.Size s clicks place)) (size_in clicks place (may g place e) z.most),
+          → AptCame seen (image_at before o (λ place. line.Size s clicks place)) (λ now. Apt Q now es)
+      placing g (Some (Core c)) e = (
+        going_fits seen.stage seen.board (line.Size s clicks (Core c)) i.going (running, z, leb-false _ _ g, e),
+        rest (seen_after seen (line.Size s clicks (Core c))) (size_in clicks (Core c) (may c) z.most),
       )
-      placing g None e =
-          going_fits seen.stage seen.board (line.Panic panic.Swap) i.going
-          (inl ((s, running), no_place seen.board s clicks z.most e))
+      placing g (Some (Swap block)) e = tt
+      placing g None e = tt
 
       by : (x : Bool) → nat_le clicks (row_at seen.board.table s).size ≡ x
-          → AptCame seen (cond x (Lets (Log (line.SizeKeep s clicks))) (at_fit panic.Swap before (placed seen.board s clicks) (λ place. line.Size s clicks place))) (λ now. Apt Q now es)
+          → AptCame seen (cond x (Lets (Log (line.SizeKeep s clicks))) (image_at before (placed seen.board s clicks) (λ place. line.Size s clicks place))) (λ now. Apt Q now es)
       by true e = (
         going_fits seen.stage seen.board (line.SizeKeep s clicks) i.going (running, z, leb-true _ _ e),
         rest (seen_after seen (line.SizeKeep s clicks)) (keep_in clicks z.most),
@@ -249,19 +246,20 @@ module _ (s : ℕ) (v : Seats) (seen : Seen) (i : InExec s v seen) where
 
   pub image_apt : {W : Type 0} → (Q : Seen → Type 0) (clicks : ℕ) (before : W) (es : List (Effect W))
       → IsSize seen.board clicks
-      → ((place : Place) → placed seen.board s clicks ≡ Some place → v.may place ≡ true)
+      → ((c : ℕ) → v.may (Core c) ≡ true)
       → ((now : Seen) → InCall s false (with_own s v (sized i.turn.seat clicks)) now → Apt Q now es)
       → Apt Q seen (effect.Image s clicks before ∷ es)
   unfolding Apt came FitsBoard
   image_apt Q clicks before es z may rest = by (placed seen.board s clicks) refl
     where
       by : (o : Option Place) → placed seen.board s clicks ≡ o
-          → AptCame seen (at_fit panic.Swap before o (λ place. line.Image s clicks place)) (λ now. Apt Q now es)
-      by (Some place) e = (
-        bared_fits (line.Image s clicks place) (refl, (exec_runs, i.place, z, e)),
-        rest (seen_after seen (line.Image s clicks place)) (image_in clicks place (may place e) z.most),
+          → AptCame seen (image_at before o (λ place. line.Image s clicks place)) (λ now. Apt Q now es)
+      by (Some (Core c)) e = (
+        bared_fits (line.Image s clicks (Core c)) (refl, (exec_runs, i.place, z, e)),
+        rest (seen_after seen (line.Image s clicks (Core c))) (image_in clicks (Core c) (may c) z.most),
       )
-      by None e = bared_fits (line.Panic panic.Swap) (tt, inl ((s, exec_runs), no_place seen.board s clicks z.most e))
+      by (Some (Swap block)) e = tt
+      by None e = tt
 
 -- the limit is that of the board before
 size_after : (s : ℕ) (seen : Seen) (clicks : ℕ) → IsSize seen.board clicks
@@ -274,7 +272,7 @@ pub exec_apt : {W : Type 0}
     → (Q : Seen → Type 0) (s : ℕ) (v : Seats) (seen : Seen) (clicks : ℕ) (before : W) (es : List (Effect W))
     → (i : InCall s false v seen)
     → i.turn.seat.text ≡ None → IsSize seen.board clicks
-    → ((place : Place) → placed (applied seen.board (line.Bare s)) s clicks ≡ Some place → v.may place ≡ true)
+    → ((c : ℕ) → v.may (Core c) ≡ true)
     → ((now : Seen) → InCall s false (with_own s v (sized i.turn.seat clicks)) now → Apt Q now es)
     → Apt Q seen (Show (Log (line.Bare s)) ∷ effect.Image s clicks before ∷ es)
 unfolding Apt came bare_in same_turn
@@ -282,3 +280,12 @@ exec_apt Q s v seen clicks before es i bare z may rest = (
   bare_fits s v seen i bare,
   image_apt s v (seen_after seen (line.Bare s)) (bare_in s v seen i bare) Q clicks before es (size_after s seen clicks z) may rest,
 )
+
+-- an exec of a program that would share its text goes no further than that
+pub text_apt : {W : Type 0}
+    → (Q : Seen → Type 0) (s : ℕ) (v : Seats) (seen : Seen) (clicks : ℕ) (before : W) (es : List (Effect W))
+    → (i : InCall s false v seen)
+    → i.turn.seat.text ≡ None
+    → Apt Q seen (Show (Log (line.Bare s)) ∷ effect.Text s clicks before ∷ es)
+unfolding Apt came
+text_apt Q s v seen clicks before es i bare = (bare_fits s v seen i bare, tt)

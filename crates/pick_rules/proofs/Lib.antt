@@ -9,3 +9,4 @@ pub mod Movers
 pub mod Placing
 pub mod NoPlace
 pub mod OneBlock
+pub mod Stopping

@@ -1,12 +1,14 @@
 -- What an event does, in order, and what comes of it. W is the state that stands just before a demand for a place.
 use Rattle.std.specs.Prelude.{ℕ, nat_le, if◌then◌else◌, Option, Some, None}
 use Rattle.v6_base.specs.Trace.{Item, Log}
+use Rattle.v6_base.specs.declared.entry.Place.{Place}
+use Rattle.v6_base.specs.declared.entry.Place.TheVariants.{Core, Swap}
 use Rattle.v6_base.specs.declared.entry.PanicKind.{PanicKind}
 use Rattle.v6_base.specs.declared.entry.PanicKind.TheVariants as panic
 use Rattle.v6_base.specs.declared.entry.Entry.{Entry}
 use Rattle.v6_base.specs.declared.entry.Entry.TheVariants as line
 use Rattle.pick_rules.specs.Table.{row_at}
-use Rattle.pick_rules.specs.Board.{Board, blocks, placed, swap_fit, free_text}
+use Rattle.pick_rules.specs.Board.{Board, placed, swap_fit}
 
 -- one effect: a byte or a line that names no place, or a demand for one
 pub data Effect (W : Type 0) : Type 0 where
@@ -17,31 +19,47 @@ pub data Effect (W : Type 0) : Type 0 where
   Image : ℕ → ℕ → W → Effect W  -- this slot takes a new image of so many clicks
   Exit : ℕ → W → Effect W  -- the process in this slot has ended
 
--- what an effect comes to: it lets something out, or there is no place for what it wants
+-- why an event stops: a panic, or a demand whose answer isn't built yet
+pub data Why : Type 0 where
+  Panicked : PanicKind → Why
+  Unbuilt : PanicKind → Why
+
+-- what found no place
+abbrev pub kind_of : Why → PanicKind
+kind_of (Panicked kind) = kind
+kind_of (Unbuilt kind) = kind
+
+-- what an effect comes to: it lets something out, or the event stops just before it
 pub data Came (W : Type 0) : Type 0 where
   Lets : Item → Came W
-  Panics : PanicKind → W → Came W
+  Stops : Why → W → Came W
+
+-- No image goes to the swap area yet.
+abbrev pub in_core : Option Place → Option Place
+in_core None = None
+in_core (Some (Core c)) = Some (Core c)
+in_core (Some (Swap block)) = None
 
 module _ {W : Type 0} where
   -- the line with its place
-  abbrev pub at_fit : {P : Type 0} → PanicKind → W → Option P → (P → Entry) → Came W
-  at_fit kind before (Some place) entry = Lets (Log (entry place))
-  at_fit kind before None entry = Panics kind before
+  abbrev pub at_fit : {P : Type 0} → Why → W → Option P → (P → Entry) → Came W
+  at_fit why before (Some place) entry = Lets (Log (entry place))
+  at_fit why before None entry = Stops why before
 
-  abbrev pub text_at_fit : Board → ℕ → ℕ → W → Option ℕ → Came W
-  text_at_fit b s clicks before (Some k) = at_fit panic.Swap before (swap_fit b (blocks clicks)) (λ block. line.Text s k clicks block)
-  text_at_fit b s clicks before None = Panics panic.Text before
+  -- an image's, which is one in core
+  abbrev pub image_at : W → Option Place → (Place → Entry) → Came W
+  image_at before place entry = at_fit (Unbuilt panic.Swap) before (in_core place) entry
 
   unfoldable pub came : Board → Effect W → Came W
   came b (Show item) = Lets item
   came b (Size s clicks before) =
       if nat_le clicks (row_at b.table s).size then Lets (Log (line.SizeKeep s clicks))
-      else at_fit panic.Swap before (placed b s clicks) (λ place. line.Size s clicks place)
+      else image_at before (placed b s clicks) (λ place. line.Size s clicks place)
   came b (Fork s child before) =
-      at_fit panic.Swap before (placed b s (row_at b.table s).size) (λ place. line.Fork s child place)
-  came b (Text s clicks before) = text_at_fit b s clicks before (free_text b)
-  came b (Image s clicks before) = at_fit panic.Swap before (placed b s clicks) (λ place. line.Image s clicks place)
-  came b (Exit s before) = at_fit panic.Zombie before (swap_fit b 1) (λ block. line.Exit s block)
+      image_at before (placed b s (row_at b.table s).size) (λ place. line.Fork s child place)
+  came b (Text s clicks before) = Stops (Unbuilt panic.Text) before  -- texts aren't shared yet
+  came b (Image s clicks before) = image_at before (placed b s clicks) (λ place. line.Image s clicks place)
+  came b (Exit s before) = at_fit (Panicked panic.Zombie) before (swap_fit b 1) (λ block. line.Exit s block)
 
 -- an effect over another state
 abbrev pub lifted : {V W : Type 0} → (V → W) → Effect V → Effect W

@@ -1,5 +1,5 @@
 -- The end of a process: what becomes of its slot in the table, the rows and the images, and what the log says.
-use Rattle.std.proofs.Common.{◌≡◌, ◌∙◌, ℕ, ◌*◌, ◌%◌, ◌<◌, Bool, true, false, cond, nat_eq, List, [], ◌∷◌, length, get_or, map, set, Option, Some, None, Ok, Err, refl, sym, ap, subst, arith}
+use Rattle.std.proofs.Common.{◌≡◌, ◌∙◌, ℕ, ◌*◌, ◌%◌, ◌<◌, Bool, true, false, cond, nat_eq, List, [], ◌∷◌, length, get_or, map, set, Option, Some, None, refl, sym, ap, subst, arith}
 use Rattle.std.specs.Option.{unwrap_or}
 use Rattle.std.proofs.lemmas.List.{length-set, length-map, get_or-map, get_or-set_same, get_or-set_other}
 use Rattle.v6_base.specs.Trace.{Log}
@@ -7,9 +7,7 @@ use Rattle.v6_base.specs.declared.entry.Chan.{Chan}
 use Rattle.v6_base.specs.declared.entry.Chan.TheVariants.{Wait}
 use Rattle.v6_base.specs.declared.entry.Entry.{Entry}
 use Rattle.v6_base.specs.declared.entry.Entry.TheVariants as line
-use Rattle.v6_base.specs.declared.entry.PanicKind.{PanicKind}
 use Rattle.v6_base.specs.declared.entry.PanicKind.TheVariants as panic
-use Rattle.v6_base.specs.declared.answer.Answer.{Answer}
 use Rattle.v6_base.specs.declared.answer.Answer.TheVariants.{Ret}
 use Rattle.u_area.specs.declared.area.UArea.{UArea}
 use Rattle.v6_base.specs.declared.entry.Place.TheVariants.{Swap}
@@ -20,9 +18,9 @@ use Rattle.pick_rules.specs.Table.{row_at, IsTable, empty_row}
 use Rattle.pick_rules.specs.Sleepers.{made_ready, wakeup}
 use Rattle.pick_rules.specs.Board.{Board, swap_fit}
 use Rattle.pick_rules.specs.Apply.{applied, change_row}
-use Rattle.pick_rules.specs.Effects.{Show, Exit}
+use Rattle.pick_rules.specs.Effects.{Panicked, Show, Exit}
 use Rattle.pick_rules.specs.Effects as effects
-use Rattle.pick_rules.specs.Logged.{Logged, Stop, logged, log_one}
+use Rattle.pick_rules.specs.Logged.{Logged, logged, log_one}
 use Rattle.pick_rules.proofs.Laws.{Stays, wakeup_stays, wakeup_kept}
 use Rattle.proc_tab.specs.declared.member.Member.{Member}
 use Rattle.proc_tab.specs.declared.row.Row.{Row}
@@ -41,7 +39,7 @@ use Rattle.sys_procs.specs.Process.{Process, no_process, process_by, process_in}
 use Rattle.sys_procs.specs.World.{World, Clock, clock_of, process_of, processes_in, world_in}
 use Rattle.sys_procs.specs.Exit.{adopted}
 use Rattle.sys_procs.specs.Exit as exit
-use Rattle.sys_procs.specs.Agree.{kind_of_member, Agrees, Agree, board_of, answered, ended_by}
+use Rattle.sys_procs.specs.Agree.{kind_of_member, Agrees, Agree, board_of}
 use Rattle.sys_procs.specs.Handed.{IsAlive, AreProcs, handed, board, came, process_here}
 use Rattle.sys_procs.proofs.Slots.{process_in_slot, fifty_processes, are_processes, one_changed, own, own_alive, own_row, members_are}
 use Rattle.sys_procs.proofs.Tables.{board_woken}
@@ -63,7 +61,7 @@ pub logged_panic : (b : Board) (s : ℕ) (w : World) (e f : Entry) → swap_fit 
     → logged b (Exit s w ∷ Show (Log e) ∷ Show (Log f) ∷ []) ≡ record {
       items = Log (line.Panic panic.Zombie) ∷ [];
       board = b;
-      stop = Some (record { kind = panic.Zombie; before = w });
+      stop = Some (record { why = Panicked panic.Zombie; before = w });
     }
 unfolding log_one effects.came applied
 logged_panic b s w e f fit = rw fit refl
@@ -308,7 +306,7 @@ module _ (p : Procs) (s parent : ℕ) (fs : FileSystem) (a : AreProcs p) (images
       → came p (exit.dies (handed p fs) s) ≡ record {
         items = Log (line.Panic panic.Zombie) ∷ [];
         board = board p;
-        stop = Some (record { kind = panic.Zombie; before = handed p fs });
+        stop = Some (record { why = Panicked panic.Zombie; before = handed p fs });
       }
   logged_no_end fit =
       ap (lines_of_end (board p) s (handed p fs)) (sym is)
@@ -350,12 +348,3 @@ exit_answer p fs s u low e =
     let left : u.r ≡ (process_of (exit.dead (exit.leaves (handed p fs) s status) s) s).u.r =
     ap (λ (v : UArea). v.r) e ∙ sym (registers_left (handed p fs) s status (omega (arith, low, fifty_processes p.rows.slots p.images))) in
     ap (λ (r : List ℕ). Ret (get_or r 0 0) (get_or r 1 0)) left
-
--- An end that didn't panic, and one that did.
-pub not_stopped : (o : Option (Stop World)) → ended_by o ≡ Ok tt → o ≡ None
-not_stopped None e = refl
-not_stopped (Some stop) e = absurd (cc e)
-
-pub stopped : (o : Option (Stop World)) (kind : PanicKind) (answer : Answer) → ended_by o ≡ Err kind → answered o answer ≡ Err kind
-stopped None kind answer e = absurd (cc e)
-stopped (Some stop) kind answer e = let same : stop.kind ≡ kind = cc e in ap (λ k. Err k) same

@@ -39,17 +39,17 @@ use Rattle.sys_procs.proofs.Slots.{fifty_processes, one_changed, members_are}
 use Rattle.sys_procs.proofs.Tables.{untimed_runout}
 use Rattle.sys_procs.proofs.Agreement.{agree_but, agree_like, runout_like}
 use Rattle.sys_procs.proofs.Alive.{IsHere, is_here}
-use Rattle.sys_procs.proofs.Places.{same_placed}
 
 -- What the log says of a fork.
-pub logged_fork : (b : Board) (s child : ℕ) (w : World) (place : Place) → placed b s (row_at b.table s).size ≡ Some place
+pub logged_fork : (b : Board) (s child : ℕ) (w : World) (place : Place)
+    → effects.in_core (placed b s (row_at b.table s).size) ≡ Some place
     → logged b (Fork s child w ∷ []) ≡ record { items = Log (line.Fork s child place) ∷ []; board = applied b (line.Fork s child place); stop = None }
 unfolding log_one effects.came
 logged_fork b s child w place fit = rw fit refl
 
-pub logged_no_fork : (b : Board) (s child : ℕ) (w : World) → placed b s (row_at b.table s).size ≡ None
-    → logged b (Fork s child w ∷ []) ≡ record { items = Log (line.Panic panic.Swap) ∷ []; board = b; stop = Some (record { kind = panic.Swap; before = w }) }
-unfolding log_one effects.came applied
+pub logged_no_fork : (b : Board) (s child : ℕ) (w : World) → effects.in_core (placed b s (row_at b.table s).size) ≡ None
+    → logged b (Fork s child w ∷ []) ≡ record { items = []; board = b; stop = Some (record { why = effects.Unbuilt panic.Swap; before = w }) }
+unfolding log_one effects.came
 logged_no_fork b s child w fit = rw fit refl
 
 -- A free slot.
@@ -242,10 +242,6 @@ module _ (p : Procs) (s child : ℕ) (place : Place) (alive : IsAlive p s) (slot
       ap (λ (ps : List (Option Process)). unwrap_or (get_or ps child None) no_process) processes_seated
       ∙ ap (λ (o : Option Process). unwrap_or o no_process)
       (get_or-set_same (processes_in p.rows.slots p.images) child (Some (copy_of p s)) None (omega (arith, free.low, fifty_processes p.rows.slots p.images)))
-
-  -- the place that the log names is that of the images
-  pub fork_placed : placed (board p) s (row_at p.table s).size ≡ images_of.placed p.images (clicks_of (area_of p.images s))
-  fork_placed = same_placed p.rows p.table p.images alive.agree images s (row_at p.table s).size alive.above alive.below ∙ ap (images_of.placed p.images) size_is
 
 -- what the code makes of the three
 pub is_seated : (p : Procs) (s child : ℕ) (place : Place) (v : Processes) (t : Table) (k : Kept) → v ≡ forked p.rows s (Some child)

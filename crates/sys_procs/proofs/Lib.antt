@@ -3,13 +3,16 @@ pub mod Tables
 pub mod Agreement
 pub mod Alive
 pub mod Shown
+pub mod Dones
 pub mod IdsLemmas
 pub mod TimesLemmas
+pub mod TimesTo
 pub mod MemoryLemmas
 pub mod Places
 pub mod Ends
 pub mod Graves
 pub mod Forks
+pub mod ForkPlaces
 pub mod ResumeLemmas
 pub mod StackRows
 pub mod BreakRows

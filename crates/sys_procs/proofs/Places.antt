@@ -12,6 +12,8 @@ use Rattle.pick_rules.specs.declared.table.Table.{Table}
 use Rattle.pick_rules.specs.Table.{row_at, empty_row, is_zombie}
 use Rattle.pick_rules.specs.Board.{core_range, swap_range, core_of_row, swap_of_row}
 use Rattle.pick_rules.specs.Board as board
+use Rattle.pick_rules.specs.Effects.{in_core}
+use Rattle.pick_rules.proofs.Stopping.{placed_in_core}
 use Rattle.proc_tab.specs.declared.member.Member.{Member}
 use Rattle.proc_tab.specs.Processes.{Processes, member_at}
 use Rattle.image_keep.specs.Kept.{Keeping, Nothing, Alive, Grave, Kept, keeping, clicks_of}
@@ -103,3 +105,9 @@ module _ (v : Processes) (t : Table) (k : Kept) (a : Agree v t k) (long : length
       (option_map Swap (board.swap_fit (board_of t k) (blocks clicks)))) none
       ∙ (ap (λ o. option_or (option_map Core o) (option_map Swap (board.swap_fit (board_of t k) (blocks clicks)))) (same_core_fit clicks)
       ∙ ap (λ o. option_or (option_map Core (core_fit k clicks)) (option_map Swap o)) (same_swap_fit (blocks clicks)))
+
+  -- an image of a slot above 0 finds a place exactly where core has room
+  pub same_core : (s clicks : ℕ) → 0 < s → s < 50
+      → in_core (board.placed (board_of t k) s clicks) ≡ option_map Core (core_fit k clicks)
+  same_core s clicks l h =
+      placed_in_core (board_of t k) s clicks (a.each s l h).text ∙ ap (option_map Core) (same_core_fit clicks)

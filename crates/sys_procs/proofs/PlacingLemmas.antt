@@ -1,5 +1,5 @@
 -- A process's image is given back, and a new one is placed: where that stands, and what the log says.
-use Rattle.std.proofs.Common.{◌≡◌, ◌∙◌, ℕ, ◌+◌, ◌<◌, ◌≤◌, ◌||◌, nat_lt, min, Bool, true, false, cond, [], ◌∷◌, length, flat_map, Option, Some, None, is_some, refl, sym, ap, inl, inr, arith}
+use Rattle.std.proofs.Common.{◌≡◌, ◌∙◌, ℕ, ◌+◌, ◌<◌, ◌≤◌, ◌||◌, nat_lt, min, Bool, true, false, List, [], ◌∷◌, length, flat_map, Option, Some, None, is_some, refl, sym, ap, inl, inr, arith}
 use Rattle.std.specs.Option.{option_map, option_or, unwrap_or}
 use Rattle.std.proofs.Math.Nat.{min-le_right}
 use Rattle.std.proofs.lemmas.Bool.{cases_eq, ltb-false}
@@ -7,6 +7,8 @@ use Rattle.std.proofs.lemmas.List.{append-nil, get_or-set_same, get_or-set_other
 use Rattle.v6_base.specs.Trace.{Log}
 use Rattle.v6_base.specs.declared.entry.Place.TheVariants.{Core, Swap}
 use Rattle.v6_base.specs.declared.entry.Entry.TheVariants as line
+use Rattle.v6_base.specs.declared.entry.PanicKind.{PanicKind}
+use Rattle.v6_base.specs.declared.entry.PanicKind.TheVariants as panic
 use Rattle.v6_base.specs.Image.{nseg}
 use Rattle.map_fit.specs.Fit.{first_fit}
 use Rattle.pick_rules.specs.declared.row.TableRow.{TableRow}
@@ -17,7 +19,8 @@ use Rattle.pick_rules.specs.Board.{Board, core_of_row}
 use Rattle.pick_rules.specs.Apply.{applied, in_table, change_row}
 use Rattle.pick_rules.specs.Effects as effects
 use Rattle.pick_rules.specs.Effects.{Show}
-use Rattle.pick_rules.specs.Logged.{logged, log_one}
+use Rattle.pick_rules.specs.Logged.{Logged, logged, log_one}
+use Rattle.pick_rules.proofs.Stopping.{stays_stopped, placed_in_core}
 use Rattle.image_keep.specs.Kept.{Nothing, Held, Kept, keeping, with_keeping}
 use Rattle.image_keep.specs.Places.{core_of, core_fit, swap_fit, placed, blocks}
 use Rattle.image_keep.proofs.Frames.{keeping_same, keeping_other}
@@ -31,10 +34,10 @@ use Rattle.sys_procs.proofs.Places.{same_ranges, core_at}
 use Rattle.sys_procs.proofs.PlacingRows.{bared_row, seat, seated, row_low, no_text, board_bared, board_placed}
 
 -- The place of an image that core has room for.
-pub placed_in_core : (k : Kept) (n : ℕ) → is_some (core_fit k n) ≡ true
+pub place_in_core : (k : Kept) (n : ℕ) → is_some (core_fit k n) ≡ true
     → placed k n ≡ Some (Core (unwrap_or (core_fit k n) 0))
 unfolding placed
-placed_in_core k n room = by (core_fit k n) room
+place_in_core k n room = by (core_fit k n) room
   where
     by : (fit : Option ℕ) → is_some fit ≡ true
         → option_or (option_map Core fit) (option_map Swap (swap_fit k (blocks n))) ≡ Some (Core (unwrap_or fit 0))
@@ -46,7 +49,8 @@ found (Some c) e = refl
 found None e = absurd (cc e)
 
 -- What the two effects leave in the log.
-logged_placed : (b : Board) (s n c : ℕ) (w : World) → board_of_log.placed (applied b (line.Bare s)) s n ≡ Some (Core c)
+logged_placed : (b : Board) (s n c : ℕ) (w : World)
+    → effects.in_core (board_of_log.placed (applied b (line.Bare s)) s n) ≡ Some (Core c)
     → logged b (Show (Log (line.Bare s)) ∷ effects.Image s n w ∷ []) ≡ record {
       items = Log (line.Bare s) ∷ Log (line.Image s n (Core c)) ∷ [];
       board = applied (applied b (line.Bare s)) (line.Image s n (Core c));
@@ -55,14 +59,25 @@ logged_placed : (b : Board) (s n c : ℕ) (w : World) → board_of_log.placed (a
 unfolding log_one effects.came
 logged_placed b s n c w fit = rw fit refl
 
--- a board whose slot has no text has a place for it in core where that has room
-in_core : (b : Board) (s n c : ℕ) → (row_at b.table s).text ≡ None → board_of_log.core_fit b n ≡ Some c
-    → board_of_log.placed b s n ≡ Some (Core c)
-unfolding board_of_log.placed
-in_core b s n c none fit =
-    let swap = option_map Swap (board_of_log.swap_fit b (board_of_log.blocks n)) in
-    ap (λ x. option_or (cond (board_of_log.may_load b x) (option_map Core (board_of_log.core_fit b n)) None) swap) none
-    ∙ ap (λ o. option_or (option_map Core o) swap) fit
+-- Where the new image finds no place, the board is left without the old one's.
+abbrev pub left_bare : Board → ℕ → PanicKind → World → Logged World
+left_bare b s kind w = record {
+  items = Log (line.Bare s) ∷ [];
+  board = applied b (line.Bare s);
+  stop = Some (record { why = effects.Unbuilt kind; before = w });
+}
+
+logged_unplaced : (b : Board) (s n : ℕ) (w : World)
+    → effects.in_core (board_of_log.placed (applied b (line.Bare s)) s n) ≡ None
+    → logged b (Show (Log (line.Bare s)) ∷ effects.Image s n w ∷ []) ≡ left_bare b s panic.Swap w
+unfolding log_one effects.came
+logged_unplaced b s n w none = rw none refl
+
+-- no text is shared yet, whatever comes after the demand for one
+pub logged_text : (b : Board) (s n : ℕ) (w : World) (es : List (effects.Effect World))
+    → logged b (Show (Log (line.Bare s)) ∷ effects.Text s n w ∷ es) ≡ left_bare b s panic.Text w
+unfolding log_one effects.came
+logged_text b s n w es = stays_stopped _ _ _ es
 
 module _ (p : Procs) (s : ℕ) (alive : IsAlive p s) (long : length p.images.slots ≡ 50) where
   abbrev bared : Kept
@@ -106,6 +121,21 @@ module _ (p : Procs) (s : ℕ) (alive : IsAlive p s) (long : length p.images.slo
   pub room_is : (n : ℕ) → board_of_log.core_fit (bare_board (board p) s) n ≡ core_fit bared n
   room_is n = ap (λ (b : Board). board_of_log.core_fit b n) board_left ∙ fit_left n
 
+  no_text_left : (row_at (bare_board (board p) s).table s).text ≡ None
+  no_text_left =
+      ap (λ (b : Board). (row_at b.table s).text) board_left
+      ∙ (ap (λ (row : TableRow). row.text)
+      (get_or-set_same p.table.rows s (bared_row (row_at p.table s)) empty_row (row_low p s alive))
+      ∙ no_text p s alive)
+
+  core_left : (n : ℕ) → effects.in_core (board_of_log.placed (bare_board (board p) s) s n)
+      ≡ option_map Core (board_of_log.core_fit (bare_board (board p) s) n)
+  core_left n = placed_in_core (bare_board (board p) s) s n no_text_left
+
+  pub log_unplaced : (n : ℕ) (w : World) → board_of_log.core_fit (bare_board (board p) s) n ≡ None
+      → logged (board p) (Show (Log (line.Bare s)) ∷ effects.Image s n w ∷ []) ≡ left_bare (board p) s panic.Swap w
+  log_unplaced n w none = logged_unplaced (board p) s n w (core_left n ∙ ap (option_map Core) none)
+
   abbrev pub first : ℕ → ℕ
   first n = unwrap_or (board_of_log.core_fit (bare_board (board p) s) n) 0
 
@@ -118,13 +148,8 @@ module _ (p : Procs) (s : ℕ) (alive : IsAlive p s) (long : length p.images.slo
       }
   log_placed n held w room is =
       let c : ℕ = first n in
-      let none : (row_at (change_row p.table s bared_row) s).text ≡ None =
-      ap (λ (row : TableRow). row.text)
-      (get_or-set_same p.table.rows s (bared_row (row_at p.table s)) empty_row (row_low p s alive))
-      ∙ no_text p s alive in
-      let fit : board_of_log.placed (bare_board (board p) s) s n ≡ Some (Core c) =
-      in_core (bare_board (board p) s) s n c (ap (λ (b : Board). (row_at b.table s).text) board_left ∙ none)
-      (found (board_of_log.core_fit (bare_board (board p) s) n) room) in
+      let fit : effects.in_core (board_of_log.placed (bare_board (board p) s) s n) ≡ Some (Core c) =
+      core_left n ∙ ap (option_map Core) (found (board_of_log.core_fit (bare_board (board p) s) n) room) in
       let there : applied (bare_board (board p) s) (line.Image s n (Core c)) ≡ board (seated p s n held) =
       ap (λ (b : Board). applied b (line.Image s n (Core c))) board_left
       ∙ (board_placed (board p) s n c (row_low p s alive) (no_text p s alive)

@@ -6,11 +6,13 @@ use Rattle.v6_base.specs.declared.answer.Answer.{Answer}
 use Rattle.pick_rules.specs.Board.{Board}
 use Rattle.pick_rules.specs.Apply.{applied}
 use Rattle.pick_rules.specs.Logged.{Logged, logged, left_by}
+use Rattle.fs_nodes.specs.FileSystem.{FileSystem}
 use Rattle.sys_procs.specs.declared.procs.Procs.{Procs}
 use Rattle.sys_procs.specs.World.{World}
 use Rattle.sys_procs.specs.Comes.{Comes, comes, logs}
 use Rattle.sys_procs.specs.Agree.{answered}
-use Rattle.sys_procs.specs.Handed.{board, came}
+use Rattle.sys_procs.specs.Handed.{board, came, handed}
+use Rattle.sys_procs.specs.Done.{HasDone}
 use Rattle.sys_procs.proofs.Tables.{logged_line, logged_lines}
 
 -- A call shows these items, with no panic, and leaves a board and a world; and so it answers.
@@ -18,13 +20,6 @@ pub record Says (p : Procs) (c : Comes) (items : List Item) (b : Board) (w : Wor
   pub shown : came p c ≡ record { items = items; board = b; stop = None }
   pub state : c.state ≡ w
   pub answer : c.answer ≡ a
-
-pub says_none : (p : Procs) (c : Comes) (w : World) (a : Answer) → c ≡ comes w a → Says p c [] (board p) w a
-says_none p c w a is = record {
-  shown = ap (λ (c : Comes). logged (board p) c.effects) is;
-  state = ap (λ (c : Comes). c.state) is;
-  answer = ap (λ (c : Comes). c.answer) is;
-}
 
 pub says_line : (p : Procs) (c : Comes) (line : Entry) (w : World) (a : Answer) → c ≡ logs line (comes w a) → Says p c (Log line ∷ []) (applied (board p) line) w a
 says_line p c line w a is = record {
@@ -53,3 +48,9 @@ module _ {p : Procs} {c : Comes} {items : List Item} {b : Board} {w : World} {a 
 
   pub its_items : (t u : Taken) → Took t items u → Took t (came p c).items u
   its_items t u took = subst (λ (l : Logged World). Took t l.items u) (sym says.shown) took
+
+  -- so the call has done what its row says
+  pub its_call : {new : Procs} {fs : FileSystem} {start end : Taken} → handed new fs ≡ w → board new ≡ b → Took start items end
+      → HasDone p new fs (Ok a) start end c
+  its_call state shown took =
+      record { answer = its_answer; state = state ∙ its_state; shown = shown ∙ its_board; items = its_items _ _ took }

@@ -8,6 +8,7 @@ use Rattle.pick_rules.specs.declared.row.TableRow.{TableRow}
 use Rattle.pick_rules.specs.declared.table.Table.{Table}
 use Rattle.pick_rules.specs.Table.{row_at, is_loaded, IsTable}
 use Rattle.pick_rules.specs.Board.{Board}
+use Rattle.pick_rules.specs.Effects.{kind_of}
 use Rattle.pick_rules.specs.Logged.{Logged, Stop, logged}
 use Rattle.proc_tab.specs.declared.member.Member.{Member}
 use Rattle.proc_tab.specs.Processes.{Processes, member_at}
@@ -74,15 +75,15 @@ pub record IsCalling (v : Processes) (t : Table) (k : Kept) (references : ℕ �
   pub directory : (held : Held) → Has k s held → 0 < references held.u.dir
   pub few : (ino : ℕ) → references ino ≤ 65500
 
--- what a call answers by its row, unless an effect of it panics
+-- what a call answers by its row, unless an effect of it stops
 abbrev pub answered : Option (Stop World) → Answer → Result Answer PanicKind
 answered None answer = Ok answer
-answered (Some stop) answer = Err stop.kind
+answered (Some stop) answer = Err (kind_of stop.why)
 
 -- the same of the end of a process, which has no answer
 abbrev pub ended_by : Option (Stop World) → Result (Unit {0}) PanicKind
 ended_by None = Ok tt
-ended_by (Some stop) = Err stop.kind
+ended_by (Some stop) = Err (kind_of stop.why)
 
 abbrev pub logged_of : Board → Comes → Logged World
 logged_of b c = logged b c.effects

@@ -3,6 +3,8 @@ use Rattle.std.specs.Prelude.{ℕ, ◌==◌, ◌&&◌, not, if◌then◌else◌,
 use Rattle.v6_base.specs.Image.{Image}
 use Rattle.v6_base.specs.Trace.{Log}
 use Rattle.v6_base.specs.declared.entry.Entry.TheVariants.{Bare}
+use Rattle.v6_base.specs.declared.entry.PanicKind.{PanicKind}
+use Rattle.v6_base.specs.declared.entry.PanicKind.TheVariants as panic
 use Rattle.fs_codec.specs.Store.{Node, Store}
 use Rattle.fs_codec.specs.declared.modes.TheConstants.{ISUID, ISGID}
 use Rattle.fs_laws.specs.Numbers.{with_node}
@@ -17,8 +19,6 @@ use Rattle.pick_rules.specs.Board.{Board, core_fit}
 use Rattle.pick_rules.specs.Effects.{Show}
 use Rattle.pick_rules.specs.Effects as effect
 use Rattle.pick_rules.specs.Logged.{Logged, logged}
-use Rattle.sys_procs.specs.declared.halt.Halt.{Halt}
-use Rattle.sys_procs.specs.declared.halt.Halt.TheVariants.{SharedText, NoRoom}
 use Rattle.sys_procs.specs.declared.program.Program.{Program}
 use Rattle.sys_procs.specs.Process.{Process}
 use Rattle.sys_procs.specs.World.{World}
@@ -26,11 +26,12 @@ use Rattle.sys_procs.specs.Tests.{node_in}
 use Rattle.sys_procs.specs.Stack.{first_stack}
 use Rattle.sys_procs.specs.ExecFile.{text_clicks, data_clicks, image_clicks, bare_board, begun_area}
 
--- Why a program isn't loaded, where no process has a text.
-abbrev pub halt_alone : Board → ℕ → Program → Option Halt
-halt_alone b s program =
-    if not (text_clicks program.plan == 0) then Some SharedText
-    else (if is_some (core_fit (bare_board b s) (image_clicks program.plan)) then None else Some NoRoom)
+-- Which demand of a program finds no place when the old image has been given back: that for a text to share, since none is
+-- shared yet, or that for an image, where core has no room.
+abbrev pub unplaced : Board → ℕ → Program → Option PanicKind
+unplaced b s program =
+    if not (text_clicks program.plan == 0) then Some panic.Text
+    else (if is_some (core_fit (bare_board b s) (image_clicks program.plan)) then None else Some panic.Swap)
 
 -- The old image goes, and the new one comes.
 abbrev pub placing : Board → ℕ → Plan → World → Logged World

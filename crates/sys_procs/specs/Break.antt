@@ -1,20 +1,18 @@
 -- break(II) of the UNIX Programmer's Manual, and the growth of a stack: `sbreak` in Lions' Commentary, `sys1.c`, `grow` in
 -- `sig.c`, `estabur` in `main.c`.
-use Rattle.std.specs.Prelude.{ℕ, ◌+◌, ◌-◌, ◌*◌, ◌/◌, ◌%◌, ◌==◌, ◌||◌, nat_le, Bool, true, false, is_some, if◌then◌else◌, Option, Some, None, Result, Ok, Err}
+use Rattle.std.specs.Prelude.{ℕ, ◌+◌, ◌-◌, ◌*◌, ◌/◌, ◌%◌, ◌==◌, ◌||◌, nat_le, Bool, if◌then◌else◌, Option, Some, None, Result, Ok, Err}
 use Rattle.std.specs.Option.{option_map}
 use Rattle.v6_base.specs.Image.{nseg}
 use Rattle.v6_base.specs.Sizes.{cut_back, cut_front}
+use Rattle.v6_base.specs.declared.entry.PanicKind.{PanicKind}
 use Rattle.v6_base.specs.declared.errno.Errno.TheVariants.{ENOMEM}
 use Rattle.seg_regs.specs.Sizes.{is_refused}
-use Rattle.pick_rules.specs.Table.{row_at}
-use Rattle.pick_rules.specs.Board.{Board, core_fit}
 use Rattle.pick_rules.specs.Effects as effect
-use Rattle.sys_procs.specs.declared.halt.Halt.{Halt}
-use Rattle.sys_procs.specs.declared.halt.Halt.TheVariants.{NoRoom}
+use Rattle.pick_rules.specs.Effects.{kind_of}
+use Rattle.pick_rules.specs.Logged.{Stop}
 use Rattle.sys_procs.specs.Process.{Process}
 use Rattle.sys_procs.specs.World.{World, process_of, change}
 use Rattle.sys_procs.specs.Comes.{Comes, returns, fails, does}
-use Rattle.sys_procs.specs.Tried.{Tried, tried, halts}
 
 -- A process with other sizes of data and stack. Data are cut at their end, or grow there; a stack at its front. What is
 -- new is cleared.
@@ -34,22 +32,13 @@ expands w slot d s = does (effect.Size slot (16 + d + s) w) (returns (change w s
 abbrev pub clicks_up_to : ℕ → ℕ → ℕ
 clicks_up_to t at = (at + 63) % 65536 / 64 - 128 * nseg t
 
--- Core has a place for so many clicks of a slot's image. One that doesn't grow keeps its own.
-abbrev pub has_place : Board → ℕ → ℕ → Bool
-has_place b slot clicks = nat_le clicks (row_at b.table slot).size || is_some (core_fit b clicks)
-
--- Images don't go to the swap area yet.
-abbrev pub expands_if_room : Board → World → ℕ → ℕ → ℕ → Tried
-expands_if_room b w slot d s =
-    if has_place b slot (16 + d + s) then tried (expands w slot d s) else halts w slot NoRoom
-
 -- 17, break: the end of the data
-unfoldable pub break_at : Board → World → ℕ → ℕ → Tried
-break_at b w slot at =
+unfoldable pub break_at : World → ℕ → ℕ → Comes
+break_at w slot at =
     let p : Process = process_of w slot in
     let d = clicks_up_to p.u.text_size at in
-    if is_refused p.u.text_size d p.u.stack_size w.limit then tried (fails w ENOMEM)
-    else expands_if_room b w slot d p.u.stack_size
+    if is_refused p.u.text_size d p.u.stack_size w.limit then fails w ENOMEM
+    else expands w slot d p.u.stack_size
 
 -- how many clicks a stack grows beyond what is asked for: SINCR
 abbrev pub increment : ℕ
@@ -65,21 +54,17 @@ grown_stack t d s most sp =
     (if nat_le wanted s || is_refused t d wanted most then None else Some wanted)
 
 -- the growth of a process's stack, where it grows; no register changes
-unfoldable pub grow : Board → World → ℕ → ℕ → Option Tried
-grow b w slot sp =
+unfoldable pub grow : World → ℕ → ℕ → Option Comes
+grow w slot sp =
     let p : Process = process_of w slot in
-    option_map (expands_if_room b w slot p.u.data_size) (grown_stack p.u.text_size p.u.data_size p.u.stack_size w.limit sp)
-
--- whether the stack has grown
-abbrev pub grown_unless : Option Halt → Result Bool Halt
-grown_unless None = Ok true
-grown_unless (Some halt) = Err halt
-
-abbrev pub grown_answer : Option Tried → Result Bool Halt
-grown_answer None = Ok false
-grown_answer (Some t) = grown_unless t.halt
+    option_map (expands w slot p.u.data_size) (grown_stack p.u.text_size p.u.data_size p.u.stack_size w.limit sp)
 
 -- what a growth comes to, and nothing where there is none
-abbrev pub grown_or_not : World → ℕ → Option Tried → Comes
+abbrev pub grown_or_not : World → ℕ → Option Comes → Comes
 grown_or_not w slot None = returns w slot
-grown_or_not w slot (Some t) = t.comes
+grown_or_not w slot (Some c) = c
+
+-- whether the stack has grown, unless the growth stops
+abbrev pub grown_by : Option (Stop World) → Bool → Result Bool PanicKind
+grown_by None grows = Ok grows
+grown_by (Some stop) grows = Err (kind_of stop.why)

@@ -1,5 +1,5 @@
 -- exec(II) of the UNIX Programmer's Manual; Lions' Commentary, `exec` in `sys1.c`, `xalloc` and `xfree` in `text.c`.
-use Rattle.std.specs.Prelude.{◌≡◌, ◌<◌, ◌≤◌, IsSome, is_some, ℕ, ◌+◌, ◌*◌, ◌/◌, ◌%◌, ◌==◌, ◌&&◌, ◌||◌, nat_lt, Bool, true, false, not, if◌then◌else◌, List, [], ◌∷◌, map, replicate, slice_index, slice_set, Option, Some, None, is_none, Result, Ok, Err, bit_and}
+use Rattle.std.specs.Prelude.{◌≡◌, ◌<◌, ◌≤◌, IsSome, ℕ, ◌+◌, ◌*◌, ◌/◌, ◌%◌, ◌==◌, ◌&&◌, nat_lt, Bool, true, false, not, if◌then◌else◌, List, [], ◌∷◌, map, replicate, slice_index, slice_set, Option, Some, None, is_none, Result, Ok, Err, bit_and}
 use Rattle.std.specs.Option.{unwrap_or}
 use Rattle.v6_base.specs.Image.{Image, nseg}
 use Rattle.v6_base.specs.declared.entry.Entry.TheVariants.{Leave, Bare, Share}
@@ -21,17 +21,14 @@ use Rattle.aout_head.specs.declared.parts.ExecFault.{ExecFault}
 use Rattle.aout_head.specs.declared.parts.ExecFault.TheVariants.{NotExecutable, Separate}
 use Rattle.seg_regs.specs.Sizes.{is_refused}
 use Rattle.u_area.specs.declared.area.UArea.{UArea}
-use Rattle.pick_rules.specs.Board.{Board, core_fit}
+use Rattle.pick_rules.specs.Board.{Board}
 use Rattle.pick_rules.specs.Apply.{applied}
 use Rattle.pick_rules.specs.Effects as effect
-use Rattle.sys_procs.specs.declared.halt.Halt.{Halt}
-use Rattle.sys_procs.specs.declared.halt.Halt.TheVariants.{SharedText, NoRoom}
 use Rattle.sys_procs.specs.declared.program.Program.{Program}
-use Rattle.sys_procs.specs.Process.{Process, no_process, with_state, image_of}
+use Rattle.sys_procs.specs.Process.{Process, with_state, image_of}
 use Rattle.sys_procs.specs.Texts.{Text, text_of, with_text, text_bytes, entry_of, free_entry, new_text, joined, goes, remaining}
 use Rattle.sys_procs.specs.World.{World, process_of, change}
 use Rattle.sys_procs.specs.Comes.{Comes, returns, fails, does, logs}
-use Rattle.sys_procs.specs.Tried.{Tried, tried, halts}
 use Rattle.sys_procs.specs.Tests.{must, user_of, node_in}
 use Rattle.sys_procs.specs.Stack.{arguments, first_sp, first_stack, stack_clicks}
 
@@ -134,24 +131,9 @@ tests w s name list =
 abbrev pub image_clicks : Plan → ℕ
 image_clicks plan = 16 + data_clicks plan + stack_clicks
 
--- Shared texts aren't built, nor is an image in the swap area: the new one needs a place in core when the old one has been
--- given back.
+-- the log's board when the old image has been given back
 abbrev pub bare_board : Board → ℕ → Board
 bare_board b s = applied b (Bare s)
-
-abbrev pub halt_of : Board → World → ℕ → Result Program Errno → Option Halt
-halt_of b w s (Ok program) =
-    if not (text_clicks program.plan == 0) || is_some (process_of w s).text then Some SharedText
-    else (if is_some (core_fit (bare_board b s) (image_clicks program.plan)) then None else Some NoRoom)
-halt_of b w s (Err e) = None
-
--- what the tests leave where the call goes no further
-abbrev pub given_up_by : World → Result Program Errno → World
-given_up_by w (Ok program) = let_go w program.ino
-given_up_by w (Err e) = w
-
-abbrev pub given_up : Tested → World
-given_up t = given_up_by t.world t.answer
 
 -- The old program goes, and the new one comes.
 
@@ -172,10 +154,6 @@ is_sticky w k = not (bit_and (node_at w (text_of w.texts k).ino).mode ISVTX == 0
 abbrev pub xfree : World → ℕ → Option ℕ → (World → Comes) → Comes
 xfree w s None next = next w
 xfree w s (Some k) next = logs (Leave s k (is_sticky w k)) (next (leaves_text w s k (is_sticky w k)))
-
--- Its image is given back, with its u area: the row of the process is left, and the entry of its text.
-abbrev pub bared : Process → Process
-bared p = record no_process { row = p.row; text = p.text }
 
 -- It shares a text that is there, or makes one, which refers to the inode.
 abbrev pub with_entry : ℕ → Process → Process
@@ -256,44 +234,39 @@ abbrev pub in_its_group : Node → Process → Process
 in_its_group node p =
     if not (bit_and node.mode ISGID == 0) then record p { u = record p.u { gid = node.gid } } else p
 
--- the process as the program begins, from what it was
-abbrev pub begins : Process → Node → Program → Option ℕ → List ℕ → Process
-begins old node program text read = in_its_group node (as_owner node (record old {
+-- the process as the program begins, with the text that it has by now
+abbrev pub begins : Process → Node → Program → List ℕ → Process
+begins old node program read = in_its_group node (as_owner node (record old {
   u = begun_area old.u program;
   «data» = read;
   stack = first_stack program.arguments;
-  text = text;
 }))
 
 -- The new image is in its place: text and data are read, and the call ends.
-abbrev pub executes : World → ℕ → Process → Program → Comes
-executes w s old program =
+abbrev pub executes : World → ℕ → Program → Comes
+executes w s program =
     let m : Moving Image = data_read w s program in
     let read : World = with_moved w program.ino m in
-    let begun : World = change read s (λ p. begins old (node_at w program.ino) program p.text m.memory.data) in
+    let begun : World = change read s (λ p. begins p (node_at w program.ino) program m.memory.data) in
     returns (let_go begun program.ino) s
 
--- The call is done in this order; what comes before each effect is the world that it carries.
+-- The call is done in this order; what comes before each effect is the world that it carries. That the old image is given
+-- back with its u area shows in the log: until the new one stands, the process is told of as it was.
 abbrev pub loads : World → ℕ → Program → Comes
 loads w s program =
-    let size = text_clicks program.plan in
     xfree w s (process_of w s).text (λ left.
     logs (Bare s) (
-    xalloc (change left s bared) s program.ino size (λ placed is_new.
+    xalloc left s program.ino (text_clicks program.plan) (λ placed is_new.
     does (effect.Image s (image_clicks program.plan) placed) (
-    executes (reads_text is_new placed s program) s (process_of w s) program))))
+    executes (reads_text is_new placed s program) s program))))
 
 abbrev pub done_by : World → ℕ → Result Program Errno → Comes
 done_by w s (Ok program) = loads w s program
 done_by w s (Err e) = fails w e
 
-abbrev pub exec_by : ℕ → Tested → Option Halt → Tried
-exec_by s t None = tried (done_by t.world s t.answer)
-exec_by s t (Some halt) = halts (given_up t) s halt
-
 -- 11, exec: a name, and a list of arguments
-unfoldable pub exec_file : Board → World → ℕ → ℕ → ℕ → Tried
-exec_file b w s name list = let t : Tested = tests w s name list in exec_by s t (halt_of b t.world s t.answer)
+unfoldable pub exec_file : World → ℕ → ℕ → ℕ → Comes
+exec_file w s name list = let t : Tested = tests w s name list in done_by t.world s t.answer
 
 -- What is so of a program that the tests have let through.
 pub record IsTested (w : World) (program : Program) : Type 0 where

@@ -10,11 +10,11 @@ pub mod Exit
 pub mod Resume
 pub mod Agree
 pub mod Handed
+pub mod Done
 pub mod Seats
 pub mod Tests
 pub mod Stack
 pub mod Packed
-pub mod Tried
 pub mod ExecFile
 pub mod Break
 pub mod Begun

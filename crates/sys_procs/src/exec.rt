@@ -1,21 +1,21 @@
 //! exec(II).
-ghost use Rattle.std.specs.Prelude.{◌≡◌, ◌≤◌, ◌<◌, true, false, None, map, slice_index, is_some};
+ghost use Rattle.std.specs.Prelude.{◌≡◌, ◌≤◌, ◌<◌, true, false, None, Some, IfOk, IfErr, map, slice_index, is_some};
 ghost use Rattle.v6_base.specs.Trace.{Took};
 ghost use Rattle.fs_nodes.specs.FileSystem.{FileSystem, SameRest};
 ghost use Rattle.seg_regs.specs.Sizes.{is_refused};
 ghost use Rattle.pick_rules.specs.Board.{core_fit};
+ghost use Rattle.pick_rules.specs.Apply.{change_row};
 ghost use Rattle.image_keep.specs.Kept.{image_of};
 ghost use Rattle.image_keep.specs.Places.{cleared};
 ghost use Rattle.sys_procs.specs.World.{World, with_process};
 ghost use Rattle.sys_procs.specs.Tests.{node_in};
 ghost use Rattle.sys_procs.specs.ExecFile.{exec_file, loads, text_clicks, data_clicks, image_clicks, bare_board, kept_handler, begun_area, IsTested};
-ghost use Rattle.sys_procs.specs.Begun.{halt_alone, placing, sized, store_after, filled_image, filled, user_in, group_in, row_in, area_in};
-ghost use Rattle.sys_procs.specs.Handed.{AreProcs, Calls, IsAlive, board, came, handed, process_here};
-ghost use Rattle.sys_procs.specs.Tried.{tried_answer};
+ghost use Rattle.sys_procs.specs.Begun.{unplaced, placing, sized, store_after, filled_image, filled, user_in, group_in, row_in, area_in};
+ghost use Rattle.sys_procs.specs.Handed.{AreProcs, Calls, IsAlive, board, handed, process_here};
+ghost use Rattle.sys_procs.specs.Done.{HasDone};
 
-use crate::halt::Halt;
 use crate::inodes::let_go;
-use crate::placing::{STACK, has_room_without, place_image};
+use crate::placing::{AREA, STACK, has_room, leave_place, place_image};
 use crate::procs::Procs;
 use crate::program::Program;
 use crate::seen::see;
@@ -27,13 +27,10 @@ use fs_nodes::Nodes;
 use fs_tree::Tree;
 use proc_tab::Row;
 use u_area::UArea;
-use v6_base::{Answer, Slot, Space, Trace};
+use v6_base::{Answer, PanicKind, Slot, Space, Trace};
 
 /// Where text and data begin in a file: a.out(V).
 const HEADER: u32 = 16;
-
-/// The clicks of a u area.
-const AREA: u16 = 16;
 
 /// The clicks of the data of a program, with the bss.
 fn data_clicks(plan: &Plan) -> u16
@@ -205,7 +202,7 @@ fn begin(p: &mut Procs, s: Slot, row: Row, u: &UArea)
 }
 
 /// Replaces the program of a process by another without a text of its own, for which core has a place.
-fn load<T: Trace>(
+fn replace<T: Trace>(
     p: &mut Procs,
     tree: &mut Tree,
     s: Slot,
@@ -216,12 +213,8 @@ fn load<T: Trace>(
     requires tested { IsTested (handed p.old tree.old.nodes) program.now }
     requires no_text { text_clicks program.now.plan ≡ 0 }
     requires room { is_some (core_fit (bare_board (board p.old) s) (image_clicks program.now.plan)) ≡ true }
-    ensures answer { result ≡ (loads (handed p.old tree.old.nodes) s program.now).answer }
-    ensures state { handed p.new tree.new.nodes ≡ (loads (handed p.old tree.old.nodes) s program.now).state }
-    ensures board { board p.new ≡ (came p.old (loads (handed p.old tree.old.nodes) s program.now)).board }
-    ensures stop { (came p.old (loads (handed p.old tree.old.nodes) s program.now)).stop ≡ None }
-    ensures items { Took (T.taken trace.old) (came p.old (loads (handed p.old tree.old.nodes) s program.now)).items
-        (T.taken trace.new) }
+    ensures does { HasDone p.old p.new tree.new.nodes (Ok result) (T.taken trace.old) (T.taken trace.new)
+        (loads (handed p.old tree.old.nodes) s program.now) }
     ensures frame { T.leads_to trace.old trace.new }
     ensures agree { AreProcs p.new }
     ensures marks { tree.new.marks ≡ tree.old.marks }
@@ -238,21 +231,57 @@ fn load<T: Trace>(
     Answer::Ret { r0: 0, r1: 0 }
 }
 
-/// Why a program that was found isn't loaded, if that isn't built. No process has a text.
-fn halt_of(p: &mut Procs, s: Slot, program: &Program) -> Option<Halt>
+/// Which demand of a program finds no place when the image of a process has been given back, if one does. No process has
+/// a text.
+fn unplaced(p: &mut Procs, s: Slot, program: &Program) -> Option<PanicKind>
     requires alive { IsAlive p.old s }
     requires init { program.now.plan.init ≤ 131070 }
-    ensures halt { result ≡ halt_alone (board p.old) s program.now }
+    ensures kind { result ≡ unplaced (board p.old) s program.now }
     ensures procs { p.new ≡ p.old }
 {
     if program.plan.text != 0 {
-        return Some(Halt::SharedText);
+        return Some(PanicKind::Text);
     }
     let clicks = AREA + data_clicks(&program.plan) + STACK;
-    if has_room_without(p, s, clicks) {
+    if has_room(p, s, clicks) {
         None
     } else {
-        Some(Halt::NoRoom)
+        Some(PanicKind::Swap)
+    }
+}
+
+/// Gives the image of a process back, and lets it execute a program that the tests have let through.
+///
+/// # Errors
+///
+/// `Text`: the program would share its text. `Swap`: core has no place for its image. The image is there still then, and
+/// has no place.
+fn load<T: Trace>(
+    p: &mut Procs,
+    tree: &mut Tree,
+    s: Slot,
+    program: &Program,
+    trace: &mut T,
+) -> Result<Answer, PanicKind>
+    requires alive { IsAlive p.old s }
+    requires tested { IsTested (handed p.old tree.old.nodes) program.now }
+    ensures does { HasDone p.old p.new tree.new.nodes result (T.taken trace.old) (T.taken trace.new)
+        (loads (handed p.old tree.old.nodes) s program.now) }
+    ensures frame { T.leads_to trace.old trace.new }
+    ensures agree { IfOk result (λ answer. AreProcs p.new) }
+    ensures left { IfErr result (λ kind. p.new ≡ record p.old {
+      table = change_row p.old.table s (λ row. record row { size = 0; place = None });
+    }) }
+    ensures marks { tree.new.marks ≡ tree.old.marks }
+    ensures blocks { SameRest tree.old.nodes.blocks tree.new.nodes.blocks }
+{
+    see(p, s);
+    match unplaced(p, s, program) {
+        Some(kind) => {
+            leave_place(p, s, trace);
+            Err(kind)
+        }
+        None => Ok(replace(p, tree, s, program, trace)),
     }
 }
 
@@ -266,7 +295,9 @@ fn halt_of(p: &mut Procs, s: Slot, program: &Program) -> Option<Halt>
 /// the file may not be executed, or is no plain file. `EFAULT`: an argument can't be read. `E2BIG`: the arguments have
 /// more than 510 bytes. `ENOSPC`: no block is free for a hole in the header. `ENOEXEC`: the file has no header of a
 /// program. `ETXTBSY`: its text would be shared, and others use the file. `ENOMEM`: the sizes are refused.
-/// `SharedText`, `NoRoom`: it goes further than is built.
+/// The system stops where the old image has been given back, and one of these finds no place: `Text`, the program's
+/// text, since none is shared yet; `Swap`, its image, where core has no room, since none goes to the swap area yet. Then
+/// the process has no place, and is else as it was.
 #[tactic(auto, using(crate::proofs::Alive::calls))]
 pub fn exec_file<T: Trace>(
     p: &mut Procs,
@@ -274,34 +305,20 @@ pub fn exec_file<T: Trace>(
     s: Slot,
     args: [u16; 4],
     trace: &mut T,
-) -> Result<Answer, Halt>
+) -> Result<Answer, PanicKind>
     requires { Calls p.old tree.old.nodes s }
-    ensures answer { result ≡ tried_answer
-        (exec_file (board p.old) (handed p.old tree.old.nodes) s (slice_index args 0) (slice_index args 1)) }
-    ensures state { handed p.new tree.new.nodes
-        ≡ (exec_file (board p.old) (handed p.old tree.old.nodes) s (slice_index args 0) (slice_index args 1)).comes.state }
-    ensures board { board p.new ≡ (came p.old
-        (exec_file (board p.old) (handed p.old tree.old.nodes) s (slice_index args 0) (slice_index args 1)).comes).board }
-    ensures stop { (came p.old
-        (exec_file (board p.old) (handed p.old tree.old.nodes) s (slice_index args 0) (slice_index args 1)).comes).stop
-        ≡ None }
-    ensures items { Took (T.taken trace.old) (came p.old
-        (exec_file (board p.old) (handed p.old tree.old.nodes) s (slice_index args 0) (slice_index args 1)).comes).items
-        (T.taken trace.new) }
+    ensures does { HasDone p.old p.new tree.new.nodes result (T.taken trace.old) (T.taken trace.new)
+        (exec_file (handed p.old tree.old.nodes) s (slice_index args 0) (slice_index args 1)) }
     ensures frame { T.leads_to trace.old trace.new }
-    ensures agree { AreProcs p.new }
+    ensures agree { IfOk result (λ answer. AreProcs p.new) }
+    ensures left { IfErr result (λ kind. p.new ≡ record p.old {
+      table = change_row p.old.table s (λ row. record row { size = 0; place = None });
+    }) }
     ensures marks { tree.new.marks ≡ tree.old.marks }
     ensures blocks { SameRest tree.old.nodes.blocks tree.new.nodes.blocks }
 {
-    let program = match test_program(p, tree, s, args[0], args[1]) {
-        Ok(program) => program,
-        Err(e) => return Ok(Answer::Fail(e)),
-    };
-    match halt_of(p, s, &program) {
-        Some(halt) => {
-            let_go(&mut tree.nodes, program.ino, p.table.now);
-            Err(halt)
-        }
-        None => Ok(load(p, tree, s, &program, trace)),
+    match test_program(p, tree, s, args[0], args[1]) {
+        Ok(program) => load(p, tree, s, &program, trace),
+        Err(e) => Ok(Answer::Fail(e)),
     }
 }

@@ -1,19 +1,17 @@
 //! exit(II).
-ghost use Rattle.std.specs.Prelude.{◌≡◌, ◌+◌, ◌*◌, ◌%◌, ◌<◌, ◌∷◌, [], ◌==◌, if◌then◌else◌, replicate, slice_index, Some, None};
+ghost use Rattle.std.specs.Prelude.{◌≡◌, ◌*◌, ◌%◌, ◌<◌, ◌∷◌, [], ◌==◌, if◌then◌else◌, replicate, Some, None};
 ghost use Rattle.std.specs.Option.{unwrap_or};
 ghost use Rattle.v6_base.specs.Trace.{Took, Log};
 ghost use Rattle.fs_nodes.specs.FileSystem.{FileSystem, SameRest};
 ghost use Rattle.pick_rules.specs.Table.{IsTable};
 ghost use Rattle.pick_rules.specs.Sleepers.{wakeup};
 ghost use Rattle.pick_rules.specs.Apply.{change_row};
-ghost use Rattle.pick_rules.specs.Logged.{left_by};
 ghost use Rattle.proc_tab.specs.Processes.{IsUsed, row_at, passes, lowest, with_change, dead};
 ghost use Rattle.proc_tab.specs.Pids.{has_pid};
 ghost use Rattle.proc_tab.specs.Children.{orphans_adopted};
-ghost use Rattle.sys_procs.specs.Process.{register};
 ghost use Rattle.sys_procs.specs.Exit.{leaves, dies, end_proc, exit_now};
-ghost use Rattle.sys_procs.specs.Agree.{answered, ended_by};
-ghost use Rattle.sys_procs.specs.Handed.{AreProcs, Calls, IsAlive, board, came, handed, process_here};
+ghost use Rattle.sys_procs.specs.Handed.{AreProcs, Calls, IsAlive, board, handed};
+ghost use Rattle.sys_procs.specs.Done.{HasDone, HasEnded};
 
 use crate::inodes::let_go;
 use crate::procs::Procs;
@@ -129,12 +127,8 @@ fn end_row<T: Trace>(p: &mut Procs, s: Slot, block: u16, parent: Slot, trace: &m
 #[tactic(auto, using(v6_base::proofs::Took::takes))]
 fn die<T: Trace>(p: &mut Procs, s: Slot, trace: &mut T) -> Result<(), PanicKind>
     requires { IsAlive p.old s }
-    ensures result { (fs : FileSystem) → result ≡ ended_by (came p.old (dies (handed p.old fs) s)).stop }
-    ensures state { (fs : FileSystem) → handed p.new fs
-        ≡ left_by (came p.old (dies (handed p.old fs) s)).stop (dies (handed p.old fs) s).state }
-    ensures board { (fs : FileSystem) → board p.new ≡ (came p.old (dies (handed p.old fs) s)).board }
-    ensures items { (fs : FileSystem) → Took (T.taken trace.old) (came p.old (dies (handed p.old fs) s)).items
-        (T.taken trace.new) }
+    ensures does { (fs : FileSystem) → HasEnded p.old p.new fs result (T.taken trace.old) (T.taken trace.new)
+        (dies (handed p.old fs) s) }
     ensures frame { T.leads_to trace.old trace.new }
     ensures agree { AreProcs p.new }
 {
@@ -167,13 +161,8 @@ pub fn end_proc<T: Trace>(
     trace: &mut T,
 ) -> Result<(), PanicKind>
     requires { Calls p.old tree.old.nodes s }
-    ensures result { result ≡ ended_by (came p.old (end_proc (handed p.old tree.old.nodes) s status)).stop }
-    ensures state { handed p.new tree.new.nodes
-        ≡ left_by (came p.old (end_proc (handed p.old tree.old.nodes) s status)).stop
-        (end_proc (handed p.old tree.old.nodes) s status).state }
-    ensures board { board p.new ≡ (came p.old (end_proc (handed p.old tree.old.nodes) s status)).board }
-    ensures items { Took (T.taken trace.old) (came p.old (end_proc (handed p.old tree.old.nodes) s status)).items
-        (T.taken trace.new) }
+    ensures does { HasEnded p.old p.new tree.new.nodes result (T.taken trace.old) (T.taken trace.new)
+        (end_proc (handed p.old tree.old.nodes) s status) }
     ensures frame { T.leads_to trace.old trace.new }
     ensures agree { AreProcs p.new }
     ensures marks { tree.new.marks ≡ tree.old.marks }
@@ -196,14 +185,8 @@ pub fn exit_now<T: Trace>(
     trace: &mut T,
 ) -> Result<Answer, PanicKind>
     requires { Calls p.old tree.old.nodes s }
-    ensures answer { result ≡ answered (came p.old (exit_now (handed p.old tree.old.nodes) s)).stop
-        (exit_now (handed p.old tree.old.nodes) s).answer }
-    ensures state { handed p.new tree.new.nodes
-        ≡ left_by (came p.old (exit_now (handed p.old tree.old.nodes) s)).stop
-        (exit_now (handed p.old tree.old.nodes) s).state }
-    ensures board { board p.new ≡ (came p.old (exit_now (handed p.old tree.old.nodes) s)).board }
-    ensures items { Took (T.taken trace.old) (came p.old (exit_now (handed p.old tree.old.nodes) s)).items
-        (T.taken trace.new) }
+    ensures does { HasDone p.old p.new tree.new.nodes result (T.taken trace.old) (T.taken trace.new)
+        (exit_now (handed p.old tree.old.nodes) s) }
     ensures frame { T.leads_to trace.old trace.new }
     ensures agree { AreProcs p.new }
     ensures marks { tree.new.marks ≡ tree.old.marks }

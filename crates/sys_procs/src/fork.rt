@@ -1,24 +1,26 @@
 //! fork(II).
-ghost use Rattle.std.specs.Prelude.{◌≡◌, ◌≢◌, ◌+◌, ◌%◌, ◌<◌, ◌≤◌, ℕ, is_none, slice_index, slice_set, Some};
+ghost use Rattle.std.specs.Prelude.{◌≡◌, ◌≢◌, ◌+◌, ◌%◌, ◌<◌, ◌≤◌, ℕ, true, is_none, is_some, slice_index, slice_set, Some};
 ghost use Rattle.v6_base.specs.Trace.{Took};
-ghost use Rattle.fs_nodes.specs.FileSystem.{FileSystem, SameRest};
+ghost use Rattle.fs_nodes.specs.FileSystem.{SameRest};
 ghost use Rattle.fs_tree.specs.Finding.{inodes_of, with_reference};
 ghost use Rattle.pick_rules.specs.Table.{IsTable, row_at, child_row, is_on};
 ghost use Rattle.pick_rules.specs.Sleepers.{runout_told};
-ghost use Rattle.pick_rules.specs.Logged.{left_by};
+ghost use Rattle.image_keep.specs.Kept.{HasImage, Nothing, keeping, area_of, image_of, clicks_of};
+ghost use Rattle.image_keep.specs.Places.{placed, with_image_at};
 ghost use Rattle.proc_tab.specs.Processes.{lowest};
 ghost use Rattle.proc_tab.specs.Pids.{forked};
 ghost use Rattle.sys_procs.specs.Process.{register, with_register};
 ghost use Rattle.sys_procs.specs.World.{change};
 ghost use Rattle.sys_procs.specs.Fork.{past_word, fork_into, fork_one};
-ghost use Rattle.sys_procs.specs.Agree.{answered};
 ghost use Rattle.sys_procs.specs.Seats.{with_image_row};
-ghost use Rattle.sys_procs.specs.Handed.{AreProcs, Calls, IsAlive, board, came, handed, process_here};
+ghost use Rattle.sys_procs.specs.Handed.{AreProcs, Calls, IsAlive, board, handed, process_here};
+ghost use Rattle.sys_procs.specs.Done.{HasDone};
 
 use crate::inodes::refer_again;
 use crate::procs::Procs;
 use crate::seen::see;
 use fs_tree::Tree;
+use image_keep::Images;
 use pick_rules::{Stat, Table, TableRow};
 use proc_tab::Rows;
 use u_area::UArea;
@@ -144,7 +146,27 @@ fn go_on(p: &mut Procs, tree: &mut Tree, s: Slot, child: Slot) -> Answer
     Answer::Ret { r0, r1: u.r[1] }
 }
 
+/// Copies the image of a process into the slot of its child, where there is a place for it. The answer is that place.
+fn copy_image(images: &mut Images, from: Slot, to: Slot) -> Place
+    requires image { HasImage images.old from }
+    requires slot { to < 50 }
+    requires nothing { keeping images.old to ≡ Nothing }
+    requires place { is_some (placed images.old (clicks_of (area_of images.old from))) ≡ true }
+    ensures place { placed images.old (clicks_of (area_of images.old from)) ≡ Some result }
+    ensures images { images.new
+        ≡ with_image_at images.old to (area_of images.old from) (image_of images.old from) (Some result) }
+{
+    match images.copy_for_fork(from, to) {
+        Ok(place) => place,
+        Err(_) => unreachable!(),
+    }
+}
+
 /// Makes a child in a free slot, with the rows that it gives.
+///
+/// # Errors
+///
+/// `Swap`: core has no room for it. Nothing changes then.
 #[tactic(auto, using(v6_base::proofs::Took::takes))]
 fn fork_into<T: Trace>(
     p: &mut Procs,
@@ -157,37 +179,26 @@ fn fork_into<T: Trace>(
     requires calls { Calls p.old tree.old.nodes s }
     requires free { lowest is_none p.old.rows.slots ≡ Some child }
     requires rows { rows.now ≡ forked p.old.rows s (Some child) }
-    ensures answer { result
-        ≡ answered (came p.old (fork_into (handed p.old tree.old.nodes) s (Some child))).stop
-        (fork_into (handed p.old tree.old.nodes) s (Some child)).answer }
-    ensures state { handed p.new tree.new.nodes
-        ≡ left_by (came p.old (fork_into (handed p.old tree.old.nodes) s (Some child))).stop
-        (fork_into (handed p.old tree.old.nodes) s (Some child)).state }
-    ensures board { board p.new ≡ (came p.old (fork_into (handed p.old tree.old.nodes) s (Some child))).board }
-    ensures items { Took (T.taken trace.old)
-        (came p.old (fork_into (handed p.old tree.old.nodes) s (Some child))).items (T.taken trace.new) }
+    ensures does { HasDone p.old p.new tree.new.nodes result (T.taken trace.old) (T.taken trace.new)
+        (fork_into (handed p.old tree.old.nodes) s (Some child)) }
     ensures frame { T.leads_to trace.old trace.new }
     ensures agree { AreProcs p.new }
     ensures marks { tree.new.marks ≡ tree.old.marks }
     ensures blocks { SameRest tree.old.nodes.blocks tree.new.nodes.blocks }
 {
     see(p, s);
-    match p.images.copy_for_fork(s, child) {
-        Ok(place) => {
-            add_row(&mut p.table, s, child, place);
-            p.rows = *rows;
-            trace.entry(Entry::Fork {
-                slot: s,
-                child,
-                place,
-            });
-            Ok(go_on(p, tree, s, child))
-        }
-        Err(_) => {
-            trace.entry(Entry::Panic(PanicKind::Swap));
-            Err(PanicKind::Swap)
-        }
+    if !p.images.has_room(p.table.rows[s as usize].size) {
+        return Err(PanicKind::Swap);
     }
+    let place = copy_image(&mut p.images, s, child);
+    add_row(&mut p.table, s, child, place);
+    p.rows = *rows;
+    trace.entry(Entry::Fork {
+        slot: s,
+        child,
+        place,
+    });
+    Ok(go_on(p, tree, s, child))
 }
 
 /// fork(II): makes a copy of the process in the lowest free slot. R0 is the child's pid for the parent, which passes the
@@ -196,8 +207,8 @@ fn fork_into<T: Trace>(
 ///
 /// # Errors
 ///
-/// `EAGAIN`: all slots are used; the parent passes the word all the same. `Swap`: neither core nor the swap area has
-/// room for the child. The system stops.
+/// `EAGAIN`: all slots are used; the parent passes the word all the same. `Swap`: core has no place for the child, and no
+/// image goes to the swap area yet. The system stops.
 pub fn fork_one<T: Trace>(
     p: &mut Procs,
     tree: &mut Tree,
@@ -206,14 +217,8 @@ pub fn fork_one<T: Trace>(
     trace: &mut T,
 ) -> Result<Answer, PanicKind>
     requires { Calls p.old tree.old.nodes s }
-    ensures answer { result ≡ answered (came p.old (fork_one (handed p.old tree.old.nodes) s)).stop
-        (fork_one (handed p.old tree.old.nodes) s).answer }
-    ensures state { handed p.new tree.new.nodes
-        ≡ left_by (came p.old (fork_one (handed p.old tree.old.nodes) s)).stop
-        (fork_one (handed p.old tree.old.nodes) s).state }
-    ensures board { board p.new ≡ (came p.old (fork_one (handed p.old tree.old.nodes) s)).board }
-    ensures items { Took (T.taken trace.old) (came p.old (fork_one (handed p.old tree.old.nodes) s)).items
-        (T.taken trace.new) }
+    ensures does { HasDone p.old p.new tree.new.nodes result (T.taken trace.old) (T.taken trace.new)
+        (fork_one (handed p.old tree.old.nodes) s) }
     ensures frame { T.leads_to trace.old trace.new }
     ensures agree { AreProcs p.new }
     ensures marks { tree.new.marks ≡ tree.old.marks }

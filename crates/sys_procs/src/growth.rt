@@ -1,23 +1,23 @@
 //! break(II), and the growth of a stack.
-ghost use Rattle.std.specs.Prelude.{◌≡◌, ◌+◌, ◌≤◌, nat_le, is_some, true, false, None, Some, Ok, Err, if◌then◌else◌, slice_index};
-ghost use Rattle.v6_base.specs.Trace.{Took};
+ghost use Rattle.std.specs.Prelude.{◌≡◌, ◌+◌, ◌<◌, ◌≤◌, ◌||◌, nat_le, is_some, true, false, None, Some, if◌then◌else◌, slice_index};
 ghost use Rattle.v6_base.specs.Image.{nseg};
 ghost use Rattle.fs_nodes.specs.FileSystem.{FileSystem, SameRest};
 ghost use Rattle.image_keep.specs.Kept.{HasImage, Alive, with_keeping, area_of, image_of};
 ghost use Rattle.image_keep.specs.Growth.{most_clicks, area_resized, image_resized, expanded};
+ghost use Rattle.image_keep.specs.Places.{core_fit};
+ghost use Rattle.pick_rules.specs.Table.{row_at};
 ghost use Rattle.seg_regs.specs.Sizes.{is_refused};
-ghost use Rattle.sys_procs.specs.Break.{expands, has_place, expands_if_room, clicks_up_to, grown_stack, break_at, grow, grown_answer, grown_or_not};
-ghost use Rattle.sys_procs.specs.Handed.{AreProcs, Calls, IsAlive, board, came, handed, process_here};
-ghost use Rattle.sys_procs.specs.Tried.{tried_answer};
+ghost use Rattle.sys_procs.specs.Break.{expands, clicks_up_to, grown_stack, break_at, grow};
+ghost use Rattle.sys_procs.specs.Handed.{AreProcs, Calls, IsAlive, handed, process_here};
+ghost use Rattle.sys_procs.specs.Done.{HasDone, HasEnded, HasGrown};
 
-use crate::halt::Halt;
 use crate::placing::{AREA, put_place};
 use crate::procs::Procs;
 use crate::seen::see;
 use fs_tree::Tree;
 use image_keep::Images;
 use seg_regs::Proto;
-use v6_base::{Answer, Entry, Errno, Place, Slot, Trace};
+use v6_base::{Answer, Entry, Errno, PanicKind, Place, Slot, Trace};
 
 /// How many clicks a stack grows beyond what is asked for: `SINCR`.
 const INCREMENT: u32 = 20;
@@ -62,33 +62,12 @@ fn size_line(old: u16, s: Slot, clicks: u16, place: Place) -> Entry
     }
 }
 
-/// Gives the image of a process other sizes of data and stack, where core has a place for it.
-fn expand<T: Trace>(p: &mut Procs, s: Slot, d: u16, stack: u16, trace: &mut T)
-    requires alive { IsAlive p.old s }
-    requires sizes { is_refused (process_here p.old s).u.text_size d stack (most_clicks p.old.images) ≡ false }
-    requires place { has_place (board p.old) s (16 + d + stack) ≡ true }
-    ensures state { (fs : FileSystem) → handed p.new fs ≡ (expands (handed p.old fs) s d stack).state }
-    ensures board { (fs : FileSystem) → board p.new ≡ (came p.old (expands (handed p.old fs) s d stack)).board }
-    ensures stop { (fs : FileSystem) → (came p.old (expands (handed p.old fs) s d stack)).stop ≡ None }
-    ensures items { (fs : FileSystem) → Took (T.taken trace.old)
-        (came p.old (expands (handed p.old fs) s d stack)).items (T.taken trace.new) }
-    ensures frame { T.leads_to trace.old trace.new }
-    ensures agree { AreProcs p.new }
+/// Whether an image of so many clicks finds a place for a process: one that doesn't grow keeps its own, and for another
+/// core needs room, since none goes to the swap area yet.
+fn finds_place(p: &Procs, s: Slot, clicks: u16) -> bool
+    requires { s < 50 }
+    ensures { result ≡ (nat_le clicks (row_at p.now.table s).size || is_some (core_fit p.now.images clicks)) }
 {
-    see(p, s);
-    let clicks = AREA + d + stack;
-    let place = resize(&mut p.images, s, d, stack);
-    let line = size_line(p.table.rows[s as usize].size, s, clicks, place);
-    put_place(&mut p.table, s, clicks, Some(place));
-    trace.entry(line);
-}
-
-/// Whether core has a place for so many clicks of a slot's image. One that doesn't grow keeps its own.
-fn has_place(p: &Procs, s: Slot, clicks: u16) -> bool
-    requires { IsAlive p.now s }
-    ensures { result ≡ has_place (board p.now) s clicks }
-{
-    see(p, s);
     clicks <= p.table.rows[s as usize].size || p.images.has_room(clicks)
 }
 
@@ -96,32 +75,30 @@ fn has_place(p: &Procs, s: Slot, clicks: u16) -> bool
 ///
 /// # Errors
 ///
-/// `NoRoom`: core has no place for it. Nothing changes then.
-fn expand_if_room<T: Trace>(
+/// `Swap`: it finds no place. Nothing changes then.
+fn expand<T: Trace>(
     p: &mut Procs,
     s: Slot,
     d: u16,
     stack: u16,
     trace: &mut T,
-) -> Result<(), Halt>
+) -> Result<(), PanicKind>
     requires alive { IsAlive p.old s }
     requires sizes { is_refused (process_here p.old s).u.text_size d stack (most_clicks p.old.images) ≡ false }
-    ensures answer { result ≡ (if has_place (board p.old) s (16 + d + stack) then Ok tt else Err Halt.NoRoom) }
-    ensures state { (fs : FileSystem) → handed p.new fs
-        ≡ (expands_if_room (board p.old) (handed p.old fs) s d stack).comes.state }
-    ensures board { (fs : FileSystem) → board p.new
-        ≡ (came p.old (expands_if_room (board p.old) (handed p.old fs) s d stack).comes).board }
-    ensures stop { (fs : FileSystem)
-        → (came p.old (expands_if_room (board p.old) (handed p.old fs) s d stack).comes).stop ≡ None }
-    ensures items { (fs : FileSystem) → Took (T.taken trace.old)
-        (came p.old (expands_if_room (board p.old) (handed p.old fs) s d stack).comes).items (T.taken trace.new) }
+    ensures does { (fs : FileSystem) → HasEnded p.old p.new fs result (T.taken trace.old) (T.taken trace.new)
+        (expands (handed p.old fs) s d stack) }
     ensures frame { T.leads_to trace.old trace.new }
     ensures agree { AreProcs p.new }
 {
-    if !has_place(p, s, AREA + d + stack) {
-        return Err(Halt::NoRoom);
+    see(p, s);
+    let clicks = AREA + d + stack;
+    if !finds_place(p, s, clicks) {
+        return Err(PanicKind::Swap);
     }
-    expand(p, s, d, stack, trace);
+    let place = resize(&mut p.images, s, d, stack);
+    let line = size_line(p.table.rows[s as usize].size, s, clicks, place);
+    put_place(&mut p.table, s, clicks, Some(place));
+    trace.entry(line);
     Ok(())
 }
 
@@ -156,26 +133,18 @@ fn grown_stack(text: u16, d: u16, stack: u16, most: u16, sp: u16) -> Option<u16>
 ///
 /// # Errors
 ///
-/// `ENOMEM`: the sizes are refused, and nothing changes. `NoRoom`: core has no place for the image.
+/// `ENOMEM`: the sizes are refused, and nothing changes. `Swap`: core has no place for the image, and none goes to the
+/// swap area yet. The system stops.
 pub fn break_at<T: Trace>(
     p: &mut Procs,
     tree: &mut Tree,
     s: Slot,
     args: [u16; 4],
     trace: &mut T,
-) -> Result<Answer, Halt>
+) -> Result<Answer, PanicKind>
     requires { Calls p.old tree.old.nodes s }
-    ensures answer { result
-        ≡ tried_answer (break_at (board p.old) (handed p.old tree.old.nodes) s (slice_index args 0)) }
-    ensures state { handed p.new tree.new.nodes
-        ≡ (break_at (board p.old) (handed p.old tree.old.nodes) s (slice_index args 0)).comes.state }
-    ensures board { board p.new
-        ≡ (came p.old (break_at (board p.old) (handed p.old tree.old.nodes) s (slice_index args 0)).comes).board }
-    ensures stop { (came p.old (break_at (board p.old) (handed p.old tree.old.nodes) s (slice_index args 0)).comes).stop
-        ≡ None }
-    ensures items { Took (T.taken trace.old)
-        (came p.old (break_at (board p.old) (handed p.old tree.old.nodes) s (slice_index args 0)).comes).items
-        (T.taken trace.new) }
+    ensures does { HasDone p.old p.new tree.new.nodes result (T.taken trace.old) (T.taken trace.new)
+        (break_at (handed p.old tree.old.nodes) s (slice_index args 0)) }
     ensures frame { T.leads_to trace.old trace.new }
     ensures agree { AreProcs p.new }
     ensures marks { tree.new.marks ≡ tree.old.marks }
@@ -186,12 +155,12 @@ pub fn break_at<T: Trace>(
     if Proto::make(u.text_size, d, u.stack_size, p.images.limit()).is_err() {
         return Ok(Answer::Fail(Errno::ENOMEM));
     }
-    match expand_if_room(p, s, d, u.stack_size, trace) {
+    match expand(p, s, d, u.stack_size, trace) {
         Ok(()) => Ok(Answer::Ret {
             r0: u.r[0],
             r1: u.r[1],
         }),
-        Err(halt) => Err(halt),
+        Err(kind) => Err(kind),
     }
 }
 
@@ -200,26 +169,17 @@ pub fn break_at<T: Trace>(
 ///
 /// # Errors
 ///
-/// `NoRoom`: core has no place for the image.
+/// `Swap`: core has no place for the image, and none goes to the swap area yet. The system stops.
 pub fn grow<T: Trace>(
     p: &mut Procs,
     tree: &mut Tree,
     s: Slot,
     sp: u16,
     trace: &mut T,
-) -> Result<bool, Halt>
+) -> Result<bool, PanicKind>
     requires { Calls p.old tree.old.nodes s }
-    ensures answer { result ≡ grown_answer (grow (board p.old) (handed p.old tree.old.nodes) s sp) }
-    ensures state { handed p.new tree.new.nodes
-        ≡ (grown_or_not (handed p.old tree.old.nodes) s (grow (board p.old) (handed p.old tree.old.nodes) s sp)).state }
-    ensures board { board p.new ≡ (came p.old
-        (grown_or_not (handed p.old tree.old.nodes) s (grow (board p.old) (handed p.old tree.old.nodes) s sp))).board }
-    ensures stop { (came p.old
-        (grown_or_not (handed p.old tree.old.nodes) s (grow (board p.old) (handed p.old tree.old.nodes) s sp))).stop
-        ≡ None }
-    ensures items { Took (T.taken trace.old) (came p.old
-        (grown_or_not (handed p.old tree.old.nodes) s (grow (board p.old) (handed p.old tree.old.nodes) s sp))).items
-        (T.taken trace.new) }
+    ensures does { HasGrown p.old p.new tree.new.nodes (handed p.old tree.old.nodes) s result (T.taken trace.old)
+        (T.taken trace.new) (grow (handed p.old tree.old.nodes) s sp) }
     ensures frame { T.leads_to trace.old trace.new }
     ensures agree { AreProcs p.new }
     ensures marks { tree.new.marks ≡ tree.old.marks }
@@ -230,8 +190,8 @@ pub fn grow<T: Trace>(
     else {
         return Ok(false);
     };
-    match expand_if_room(p, s, u.data_size, stack, trace) {
+    match expand(p, s, u.data_size, stack, trace) {
         Ok(()) => Ok(true),
-        Err(halt) => Err(halt),
+        Err(kind) => Err(kind),
     }
 }

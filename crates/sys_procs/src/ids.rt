@@ -5,11 +5,10 @@ ghost use Rattle.v6_base.specs.Trace.{Took, Log};
 ghost use Rattle.fs_laws.specs.Rest.{SameRest};
 ghost use Rattle.fs_nodes.specs.FileSystem.{FileSystem};
 ghost use Rattle.pick_rules.specs.Apply.{applied};
-ghost use Rattle.pick_rules.specs.Logged.{left_by};
 ghost use Rattle.sys_procs.specs.World.{change};
-ghost use Rattle.sys_procs.specs.Agree.{answered};
-ghost use Rattle.sys_procs.specs.Handed.{Calls, AreProcs, IsAlive, handed, board, came, process_here};
+ghost use Rattle.sys_procs.specs.Handed.{Calls, AreProcs, IsAlive, handed, board};
 ghost use Rattle.sys_procs.specs.Ids.{pid_of, as_user, as_group, set_uid, set_gid, get_uid, get_gid, switches, no_op, kept_nice, nice_to};
+ghost use Rattle.sys_procs.specs.Done.{HasDone};
 
 use crate::procs::Procs;
 use fs_tree::Tree;
@@ -30,14 +29,8 @@ pub fn pid_of<T: Trace>(
     trace: &mut T,
 ) -> Result<Answer, PanicKind>
     requires { Calls p.old tree.old.nodes s }
-    ensures answer { result ≡ answered (came p.old (pid_of (handed p.old tree.old.nodes) s)).stop
-        (pid_of (handed p.old tree.old.nodes) s).answer }
-    ensures state { handed p.new tree.new.nodes
-        ≡ left_by (came p.old (pid_of (handed p.old tree.old.nodes) s)).stop
-        (pid_of (handed p.old tree.old.nodes) s).state }
-    ensures board { board p.new ≡ (came p.old (pid_of (handed p.old tree.old.nodes) s)).board }
-    ensures items { Took (T.taken trace.old) (came p.old (pid_of (handed p.old tree.old.nodes) s)).items
-        (T.taken trace.new) }
+    ensures does { HasDone p.old p.new tree.new.nodes result (T.taken trace.old) (T.taken trace.new)
+        (pid_of (handed p.old tree.old.nodes) s) }
     ensures frame { T.leads_to trace.old trace.new }
     ensures agree { AreProcs p.new }
     ensures marks { tree.new.marks ≡ tree.old.marks }
@@ -114,14 +107,8 @@ pub fn set_uid<T: Trace>(
     trace: &mut T,
 ) -> Result<Answer, PanicKind>
     requires { Calls p.old tree.old.nodes s }
-    ensures answer { result ≡ answered (came p.old (set_uid (handed p.old tree.old.nodes) s)).stop
-        (set_uid (handed p.old tree.old.nodes) s).answer }
-    ensures state { handed p.new tree.new.nodes
-        ≡ left_by (came p.old (set_uid (handed p.old tree.old.nodes) s)).stop
-        (set_uid (handed p.old tree.old.nodes) s).state }
-    ensures board { board p.new ≡ (came p.old (set_uid (handed p.old tree.old.nodes) s)).board }
-    ensures items { Took (T.taken trace.old) (came p.old (set_uid (handed p.old tree.old.nodes) s)).items
-        (T.taken trace.new) }
+    ensures does { HasDone p.old p.new tree.new.nodes result (T.taken trace.old) (T.taken trace.new)
+        (set_uid (handed p.old tree.old.nodes) s) }
     ensures frame { T.leads_to trace.old trace.new }
     ensures agree { AreProcs p.new }
     ensures marks { tree.new.marks ≡ tree.old.marks }
@@ -149,14 +136,8 @@ pub fn get_uid<T: Trace>(
     trace: &mut T,
 ) -> Result<Answer, PanicKind>
     requires { Calls p.old tree.old.nodes s }
-    ensures answer { result ≡ answered (came p.old (get_uid (handed p.old tree.old.nodes) s)).stop
-        (get_uid (handed p.old tree.old.nodes) s).answer }
-    ensures state { handed p.new tree.new.nodes
-        ≡ left_by (came p.old (get_uid (handed p.old tree.old.nodes) s)).stop
-        (get_uid (handed p.old tree.old.nodes) s).state }
-    ensures board { board p.new ≡ (came p.old (get_uid (handed p.old tree.old.nodes) s)).board }
-    ensures items { Took (T.taken trace.old) (came p.old (get_uid (handed p.old tree.old.nodes) s)).items
-        (T.taken trace.new) }
+    ensures does { HasDone p.old p.new tree.new.nodes result (T.taken trace.old) (T.taken trace.new)
+        (get_uid (handed p.old tree.old.nodes) s) }
     ensures frame { T.leads_to trace.old trace.new }
     ensures agree { AreProcs p.new }
     ensures marks { tree.new.marks ≡ tree.old.marks }
@@ -182,14 +163,8 @@ pub fn set_gid<T: Trace>(
     trace: &mut T,
 ) -> Result<Answer, PanicKind>
     requires { Calls p.old tree.old.nodes s }
-    ensures answer { result ≡ answered (came p.old (set_gid (handed p.old tree.old.nodes) s)).stop
-        (set_gid (handed p.old tree.old.nodes) s).answer }
-    ensures state { handed p.new tree.new.nodes
-        ≡ left_by (came p.old (set_gid (handed p.old tree.old.nodes) s)).stop
-        (set_gid (handed p.old tree.old.nodes) s).state }
-    ensures board { board p.new ≡ (came p.old (set_gid (handed p.old tree.old.nodes) s)).board }
-    ensures items { Took (T.taken trace.old) (came p.old (set_gid (handed p.old tree.old.nodes) s)).items
-        (T.taken trace.new) }
+    ensures does { HasDone p.old p.new tree.new.nodes result (T.taken trace.old) (T.taken trace.new)
+        (set_gid (handed p.old tree.old.nodes) s) }
     ensures frame { T.leads_to trace.old trace.new }
     ensures agree { AreProcs p.new }
     ensures marks { tree.new.marks ≡ tree.old.marks }
@@ -217,14 +192,8 @@ pub fn get_gid<T: Trace>(
     trace: &mut T,
 ) -> Result<Answer, PanicKind>
     requires { Calls p.old tree.old.nodes s }
-    ensures answer { result ≡ answered (came p.old (get_gid (handed p.old tree.old.nodes) s)).stop
-        (get_gid (handed p.old tree.old.nodes) s).answer }
-    ensures state { handed p.new tree.new.nodes
-        ≡ left_by (came p.old (get_gid (handed p.old tree.old.nodes) s)).stop
-        (get_gid (handed p.old tree.old.nodes) s).state }
-    ensures board { board p.new ≡ (came p.old (get_gid (handed p.old tree.old.nodes) s)).board }
-    ensures items { Took (T.taken trace.old) (came p.old (get_gid (handed p.old tree.old.nodes) s)).items
-        (T.taken trace.new) }
+    ensures does { HasDone p.old p.new tree.new.nodes result (T.taken trace.old) (T.taken trace.new)
+        (get_gid (handed p.old tree.old.nodes) s) }
     ensures frame { T.leads_to trace.old trace.new }
     ensures agree { AreProcs p.new }
     ensures marks { tree.new.marks ≡ tree.old.marks }
@@ -245,14 +214,8 @@ pub fn switches<T: Trace>(
     trace: &mut T,
 ) -> Result<Answer, PanicKind>
     requires { Calls p.old tree.old.nodes s }
-    ensures answer { result ≡ answered (came p.old (switches (handed p.old tree.old.nodes) s)).stop
-        (switches (handed p.old tree.old.nodes) s).answer }
-    ensures state { handed p.new tree.new.nodes
-        ≡ left_by (came p.old (switches (handed p.old tree.old.nodes) s)).stop
-        (switches (handed p.old tree.old.nodes) s).state }
-    ensures board { board p.new ≡ (came p.old (switches (handed p.old tree.old.nodes) s)).board }
-    ensures items { Took (T.taken trace.old) (came p.old (switches (handed p.old tree.old.nodes) s)).items
-        (T.taken trace.new) }
+    ensures does { HasDone p.old p.new tree.new.nodes result (T.taken trace.old) (T.taken trace.new)
+        (switches (handed p.old tree.old.nodes) s) }
     ensures frame { T.leads_to trace.old trace.new }
     ensures agree { AreProcs p.new }
     ensures marks { tree.new.marks ≡ tree.old.marks }
@@ -275,14 +238,8 @@ pub fn no_op<T: Trace>(
     trace: &mut T,
 ) -> Result<Answer, PanicKind>
     requires { Calls p.old tree.old.nodes s }
-    ensures answer { result ≡ answered (came p.old (no_op (handed p.old tree.old.nodes) s)).stop
-        (no_op (handed p.old tree.old.nodes) s).answer }
-    ensures state { handed p.new tree.new.nodes
-        ≡ left_by (came p.old (no_op (handed p.old tree.old.nodes) s)).stop
-        (no_op (handed p.old tree.old.nodes) s).state }
-    ensures board { board p.new ≡ (came p.old (no_op (handed p.old tree.old.nodes) s)).board }
-    ensures items { Took (T.taken trace.old) (came p.old (no_op (handed p.old tree.old.nodes) s)).items
-        (T.taken trace.new) }
+    ensures does { HasDone p.old p.new tree.new.nodes result (T.taken trace.old) (T.taken trace.new)
+        (no_op (handed p.old tree.old.nodes) s) }
     ensures frame { T.leads_to trace.old trace.new }
     ensures agree { AreProcs p.new }
     ensures marks { tree.new.marks ≡ tree.old.marks }
@@ -342,14 +299,8 @@ pub fn nice_to<T: Trace>(
     trace: &mut T,
 ) -> Result<Answer, PanicKind>
     requires { Calls p.old tree.old.nodes s }
-    ensures answer { result ≡ answered (came p.old (nice_to (handed p.old tree.old.nodes) s)).stop
-        (nice_to (handed p.old tree.old.nodes) s).answer }
-    ensures state { handed p.new tree.new.nodes
-        ≡ left_by (came p.old (nice_to (handed p.old tree.old.nodes) s)).stop
-        (nice_to (handed p.old tree.old.nodes) s).state }
-    ensures board { board p.new ≡ (came p.old (nice_to (handed p.old tree.old.nodes) s)).board }
-    ensures items { Took (T.taken trace.old) (came p.old (nice_to (handed p.old tree.old.nodes) s)).items
-        (T.taken trace.new) }
+    ensures does { HasDone p.old p.new tree.new.nodes result (T.taken trace.old) (T.taken trace.new)
+        (nice_to (handed p.old tree.old.nodes) s) }
     ensures frame { T.leads_to trace.old trace.new }
     ensures agree { AreProcs p.new }
     ensures marks { tree.new.marks ≡ tree.old.marks }

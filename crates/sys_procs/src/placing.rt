@@ -3,7 +3,7 @@ ghost use Rattle.std.specs.Prelude.{◌≡◌, ◌<◌, ◌+◌, ◌∷◌, [], 
 ghost use Rattle.std.specs.Option.{unwrap_or};
 ghost use Rattle.v6_base.specs.Trace.{Took, Log};
 ghost use Rattle.fs_nodes.specs.FileSystem.{FileSystem};
-ghost use Rattle.pick_rules.specs.Apply.{change_row, applied};
+ghost use Rattle.pick_rules.specs.Apply.{change_row};
 ghost use Rattle.pick_rules.specs.Board.{core_fit};
 ghost use Rattle.pick_rules.specs.Effects as effect;
 ghost use Rattle.pick_rules.specs.Effects.{Show};
@@ -41,14 +41,28 @@ pub(crate) fn put_place(table: &mut Table, s: Slot, clicks: u16, at: Option<Plac
     row.place = at;
 }
 
-/// Whether core has a place for so many clicks when the image of a process has been given back.
-pub(crate) fn has_room_without(p: &mut Procs, s: Slot, clicks: u16) -> bool
+/// Whether core has room for a new image of so many clicks when that of a process has been given back.
+pub(crate) fn has_room(p: &mut Procs, s: Slot, clicks: u16) -> bool
     requires { IsAlive p.old s }
     ensures room { result ≡ is_some (core_fit (bare_board (board p.old) s) clicks) }
     ensures procs { p.new ≡ p.old }
 {
     see(p, s);
     p.images.has_room_without(s, clicks)
+}
+
+/// Gives the place of a process back, and keeps its image.
+pub(crate) fn leave_place<T: Trace>(p: &mut Procs, s: Slot, trace: &mut T)
+    requires { IsAlive p.old s }
+    ensures procs { p.new ≡ record p.old {
+      table = change_row p.old.table s (λ row. record row { size = 0; place = None });
+    } }
+    ensures board { board p.new ≡ bare_board (board p.old) s }
+    ensures items { Took (T.taken trace.old) (Log (Entry.Bare s) ∷ []) (T.taken trace.new) }
+    ensures frame { T.leads_to trace.old trace.new }
+{
+    put_place(&mut p.table, s, 0, None);
+    trace.entry(Entry::Bare(s));
 }
 
 /// Makes an image of so many clicks of data in a slot without one, which is cleared, where core has a place for it.

@@ -1,13 +1,11 @@
 //! Calls that go on when their process wakes: sleep(II), wait(II).
-ghost use Rattle.std.specs.Prelude.{◌≡◌, ◌+◌, ◌*◌, slice_index, replicate};
-ghost use Rattle.v6_base.specs.Trace.{Took};
+ghost use Rattle.std.specs.Prelude.{◌≡◌, ◌+◌, ◌*◌, replicate};
 ghost use Rattle.fs_laws.specs.Rest.{SameRest};
 ghost use Rattle.fs_nodes.specs.FileSystem.{FileSystem};
-ghost use Rattle.pick_rules.specs.Logged.{left_by};
 ghost use Rattle.sys_procs.specs.World.{change};
-ghost use Rattle.sys_procs.specs.Agree.{answered};
-ghost use Rattle.sys_procs.specs.Handed.{Calls, AreProcs, IsAlive, handed, board, came, process_here};
+ghost use Rattle.sys_procs.specs.Handed.{Calls, AreProcs, IsAlive, handed, board};
 ghost use Rattle.sys_procs.specs.Resume.{awake, resume_proc};
+ghost use Rattle.sys_procs.specs.Done.{HasDone};
 
 use crate::procs::Procs;
 use crate::times::{SLEEP, sleep_until};
@@ -46,14 +44,8 @@ pub fn resume_proc<T: Trace>(
     trace: &mut T,
 ) -> Result<Answer, PanicKind>
     requires { Calls p.old tree.old.nodes s }
-    ensures answer { result ≡ answered (came p.old (resume_proc (handed p.old tree.old.nodes) s)).stop
-        (resume_proc (handed p.old tree.old.nodes) s).answer }
-    ensures state { handed p.new tree.new.nodes
-        ≡ left_by (came p.old (resume_proc (handed p.old tree.old.nodes) s)).stop
-        (resume_proc (handed p.old tree.old.nodes) s).state }
-    ensures board { board p.new ≡ (came p.old (resume_proc (handed p.old tree.old.nodes) s)).board }
-    ensures items { Took (T.taken trace.old) (came p.old (resume_proc (handed p.old tree.old.nodes) s)).items
-        (T.taken trace.new) }
+    ensures does { HasDone p.old p.new tree.new.nodes result (T.taken trace.old) (T.taken trace.new)
+        (resume_proc (handed p.old tree.old.nodes) s) }
     ensures frame { T.leads_to trace.old trace.new }
     ensures agree { AreProcs p.new }
     ensures marks { tree.new.marks ≡ tree.old.marks }

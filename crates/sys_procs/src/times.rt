@@ -8,11 +8,10 @@ ghost use Rattle.sys_procs.specs.Process.{image_of};
 ghost use Rattle.fs_laws.specs.Rest.{SameRest};
 ghost use Rattle.fs_nodes.specs.FileSystem.{FileSystem};
 ghost use Rattle.pick_rules.specs.Apply.{applied};
-ghost use Rattle.pick_rules.specs.Logged.{left_by};
-ghost use Rattle.sys_procs.specs.World.{World, change};
-ghost use Rattle.sys_procs.specs.Agree.{answered};
-ghost use Rattle.sys_procs.specs.Handed.{Calls, AreProcs, IsAlive, handed, board, came, process_here};
+ghost use Rattle.sys_procs.specs.World.{change};
+ghost use Rattle.sys_procs.specs.Handed.{Calls, AreProcs, IsAlive, handed, board, process_here};
 ghost use Rattle.sys_procs.specs.Times.{time_now, set_time, pending_sleep, sleep_until, sleep_for, sleeping_until, tout_with, with_time, stored, times_to};
+ghost use Rattle.sys_procs.specs.Done.{HasDone};
 
 use crate::procs::Procs;
 use fs_codec::put_words;
@@ -36,14 +35,8 @@ pub fn time_now<T: Trace>(
     trace: &mut T,
 ) -> Result<Answer, PanicKind>
     requires { Calls p.old tree.old.nodes s }
-    ensures answer { result ≡ answered (came p.old (time_now (handed p.old tree.old.nodes) s)).stop
-        (time_now (handed p.old tree.old.nodes) s).answer }
-    ensures state { handed p.new tree.new.nodes
-        ≡ left_by (came p.old (time_now (handed p.old tree.old.nodes) s)).stop
-        (time_now (handed p.old tree.old.nodes) s).state }
-    ensures board { board p.new ≡ (came p.old (time_now (handed p.old tree.old.nodes) s)).board }
-    ensures items { Took (T.taken trace.old) (came p.old (time_now (handed p.old tree.old.nodes) s)).items
-        (T.taken trace.new) }
+    ensures does { HasDone p.old p.new tree.new.nodes result (T.taken trace.old) (T.taken trace.new)
+        (time_now (handed p.old tree.old.nodes) s) }
     ensures frame { T.leads_to trace.old trace.new }
     ensures agree { AreProcs p.new }
     ensures marks { tree.new.marks ≡ tree.old.marks }
@@ -87,14 +80,8 @@ pub fn set_time<T: Trace>(
     trace: &mut T,
 ) -> Result<Answer, PanicKind>
     requires { Calls p.old tree.old.nodes s }
-    ensures answer { result ≡ answered (came p.old (set_time (handed p.old tree.old.nodes) s)).stop
-        (set_time (handed p.old tree.old.nodes) s).answer }
-    ensures state { handed p.new tree.new.nodes
-        ≡ left_by (came p.old (set_time (handed p.old tree.old.nodes) s)).stop
-        (set_time (handed p.old tree.old.nodes) s).state }
-    ensures board { board p.new ≡ (came p.old (set_time (handed p.old tree.old.nodes) s)).board }
-    ensures items { Took (T.taken trace.old) (came p.old (set_time (handed p.old tree.old.nodes) s)).items
-        (T.taken trace.new) }
+    ensures does { HasDone p.old p.new tree.new.nodes result (T.taken trace.old) (T.taken trace.new)
+        (set_time (handed p.old tree.old.nodes) s) }
     ensures frame { T.leads_to trace.old trace.new }
     ensures agree { AreProcs p.new }
     ensures marks { tree.new.marks ≡ tree.old.marks }
@@ -182,14 +169,8 @@ pub fn sleep_for<T: Trace>(
     trace: &mut T,
 ) -> Result<Answer, PanicKind>
     requires { Calls p.old tree.old.nodes s }
-    ensures answer { result ≡ answered (came p.old (sleep_for (handed p.old tree.old.nodes) s)).stop
-        (sleep_for (handed p.old tree.old.nodes) s).answer }
-    ensures state { handed p.new tree.new.nodes
-        ≡ left_by (came p.old (sleep_for (handed p.old tree.old.nodes) s)).stop
-        (sleep_for (handed p.old tree.old.nodes) s).state }
-    ensures board { board p.new ≡ (came p.old (sleep_for (handed p.old tree.old.nodes) s)).board }
-    ensures items { Took (T.taken trace.old) (came p.old (sleep_for (handed p.old tree.old.nodes) s)).items
-        (T.taken trace.new) }
+    ensures does { HasDone p.old p.new tree.new.nodes result (T.taken trace.old) (T.taken trace.new)
+        (sleep_for (handed p.old tree.old.nodes) s) }
     ensures frame { T.leads_to trace.old trace.new }
     ensures agree { AreProcs p.new }
     ensures marks { tree.new.marks ≡ tree.old.marks }
@@ -261,14 +242,8 @@ pub fn times_to<T: Trace>(
     trace: &mut T,
 ) -> Result<Answer, PanicKind>
     requires { Calls p.old tree.old.nodes s }
-    ensures answer { result ≡ answered (came p.old (times_to (handed p.old tree.old.nodes) s (slice_index args 0))).stop
-        (times_to (handed p.old tree.old.nodes) s (slice_index args 0)).answer }
-    ensures state { handed p.new tree.new.nodes
-        ≡ left_by (came p.old (times_to (handed p.old tree.old.nodes) s (slice_index args 0))).stop
-        (times_to (handed p.old tree.old.nodes) s (slice_index args 0)).state }
-    ensures board { board p.new ≡ (came p.old (times_to (handed p.old tree.old.nodes) s (slice_index args 0))).board }
-    ensures items { Took (T.taken trace.old)
-        (came p.old (times_to (handed p.old tree.old.nodes) s (slice_index args 0))).items (T.taken trace.new) }
+    ensures does { HasDone p.old p.new tree.new.nodes result (T.taken trace.old) (T.taken trace.new)
+        (times_to (handed p.old tree.old.nodes) s (slice_index args 0)) }
     ensures frame { T.leads_to trace.old trace.new }
     ensures agree { AreProcs p.new }
     ensures marks { tree.new.marks ≡ tree.old.marks }

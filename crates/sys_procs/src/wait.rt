@@ -7,12 +7,11 @@ ghost use Rattle.u_area.specs.Area.{IsSized};
 ghost use Rattle.image_keep.specs.Kept.{half_of, with_keeping, HasGrave, IsKept, Nothing};
 ghost use Rattle.pick_rules.specs.Table.{IsTable, empty_row, with_row};
 ghost use Rattle.pick_rules.specs.Apply.{applied};
-ghost use Rattle.pick_rules.specs.Logged.{left_by};
 ghost use Rattle.proc_tab.specs.Processes.{AreProcesses};
 ghost use Rattle.sys_procs.specs.World.{without_process};
 ghost use Rattle.sys_procs.specs.Wait.{with_times_of, pending_wait, buries, wait_child};
-ghost use Rattle.sys_procs.specs.Agree.{answered};
-ghost use Rattle.sys_procs.specs.Handed.{AreProcs, Calls, IsAlive, board, came, handed, process_here};
+ghost use Rattle.sys_procs.specs.Handed.{AreProcs, Calls, IsAlive, board, handed, process_here};
+ghost use Rattle.sys_procs.specs.Done.{HasDone};
 
 use crate::procs::Procs;
 use crate::seen::see;
@@ -154,14 +153,8 @@ pub fn wait_child<T: Trace>(
     trace: &mut T,
 ) -> Result<Answer, PanicKind>
     requires { Calls p.old tree.old.nodes s }
-    ensures answer { result ≡ answered (came p.old (wait_child (handed p.old tree.old.nodes) s)).stop
-        (wait_child (handed p.old tree.old.nodes) s).answer }
-    ensures state { handed p.new tree.new.nodes
-        ≡ left_by (came p.old (wait_child (handed p.old tree.old.nodes) s)).stop
-        (wait_child (handed p.old tree.old.nodes) s).state }
-    ensures board { board p.new ≡ (came p.old (wait_child (handed p.old tree.old.nodes) s)).board }
-    ensures items { Took (T.taken trace.old) (came p.old (wait_child (handed p.old tree.old.nodes) s)).items
-        (T.taken trace.new) }
+    ensures does { HasDone p.old p.new tree.new.nodes result (T.taken trace.old) (T.taken trace.new)
+        (wait_child (handed p.old tree.old.nodes) s) }
     ensures frame { T.leads_to trace.old trace.new }
     ensures agree { AreProcs p.new }
     ensures marks { tree.new.marks ≡ tree.old.marks }

@@ -19,16 +19,15 @@ state : (g : given.Over) (c : goal.After-die g) → (dies (handed c.leave.new.p 
 unfolding end_proc
 state g c = ap (λ (w : World). (dies w c.args.s).state) c.leave.ensures.state
 
-pub returns-clause-result : goal.returns-clause-result
-returns-clause-result g c = c.die.ensures.result c.leave.new.tree.nodes ∙ ap (λ (l : Logged World). ended_by l.stop) (lines g c)
-
-pub returns-clause-state : goal.returns-clause-state
-returns-clause-state g c = c.die.ensures.state c.leave.new.tree.nodes ∙ (λ i. left_by (lines g c i).stop (state g c i))
-
-pub returns-clause-board : goal.returns-clause-board
-returns-clause-board g c = c.die.ensures.board c.leave.new.tree.nodes ∙ ap (λ (l : Logged World). l.board) (lines g c)
-
-pub returns-clause-items : goal.returns-clause-items
-returns-clause-items g c =
-    subst (λ (l : Logged World). Took (g.T.Trace.taken c.args.trace.now) l.items (g.T.Trace.taken c.die.new.trace)) (lines g c)
-    (c.die.ensures.items c.leave.new.tree.nodes)
+pub returns-clause-does : goal.returns-clause-does
+returns-clause-does g c =
+    let dead = c.die.ensures.does c.leave.new.tree.nodes in
+    record {
+      answer = dead.answer ∙ ap (λ (l : Logged World). ended_by l.stop) (lines g c);
+      left = record {
+        state = dead.left.state ∙ (λ i. left_by (lines g c i).stop (state g c i));
+        shown = dead.left.shown ∙ ap (λ (l : Logged World). l.board) (lines g c);
+        items = subst (λ (l : Logged World). Took (g.T.Trace.taken c.args.trace.now) l.items (g.T.Trace.taken c.die.new.trace)) (lines g c)
+            dead.left.items;
+      };
+    }

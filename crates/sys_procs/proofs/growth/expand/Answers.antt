@@ -1,22 +1,29 @@
-use Rattle.std.proofs.Common.{◌≡◌, ◌∙◌, ◌+◌, nat_le, [], ◌∷◌, None, sym, ap, subst}
+use Rattle.std.proofs.Common.{◌≡◌, ◌∙◌, ◌+◌, nat_le, [], ◌∷◌, None, refl, sym, ap, subst}
 use Rattle.v6_base.specs.Trace.{Took, Log}
 use Rattle.v6_base.specs.declared.entry.Entry.{Entry}
 use Rattle.pick_rules.specs.Table.{row_at}
-use Rattle.pick_rules.specs.Logged.{Logged}
+use Rattle.v6_base.proofs.Took.{took_none}
 use Rattle.fs_nodes.specs.FileSystem.{FileSystem}
 use Rattle.sys_procs.specs.declared.procs.Procs.{Procs}
-use Rattle.sys_procs.specs.World.{World}
 use Rattle.sys_procs.specs.Break.{expands}
 use Rattle.sys_procs.specs.Handed.{IsAlive, board, came, handed}
+use Rattle.sys_procs.proofs.Dones.{ended_logged}
 use Rattle.sys_procs.proofs.PlacingRows.{seated}
-use Rattle.sys_procs.proofs.GrowLemmas.{line_by, grown, place_found, log_sized, grown_alive, grown_state}
+use Rattle.sys_procs.proofs.GrowLemmas.{line_by, grown, place_found, log_stopped, log_sized, grown_alive, grown_state}
 use Rattle.sys_procs.proofs.growth.expand.Given as given
 use Rattle.sys_procs.proofs.growth.expand.Goals as goal
 
+-- It finds no place.
+pub returns-then-not-finds_place-clause-does : goal.returns-then-not-finds_place-clause-does
+returns-then-not-finds_place-clause-does g c = λ fs.
+    ended_logged (log_stopped c.args.p.now c.args.s c.requires.alive c.see.ensures.images.slots c.args.d c.args.stack fs
+    (sym c.finds_place.ensures ∙ c.if-not-finds_place.true)) refl refl refl (took_none _)
+
+-- It finds one.
 pub resize-place-requires-clause-place : goal.resize-place-requires-clause-place
 resize-place-requires-clause-place g c =
     place_found c.args.p.now c.args.s c.requires.alive c.see.ensures.images.slots (16 + c.args.d + c.args.stack)
-    c.requires.place
+    (sym c.finds_place.ensures ∙ c.if-not-finds_place.false)
 
 -- what the code makes of the table and the images
 now : (g : given.Over) (c : goal.After-entry g) → ◌≡◌ {A = Procs}
@@ -36,25 +43,15 @@ lines : (g : given.Over) (c : goal.After-entry g) (fs : FileSystem)
 lines g c fs =
     log_sized c.args.p.now c.args.s c.requires.alive c.see.ensures.images.slots c.args.d c.args.stack
     c.resize-place.result fs
-    c.requires.place c.resize-place.ensures.place
+    (sym c.finds_place.ensures ∙ c.if-not-finds_place.false) c.resize-place.ensures.place
 
-pub returns-clause-state : goal.returns-clause-state
-returns-clause-state g c = λ fs.
-    ap (λ (q : Procs). handed q fs) (now g c)
+pub returns-clause-does : goal.returns-clause-does
+returns-clause-does g c = λ fs.
+    ended_logged (lines g c fs) refl
+    (ap (λ (q : Procs). handed q fs) (now g c)
     ∙ grown_state c.args.p.now c.args.s c.requires.alive c.see.ensures.images.slots c.args.d c.args.stack
-    c.resize-place.result fs
-
-pub returns-clause-board : goal.returns-clause-board
-returns-clause-board g c = λ fs.
-    ap (λ (q : Procs). board q) (now g c) ∙ sym (ap (λ (l : Logged World). l.board) (lines g c fs))
-
-pub returns-clause-stop : goal.returns-clause-stop
-returns-clause-stop g c = λ fs. ap (λ (l : Logged World). l.stop) (lines g c fs)
-
-pub returns-clause-items : goal.returns-clause-items
-returns-clause-items g c = λ fs.
-    subst (λ (l : Logged World). Took (g.T.Trace.taken c.args.trace.now) l.items (g.T.Trace.taken c.entry.new.self))
-    (sym (lines g c fs))
+    c.resize-place.result fs)
+    (ap (λ (q : Procs). board q) (now g c))
     (subst (λ (e : Entry). Took (g.T.Trace.taken c.args.trace.now) (Log e ∷ []) (g.T.Trace.taken c.entry.new.self))
     c.size_line-line.ensures c.entry.ensures.took)
 

@@ -10,7 +10,7 @@ use Rattle.sys_procs.specs.World.{World}
 use Rattle.sys_procs.specs.Comes.{comes, returns, logs}
 use Rattle.sys_procs.specs.Handed.{board, handed}
 use Rattle.sys_procs.specs.Ids.{nice_to}
-use Rattle.sys_procs.proofs.Shown.{Says, says_line, its_answer, its_state, its_board, its_items}
+use Rattle.sys_procs.proofs.Shown.{Says, says_line, its_call}
 use Rattle.sys_procs.proofs.IdsLemmas.{nice_up, nice_down, nice_refused}
 use Rattle.sys_procs.proofs.ids.nice_to.Given as given
 use Rattle.sys_procs.proofs.ids.nice_to.Goals as goal
@@ -28,18 +28,10 @@ up g c =
 up_fits : (g : given.Over) (c : goal.After-result-then-value-lt32768-1 g) → to_z w8 (of_z w8 c.held_nice.result) ≡ c.held_nice.result
 up_fits g c = let fits : FitsSigned w8 c.held_nice.result = search rules in to_z-of_z w8 c.held_nice.result fits
 
-pub returns-then-value-lt32768-clause-answer : goal.returns-then-value-lt32768-clause-answer
-returns-then-value-lt32768-clause-answer g c = its_answer (up g c)
-
-pub returns-then-value-lt32768-clause-state : goal.returns-then-value-lt32768-clause-state
-returns-then-value-lt32768-clause-state g c = c.set_nice.ensures.state c.args.tree.now.nodes ∙ its_state (up g c)
-
-pub returns-then-value-lt32768-clause-board : goal.returns-then-value-lt32768-clause-board
-returns-then-value-lt32768-clause-board g c = c.set_nice.ensures.board ∙ (ap (λ n. applied (board c.args.p.now) (Nice c.args.s n)) (up_fits g c) ∙ its_board (up g c))
-
-pub returns-then-value-lt32768-clause-items : goal.returns-then-value-lt32768-clause-items
-returns-then-value-lt32768-clause-items g c =
-    its_items (up g c) _ _
+pub returns-then-value-lt32768-clause-does : goal.returns-then-value-lt32768-clause-does
+returns-then-value-lt32768-clause-does g c =
+    its_call (up g c) (c.set_nice.ensures.state c.args.tree.now.nodes)
+    (c.set_nice.ensures.board ∙ ap (λ n. applied (board c.args.p.now) (Nice c.args.s n)) (up_fits g c))
     (subst (λ n. Took (g.T.Trace.taken c.args.trace.now) (Log (Nice c.args.s n) ∷ []) (g.T.Trace.taken c.set_nice.new.trace)) (up_fits g c) c.set_nice.ensures.items)
 
 down : (g : given.Over) (c : goal.After-result-then-u-eq0-2-1 g)
@@ -55,18 +47,10 @@ down g c =
 down_fits : (g : given.Over) (c : goal.After-result-then-u-eq0-2-1 g) → to_z w8 (of_z w8 c.low_nice.result) ≡ c.low_nice.result
 down_fits g c = let fits : FitsSigned w8 c.low_nice.result = search rules in to_z-of_z w8 c.low_nice.result fits
 
-pub returns-then-u-eq0-clause-answer : goal.returns-then-u-eq0-clause-answer
-returns-then-u-eq0-clause-answer g c = its_answer (down g c)
-
-pub returns-then-u-eq0-clause-state : goal.returns-then-u-eq0-clause-state
-returns-then-u-eq0-clause-state g c = c.set_nice-then-u-eq0.ensures.state c.args.tree.now.nodes ∙ its_state (down g c)
-
-pub returns-then-u-eq0-clause-board : goal.returns-then-u-eq0-clause-board
-returns-then-u-eq0-clause-board g c = c.set_nice-then-u-eq0.ensures.board ∙ (ap (λ n. applied (board c.args.p.now) (Nice c.args.s n)) (down_fits g c) ∙ its_board (down g c))
-
-pub returns-then-u-eq0-clause-items : goal.returns-then-u-eq0-clause-items
-returns-then-u-eq0-clause-items g c =
-    its_items (down g c) _ _
+pub returns-then-u-eq0-clause-does : goal.returns-then-u-eq0-clause-does
+returns-then-u-eq0-clause-does g c =
+    its_call (down g c) (c.set_nice-then-u-eq0.ensures.state c.args.tree.now.nodes)
+    (c.set_nice-then-u-eq0.ensures.board ∙ ap (λ n. applied (board c.args.p.now) (Nice c.args.s n)) (down_fits g c))
     (subst (λ n. Took (g.T.Trace.taken c.args.trace.now) (Log (Nice c.args.s n) ∷ []) (g.T.Trace.taken c.set_nice-then-u-eq0.new.trace)) (down_fits g c) c.set_nice-then-u-eq0.ensures.items)
 
 refused : (g : given.Over) (c : goal.After-set_nice-2 g)
@@ -77,14 +61,6 @@ refused g c =
     says_line c.args.p.now (nice_to w c.args.s) (Nice c.args.s (pos 0)) w (Fail EPERM)
     (nice_refused w c.args.s c.area-u.result c.area-u.ensures c.if-value-lt32768.false c.if-u-eq0.false)
 
-pub returns-clause-answer : goal.returns-clause-answer
-returns-clause-answer g c = its_answer (refused g c)
-
-pub returns-clause-state : goal.returns-clause-state
-returns-clause-state g c = c.set_nice-2.ensures.state c.args.tree.now.nodes ∙ its_state (refused g c)
-
-pub returns-clause-board : goal.returns-clause-board
-returns-clause-board g c = c.set_nice-2.ensures.board ∙ its_board (refused g c)
-
-pub returns-clause-items : goal.returns-clause-items
-returns-clause-items g c = its_items (refused g c) _ _ c.set_nice-2.ensures.items
+pub returns-clause-does : goal.returns-clause-does
+returns-clause-does g c =
+    its_call (refused g c) (c.set_nice-2.ensures.state c.args.tree.now.nodes) c.set_nice-2.ensures.board c.set_nice-2.ensures.items

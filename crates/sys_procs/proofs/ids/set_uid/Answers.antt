@@ -1,13 +1,22 @@
-use Rattle.std.proofs.Common.{◌∙◌, sym}
-use Rattle.sys_procs.specs.World.{World}
+use Rattle.std.proofs.Common.{◌∙◌, ◌%◌, get_or, Result, Ok, refl, ap, sym}
+use Rattle.v6_base.specs.declared.answer.Answer.{Answer}
+use Rattle.v6_base.specs.declared.entry.PanicKind.{PanicKind}
+use Rattle.fs_nodes.specs.FileSystem.{FileSystem}
+use Rattle.sys_procs.specs.declared.procs.Procs.{Procs}
 use Rattle.sys_procs.specs.Handed.{handed}
-use Rattle.sys_procs.specs.Ids.{set_uid}
-use Rattle.sys_procs.proofs.Shown.{says_none, its_state}
+use Rattle.sys_procs.specs.Ids.{as_user}
+use Rattle.sys_procs.proofs.Alive.{calls_alive}
+use Rattle.sys_procs.proofs.Dones.{answer_stays, done_none}
 use Rattle.sys_procs.proofs.IdsLemmas.{uid_taken}
 use Rattle.sys_procs.proofs.ids.set_uid.Goals as goal
 
-pub returns-clause-state : goal.returns-clause-state
-returns-clause-state g c =
-    let w : World = handed c.args.p.now c.args.tree.now.nodes in
-    let is = uid_taken w c.args.s c.area-u.result c.area-u.ensures (sym c.may_take.ensures ∙ c.if-not-may_take.false) in
-    c.set_user.ensures.state c.args.tree.now.nodes ∙ its_state (says_none c.args.p.now (set_uid w c.args.s) _ _ is)
+pub returns-clause-does : goal.returns-clause-does
+returns-clause-does g c =
+    let p : Procs = c.args.p.now in
+    let fs : FileSystem = c.args.tree.now.nodes in
+    let done : Answer → Result Answer PanicKind = λ a. Ok a in
+    done_none _ _
+    (sym (uid_taken (handed p fs) c.args.s c.area-u.result c.area-u.ensures (sym c.may_take.ensures ∙ c.if-not-may_take.false)))
+    (ap done (answer_stays p fs c.args.s (as_user (get_or c.area-u.result.r 0 0 % 256)) c.area-u.result
+    (calls_alive p fs c.args.s c.requires) c.area-u.ensures (λ q. refl)))
+    (c.set_user.ensures.state fs) c.set_user.ensures.board

@@ -4,7 +4,7 @@ use Rattle.v6_base.specs.declared.entry.Place.TheVariants.{Core}
 use Rattle.image_keep.specs.Kept.{Alive, with_keeping}
 use Rattle.image_keep.specs.Area.{sized_area}
 use Rattle.image_keep.specs.Places.{core_fit, placed, cleared, with_image_at}
-use Rattle.sys_procs.proofs.PlacingLemmas.{placed_in_core}
+use Rattle.sys_procs.proofs.PlacingLemmas.{place_in_core}
 use Rattle.sys_procs.proofs.placing.new_image.Goals as goal
 
 pub unreachable-requires-in-Err : goal.unreachable-requires-in-Err
@@ -13,7 +13,7 @@ unreachable-requires-in-Err c =
     let clicks : 16 + c.args.d + 20 ≡ 16 + proto.data_size + proto.stack_size =
     λ i. 16 + sym c.in-Ok.ensures.2 i + sym c.in-Ok.ensures.3 i in
     let none : Some (Core (unwrap_or (core_fit c.args.images.now (16 + c.args.d + 20)) 0)) ≡ None =
-    sym (placed_in_core c.args.images.now (16 + c.args.d + 20) c.requires.room)
+    sym (place_in_core c.args.images.now (16 + c.args.d + 20) c.requires.room)
     ∙ (ap (placed c.args.images.now) clicks ∙ c.in-Err.ensures.place) in
     cc none
 
@@ -25,7 +25,7 @@ returns-clause-place c =
     let same : Some c.in-Ok-replace.place
     ≡ Some (Core (unwrap_or (core_fit c.args.images.now (16 + c.args.d + 20)) 0)) =
     sym c.in-Ok-replace.ensures.place
-    ∙ (ap (placed c.args.images.now) clicks ∙ placed_in_core c.args.images.now (16 + c.args.d + 20) c.requires.room) in
+    ∙ (ap (placed c.args.images.now) clicks ∙ place_in_core c.args.images.now (16 + c.args.d + 20) c.requires.room) in
     cc same
 
 pub returns-clause-images : goal.returns-clause-images

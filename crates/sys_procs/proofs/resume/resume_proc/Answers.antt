@@ -1,10 +1,8 @@
-use Rattle.std.proofs.Common.{◌≡◌, ◌∙◌, ◌+◌, ◌*◌, ℕ, [], get_or, Result, ap, subst, sym}
+use Rattle.std.proofs.Common.{◌≡◌, ◌∙◌, ◌+◌, ◌*◌, ℕ, [], get_or, ap, subst, sym}
 use Rattle.v6_base.specs.Trace.{Took}
-use Rattle.v6_base.specs.declared.answer.Answer.{Answer}
-use Rattle.v6_base.specs.declared.entry.PanicKind.{PanicKind}
 use Rattle.v6_base.proofs.Took.{took_none}
 use Rattle.pick_rules.specs.Board.{Board}
-use Rattle.pick_rules.specs.Logged.{logged, left_by}
+use Rattle.pick_rules.specs.Logged.{Logged, logged, left_by}
 use Rattle.fs_nodes.specs.FileSystem.{FileSystem}
 use Rattle.sys_procs.specs.World.{World, change}
 use Rattle.sys_procs.specs.Comes.{Comes}
@@ -14,7 +12,8 @@ use Rattle.sys_procs.specs.Times.{sleep_until}
 use Rattle.sys_procs.specs.Wait.{wait_child}
 use Rattle.sys_procs.specs.Resume.{awake, resume_proc}
 use Rattle.sys_procs.proofs.Alive.{calls_alive}
-use Rattle.sys_procs.proofs.Shown.{Says, its_answer, its_state, its_board, its_items}
+use Rattle.sys_procs.proofs.Dones.{done_as}
+use Rattle.sys_procs.proofs.Shown.{Says, its_call}
 use Rattle.sys_procs.proofs.TimesLemmas.{sleep_shows_none}
 use Rattle.sys_procs.proofs.ResumeLemmas.{resume_sleep, resume_wait}
 use Rattle.sys_procs.proofs.resume.resume_proc.Given as given
@@ -47,27 +46,13 @@ says g c =
       answer = ap (λ (d : Comes). d.answer) is ∙ sym (c.sleep_until.ensures.answer fs);
     }
 
-pub returns-then-u-eq-SLEEP-clause-answer : goal.returns-then-u-eq-SLEEP-clause-answer
-returns-then-u-eq-SLEEP-clause-answer g c = its_answer (says g c)
-
-pub returns-then-u-eq-SLEEP-clause-state : goal.returns-then-u-eq-SLEEP-clause-state
-returns-then-u-eq-SLEEP-clause-state g c = c.sleep_until.ensures.state c.args.tree.now.nodes ∙ its_state (says g c)
-
-pub returns-then-u-eq-SLEEP-clause-board : goal.returns-then-u-eq-SLEEP-clause-board
-returns-then-u-eq-SLEEP-clause-board g c = c.sleep_until.ensures.board ∙ (c.wake_up.ensures.board ∙ its_board (says g c))
-
-pub returns-then-u-eq-SLEEP-clause-items : goal.returns-then-u-eq-SLEEP-clause-items
-returns-then-u-eq-SLEEP-clause-items g c = its_items (says g c) _ _ (took_none _)
+pub returns-then-u-eq-SLEEP-clause-does : goal.returns-then-u-eq-SLEEP-clause-does
+returns-then-u-eq-SLEEP-clause-does g c =
+    its_call (says g c) (c.sleep_until.ensures.state c.args.tree.now.nodes) (c.sleep_until.ensures.board ∙ c.wake_up.ensures.board) (took_none _)
 
 -- A wait goes on.
 pub wait_child-requires : goal.wait_child-requires
 wait_child-requires g c = c.wake_up.ensures.calls c.args.tree.now.nodes c.requires
-
-abbrev answer_from : Board → Comes → Result Answer PanicKind
-answer_from b d = answered (logged b d.effects).stop d.answer
-
-abbrev state_from : Board → Comes → World
-state_from b d = left_by (logged b d.effects).stop d.state
 
 is : (g : given.Over) (c : goal.After-wait_child g)
     → wait_child (handed c.wake_up.new.p c.args.tree.now.nodes) c.args.s ≡ resume_proc (handed c.args.p.now c.args.tree.now.nodes) c.args.s
@@ -75,26 +60,16 @@ is g c =
     ap (λ (w : World). wait_child w c.args.s) (c.wake_up.ensures.state c.args.tree.now.nodes)
     ∙ sym (resume_wait (handed c.args.p.now c.args.tree.now.nodes) c.args.s c.area-u.result c.area-u.ensures c.if-u-eq-SLEEP.false)
 
-pub returns-clause-answer : goal.returns-clause-answer
-returns-clause-answer g c =
-    c.wait_child.ensures.answer
-    ∙ (ap (λ (b : Board). answer_from b (wait_child (handed c.wake_up.new.p c.args.tree.now.nodes) c.args.s)) c.wake_up.ensures.board
-    ∙ ap (answer_from (board c.args.p.now)) (is g c))
-
-pub returns-clause-state : goal.returns-clause-state
-returns-clause-state g c =
-    c.wait_child.ensures.state
-    ∙ (ap (λ (b : Board). state_from b (wait_child (handed c.wake_up.new.p c.args.tree.now.nodes) c.args.s)) c.wake_up.ensures.board
-    ∙ ap (state_from (board c.args.p.now)) (is g c))
-
-pub returns-clause-board : goal.returns-clause-board
-returns-clause-board g c =
-    c.wait_child.ensures.board
-    ∙ (ap (λ (b : Board). (logged b (wait_child (handed c.wake_up.new.p c.args.tree.now.nodes) c.args.s).effects).board) c.wake_up.ensures.board
-    ∙ ap (λ (d : Comes). (logged (board c.args.p.now) d.effects).board) (is g c))
-
-pub returns-clause-items : goal.returns-clause-items
-returns-clause-items g c =
-    subst (λ (d : Comes). Took (g.T.Trace.taken c.args.trace.now) (logged (board c.args.p.now) d.effects).items (g.T.Trace.taken c.wait_child.new.trace)) (is g c)
-    (subst (λ (b : Board). Took (g.T.Trace.taken c.args.trace.now) (logged b (wait_child (handed c.wake_up.new.p c.args.tree.now.nodes) c.args.s).effects).items (g.T.Trace.taken c.wait_child.new.trace)) c.wake_up.ensures.board
-    c.wait_child.ensures.items)
+-- what is done from where the process is awake is done from before
+pub returns-clause-does : goal.returns-clause-does
+returns-clause-does g c =
+    let row : Comes = wait_child (handed c.wake_up.new.p c.args.tree.now.nodes) c.args.s in
+    let log : logged (board c.wake_up.new.p) row.effects ≡ logged (board c.args.p.now) row.effects =
+    ap (λ (b : Board). logged b row.effects) c.wake_up.ensures.board in
+    let does = c.wait_child.ensures.does in
+    done_as (is g c) (record {
+      answer = does.answer ∙ ap (λ (l : Logged World). answered l.stop row.answer) log;
+      state = does.state ∙ ap (λ (l : Logged World). left_by l.stop row.state) log;
+      shown = does.shown ∙ ap (λ (l : Logged World). l.board) log;
+      items = subst (λ (l : Logged World). Took (g.T.Trace.taken c.args.trace.now) l.items (g.T.Trace.taken c.wait_child.new.trace)) log does.items;
+    })

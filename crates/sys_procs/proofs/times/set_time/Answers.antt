@@ -9,7 +9,7 @@ use Rattle.sys_procs.specs.World.{World}
 use Rattle.sys_procs.specs.Comes.{comes, returns, logs}
 use Rattle.sys_procs.specs.Handed.{board, handed}
 use Rattle.sys_procs.specs.Times.{with_time, set_time}
-use Rattle.sys_procs.proofs.Shown.{Says, says_lines, its_answer, its_state, its_board, its_items}
+use Rattle.sys_procs.proofs.Shown.{Says, says_lines, its_call}
 use Rattle.sys_procs.proofs.TimesLemmas.{time_set}
 use Rattle.sys_procs.proofs.times.set_time.Given as given
 use Rattle.sys_procs.proofs.times.set_time.Goals as goal
@@ -32,14 +32,6 @@ says g c =
     ∙ (ap (λ n. logs (Time n) (logs (Wake Tout) (returns (with_time w n) c.args.s))) is
     ∙ ap (λ (u : UArea). logs (Time (told g c)) (logs (Wake Tout) (comes (with_time w (told g c)) (Ret (get_or u.r 0 0) (get_or u.r 1 0))))) (sym c.area-u.ensures)))
 
-pub returns-clause-answer : goal.returns-clause-answer
-returns-clause-answer g c = its_answer (says g c)
-
-pub returns-clause-state : goal.returns-clause-state
-returns-clause-state g c = c.put_time.ensures.state c.args.tree.now.nodes ∙ its_state (says g c)
-
-pub returns-clause-board : goal.returns-clause-board
-returns-clause-board g c = c.put_time.ensures.board ∙ its_board (says g c)
-
-pub returns-clause-items : goal.returns-clause-items
-returns-clause-items g c = its_items (says g c) _ _ c.put_time.ensures.items
+pub returns-clause-does : goal.returns-clause-does
+returns-clause-does g c =
+    its_call (says g c) (c.put_time.ensures.state c.args.tree.now.nodes) c.put_time.ensures.board c.put_time.ensures.items

@@ -5,7 +5,7 @@ use Rattle.sys_procs.specs.World.{World}
 use Rattle.sys_procs.specs.Comes.{Comes}
 use Rattle.sys_procs.specs.Handed.{board, handed}
 use Rattle.sys_procs.specs.Times.{sleep_until, sleep_for}
-use Rattle.sys_procs.proofs.Shown.{Says, its_answer, its_state, its_board, its_items}
+use Rattle.sys_procs.proofs.Shown.{Says, its_call}
 use Rattle.sys_procs.proofs.TimesLemmas.{sleep_is, sleep_shows_none}
 use Rattle.sys_procs.proofs.times.sleep_for.Given as given
 use Rattle.sys_procs.proofs.times.sleep_for.Goals as goal
@@ -26,14 +26,6 @@ says g c =
       answer = ap (λ (d : Comes). d.answer) is ∙ sym (c.sleep_until.ensures.answer c.args.tree.now.nodes);
     }
 
-pub returns-clause-answer : goal.returns-clause-answer
-returns-clause-answer g c = its_answer (says g c)
-
-pub returns-clause-state : goal.returns-clause-state
-returns-clause-state g c = c.sleep_until.ensures.state c.args.tree.now.nodes ∙ its_state (says g c)
-
-pub returns-clause-board : goal.returns-clause-board
-returns-clause-board g c = c.sleep_until.ensures.board ∙ its_board (says g c)
-
-pub returns-clause-items : goal.returns-clause-items
-returns-clause-items g c = its_items (says g c) _ _ (took_none _)
+pub returns-clause-does : goal.returns-clause-does
+returns-clause-does g c =
+    its_call (says g c) (c.sleep_until.ensures.state c.args.tree.now.nodes) c.sleep_until.ensures.board (took_none _)

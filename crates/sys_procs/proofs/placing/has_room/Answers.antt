@@ -1,6 +1,6 @@
 use Rattle.std.proofs.Common.{is_some, sym, ap, ◌∙◌}
 use Rattle.sys_procs.proofs.PlacingLemmas.{room_is}
-use Rattle.sys_procs.proofs.placing.has_room_without.Goals as goal
+use Rattle.sys_procs.proofs.placing.has_room.Goals as goal
 
 pub returns-clause-room : goal.returns-clause-room
 returns-clause-room c =
