@@ -537,7 +537,7 @@ const PLACES: [Exec<'static>; 6] = [
         log: &[
             (1, b"fork 1 2 at 40\ntrap 1\nfork 1 3 at 79\ntrap 1\n"),
             (60, b"tick u\n"),
-            (1, b"go 2\n"),
+            (1, b"go 2\nbare 2\n"),
         ],
         report: b"not built: room\n",
         ..DONE

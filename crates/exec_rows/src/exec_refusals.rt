@@ -565,7 +565,7 @@ const UNBUILT: [Exec<'static>; 8] = [
             0o000410, 0o000002, 0o000000, 0o000000, 0o000000, 0o000000, 0o000000, 0o000000,
             0o000777,
         ],
-        log: &[],
+        log: &[(1, b"bare 1\n")],
         report: b"not built: pc 46\n",
         ..REFUSED
     },
@@ -579,7 +579,7 @@ const UNBUILT: [Exec<'static>; 8] = [
             0o000410, 0o000002, 0o000000, 0o000000, 0o000000, 0o000000, 0o000000, 0o000000,
             0o000777,
         ],
-        log: &[(1, b"trap 1\ntrap 1\n")],
+        log: &[(1, b"trap 1\ntrap 1\nbare 1\n")],
         report: b"not built: pc 54\n",
         ..REFUSED
     },
