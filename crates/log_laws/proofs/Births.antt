@@ -101,7 +101,7 @@ module _ (s : ℕ) (v : Seats) (seen : Seen) (child : ℕ) (i : InCall s false v
   child_agrees place m = let o = own s s v seen.board i.agrees i.turn in
       change_agrees s s child v grown.slots seen.board _ (Some i.turn.seat) (born (row_at seen.board.table s) place) (λ f. refl) i.agrees l refl refl
       i.agrees.time i.agrees.ticks
-      (record { used = refl; zombie = sym i.turn.alive; calling = λ f g. sym i.calls; text = o.text; place = λ f. m; size = o.size; most = o.most }) (inl refl)
+      (record { used = refl; zombie = sym i.turn.alive; calling = λ f g. sym i.calls; text = o.text; bare = o.bare; place = λ f. m; size = o.size; most = o.most }) (inl refl)
 
   inside : child < length seen.board.table.rows
   inside = rw i.agrees.rows l

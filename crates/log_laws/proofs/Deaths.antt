@@ -130,7 +130,7 @@ module _ (s : ℕ) (calling : Bool) (v : Seats) (seen : Seen) (i : InCall s call
         going = tt;
         agrees = same_board s (with_own s v seat) newer now e (leave_core b s k sticky)
             (change_agrees s s s v (set v.slots s (Some seat)) b newer.table (Some seat) bare (λ f. refl) i.agrees i.turn.small refl refl i.agrees.time i.agrees.ticks
-            (record { used = o.used; zombie = o.zombie; calling = o.calling; text = refl; place = o.place; size = o.size; most = o.most }) (i.agrees.sleeps s));
+            (record { used = o.used; zombie = o.zombie; calling = o.calling; text = refl; bare = refl; place = o.place; size = o.size; most = o.most }) (i.agrees.sleeps s));
         turn = own_turn s v b now seat i.agrees.seats i.turn i.turn.alive (ap (λ t. t.running) e);
         calls = i.calls;
       }
@@ -152,6 +152,7 @@ module _ (s : ℕ) (calling : Bool) (v : Seats) (seen : Seen) (i : InCall s call
           zombie = sym dead;
           calling = λ f g. absurd (cc (dead, g));
           text = o.text ∙ sym text;
+          bare = text ∙ o.bare;
           place = λ f. absurd (cc (dead, f));
           size = λ f. absurd (cc (dead, f));
           most = o.most;
@@ -192,6 +193,7 @@ module _ (s : ℕ) (calling : Bool) (v : Seats) (seen : Seen) (i : InCall s call
           zombie = o.zombie ∙ i.turn.alive ∙ sym dead;
           calling = λ f g. absurd (let e = eq-eqb s s refl in cc (e, f));
           text = o.text ∙ sym text;
+          bare = text ∙ o.bare;
           place = λ f. o.place i.turn.alive;
           size = λ f. o.size i.turn.alive ∙ sym size;
           most = o.most;

@@ -1,5 +1,5 @@
 -- The lines of images: a size, and an exec, whose new image takes the place of the old one.
-use Rattle.std.proofs.Common.{◌≡◌, ◌≢◌, ◌∙◌, ◌≤◌, ◌<◌, ◌==◌, ℕ, nat_le, Bool, true, false, cond, List, ◌∷◌, Option, Some, None, set, set-set, length, get_or-set_same, refl, sym, ap, subst}
+use Rattle.std.proofs.Common.{◌≡◌, ◌≢◌, ◌∙◌, ◌≤◌, ◌<◌, ◌==◌, ℕ, nat_le, Bool, true, false, cond, List, ◌∷◌, Option, Some, None, set, set-set, length, get_or-set_same, refl, sym, ap, subst, inl}
 use Rattle.std.proofs.lemmas.Bool.{leb-true, leb-false}
 use Rattle.v6_base.specs.Trace.{Log}
 use Rattle.v6_base.specs.declared.entry.Place.{Place}
@@ -47,7 +47,7 @@ module _ (s : ℕ) (v : Seats) (b : Board) (row : TableRow) (h : Houses s v b ro
   gone_out block m =
       let o = h.same (Swap block) clicks m l in
       h.agrees (sized h.seat clicks) (row_out row clicks block)
-      (record { used = o.used; zombie = o.zombie; calling = o.calling; text = o.text; place = o.place; size = o.size; most = o.most }) h.sleeps
+      (record { used = o.used; zombie = o.zombie; calling = o.calling; text = o.text; bare = o.bare; place = o.place; size = o.size; most = o.most }) h.sleeps
 
   housed : (place : Place) → v.may place ≡ true
       → Agrees s (with_own s v (sized h.seat clicks)) (record b { table = placed_table b.table s row clicks place })
@@ -73,7 +73,7 @@ module _ (s : ℕ) (calling : Bool) (v : Seats) (seen : Seen) (i : InCall s call
     agrees = λ next new k sleeps. change_agrees s s s v (set v.slots s (Some next)) seen.board (with_row seen.board.table s new) (Some next) new (λ f. refl)
         i.agrees i.turn.small refl refl i.agrees.time i.agrees.ticks k sleeps;
     same = λ place clicks m l. let o = own s s v seen.board i.agrees i.turn in
-        record { used = o.used; zombie = o.zombie; calling = o.calling; text = o.text; place = λ f. m; size = λ f. refl; most = l };
+        record { used = o.used; zombie = o.zombie; calling = o.calling; text = o.text; bare = o.bare; place = λ f. m; size = λ f. refl; most = l };
     sleeps = i.agrees.sleeps s;
   }
 
@@ -89,7 +89,7 @@ module _ (s : ℕ) (calling : Bool) (v : Seats) (seen : Seen) (i : InCall s call
         going = tt;
         agrees = change_agrees s s s v (set v.slots s (Some (sized i.turn.seat clicks))) seen.board now.table (Some (sized i.turn.seat clicks)) row (λ f. refl)
             i.agrees i.turn.small refl refl i.agrees.time i.agrees.ticks
-            (record { used = o.used; zombie = o.zombie; calling = o.calling; text = o.text; place = o.place; size = λ f. refl; most = l }) (i.agrees.sleeps s);
+            (record { used = o.used; zombie = o.zombie; calling = o.calling; text = o.text; bare = o.bare; place = o.place; size = λ f. refl; most = l }) (i.agrees.sleeps s);
         turn = own_turn s v seen.board now (sized i.turn.seat clicks) i.agrees.seats i.turn i.turn.alive refl;
         calls = i.calls;
       }
@@ -184,7 +184,7 @@ module _ (s : ℕ) (v : Seats) (seen : Seen) (i : InCall s false v seen) (bare :
               (ap (λ t. with_row t s new) table ∙ ap (λ rows. record seen.board.table { rows = rows }) (set-set seen.board.table.rows s bared new)) core
               ((houses s false v seen i).agrees next new (subst (λ n. Same (s == s) (record { most = limit n; may = v.may }) next (shape new)) core k) sleeps);
           same = λ place clicks m l. let o = own s s v seen.board i.agrees i.turn in
-              rw row_is (record { used = o.used; zombie = o.zombie; calling = o.calling; text = o.text; place = λ f. m; size = λ f. refl; most = l });
+              rw row_is (record { used = o.used; zombie = o.zombie; calling = o.calling; text = o.text; bare = o.bare; place = λ f. m; size = λ f. refl; most = l });
           sleeps = rw row_is (i.agrees.sleeps s);
         };
       }

@@ -144,7 +144,7 @@ pub time_in : (s : ℕ) (calling : Bool) (v : Seats) (seen : Seen) (time : ℕ) 
 unfolding applied
 time_in s calling v seen time i = record {
   going = tt;
-  agrees = let a = i.agrees in record { each = a.each; sleeps = a.sleeps; rows = a.rows; seats = a.seats; time = refl; ticks = a.ticks };
+  agrees = let a = i.agrees in record { each = a.each; sleeps = a.sleeps; rows = a.rows; seats = a.seats; time = refl; ticks = a.ticks; texts = a.texts };
   turn = let t = i.turn in record { seat = t.seat; at = t.at; runs = t.runs; user = t.user; small = t.small; alive = t.alive };
   calls = i.calls;
 }
@@ -161,7 +161,7 @@ trap_agrees : (s : ℕ) (v : Seats) (b : Board) → Agrees s v b → (t : InTurn
 unfolding applied setpri
 trap_agrees s v b a t n = change_agrees s 0 s v v.slots b _ (Some t.seat) told (λ f. absurd (f refl)) a t.small (seat_stays s v b t) rows a.time a.ticks
     (let o = own s s v b a t in
-    record { used = o.used; zombie = o.zombie; calling = λ f g. sym n; text = o.text; place = o.place; size = o.size; most = o.most })
+    record { used = o.used; zombie = o.zombie; calling = λ f g. sym n; text = o.text; bare = o.bare; place = o.place; size = o.size; most = o.most })
     (a.sleeps s)
   where
     done : TableRow
@@ -216,7 +216,7 @@ sleep_agrees s v b pri chan a t c = rw (not_zero s t.user) (by (int_lt pri (pos 
     settled : Agrees 0 v lain
     settled = let o = own s s v b a t in let n = sleeping_shape pri in change_agrees s 0 s v v.slots b (asleep b.table s pri chan) (Some t.seat) row (λ f. absurd (f refl)) a t.small
         (seat_stays s v b t) refl a.time a.ticks
-        (record { used = n.0; zombie = n.1 ∙ sym t.alive; calling = λ f g. sym c; text = o.text; place = o.place; size = o.size; most = o.most })
+        (record { used = n.0; zombie = n.1 ∙ sym t.alive; calling = λ f g. sym c; text = o.text; bare = o.bare; place = o.place; size = o.size; most = o.most })
         (inr n.2)
 
     by : (x : Bool)

@@ -69,6 +69,7 @@ module _ (v : Seats) (seen : Seen) (p : Paused v seen) (r : seen.board.table.run
         zombie = ap (λ x. x.zombie) e ∙ o.zombie;
         calling = λ x y. ap (λ x. x.calling) e ∙ o.calling x y;
         text = ap (λ x. x.text) e ∙ o.text;
+        bare = o.bare;
         place = λ x. ap (stands v.may) f ∙ m;
         size = λ x. ap (λ x. x.size) e ∙ o.size x;
         most = rw (ap (λ x. x.size) e) o.most;
@@ -159,6 +160,7 @@ zero_sleeps v seen chan p = by (same_chan chan RunIn)
       seats = p.agrees.seats;
       time = p.agrees.time;
       ticks = p.agrees.ticks;
+      texts = p.agrees.texts;
     }
 
     by : (x : Bool)

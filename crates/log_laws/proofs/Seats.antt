@@ -23,6 +23,7 @@ pub record Seats : Type 0 where
   pub slots : List (Option Seat)
   pub time : ℕ
   pub ticks : ℕ
+  pub texts : Bool  -- a text is shared
   pub may : Place → Bool
 
 abbrev pub stands : (Place → Bool) → Option Place → Bool
@@ -49,6 +50,7 @@ pub record Same (busy : Bool) (rule : Rule) (seat : Seat) (row : Shape) : Type 0
   pub zombie : row.zombie ≡ seat.dead
   pub calling : busy ≡ false → seat.dead ≡ false → row.calling ≡ seat.calling
   pub text : row.text ≡ seat.text
+  pub bare : seat.text ≡ None  -- no process shares a text yet
   pub place : seat.dead ≡ false → stands rule.may row.place ≡ true
   pub size : seat.dead ≡ false → row.size ≡ seat.size
   pub most : row.size ≤ rule.most
@@ -65,6 +67,7 @@ pub record Agrees (busy : ℕ) (v : Seats) (b : Board) : Type 0 where
   pub seats : length v.slots ≡ 50
   pub time : v.time ≡ b.table.now
   pub ticks : v.ticks ≡ b.table.ticks
+  pub texts : v.texts ≡ false
 
 -- the slot that is in its turn
 pub record InTurn (s : ℕ) (v : Seats) (b : Board) : Type 0 where
@@ -116,7 +119,7 @@ unbusy : (rule : Rule) (o : Option Seat) (row : Shape) → AgreesAt false rule o
     → AgreesAt busy rule o row
 unbusy rule None row a busy = a
 unbusy rule (Some seat) row a busy =
-    record { used = a.used; zombie = a.zombie; calling = λ f g. a.calling refl g; text = a.text; place = a.place; size = a.size; most = a.most }
+    record { used = a.used; zombie = a.zombie; calling = λ f g. a.calling refl g; text = a.text; bare = a.bare; place = a.place; size = a.size; most = a.most }
 
 -- another busy slot, at a slot that is neither
 others : (s t r : ℕ) (rule : Rule) (o : Option Seat) (row : Shape) → r ≢ s → AgreesAt (r == s) rule o row
@@ -132,6 +135,7 @@ busy_agrees s v b a = record {
   seats = a.seats;
   time = a.time;
   ticks = a.ticks;
+  texts = a.texts;
 }
 
 -- what the busy slot has in common with its row
@@ -149,6 +153,7 @@ same_board busy v b c e f a = record {
   seats = a.seats;
   time = rw e a.time;
   ticks = rw e a.ticks;
+  texts = a.texts;
 }
 
 -- a table with rows of the same shapes
@@ -161,6 +166,7 @@ kept_agrees busy v b c k f a = record {
   seats = a.seats;
   time = a.time ∙ sym k.now;
   ticks = a.ticks ∙ sym k.ticks;
+  texts = a.texts;
 }
 
 -- One slot is changed on both sides. Before, `s` was busy; it is that slot, or it stays busy.
@@ -177,6 +183,7 @@ change_agrees s t c v now b new o row stays a l slots rows time ticks k sleeps =
   seats = rw slots (length-set v.slots c o ∙ a.seats);
   time = time;
   ticks = ticks;
+  texts = a.texts;
 }
   where
     another : (r : ℕ) → 0 < r → r ≢ c → (x : Bool) → (r == s) ≡ x

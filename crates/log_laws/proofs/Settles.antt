@@ -54,7 +54,7 @@ go_holds v seen s p c e = record {
     b = record seen.board { table = runs seen.board.table s }
 
     agrees : Agrees 0 v b
-    agrees = let a = p.agrees in record { each = a.each; sleeps = a.sleeps; rows = a.rows; seats = a.seats; time = a.time; ticks = a.ticks }
+    agrees = let a = p.agrees in record { each = a.each; sleeps = a.sleeps; rows = a.rows; seats = a.seats; time = a.time; ticks = a.ticks; texts = a.texts }
 
     by : (r : ℕ) → s ≡ r → RunnerAt v b (Some s)
     by zero f = inl f
@@ -68,7 +68,7 @@ idle_holds v seen p e = record {
   holds = record {
     paused = record {
       going = tt;
-      agrees = let a = p.agrees in record { each = a.each; sleeps = a.sleeps; rows = a.rows; seats = a.seats; time = a.time; ticks = a.ticks };
+      agrees = let a = p.agrees in record { each = a.each; sleeps = a.sleeps; rows = a.rows; seats = a.seats; time = a.time; ticks = a.ticks; texts = a.texts };
       runner = tt;
     };
     rests = inl refl;

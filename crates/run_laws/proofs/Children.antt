@@ -1,33 +1,27 @@
 -- fork(II) and wait(II): their effects are apt.
-use Rattle.std.proofs.Common.{◌≡◌, ◌∙◌, ◌<◌, ◌+◌, ◌==◌, ◌&&◌, ℕ, zero, suc, Bool, true, false, if◌then◌else◌, List, [], map, find, Option, Some, None, is_none, is_some, option_map, get_or, set, refl, sym, ap, subst, arith}
+use Rattle.std.proofs.Common.{◌≡◌, ◌∙◌, ◌<◌, ◌+◌, ◌==◌, ◌&&◌, ℕ, zero, suc, Bool, true, false, List, [], map, find, Option, Some, None, is_none, get_or, set, refl, sym, ap, subst, arith}
 use Rattle.std.proofs.Math.ListN.{get_or-map}
 use Rattle.std.specs.List.{range_with_len}
-use Rattle.std.specs.Option.{option_or}
 use Rattle.v6_base.specs.declared.entry.Chan.TheVariants.{Wait}
-use Rattle.v6_base.specs.declared.entry.Place.{Place}
-use Rattle.v6_base.specs.declared.entry.Place.TheVariants.{Core, Swap}
 use Rattle.v6_base.specs.declared.entry.Entry.TheVariants as line
 use Rattle.v6_base.specs.declared.errno.Errno.TheVariants.{ECHILD, EAGAIN}
 use Rattle.v6_base.specs.declared.answer.Answer.TheVariants.{Sleep}
 use Rattle.proc_tab.specs.Processes.{member_at, passes, lowest}
 use Rattle.proc_tab.specs.Children.{is_child_of, is_dead_child_of, told_by}
-use Rattle.image_keep.specs.Kept.{clicks_of}
 use Rattle.pick_rules.specs.Priority.{pwait}
-use Rattle.pick_rules.specs.Table.{row_at}
-use Rattle.pick_rules.specs.Board.{Board, blocks, core_fit, swap_fit, may_load, placed}
 use Rattle.pick_rules.specs.Effects.{came}
 use Rattle.pick_rules.specs.Lawful.{Seen, seen_after}
 use Rattle.pick_rules.proofs.Found.{IsFound, found_in}
 use Rattle.log_laws.proofs.Fitting.{Apt}
-use Rattle.pick_rules.proofs.Shapes.{shape_at}
-use Rattle.log_laws.proofs.Seats.{Seats, with_seat, Same, rule_of, InCall, own}
+use Rattle.log_laws.proofs.Seats.{Seats, with_seat, InCall}
 use Rattle.log_laws.proofs.Births.{free_seat, fork_apt}
 use Rattle.log_laws.proofs.Deaths.{IsDead, reap_fits, reap_in}
 use Rattle.sys_procs.specs.Process.{Process, member_of}
+use Rattle.sys_procs.specs.Texts.{Text}
 use Rattle.sys_procs.specs.World.{Clock, World, process_at, process_of, without_process, change, members}
 use Rattle.sys_procs.specs.Fork.{copied, past_word, next_pid, fork_into, fork_one}
 use Rattle.sys_procs.specs.Wait.{buries, waiting, waits_for, wait_child}
-use Rattle.run_laws.proofs.Sitting.{is_core, seat_for, seat_of, seats_in, seat_in, runner_seat, runner_alive, put_in, taken_out, changed_in, kept_in}
+use Rattle.run_laws.proofs.Sitting.{seat_for, seat_of, seats_in, seats_here, seat_in, runner_seat, runner_alive, put_in, taken_out, changed_in, kept_in}
 use Rattle.run_laws.proofs.Rows.{FineComes, Calling, fails_fine}
 
 -- who is in a slot, by its process
@@ -36,13 +30,13 @@ member_in : (processes : List (Option Process)) (r : ℕ)
 member_in processes r = get_or-map member_of processes r None
 
 -- a slot of a process that has ended
-dead_by : (processes : List (Option Process)) (clock : Clock) (c pid : ℕ) → 0 < c → c < 50 → (o : Option Process)
+dead_by : (processes : List (Option Process)) (clock : Clock) (texts : List (Option Text)) (c pid : ℕ) → 0 < c → c < 50 → (o : Option Process)
     → get_or processes c None ≡ o
-    → passes (is_dead_child_of pid) (member_of o) ≡ true → IsDead (seats_in processes clock) c
-dead_by processes clock c pid l m None e f = absurd (cc f)
-dead_by processes clock c pid l m (Some p) e f = record {
+    → passes (is_dead_child_of pid) (member_of o) ≡ true → IsDead (seats_in processes clock texts) c
+dead_by processes clock texts c pid l m None e f = absurd (cc f)
+dead_by processes clock texts c pid l m (Some p) e f = record {
   seat = seat_for p;
-  at = seat_in processes clock c ∙ ap seat_of e;
+  at = seat_in processes clock texts c ∙ ap seat_of e;
   dead = second (p.row.ppid == pid) p.is_zombie f;
   user = l;
   small = m;
@@ -53,9 +47,9 @@ dead_by processes clock c pid l m (Some p) e f = record {
     second false b f = absurd (cc f)
 
 dead_child : (w : World) (c pid : ℕ) → lowest (passes (is_dead_child_of pid)) (members w) ≡ Some c
-    → IsDead (seats_in w.processes w.clock) c
+    → IsDead (seats_here w) c
 unfolding lowest
-dead_child w c pid e = dead_by w.processes w.clock c pid found.least (let l = found.below in omega (arith, l)) (process_at w c) refl
+dead_child w c pid e = dead_by w.processes w.clock w.texts c pid found.least (let l = found.below in omega (arith, l)) (process_at w c) refl
     (ap (passes (is_dead_child_of pid)) (sym (member_in w.processes c)) ∙ found.passes)
   where
     found : IsFound (λ r. passes (is_dead_child_of pid) (member_at (members w) r)) 1 49 c
@@ -67,17 +61,17 @@ module _ (s : ℕ) (seen : Seen) where
       → FineComes s seen (record { effects = []; state = change w s waiting; answer = Sleep pwait (Wait s) })
   unfolding Apt
   waits w i = record {
-    fine = (changed_in w.processes w.clock s false seen (waiting (process_of w s)) i (runner_alive w.processes w.clock s seen.board i.turn) refl, (refl, refl));
+    fine = (changed_in w.processes w.clock w.texts s false seen (waiting (process_of w s)) i (runner_alive w.processes w.clock w.texts s seen.board i.turn) refl refl, (refl, refl));
   }
 
-  buries_fine : (w : World) (c : ℕ) → Calling s w seen → IsDead (seats_in w.processes w.clock) c
+  buries_fine : (w : World) (c : ℕ) → Calling s w seen → IsDead (seats_here w) c
       → FineComes s seen (buries w s c)
   unfolding Apt came
   buries_fine w c i d =
-      let v : Seats = seats_in w.processes w.clock in
+      let v : Seats = seats_here w in
       let now : Seen = seen_after seen (line.Reap c) in
-      let gone : Calling s (without_process w c) now = subst (λ x. InCall s false x now) (sym (taken_out w.processes w.clock c)) (reap_in s false v seen c i d) in
-      record { fine = (reap_fits s false v seen c i d, kept_in (set w.processes c None) w.clock s false now _ gone refl refl refl) }
+      let gone : Calling s (without_process w c) now = subst (λ x. InCall s false x now) (sym (taken_out w.processes w.clock w.texts c)) (reap_in s false v seen c i d) in
+      record { fine = (reap_fits s false v seen c i d, kept_in (set w.processes c None) w.clock w.texts s false now _ gone refl refl refl refl) }
 
   pub wait_fine : (w : World) → Calling s w seen → FineComes s seen (wait_child w s)
   unfolding wait_child
@@ -102,60 +96,31 @@ find_same : (p q : ℕ → Bool) (a n : ℕ) → ((r : ℕ) → p r ≡ q r)
 find_same p q a zero h = refl
 find_same p q a (suc n) h = rw (h a, find_same p q (a + 1) n h) refl
 
-free_is : (processes : List (Option Process)) (clock : Clock)
-    → lowest is_none (map member_of processes) ≡ free_seat (seats_in processes clock)
+free_is : (processes : List (Option Process)) (clock : Clock) (texts : List (Option Text))
+    → lowest is_none (map member_of processes) ≡ free_seat (seats_in processes clock texts)
 unfolding lowest
-free_is processes clock =
-    find_same _ _ 1 49 (λ r. ap is_none (member_in processes r) ∙ seat_free (get_or processes r None) ∙ ap is_none (sym (seat_in processes clock r)))
-
--- a place in core is there, so that the child gets one
-pub core_place : (b : Board) (s clicks : ℕ) → (row_at b.table s).text ≡ None → is_some (core_fit b clicks) ≡ true
-    → (place : Place) → placed b s clicks ≡ Some place → is_core place ≡ true
-unfolding placed
-core_place b s clicks bare room place e = by (core_fit b clicks) room (first ∙ e)
-  where
-    first : option_or (option_map Core (core_fit b clicks)) (option_map Swap (swap_fit b (blocks clicks)))
-        ≡ option_or (if may_load b (row_at b.table s).text then option_map Core (core_fit b clicks) else None) (option_map Swap (swap_fit b (blocks clicks)))
-    first = rw bare refl
-
-    by : (o : Option ℕ) → is_some o ≡ true
-        → option_or (option_map Core o) (option_map Swap (swap_fit b (blocks clicks))) ≡ Some place
-        → is_core place ≡ true
-    by None r f = absurd (cc r)
-    by (Some c) r f = let same : Core c ≡ place = cc f in subst (λ p. is_core p ≡ true) same refl
+free_is processes clock texts =
+    find_same _ _ 1 49 (λ r. ap is_none (member_in processes r) ∙ seat_free (get_or processes r None) ∙ ap is_none (sym (seat_in processes clock texts r)))
 
 module _ (s : ℕ) (seen : Seen) where
-  -- a fork where core has room for the child, or where all slots are used
-  into_fine : (w : World) (o : Option ℕ) → (i : Calling s w seen) → lowest is_none (members w) ≡ o
-      → (is_none o ≡ false → is_some (core_fit seen.board (clicks_of (process_of w s).u)) ≡ true)
-      → FineComes s seen (fork_into w s o)
+  -- fork
+  into_fine : (w : World) (o : Option ℕ) → (i : Calling s w seen) → lowest is_none (members w) ≡ o → FineComes s seen (fork_into w s o)
   unfolding Apt
-  into_fine w None i e room =
-      fails_fine s seen (change w s past_word) EAGAIN (kept_in w.processes w.clock s false seen _ i refl refl refl)
-  into_fine w (Some c) i e room = record {
-    fine = fork_apt _ s v seen c w [] i (sym (free_is w.processes w.clock) ∙ e)
-        (λ place at. core_place seen.board s (row_at seen.board.table s).size text (subst (λ n. is_some (core_fit seen.board n) ≡ true) (sym size) (room refl)) place at)
-        (λ now j. kept_in (set w.processes c (Some (copied (process_of w s) (next_pid w)))) w.clock s false now _ (grown now j) refl refl refl);
+  into_fine w None i e =
+      fails_fine s seen (change w s past_word) EAGAIN (kept_in w.processes w.clock w.texts s false seen _ i refl refl refl refl)
+  into_fine w (Some c) i e = record {
+    fine = fork_apt _ s v seen c w [] i (sym (free_is w.processes w.clock w.texts) ∙ e) (λ click. refl)
+        (λ now j. kept_in (set w.processes c (Some (copied (process_of w s) (next_pid w)))) w.clock w.texts s false now _ (grown now j) refl refl refl refl);
   }
     where
       v : Seats
-      v = seats_in w.processes w.clock
-
-      o : Same (s == s) (rule_of v seen.board) i.turn.seat (shape_at seen.board.table s)
-      o = own s s v seen.board i.agrees i.turn
-
-      text : (row_at seen.board.table s).text ≡ None
-      text = o.text ∙ ap (λ x. x.text) (sym (runner_seat w.processes w.clock s seen.board i.turn))
-
-      size : (row_at seen.board.table s).size ≡ clicks_of (process_of w s).u
-      size = o.size i.turn.alive ∙ ap (λ x. x.size) (sym (runner_seat w.processes w.clock s seen.board i.turn))
+      v = seats_here w
 
       grown : (now : Seen) → InCall s false (with_seat v c (Some i.turn.seat)) now
-          → InCall s false (seats_in (set w.processes c (Some (copied (process_of w s) (next_pid w)))) w.clock) now
+          → InCall s false (seats_in (set w.processes c (Some (copied (process_of w s) (next_pid w)))) w.clock w.texts) now
       grown now j = subst (λ x. InCall s false x now)
-          (ap (λ seat. with_seat v c (Some seat)) (sym (runner_seat w.processes w.clock s seen.board i.turn)) ∙ sym (put_in w.processes w.clock c _)) j
+          (ap (λ seat. with_seat v c (Some seat)) (sym (runner_seat w.processes w.clock w.texts s seen.board i.turn)) ∙ sym (put_in w.processes w.clock w.texts c _)) j
 
-  pub fork_fine : (w : World) → (i : Calling s w seen)
-      → (is_none (lowest is_none (members w)) ≡ false → is_some (core_fit seen.board (clicks_of (process_of w s).u)) ≡ true) → FineComes s seen (fork_one w s)
+  pub fork_fine : (w : World) → Calling s w seen → FineComes s seen (fork_one w s)
   unfolding fork_one
-  fork_fine w i room = into_fine w (lowest is_none (members w)) i refl room
+  fork_fine w i = into_fine w (lowest is_none (members w)) i refl

@@ -13,7 +13,7 @@ use Rattle.pick_rules.specs.Effects.{Effect, Show, lifted, came}
 use Rattle.pick_rules.specs.Fits.{IsSleep}
 use Rattle.pick_rules.specs.Lawful.{Seen, seen_after}
 use Rattle.log_laws.proofs.Fitting.{IsGoing, Apt, apt_append, wake_apt}
-use Rattle.log_laws.proofs.Seats.{Seat, Seats, InCall, Paused}
+use Rattle.log_laws.proofs.Seats.{Seat, Seats, InCall, Paused, own}
 use Rattle.log_laws.proofs.Lines.{wake_in, wake_paused}
 use Rattle.log_laws.proofs.Deaths.{with_own, exit_apt}
 use Rattle.sys_files.specs.Handed.{Handed}
@@ -26,7 +26,7 @@ use Rattle.sys_procs.specs.Exit.{leaves, parent_slot, adopted, dead, dies, end_p
 use Rattle.unix_core.specs.Unix as unix
 use Rattle.unix_core.specs.Unix.{Unix}
 use Rattle.unix_core.specs.Calls.{handed_of, with_handed, world_of, with_world, did_by, closes_all, exits}
-use Rattle.run_laws.proofs.Sitting.{seat_for, seat_of, seats_in, seats_of, runner_seat, runner_alive, runner_text, put_in, changed_in, kept_in}
+use Rattle.run_laws.proofs.Sitting.{seat_for, seat_of, seats_here, seats_of, runner_seat, runner_alive, runner_text, put_in, changed_in, kept_in}
 use Rattle.run_laws.proofs.Steps.{AptSteps, Answered, apt_lifted, answers_apt}
 use Rattle.run_laws.proofs.Quiet.{AreQuiet, SameSize, SameCall, EndsIn, Calm, CalmClosing, close_all_calm}
 use Rattle.run_laws.proofs.Rows.{Calling}
@@ -55,8 +55,8 @@ module _ (s : ℕ) where
       → SameSize (unix.process_of u s).u h.u
       → h.u.pending ≡ pending → InCall s (not (pending == 0)) (seats_of (with_handed u s h)) seen
   handed_in u seen calling h pending i k e = subst (λ n. InCall s (not (n == 0)) (seats_of (with_handed u s h)) seen) e
-      (changed_in u.processes u.clock s calling seen (record (unix.process_of u s) { u = h.u; row = h.row; «data» = h.image.data; stack = h.image.stack }) i
-      (runner_alive u.processes u.clock s seen.board i.turn) (rw (k.data, k.stack) refl))
+      (changed_in u.processes u.clock u.texts s calling seen (record (unix.process_of u s) { u = h.u; row = h.row; «data» = h.image.data; stack = h.image.stack }) i
+      (runner_alive u.processes u.clock u.texts s seen.board i.turn) (rw (k.data, k.stack) refl) refl)
 
   pub did_apt : (u : Unix) (seen : Seen) (calling : Bool) (old : UArea) (did : Did) → InCall s calling (seats_of u) seen
       → SameSize (unix.process_of u s).u old
@@ -82,7 +82,7 @@ module _ (s : ℕ) where
 
   -- a process in its call waits in none
   pub no_pending : (u : Unix) (seen : Seen) → InCall s false (seats_of u) seen → (unix.process_of u s).u.pending ≡ 0
-  no_pending u seen i = eqb-true _ _ (off ((unix.process_of u s).u.pending == 0) (ap (λ x. x.calling) (runner_seat u.processes u.clock s seen.board i.turn) ∙ i.calls))
+  no_pending u seen i = eqb-true _ _ (off ((unix.process_of u s).u.pending == 0) (ap (λ x. x.calling) (runner_seat u.processes u.clock u.texts s seen.board i.turn) ∙ i.calls))
     where
       off : (x : Bool) → not x ≡ false → x ≡ true
       off true e = refl
@@ -105,26 +105,29 @@ module _ (s : ℕ) where
   -- its seat
   abbrev grave : World → Seat
   grave w =
-      record { dead = true; calling = not ((process_of w s).u.pending == 0); text = None; size = (seat_for (process_of w s)).size }
+      record { dead = true; calling = not ((process_of w s).u.pending == 0); text = (process_of w s).text; size = (seat_for (process_of w s)).size }
 
   dead_is : (w : World)
-      → seats_in (dead w s).processes (dead w s).clock ≡ with_own s (seats_in w.processes w.clock) (grave w)
+      → seats_here (dead w s) ≡ with_own s (seats_here w) (grave w)
   dead_is w =
-      ap (λ slots. record (seats_in w.processes w.clock) { slots = slots }) (adopted_seats (process_of w s).row.pid _)
-      ∙ put_in w.processes w.clock s (record (process_of w s) { is_zombie = true; «data» = []; stack = [] })
+      ap (λ slots. record (seats_here w) { slots = slots }) (adopted_seats (process_of w s).row.pid _)
+      ∙ put_in w.processes w.clock w.texts s (record (process_of w s) { is_zombie = true; «data» = []; stack = [] })
 
   pub dies_apt : (w : World) (seen : Seen) → Calling s w seen
-      → Apt (Paused (seats_in (dead w s).processes (dead w s).clock)) seen (dies w s).effects
+      → Apt (Paused (seats_here (dead w s))) seen (dies w s).effects
   unfolding Apt
   dies_apt w seen i =
-      exit_apt s false v seen i (Paused now) w rest (grave w) (runner_text w.processes w.clock s seen.board i.turn) refl refl
+      exit_apt s false v seen i (Paused now) w rest (grave w) bare refl (runner_text w.processes w.clock w.texts s seen.board i.turn ∙ bare)
       (λ later p. woken later (subst (λ x. Paused x later) (sym (dead_is w)) p))
     where
       v : Seats
-      v = seats_in w.processes w.clock
+      v = seats_here w
+
+      bare : i.turn.seat.text ≡ None
+      bare = (own s s v seen.board i.agrees i.turn).bare
 
       now : Seats
-      now = seats_in (dead w s).processes (dead w s).clock
+      now = seats_here (dead w s)
 
       rest : List (Effect World)
       rest =
@@ -138,10 +141,10 @@ module _ (s : ℕ) where
           (wake_paused now (seen_after later (line.Wake (Wait 1))) (Wait (parent_slot w (process_of w s).row.ppid)) first))
 
   pub ends_apt : (w : World) (seen : Seen) (status : ℕ) → Calling s w seen
-      → Apt (Paused (seats_in (end_proc w s status).state.processes (end_proc w s status).state.clock)) seen (end_proc w s status).effects
+      → Apt (Paused (seats_here (end_proc w s status).state)) seen (end_proc w s status).effects
   unfolding end_proc
   ends_apt w seen status i =
-      dies_apt (leaves w s status) seen (kept_in w.processes w.clock s false seen _ i refl refl refl)
+      dies_apt (leaves w s status) seen (kept_in w.processes w.clock w.texts s false seen _ i refl refl refl refl)
 
   pub exits_apt : (u : Unix) (seen : Seen) → Calling s (world_of u) seen → AptSteps s seen (exits u s)
   unfolding exit_now
@@ -162,8 +165,8 @@ module _ (s : ℕ) where
       c : Comes
       c = end_proc (world_of now) s status
 
-      by : Apt {W = Unix} (Paused (seats_in c.state.processes c.state.clock)) seen ((map Show closed.items ++ map (lifted (with_world now)) c.effects) ++ [])
+      by : Apt {W = Unix} (Paused (seats_here c.state)) seen ((map Show closed.items ++ map (lifted (with_world now)) c.effects) ++ [])
       by = rw (append-nil (map Show closed.items ++ map (lifted (with_world now)) c.effects)) (
-          apt_append (InCall s false (seats_of now)) (Paused (seats_in c.state.processes c.state.clock)) seen (map Show closed.items) (map (lifted (with_world now)) c.effects)
+          apt_append (InCall s false (seats_of now)) (Paused (seats_here c.state)) seen (map Show closed.items) (map (lifted (with_world now)) c.effects)
           (shown_apt Unix s false (seats_of now) seen closed.items calm.quiet (handed_in u seen false closed.state 0 i calm.same.size (calm.same.pending ∙ no_pending u seen i)))
-          (λ later j. apt_lifted (with_world now) (Paused (seats_in c.state.processes c.state.clock)) later c.effects (ends_apt (world_of now) later status j)))
+          (λ later j. apt_lifted (with_world now) (Paused (seats_here c.state)) later c.effects (ends_apt (world_of now) later status j)))

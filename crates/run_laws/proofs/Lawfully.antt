@@ -19,7 +19,7 @@ use Rattle.log_laws.proofs.Fitting.{fit_items, fit_item, seen_append, seen_items
 use Rattle.log_laws.proofs.Seats.{Seat, seat_at, rule_of, AgreesAt, Agrees, Paused, Holds}
 use Rattle.log_laws.proofs.Settles.{end_fits}
 use Rattle.unix_core.specs.declared.turned.Unbuilt.{Unbuilt}
-use Rattle.unix_core.specs.Unix.{Unix, System}
+use Rattle.unix_core.specs.Unix.{Unix, System, no_texts}
 use Rattle.unix_core.specs.Turn.{Turn, settled_after, pass_effects, pass_of}
 use Rattle.unix_core.specs.Runs.{first_unix, system_with, Event, Slot, Tick, Byte, Switch, event_of, Course, goes_on_by, unless_ended, after_event, course, started, boots}
 use Rattle.run_laws.specs.Law.{log_of, LogsAreLawful}
@@ -88,6 +88,7 @@ module _ (store : Store) (core : ℕ) (low : 64 ≤ core) where
     zombie = refl;
     calling = λ f g. refl;
     text = refl;
+    bare = refl;
     place = λ f. refl;
     size = λ f. refl;
     most = omega (arith, low);
@@ -104,9 +105,9 @@ module _ (store : Store) (core : ℕ) (low : 64 ≤ core) where
   first_sleeps (suc (suc k)) = rw (get_replicate empty_row 48 k) (inl refl)
 
   first_agrees : Agrees 0 (seats_of u) (applied (first_board core store.stamp) (line.Sleep 0 pswp RunOut))
-  unfolding applied fall_asleep
+  unfolding applied fall_asleep no_texts
   first_agrees =
-      record { each = first_each _ refl; sleeps = first_sleeps; rows = refl; seats = refl; time = refl; ticks = refl }
+      record { each = first_each _ refl; sleeps = first_sleeps; rows = refl; seats = refl; time = refl; ticks = refl; texts = refl }
 
   first_paused : Paused (seats_of u) (seen_after booted_seen (line.Sleep 0 pswp RunOut))
   unfolding applied fall_asleep

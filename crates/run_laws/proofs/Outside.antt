@@ -39,7 +39,7 @@ mode_same u seen p = by seen.board.table.running refl p.runner
   where
     user : (s : ℕ) → InTurn s (seats_of u) seen.board
         → (if is_user (process_of u s) then User else Kernel) ≡ mode_now seen.board
-    user s t = turned (is_user (process_of u s)) t.seat.calling (ap (λ x. x.calling) (runner_seat u.processes u.clock s seen.board t))
+    user s t = turned (is_user (process_of u s)) t.seat.calling (ap (λ x. x.calling) (runner_seat u.processes u.clock u.texts s seen.board t))
         ∙ sym (mode_is s (seats_of u) seen.board p.agrees t)
       where
         turned : (x y : Bool) → not x ≡ y → cond x User Kernel ≡ cond y Kernel User
@@ -78,7 +78,7 @@ charged_seats u seen mode r = by seen.board.table.running r
     some s true e r = refl
     some s false e (inl z) = absurd (eqb-false s 0 e z)
     some s false e (inr t) =
-        same_seats s seen u.processes u.clock (timed mode (process_of u s)) t (timed_seat mode (process_of u s))
+        same_seats s seen u.processes u.clock u.texts (timed mode (process_of u s)) t (timed_seat mode (process_of u s))
 
     by : (o : Option ℕ) → RunnerAt (seats_of u) seen.board o → seats_of (charged u mode o) ≡ seats_of u
     by None r = refl

@@ -18,16 +18,16 @@ use Rattle.sys_procs.specs.World.{World, process_of, change}
 use Rattle.sys_procs.specs.Comes.{Comes, returns, fails, logs}
 use Rattle.sys_procs.specs.Ids.{set_uid, set_gid, kept_nice, nice_to, pid_of, get_uid, get_gid, switches, no_op}
 use Rattle.sys_procs.specs.Times.{time_now, set_time, stored, times_to, sleeping_until, tout_with, sleep_until, sleep_for}
-use Rattle.run_laws.proofs.Sitting.{seats_in, runner_alive, kept_in, changed_in}
+use Rattle.run_laws.proofs.Sitting.{seats_here, runner_alive, kept_in, changed_in}
 use Rattle.run_laws.proofs.Steps.{Answered}
 
 -- a call on processes whose effects are apt
 pub record FineComes (s : ℕ) (seen : Seen) (c : Comes) : Type 0 where
-  pub fine : Answered s (seats_in c.state.processes c.state.clock) seen c.effects c.answer
+  pub fine : Answered s (seats_here c.state) seen c.effects c.answer
 
 -- a process in its call
 abbrev pub Calling : ℕ → World → Seen → Type 0
-Calling s w seen = InCall s false (seats_in w.processes w.clock) seen
+Calling s w seen = InCall s false (seats_here w) seen
 
 module _ (s : ℕ) (seen : Seen) where
   pub if_fine : (b : Bool) (x y : Comes) → FineComes s seen x → FineComes s seen y → FineComes s seen (cond b x y)
@@ -77,26 +77,26 @@ module _ (s : ℕ) (seen : Seen) where
   set_uid_fine w i =
       let id = register (process_of w s) 0 % 256 in
       if_fine _ _ _ (changed_fine w (λ p. record p { u = record p.u { uid = id; ruid = id }; row = record p.row { uid = id } })
-      (kept_in w.processes w.clock s false seen _ i refl refl refl)) (fails_fine w EPERM i)
+      (kept_in w.processes w.clock w.texts s false seen _ i refl refl refl refl)) (fails_fine w EPERM i)
 
   pub set_gid_fine : (w : World) → Calling s w seen → FineComes s seen (set_gid w s)
   unfolding set_gid
   set_gid_fine w i =
       let id = register (process_of w s) 0 % 256 in
       if_fine _ _ _ (changed_fine w (λ p. record p { u = record p.u { gid = id; rgid = id } })
-      (kept_in w.processes w.clock s false seen _ i refl refl refl)) (fails_fine w EPERM i)
+      (kept_in w.processes w.clock w.texts s false seen _ i refl refl refl refl)) (fails_fine w EPERM i)
 
   -- the line of a nice
   nice_returns : (w : World) (value : ℤ) → Calling s w seen → FineComes s seen (logs (line.Nice s value) (returns w s))
   unfolding Apt came
   nice_returns w value i = record {
-    fine = (nice_fits s false (seats_in w.processes w.clock) seen value i, nice_in s false (seats_in w.processes w.clock) seen value i);
+    fine = (nice_fits s false (seats_here w) seen value i, nice_in s false (seats_here w) seen value i);
   }
 
   nice_fails : (w : World) (value : ℤ) → Calling s w seen → FineComes s seen (logs (line.Nice s value) (fails w EPERM))
   unfolding Apt came
   nice_fails w value i = record {
-    fine = (nice_fits s false (seats_in w.processes w.clock) seen value i, nice_in s false (seats_in w.processes w.clock) seen value i);
+    fine = (nice_fits s false (seats_here w) seen value i, nice_in s false (seats_here w) seen value i);
   }
 
   pub nice_fine : (w : World) → Calling s w seen → FineComes s seen (nice_to w s)
@@ -113,11 +113,11 @@ module _ (s : ℕ) (seen : Seen) where
   time_sets w new i =
       let later = record w { clock = record w.clock { time = new } } in
       let now : Seen = seen_after seen (line.Time new) in
-      let j : Calling s later now = time_in s false (seats_in w.processes w.clock) seen new i in
+      let j : Calling s later now = time_in s false (seats_here w) seen new i in
       record {
         fine = (
-          time_fits s false (seats_in w.processes w.clock) seen new i,
-          wake_apt {W = World} (InCall s false (seats_in later.processes later.clock)) now Tout [] j.going (wake_in s false (seats_in later.processes later.clock) now Tout j),
+          time_fits s false (seats_here w) seen new i,
+          wake_apt {W = World} (InCall s false (seats_here later)) now Tout [] j.going (wake_in s false (seats_here later) now Tout j),
         );
       }
 
@@ -129,7 +129,7 @@ module _ (s : ℕ) (seen : Seen) where
   stored_fine : (w : World) (o : Option Image) → Calling s w seen → FineComes s seen (stored w s o)
   stored_fine w (Some image) i =
       changed_fine w (λ p. record p { «data» = image.data; stack = image.stack })
-      (kept_in w.processes w.clock s false seen _ i refl refl refl)
+      (kept_in w.processes w.clock w.texts s false seen _ i refl refl refl refl)
   stored_fine w None i = fails_fine w EFAULT i
 
   pub times_fine : (w : World) (at : ℕ) → Calling s w seen → FineComes s seen (times_to w s at)
@@ -146,7 +146,7 @@ module _ (s : ℕ) (seen : Seen) where
   unfolding Apt
   waits_until w until i = record {
     fine = (
-      changed_in w.processes w.clock s false seen (sleeping_until until (process_of w s)) i (runner_alive w.processes w.clock s seen.board i.turn) refl,
+      changed_in w.processes w.clock w.texts s false seen (sleeping_until until (process_of w s)) i (runner_alive w.processes w.clock w.texts s seen.board i.turn) refl refl,
       refl,
     );
   }

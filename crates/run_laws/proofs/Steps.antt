@@ -3,13 +3,12 @@ use Rattle.std.proofs.Common.{◌≡◌, ℕ, nat_lt, nat_le, Bool, true, false,
 use Rattle.v6_base.specs.Trace.{Byte, Log}
 use Rattle.v6_base.specs.declared.answer.Answer.{Answer}
 use Rattle.v6_base.specs.declared.answer.Answer.TheVariants.{Ret, Fail, Sleep}
-use Rattle.v6_base.specs.declared.entry.PanicKind.{PanicKind}
 use Rattle.v6_base.specs.declared.entry.PanicKind.TheVariants as panic
 use Rattle.v6_base.specs.declared.entry.Entry.{Entry}
 use Rattle.v6_base.specs.declared.entry.Entry.TheVariants as line
 use Rattle.pick_rules.specs.Table.{row_at}
-use Rattle.pick_rules.specs.Board.{Board, blocks, placed, swap_fit, free_text}
-use Rattle.pick_rules.specs.Effects.{Effect, Show, Size, Fork, Text, Image, Exit, Lets, at_fit, text_at_fit, came, lifted}
+use Rattle.pick_rules.specs.Board.{placed, swap_fit}
+use Rattle.pick_rules.specs.Effects.{Effect, Show, Size, Fork, Text, Image, Exit, Why, Panicked, Unbuilt, Lets, Stops, in_core, at_fit, image_at, came, lifted}
 use Rattle.pick_rules.specs.Fits.{IsSleep}
 use Rattle.pick_rules.specs.Lawful.{Seen}
 use Rattle.log_laws.proofs.Fitting.{Apt, AptCame, apt_append}
@@ -18,10 +17,10 @@ use Rattle.log_laws.proofs.Lines.{trap_apt, sleep_apt}
 use Rattle.sys_procs.specs.Comes.{Comes}
 use Rattle.unix_core.specs.Unix.{Unix}
 use Rattle.unix_core.specs.Errors.{error_number}
-use Rattle.unix_core.specs.Steps.{Steps, returns, not_built, no_room}
+use Rattle.unix_core.specs.Steps.{Steps, returns, not_built}
 use Rattle.unix_core.specs.Calls.{given_area, refused_area, with_area, answers, came_by, with_world}
 use Rattle.unix_core.specs.Turn.{end_effects, ending_at}
-use Rattle.run_laws.proofs.Sitting.{seats_in, seats_of, kept_in}
+use Rattle.run_laws.proofs.Sitting.{seats_here, seats_of, kept_in}
 
 -- a turn whose effects are apt, with the lines with which it ends
 pub record AptSteps (s : ℕ) (seen : Seen) (steps : Steps) : Type 0 where
@@ -33,24 +32,17 @@ pub unbuilt_apt : (s : ℕ) (seen : Seen) (u : Unix) (effects : List (Effect Uni
     → AptSteps s seen (record (not_built u) { effects = effects })
 unbuilt_apt s seen u effects = record { apt = λ pc b. absurd (cc b) }
 
-pub roomless_apt : (s : ℕ) (seen : Seen) (u : Unix) (effects : List (Effect Unix))
-    → AptSteps s seen (record (no_room u) { effects = effects })
-roomless_apt s seen u effects = record { apt = λ pc b. absurd (cc b) }
-
 -- Effects over another state are as apt.
 module _ {V W : Type 0} (f : V → W) (seen : Seen) (P Q : Seen → Type 0) (h : (now : Seen) → P now → Q now) where
-  fit_lifted : {X : Type 0} → (kind : PanicKind) (before : V) (o : Option X) (entry : X → Entry)
-      → AptCame {W = V} seen (at_fit kind before o entry) P
-      → AptCame {W = W} seen (at_fit kind (f before) o entry) Q
-  fit_lifted kind before None entry a = a
-  fit_lifted kind before (Some x) entry a = (a.0, h _ a.1)
+  stops_lifted : (why : Why) (before : V) → AptCame {W = V} seen (Stops why before) P → AptCame {W = W} seen (Stops why (f before)) Q
+  stops_lifted (Panicked kind) before a = a
+  stops_lifted (Unbuilt kind) before a = a
 
-  text_lifted : (b : Board) (s clicks : ℕ) (before : V) (o : Option ℕ)
-      → AptCame {W = V} seen (text_at_fit b s clicks before o) P
-      → AptCame {W = W} seen (text_at_fit b s clicks (f before) o) Q
-  text_lifted b s clicks before None a = a
-  text_lifted b s clicks before (Some k) a =
-      fit_lifted panic.Swap before (swap_fit b (blocks clicks)) (λ block. line.Text s k clicks block) a
+  fit_lifted : {X : Type 0} → (why : Why) (before : V) (o : Option X) (entry : X → Entry)
+      → AptCame {W = V} seen (at_fit why before o entry) P
+      → AptCame {W = W} seen (at_fit why (f before) o entry) Q
+  fit_lifted why before None entry a = stops_lifted why before a
+  fit_lifted why before (Some x) entry a = (a.0, h _ a.1)
 
   came_lifted : (e : Effect V) → AptCame {W = V} seen (came seen.board e) P
       → AptCame {W = W} seen (came seen.board (lifted f e)) Q
@@ -60,17 +52,18 @@ module _ {V W : Type 0} (f : V → W) (seen : Seen) (P Q : Seen → Type 0) (h :
   came_lifted (Size s clicks before) a = by (nat_le clicks (row_at seen.board.table s).size) a
     where
       by : (x : Bool)
-          → AptCame {W = V} seen (cond x (Lets (Log (line.SizeKeep s clicks))) (at_fit panic.Swap before (placed seen.board s clicks) (λ place. line.Size s clicks place))) P
-          → AptCame {W = W} seen (cond x (Lets (Log (line.SizeKeep s clicks))) (at_fit panic.Swap (f before) (placed seen.board s clicks) (λ place. line.Size s clicks place))) Q
+          → AptCame {W = V} seen (cond x (Lets (Log (line.SizeKeep s clicks))) (image_at before (placed seen.board s clicks) (λ place. line.Size s clicks place))) P
+          → AptCame {W = W} seen (cond x (Lets (Log (line.SizeKeep s clicks))) (image_at (f before) (placed seen.board s clicks) (λ place. line.Size s clicks place))) Q
       by true a = (a.0, h _ a.1)
-      by false a = fit_lifted panic.Swap before (placed seen.board s clicks) (λ place. line.Size s clicks place) a
+      by false a = fit_lifted (Unbuilt panic.Swap) before (in_core (placed seen.board s clicks)) (λ place. line.Size s clicks place) a
   came_lifted (Fork s child before) a =
-      fit_lifted panic.Swap before (placed seen.board s (row_at seen.board.table s).size)
+      fit_lifted (Unbuilt panic.Swap) before (in_core (placed seen.board s (row_at seen.board.table s).size))
       (λ place. line.Fork s child place) a
-  came_lifted (Text s clicks before) a = text_lifted seen.board s clicks before (free_text seen.board) a
+  came_lifted (Text s clicks before) a = tt
   came_lifted (Image s clicks before) a =
-      fit_lifted panic.Swap before (placed seen.board s clicks) (λ place. line.Image s clicks place) a
-  came_lifted (Exit s before) a = fit_lifted panic.Zombie before (swap_fit seen.board 1) (λ block. line.Exit s block) a
+      fit_lifted (Unbuilt panic.Swap) before (in_core (placed seen.board s clicks)) (λ place. line.Image s clicks place) a
+  came_lifted (Exit s before) a =
+      fit_lifted (Panicked panic.Zombie) before (swap_fit seen.board 1) (λ block. line.Exit s block) a
 
 pub apt_lifted : {V W : Type 0} → (f : V → W) (Q : Seen → Type 0) (seen : Seen) (es : List (Effect V))
     → Apt {W = V} Q seen es → Apt {W = W} Q seen (map (lifted f) es)
@@ -103,14 +96,14 @@ module _ (s : ℕ) (seen : Seen) where
       → AptSteps s seen (record (answers u s answer) { effects = es })
   answers_apt u es (Ret r0 r1) a =
       trapped u (with_area u s (given_area r0 r1)) es
-      (λ now i. kept_in u.processes u.clock s false now _ i refl refl refl) a
+      (λ now i. kept_in u.processes u.clock u.texts s false now _ i refl refl refl refl) a
   answers_apt u es (Fail e) a = by (nat_lt (error_number e) 100)
     where
       by : (x : Bool)
           → AptSteps s seen (record (cond x (returns (with_area u s (refused_area (error_number e)))) (not_built u)) { effects = es })
       by true =
           trapped u (with_area u s (refused_area (error_number e))) es
-          (λ now i. kept_in u.processes u.clock s false now _ i refl refl refl) a
+          (λ now i. kept_in u.processes u.clock u.texts s false now _ i refl refl refl refl) a
       by false = unbuilt_apt s seen u es
   answers_apt u es (Sleep pri chan) a = record {
     apt = λ pc b. apt_append (InCall s true (seats_of u)) (Paused (seats_of u)) seen es (Show (Log (line.Sleep s pri chan)) ∷ []) a.0
@@ -118,15 +111,15 @@ module _ (s : ℕ) (seen : Seen) where
   }
 
   -- a call on processes, by its row
-  pub came_apt : (u : Unix) (c : Comes) → Answered s (seats_in c.state.processes c.state.clock) seen c.effects c.answer
+  pub came_apt : (u : Unix) (c : Comes) → Answered s (seats_here c.state) seen c.effects c.answer
       → AptSteps s seen (came_by u s c)
   came_apt u c a = answers_apt (with_world u c.state) (map (lifted (with_world u)) c.effects) c.answer (by c.answer a)
     where
-      by : (answer : Answer) → Answered s (seats_in c.state.processes c.state.clock) seen c.effects answer
+      by : (answer : Answer) → Answered s (seats_here c.state) seen c.effects answer
           → Answered s (seats_of (with_world u c.state)) seen (map (lifted (with_world u)) c.effects) answer
       by (Ret r0 r1) a =
-          apt_lifted (with_world u) (InCall s false (seats_in c.state.processes c.state.clock)) seen c.effects a
+          apt_lifted (with_world u) (InCall s false (seats_here c.state)) seen c.effects a
       by (Fail e) a =
-          apt_lifted (with_world u) (InCall s false (seats_in c.state.processes c.state.clock)) seen c.effects a
+          apt_lifted (with_world u) (InCall s false (seats_here c.state)) seen c.effects a
       by (Sleep pri chan) a =
-          (apt_lifted (with_world u) (InCall s true (seats_in c.state.processes c.state.clock)) seen c.effects a.0, a.1)
+          (apt_lifted (with_world u) (InCall s true (seats_here c.state)) seen c.effects a.0, a.1)

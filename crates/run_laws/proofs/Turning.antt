@@ -1,37 +1,35 @@
 -- The turn of each slot is apt.
-use Rattle.std.proofs.Common.{◌≡◌, ◌∙◌, ◌==◌, ◌||◌, ℕ, not, Bool, true, false, cond, List, [], ◌∷◌, find, Option, Some, None, is_none, is_some, slice_index, replicate, set, refl, sym, ap, subst}
+use Rattle.std.proofs.Common.{◌≡◌, ◌∙◌, ◌==◌, ℕ, not, Bool, true, false, cond, List, [], ◌∷◌, find, Option, Some, None, slice_index, replicate, set, refl, sym, ap, subst}
 use Rattle.pdp_step.specs.declared.outcome.Kind.{Kind}
 use Rattle.pdp_step.specs.declared.outcome.Kind.TheVariants as kind
 use Rattle.pdp_step.specs.declared.outcome.Outcome.{Outcome}
 use Rattle.pdp_step.specs.declared.outcome.Outcome.TheVariants as outcome
 use Rattle.pdp_step.specs.Instruction.{Stepped, instr}
-use Rattle.image_keep.specs.Kept.{clicks_of}
-use Rattle.pick_rules.specs.Board.{core_fit}
 use Rattle.pick_rules.specs.Lawful.{Seen}
-use Rattle.proc_tab.specs.Processes.{lowest}
 use Rattle.log_laws.proofs.Fitting.{Apt}
 use Rattle.log_laws.proofs.Seats.{Seats, with_seat, InTurn, InCall, Paused, busy_agrees}
 use Rattle.log_laws.proofs.Lines.{seat_stays}
 use Rattle.u_area.specs.declared.area.UArea.{UArea}
 use Rattle.sys_files.specs.Handed.{Handed}
 use Rattle.sys_procs.specs.Process.{Process, register, image_of}
-use Rattle.sys_procs.specs.World.{Clock, World, members, change}
+use Rattle.sys_procs.specs.Texts.{Text}
+use Rattle.sys_procs.specs.World.{Clock, World, change}
 use Rattle.sys_procs.specs.World as world
 use Rattle.sys_procs.specs.Fork.{fork_one}
 use Rattle.sys_procs.specs.Resume.{awake, resume_proc}
 use Rattle.sys_procs.specs.Times.{until_of}
 use Rattle.unix_core.specs.Unix.{Unix, process_of, with_process}
-use Rattle.unix_core.specs.Steps.{Steps, no_room}
-use Rattle.unix_core.specs.Calls.{handed_of, world_of, with_area, entered_area, words_passed, asked, forks, is_full, has_room, fork_if_room, FileCall, file_call, ProcessCall, process_calls, process_call, by_process_row, by_file_row, does_call, count_of, does_if_built, system_call, resumed}
+use Rattle.unix_core.specs.Steps.{Steps}
+use Rattle.unix_core.specs.Calls.{handed_of, world_of, with_area, entered_area, words_passed, asked, forks, FileCall, file_call, ProcessCall, process_calls, process_call, by_process_row, by_file_row, does_call, count_of, does_if_built, system_call, resumed}
 use Rattle.unix_core.specs.Turn.{machine_of, with_machine, faults, comes_to, instruction, is_user, turn}
 use Rattle.run_laws.proofs.Sitting.{seat_for, seats_in, seats_of, found_in, runner_seat, runner_alive, put_in, kept_in, changed_in}
-use Rattle.run_laws.proofs.Steps.{AptSteps, unbuilt_apt, roomless_apt, returns_apt, came_apt}
+use Rattle.run_laws.proofs.Steps.{AptSteps, unbuilt_apt, returns_apt, came_apt}
 use Rattle.run_laws.proofs.Quiet.{Calm, same_call, calm_walks, resume_calm}
 use Rattle.unix_core.proofs.FileLemmas.{found_row}
 use Rattle.run_laws.proofs.Rows.{FineComes, Calling, if_fine, time_fine, pid_fine, set_uid_fine, get_uid_fine, set_time_fine, no_op_fine, nice_fine, sleep_fine, switches_fine, times_fine, set_gid_fine, get_gid_fine, until_fine}
 use Rattle.run_laws.proofs.Children.{wait_fine, fork_fine}
 use Rattle.run_laws.proofs.Ending.{did_apt, no_pending, exits_apt}
-use Rattle.run_laws.proofs.Executing.{tried_apt, break_fine, grow_apt, exec_fine}
+use Rattle.run_laws.proofs.Executing.{break_fine, grow_apt, exec_fine}
 
 -- a fact of each of some rows holds of the one that is found
 abbrev Each : {X : Type 0} → (X → Type 0) → List X → Type 0
@@ -64,26 +62,35 @@ unfolding IsFine
 each_fine = (
   λ s seen w a i. wait_fine s seen w i,
   (
-    λ s seen w a i. time_fine s seen w i,
+    λ s seen w a i. exec_fine s seen w (slice_index a 0) (slice_index a 1) i,
     (
-      λ s seen w a i. pid_fine s seen w i,
+      λ s seen w a i. time_fine s seen w i,
       (
-        λ s seen w a i. set_uid_fine s seen w i,
+        λ s seen w a i. break_fine s seen w (slice_index a 0) i,
         (
-          λ s seen w a i. get_uid_fine s seen w i,
+          λ s seen w a i. pid_fine s seen w i,
           (
-            λ s seen w a i. set_time_fine s seen w i,
+            λ s seen w a i. set_uid_fine s seen w i,
             (
-              λ s seen w a i. no_op_fine s seen w i,
+              λ s seen w a i. get_uid_fine s seen w i,
               (
-                λ s seen w a i. nice_fine s seen w i,
+                λ s seen w a i. set_time_fine s seen w i,
                 (
-                  λ s seen w a i. sleep_fine s seen w i,
+                  λ s seen w a i. no_op_fine s seen w i,
                   (
-                    λ s seen w a i. switches_fine s seen w i,
+                    λ s seen w a i. nice_fine s seen w i,
                     (
-                      λ s seen w a i. times_fine s seen w (slice_index a 0) i,
-                      (λ s seen w a i. set_gid_fine s seen w i, (λ s seen w a i. get_gid_fine s seen w i, tt)),
+                      λ s seen w a i. sleep_fine s seen w i,
+                      (
+                        λ s seen w a i. switches_fine s seen w i,
+                        (
+                          λ s seen w a i. times_fine s seen w (slice_index a 0) i,
+                          (
+                            λ s seen w a i. set_gid_fine s seen w i,
+                            (λ s seen w a i. get_gid_fine s seen w i, tt),
+                          ),
+                        ),
+                      ),
                     ),
                   ),
                 ),
@@ -120,45 +127,29 @@ module _ (s : ℕ) (seen : Seen) where
       (h c refl (handed_of u (process_of u s)) args u.clock.time)
 
   -- a fork: all slots are used, or core has room
-  forks_apt : (u : Unix) → Calling s (world_of u) seen
-      → (is_none (lowest is_none (members (world_of u))) ≡ false → is_some (core_fit seen.board (clicks_of (process_of u s).u)) ≡ true) → AptSteps s seen (forks u s)
-  forks_apt u i room =
-      record { apt = (came_apt s seen u (fork_one (world_of u) s) (fork_fine s seen (world_of u) i room).fine).apt }
-
-  either : (x y : Bool) → (x || y) ≡ true → x ≡ false → y ≡ true
-  either true y e f = absurd (cc f)
-  either false y e f = e
-
-  fork_apt : (u : Unix) → Calling s (world_of u) seen → AptSteps s seen (fork_if_room seen.board u s)
-  fork_apt u i = by (is_full u || has_room seen.board (clicks_of (process_of u s).u)) refl
-    where
-      by : (x : Bool) → (is_full u || has_room seen.board (clicks_of (process_of u s).u)) ≡ x
-          → AptSteps s seen (cond x (forks u s) (no_room u))
-      by true e = forks_apt u i (either (is_full u) _ e)
-      by false e = roomless_apt s seen u []
+  forks_apt : (u : Unix) → Calling s (world_of u) seen → AptSteps s seen (forks u s)
+  forks_apt u i = record { apt = (came_apt s seen u (fork_one (world_of u) s) (fork_fine s seen (world_of u) i).fine).apt }
 
   call_apt : (u : Unix) (number : ℕ) (args : List ℕ) → Calling s (world_of u) seen
-      → AptSteps s seen (does_call seen.board u s number args)
+      → AptSteps s seen (does_call u s number args)
   unfolding file_call process_call
   call_apt u number args i =
       if_apt (number == 0) _ _ (returns_apt s seen u i) (
       if_apt (number == 1) _ _ (exits_apt s u seen i) (
-      if_apt (number == 2) _ _ (fork_apt u i) (
-      if_apt (number == 11) _ _ (tried_apt s seen u _ (exec_fine s seen (world_of u) (slice_index args 0) (slice_index args 1) i)) (
-      if_apt (number == 17) _ _ (tried_apt s seen u _ (break_fine s seen (world_of u) (slice_index args 0) i))
+      if_apt (number == 2) _ _ (forks_apt u i)
       (file_row_apt u args (file_call number) (process_call number) (found_calm number)
-      (λ c e. found_one IsFine (λ (c : ProcessCall). c.number == number) process_calls c each_fine e) i)))))
+      (λ c e. found_one IsFine (λ (c : ProcessCall). c.number == number) process_calls c each_fine e) i)))
 
   built_apt : (u : Unix) (count : Option ℕ) (number : ℕ) → Calling s (world_of u) seen
-      → AptSteps s seen (does_if_built seen.board u s (asked (image_of (process_of u s)) (register (process_of u s) 7) number) count)
+      → AptSteps s seen (does_if_built u s (asked (image_of (process_of u s)) (register (process_of u s) 7) number) count)
   built_apt u None number i = unbuilt_apt s seen u []
   built_apt u (Some count) number i =
       let a = asked (image_of (process_of u s)) (register (process_of u s) 7) number in
       call_apt (with_area u s (entered_area (words_passed a count))) a.number a.args
-      (kept_in u.processes u.clock s false seen (record (process_of u s) { u = entered_area (words_passed a count) (process_of u s).u }) i refl refl refl)
+      (kept_in u.processes u.clock u.texts s false seen (record (process_of u s) { u = entered_area (words_passed a count) (process_of u s).u }) i refl refl refl refl)
 
   called_apt : (u : Unix) (number : ℕ) → Calling s (world_of u) seen
-      → AptSteps s seen (system_call seen.board number u s)
+      → AptSteps s seen (system_call number u s)
   called_apt u number i =
       built_apt u (count_of (asked (image_of (process_of u s)) (register (process_of u s) 7) number).number) number i
 
@@ -172,8 +163,8 @@ module _ (s : ℕ) (seen : Seen) where
   wakes : (u : Unix) → Paused (seats_of u) seen → (t : InTurn s (seats_of u) seen.board)
       → Calling s (change (world_of u) s awake) seen
   wakes u p t =
-      changed_in u.processes u.clock s t.seat.calling seen (awake (process_of u s)) (begins u p t)
-      (runner_alive u.processes u.clock s seen.board t) refl
+      changed_in u.processes u.clock u.texts s t.seat.calling seen (awake (process_of u s)) (begins u p t)
+      (runner_alive u.processes u.clock u.texts s seen.board t) refl refl
 
   -- a process goes on with its call
   goes_on : (w : World) → Calling s (change w s awake) seen → FineComes s seen (resume_proc w s)
@@ -190,19 +181,19 @@ module _ (s : ℕ) (seen : Seen) where
       (unbuilt_apt s seen u []))
 
   -- another process that sits as this one did
-  pub same_seats : (processes : List (Option Process)) (clock : Clock) (p : Process)
-      → InTurn s (seats_in processes clock) seen.board
+  pub same_seats : (processes : List (Option Process)) (clock : Clock) (texts : List (Option Text)) (p : Process)
+      → InTurn s (seats_in processes clock texts) seen.board
       → seat_for p ≡ seat_for (found_in processes s)
-      → seats_in (set processes s (Some p)) clock ≡ seats_in processes clock
-  same_seats processes clock p t e =
-      let v : Seats = seats_in processes clock in
-      put_in processes clock s p ∙ ap (λ seat. with_seat v s (Some seat)) (e ∙ runner_seat processes clock s seen.board t)
+      → seats_in (set processes s (Some p)) clock texts ≡ seats_in processes clock texts
+  same_seats processes clock texts p t e =
+      let v : Seats = seats_in processes clock texts in
+      put_in processes clock texts s p ∙ ap (λ seat. with_seat v s (Some seat)) (e ∙ runner_seat processes clock texts s seen.board t)
       ∙ ap (λ slots. record v { slots = slots }) (sym (seat_stays s v seen.board t))
 
   -- an instruction of a process in user mode
   instruction_apt : (u : Unix) → Paused (seats_of u) seen → InTurn s (seats_of u) seen.board
       → is_user (process_of u s) ≡ true
-      → AptSteps s seen (instruction seen.board u s)
+      → AptSteps s seen (instruction u s)
   unfolding Apt
   instruction_apt u p t user = by step.outcome
     where
@@ -213,20 +204,20 @@ module _ (s : ℕ) (seen : Seen) where
       now = with_process u s (with_machine (process_of u s) step.machine)
 
       same : seats_of now ≡ seats_of u
-      same = same_seats u.processes u.clock (with_machine (process_of u s) step.machine) t refl
+      same = same_seats u.processes u.clock u.texts (with_machine (process_of u s) step.machine) t refl
 
       calls : t.seat.calling ≡ false
-      calls = ap (λ x. x.calling) (sym (runner_seat u.processes u.clock s seen.board t)) ∙ ap not user
+      calls = ap (λ x. x.calling) (sym (runner_seat u.processes u.clock u.texts s seen.board t)) ∙ ap not user
 
       i : Calling s (world_of now) seen
       i = subst (λ v. InCall s false v seen) (sym same) (subst (λ c. InCall s c (seats_of u) seen) calls (begins u p t))
 
-      by : (o : Outcome) → AptSteps s seen (comes_to seen.board now s o)
+      by : (o : Outcome) → AptSteps s seen (comes_to now s o)
       by outcome.Next = record { apt = λ pc b. subst (λ v. Paused v seen) (sym same) p }
       by (outcome.Call number) = called_apt now number i
       by (outcome.Fault k) = fault_apt k
         where
-          fault_apt : (k : Kind) → AptSteps s seen (faults seen.board now s k)
+          fault_apt : (k : Kind) → AptSteps s seen (faults now s k)
           fault_apt kind.Odd = unbuilt_apt s seen now []
           fault_apt (kind.Segment sp) = grow_apt s seen now sp i
           fault_apt (kind.Illegal word) = unbuilt_apt s seen now []
@@ -239,6 +230,6 @@ module _ (s : ℕ) (seen : Seen) where
   turn_apt u p t = by (is_user (process_of u s)) refl
     where
       by : (x : Bool) → is_user (process_of u s) ≡ x
-          → AptSteps s seen (cond x (instruction seen.board u s) (resumed u s))
+          → AptSteps s seen (cond x (instruction u s) (resumed u s))
       by true e = instruction_apt u p t e
       by false e = resumed_apt u p t

@@ -29,7 +29,7 @@ use Rattle.unix_core.specs.declared.turned.Unbuilt.{Unbuilt}
 use Rattle.unix_core.specs.Unix.{Unix, System, Started}
 use Rattle.unix_core.specs.Passing.{trapped, ended_table}
 use Rattle.unix_core.specs.Turn.{Turn, end_effects, ending_at, settled, settled_after, turned_by, turned}
-use Rattle.unix_core.specs.Parts.{unix_of, board_in, system_at, turn_end, phase_of, IsGood, IsRested, IsKernel, Takes}
+use Rattle.unix_core.specs.Parts.{unix_of, board_in, system_at, turn_end, phase_of, is_over, IsGood, IsRested, IsKernel, Takes}
 use Rattle.unix_core.proofs.TableLemmas.{RunsImage, with_table, good_table}
 use Rattle.unix_core.proofs.TickLemmas.{trapped_like, runin_like}
 
@@ -94,6 +94,15 @@ module _ (v : Processes) (k : Kept) (t : Table) (s : ℕ) (agree : Agree v t k) 
   ended_agree u ending.Ended is good has = subst (λ x. Agree v x k) (sym is) agree
   ended_agree u ending.NoRoom is good has = subst (λ x. Agree v x k) (sym is) agree
   ended_agree u ending.NotBuilt is good has = subst (λ x. Agree v x k) (sym is) agree
+
+-- a turn with which the run doesn't end
+pub not_over : (e : Ending) (pc : ℕ) → ending_at pc e ≡ None → is_over e ≡ false
+not_over ending.Next pc goes = refl
+not_over ending.Trapped pc goes = refl
+not_over (ending.Slept pri chan) pc goes = refl
+not_over ending.Ended pc goes = refl
+not_over ending.NoRoom pc goes = absurd (cc goes)
+not_over ending.NotBuilt pc goes = absurd (cc goes)
 
 trapped_running : (t : Table) (s : ℕ) → (trapped t s).running ≡ t.running
 unfolding setpri

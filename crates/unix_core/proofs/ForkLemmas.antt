@@ -1,57 +1,16 @@
--- fork(II): the place of the child's image, the files that it shares, and the directory to which it refers.
-use Rattle.std.proofs.Common.{◌≡◌, ◌<◌, ◌≤◌, ◌+◌, ◌∙◌, ℕ, suc, Bool, true, false, cond, ◌==◌, if◌then◌else◌, List, [], ◌∷◌, length, get_or, set, fold, count_by, Option, Some, None, option_map, is_some, slice_index, refl, sym, ap, inl, inr, arith}
-use Rattle.std.specs.Option.{option_or}
+-- fork(II): the files that a child shares, and the directory to which it refers.
+use Rattle.std.proofs.Common.{◌≡◌, ◌<◌, ◌+◌, ◌∙◌, ℕ, suc, Bool, false, cond, ◌==◌, if◌then◌else◌, List, [], ◌∷◌, length, get_or, set, fold, count_by, Option, Some, None, slice_index, refl, sym, ap, inl, inr, arith}
 use Rattle.std.proofs.lemmas.Bool.{cases_lt, cases_eq, ne_eqb, eq-eqb}
 use Rattle.std.proofs.lemmas.List.{get_or_past, get_or-set_same, get_or-set_other}
 use Rattle.std.proofs.lemmas.List.FromFn.{get_or-map-range_with_len, length-map-range_with_len}
-use Rattle.v6_base.specs.declared.entry.Place.TheVariants.{Core, Swap}
-use Rattle.pick_rules.specs.Table.{row_at}
-use Rattle.pick_rules.specs.Board.{Board, blocks, core_fit, swap_fit, may_load, placed}
-use Rattle.image_keep.specs.Kept.{Kept, HasImage, HasSizes, IsKept, clicks_of, image_of}
-use Rattle.u_area.specs.declared.area.UArea.{UArea}
 use Rattle.open_files.specs.declared.file.OpenFile.{OpenFile}
 use Rattle.open_files.specs.Files.{AreOpen, file_at, times, changed, with_more, shared}
 use Rattle.sys_files.specs.Sound.{is_of, numbers_of, HasNoPipe}
 use Rattle.sys_files.proofs.NumberLemmas.{free_times}
 use Rattle.sys_procs.specs.Process.{Process}
-use Rattle.sys_procs.proofs.Alive.{is_here}
-use Rattle.unix_core.specs.declared.world.World.{World}
-use Rattle.unix_core.specs.Unix.{process_of}
 use Rattle.unix_core.specs.References.{is_in}
-use Rattle.unix_core.specs.Parts.{unix_of, board_in, numbers_in, named, IsReady}
+use Rattle.unix_core.specs.Parts.{numbers_in, named}
 use Rattle.unix_core.proofs.ReferenceLemmas.{named_set, in_set, numbers_living, in_living}
-use Rattle.unix_core.proofs.WorldLemmas.{ready_alive}
-
--- Where core has a place for the parent's image once more, the child's image is in core.
-in_core_by : (core : Option ℕ) (swap : Option ℕ) → is_some core ≡ true → (c : ℕ) × (option_or (option_map Core core) (option_map Swap swap) ≡ Some (Core c))
-in_core_by None swap e = absurd (cc e)
-in_core_by (Some c) swap e = (c, refl)
-
-pub fork_place : (w : World) (s : ℕ) → IsReady w s → is_some (core_fit (board_in w) (clicks_of (process_of (unix_of w) s).u)) ≡ true
-    → (c : ℕ) × (placed (board_in w) s (row_at (board_in w).table s).size ≡ Some (Core c))
-unfolding placed
-fork_place w s ready room =
-    let b : Board = board_in w in
-    let alive = ready_alive w s ready in
-    let here = is_here w.procs s alive in
-    let slot = alive.agree.each s alive.above alive.below in
-    let size : (row_at b.table s).size ≡ clicks_of (process_of (unix_of w) s).u =
-    slot.size here.held here.image_is ∙ ap (λ (p : Process). clicks_of p.u) (sym here.process_is) in
-    let found = in_core_by (core_fit b (clicks_of (process_of (unix_of w) s).u)) (swap_fit b (blocks (clicks_of (process_of (unix_of w) s).u))) room in (
-      found.0,
-      ap (λ n. option_or (cond (may_load b (row_at b.table s).text) (option_map Core (core_fit b n)) None) (option_map Swap (swap_fit b (blocks n)))) size
-          ∙ ap (λ x. option_or (cond (may_load b x) (option_map Core (core_fit b (clicks_of (process_of (unix_of w) s).u))) None)
-          (option_map Swap (swap_fit b (blocks (clicks_of (process_of (unix_of w) s).u))))) slot.text
-          ∙ found.1,
-    )
-
--- An image has not so many clicks that they can't be counted in a word.
-pub few_clicks : (k : Kept) (s : ℕ) (u : UArea) → IsKept k → HasImage k s → HasSizes u (image_of k s) → 16 + u.data_size + u.stack_size ≤ 2064
-few_clicks k s u kept has sizes =
-    let segments = (kept.formed s).segments in
-    let a = sizes.data_size in
-    let b = sizes.stack_size in
-    omega (arith, segments, a, b)
 
 -- The files that are shared: each is named once more by each number of the parent.
 more_numbers : (n : ℕ) (o : Option OpenFile) → (o ≡ None → n ≡ 0) → numbers_of (changed (with_more n) o) ≡ numbers_of o + n

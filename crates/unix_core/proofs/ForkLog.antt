@@ -4,22 +4,24 @@ use Rattle.std.proofs.lemmas.List.{get_or-set_same, get_or-set_other}
 use Rattle.v6_base.specs.Trace.{Log}
 use Rattle.v6_base.specs.declared.entry.Entry.{Entry}
 use Rattle.v6_base.specs.declared.entry.Entry.TheVariants as line
+use Rattle.v6_base.specs.declared.entry.PanicKind.TheVariants as panic
 use Rattle.v6_base.specs.declared.entry.Place.TheVariants.{Core}
 use Rattle.pick_rules.specs.declared.table.Table.{Table}
 use Rattle.pick_rules.specs.Table.{row_at, with_row, empty_row}
 use Rattle.pick_rules.specs.Board.{Board}
 use Rattle.pick_rules.specs.Apply.{applied}
-use Rattle.pick_rules.specs.Logged.{Logged}
+use Rattle.pick_rules.specs.Effects.{Unbuilt}
+use Rattle.pick_rules.specs.Logged.{Logged, Stop}
 use Rattle.sys_procs.specs.World as its
 use Rattle.sys_procs.specs.Comes.{Comes}
 use Rattle.sys_procs.specs.Fork.{fork_into, fork_one}
 use Rattle.sys_procs.specs.Agree.{board_of}
 use Rattle.sys_procs.specs.Handed.{came}
-use Rattle.sys_procs.proofs.Forks.{logged_fork, row_of_child, board_forked}
+use Rattle.sys_procs.proofs.Forks.{logged_fork, logged_no_fork, row_of_child, board_forked}
 use Rattle.unix_core.specs.declared.world.World.{World}
 use Rattle.unix_core.specs.Parts.{board_in, IsReady}
 use Rattle.unix_core.proofs.WorldLemmas.{ready_alive}
-use Rattle.unix_core.proofs.ForkSlots.{given, IsFork}
+use Rattle.unix_core.proofs.ForkSlots.{given, IsFork, IsRoomless}
 
 -- What the log says of a fork.
 abbrev pub of_fork : {W : Type 0} → Board → Entry → Logged W
@@ -65,3 +67,14 @@ module _ (w : World) (s : ℕ) (ready : IsReady w s) (f : IsFork w s) where
 
   pub seat_other : (r : ℕ) → r ≢ f.child → row_at seat r ≡ row_at w.procs.table r
   seat_other r other = get_or-set_other w.procs.table.rows f.child r (row_of_child w.procs.table s (Core f.click)) empty_row other
+
+-- Core has no place: nothing is logged.
+module _ (w : World) (s : ℕ) (f : IsRoomless w s) where
+  abbrev halt : Stop its.World
+  halt = record { why = Unbuilt panic.Swap; before = given w }
+
+  pub no_fork_log : came w.procs (fork_one (given w) s) ≡ record { items = []; board = board_in w; stop = Some halt }
+  unfolding fork_one
+  no_fork_log =
+      ap (λ o. came w.procs (fork_into (given w) s o)) f.free
+      ∙ logged_no_fork (board_in w) s f.child (given w) f.none

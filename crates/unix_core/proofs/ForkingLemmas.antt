@@ -1,62 +1,91 @@
 -- fork(II) has come to its row: where there is a child, where all slots are used, and where core has no place.
-use Rattle.std.proofs.Common.{◌≡◌, ◌∙◌, ℕ, false, ◌||◌, if◌then◌else◌, List, [], length, fold, None, is_none, refl, sym, ap, subst, inl, inr}
-use Rattle.std.specs.Prelude.{Result, Ok}
+use Rattle.std.proofs.Common.{◌≡◌, ◌∙◌, ℕ, length, None, is_none, refl, sym, ap, subst}
+use Rattle.std.specs.Prelude.{Result, Ok, Err}
 use Rattle.v6_base.specs.Trace.{Taken, Took}
 use Rattle.v6_base.specs.declared.answer.Answer.{Answer}
 use Rattle.v6_base.specs.declared.answer.Answer.TheVariants.{Fail}
 use Rattle.v6_base.specs.declared.entry.PanicKind.{PanicKind}
 use Rattle.v6_base.specs.declared.errno.Errno.TheVariants.{EAGAIN}
 use Rattle.pick_rules.specs.Board.{Board}
-use Rattle.pick_rules.specs.Logged.{Logged, logged, left_by, board_after}
+use Rattle.pick_rules.specs.Logged.{Logged, logged, left_by}
 use Rattle.proc_tab.specs.Processes.{lowest}
-use Rattle.image_keep.specs.Kept.{clicks_of}
 use Rattle.open_files.specs.Files.{shared}
 use Rattle.fs_nodes.specs.FileSystem.{IsFileSystem}
 use Rattle.sys_procs.specs.World as its
 use Rattle.sys_procs.specs.World.{members, change}
 use Rattle.sys_procs.specs.Comes.{Comes}
 use Rattle.sys_procs.specs.Fork.{fork_into, fork_one, past_word}
-use Rattle.sys_procs.specs.Agree.{answered, board_of}
+use Rattle.sys_procs.specs.Agree.{board_of}
 use Rattle.sys_procs.specs.Handed.{AreProcs, handed, board, came}
+use Rattle.sys_procs.specs.Done.{HasDone, HasLeft}
 use Rattle.unix_core.specs.declared.world.World.{World}
 use Rattle.unix_core.specs.declared.ending.Ending.{Ending}
-use Rattle.unix_core.specs.declared.ending.Ending.TheVariants.{NoRoom}
 use Rattle.unix_core.specs.Unix.{Unix, process_of}
-use Rattle.unix_core.specs.Steps.{Steps, no_room}
-use Rattle.unix_core.specs.Calls.{answers, came_by, shares, forks, fork_if_room, is_full, with_world, has_room}
-use Rattle.unix_core.specs.Parts.{unix_of, board_in, IsReady, HasCome, ended_as}
+use Rattle.unix_core.specs.Steps.{Steps}
+use Rattle.unix_core.specs.Calls.{answers, came_by, shares, forks, with_world}
+use Rattle.unix_core.specs.Parts.{unix_of, board_in, IsReady, HasCome, unmet_as, ended_as}
 use Rattle.unix_core.proofs.LoggedLemmas.{over, logged_over}
-use Rattle.unix_core.proofs.MildLemmas.{IsMild, mild_comes, near_change}
-use Rattle.unix_core.proofs.CameLemmas.{near_here, world_is, came_board, came_unix, came_ready, came_come}
-use Rattle.unix_core.proofs.ForkSlots.{given, IsFork, CanFork, fork_or_full}
-use Rattle.unix_core.proofs.ForkLog.{of_fork, fork_line, fork_row, seat, row_is, fork_log, whole, fork_applied, fork_board}
+use Rattle.unix_core.proofs.MildLemmas.{mild_comes, near_change}
+use Rattle.unix_core.proofs.CameLemmas.{StaysBeside, IsTame, mild_tame, near_here, world_is, goes_on, stops, gone_ready, gone_unix, gone_come, stopped_come, left_took}
+use Rattle.unix_core.proofs.ForkSlots.{given, IsFork, IsRoomless, Forks, Full, Born, Roomless, how_forks}
+use Rattle.unix_core.proofs.ForkLog.{of_fork, fork_line, fork_row, seat, row_is, fork_log, fork_applied, fork_board, no_fork_log}
 use Rattle.unix_core.proofs.ForkedLemmas.{forked_unix, forked_ready}
 
 -- The files are shared by what the call on processes has answered.
 abbrev pub shared_by : Unix → ℕ → Comes → Steps
 shared_by u s c = record (came_by u s c) { unix = record (came_by u s c).unix { files = shares u.files (process_of u s).u.files c.answer } }
 
--- the whole call, by what that call comes to
-abbrev pub whole_fork : World → ℕ → Steps
-whole_fork w s = fork_if_room (board_in w) (unix_of w) s
+abbrev call : World → ℕ → Comes
+call w s = fork_one (given w) s
 
-pub whole_is : (w : World) (s : ℕ) → IsReady w s → IsFileSystem w.files.tree.nodes → CanFork w s → whole_fork w s ≡ shared_by (unix_of w) s (fork_one (given w) s)
-whole_is w s ready form room =
-    ap (λ b. if b then forks (unix_of w) s else no_room (unix_of w)) room
-    ∙ ap (λ x. shared_by (unix_of w) s (fork_one x s)) (sym (world_is w s ready form))
+pub whole_is : (w : World) (s : ℕ) → IsReady w s → IsFileSystem w.files.tree.nodes → forks (unix_of w) s ≡ shared_by (unix_of w) s (call w s)
+whole_is w s ready form = ap (λ x. shared_by (unix_of w) s (fork_one x s)) (sym (world_is w s ready form))
+
+-- All slots are used.
+module _ (w : World) (s : ℕ) (ready : IsReady w s) (full : lowest is_none (members (given w)) ≡ None) where
+  abbrev refused : Comes
+  refused = fork_into (given w) s None
+
+  refused_is : call w s ≡ refused
+  unfolding fork_one
+  refused_is = ap (fork_into (given w) s) full
+
+  refused_tame : IsTame w refused
+  refused_tame =
+      mild_tame w refused
+      (mild_comes (given w) (change (given w) s past_word) s (Fail EAGAIN)
+      (near_change (given w) (given w) s past_word (near_here w s ready) (λ p. (refl, (refl, refl)))))
+
+-- Whatever comes of it, the switches and core stay.
+module _ (w : World) (s : ℕ) (ready : IsReady w s) where
+  fork_switches : (left_by (came w.procs (call w s)).stop (call w s).state).switches ≡ w.procs.switches
+  fork_switches = by (how_forks w s ready)
+    where
+      by : Forks w s → (left_by (came w.procs (call w s)).stop (call w s).state).switches ≡ w.procs.switches
+      by (Full full) = ap (λ (c : Comes). (left_by (came w.procs c).stop c.state).switches) (refused_is w s ready full)
+      by (Born f) =
+          ap (λ (c : Comes). (left_by (came w.procs c).stop c.state).switches) (row_is w s ready f)
+          ∙ ap (λ (l : Logged its.World). (left_by l.stop (fork_row w s ready f).state).switches) (fork_log w s ready f)
+      by (Roomless f) = ap (λ (l : Logged its.World). (left_by l.stop (call w s).state).switches) (no_fork_log w s f)
+
+  fork_core : (came w.procs (call w s)).board.core ≡ w.procs.images.core
+  fork_core = by (how_forks w s ready)
+    where
+      by : Forks w s → (came w.procs (call w s)).board.core ≡ w.procs.images.core
+      by (Full full) = ap (λ (c : Comes). (came w.procs c).board.core) (refused_is w s ready full)
+      by (Born f) = ap (λ (b : Board). b.core) (fork_board w s ready f (came w.procs (call w s)).board refl)
+      by (Roomless f) = ap (λ (l : Logged its.World). l.board.core) (no_fork_log w s f)
 
 -- There is a child.
 module _ (w : World) (s : ℕ) (ready : IsReady w s) (f : IsFork w s) where
   abbrev row : Comes
   row = fork_row w s ready f
 
-  abbrev mine : List ℕ
-  mine = (process_of (unix_of w) s).u.files
-
   log : logged (board_in w) (shared_by (unix_of w) s row).effects ≡ of_fork (board_in w) (fork_line w s ready f)
   log = logged_over (with_world (unix_of w)) (board_in w) row.effects ∙ ap (over (with_world (unix_of w))) (fork_log w s ready f)
 
-  forked_come : (fin : World) (v : Unix) (e : Ending) → v ≡ record (with_world (unix_of w) row.state) { files = shared w.files.table mine }
+  forked_come : (fin : World) (v : Unix) (e : Ending)
+      → v ≡ record (with_world (unix_of w) row.state) { files = shared w.files.table (process_of (unix_of w) s).u.files }
       → e ≡ (answers v s row.answer).ending → unix_of fin ≡ (answers v s row.answer).unix → board_in fin ≡ board_of (seat w s ready f) w.procs.images
       → HasCome (board_in w) (shared_by (unix_of w) s row) e fin
   forked_come fin v e is ends unix shown = record {
@@ -65,113 +94,111 @@ module _ (w : World) (s : ℕ) (ready : IsReady w s) (f : IsFork w s) where
     board = shown ∙ sym (fork_applied w s ready f) ∙ ap (λ (l : Logged Unix). l.board) (sym log);
   }
 
--- All slots are used.
-module _ (w : World) (s : ℕ) (ready : IsReady w s) (full : lowest is_none (members (given w)) ≡ None) where
-  abbrev refused : Comes
-  refused = fork_into (given w) s None
+-- What it has come to, of which this is the world before the files are shared.
+module _ (w done : World) (s : ℕ) (ready : IsReady w s) (form : IsFileSystem w.files.tree.nodes) (stays : StaysBeside w done)
+    {r : Result Answer PanicKind} {start end : Taken}
+    (does : HasDone w.procs done.procs done.files.tree.nodes r start end (call w s)) where
+  left : HasLeft w.procs done.procs done.files.tree.nodes start end (call w s)
+  left = record { state = does.state; shown = does.shown; items = does.items }
 
-  refused_is : fork_one (given w) s ≡ refused
-  unfolding fork_one
-  refused_is = ap (fork_into (given w) s) full
+  pub fork_took : Took start (logged (board_in w) (forks (unix_of w) s).effects).items end
+  fork_took =
+      subst (λ (x : Steps). Took start (logged (board_in w) x.effects).items end) (sym (whole_is w s ready form))
+      (left_took w done (call w s) (fork_switches w s ready) (fork_core w s ready) stays left (shared_by (unix_of w) s (call w s)) refl)
 
-  refused_mild : IsMild (given w) refused
-  refused_mild =
-      mild_comes (given w) (change (given w) s past_word) s (Fail EAGAIN)
-      (near_change (given w) (given w) s past_word (near_here w s ready) (λ p. (refl, (refl, refl))))
+  pub fork_stops : (kind : PanicKind) (e : Ending) → r ≡ Err kind → e ≡ unmet_as kind → HasCome (board_in w) (forks (unix_of w) s) e done
+  fork_stops kind e err ends =
+      let halt = stops (came w.procs (call w s)).stop (call w s).answer kind r does.answer err in
+      subst (λ (x : Steps). HasCome (board_in w) x e done) (sym (whole_is w s ready form))
+      (stopped_come w done (call w s) (fork_switches w s ready) (fork_core w s ready) stays left (shared_by (unix_of w) s (call w s)) refl
+      halt.0 e halt.1.0 (ends ∙ ap unmet_as halt.1.1))
 
-  refused_board : (b : Board) → b ≡ (came w.procs (fork_one (given w) s)).board → b ≡ fold board_after (board_in w) refused_mild.items
-  refused_board b e = came_board w.procs refused_mild b (e ∙ ap (λ (c : Comes). (came w.procs c).board) refused_is)
+  -- It has answered, and the files are shared.
+  module _ (answer : Answer) (ok : r ≡ Ok answer) (now : World) (procs : now.procs ≡ done.procs) (tree : now.files.tree ≡ done.files.tree)
+      (table : now.files.table ≡ shares w.files.table (process_of (unix_of w) s).u.files answer)
+      (line : now.files.line ≡ w.files.line) (tape : now.tape ≡ w.tape) (core : now.core ≡ w.core)
+      (agree : AreProcs now.procs) (slots : length now.procs.images.slots ≡ 50) where
+    went : ((came w.procs (call w s)).stop ≡ None) × (answer ≡ (call w s).answer)
+    went = goes_on (came w.procs (call w s)).stop (call w s).answer answer r does.answer ok
 
-  refused_log : came w.procs (fork_one (given w) s) ≡ record { items = []; board = board_in w; stop = None }
-  refused_log = ap (came w.procs) refused_is
+    state : handed now.procs now.files.tree.nodes ≡ (call w s).state
+    state = (λ i. handed (procs i) (tree i).nodes) ∙ does.state ∙ ap (λ o. left_by o (call w s).state) went.0
 
--- A fork never panics.
-module _ (w : World) (s : ℕ) (ready : IsReady w s) (room : CanFork w s) where
-  abbrev call : Comes
-  call = fork_one (given w) s
+    shown : board now.procs ≡ (came w.procs (call w s)).board
+    shown = ap board procs ∙ does.shown
 
-  never_stops : (came w.procs call).stop ≡ None
-  never_stops = elim (fork_or_full w s ready room) [
-    | inl full ↦ ap (λ (l : Logged its.World). l.stop) (refused_log w s ready full)
-    | inr f ↦ ap (λ (l : Logged its.World). l.stop) (whole w s ready f)
-  ]
+    marks : now.files.tree.marks ≡ w.files.tree.marks
+    marks = ap (λ t. t.marks) tree ∙ stays.marks
 
-  pub fork_answer : (r : Result Answer PanicKind) → r ≡ answered (came w.procs call).stop call.answer → r ≡ Ok call.answer
-  fork_answer r e = e ∙ ap (λ o. answered o call.answer) never_stops
+    -- all slots are used
+    module _ (full : lowest is_none (members (given w)) ≡ None) where
+      its_table : now.files.table ≡ w.files.table
+      its_table =
+          table
+          ∙ ap (shares w.files.table (process_of (unix_of w) s).u.files) (went.1 ∙ ap (λ (c : Comes). c.answer) (refused_is w s ready full))
 
-  pub fork_gives : (r : Result Answer PanicKind) (a : Answer) → r ≡ answered (came w.procs call).stop call.answer → r ≡ Ok a → a ≡ call.answer
-  fork_gives r a e is = let ok : ◌≡◌ {A = Result Answer PanicKind} (Ok a) (Ok call.answer) = sym is ∙ fork_answer r e in cc ok
+      full_stays : StaysBeside w now
+      full_stays = record { table = its_table; marks = marks; line = line; tape = tape; core = core }
 
-  pub fork_took : (t u : Taken) → IsFileSystem w.files.tree.nodes → Took t (came w.procs call).items u
-      → Took t (logged (board_in w) (whole_fork w s).effects).items u
-  fork_took t u form took =
-      subst (λ (steps : Steps). Took t (logged (board_in w) steps.effects).items u) (sym (whole_is w s ready form room))
-      (subst (λ (l : Logged Unix). Took t l.items u) (sym (logged_over (with_world (unix_of w)) (board_in w) call.effects)) took)
+      full_left : HasLeft w.procs now.procs now.files.tree.nodes start end (refused w s ready full)
+      full_left =
+          subst (λ (c : Comes). HasLeft w.procs now.procs now.files.tree.nodes start end c) (refused_is w s ready full)
+          (record { state = (λ i. handed (procs i) (tree i).nodes) ∙ does.state; shown = shown; items = does.items })
 
--- The world after it, and what it has come to when its answer has been concluded.
-module _ (w now : World) (s : ℕ) (ready : IsReady w s) (room : CanFork w s) (agree : AreProcs now.procs)
-    (state : handed now.procs now.files.tree.nodes ≡ left_by (came w.procs (fork_one (given w) s)).stop (fork_one (given w) s).state)
-    (shown : board now.procs ≡ (came w.procs (fork_one (given w) s)).board) (slots : length now.procs.images.slots ≡ 50)
-    (answer : Answer) (is : answer ≡ (fork_one (given w) s).answer) (table : now.files.table ≡ shares w.files.table (process_of (unix_of w) s).u.files answer) (marks : now.files.tree.marks ≡ w.files.tree.marks)
-    (line : now.files.line ≡ w.files.line) (tape : now.tape ≡ w.tape) (core : now.core ≡ w.core) where
-  left : handed now.procs now.files.tree.nodes ≡ (fork_one (given w) s).state
-  left = state ∙ ap (λ o. left_by o (fork_one (given w) s).state) (never_stops w s ready room)
+      full_goes : (came w.procs (refused w s ready full)).stop ≡ None
+      full_goes = refl
 
-  pub fork_ready : IsReady now s
-  fork_ready = elim (fork_or_full w s ready room) [
-    | inl full ↦
-        came_ready w now s ready (refused w s ready full) (refused_mild w s ready full) agree
-        (left ∙ ap (λ (c : Comes). c.state) (refused_is w s ready full))
-        (refused_board w s ready full (board now.procs) shown)
-        slots (table ∙ ap (shares w.files.table (process_of (unix_of w) s).u.files) (is ∙ ap (λ (c : Comes). c.answer) (refused_is w s ready full)))
-        marks line tape core
-    | inr f ↦
-        forked_ready w now s ready f agree
-        (left ∙ ap (λ (c : Comes). c.state) (row_is w s ready f))
-        (fork_board w s ready f (board now.procs) shown)
-        slots (table ∙ ap (shares w.files.table (process_of (unix_of w) s).u.files) (is ∙ ap (λ (c : Comes). c.answer) (row_is w s ready f)))
-        marks line tape core
-  ]
+    -- core has no place
+    never : IsRoomless w s → ⊥
+    never f =
+        let stopped = sym went.0 ∙ ap (λ (l : Logged its.World). l.stop) (no_fork_log w s f) in
+        cc stopped
 
-  pub fork_come : (fin : World) (e : Ending) → IsFileSystem w.files.tree.nodes → e ≡ (answers (unix_of now) s answer).ending
-      → unix_of fin ≡ (answers (unix_of now) s answer).unix → board_in fin ≡ board_in now → HasCome (board_in w) (whole_fork w s) e fin
-  fork_come fin e form ends unix same = elim (fork_or_full w s ready room) [
-    | inl full ↦
-        let c : Comes = refused w s ready full in
-        let none = refused_is w s ready full in
-        let its_answer : answer ≡ c.answer = is ∙ ap (λ (x : Comes). x.answer) none in
-        let board_is = refused_board w s ready full (board now.procs) shown in
-        let now_is : unix_of now ≡ with_world (unix_of w) c.state =
-        came_unix w now s ready c (refused_mild w s ready full) agree (left ∙ ap (λ (x : Comes). x.state) none) board_is
-        slots (table ∙ ap (shares w.files.table (process_of (unix_of w) s).u.files) its_answer) marks line tape core in
-        let come : HasCome (board_in w) (shared_by (unix_of w) s c) e fin =
-        came_come w fin s c (refused_mild w s ready full) e
-        (ends ∙ (λ i. (answers (now_is i) s (its_answer i)).ending)) (unix ∙ (λ i. (answers (now_is i) s (its_answer i)).unix)) (same ∙ board_is) in
-        subst (λ (steps : Steps). HasCome (board_in w) steps e fin) (sym (whole_is w s ready form room))
-        (subst (λ (x : Comes). HasCome (board_in w) (shared_by (unix_of w) s x) e fin) (sym none) come)
-    | inr f ↦
-        let c : Comes = fork_row w s ready f in
-        let row = row_is w s ready f in
-        let its_answer : answer ≡ c.answer = is ∙ ap (λ (x : Comes). x.answer) row in
-        let board_is = fork_board w s ready f (board now.procs) shown in
-        let now_is = forked_unix w now s ready f agree (left ∙ ap (λ (x : Comes). x.state) row) board_is
-        slots (table ∙ ap (shares w.files.table (process_of (unix_of w) s).u.files) its_answer) marks line tape core in
-        let come : HasCome (board_in w) (shared_by (unix_of w) s c) e fin =
-        forked_come w s ready f fin (unix_of now) e now_is
-        (ends ∙ ap (λ (a : Answer). (answers (unix_of now) s a).ending) its_answer)
-        (unix ∙ ap (λ (a : Answer). (answers (unix_of now) s a).unix) its_answer) (same ∙ board_is) in
-        subst (λ (steps : Steps). HasCome (board_in w) steps e fin) (sym (whole_is w s ready form room))
-        (subst (λ (x : Comes). HasCome (board_in w) (shared_by (unix_of w) s x) e fin) (sym row) come)
-  ]
+    pub fork_ready : IsReady now s
+    fork_ready = by (how_forks w s ready)
+      where
+        by : Forks w s → IsReady now s
+        by (Full full) =
+            gone_ready w now s (refused w s ready full) (refused_tame w s ready full) (full_stays full) (full_left full) (full_goes full) ready agree slots
+        by (Born f) =
+            forked_ready w now s ready f agree (state ∙ ap (λ (c : Comes). c.state) (row_is w s ready f)) (fork_board w s ready f (board now.procs) shown)
+            slots (table ∙ ap (shares w.files.table (process_of (unix_of w) s).u.files) (went.1 ∙ ap (λ (c : Comes). c.answer) (row_is w s ready f)))
+            marks line tape core
+        by (Roomless f) = absurd (never f)
 
--- Core has no place.
-pub no_room_come : (w : World) (s : ℕ) → (is_full (unix_of w) || has_room (board_in w) (clicks_of (process_of (unix_of w) s).u)) ≡ false
-    → HasCome (board_in w) (whole_fork w s) NoRoom w
-no_room_come w s none =
-    subst (λ b. HasCome (board_in w) (if b then forks (unix_of w) s else no_room (unix_of w)) NoRoom w) (sym none)
-    (record { ending = refl; unix = refl; board = refl })
+    -- when the answer has been concluded
+    module _ (fin : World) (e : Ending) (ends : e ≡ (answers (unix_of now) s answer).ending)
+        (unix : unix_of fin ≡ (answers (unix_of now) s answer).unix) (same : board_in fin ≡ board_in now) where
+      by_row : (c : Comes) → call w s ≡ c → HasCome (board_in w) (shared_by (unix_of w) s c) e fin → HasCome (board_in w) (forks (unix_of w) s) e fin
+      by_row c is come =
+          subst (λ (x : Steps). HasCome (board_in w) x e fin) (sym (whole_is w s ready form))
+          (subst (λ (x : Comes). HasCome (board_in w) (shared_by (unix_of w) s x) e fin) (sym is) come)
 
-pub no_room_took : (w : World) (s : ℕ) (t : Taken) → (is_full (unix_of w) || has_room (board_in w) (clicks_of (process_of (unix_of w) s).u)) ≡ false
-    → Took t [] t → Took t (logged (board_in w) (whole_fork w s).effects).items t
-no_room_took w s t none took =
-    subst (λ b. Took t (logged (board_in w) (if b then forks (unix_of w) s else no_room (unix_of w)).effects).items t) (sym none) took
+      full_come : (full : lowest is_none (members (given w)) ≡ None) → HasCome (board_in w) (shared_by (unix_of w) s (refused w s ready full)) e fin
+      full_come full =
+          let c : Comes = refused w s ready full in
+          let t = refused_tame w s ready full in
+          let now_is = gone_unix w now c t.switches t.core (full_stays full) (full_left full) (full_goes full) in
+          let its_answer : answer ≡ c.answer = went.1 ∙ ap (λ (x : Comes). x.answer) (refused_is w s ready full) in
+          gone_come w now c t.switches t.core (full_stays full) (full_left full) (shared_by (unix_of w) s c) refl fin e (full_goes full)
+          (ends ∙ (λ i. (answers (now_is i) s (its_answer i)).ending)) (unix ∙ (λ i. (answers (now_is i) s (its_answer i)).unix)) same
+
+      born_come : (f : IsFork w s) → HasCome (board_in w) (shared_by (unix_of w) s (fork_row w s ready f)) e fin
+      born_come f =
+          let c : Comes = fork_row w s ready f in
+          let its_answer : answer ≡ c.answer = went.1 ∙ ap (λ (x : Comes). x.answer) (row_is w s ready f) in
+          let board_is = fork_board w s ready f (board now.procs) shown in
+          let now_is =
+          forked_unix w now s ready f agree (state ∙ ap (λ (x : Comes). x.state) (row_is w s ready f)) board_is
+          slots (table ∙ ap (shares w.files.table (process_of (unix_of w) s).u.files) its_answer) marks line tape core in
+          forked_come w s ready f fin (unix_of now) e now_is
+          (ends ∙ ap (λ (a : Answer). (answers (unix_of now) s a).ending) its_answer)
+          (unix ∙ ap (λ (a : Answer). (answers (unix_of now) s a).unix) its_answer) (same ∙ board_is)
+
+      pub fork_come : HasCome (board_in w) (forks (unix_of w) s) e fin
+      fork_come = by (how_forks w s ready)
+        where
+          by : Forks w s → HasCome (board_in w) (forks (unix_of w) s) e fin
+          by (Full full) = by_row (refused w s ready full) (refused_is w s ready full) (full_come full)
+          by (Born f) = by_row (fork_row w s ready f) (row_is w s ready f) (born_come f)
+          by (Roomless f) = absurd (never f)

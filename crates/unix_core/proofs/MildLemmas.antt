@@ -1,5 +1,5 @@
--- What the calls on processes leave, but for fork and exit: nobody's files, directory or place change, and what they show are
--- lines of the log that name no place.
+-- What the calls on processes leave that only show: nobody's files, directory or place change, and what they show are lines of
+-- the log that name no place.
 use Rattle.std.proofs.Common.{◌≡◌, ◌∙◌, ◌⊎◌, ℕ, ℤ, Bool, true, false, not, cond, ◌&&◌, ◌==◌, if◌then◌else◌, List, [], ◌∷◌, length, get_or, set, map, fold, count_by, Option, Some, None, refl, sym, ap, inl, inr, arith}
 use Rattle.std.specs.Prelude.{unwrap_or}
 use Rattle.std.proofs.lemmas.Bool.{cases_eq}

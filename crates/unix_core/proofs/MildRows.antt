@@ -1,6 +1,6 @@
--- The rows of the calls on processes, but for fork and exit: each leaves files, directories and places as they are.
-use Rattle.std.proofs.Common.{◌≡◌, ◌≢◌, ◌+◌, ◌*◌, ◌%◌, ◌^◌, ◌∙◌, ℕ, Bool, true, false, ◌&&◌, ◌||◌, ◌==◌, nat_lt, nat_le, if◌then◌else◌, List, [], ◌∷◌, length, get_or, set, find, Option, Some, None, slice_index, refl, sym, ap, inl, inr, arith}
-use Rattle.std.specs.Prelude.{⊤, MatchOption, unwrap_or, pos}
+-- The calls on processes that only show: each leaves files, directories and places as they are.
+use Rattle.std.proofs.Common.{◌≡◌, ◌≢◌, ◌+◌, ◌*◌, ◌%◌, ◌^◌, ◌∙◌, ℕ, Bool, true, false, ◌&&◌, ◌||◌, ◌==◌, nat_lt, nat_le, if◌then◌else◌, length, get_or, set, Option, Some, None, refl, sym, ap, inl, inr, arith}
+use Rattle.std.specs.Prelude.{unwrap_or, pos}
 use Rattle.std.specs.Int.{int_min}
 use Rattle.std.proofs.lemmas.Bool.{cases_lt}
 use Rattle.std.proofs.lemmas.List.{get_or_past, get_or-map, get_or-set_other, length-map}
@@ -21,8 +21,6 @@ use Rattle.sys_procs.specs.Ids.{pid_of, set_uid, get_uid, set_gid, get_gid, swit
 use Rattle.sys_procs.specs.Times.{time_now, set_time, times_to, stored, sleep_for, sleep_until, sleeping_until, tout_with, until_of, pending_sleep}
 use Rattle.sys_procs.specs.Wait.{wait_child, waits_for, waiting, with_times_of}
 use Rattle.sys_procs.specs.Resume.{resume_proc, awake}
-use Rattle.unix_core.specs.Calls.{ProcessCall, process_calls, process_call}
-use Rattle.unix_core.specs.Parts.{process_row_of}
 use Rattle.unix_core.proofs.MildLemmas.{counts_drop, IsMild, IsNear, mild_wake, mild_nice, mild_time, mild_reap, mild_comes, mild_logs, mild_if, near_change}
 
 -- who is found as a dead child has ended
@@ -71,7 +69,7 @@ module _ (base w : World) (s : ℕ) (near : IsNear base w s) where
       (near_change base (without_process w d) s (λ p. record p { u = with_times_of p.u (process_of w d).u }) (near_drop d gone.0 gone.1.0 gone.1.1)
       (λ p. (refl, (refl, refl)))))
 
-  mild_wait : IsMild base (wait_child w s)
+  pub mild_wait : IsMild base (wait_child w s)
   unfolding wait_child
   mild_wait = mild_waits (child (members w) (process_of w s).row.pid) (process_of w s).row.pid (tells (members w) (process_of w s).row.pid)
 
@@ -91,23 +89,15 @@ module _ (base w : World) (s : ℕ) (near : IsNear base w s) where
       mild_comes base (change w s (λ p. record p { «data» = image.data; stack = image.stack })) s _
       (near_change base w s (λ p. record p { «data» = image.data; stack = image.stack }) near (λ p. (refl, (refl, refl))))
 
--- the rows
-abbrev IsMildRow : ProcessCall → Type 0
-IsMildRow row = (w : World) (s : ℕ) (args : List ℕ) → IsNear w w s → IsMild w (row.does w s args)
-
-abbrev AreMildRows : List ProcessCall → Type 0
-AreMildRows [] = ⊤
-AreMildRows (row ∷ rows) = IsMildRow row × AreMildRows rows
-
-mild_time_now : (w : World) (s : ℕ) → IsNear w w s → IsMild w (time_now w s)
+pub mild_time_now : (w : World) (s : ℕ) → IsNear w w s → IsMild w (time_now w s)
 unfolding time_now
 mild_time_now w s near = mild_comes w w s _ near
 
-mild_pid_of : (w : World) (s : ℕ) → IsNear w w s → IsMild w (pid_of w s)
+pub mild_pid_of : (w : World) (s : ℕ) → IsNear w w s → IsMild w (pid_of w s)
 unfolding pid_of
 mild_pid_of w s near = mild_comes w w s _ near
 
-mild_set_uid : (w : World) (s : ℕ) → IsNear w w s → IsMild w (set_uid w s)
+pub mild_set_uid : (w : World) (s : ℕ) → IsNear w w s → IsMild w (set_uid w s)
 unfolding set_uid
 mild_set_uid w s near =
     let p : Process = process_of w s in
@@ -117,7 +107,7 @@ mild_set_uid w s near =
     (near_change w w s (λ p. record p { u = record p.u { uid = id; ruid = id }; row = record p.row { uid = id } }) near (λ p. (refl, (refl, refl)))))
     (mild_comes w w s _ near)
 
-mild_set_gid : (w : World) (s : ℕ) → IsNear w w s → IsMild w (set_gid w s)
+pub mild_set_gid : (w : World) (s : ℕ) → IsNear w w s → IsMild w (set_gid w s)
 unfolding set_gid
 mild_set_gid w s near =
     let p : Process = process_of w s in
@@ -127,23 +117,23 @@ mild_set_gid w s near =
     (near_change w w s (λ p. record p { u = record p.u { gid = id; rgid = id } }) near (λ p. (refl, (refl, refl)))))
     (mild_comes w w s _ near)
 
-mild_get_uid : (w : World) (s : ℕ) → IsNear w w s → IsMild w (get_uid w s)
+pub mild_get_uid : (w : World) (s : ℕ) → IsNear w w s → IsMild w (get_uid w s)
 unfolding get_uid
 mild_get_uid w s near = mild_comes w w s _ near
 
-mild_get_gid : (w : World) (s : ℕ) → IsNear w w s → IsMild w (get_gid w s)
+pub mild_get_gid : (w : World) (s : ℕ) → IsNear w w s → IsMild w (get_gid w s)
 unfolding get_gid
 mild_get_gid w s near = mild_comes w w s _ near
 
-mild_switches : (w : World) (s : ℕ) → IsNear w w s → IsMild w (switches w s)
+pub mild_switches : (w : World) (s : ℕ) → IsNear w w s → IsMild w (switches w s)
 unfolding switches
 mild_switches w s near = mild_comes w w s _ near
 
-mild_no_op : (w : World) (s : ℕ) → IsNear w w s → IsMild w (no_op w s)
+pub mild_no_op : (w : World) (s : ℕ) → IsNear w w s → IsMild w (no_op w s)
 unfolding no_op
 mild_no_op w s near = mild_comes w w s _ near
 
-mild_nice_to : (w : World) (s : ℕ) → IsNear w w s → IsMild w (nice_to w s)
+pub mild_nice_to : (w : World) (s : ℕ) → IsNear w w s → IsMild w (nice_to w s)
 unfolding nice_to
 mild_nice_to w s near =
     let p : Process = process_of w s in
@@ -152,7 +142,7 @@ mild_nice_to w s near =
     (mild_if w (is_super p) _ _ (mild_logs w (Nice s (kept_nice value)) _ (mild_nice s (kept_nice value)) (mild_comes w w s _ near))
     (mild_logs w (Nice s (pos 0)) _ (mild_nice s (pos 0)) (mild_comes w w s _ near)))
 
-mild_set_time : (w : World) (s : ℕ) → IsNear w w s → IsMild w (set_time w s)
+pub mild_set_time : (w : World) (s : ℕ) → IsNear w w s → IsMild w (set_time w s)
 unfolding set_time
 mild_set_time w s near =
     let p : Process = process_of w s in
@@ -163,13 +153,13 @@ mild_set_time w s near =
     (mild_comes w set s _ (record { inodes = near.inodes; switches = near.switches; counts = near.counts; here = near.here; lives = near.lives }))))
     (mild_comes w w s _ near)
 
-mild_times_to : (w : World) (s at : ℕ) → IsNear w w s → IsMild w (times_to w s at)
+pub mild_times_to : (w : World) (s at : ℕ) → IsNear w w s → IsMild w (times_to w s at)
 unfolding times_to
 mild_times_to w s at near =
     let p : Process = process_of w s in
     mild_stored w w s near (if at % 2 == 1 then None else store_bytes (image_of p) at (bytes_of (times p.u)))
 
-mild_sleep_for : (w : World) (s : ℕ) → IsNear w w s → IsMild w (sleep_for w s)
+pub mild_sleep_for : (w : World) (s : ℕ) → IsNear w w s → IsMild w (sleep_for w s)
 unfolding sleep_for
 mild_sleep_for w s near = mild_sleep_until w w s near ((w.clock.time + register (process_of w s) 0) % 2 ^ 32)
 
@@ -179,57 +169,3 @@ mild_resume w s near =
     let p : Process = process_of w s in
     let near' : IsNear w (change w s awake) s = near_change w w s awake near (λ p. (refl, (refl, refl))) in
     mild_if w (p.u.pending == pending_sleep) _ _ (mild_sleep_until w (change w s awake) s near' (until_of p)) (mild_wait w (change w s awake) s near')
-
-all_mild : AreMildRows process_calls
-all_mild = (
-  (λ w s a near. mild_wait w w s near),
-  (
-    (λ w s a near. mild_time_now w s near),
-    (
-      (λ w s a near. mild_pid_of w s near),
-      (
-        (λ w s a near. mild_set_uid w s near),
-        (
-          (λ w s a near. mild_get_uid w s near),
-          (
-            (λ w s a near. mild_set_time w s near),
-            (
-              (λ w s a near. mild_no_op w s near),
-              (
-                (λ w s a near. mild_nice_to w s near),
-                (
-                  (λ w s a near. mild_sleep_for w s near),
-                  (
-                    (λ w s a near. mild_switches w s near),
-                    (
-                      (λ w s a near. mild_times_to w s (slice_index a 0) near),
-                      (
-                        (λ w s a near. mild_set_gid w s near),
-                        ((λ w s a near. mild_get_gid w s near), tt),
-                      ),
-                    ),
-                  ),
-                ),
-              ),
-            ),
-          ),
-        ),
-      ),
-    ),
-  ),
-)
-
-found_mild : (test : ProcessCall → Bool) (rows : List ProcessCall) → AreMildRows rows → MatchOption (find test rows) ⊤ IsMildRow
-found_mild test [] all = tt
-found_mild test (row ∷ rows) all = elim (test row) as (λ b. MatchOption (if b then Some row else find test rows) ⊤ IsMildRow) [
-  | true ↦ all.0
-  | false ↦ found_mild test rows all.1
-]
-
-by_row : (o : Option ProcessCall) → MatchOption o ⊤ IsMildRow → (w : World) (s : ℕ) (args : List ℕ) → IsNear w w s → IsMild w (process_row_of o w s args)
-by_row None mild w s args near = mild_comes w w s _ near
-by_row (Some row) mild w s args near = mild w s args near
-
-pub mild_row : (number : ℕ) (w : World) (s : ℕ) (args : List ℕ) → IsNear w w s → IsMild w (process_row_of (process_call number) w s args)
-unfolding process_call
-mild_row number w s args near = by_row (process_call number) (found_mild (λ (c : ProcessCall). c.number == number) process_calls all_mild) w s args near

@@ -1,24 +1,22 @@
--- exec, break and the growth of a stack leave the processes of other slots alone.
-use Rattle.std.proofs.Common.{◌≢◌, ℕ, ◌+◌, Bool, true, false, ◌==◌, if◌then◌else◌, List, Option, Some, None, sym, subst}
+-- exec, break and the growth of a stack leave the processes of other slots alone, and so does each row of the table.
+use Rattle.std.proofs.Common.{◌≢◌, ℕ, Bool, true, false, ◌==◌, if◌then◌else◌, List, [], ◌∷◌, find, Option, Some, None, slice_index, sym, subst}
 use Rattle.std.specs.Prelude.{⊤, MatchOption, Result, Ok, Err, slice_set}
 use Rattle.std.specs.Option.{option_map}
 use Rattle.v6_base.specs.declared.entry.Entry.TheVariants.{Leave, Bare, Share}
 use Rattle.v6_base.specs.declared.errno.Errno.{Errno}
 use Rattle.seg_regs.specs.Sizes.{is_refused}
 use Rattle.fs_tree.specs.Finding.{with_reference}
-use Rattle.pick_rules.specs.Board.{Board}
 use Rattle.pick_rules.specs.Effects as effect
-use Rattle.sys_procs.specs.declared.halt.Halt.{Halt}
 use Rattle.sys_procs.specs.Process.{Process}
 use Rattle.sys_procs.specs.World.{World, process_of, change}
 use Rattle.sys_procs.specs.Comes.{Comes, does, logs}
-use Rattle.sys_procs.specs.Tried.{Tried}
 use Rattle.sys_procs.specs.Texts.{entry_of, free_entry, new_text, goes, text_of, with_text, joined, remaining}
-use Rattle.sys_procs.specs.Break.{break_at, grow, grown_stack, clicks_up_to, sized, has_place, expands_if_room}
-use Rattle.sys_procs.specs.ExecFile.{Tested, let_go, tests, node_at, with_moved, text_clicks, given_up_by, given_up, without_text, leaves_text, is_sticky, xfree, bared, with_entry, shares_text, makes_text, xalloc_by, xalloc, data_read, reads_text, image_clicks, begins, executes, loads, done_by, exec_by, exec_file}
+use Rattle.sys_procs.specs.Break.{break_at, grow, grown_stack, clicks_up_to, sized, expands}
+use Rattle.sys_procs.specs.ExecFile.{Tested, let_go, tests, node_at, with_moved, text_clicks, without_text, leaves_text, is_sticky, xfree, with_entry, shares_text, makes_text, xalloc_by, xalloc, data_read, reads_text, image_clicks, begins, executes, loads, done_by, exec_file}
 use Rattle.sys_procs.proofs.TestedSlots.{tests_processes}
+use Rattle.unix_core.specs.Calls.{ProcessCall, process_calls, process_call}
 use Rattle.unix_core.proofs.PrivateSlots.{Spared}
-use Rattle.unix_core.proofs.PrivateRows.{IsSparing, spared_change, sparing_comes, sparing_logs, sparing_if}
+use Rattle.unix_core.proofs.PrivateRows.{IsSparing, spared_change, sparing_comes, sparing_logs, sparing_if, sparing_wait, sparing_time_now, sparing_pid_of, sparing_set_uid, sparing_get_uid, sparing_set_time, sparing_no_op, sparing_nice_to, sparing_sleep_for, sparing_switches, sparing_times_to, sparing_set_gid, sparing_get_gid}
 
 module _ (ps : List (Option Process)) (r s : ℕ) (other : r ≢ s) where
   abbrev SparedIn : World → Type 0
@@ -61,73 +59,123 @@ module _ (ps : List (Option Process)) (r s : ℕ) (other : r ≢ s) where
   spared_read true w program h = h
   spared_read false w program h = h
 
-  sparing_executes : (w : World) (old : Process) (program : _) → SparedIn w → IsSparing ps r (executes w s old program)
-  sparing_executes w old program h =
+  sparing_executes : (w : World) (program : _) → SparedIn w → IsSparing ps r (executes w s program)
+  sparing_executes w program h =
       let m = data_read w s program in
       let read : World = with_moved w program.ino m in
-      sparing_comes ps r s other _ _ (spared_change ps r s other read (λ p. begins old (node_at w program.ino) program p.text m.memory.data) h)
+      sparing_comes ps r s other _ _ (spared_change ps r s other read (λ p. begins p (node_at w program.ino) program m.memory.data) h)
 
   sparing_loads : (w : World) (program : _) → SparedIn w → IsSparing ps r (loads w s program)
   sparing_loads w program h =
-      let old : Process = process_of w s in
       let size = text_clicks program.plan in
       let places : World → Bool → Comes = λ placed is_new.
-      does (effect.Image s (image_clicks program.plan) placed) (executes (reads_text is_new placed s program) s old program) in
+      does (effect.Image s (image_clicks program.plan) placed) (executes (reads_text is_new placed s program) s program) in
       let placed : (v : World) (b : Bool) → SparedIn v → IsSparing ps r (places v b) = λ v b k.
-      let rest : IsSparing ps r (executes (reads_text b v s program) s old program) =
-      sparing_executes (reads_text b v s program) old program (spared_read b v program k) in
+      let rest : IsSparing ps r (executes (reads_text b v s program) s program) =
+      sparing_executes (reads_text b v s program) program (spared_read b v program k) in
       record { effects = (k, rest.effects); state = rest.state } in
-      let fills : World → Comes = λ left. logs (Bare s) (xalloc (change left s bared) s program.ino size places) in
+      let fills : World → Comes = λ left. logs (Bare s) (xalloc left s program.ino size places) in
       let filled : (v : World) → SparedIn v → IsSparing ps r (fills v) = λ v k.
-      sparing_logs ps r s other (Bare s) (xalloc (change v s bared) s program.ino size places)
-      (sparing_xalloc (change v s bared) program.ino size places (spared_change ps r s other v bared k) placed) in
-      sparing_xfree w old.text fills h filled
+      sparing_logs ps r s other (Bare s) (xalloc v s program.ino size places) (sparing_xalloc v program.ino size places k placed) in
+      sparing_xfree w (process_of w s).text fills h filled
 
   sparing_done : (w : World) (a : Result _ Errno) → SparedIn w → IsSparing ps r (done_by w s a)
   sparing_done w (Ok program) h = sparing_loads w program h
   sparing_done w (Err e) h = sparing_comes ps r s other w _ h
 
-  spared_given_up : (w : World) (a : Result _ Errno) → SparedIn w → SparedIn (given_up_by w a)
-  spared_given_up w (Ok program) h = h
-  spared_given_up w (Err e) h = h
-
-  sparing_exec_by : (t : Tested) (o : Option Halt) → SparedIn t.world → IsSparing ps r (exec_by s t o).comes
-  sparing_exec_by t None h = sparing_done t.world t.answer h
-  sparing_exec_by t (Some halt) h = sparing_comes ps r s other (given_up t) _ (spared_given_up t.world t.answer h)
-
-  pub sparing_exec : (b : Board) (w : World) (name list : ℕ) → SparedIn w → IsSparing ps r (exec_file b w s name list).comes
+  sparing_exec : (w : World) (name list : ℕ) → SparedIn w → IsSparing ps r (exec_file w s name list)
   unfolding exec_file
-  sparing_exec b w name list h =
+  sparing_exec w name list h =
       let t : Tested = tests w s name list in
-      sparing_exec_by t _ (subst (λ qs. Spared ps qs r) (sym (tests_processes w s name list)) h)
+      sparing_done t.world t.answer (subst (λ qs. Spared ps qs r) (sym (tests_processes w s name list)) h)
 
   -- break, and the growth of a stack
-  sparing_tried : (b : Bool) (x y : Tried) → IsSparing ps r x.comes → IsSparing ps r y.comes → IsSparing ps r (if b then x else y).comes
-  sparing_tried true x y h k = h
-  sparing_tried false x y h k = k
+  sparing_expands : (w : World) (d n : ℕ) → SparedIn w → IsSparing ps r (expands w s d n)
+  sparing_expands w d n h = record { effects = (h, tt); state = spared_change ps r s other w (sized d n) h }
 
-  sparing_expands : (b : Board) (w : World) (d n : ℕ) → SparedIn w → IsSparing ps r (expands_if_room b w s d n).comes
-  sparing_expands b w d n h =
-      sparing_tried (has_place b s (16 + d + n)) _ _ (record { effects = (h, tt); state = spared_change ps r s other w (sized d n) h })
-      (sparing_comes ps r s other w _ h)
-
-  pub sparing_break : (b : Board) (w : World) (at : ℕ) → SparedIn w → IsSparing ps r (break_at b w s at).comes
+  sparing_break : (w : World) (at : ℕ) → SparedIn w → IsSparing ps r (break_at w s at)
   unfolding break_at
-  sparing_break b w at h =
+  sparing_break w at h =
       let p : Process = process_of w s in
       let d = clicks_up_to p.u.text_size at in
-      sparing_tried (is_refused p.u.text_size d p.u.stack_size w.limit) _ _ (sparing_comes ps r s other w _ h)
-      (sparing_expands b w d p.u.stack_size h)
+      sparing_if ps r s other (is_refused p.u.text_size d p.u.stack_size w.limit) _ _ (sparing_comes ps r s other w _ h)
+      (sparing_expands w d p.u.stack_size h)
 
-  abbrev pub IsSparingTried : Tried → Type 0
-  IsSparingTried t = IsSparing ps r t.comes
+  abbrev pub IsSparingCall : Comes → Type 0
+  IsSparingCall c = IsSparing ps r c
 
-  sparing_stack : (b : Board) (w : World) (d : ℕ) (o : Option ℕ) → SparedIn w → MatchOption (option_map (expands_if_room b w s d) o) ⊤ IsSparingTried
-  sparing_stack b w d None h = tt
-  sparing_stack b w d (Some n) h = sparing_expands b w d n h
+  sparing_stack : (w : World) (d : ℕ) (o : Option ℕ) → SparedIn w → MatchOption (option_map (expands w s d) o) ⊤ IsSparingCall
+  sparing_stack w d None h = tt
+  sparing_stack w d (Some n) h = sparing_expands w d n h
 
-  pub sparing_grow : (b : Board) (w : World) (sp : ℕ) → SparedIn w → MatchOption (grow b w s sp) ⊤ IsSparingTried
+  pub sparing_grow : (w : World) (sp : ℕ) → SparedIn w → MatchOption (grow w s sp) ⊤ IsSparingCall
   unfolding grow
-  sparing_grow b w sp h =
+  sparing_grow w sp h =
       let p : Process = process_of w s in
-      sparing_stack b w p.u.data_size (grown_stack p.u.text_size p.u.data_size p.u.stack_size w.limit sp) h
+      sparing_stack w p.u.data_size (grown_stack p.u.text_size p.u.data_size p.u.stack_size w.limit sp) h
+
+  -- the rows of the table
+  abbrev pub IsSparingRow : ProcessCall → Type 0
+  IsSparingRow row = (w : World) (args : List ℕ) → Spared ps w.processes r → IsSparing ps r (row.does w s args)
+
+  abbrev pub AreSparingRows : List ProcessCall → Type 0
+  AreSparingRows [] = ⊤
+  AreSparingRows (row ∷ rows) = IsSparingRow row × AreSparingRows rows
+
+  all_sparing : AreSparingRows process_calls
+  all_sparing = (
+    (λ w a h. sparing_wait ps r s other w h),
+    (
+      (λ w a h. sparing_exec w (slice_index a 0) (slice_index a 1) h),
+      (
+        (λ w a h. sparing_time_now ps r s other w h),
+        (
+          (λ w a h. sparing_break w (slice_index a 0) h),
+          (
+            (λ w a h. sparing_pid_of ps r s other w h),
+            (
+              (λ w a h. sparing_set_uid ps r s other w h),
+              (
+                (λ w a h. sparing_get_uid ps r s other w h),
+                (
+                  (λ w a h. sparing_set_time ps r s other w h),
+                  (
+                    (λ w a h. sparing_no_op ps r s other w h),
+                    (
+                      (λ w a h. sparing_nice_to ps r s other w h),
+                      (
+                        (λ w a h. sparing_sleep_for ps r s other w h),
+                        (
+                          (λ w a h. sparing_switches ps r s other w h),
+                          (
+                            (λ w a h. sparing_times_to ps r s other w h (slice_index a 0)),
+                            (
+                              (λ w a h. sparing_set_gid ps r s other w h),
+                              ((λ w a h. sparing_get_gid ps r s other w h), tt),
+                            ),
+                          ),
+                        ),
+                      ),
+                    ),
+                  ),
+                ),
+              ),
+            ),
+          ),
+        ),
+      ),
+    ),
+  )
+
+  found_sparing : (test : ProcessCall → Bool) (rows : List ProcessCall) → AreSparingRows rows
+      → MatchOption (find test rows) ⊤ IsSparingRow
+  found_sparing test [] all = tt
+  found_sparing test (row ∷ rows) all =
+      elim (test row) as (λ b. MatchOption (if b then Some row else find test rows) ⊤ IsSparingRow) [
+        | true ↦ all.0
+        | false ↦ found_sparing test rows all.1
+      ]
+
+  pub sparing_row : (number : ℕ) → MatchOption (process_call number) ⊤ IsSparingRow
+  unfolding process_call
+  sparing_row number = found_sparing (λ (c : ProcessCall). c.number == number) process_calls all_sparing

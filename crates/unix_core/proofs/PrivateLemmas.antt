@@ -1,6 +1,6 @@
 -- Processes are private: what each event leaves of those whose turn it isn't.
 use Rattle.std.proofs.Common.{◌≡◌, ◌≢◌, ℕ, zero, suc, Bool, true, false, cond, ◌||◌, ◌==◌, nat_lt, if◌then◌else◌, List, ◌∷◌, ◌++◌, set, map, Option, Some, None, refl, sym, ap, subst}
-use Rattle.std.specs.Prelude.{⊤, MatchOption, slice_index}
+use Rattle.std.specs.Prelude.{⊤, MatchOption}
 use Rattle.v6_base.specs.Trace.{Log, sent}
 use Rattle.v6_base.specs.declared.answer.Answer.{Answer}
 use Rattle.v6_base.specs.declared.answer.Answer.TheVariants.{Ret, Fail, Sleep}
@@ -12,20 +12,15 @@ use Rattle.pdp_step.specs.Instruction.{Stepped, instr}
 use Rattle.pdp_step.specs.declared.outcome.Kind.{Kind}
 use Rattle.pdp_step.specs.declared.outcome.Kind.TheVariants as kind
 use Rattle.pick_rules.specs.declared.row.Mode.{Mode}
-use Rattle.pick_rules.specs.Board.{Board}
 use Rattle.pick_rules.specs.Effects.{Show}
-use Rattle.image_keep.specs.Kept.{clicks_of}
 use Rattle.sys_files.specs.Did.{Did}
 use Rattle.sys_files.specs.Descriptors.{Closing}
 use Rattle.sys_files.specs.Moving.{resume_read}
 use Rattle.tty_line.specs.Input.{Typed, typed}
 use Rattle.u_area.specs.declared.area.UArea.{UArea}
 use Rattle.sys_procs.specs.Process.{Process, register, image_of}
-use Rattle.sys_procs.specs.declared.halt.Halt.{Halt}
 use Rattle.sys_procs.specs.Comes.{Comes}
-use Rattle.sys_procs.specs.Tried.{Tried}
-use Rattle.sys_procs.specs.Break.{break_at, grow}
-use Rattle.sys_procs.specs.ExecFile.{exec_file}
+use Rattle.sys_procs.specs.Break.{grow}
 use Rattle.sys_procs.specs.Times.{pending_sleep}
 use Rattle.sys_procs.specs.Wait.{pending_wait}
 use Rattle.sys_procs.specs.Exit.{exit_now}
@@ -35,16 +30,16 @@ use Rattle.unix_core.specs.declared.asked.Asked.{Asked}
 use Rattle.unix_core.specs.declared.ending.Ending.{Ending}
 use Rattle.unix_core.specs.declared.ending.Ending.TheVariants as ending
 use Rattle.unix_core.specs.Unix.{Unix, System, process_of, with_process}
-use Rattle.unix_core.specs.Steps.{Steps, quietly, returns, not_built, no_room}
+use Rattle.unix_core.specs.Steps.{Steps, quietly, returns, not_built}
 use Rattle.unix_core.specs.Errors.{error_number}
-use Rattle.unix_core.specs.Calls.{FileCall, ProcessCall, handed_of, with_handed, world_of, with_world, with_area, entered_area, words_passed, asked, given_area, refused_area, answers, file_call, process_call, did_by, came_by, forks, is_full, has_room, closes_all, exits, by_process_row, by_file_row, halted_as, unless_halted, tried_by, grows, grown_by, does_call, count_of, does_if_built, pending_read, resumed}
+use Rattle.unix_core.specs.Calls.{FileCall, ProcessCall, handed_of, with_handed, world_of, with_world, with_area, entered_area, words_passed, asked, given_area, refused_area, answers, file_call, process_call, did_by, came_by, forks, closes_all, exits, by_process_row, by_file_row, grows, grown_by, does_call, count_of, does_if_built, pending_read, resumed}
 use Rattle.unix_core.specs.Turn.{Happened, stays, settles, calls_for_settling, settled_after, machine_of, with_machine, faults, comes_to, instruction, is_user, turn, end_effects, turn_of, pass_effects, pass_of, slot_of}
 use Rattle.unix_core.specs.Outside.{mode_of, timed, charged, ticked, is_due, wakes, tick_entry, tick_of, calls, typed_of}
 use Rattle.unix_core.specs.Runs.{Slot, Tick, Byte, Switch, event_of, start_of}
 use Rattle.unix_core.specs.Private.{IsUndisturbed, AllUndisturbed, OthersUndisturbed}
 use Rattle.unix_core.proofs.PrivateSlots.{Spared, AllCarry, spared_same, spared_then, spared_other, spared_timed, left_carried, carry_shown, carry_both, carry_lifted}
-use Rattle.unix_core.proofs.PrivateExec.{IsSparingTried, sparing_exec, sparing_break, sparing_grow}
-use Rattle.unix_core.proofs.PrivateRows.{IsSparing, IsSparingRow, sparing_row, sparing_fork, sparing_exit, sparing_resume}
+use Rattle.unix_core.proofs.PrivateExec.{IsSparingCall, IsSparingRow, sparing_row, sparing_grow}
+use Rattle.unix_core.proofs.PrivateRows.{IsSparing, sparing_fork, sparing_exit, sparing_resume}
 
 -- a Unix in which the process of a slot lives on
 abbrev HasSpared : List (Option Process) → ℕ → Unix → Type 0
@@ -89,12 +84,11 @@ module _ (ps : List (Option Process)) (r s : ℕ) (other : r ≢ s) where
       unix = spared_answers (with_world u c.state) c.answer sparing.state;
     }
 
-    sparing_room : (b : Bool) → AreSparing ps r (if b then forks u s else no_room u)
-    sparing_room true =
+    sparing_forks : AreSparing ps r (forks u s)
+    sparing_forks =
         let c : Comes = fork_one (world_of u) s in
         let came : AreSparing ps r (came_by u s c) = sparing_came c (sparing_fork ps r s other (world_of u) h) in
         record { effects = came.effects; unix = came.unix }
-    sparing_room false = sparing_quiet u ending.NoRoom h
 
     sparing_exits : AreSparing ps r (exits u s)
     sparing_exits =
@@ -122,64 +116,53 @@ module _ (ps : List (Option Process)) (r s : ℕ) (other : r ≢ s) where
     sparing_if true x y k l = k
     sparing_if false x y k l = l
 
-    sparing_unless : (o : Option Halt) (v : Unix) (x : Steps) → Spared ps v.processes r → AreSparing ps r x → AreSparing ps r (unless_halted o v x)
-    sparing_unless None v x k l = l
-    sparing_unless (Some halt) v x k l = sparing_quiet v (halted_as halt) k
-
-    sparing_tried : (t : Tried) → IsSparing ps r t.comes → AreSparing ps r (tried_by u s t)
-    sparing_tried t sparing = sparing_unless t.halt (with_world u t.comes.state) _ sparing.state (sparing_came t.comes sparing)
-
     sparing_grows : (c : Comes) → IsSparing ps r c → AreSparing ps r (grows u c)
     sparing_grows c sparing = record {
       effects = carry_lifted (with_world u) (HasSpared ps r) c.effects sparing.effects;
       unix = sparing.state;
     }
 
-    sparing_grown : (o : Option Tried) → MatchOption o ⊤ (IsSparingTried ps r s other) → AreSparing ps r (grown_by u o)
+    sparing_grown : (o : Option Comes) → MatchOption o ⊤ (IsSparingCall ps r s other) → AreSparing ps r (grown_by u o)
     sparing_grown None sparing = sparing_quiet u ending.NotBuilt h
-    sparing_grown (Some t) sparing = sparing_unless t.halt (with_world u t.comes.state) _ sparing.state (sparing_grows t.comes sparing)
+    sparing_grown (Some c) sparing = sparing_grows c sparing
 
-    sparing_does : (b : Board) (number : ℕ) (args : List ℕ) → AreSparing ps r (does_call b u s number args)
-    sparing_does b number args =
-        let name = slice_index args 0 in
-        let list = slice_index args 1 in
+    sparing_does : (number : ℕ) (args : List ℕ) → AreSparing ps r (does_call u s number args)
+    sparing_does number args =
         sparing_if (number == 0) _ _ (sparing_quiet u ending.Trapped h)
         (sparing_if (number == 1) _ _ sparing_exits
-        (sparing_if (number == 2) _ _ (sparing_room (is_full u || has_room b (clicks_of (process_of u s).u)))
-        (sparing_if (number == 11) _ _ (sparing_tried (exec_file b (world_of u) s name list) (sparing_exec ps r s other b (world_of u) name list h))
-        (sparing_if (number == 17) _ _ (sparing_tried (break_at b (world_of u) s name) (sparing_break ps r s other b (world_of u) name h))
-        (sparing_file (file_call number) (process_call number) args (sparing_row ps r s other number))))))
+        (sparing_if (number == 2) _ _ sparing_forks
+        (sparing_file (file_call number) (process_call number) args (sparing_row ps r s other number))))
 
   module _ (u : Unix) (h : Spared ps u.processes r) where
-    sparing_built : (b : Board) (a : Asked) (o : Option ℕ) → AreSparing ps r (does_if_built b u s a o)
-    sparing_built b a None = sparing_quiet u ending.NotBuilt h
-    sparing_built b a (Some count) =
+    sparing_built : (a : Asked) (o : Option ℕ) → AreSparing ps r (does_if_built u s a o)
+    sparing_built a None = sparing_quiet u ending.NotBuilt h
+    sparing_built a (Some count) =
         let entered : Unix = with_area u s (entered_area (words_passed a count)) in
-        sparing_does entered (spared_area u (entered_area (words_passed a count)) h) b a.number a.args
+        sparing_does entered (spared_area u (entered_area (words_passed a count)) h) a.number a.args
 
-    sparing_faults : (b : Board) (k : Kind) → AreSparing ps r (faults b u s k)
-    sparing_faults b kind.Odd = sparing_quiet u ending.NotBuilt h
-    sparing_faults b (kind.Segment sp) = sparing_grown u h (grow b (world_of u) s sp) (sparing_grow ps r s other b (world_of u) sp h)
-    sparing_faults b (kind.Illegal word) = sparing_quiet u ending.NotBuilt h
-    sparing_faults b kind.Bpt = sparing_quiet u ending.NotBuilt h
-    sparing_faults b kind.Iot = sparing_quiet u ending.NotBuilt h
-    sparing_faults b kind.Emt = sparing_quiet u ending.NotBuilt h
+    sparing_faults : (k : Kind) → AreSparing ps r (faults u s k)
+    sparing_faults kind.Odd = sparing_quiet u ending.NotBuilt h
+    sparing_faults (kind.Segment sp) = sparing_grown u h (grow (world_of u) s sp) (sparing_grow ps r s other (world_of u) sp h)
+    sparing_faults (kind.Illegal word) = sparing_quiet u ending.NotBuilt h
+    sparing_faults kind.Bpt = sparing_quiet u ending.NotBuilt h
+    sparing_faults kind.Iot = sparing_quiet u ending.NotBuilt h
+    sparing_faults kind.Emt = sparing_quiet u ending.NotBuilt h
 
-    sparing_outcome : (b : Board) (o : Outcome) → AreSparing ps r (comes_to b u s o)
-    sparing_outcome b Next = sparing_quiet u ending.Next h
-    sparing_outcome b (Call number) =
+    sparing_outcome : (o : Outcome) → AreSparing ps r (comes_to u s o)
+    sparing_outcome Next = sparing_quiet u ending.Next h
+    sparing_outcome (Call number) =
         let p : Process = process_of u s in
         let a : Asked = asked (image_of p) (register p 7) number in
-        sparing_built b a (count_of a.number)
-    sparing_outcome b (Fault k) = sparing_faults b k
+        sparing_built a (count_of a.number)
+    sparing_outcome (Fault k) = sparing_faults k
 
   -- turns
   module _ (u : Unix) (h : Spared ps u.processes r) where
-    sparing_instruction : (b : Board) → AreSparing ps r (instruction b u s)
-    sparing_instruction b =
+    sparing_instruction : AreSparing ps r (instruction u s)
+    sparing_instruction =
         let p : Process = process_of u s in
         let stepped : Stepped = instr (machine_of p) in
-        sparing_outcome (with_process u s (with_machine p stepped.machine)) (spared_put u _ h) b stepped.outcome
+        sparing_outcome (with_process u s (with_machine p stepped.machine)) (spared_put u _ h) stepped.outcome
 
     sparing_resumed : AreSparing ps r (resumed u s)
     sparing_resumed =
@@ -208,7 +191,7 @@ module _ (m : System) (r : ℕ) where
       let same = spared_same before r in
       let h : AreSparing before r (turn m s) =
       sparing_if before r s other u same (is_user (process_of u s)) _ _
-      (sparing_instruction before r s other u same m.board) (sparing_resumed before r s other u same) in
+      (sparing_instruction before r s other u same) (sparing_resumed before r s other u same) in
       let done : Steps = turn m s in
       left_carried (HasSpared before r) m.board (done.effects ++ end_effects s done.ending) done.unix
       (carry_both (HasSpared before r) done.effects (end_effects s done.ending) h.effects

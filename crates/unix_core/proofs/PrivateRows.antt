@@ -1,6 +1,6 @@
--- The rows of the calls on processes: each leaves the processes of other slots alone.
-use Rattle.std.proofs.Common.{◌≡◌, ◌≢◌, ◌∙◌, ℕ, Bool, true, false, ◌&&◌, ◌||◌, ◌==◌, nat_lt, nat_le, ◌+◌, ◌*◌, ◌%◌, ◌^◌, if◌then◌else◌, List, [], ◌∷◌, get_or, set, find, Option, Some, None, is_none, slice_index, sym, ap}
-use Rattle.std.specs.Prelude.{⊤, MatchOption, pos}
+-- The calls on processes but for exec and break: each leaves the processes of other slots alone.
+use Rattle.std.proofs.Common.{◌≡◌, ◌≢◌, ◌∙◌, ℕ, Bool, true, false, ◌&&◌, ◌||◌, ◌==◌, nat_lt, nat_le, ◌+◌, ◌*◌, ◌%◌, ◌^◌, if◌then◌else◌, List, [], get_or, set, Option, Some, None, is_none, sym, ap}
+use Rattle.std.specs.Prelude.{pos}
 use Rattle.std.specs.Int.{int_min}
 use Rattle.std.proofs.lemmas.List.{get_or-map}
 use Rattle.v6_base.specs.Image.{Image}
@@ -25,7 +25,6 @@ use Rattle.sys_procs.specs.Wait.{wait_child, waits_for, waiting, with_times_of}
 use Rattle.sys_procs.specs.Fork.{fork_one, fork_into, past_word, next_pid, with_child}
 use Rattle.sys_procs.specs.Exit.{exit_now, end_proc, leaves, dead, ended}
 use Rattle.sys_procs.specs.Resume.{resume_proc, awake}
-use Rattle.unix_core.specs.Calls.{ProcessCall, process_calls, process_call}
 use Rattle.unix_core.proofs.ReferenceLemmas.{slot_within}
 use Rattle.unix_core.proofs.PrivateSlots.{Spared, AllCarry, spared_then, spared_other, spared_unless, spared_adopted}
 
@@ -90,7 +89,7 @@ module _ (ps : List (Option Process)) (r s : ℕ) (other : r ≢ s) where
         (spared_then ps w.processes buried.processes r h
         (spared_unless w.processes d r None (dead_ended w pid d told)))))
 
-    sparing_wait : IsSparing ps r (wait_child w s)
+    pub sparing_wait : IsSparing ps r (wait_child w s)
     unfolding wait_child
     sparing_wait =
         let pid = (process_of w s).row.pid in
@@ -107,45 +106,45 @@ module _ (ps : List (Option Process)) (r s : ℕ) (other : r ≢ s) where
     sparing_stored None = sparing_comes w _ h
     sparing_stored (Some image) = sparing_changed (λ p. record p { «data» = image.data; stack = image.stack }) _
 
-    sparing_time_now : IsSparing ps r (time_now w s)
+    pub sparing_time_now : IsSparing ps r (time_now w s)
     unfolding time_now
     sparing_time_now = sparing_comes w _ h
 
-    sparing_pid_of : IsSparing ps r (pid_of w s)
+    pub sparing_pid_of : IsSparing ps r (pid_of w s)
     unfolding pid_of
     sparing_pid_of = sparing_comes w _ h
 
-    sparing_set_uid : IsSparing ps r (set_uid w s)
+    pub sparing_set_uid : IsSparing ps r (set_uid w s)
     unfolding set_uid
     sparing_set_uid =
         let p : Process = process_of w s in
         sparing_if ((id_given p == p.u.ruid) || is_super p) _ _ (sparing_changed (as_user (id_given p)) _)
         (sparing_comes w _ h)
 
-    sparing_set_gid : IsSparing ps r (set_gid w s)
+    pub sparing_set_gid : IsSparing ps r (set_gid w s)
     unfolding set_gid
     sparing_set_gid =
         let p : Process = process_of w s in
         sparing_if ((id_given p == p.u.rgid) || is_super p) _ _ (sparing_changed (as_group (id_given p)) _)
         (sparing_comes w _ h)
 
-    sparing_get_uid : IsSparing ps r (get_uid w s)
+    pub sparing_get_uid : IsSparing ps r (get_uid w s)
     unfolding get_uid
     sparing_get_uid = sparing_comes w _ h
 
-    sparing_get_gid : IsSparing ps r (get_gid w s)
+    pub sparing_get_gid : IsSparing ps r (get_gid w s)
     unfolding get_gid
     sparing_get_gid = sparing_comes w _ h
 
-    sparing_switches : IsSparing ps r (switches w s)
+    pub sparing_switches : IsSparing ps r (switches w s)
     unfolding switches
     sparing_switches = sparing_comes w _ h
 
-    sparing_no_op : IsSparing ps r (no_op w s)
+    pub sparing_no_op : IsSparing ps r (no_op w s)
     unfolding no_op
     sparing_no_op = sparing_comes w _ h
 
-    sparing_nice_to : IsSparing ps r (nice_to w s)
+    pub sparing_nice_to : IsSparing ps r (nice_to w s)
     unfolding nice_to
     sparing_nice_to =
         let p : Process = process_of w s in
@@ -155,7 +154,7 @@ module _ (ps : List (Option Process)) (r s : ℕ) (other : r ≢ s) where
         (sparing_if (is_super p) _ _ (sparing_logs (Nice s (kept_nice value)) _ (sparing_comes w _ h))
         (sparing_logs (Nice s (pos 0)) _ (sparing_comes w _ h)))
 
-    sparing_set_time : IsSparing ps r (set_time w s)
+    pub sparing_set_time : IsSparing ps r (set_time w s)
     unfolding set_time
     sparing_set_time =
         let p : Process = process_of w s in
@@ -164,13 +163,13 @@ module _ (ps : List (Option Process)) (r s : ℕ) (other : r ≢ s) where
         (sparing_logs (Time new) _ (sparing_logs (Wake Tout) _ (sparing_comes (with_time w new) _ h)))
         (sparing_comes w _ h)
 
-    sparing_times_to : (at : ℕ) → IsSparing ps r (times_to w s at)
+    pub sparing_times_to : (at : ℕ) → IsSparing ps r (times_to w s at)
     unfolding times_to
     sparing_times_to at =
         let p : Process = process_of w s in
         sparing_stored (if at % 2 == 1 then None else store_bytes (image_of p) at (bytes_of (times p.u)))
 
-    sparing_sleep_for : IsSparing ps r (sleep_for w s)
+    pub sparing_sleep_for : IsSparing ps r (sleep_for w s)
     unfolding sleep_for
     sparing_sleep_for = sparing_sleep_until ((w.clock.time + register (process_of w s) 0) % 2 ^ 32)
 
@@ -215,63 +214,3 @@ module _ (ps : List (Option Process)) (r s : ℕ) (other : r ≢ s) where
       let spared : Spared ps (change w s awake).processes r = spared_change w awake h in
       sparing_if (p.u.pending == pending_sleep) _ _ (sparing_sleep_until (change w s awake) spared (until_of p))
       (sparing_wait (change w s awake) spared)
-
-  -- the rows of the table
-  abbrev pub IsSparingRow : ProcessCall → Type 0
-  IsSparingRow row = (w : World) (args : List ℕ) → Spared ps w.processes r → IsSparing ps r (row.does w s args)
-
-  abbrev pub AreSparingRows : List ProcessCall → Type 0
-  AreSparingRows [] = ⊤
-  AreSparingRows (row ∷ rows) = IsSparingRow row × AreSparingRows rows
-
-  all_sparing : AreSparingRows process_calls
-  all_sparing = (
-    (λ w a h. sparing_wait w h),
-    (
-      (λ w a h. sparing_time_now w h),
-      (
-        (λ w a h. sparing_pid_of w h),
-        (
-          (λ w a h. sparing_set_uid w h),
-          (
-            (λ w a h. sparing_get_uid w h),
-            (
-              (λ w a h. sparing_set_time w h),
-              (
-                (λ w a h. sparing_no_op w h),
-                (
-                  (λ w a h. sparing_nice_to w h),
-                  (
-                    (λ w a h. sparing_sleep_for w h),
-                    (
-                      (λ w a h. sparing_switches w h),
-                      (
-                        (λ w a h. sparing_times_to w h (slice_index a 0)),
-                        (
-                          (λ w a h. sparing_set_gid w h),
-                          ((λ w a h. sparing_get_gid w h), tt),
-                        ),
-                      ),
-                    ),
-                  ),
-                ),
-              ),
-            ),
-          ),
-        ),
-      ),
-    ),
-  )
-
-  found_sparing : (test : ProcessCall → Bool) (rows : List ProcessCall) → AreSparingRows rows
-      → MatchOption (find test rows) ⊤ IsSparingRow
-  found_sparing test [] all = tt
-  found_sparing test (row ∷ rows) all =
-      elim (test row) as (λ b. MatchOption (if b then Some row else find test rows) ⊤ IsSparingRow) [
-        | true ↦ all.0
-        | false ↦ found_sparing test rows all.1
-      ]
-
-  pub sparing_row : (number : ℕ) → MatchOption (process_call number) ⊤ IsSparingRow
-  unfolding process_call
-  sparing_row number = found_sparing (λ (c : ProcessCall). c.number == number) process_calls all_sparing

@@ -1,19 +1,15 @@
--- exec(II): what the world is then, and what it has come to.
-use Rattle.std.proofs.Common.{◌≡◌, ◌∙◌, ◌+◌, ◌-◌, ◌==◌, ◌&&◌, ◌||◌, ℕ, Bool, true, false, not, if◌then◌else◌, List, [], ◌∷◌, set, get_or, length, Option, Some, None, is_some, slice_index, bit_and, refl, sym, ap, subst, inl, inr, arith}
+-- exec(II): what its tests leave, and what it comes to.
+use Rattle.std.proofs.Common.{◌≡◌, ◌∙◌, ◌+◌, ◌-◌, ◌==◌, ◌&&◌, ℕ, Bool, true, false, not, if◌then◌else◌, List, set, get_or, length, Some, None, slice_index, refl, sym, ap, subst, inl, inr, arith}
 use Rattle.std.specs.Prelude.{Result, Ok, Err, unwrap_or}
 use Rattle.std.proofs.lemmas.Bool.{cases_lt, cases_eq, eqb-true}
 use Rattle.std.proofs.lemmas.List.{get_or-set_same, get_or-set_other, set-set, length-set, get_or_past}
 use Rattle.v6_base.specs.declared.answer.Answer.TheVariants.{Fail}
 use Rattle.v6_base.specs.declared.errno.Errno.{Errno}
 use Rattle.v6_base.specs.declared.errno.Errno.TheVariants.{ENOEXEC, ENOMEM, ENFILE, EACCES, ETXTBSY}
-use Rattle.v6_base.specs.Image.{Image}
-use Rattle.v6_base.specs.Trace.{Log}
 use Rattle.v6_base.specs.declared.entry.Entry.TheVariants as line
-use Rattle.pick_rules.specs.Effects.{Show}
 use Rattle.pick_rules.specs.Effects as effect
-use Rattle.pick_rules.specs.Board.{core_fit}
+use Rattle.pick_rules.specs.Logged.{logged}
 use Rattle.fs_codec.specs.Modes.{file_type}
-use Rattle.fs_codec.specs.declared.modes.TheConstants.{ISUID, ISGID}
 use Rattle.fs_codec.specs.Store.{Node}
 use Rattle.fs_laws.specs.Pieces.{Moving}
 use Rattle.fs_tree.specs.declared.user.Want.TheVariants.{Execute}
@@ -24,25 +20,24 @@ use Rattle.fs_tree.specs.Finding.{Finding, can_refer, with_reference, finding, p
 use Rattle.v6_base.specs.Access.{then_do}
 use Rattle.aout_head.specs.Header.{Header, header_of, plan_of}
 use Rattle.seg_regs.specs.Sizes.{is_refused}
-use Rattle.sys_procs.specs.declared.halt.Halt.{Halt}
-use Rattle.sys_procs.specs.declared.halt.Halt.TheVariants.{SharedText, NoRoom}
 use Rattle.sys_procs.specs.declared.program.Program.{Program}
 use Rattle.sys_procs.specs.Process.{Process, no_process}
 use Rattle.sys_procs.specs.World as its
+use Rattle.sys_procs.specs.Texts.{no_texts, entry_of}
 use Rattle.sys_procs.specs.Comes.{Comes, logs, does}
-use Rattle.sys_procs.specs.Tried.{tried, halts}
 use Rattle.sys_procs.specs.Tests.{must, user_of}
-use Rattle.sys_procs.specs.Stack.{arguments, stack_clicks, first_stack}
-use Rattle.sys_procs.specs.ExecFile.{Tested, check, with_inodes, let_go, with_moved, node_at, header_read, unless_error, is_magic, or_no_memory, is_busy, tests_header, memory_of, tests_file, tests, text_clicks, data_clicks, image_clicks, bare_board, xfree, xalloc, reads_text, halt_of, given_up_by, bared, begun_area, as_owner, begins, data_read, executes, loads, done_by, exec_by, exec_file}
+use Rattle.sys_procs.specs.Stack.{arguments, stack_clicks}
+use Rattle.sys_procs.specs.ExecFile.{Tested, check, with_inodes, let_go, with_moved, node_at, header_read, unless_error, is_magic, or_no_memory, is_busy, tests_header, memory_of, tests_file, tests, text_clicks, data_clicks, image_clicks, xfree, xalloc, xalloc_by, makes_text, reads_text, executes, loads, done_by, exec_file}
 use Rattle.sys_procs.specs.Handed.{board}
 use Rattle.sys_procs.proofs.Alive.{is_here}
+use Rattle.sys_procs.proofs.LoadForms.{begun, image, loads_effects, loads_state}
 use Rattle.unix_core.specs.declared.world.World.{World}
 use Rattle.unix_core.specs.Unix.{process_of}
 use Rattle.unix_core.specs.Parts.{unix_of, IsReady}
 use Rattle.unix_core.proofs.WorldLemmas.{ready_alive, slot_is, is_living}
 use Rattle.unix_core.proofs.MildLemmas.{SameCounts, counts_same, counts_put}
-use Rattle.unix_core.proofs.MovedLemmas.{image_board}
-use Rattle.unix_core.proofs.TriedLemmas.{IsLike, IsTried, answers_tried}
+use Rattle.unix_core.proofs.MovedLemmas.{MovedLog, image_moved, text_moved, text_stops}
+use Rattle.unix_core.proofs.CameLemmas.{IsLike, IsTame, tame_by, tame_halted, tame_comes}
 use Rattle.unix_core.proofs.GrowthLemmas.{text_none}
 use Rattle.unix_core.proofs.ForkSlots.{given}
 
@@ -142,15 +137,7 @@ module _ (base : its.World) (s : ℕ) where
       let p : Process = its.process_of base s in
       leaves_found list (then_do (way base.inodes.store (user_of p) p.u.dir (name_at (memory_of base p) name)) (found base.inodes.store))
 
--- where a call goes on
-goes_on : (alone shares fits : Bool) → (if not alone || shares then Some SharedText else (if fits then None else Some NoRoom)) ≡ None
-    → (alone ≡ true) × (fits ≡ true)
-goes_on true true fits e = absurd (cc e)
-goes_on true false true e = (refl, refl)
-goes_on true false false e = absurd (cc e)
-goes_on false shares fits e = absurd (cc e)
-
--- What each of its processes is then.
+-- What the call comes to when the tests have let a program through.
 module _ (w : World) (s : ℕ) (ready : IsReady w s) where
   out_like : (x : its.World) → IsOut (given w) x → IsLike w x
   out_like x is = record {
@@ -159,30 +146,9 @@ module _ (w : World) (s : ℕ) (ready : IsReady w s) where
     counts = subst (λ ps. SameCounts (unix_of w).processes ps) (sym (ap (λ (v : its.World). v.processes) is.0)) (counts_same (unix_of w).processes);
   }
 
-  -- the process as it begins keeps its files and its directory
-  keeps_if : (b : Bool) (p q : Process) → q.is_zombie ≡ p.is_zombie → q.u.files ≡ p.u.files → q.u.dir ≡ p.u.dir
-      → ((if b then q else p).is_zombie ≡ p.is_zombie) × (((if b then q else p).u.files ≡ p.u.files) × ((if b then q else p).u.dir ≡ p.u.dir))
-  keeps_if true p q zombie files dir = (zombie, (files, dir))
-  keeps_if false p q zombie files dir = (refl, (refl, refl))
-
-  keeps_processes : (v : its.World) (d : ℕ) (m : Moving Image) (f : Process → Process)
-      → (let_go (its.change (with_moved v d m) s f) d).processes ≡ set v.processes s (Some (f (its.process_of v s)))
-  keeps_processes v d m f = refl
-
-  -- The new program has come: its image stands in core.
-  module _ (x : its.World) (program : Program) (is : IsIn (given w) x program.ino) (empty : text_clicks program.plan ≡ 0)
-      (room : is_some (core_fit (bare_board (board w.procs) s) (image_clicks program.plan)) ≡ true) where
+  module _ (x : its.World) (program : Program) (is : IsIn (given w) x program.ino) where
     abbrev p : Process
     p = process_of (unix_of w) s
-
-    -- without a text of its own, and with none before
-    abbrev placed : its.World
-    placed = its.change x s bared
-
-    abbrev plain : Comes
-    plain = record (executes placed s (its.process_of x s) program) {
-      effects = Show (Log (line.Bare s)) ∷ effect.Image s (image_clicks program.plan) placed ∷ [];
-    }
 
     same_processes : x.processes ≡ (unix_of w).processes
     same_processes = ap (λ (v : its.World). v.processes) is.0
@@ -195,84 +161,70 @@ module _ (w : World) (s : ℕ) (ready : IsReady w s) where
         let here = is_here w.procs s (ready_alive w s ready) in
         ap (λ (q : Process). q.text) own ∙ ap (λ (q : Process). q.text) here.process_is
 
-    loads_is : loads x s program ≡ plain
-    loads_is =
-        ap (λ o. xfree x s o (λ left.
-        logs (line.Bare s) (
-        xalloc (its.change left s bared) s program.ino (text_clicks program.plan) (λ v is_new.
-        does (effect.Image s (image_clicks program.plan) v) (
-        executes (reads_text is_new v s program) s (its.process_of x s) program))))) no_text_of
-        ∙ ap (λ n.
-        logs (line.Bare s) (
-        xalloc (its.change x s bared) s program.ino n (λ v is_new.
-        does (effect.Image s (image_clicks program.plan) v) (
-        executes (reads_text is_new v s program) s (its.process_of x s) program)))) empty
+    -- no text is in an entry
+    no_entry : entry_of x.texts program.ino ≡ None
+    unfolding no_texts
+    no_entry = ap (λ (v : its.World). entry_of v.texts program.ino) is.0
 
-    abbrev read : Moving Image
-    read = data_read placed s program
+    -- what comes after the text
+    abbrev next : its.World → Bool → Comes
+    next placed is_new = does (effect.Image s (image_clicks program.plan) placed) (executes (reads_text is_new placed s program) s program)
 
-    abbrev begun : Process
-    begun =
-        begins (its.process_of x s) (node_at placed program.ino) program
-        (its.process_of placed s).text read.memory.data
+    -- it would share its text
+    loads_shares : (text_clicks program.plan == 0) ≡ false → loads x s program
+        ≡ logs (line.Bare s) (does (effect.Text s (text_clicks program.plan) x) (next (makes_text x s program.ino (text_clicks program.plan)) true))
+    loads_shares some =
+        let size : ℕ = text_clicks program.plan in
+        ap (λ o. xfree x s o (λ left. logs (line.Bare s) (xalloc left s program.ino size next))) no_text_of
+        ∙ ap (λ (b : Bool). logs (line.Bare s) (if b then next x false else xalloc_by x s program.ino size (entry_of x.texts program.ino) next)) some
+        ∙ ap (λ o. logs (line.Bare s) (xalloc_by x s program.ino size o next)) no_entry
 
-    keeps : (begun.is_zombie ≡ (its.process_of x s).is_zombie) × ((begun.u.files ≡ (its.process_of x s).u.files) × (begun.u.dir ≡ (its.process_of x s).u.dir))
-    keeps =
-        let old : Process = its.process_of x s in
-        let node : Node = node_at placed program.ino in
-        let first : Process = record old {
-          u = begun_area old.u program;
-          «data» = read.memory.data;
-          stack = first_stack program.arguments;
-          text = (its.process_of placed s).text;
-        } in
-        let second : Process = as_owner node first in
-        let one = keeps_if (not (bit_and node.mode ISUID == 0) && not (first.u.uid == 0)) first
-        (record first { u = record first.u { uid = node.uid }; row = record first.row { uid = node.uid } }) refl refl refl in
-        let two = keeps_if (not (bit_and node.mode ISGID == 0)) second (record second { u = record second.u { gid = node.gid } }) refl refl refl in
-        (two.0 ∙ one.0, (two.1.0 ∙ one.1.0, two.1.1 ∙ one.1.1))
+    -- It has none: its image is placed, and it begins.
+    module _ (empty : text_clicks program.plan ≡ 0) where
+      abbrev begins : Process
+      begins = begun (its.process_of x s) (node_at x program.ino) program (image x s program no_text_of empty)
 
-    plain_like : IsLike w plain.state
-    plain_like =
-        let put : SameCounts (unix_of w).processes (set (unix_of w).processes s (Some begun)) =
-        counts_put (unix_of w).processes (unix_of w).processes s p begun (counts_same (unix_of w).processes) (slot_is w s ready) (is_living w s ready)
-        (keeps.0 ∙ ap (λ (q : Process). q.is_zombie) own) (keeps.1.0 ∙ ap (λ (q : Process). q.u.files) own) (keeps.1.1 ∙ ap (λ (q : Process). q.u.dir) own) in
-        let all : plain.state.processes ≡ set (unix_of w).processes s (Some begun) =
-        keeps_processes placed program.ino read
-        (λ q. begins (its.process_of x s) (node_at placed program.ino) program q.text read.memory.data)
-        ∙ set-set x.processes s (Some (bared (its.process_of x s))) (Some begun) ∙ ap (λ ps. set ps s (Some begun)) same_processes in
-        record {
-          switches = ap (λ (v : its.World). v.switches) is.0;
-          refs = λ ino. ap (λ l. slice_index (less l program.ino) ino) is.1 ∙ less_more (given w).inodes.references program.ino ino;
-          counts = subst (λ ps. SameCounts (unix_of w).processes ps) (sym all) put;
-        }
+      begun_like : IsLike w (loads x s program).state
+      begun_like =
+          let put : SameCounts (unix_of w).processes (set (unix_of w).processes s (Some begins)) =
+          counts_put (unix_of w).processes (unix_of w).processes s p begins (counts_same (unix_of w).processes) (slot_is w s ready) (is_living w s ready)
+          (ap (λ (q : Process). q.is_zombie) own) (ap (λ (q : Process). q.u.files) own) (ap (λ (q : Process). q.u.dir) own) in
+          let state = loads_state x s program no_text_of empty in
+          record {
+            switches = ap (λ (v : its.World). v.switches) state ∙ ap (λ (v : its.World). v.switches) is.0;
+            refs = λ ino.
+                ap (λ (v : its.World). slice_index v.inodes.references ino) state
+                ∙ ap (λ l. slice_index (less l program.ino) ino) is.1 ∙ less_more (given w).inodes.references program.ino ino;
+            counts = subst (λ ps. SameCounts (unix_of w).processes ps)
+                (sym (ap (λ (v : its.World). v.processes) state ∙ ap (λ ps. set ps s (Some begins)) same_processes)) put;
+          }
 
-    pub loads_tried : IsTried w (tried (loads x s program))
-    loads_tried =
-        subst (λ (c : Comes). IsTried w (tried c)) (sym loads_is)
-        (record {
-          quiet = λ h e. absurd (cc e);
-          like = plain_like;
-          board = image_board (board w.procs) s (image_clicks program.plan) placed (text_none w s ready) room;
-        })
+      placed_tame : IsTame w (loads x s program)
+      placed_tame =
+          tame_by w (loads x s program) x (ap (λ (v : its.World). v.switches) is.0) begun_like
+          (subst (λ es. MovedLog (board w.procs) x (logged (board w.procs) es)) (sym (loads_effects x s program no_text_of empty))
+          (image_moved (board w.procs) s (image_clicks program.plan) x (text_none w s ready)))
 
-  -- what the tests come to
-  done_tried : (x : its.World) (r : Result Program Errno) → Leaves (given w) x r → halt_of (board w.procs) x s r ≡ None → IsTried w (tried (done_by x s r))
-  done_tried x (Err e) leaves none = answers_tried w x (Fail e) None (out_like x leaves)
-  done_tried x (Ok program) leaves none =
-      let both = goes_on (text_clicks program.plan == 0) (is_some (its.process_of x s).text) (is_some (core_fit (bare_board (board w.procs) s) (image_clicks program.plan))) none in
-      loads_tried x program leaves (eqb-true (text_clicks program.plan) 0 both.0) both.1
+    shares_tame : (text_clicks program.plan == 0) ≡ false → IsTame w (loads x s program)
+    shares_tame some =
+        let size : ℕ = text_clicks program.plan in
+        let row : Comes = logs (line.Bare s) (does (effect.Text s size x) (next (makes_text x s program.ino size) true)) in
+        subst (IsTame w) (sym (loads_shares some))
+        (tame_halted w row x (ap (λ (v : its.World). v.switches) is.0)
+        (text_moved (board w.procs) s (image_clicks program.plan) x (text_none w s ready) size (next (makes_text x s program.ino size) true).effects)
+        (λ none. absurd (text_stops (board w.procs) s size x (next (makes_text x s program.ino size) true).effects none)))
 
-  left_tried : (x : its.World) (r : Result Program Errno) (h : Halt) → Leaves (given w) x r → IsTried w (halts (given_up_by x r) s h)
-  left_tried x (Ok program) h leaves = answers_tried w (let_go x program.ino) _ (Some h) (out_like (let_go x program.ino) (out_again (given w) x program.ino leaves))
-  left_tried x (Err e) h leaves = answers_tried w x _ (Some h) (out_like x leaves)
+    loads_tame : IsTame w (loads x s program)
+    loads_tame = by (text_clicks program.plan == 0) refl
+      where
+        by : (b : Bool) → (text_clicks program.plan == 0) ≡ b → IsTame w (loads x s program)
+        by true none = placed_tame (eqb-true (text_clicks program.plan) 0 none)
+        by false some = shares_tame some
 
-  exec_by_tried : (t : Tested) (o : Option Halt) → halt_of (board w.procs) t.world s t.answer ≡ o → Leaves (given w) t.world t.answer → IsTried w (exec_by s t o)
-  exec_by_tried t None e leaves = done_tried t.world t.answer leaves e
-  exec_by_tried t (Some h) e leaves = left_tried t.world t.answer h leaves
+  done_tame : (x : its.World) (r : Result Program Errno) → Leaves (given w) x r → IsTame w (done_by x s r)
+  done_tame x (Ok program) leaves = loads_tame x program leaves
+  done_tame x (Err e) leaves = tame_comes w x (Fail e) (out_like x leaves)
 
-  pub exec_tried : (name list : ℕ) → IsTried w (exec_file (board w.procs) (given w) s name list)
+  pub exec_tame : (name list : ℕ) → IsTame w (exec_file (given w) s name list)
   unfolding exec_file
-  exec_tried name list =
-      let t : Tested = tests (given w) s name list in
-      exec_by_tried t (halt_of (board w.procs) t.world s t.answer) refl (leaves_tests (given w) s name list)
+  exec_tame name list = let t : Tested = tests (given w) s name list in done_tame t.world t.answer (leaves_tests (given w) s name list)

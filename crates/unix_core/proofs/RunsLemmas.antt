@@ -3,6 +3,9 @@ use Rattle.std.specs.Bool.{⊤}
 use Rattle.std.proofs.Common.{◌≡◌, ℕ, zero, suc, cond, subst, Bool, true, false, List, [], ◌∷◌, ◌++◌, Option, Some, None, refl, sym, ◌∙◌, ap, append_assoc}
 use Rattle.std.proofs.lemmas.List.{append-nil}
 use Rattle.v6_base.specs.Trace.{Item}
+use Rattle.v6_base.specs.declared.entry.PanicKind.{PanicKind}
+use Rattle.v6_base.specs.declared.entry.PanicKind.TheVariants as panic
+use Rattle.pick_rules.specs.Effects.{kind_of}
 use Rattle.pick_rules.specs.Logged.{Stop, logged}
 use Rattle.sys_procs.specs.Process.{register}
 use Rattle.unix_core.specs.declared.ending.Ending.{Ending}
@@ -12,7 +15,7 @@ use Rattle.unix_core.specs.declared.turned.Unbuilt.TheVariants as unbuilt
 use Rattle.unix_core.specs.declared.turned.Turned.TheVariants.{NotBuilt}
 use Rattle.unix_core.specs.Unix.{Unix, System, process_of}
 use Rattle.unix_core.specs.Steps.{Steps}
-use Rattle.unix_core.specs.Turn.{Happened, Turn, stays, settles, calls_for_settling, settled_after, ending_at, ending_by, end_effects, turn_of, slot_of, turn, turned_by, turned}
+use Rattle.unix_core.specs.Turn.{Happened, Turn, stays, settles, calls_for_settling, settled_after, ending_at, unmet, ending_by, end_effects, turn_of, slot_of, turn, turned_by, turned}
 use Rattle.unix_core.specs.Runs.{Event, Slot, Tick, Byte, Switch, Course, begun, event_of, start_of, goes_on_by, unless_ended, after_event, course, started, after_items}
 
 -- first these events and then those
@@ -94,7 +97,12 @@ ending_is pc came.NotBuilt = tt
 
 stop_is : (pc : ℕ) (stop : Option (Stop Unix)) (e : Ending) → IsMet (ending_by pc stop e)
 stop_is pc None e = ending_is pc e
-stop_is pc (Some stop) e = tt
+stop_is pc (Some stop) e = unmet_is (kind_of stop.why)
+  where
+    unmet_is : (kind : PanicKind) → IsMet (Some (unmet pc kind))
+    unmet_is panic.Swap = tt
+    unmet_is panic.Zombie = tt
+    unmet_is panic.Text = tt
 
 turn_is : (m : System) (slot : ℕ) (steps : Steps) → IsMet (turn_of m slot steps).ending
 turn_is m slot steps =

@@ -59,7 +59,7 @@ module _ (m : System) (s : ℕ) (u : Unix) (same : u ≡ m.unix) where
   later : is_user (process_of u s) ≡ false → resumed u s ≡ turn m s
   later calls =
       ap (λ x. resumed x s) same
-      ∙ ap (λ b. if b then instruction m.board m.unix s else resumed m.unix s) (sym (ap (λ x. is_user (process_of x s)) (sym same) ∙ calls))
+      ∙ ap (λ b. if b then instruction m.unix s else resumed m.unix s) (sym (ap (λ x. is_user (process_of x s)) (sym same) ∙ calls))
 
   pub later_come : is_user (process_of u s) ≡ false → (e : Ending) (w : World) → HasCome m.board (resumed u s) e w → HasCome m.board (turn m s) e w
   later_come calls e w come = subst (λ x. HasCome m.board x e w) (later calls) come

@@ -3,7 +3,6 @@ use Rattle.std.proofs.Common.{◌≡◌, ◌≢◌, ◌∙◌, ℕ, Bool, true, 
 use Rattle.std.proofs.lemmas.Bool.{eq-eqb, ne_eqb, lt-leb}
 use Rattle.v6_base.specs.Image.{Image}
 use Rattle.u_area.specs.declared.area.UArea.{UArea}
-use Rattle.pick_rules.specs.Board.{Board}
 use Rattle.image_keep.specs.Kept.{Held, Has, Kept, image_in}
 use Rattle.image_keep.specs.Kept as kept
 use Rattle.sys_procs.specs.Process.{Process, register, image_of}
@@ -11,14 +10,12 @@ use Rattle.sys_files.specs.Moving.{resume_read}
 use Rattle.sys_procs.specs.Times.{pending_sleep}
 use Rattle.sys_procs.specs.Wait.{pending_wait}
 use Rattle.sys_procs.specs.Resume.{resume_proc}
-use Rattle.sys_procs.specs.Break.{break_at}
-use Rattle.sys_procs.specs.ExecFile.{exec_file}
 use Rattle.sys_procs.proofs.Alive.{is_here}
 use Rattle.unix_core.specs.declared.world.World.{World}
 use Rattle.unix_core.specs.declared.asked.Asked.{Asked}
 use Rattle.unix_core.specs.Unix.{Unix, process_of}
 use Rattle.unix_core.specs.Steps.{Steps, returns, not_built}
-use Rattle.unix_core.specs.Calls.{FileCall, ProcessCall, file_call, process_call, handed_of, world_of, with_area, entered_area, words_passed, asked, did_by, came_by, by_file_row, count_by_rows, count_of, does_call, does_if_built, fork_if_room, exits, resumed, system_call, tried_by}
+use Rattle.unix_core.specs.Calls.{FileCall, ProcessCall, file_call, process_call, handed_of, world_of, with_area, entered_area, words_passed, asked, did_by, came_by, by_file_row, count_by_rows, count_of, does_call, does_if_built, forks, exits, resumed, system_call}
 use Rattle.unix_core.specs.Parts.{unix_of, board_in, row_of, process_row_of, IsReady}
 use Rattle.unix_core.proofs.WorldLemmas.{ready_alive}
 use Rattle.unix_core.proofs.AreaLemmas.{own_area, area_unix, area_board, area_ready}
@@ -38,14 +35,8 @@ module _ (u : Unix) (s : ℕ) (args : List ℕ) where
   abbrev rows : ℕ → Steps
   rows number = by_file_row u s args (file_call number) (process_call number)
 
-  abbrev break_or : Board → Bool → Steps → Steps
-  break_or b x other = if x then tried_by u s (break_at b (world_of u) s (slice_index args 0)) else other
-
-  abbrev exec_or : Board → Bool → Steps → Steps
-  exec_or b x other = if x then tried_by u s (exec_file b (world_of u) s (slice_index args 0) (slice_index args 1)) else other
-
-  abbrev fork_or : Board → Bool → Steps → Steps
-  fork_or b x other = if x then fork_if_room b u s else other
+  abbrev fork_or : Bool → Steps → Steps
+  fork_or x other = if x then forks u s else other
 
   abbrev exit_or : Bool → Steps → Steps
   exit_or x other = if x then exits u s else other
@@ -53,41 +44,35 @@ module _ (u : Unix) (s : ℕ) (args : List ℕ) where
   abbrev nothing_or : Bool → Steps → Steps
   nothing_or x other = if x then returns u else other
 
-  module _ (b : Board) (number : ℕ) (direct : number ≢ 0) (stays : number ≢ 1) (alone : number ≢ 2) (same : number ≢ 11) (fixed : number ≢ 17) where
-    by_rows : does_call b u s number args ≡ rows number
+  module _ (number : ℕ) (direct : number ≢ 0) (stays : number ≢ 1) (alone : number ≢ 2) where
+    by_rows : does_call u s number args ≡ rows number
     by_rows =
-        ap (λ x. nothing_or x (exit_or (number == 1) (fork_or b (number == 2) (exec_or b (number == 11) (break_or b (number == 17) (rows number)))))) (ne_eqb number 0 direct)
-        ∙ ap (λ x. exit_or x (fork_or b (number == 2) (exec_or b (number == 11) (break_or b (number == 17) (rows number))))) (ne_eqb number 1 stays)
-        ∙ ap (λ x. fork_or b x (exec_or b (number == 11) (break_or b (number == 17) (rows number)))) (ne_eqb number 2 alone)
-        ∙ ap (λ x. exec_or b x (break_or b (number == 17) (rows number))) (ne_eqb number 11 same)
-        ∙ ap (λ x. break_or b x (rows number)) (ne_eqb number 17 fixed)
+        ap (λ x. nothing_or x (exit_or (number == 1) (fork_or (number == 2) (rows number)))) (ne_eqb number 0 direct)
+        ∙ ap (λ x. exit_or x (fork_or (number == 2) (rows number))) (ne_eqb number 1 stays)
+        ∙ ap (λ x. fork_or x (rows number)) (ne_eqb number 2 alone)
 
     pub is_on_files : is_some (file_call number) ≡ true
-        → did_by u s (row_of (file_call number) (handed_of u (process_of u s)) args u.clock.time) ≡ does_call b u s number args
+        → did_by u s (row_of (file_call number) (handed_of u (process_of u s)) args u.clock.time) ≡ does_call u s number args
     is_on_files e = sym (by_rows ∙ by_file (file_call number) (process_call number) e)
 
     pub is_on_processes : is_some (file_call number) ≡ false → is_some (count_of number) ≡ true
-        → came_by u s (process_row_of (process_call number) (world_of u) s args) ≡ does_call b u s number args
+        → came_by u s (process_row_of (process_call number) (world_of u) s args) ≡ does_call u s number args
     is_on_processes e built =
         let above : nat_le number 2 ≡ false = lt-leb number 2 (omega (arith, direct, stays, alone)) in
         let counts : Option ℕ = count_by_rows (file_call number) (process_call number) in
-        let counted : is_some counts ≡ true =
-        ap (λ x. is_some (if x then Some 1 else counts)) (sym (ne_eqb number 17 fixed))
-        ∙ ap (λ x. is_some (if x then Some 2 else (if number == 17 then Some 1 else counts))) (sym (ne_eqb number 11 same))
-        ∙ ap (λ x. is_some (if x then Some 0 else (if number == 11 then Some 2 else (if number == 17 then Some 1 else counts)))) (sym above)
-        ∙ built in
+        let counted : is_some counts ≡ true = ap (λ x. is_some (if x then Some 0 else counts)) (sym above) ∙ built in
         sym (by_rows ∙ by_process (file_call number) (process_call number) e counted)
 
 -- A call by its number is the one that it asks for, where that is built.
-module _ (b : Board) (number : ℕ) (u : Unix) (s : ℕ) (a : Asked) (is : a ≡ asked (image_of (process_of u s)) (register (process_of u s) 7) number) where
+module _ (number : ℕ) (u : Unix) (s : ℕ) (a : Asked) (is : a ≡ asked (image_of (process_of u s)) (register (process_of u s) 7) number) where
   pub system_is : (count : ℕ) → count_of a.number ≡ Some count
-      → does_call b (with_area u s (entered_area (words_passed a count))) s a.number a.args ≡ system_call b number u s
+      → does_call (with_area u s (entered_area (words_passed a count))) s a.number a.args ≡ system_call number u s
   system_is count counts =
-      sym (ap (λ (x : Asked). does_if_built b u s x (count_of x.number)) (sym is) ∙ ap (does_if_built b u s a) counts)
+      sym (ap (λ (x : Asked). does_if_built u s x (count_of x.number)) (sym is) ∙ ap (does_if_built u s a) counts)
 
-  pub system_is_not : count_of a.number ≡ None → not_built u ≡ system_call b number u s
+  pub system_is_not : count_of a.number ≡ None → not_built u ≡ system_call number u s
   system_is_not none =
-      sym (ap (λ (x : Asked). does_if_built b u s x (count_of x.number)) (sym is) ∙ ap (does_if_built b u s a) none)
+      sym (ap (λ (x : Asked). does_if_built u s x (count_of x.number)) (sym is) ∙ ap (does_if_built u s a) none)
 
 without_text : (m : Image) → m.text ≡ [] → m ≡ record { text = []; «data» = m.data; stack = m.stack }
 without_text m none = ap (λ t. record m { text = t }) none
@@ -166,7 +151,6 @@ module _ (w : World) (s : ℕ) (ready : IsReady w s) (a : Asked) (count words : 
   entered_unix = ap (λ x. unix_of (record w { procs = record w.procs { images = x } })) images ∙ area_unix w s ready area
 
   pub entered_call : (number : ℕ) → a ≡ asked (image_of (process_of (unix_of w) s)) (register (process_of (unix_of w) s) 7) number → count_of a.number ≡ Some count
-      → does_call (board_in done) (unix_of done) s a.number a.args ≡ system_call (board_in w) number (unix_of w) s
+      → does_call (unix_of done) s a.number a.args ≡ system_call number (unix_of w) s
   entered_call number is counts =
-      (λ i. does_call (entered_board i) (entered_unix i) s a.number a.args)
-      ∙ system_is (board_in w) number (unix_of w) s a is count counts
+      ap (λ u. does_call u s a.number a.args) entered_unix ∙ system_is number (unix_of w) s a is count counts

@@ -8,7 +8,9 @@ use Rattle.v6_base.specs.declared.entry.Entry.{Entry}
 use Rattle.v6_base.specs.declared.entry.Entry.TheVariants as line
 use Rattle.pick_rules.specs.Board.{Board}
 use Rattle.pick_rules.specs.Apply.{applied}
-use Rattle.pick_rules.specs.Effects.{Effect, Show, came}
+use Rattle.v6_base.specs.declared.entry.PanicKind.{PanicKind}
+use Rattle.v6_base.specs.declared.entry.PanicKind.TheVariants as panic
+use Rattle.pick_rules.specs.Effects.{Effect, Show, kind_of, came}
 use Rattle.pick_rules.specs.Logged.{Logged, Stop, logged, log_one, with_what_came, with_item, unless_stopped, left_by}
 use Rattle.pdp_step.specs.declared.outcome.Outcome.{Outcome}
 use Rattle.pdp_step.specs.declared.regs.Regs.{Regs}
@@ -23,8 +25,8 @@ use Rattle.unix_core.specs.declared.world.World.{World}
 use Rattle.unix_core.specs.Unix.{Unix, System, process_of, with_process}
 use Rattle.unix_core.specs.Steps.{Steps}
 use Rattle.unix_core.specs.Calls.{resumed}
-use Rattle.unix_core.specs.Turn.{Happened, Turn, machine_of, with_machine, comes_to, instruction, turn, end_effects, settled, settled_after, ending_at, ending_by, turn_of}
-use Rattle.unix_core.specs.Parts.{unix_of, board_in, system_at, phase_after, turn_end, ended_as, HasCome, HasStepped, Takes}
+use Rattle.unix_core.specs.Turn.{Happened, Turn, machine_of, with_machine, comes_to, instruction, turn, end_effects, settled, settled_after, ending_at, unmet, ending_by, turn_of}
+use Rattle.unix_core.specs.Parts.{unix_of, board_in, system_at, phase_after, turn_end, unmet_as, ended_as, HasCome, HasStepped, Takes}
 use Rattle.unix_core.proofs.BoardLemmas.{logged_line}
 
 -- after a panic nothing is logged
@@ -51,6 +53,12 @@ ended_log l s e = record {
 nothing_more : (l : Logged Unix) → l ≡ record l { items = l.items ++ [] }
 nothing_more l = ap (λ i. record l { items = i }) (sym (append-nil l.items))
 
+-- a turn that finds no place ends with no line
+unmet_log : (l : Logged Unix) (s : ℕ) (kind : PanicKind) → l ≡ ended_log l s (unmet_as kind)
+unmet_log l s panic.Swap = nothing_more l
+unmet_log l s panic.Zombie = nothing_more l
+unmet_log l s panic.Text = nothing_more l
+
 one_more_line : (l : Logged Unix) (e : Entry) → l.stop ≡ None → log_one l (Show (Log e))
     ≡ record l { items = l.items ++ (logged {W = Unix} l.board (Show (Log e) ∷ [])).items; board = (logged {W = Unix} l.board (Show (Log e) ∷ [])).board }
 one_more_line l e is = line_more l e is ∙ ap (λ (x : Logged Unix). record l { items = l.items ++ x.items; board = x.board }) (sym (logged_line l.board e))
@@ -75,13 +83,18 @@ turn_log b es s own e is =
     by : (o : Option (Stop Unix)) → l.stop ≡ o → fold log_one l (end_effects s own) ≡ ended_log l s e
     by None none = end_log l s own none ∙ ap (ended_log l s) (sym (is ∙ ap (λ o. ended_as o own) none))
     by (Some stop) some =
-        stopped_all (end_effects s own) l stop some ∙ nothing_more l
+        stopped_all (end_effects s own) l stop some ∙ unmet_log l s (kind_of stop.why)
         ∙ ap (ended_log l s) (sym (is ∙ ap (λ o. ended_as o own) some))
 
--- how a turn ends, where it panicked or not
+-- how a turn ends, stopped or not
+unmet_same : (pc : ℕ) (kind : PanicKind) → ending_at pc (unmet_as kind) ≡ Some (unmet pc kind)
+unmet_same pc panic.Swap = refl
+unmet_same pc panic.Zombie = refl
+unmet_same pc panic.Text = refl
+
 ending_same : (pc : ℕ) (o : Option (Stop Unix)) (own : Ending) → ending_at pc (ended_as o own) ≡ ending_by pc o own
 ending_same pc None own = refl
-ending_same pc (Some stop) own = refl
+ending_same pc (Some stop) own = unmet_same pc (kind_of stop.why)
 
 -- what was shown before stands in front of what a turn comes to
 abbrev pub shown_before : List Item → Turn → Turn
@@ -165,15 +178,15 @@ module _ (m : System) (s : ℕ) (o : Outcome) (regs regs' : Regs) (w w' : World)
   board_back : board_in w' ≡ m.board
   board_back = ap (λ (x : System). x.board) back ∙ stepped.board
 
-  steps_are : comes_to (board_in w') (unix_of w') s o ≡ turn m s
+  steps_are : comes_to (unix_of w') s o ≡ turn m s
   steps_are =
-      (λ i. comes_to (board_back i) (unix_back i) s (stepped.outcome i))
-      ∙ sym (ap (λ b. if b then instruction m.board m.unix s else resumed m.unix s) stepped.user)
+      (λ i. comes_to (unix_back i) s (stepped.outcome i))
+      ∙ sym (ap (λ b. if b then instruction m.unix s else resumed m.unix s) stepped.user)
 
-  pub stepped_come : (e : Ending) (then_ : World) → HasCome (board_in w') (comes_to (board_in w') (unix_of w') s o) e then_ → HasCome m.board (turn m s) e then_
-  stepped_come e then_ come = subst (λ st. HasCome m.board st e then_) steps_are (subst (λ b. HasCome b (comes_to (board_in w') (unix_of w') s o) e then_) board_back come)
+  pub stepped_come : (e : Ending) (then_ : World) → HasCome (board_in w') (comes_to (unix_of w') s o) e then_ → HasCome m.board (turn m s) e then_
+  stepped_come e then_ come = subst (λ st. HasCome m.board st e then_) steps_are (subst (λ b. HasCome b (comes_to (unix_of w') s o) e then_) board_back come)
 
-  pub stepped_items : (a b : Taken) → Took a (logged (board_in w') (comes_to (board_in w') (unix_of w') s o).effects).items b → Took a (logged m.board (turn m s).effects).items b
+  pub stepped_items : (a b : Taken) → Took a (logged (board_in w') (comes_to (unix_of w') s o).effects).items b → Took a (logged m.board (turn m s).effects).items b
   stepped_items a b took =
       subst (λ (st : Steps). Took a (logged m.board st.effects).items b) steps_are
-      (subst (λ x. Took a (logged x (comes_to (board_in w') (unix_of w') s o).effects).items b) board_back took)
+      (subst (λ x. Took a (logged x (comes_to (unix_of w') s o).effects).items b) board_back took)

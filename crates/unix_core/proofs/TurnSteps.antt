@@ -228,8 +228,8 @@ module _ (m : System) (s : ℕ) (above : 0 < s) (regs' : Regs) (w' : World) (don
 
   turn_is : turn m s ≡ steps u
   turn_is =
-      ap (λ b. if b then instruction m.board m.unix s else resumed m.unix s) done.user
-      ∙ ap (comes_to m.board u s) (sym done.outcome)
+      ap (λ b. if b then instruction m.unix s else resumed m.unix s) done.user
+      ∙ ap (comes_to u s) (sym done.outcome)
 
   abbrev plain : Turn
   plain = record { items = []; next = record m { unix = u }; is_idle = false; ending = None }

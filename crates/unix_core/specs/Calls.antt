@@ -1,16 +1,13 @@
 -- The system calls that are built: section II of the UNIX Programmer's Manual; Lions' Commentary, `sysent` and `trap`.
-use Rattle.std.specs.Prelude.{ℕ, ◌+◌, ◌-◌, ◌*◌, ◌%◌, ◌==◌, ◌&&◌, ◌||◌, nat_lt, nat_le, Bool, true, false, if◌then◌else◌, List, [], ◌∷◌, ◌++◌, map, flat_map, find, is_none, is_some, Option, Some, None, Result, Ok, Err, slice_index, slice_set}
+use Rattle.std.specs.Prelude.{ℕ, ◌+◌, ◌-◌, ◌*◌, ◌%◌, ◌==◌, ◌&&◌, ◌||◌, nat_lt, nat_le, true, false, if◌then◌else◌, List, [], ◌∷◌, ◌++◌, map, flat_map, find, Option, Some, None, Result, Ok, Err, slice_index, slice_set}
 use Rattle.v6_base.specs.Access.{load_word}
 use Rattle.v6_base.specs.Image.{Image}
 use Rattle.v6_base.specs.declared.answer.Answer.{Answer}
 use Rattle.v6_base.specs.declared.answer.Answer.TheVariants.{Ret, Fail, Sleep}
 use Rattle.v6_base.specs.declared.space.Trap.{Trap}
-use Rattle.pick_rules.specs.Board.{Board, core_fit}
 use Rattle.pick_rules.specs.Effects.{Show, lifted}
-use Rattle.proc_tab.specs.Processes.{lowest}
 use Rattle.open_files.specs.declared.file.OpenFile.{OpenFile}
 use Rattle.open_files.specs.Files.{shared}
-use Rattle.image_keep.specs.Kept.{clicks_of}
 use Rattle.u_area.specs.declared.area.UArea.{UArea}
 use Rattle.sys_files.specs.Handed.{Handed}
 use Rattle.sys_files.specs.Did.{Did}
@@ -22,11 +19,8 @@ use Rattle.sys_files.specs.Names.{chdir_to, chmod_to, chown_to, sync_all}
 use Rattle.sys_files.specs.Opening.{open_file}
 use Rattle.sys_files.specs.Status.{stat_file, stat_open}
 use Rattle.sys_procs.specs.Process.{Process, with_state, register, image_of}
-use Rattle.sys_procs.specs.World.{World, members}
-use Rattle.sys_procs.specs.declared.halt.Halt.{Halt}
-use Rattle.sys_procs.specs.declared.halt.Halt.TheVariants as halt
+use Rattle.sys_procs.specs.World.{World}
 use Rattle.sys_procs.specs.Comes.{Comes}
-use Rattle.sys_procs.specs.Tried.{Tried}
 use Rattle.sys_procs.specs.Break.{break_at, grow}
 use Rattle.sys_procs.specs.ExecFile.{exec_file}
 use Rattle.sys_procs.specs.Ids.{pid_of, set_uid, get_uid, set_gid, get_gid, switches, no_op, nice_to}
@@ -36,12 +30,11 @@ use Rattle.sys_procs.specs.Wait.{wait_child, pending_wait}
 use Rattle.sys_procs.specs.Exit.{exit_now}
 use Rattle.sys_procs.specs.Resume.{resume_proc}
 use Rattle.unix_core.specs.declared.asked.Asked.{Asked}
-use Rattle.unix_core.specs.declared.ending.Ending.{Ending}
-use Rattle.unix_core.specs.declared.ending.Ending.TheVariants.{Ended, Trapped, NoRoom, NotBuilt}
+use Rattle.unix_core.specs.declared.ending.Ending.TheVariants.{Ended, Trapped}
 use Rattle.unix_core.specs.Unix.{Text, Unix, process_of, with_process}
 use Rattle.unix_core.specs.References.{references_of}
 use Rattle.unix_core.specs.Errors.{error_number}
-use Rattle.unix_core.specs.Steps.{Steps, quietly, returns, sleeps, not_built, no_room}
+use Rattle.unix_core.specs.Steps.{Steps, returns, sleeps, not_built}
 
 -- the inodes whose texts are shared
 abbrev pub inode_of : Option Text → List ℕ
@@ -198,7 +191,9 @@ process_row number count does = record { number = number; count = count; does = 
 abbrev pub process_calls : List ProcessCall
 process_calls =
     process_row 7 0 (λ w slot a. wait_child w slot)
+    ∷ process_row 11 2 (λ w slot a. exec_file w slot (slice_index a 0) (slice_index a 1))
     ∷ process_row 13 0 (λ w slot a. time_now w slot)
+    ∷ process_row 17 1 (λ w slot a. break_at w slot (slice_index a 0))
     ∷ process_row 20 0 (λ w slot a. pid_of w slot)
     ∷ process_row 23 0 (λ w slot a. set_uid w slot)
     ∷ process_row 24 0 (λ w slot a. get_uid w slot)
@@ -224,7 +219,7 @@ abbrev pub came_by : Unix → ℕ → Comes → Steps
 came_by u slot c =
     record (answers (with_world u c.state) slot c.answer) { effects = map (lifted (with_world u)) c.effects }
 
--- fork(II): the child has its parent's open files. It needs a place in core while images don't go to the swap area.
+-- fork(II): the child has its parent's open files.
 abbrev pub shares : List (Option OpenFile) → List ℕ → Answer → List (Option OpenFile)
 shares files mine (Ret r0 r1) = shared files mine
 shares files mine (Fail e) = files
@@ -236,40 +231,17 @@ forks u slot =
     let s : Steps = came_by u slot c in
     record s { unix = record s.unix { files = shares u.files (process_of u slot).u.files c.answer } }
 
-abbrev pub is_full : Unix → Bool
-is_full u = is_none (lowest is_none (members (world_of u)))
-
--- core has a place for so many clicks
-abbrev pub has_room : Board → ℕ → Bool
-has_room b clicks = is_some (core_fit b clicks)
-
-abbrev pub fork_if_room : Board → Unix → ℕ → Steps
-fork_if_room b u slot =
-    if is_full u || has_room b (clicks_of (process_of u slot).u) then forks u slot else no_room u
-
--- A call that may go further than is built: it stops with what its tests have left.
-abbrev pub halted_as : Halt → Ending
-halted_as halt.SharedText = NotBuilt
-halted_as halt.NoRoom = NoRoom
-
-abbrev pub unless_halted : Option Halt → Unix → Steps → Steps
-unless_halted None u s = s
-unless_halted (Some h) u s = quietly u (halted_as h)
-
-abbrev pub tried_by : Unix → ℕ → Tried → Steps
-tried_by u slot t = unless_halted t.halt (with_world u t.comes.state) (came_by u slot t.comes)
-
 -- An instruction wanted an address below the stack. Where the stack grows the instruction is done again, with the registers
 -- that it had; else there is a signal, which isn't built.
 abbrev pub grows : Unix → Comes → Steps
 grows u c = record { effects = map (lifted (with_world u)) c.effects; unix = with_world u c.state; ending = Trapped }
 
-abbrev pub grown_by : Unix → Option Tried → Steps
+abbrev pub grown_by : Unix → Option Comes → Steps
 grown_by u None = not_built u
-grown_by u (Some t) = unless_halted t.halt (with_world u t.comes.state) (grows u t.comes)
+grown_by u (Some c) = grows u c
 
-abbrev pub grows_to : Board → Unix → ℕ → ℕ → Steps
-grows_to b u slot sp = grown_by u (grow b (world_of u) slot sp)
+abbrev pub grows_to : Unix → ℕ → ℕ → Steps
+grows_to u slot sp = grown_by u (grow (world_of u) slot sp)
 
 -- exit(II): the files of the process are closed, and it has ended.
 abbrev pub closes_all : Unix → ℕ → Closing
@@ -296,14 +268,12 @@ by_file_row u slot args None on_process = by_process_row u slot args on_process
 by_file_row u slot args (Some c) on_process = did_by u slot (c.does (handed_of u (process_of u slot)) args u.clock.time)
 
 -- A call by its number, which has been entered: an indirect call of an indirect call does nothing.
-abbrev pub does_call : Board → Unix → ℕ → ℕ → List ℕ → Steps
-does_call b u slot number args =
+abbrev pub does_call : Unix → ℕ → ℕ → List ℕ → Steps
+does_call u slot number args =
     if number == 0 then returns u else (
     if number == 1 then exits u slot else (
-    if number == 2 then fork_if_room b u slot else (
-    if number == 11 then tried_by u slot (exec_file b (world_of u) slot (slice_index args 0) (slice_index args 1)) else (
-    if number == 17 then tried_by u slot (break_at b (world_of u) slot (slice_index args 0)) else
-    by_file_row u slot args (file_call number) (process_call number)))))
+    if number == 2 then forks u slot else
+    by_file_row u slot args (file_call number) (process_call number)))
 
 -- how many arguments a call has, or None where it isn't built
 abbrev pub count_by_rows : Option FileCall → Option ProcessCall → Option ℕ
@@ -312,22 +282,19 @@ count_by_rows None (Some c) = Some c.count
 count_by_rows None None = None
 
 abbrev pub count_of : ℕ → Option ℕ
-count_of number =
-    if nat_le number 2 then Some 0 else (
-    if number == 11 then Some 2 else (
-    if number == 17 then Some 1 else count_by_rows (file_call number) (process_call number)))
+count_of number = if nat_le number 2 then Some 0 else count_by_rows (file_call number) (process_call number)
 
-abbrev pub does_if_built : Board → Unix → ℕ → Asked → Option ℕ → Steps
-does_if_built b u slot a None = not_built u
-does_if_built b u slot a (Some count) =
-    does_call b (with_area u slot (entered_area (words_passed a count))) slot a.number a.args
+abbrev pub does_if_built : Unix → ℕ → Asked → Option ℕ → Steps
+does_if_built u slot a None = not_built u
+does_if_built u slot a (Some count) =
+    does_call (with_area u slot (entered_area (words_passed a count))) slot a.number a.args
 
 -- a call by its number, where the PC has passed its word
-abbrev pub system_call : Board → ℕ → Unix → ℕ → Steps
-system_call b number u slot =
+abbrev pub system_call : ℕ → Unix → ℕ → Steps
+system_call number u slot =
     let p : Process = process_of u slot in
     let a : Asked = asked (image_of p) (register p 7) number in
-    does_if_built b u slot a (count_of a.number)
+    does_if_built u slot a (count_of a.number)
 
 -- A process that slept in a call goes on with it: 1 is a read of the console, 5 a sleep, 6 a wait. The others aren't built.
 abbrev pub pending_read : ℕ

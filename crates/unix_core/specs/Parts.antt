@@ -1,6 +1,6 @@
 -- How the parts of a kernel are the Unix and the board: the world of files and processes, and the registers of the process
 -- that executes instructions.
-use Rattle.std.specs.Prelude.{◌≡◌, ◌<◌, ℕ, min, true, false, List, [], map, length, Option, Some, None, if◌then◌else◌, slice_index}
+use Rattle.std.specs.Prelude.{◌≡◌, ◌<◌, ℕ, min, Bool, true, false, List, [], map, length, Option, Some, None, if◌then◌else◌, slice_index}
 use Rattle.std.specs.List.{sum_by}
 use Rattle.open_files.specs.Files.{file_at, times}
 use Rattle.sys_files.specs.Handed.{Handed}
@@ -14,7 +14,9 @@ use Rattle.pick_rules.specs.Table.{is_in_core}
 use Rattle.pick_rules.specs.Choice.{chosen, settle}
 use Rattle.pick_rules.specs.Board.{Board}
 use Rattle.v6_base.specs.Trace.{Item}
-use Rattle.pick_rules.specs.Effects.{Show}
+use Rattle.v6_base.specs.declared.entry.PanicKind.{PanicKind}
+use Rattle.v6_base.specs.declared.entry.PanicKind.TheVariants as panic
+use Rattle.pick_rules.specs.Effects.{Show, kind_of}
 use Rattle.pick_rules.specs.Logged.{Stop, logged, left_by}
 use Rattle.v6_base.specs.declared.entry.Place.TheVariants.{Core}
 use Rattle.image_keep.specs.Area.{sized_area}
@@ -27,7 +29,7 @@ use Rattle.sys_procs.specs.Agree.{board_of}
 use Rattle.sys_procs.specs.Handed.{AreProcs}
 use Rattle.unix_core.specs.declared.world.World as parts
 use Rattle.unix_core.specs.declared.ending.Ending.{Ending}
-use Rattle.unix_core.specs.declared.ending.Ending.TheVariants.{NotBuilt}
+use Rattle.unix_core.specs.declared.ending.Ending.TheVariants.{NoRoom, NotBuilt}
 use Rattle.unix_core.specs.declared.machine.Went.{Went}
 use Rattle.unix_core.specs.declared.machine.Went.TheVariants as went
 use Rattle.unix_core.specs.declared.turned.Turned.{Turned}
@@ -153,10 +155,21 @@ pub record IsReadyToShow (old new : parts.World) (s : ℕ) (items : List Item) :
   pub shown : shown_by new.tape ≡ items
   pub wakes : (t : Table) (k : Kept) → (logged {W = Unix} (board_of t k) (map Show items)).board ≡ board_of (all_woken t new.tape.entries) k
 
--- Where an effect panicked, a turn comes to what isn't built.
+-- How a turn ends in which a demand finds no place.
+abbrev pub unmet_as : PanicKind → Ending
+unmet_as panic.Swap = NoRoom
+unmet_as panic.Zombie = NotBuilt
+unmet_as panic.Text = NotBuilt
+
 abbrev pub ended_as : Option (Stop Unix) → Ending → Ending
 ended_as None e = e
-ended_as (Some stop) e = NotBuilt
+ended_as (Some stop) e = unmet_as (kind_of stop.why)
+
+-- whether a turn that ends so ends the run
+abbrev pub is_over : Ending → Bool
+is_over NoRoom = true
+is_over NotBuilt = true
+is_over e = false
 
 -- The world has taken these steps of a turn, and the turn has ended so.
 pub record HasCome (b : Board) (steps : Steps) (e : Ending) (w : parts.World) : Type 0 where

@@ -3,7 +3,7 @@ use Rattle.std.specs.Prelude.{ℤ, List, []}
 use Rattle.v6_base.specs.declared.entry.Chan.{Chan}
 use Rattle.pick_rules.specs.Effects.{Effect}
 use Rattle.unix_core.specs.declared.ending.Ending.{Ending}
-use Rattle.unix_core.specs.declared.ending.Ending.TheVariants.{Next, Trapped, Slept, NoRoom, NotBuilt}
+use Rattle.unix_core.specs.declared.ending.Ending.TheVariants.{Next, Trapped, Slept, NotBuilt}
 use Rattle.unix_core.specs.Unix.{Unix}
 
 -- its effects in order, the Unix then, and how it ended
@@ -30,7 +30,3 @@ sleeps u pri chan = quietly u (Slept pri chan)
 -- what isn't built shows nothing
 abbrev pub not_built : Unix → Steps
 not_built u = quietly u NotBuilt
-
--- there is no place in core, and images don't go to the swap area yet
-abbrev pub no_room : Unix → Steps
-no_room u = quietly u NoRoom

@@ -16,7 +16,9 @@ use Rattle.pick_rules.specs.Priority.{pswp}
 use Rattle.pick_rules.specs.Choice.{settle}
 use Rattle.pick_rules.specs.Board.{Board}
 use Rattle.pick_rules.specs.Apply.{applied}
-use Rattle.pick_rules.specs.Effects.{Effect, Show}
+use Rattle.v6_base.specs.declared.entry.PanicKind.{PanicKind}
+use Rattle.v6_base.specs.declared.entry.PanicKind.TheVariants as panic
+use Rattle.pick_rules.specs.Effects.{Effect, Show, kind_of}
 use Rattle.pick_rules.specs.Logged.{Logged, Stop, nothing_logged, logged, left_by}
 use Rattle.sys_procs.specs.Process.{Process, with_state, register, image_of}
 use Rattle.unix_core.specs.declared.ending.Ending.{Ending}
@@ -38,31 +40,31 @@ abbrev pub with_machine : Process → Machine → Process
 with_machine p m = record p { u = with_state p.u m.r m.cc; «data» = m.image.data; stack = m.image.stack }
 
 -- A fault for which the stack may grow. All others make signals, which aren't built.
-abbrev pub faults : Board → Unix → ℕ → Kind → Steps
-faults b u slot kind.Odd = not_built u
-faults b u slot (kind.Segment sp) = grows_to b u slot sp
-faults b u slot (kind.Illegal word) = not_built u
-faults b u slot kind.Bpt = not_built u
-faults b u slot kind.Iot = not_built u
-faults b u slot kind.Emt = not_built u
+abbrev pub faults : Unix → ℕ → Kind → Steps
+faults u slot kind.Odd = not_built u
+faults u slot (kind.Segment sp) = grows_to u slot sp
+faults u slot (kind.Illegal word) = not_built u
+faults u slot kind.Bpt = not_built u
+faults u slot kind.Iot = not_built u
+faults u slot kind.Emt = not_built u
 
-abbrev pub comes_to : Board → Unix → ℕ → Outcome → Steps
-comes_to b u slot Next = to.steps u
-comes_to b u slot (Call number) = system_call b number u slot
-comes_to b u slot (Fault kind) = faults b u slot kind
+abbrev pub comes_to : Unix → ℕ → Outcome → Steps
+comes_to u slot Next = to.steps u
+comes_to u slot (Call number) = system_call number u slot
+comes_to u slot (Fault kind) = faults u slot kind
 
-abbrev pub instruction : Board → Unix → ℕ → Steps
-instruction b u slot =
+abbrev pub instruction : Unix → ℕ → Steps
+instruction u slot =
     let p : Process = process_of u slot in
     let s : Stepped = instr (machine_of p) in
-    comes_to b (with_process u slot (with_machine p s.machine)) slot s.outcome
+    comes_to (with_process u slot (with_machine p s.machine)) slot s.outcome
 
 -- a process is in user mode, where it executes instructions, while it has no call to go on with
 abbrev pub is_user : Process → Bool
 is_user p = p.u.pending == 0
 
 abbrev pub turn : System → ℕ → Steps
-turn m slot = if is_user (process_of m.unix slot) then instruction m.board m.unix slot else resumed m.unix slot
+turn m slot = if is_user (process_of m.unix slot) then instruction m.unix slot else resumed m.unix slot
 
 -- the lines of the log with which a turn ends
 abbrev pub end_effects : ℕ → Ending → List (Effect Unix)
@@ -137,10 +139,16 @@ ending_at pc ending.Ended = None
 ending_at pc ending.NoRoom = Some Room
 ending_at pc ending.NotBuilt = Some (At pc)
 
--- a panic isn't built, either
+-- A demand that finds no place ends the run: an image's in core, since no image goes to the swap area yet; and what else may
+-- be wanted, a panic too, isn't built where the PC was.
+abbrev pub unmet : ℕ → PanicKind → Unbuilt
+unmet pc panic.Swap = Room
+unmet pc panic.Zombie = At pc
+unmet pc panic.Text = At pc
+
 abbrev pub ending_by : ℕ → Option (Stop Unix) → Ending → Option Unbuilt
 ending_by pc None ending = ending_at pc ending
-ending_by pc (Some stop) ending = Some (At pc)
+ending_by pc (Some stop) ending = Some (unmet pc (kind_of stop.why))
 
 abbrev pub turn_of : System → ℕ → Steps → Happened
 turn_of m slot steps =

@@ -1,12 +1,11 @@
 //! The system calls that are built, by their numbers: section II of the manual; `sysent` in Lions' Commentary,
 //! `sysent.c`.
-ghost use Rattle.std.specs.Prelude.{◌≡◌, is_some};
+ghost use Rattle.std.specs.Prelude.{◌≡◌, is_some, IfOk};
 ghost use Rattle.v6_base.specs.Trace.{Took};
 ghost use Rattle.fs_laws.specs.Rest.{SameRest};
 ghost use Rattle.sys_files.specs.Handed as parts;
-ghost use Rattle.pick_rules.specs.Logged.{left_by};
-ghost use Rattle.sys_procs.specs.Agree.{answered};
-ghost use Rattle.sys_procs.specs.Handed.{handed, board, came, AreProcs, Calls};
+ghost use Rattle.sys_procs.specs.Done.{HasDone};
+ghost use Rattle.sys_procs.specs.Handed.{handed, AreProcs, Calls};
 ghost use Rattle.sys_files.specs.Sound.{IsSound};
 ghost use Rattle.sys_files.specs.Does.{Does};
 ghost use Rattle.unix_core.specs.Errors.{error_number};
@@ -21,8 +20,8 @@ use sys_files::{
     write_file,
 };
 use sys_procs::{
-    Procs, get_gid, get_uid, nice_to, no_op, pid_of, set_gid, set_time, set_uid, sleep_for,
-    switches, time_now, times_to, wait_child,
+    Procs, break_at, exec_file, get_gid, get_uid, nice_to, no_op, pid_of, set_gid, set_time,
+    set_uid, sleep_for, switches, time_now, times_to, wait_child,
 };
 use u_area::UArea;
 use v6_base::{Answer, Errno, PanicKind, Slot, Space, Trace};
@@ -41,8 +40,6 @@ const LINK: u8 = 9;
 
 const UNLINK: u8 = 10;
 
-pub(crate) const EXEC: u8 = 11;
-
 const CHDIR: u8 = 12;
 
 const MKNOD: u8 = 14;
@@ -50,8 +47,6 @@ const MKNOD: u8 = 14;
 const CHMOD: u8 = 15;
 
 const CHOWN: u8 = 16;
-
-pub(crate) const BREAK: u8 = 17;
 
 const STAT: u8 = 18;
 
@@ -69,7 +64,11 @@ const DUP: u8 = 41;
 
 const WAIT: u8 = 7;
 
+const EXEC: u8 = 11;
+
 const TIME: u8 = 13;
+
+const BREAK: u8 = 17;
 
 const GETPID: u8 = 20;
 
@@ -134,13 +133,12 @@ pub(crate) fn count_of(number: u8) -> Option<u8>
 {
     match number {
         0..=2 => Some(0),
-        EXEC => Some(2),
-        BREAK => Some(1),
         CLOSE | SYNC | DUP => Some(0),
         UNLINK | CHDIR | FSTAT | STTY | GTTY => Some(1),
         READ | WRITE | OPEN | CREAT | LINK | CHMOD | CHOWN | STAT | SEEK => Some(2),
         MKNOD => Some(3),
-        SMDATE | TIMES => Some(1),
+        EXEC => Some(2),
+        BREAK | SMDATE | TIMES => Some(1),
         WAIT | TIME | GETPID | SETUID | GETUID | STIME | NICE | SLEEP | CSW | SETGID | GETGID => {
             Some(0)
         }
@@ -206,23 +204,18 @@ pub(crate) fn do_process_call<T: Trace>(
     trace: &mut T,
 ) -> Result<Answer, PanicKind>
     requires { Calls p.old tree.old.nodes s }
-    ensures answer { result ≡ answered (came p.old (process_row_of (process_call number) (handed p.old tree.old.nodes) s args)).stop
-        (process_row_of (process_call number) (handed p.old tree.old.nodes) s args).answer }
-    ensures state { handed p.new tree.new.nodes
-        ≡ left_by (came p.old (process_row_of (process_call number) (handed p.old tree.old.nodes) s args)).stop
-        (process_row_of (process_call number) (handed p.old tree.old.nodes) s args).state }
-    ensures board { board p.new
-        ≡ (came p.old (process_row_of (process_call number) (handed p.old tree.old.nodes) s args)).board }
-    ensures items { Took (T.taken trace.old)
-        (came p.old (process_row_of (process_call number) (handed p.old tree.old.nodes) s args)).items (T.taken trace.new) }
+    ensures does { HasDone p.old p.new tree.new.nodes result (T.taken trace.old) (T.taken trace.new)
+        (process_row_of (process_call number) (handed p.old tree.old.nodes) s args) }
     ensures frame { T.leads_to trace.old trace.new }
-    ensures agree { AreProcs p.new }
+    ensures agree { IfOk result (λ answer. AreProcs p.new) }
     ensures marks { tree.new.marks ≡ tree.old.marks }
     ensures blocks { SameRest tree.old.nodes.blocks tree.new.nodes.blocks }
 {
     match number {
         WAIT => wait_child(p, tree, s, args, trace),
+        EXEC => exec_file(p, tree, s, args, trace),
         TIME => time_now(p, tree, s, args, trace),
+        BREAK => break_at(p, tree, s, args, trace),
         GETPID => pid_of(p, tree, s, args, trace),
         SETUID => set_uid(p, tree, s, args, trace),
         GETUID => get_uid(p, tree, s, args, trace),

@@ -8,7 +8,7 @@ ghost use Rattle.sys_procs.specs.Process.{register};
 ghost use Rattle.unix_core.specs.Unix.{Unix, System, Started, process_of};
 ghost use Rattle.unix_core.specs.Turn.{turned, turned_by, ending_at, turn, turn_of, settled, settled_after, pass_of};
 ghost use Rattle.unix_core.specs.Outside.{calls, charged, mode_of, tick_entry, timed_area, tick_of, typed_of};
-ghost use Rattle.unix_core.specs.Parts.{unix_of, board_in, system_at, turn_at, turned_at, turn_end, pc_at, phase_of, IsGood, IsReady, IsUser, IsRested, IsKernel, HasCome, HasStepped, Takes};
+ghost use Rattle.unix_core.specs.Parts.{unix_of, board_in, system_at, turn_at, turned_at, turn_end, pc_at, phase_of, is_over, IsGood, IsReady, IsUser, IsRested, IsKernel, HasCome, HasStepped, Takes};
 
 use crate::ending::Ending;
 use crate::process::{come_to, resume};
@@ -256,10 +256,10 @@ impl Machine {
     /// the loop over slots.
     #[inline(never)]
     fn end<T: Trace>(&mut self, s: Slot, ending: Ending, trace: &mut T) -> Went
-        requires good { IsGood self.old.world }
+        requires good { is_over ending ≡ false → IsGood self.old.world }
         requires user { 0 < s }
         requires slot { s < 50 }
-        requires runs { ending ≢ Ending.Ended → self.old.world.procs.table.running ≡ Some s }
+        requires runs { is_over ending ≡ false → ending ≢ Ending.Ended → self.old.world.procs.table.running ≡ Some s }
         requires stage { self.old.stage ≡ Stage.Resting }
         ensures answer { (pc : ℕ) → turned_at pc result ≡ turned (turn_end self.old.world s pc ending) }
         ensures takes { (pc : ℕ) → Takes (turn_end self.old.world s pc ending) self.new.stage self.new.regs self.new.world }

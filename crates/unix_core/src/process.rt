@@ -1,33 +1,29 @@
 //! Turns and calls of a process: what an instruction comes to, and how a call goes on. `trap` in Lions' Commentary, `trap.c`.
-ghost use Rattle.std.specs.Prelude.{◌≡◌, ◌≢◌, ◌||◌, Some, true, is_some, is_none, slice_index};
+ghost use Rattle.std.specs.Prelude.{◌≡◌, ◌≢◌, Some, true, false, is_some};
 ghost use Rattle.v6_base.specs.Trace.{Took};
 ghost use Rattle.fs_laws.specs.Rest.{SameRest};
 ghost use Rattle.pick_rules.specs.Logged.{logged};
-ghost use Rattle.image_keep.specs.Kept.{HasImage, area_of, clicks_of, with_area};
+ghost use Rattle.image_keep.specs.Kept.{HasImage, area_of, with_area};
 ghost use Rattle.open_files.specs.Files.{AreOpen, HaveRoom};
-ghost use Rattle.proc_tab.specs.Processes.{lowest, IsUsed};
 ghost use Rattle.sys_files.specs.Moving.{resume_read};
 ghost use Rattle.sys_procs.specs.Resume.{resume_proc};
-ghost use Rattle.sys_procs.specs.Break.{break_at};
-ghost use Rattle.sys_procs.specs.ExecFile.{exec_file};
 ghost use Rattle.unix_core.specs.Unix.{process_of};
-ghost use Rattle.unix_core.specs.Calls.{world_of, words_passed, entered_area, given_area, refused_area, file_call, process_call, count_of, system_call, does_call, did_by, came_by, shares, is_full, has_room, fork_if_room, exits, halted_as, tried_by, grows_to, resumed, answers, handed_of};
+ghost use Rattle.unix_core.specs.Calls.{world_of, words_passed, entered_area, given_area, refused_area, file_call, process_call, count_of, system_call, does_call, did_by, came_by, shares, forks, exits, grows_to, resumed, answers, handed_of};
 ghost use Rattle.unix_core.specs.Turn.{faults, comes_to};
-ghost use Rattle.unix_core.specs.Parts.{unix_of, board_in, IsGood, IsReady, HasCome, row_of, process_row_of};
+ghost use Rattle.unix_core.specs.Parts.{unix_of, board_in, IsGood, IsReady, HasCome, unmet_as, is_over, row_of, process_row_of};
 
 use crate::asked::{Asked, ask};
-use crate::calls::{BREAK, EXEC, count_of, do_process_call, error_number, is_file_call};
+use crate::calls::{count_of, do_process_call, error_number, is_file_call};
 use crate::ending::Ending;
-use crate::files::{see_images, see_kept, see_nodes, see_table};
+use crate::files::{see_images, see_nodes, see_table};
 use crate::onfiles::{close_files, do_on_files, read_on};
 use crate::passing::pass_on;
 use crate::world::World;
 use image_keep::Images;
 use open_files::OpenTable;
 use pdp_step::{Kind, Outcome};
-use proc_tab::Rows;
-use sys_procs::{Halt, break_at, exec_file, exit_now, fork_one, grow, resume_proc};
-use v6_base::{Answer, Slot, Trace};
+use sys_procs::{exit_now, fork_one, grow, resume_proc};
+use v6_base::{Answer, PanicKind, Slot, Trace};
 
 /// Calls that have no row of their own in the tables: indir(II), exit(II), fork(II).
 const INDIRECT: u8 = 0;
@@ -45,9 +41,6 @@ const PENDING_WAIT: u8 = 6;
 
 /// The first number of an error that makes a signal.
 const FIRST_SIGNAL: u16 = 100;
-
-/// The clicks of a u area.
-const AREA: u16 = 16;
 
 /// A call begins: C is cleared, and the PC passes so many words.
 fn enter(images: &mut Images, s: Slot, words: u8)
@@ -108,13 +101,14 @@ fn conclude(world: &mut World, s: Slot, answer: Answer) -> Ending
     }
 }
 
-/// Whether all slots are in use, one of which is this.
-fn is_full(rows: &Rows, s: Slot) -> bool
-    requires { IsUsed rows.now s }
-    ensures { result ≡ is_none (lowest is_none rows.now.slots) }
+/// How a turn ends in which a demand finds no place.
+fn unmet_as(kind: PanicKind) -> Ending
+    ensures { result ≡ unmet_as kind }
 {
-    let mut copy = *rows;
-    copy.new_slot(s).is_none()
+    match kind {
+        PanicKind::Swap => Ending::NoRoom,
+        PanicKind::Zombie | PanicKind::Text => Ending::NotBuilt,
+    }
 }
 
 /// A call on files by its number, which has been entered.
@@ -151,7 +145,7 @@ fn call_processes<T: Trace>(
     requires { IsReady world.old s }
     ensures come { HasCome (board_in world.old) (came_by (unix_of world.old) s (process_row_of (process_call number)
         (world_of (unix_of world.old)) s args)) result world.new }
-    ensures ready { IsReady world.new s }
+    ensures ready { is_over result ≡ false → IsReady world.new s }
     ensures items { Took (T.taken trace.old) (logged (board_in world.old) (came_by (unix_of world.old) s (process_row_of
         (process_call number) (world_of (unix_of world.old)) s args)).effects).items (T.taken trace.new) }
     ensures frame { T.leads_to trace.old trace.new }
@@ -171,23 +165,8 @@ fn call_processes<T: Trace>(
             see_images(&world.procs.images);
             conclude(world, s, answer)
         }
-        Err(_) => Ending::NotBuilt,
+        Err(kind) => unmet_as(kind),
     }
-}
-
-/// Whether core has a place for the image of a child. Where all slots are used there is no child, and none is wanted.
-fn can_fork(world: &World, s: Slot) -> bool
-    requires { IsReady world.now s }
-    ensures { result ≡ (is_full (unix_of world.now)
-        || has_room (board_in world.now) (clicks_of (process_of (unix_of world.now) s).u)) }
-{
-    see_kept(&world.procs.images);
-    let u = world.procs.images.area(s);
-    is_full(&world.procs.rows, s)
-        || world
-            .procs
-            .images
-            .has_room(AREA + u.data_size + u.stack_size)
 }
 
 /// The child of a process that forked names the same files; a fork that was refused shares none.
@@ -204,17 +183,13 @@ fn share_files(table: &mut OpenTable, mine: &[u8; 15], answer: Answer)
 /// fork(II): the child has its parent's open files.
 fn fork<T: Trace>(world: &mut World, s: Slot, trace: &mut T) -> Ending
     requires { IsReady world.old s }
-    ensures come { HasCome (board_in world.old) (fork_if_room (board_in world.old) (unix_of world.old) s) result
-        world.new }
-    ensures ready { IsReady world.new s }
-    ensures items { Took (T.taken trace.old) (logged (board_in world.old) (fork_if_room (board_in world.old)
-        (unix_of world.old) s).effects).items (T.taken trace.new) }
+    ensures come { HasCome (board_in world.old) (forks (unix_of world.old) s) result world.new }
+    ensures ready { is_over result ≡ false → IsReady world.new s }
+    ensures items { Took (T.taken trace.old) (logged (board_in world.old) (forks (unix_of world.old) s).effects).items
+        (T.taken trace.new) }
     ensures frame { T.leads_to trace.old trace.new }
     ensures rest { SameRest world.old.files.tree.nodes.blocks world.new.files.tree.nodes.blocks }
 {
-    if !can_fork(world, s) {
-        return Ending::NoRoom;
-    }
     let u = world.procs.images.area(s);
     see_nodes(&world.files.tree.nodes);
     see_table(&world.files.table);
@@ -224,7 +199,7 @@ fn fork<T: Trace>(world: &mut World, s: Slot, trace: &mut T) -> Ending
             share_files(&mut world.files.table, &u.files, answer);
             conclude(world, s, answer)
         }
-        Err(_) => Ending::NotBuilt,
+        Err(kind) => unmet_as(kind),
     }
 }
 
@@ -248,71 +223,18 @@ fn exit<T: Trace>(world: &mut World, s: Slot, trace: &mut T) -> Ending
             see_images(&world.procs.images);
             Ending::Ended
         }
-        Err(_) => Ending::NotBuilt,
-    }
-}
-
-/// How a turn ends in which a call goes further than is built.
-fn halted(halt: Halt) -> Ending
-    ensures { result ≡ halted_as halt }
-{
-    match halt {
-        Halt::SharedText => Ending::NotBuilt,
-        Halt::NoRoom => Ending::NoRoom,
-    }
-}
-
-/// exec(II).
-fn exec<T: Trace>(world: &mut World, s: Slot, args: [u16; 4], trace: &mut T) -> Ending
-    requires { IsReady world.old s }
-    ensures come { HasCome (board_in world.old) (tried_by (unix_of world.old) s (exec_file (board_in world.old)
-        (world_of (unix_of world.old)) s (slice_index args 0) (slice_index args 1))) result world.new }
-    ensures ready { IsReady world.new s }
-    ensures items { Took (T.taken trace.old) (logged (board_in world.old) (tried_by (unix_of world.old) s (exec_file
-        (board_in world.old) (world_of (unix_of world.old)) s (slice_index args 0) (slice_index args 1))).effects).items
-        (T.taken trace.new) }
-    ensures frame { T.leads_to trace.old trace.new }
-    ensures rest { SameRest world.old.files.tree.nodes.blocks world.new.files.tree.nodes.blocks }
-{
-    see_nodes(&world.files.tree.nodes);
-    see_table(&world.files.table);
-    let tried = exec_file(&mut world.procs, &mut world.files.tree, s, args, trace);
-    see_images(&world.procs.images);
-    match tried {
-        Ok(answer) => conclude(world, s, answer),
-        Err(halt) => halted(halt),
-    }
-}
-
-/// break(II).
-fn set_break<T: Trace>(world: &mut World, s: Slot, args: [u16; 4], trace: &mut T) -> Ending
-    requires { IsReady world.old s }
-    ensures come { HasCome (board_in world.old) (tried_by (unix_of world.old) s (break_at (board_in world.old)
-        (world_of (unix_of world.old)) s (slice_index args 0))) result world.new }
-    ensures ready { IsReady world.new s }
-    ensures items { Took (T.taken trace.old) (logged (board_in world.old) (tried_by (unix_of world.old) s (break_at
-        (board_in world.old) (world_of (unix_of world.old)) s (slice_index args 0))).effects).items (T.taken trace.new) }
-    ensures frame { T.leads_to trace.old trace.new }
-    ensures rest { SameRest world.old.files.tree.nodes.blocks world.new.files.tree.nodes.blocks }
-{
-    see_nodes(&world.files.tree.nodes);
-    see_table(&world.files.table);
-    let tried = break_at(&mut world.procs, &mut world.files.tree, s, args, trace);
-    see_images(&world.procs.images);
-    match tried {
-        Ok(answer) => conclude(world, s, answer),
-        Err(halt) => halted(halt),
+        Err(kind) => unmet_as(kind),
     }
 }
 
 /// Lets the stack grow for an instruction that wanted an address below it: the instruction is done again in a later slot.
 fn grow_stack<T: Trace>(world: &mut World, s: Slot, sp: u16, trace: &mut T) -> Ending
     requires { IsReady world.old s }
-    ensures come { HasCome (board_in world.old) (grows_to (board_in world.old) (unix_of world.old) s sp) result world.new }
-    ensures ready { IsReady world.new s }
+    ensures come { HasCome (board_in world.old) (grows_to (unix_of world.old) s sp) result world.new }
+    ensures ready { is_over result ≡ false → IsReady world.new s }
     ensures call { result ≢ Ending.Next }
-    ensures items { Took (T.taken trace.old) (logged (board_in world.old)
-        (grows_to (board_in world.old) (unix_of world.old) s sp).effects).items (T.taken trace.new) }
+    ensures items { Took (T.taken trace.old) (logged (board_in world.old) (grows_to (unix_of world.old) s sp).effects).items
+        (T.taken trace.new) }
     ensures frame { T.leads_to trace.old trace.new }
     ensures rest { SameRest world.old.files.tree.nodes.blocks world.new.files.tree.nodes.blocks }
 {
@@ -323,7 +245,7 @@ fn grow_stack<T: Trace>(world: &mut World, s: Slot, sp: u16, trace: &mut T) -> E
     match grown {
         Ok(true) => Ending::Trapped,
         Ok(false) => Ending::NotBuilt,
-        Err(halt) => halted(halt),
+        Err(kind) => unmet_as(kind),
     }
 }
 
@@ -337,13 +259,12 @@ fn does_call<T: Trace>(
 ) -> Ending
     requires ready { IsReady world.old s }
     requires built { is_some (count_of number) ≡ true }
-    ensures come { HasCome (board_in world.old)
-        (does_call (board_in world.old) (unix_of world.old) s number args) result world.new }
-    ensures good { IsGood world.new }
-    ensures runs { result ≢ Ending.Ended → world.new.procs.table.running ≡ Some s }
+    ensures come { HasCome (board_in world.old) (does_call (unix_of world.old) s number args) result world.new }
+    ensures good { is_over result ≡ false → IsGood world.new }
+    ensures runs { is_over result ≡ false → result ≢ Ending.Ended → world.new.procs.table.running ≡ Some s }
     ensures call { result ≢ Ending.Next }
-    ensures items { Took (T.taken trace.old) (logged (board_in world.old) (does_call (board_in world.old)
-        (unix_of world.old) s number args).effects).items (T.taken trace.new) }
+    ensures items { Took (T.taken trace.old) (logged (board_in world.old)
+        (does_call (unix_of world.old) s number args).effects).items (T.taken trace.new) }
     ensures frame { T.leads_to trace.old trace.new }
     ensures rest { SameRest world.old.files.tree.nodes.blocks world.new.files.tree.nodes.blocks }
 {
@@ -355,12 +276,6 @@ fn does_call<T: Trace>(
     }
     if number == FORK {
         return fork(world, s, trace);
-    }
-    if number == EXEC {
-        return exec(world, s, args, trace);
-    }
-    if number == BREAK {
-        return set_break(world, s, args, trace);
     }
     if is_file_call(number) {
         return call_files(world, s, number, args, trace);
@@ -378,14 +293,12 @@ fn words_passed(asked: &Asked, count: u8) -> u8
 /// A call by its number, where the PC has passed its word.
 fn call<T: Trace>(world: &mut World, s: Slot, number: u8, trace: &mut T) -> Ending
     requires { IsReady world.old s }
-    ensures come { HasCome (board_in world.old)
-        (system_call (board_in world.old) number (unix_of world.old) s) result world.new }
-    ensures good { IsGood world.new }
-    ensures runs { result ≢ Ending.Ended → world.new.procs.table.running ≡ Some s }
+    ensures come { HasCome (board_in world.old) (system_call number (unix_of world.old) s) result world.new }
+    ensures good { is_over result ≡ false → IsGood world.new }
+    ensures runs { is_over result ≡ false → result ≢ Ending.Ended → world.new.procs.table.running ≡ Some s }
     ensures call { result ≢ Ending.Next }
     ensures items { Took (T.taken trace.old) (logged (board_in world.old)
-        (system_call (board_in world.old) number (unix_of world.old) s).effects).items
-        (T.taken trace.new) }
+        (system_call number (unix_of world.old) s).effects).items (T.taken trace.new) }
     ensures frame { T.leads_to trace.old trace.new }
     ensures rest { SameRest world.old.files.tree.nodes.blocks world.new.files.tree.nodes.blocks }
 {
@@ -402,10 +315,10 @@ fn call<T: Trace>(world: &mut World, s: Slot, number: u8, trace: &mut T) -> Endi
 /// A fault, for which the stack may grow.
 fn fault<T: Trace>(world: &mut World, s: Slot, kind: Kind, trace: &mut T) -> Ending
     requires { IsReady world.old s }
-    ensures come { HasCome (board_in world.old) (faults (board_in world.old) (unix_of world.old) s kind) result world.new }
-    ensures ready { IsReady world.new s }
+    ensures come { HasCome (board_in world.old) (faults (unix_of world.old) s kind) result world.new }
+    ensures ready { is_over result ≡ false → IsReady world.new s }
     ensures items { Took (T.taken trace.old) (logged (board_in world.old)
-        (faults (board_in world.old) (unix_of world.old) s kind).effects).items (T.taken trace.new) }
+        (faults (unix_of world.old) s kind).effects).items (T.taken trace.new) }
     ensures frame { T.leads_to trace.old trace.new }
     ensures rest { SameRest world.old.files.tree.nodes.blocks world.new.files.tree.nodes.blocks }
 {
@@ -424,12 +337,11 @@ pub(crate) fn come_to<T: Trace>(
     trace: &mut T,
 ) -> Ending
     requires { IsReady world.old s }
-    ensures come { HasCome (board_in world.old)
-        (comes_to (board_in world.old) (unix_of world.old) s outcome) result world.new }
-    ensures good { IsGood world.new }
-    ensures runs { result ≢ Ending.Ended → world.new.procs.table.running ≡ Some s }
-    ensures items { Took (T.taken trace.old) (logged (board_in world.old) (comes_to (board_in world.old)
-        (unix_of world.old) s outcome).effects).items (T.taken trace.new) }
+    ensures come { HasCome (board_in world.old) (comes_to (unix_of world.old) s outcome) result world.new }
+    ensures good { is_over result ≡ false → IsGood world.new }
+    ensures runs { is_over result ≡ false → result ≢ Ending.Ended → world.new.procs.table.running ≡ Some s }
+    ensures items { Took (T.taken trace.old) (logged (board_in world.old)
+        (comes_to (unix_of world.old) s outcome).effects).items (T.taken trace.new) }
     ensures frame { T.leads_to trace.old trace.new }
     ensures rest { SameRest world.old.files.tree.nodes.blocks world.new.files.tree.nodes.blocks }
 {
@@ -484,7 +396,7 @@ fn go_on_waiting<T: Trace>(world: &mut World, s: Slot, trace: &mut T) -> Ending
             see_images(&world.procs.images);
             conclude(world, s, answer)
         }
-        Err(_) => Ending::NotBuilt,
+        Err(kind) => unmet_as(kind),
     }
 }
 

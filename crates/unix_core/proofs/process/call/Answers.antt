@@ -8,7 +8,7 @@ use Rattle.unix_core.specs.declared.asked.Asked.{Asked}
 use Rattle.unix_core.specs.declared.ending.Ending.TheVariants.{NotBuilt}
 use Rattle.unix_core.specs.Steps.{Steps}
 use Rattle.unix_core.specs.Calls.{system_call}
-use Rattle.unix_core.specs.Parts.{unix_of, board_in, IsGood, HasCome}
+use Rattle.unix_core.specs.Parts.{unix_of, board_in, HasCome}
 use Rattle.unix_core.proofs.SystemLemmas.{asked_here, system_is_not, entered_ready, entered_board, entered_call}
 use Rattle.unix_core.proofs.process.call.Goals as goal
 
@@ -39,7 +39,7 @@ returns-in-Some-clause-come g c =
     let steps = entered_call w s c.requires a c.in-Some.count _ _ _ c.ask-asked.ensures.same c.words_passed.ensures
     c.enter.ensures c.args.number asks
     (sym c.count_of.ensures ∙ c.in-Some.is) in
-    subst (λ b. HasCome b (system_call (board_in w) c.args.number (unix_of w) s) c.does_call.result
+    subst (λ b. HasCome b (system_call c.args.number (unix_of w) s) c.does_call.result
     c.does_call.new.world) same
     (subst (λ (x : Steps). HasCome (board_in (record w { procs = record w.procs { images = c.enter.new.images } })) x
     c.does_call.result c.does_call.new.world) steps c.does_call.ensures.come)
@@ -56,7 +56,7 @@ returns-in-Some-clause-items g c =
     c.enter.ensures c.args.number asks
     (sym c.count_of.ensures ∙ c.in-Some.is) in
     subst (λ b. Took (g.T.Trace.taken c.args.trace.now)
-    (logged b (system_call (board_in w) c.args.number (unix_of w) s).effects).items
+    (logged b (system_call c.args.number (unix_of w) s).effects).items
     (g.T.Trace.taken c.does_call.new.trace)) same
     (subst (λ (x : Steps). Took (g.T.Trace.taken c.args.trace.now)
     (logged (board_in (record w { procs = record w.procs { images = c.enter.new.images } })) x.effects).items
@@ -72,18 +72,16 @@ returns-in-None-clause-come g c =
     let s = c.args.s in
     let a : Asked = c.ask-asked.result in
     let asks = asked_here w s c.requires c.ask-asked.ensures.text c.args.number a c.ask-asked.ensures.asked in
-    let steps = system_is_not (board_in w) c.args.number (unix_of w) s a asks
+    let steps = system_is_not c.args.number (unix_of w) s a asks
     (sym c.count_of.ensures ∙ c.in-None.is) in
     subst (λ (k : Kept). HasCome (board_in w)
-    (system_call (board_in w) c.args.number (unix_of w) s) NotBuilt (with_images w k))
+    (system_call c.args.number (unix_of w) s) NotBuilt (with_images w k))
     (sym c.ask-asked.ensures.same)
     (subst (λ (x : Steps). HasCome (board_in w) x NotBuilt w) steps
     (record { ending = refl; unix = refl; board = refl }))
 
 pub returns-in-None-clause-good : goal.returns-in-None-clause-good
-returns-in-None-clause-good g c =
-    let w : World = c.args.world.now in
-    subst (λ (k : Kept). IsGood (with_images w k)) (sym c.ask-asked.ensures.same) c.requires.good
+returns-in-None-clause-good g c goes = absurd (cc goes)
 
 pub returns-in-None-clause-items : goal.returns-in-None-clause-items
 returns-in-None-clause-items g c =
@@ -91,6 +89,6 @@ returns-in-None-clause-items g c =
     let s = c.args.s in
     let a : Asked = c.ask-asked.result in
     let asks = asked_here w s c.requires c.ask-asked.ensures.text c.args.number a c.ask-asked.ensures.asked in
-    let steps = system_is_not (board_in w) c.args.number (unix_of w) s a asks
+    let steps = system_is_not c.args.number (unix_of w) s a asks
     (sym c.count_of.ensures ∙ c.in-None.is) in
     took_nothing _ _ (ap (λ (x : Steps). (logged (board_in w) x.effects).items) (sym steps))

@@ -1,25 +1,24 @@
-use Rattle.std.proofs.Common.{◌≡◌, ◌∙◌, ℕ, List, refl, sym, subst}
-use Rattle.std.specs.Prelude.{Result, Ok}
+use Rattle.std.proofs.Common.{ℕ, List, sym, subst}
+use Rattle.std.proofs.lemmas.Result.{IfOk-at_ok}
 use Rattle.v6_base.specs.Trace.{Took}
 use Rattle.v6_base.specs.declared.answer.Answer.{Answer}
-use Rattle.v6_base.specs.declared.entry.PanicKind.{PanicKind}
 use Rattle.fs_laws.specs.Rest.{SameRest}
 use Rattle.pick_rules.specs.Logged.{logged}
 use Rattle.sys_procs.specs.Comes.{Comes}
-use Rattle.sys_procs.specs.Handed.{handed}
+use Rattle.sys_procs.specs.Handed.{AreProcs}
 use Rattle.unix_core.specs.declared.world.World.{World}
-use Rattle.unix_core.specs.Calls.{answers, came_by, process_call}
+use Rattle.unix_core.specs.Calls.{came_by, process_call}
 use Rattle.unix_core.specs.Parts.{unix_of, board_in, HasCome, IsReady, process_row_of}
-use Rattle.unix_core.proofs.MildLemmas.{IsMild}
-use Rattle.unix_core.proofs.MildRows.{mild_row}
-use Rattle.unix_core.proofs.CameLemmas.{world_is, ready_calls, near_here, came_answer, came_state, came_board, came_items, came_unix, came_ready, came_come, came_took}
+use Rattle.unix_core.proofs.CameLemmas.{IsTame, after, beside, world_is, ready_calls, over_then, call_took, call_stops, call_ready, call_come}
+use Rattle.unix_core.proofs.ForkSlots.{given}
+use Rattle.unix_core.proofs.TameRows.{tame_row}
 use Rattle.unix_core.proofs.process.call_processes.Goals as goal
 
 abbrev row : World → ℕ → ℕ → List ℕ → Comes
-row w number s args = process_row_of (process_call number) (handed w.procs w.files.tree.nodes) s args
+row w number s args = process_row_of (process_call number) (given w) s args
 
-mild : (w : World) (number s : ℕ) (args : List ℕ) → IsReady w s → IsMild (handed w.procs w.files.tree.nodes) (row w number s args)
-mild w number s args ready = mild_row number (handed w.procs w.files.tree.nodes) s args (near_here w s ready)
+tame : (w : World) (number s : ℕ) (args : List ℕ) → IsReady w s → IsTame w (row w number s args)
+tame w number s args ready = tame_row w s ready number args
 
 pub do_process_call-requires : goal.do_process_call-requires
 do_process_call-requires g c = ready_calls c.args.world.now c.args.s c.requires c.see_table.ensures
@@ -27,43 +26,33 @@ do_process_call-requires g c = ready_calls c.args.world.now c.args.s c.requires 
 pub conclude-requires : goal.conclude-requires
 conclude-requires g c =
     let w : World = c.args.world.now in
-    let s = c.args.s in
-    let r : Comes = row w c.args.number s c.args.args in
-    let m = mild w c.args.number s c.args.args c.requires in
-    let done : World = record w { files = record w.files { tree = c.do_process_call.new.tree }; procs = c.do_process_call.new.p } in
-    came_ready w done s c.requires r m c.do_process_call.ensures.agree
-    (came_state w.procs m _ c.do_process_call.ensures.state) (came_board w.procs m _ c.do_process_call.ensures.board)
-    c.see_images.ensures refl c.do_process_call.ensures.marks refl refl refl
+    let e = c.do_process_call.ensures in
+    call_ready w (after w c.do_process_call.new.tree c.do_process_call.new.p) c.args.s (row w c.args.number c.args.s c.args.args)
+    (tame w c.args.number c.args.s c.args.args c.requires) (beside w c.do_process_call.new.tree c.do_process_call.new.p e.marks) e.does
+    c.in-Ok.answer c.in-Ok.is c.requires
+    (IfOk-at_ok (λ (a : Answer). AreProcs c.do_process_call.new.p) c.in-Ok.is e.agree) c.see_images.ensures
 
 pub returns-in-Ok-clause-come : goal.returns-in-Ok-clause-come
 returns-in-Ok-clause-come g c =
     let w : World = c.args.world.now in
     let s = c.args.s in
-    let r : Comes = row w c.args.number s c.args.args in
-    let m = mild w c.args.number s c.args.args c.requires in
-    let done : World = record w { files = record w.files { tree = c.do_process_call.new.tree }; procs = c.do_process_call.new.p } in
-    let shown = came_board w.procs m _ c.do_process_call.ensures.board in
-    let unix = came_unix w done s c.requires r m c.do_process_call.ensures.agree
-    (came_state w.procs m _ c.do_process_call.ensures.state) shown c.see_images.ensures refl c.do_process_call.ensures.marks refl refl refl in
-    let ok : ◌≡◌ {A = Result Answer PanicKind} (Ok c.in-Ok.answer) (Ok r.answer) = sym c.in-Ok.is ∙ came_answer w.procs m _ c.do_process_call.ensures.answer in
-    let answer : c.in-Ok.answer ≡ r.answer = cc ok in
+    let e = c.do_process_call.ensures in
     subst (λ x. HasCome (board_in w) (came_by (unix_of w) s (process_row_of (process_call c.args.number) x s c.args.args)) c.conclude.result c.conclude.new.world)
     (world_is w s c.requires c.see_nodes.ensures)
-    (came_come w c.conclude.new.world s r m c.conclude.result
-    (c.conclude.ensures.ending ∙ (λ i. (answers (unix i) s (answer i)).ending))
-    (c.conclude.ensures.unix ∙ (λ i. (answers (unix i) s (answer i)).unix))
-    (c.conclude.ensures.board ∙ shown))
+    (call_come w (after w c.do_process_call.new.tree c.do_process_call.new.p) s (row w c.args.number s c.args.args)
+    (tame w c.args.number s c.args.args c.requires) (beside w c.do_process_call.new.tree c.do_process_call.new.p e.marks) e.does
+    c.in-Ok.answer c.in-Ok.is c.conclude.new.world c.conclude.result c.conclude.ensures.ending c.conclude.ensures.unix c.conclude.ensures.board)
 
 pub returns-in-Ok-clause-items : goal.returns-in-Ok-clause-items
 returns-in-Ok-clause-items g c =
     let w : World = c.args.world.now in
     let s = c.args.s in
-    let r : Comes = row w c.args.number s c.args.args in
-    let m = mild w c.args.number s c.args.args c.requires in
+    let e = c.do_process_call.ensures in
     subst (λ x. Took (g.T.Trace.taken c.args.trace.now) (logged (board_in w) (came_by (unix_of w) s (process_row_of (process_call c.args.number) x s c.args.args)).effects).items
     (g.T.Trace.taken c.do_process_call.new.trace))
     (world_is w s c.requires c.see_nodes.ensures)
-    (came_took w c.conclude.new.world s r m _ _ (came_items w.procs m _ _ c.do_process_call.ensures.items))
+    (call_took w (after w c.do_process_call.new.tree c.do_process_call.new.p) s (row w c.args.number s c.args.args)
+    (tame w c.args.number s c.args.args c.requires) (beside w c.do_process_call.new.tree c.do_process_call.new.p e.marks) e.does)
 
 pub returns-in-Ok-clause-rest : goal.returns-in-Ok-clause-rest
 returns-in-Ok-clause-rest g c =
@@ -73,22 +62,24 @@ pub returns-in-Err-clause-come : goal.returns-in-Err-clause-come
 returns-in-Err-clause-come g c =
     let w : World = c.args.world.now in
     let s = c.args.s in
-    let m = mild w c.args.number s c.args.args c.requires in
-    let never = sym (came_answer w.procs m _ c.do_process_call.ensures.answer) ∙ c.in-Err.is in
-    absurd (cc never)
+    let e = c.do_process_call.ensures in
+    subst (λ x. HasCome (board_in w) (came_by (unix_of w) s (process_row_of (process_call c.args.number) x s c.args.args)) c.unmet_as.result
+    (after w c.do_process_call.new.tree c.do_process_call.new.p))
+    (world_is w s c.requires c.see_nodes.ensures)
+    (call_stops w (after w c.do_process_call.new.tree c.do_process_call.new.p) s (row w c.args.number s c.args.args)
+    (tame w c.args.number s c.args.args c.requires) (beside w c.do_process_call.new.tree c.do_process_call.new.p e.marks) e.does
+    c.in-Err.kind c.unmet_as.result c.in-Err.is c.unmet_as.ensures)
 
 pub returns-in-Err-clause-ready : goal.returns-in-Err-clause-ready
-returns-in-Err-clause-ready g c =
-    let w : World = c.args.world.now in
-    let s = c.args.s in
-    let m = mild w c.args.number s c.args.args c.requires in
-    let never = sym (came_answer w.procs m _ c.do_process_call.ensures.answer) ∙ c.in-Err.is in
-    absurd (cc never)
+returns-in-Err-clause-ready g c goes = over_then c.unmet_as.result c.in-Err.kind c.unmet_as.ensures goes
 
 pub returns-in-Err-clause-items : goal.returns-in-Err-clause-items
 returns-in-Err-clause-items g c =
     let w : World = c.args.world.now in
     let s = c.args.s in
-    let m = mild w c.args.number s c.args.args c.requires in
-    let never = sym (came_answer w.procs m _ c.do_process_call.ensures.answer) ∙ c.in-Err.is in
-    absurd (cc never)
+    let e = c.do_process_call.ensures in
+    subst (λ x. Took (g.T.Trace.taken c.args.trace.now) (logged (board_in w) (came_by (unix_of w) s (process_row_of (process_call c.args.number) x s c.args.args)).effects).items
+    (g.T.Trace.taken c.do_process_call.new.trace))
+    (world_is w s c.requires c.see_nodes.ensures)
+    (call_took w (after w c.do_process_call.new.tree c.do_process_call.new.p) s (row w c.args.number s c.args.args)
+    (tame w c.args.number s c.args.args c.requires) (beside w c.do_process_call.new.tree c.do_process_call.new.p e.marks) e.does)

@@ -54,11 +54,11 @@ returns-in-Ok-clause-come g c =
     let now : World = record w1 { files = record w1.files { tree = c.exit_now.new.tree }; procs = c.exit_now.new.p } in
     let unix = unix_then w new s c.pass_on.new.table c.close_files.ensures.unix c.pass_on.ensures.table in
     let closed = closed_then w w1 s c.requires ready unix in
-    let state = end_state w1 s ready _ c.exit_now.ensures.state in
+    let state = end_state w1 s ready _ c.exit_now.ensures.does.state in
     exit_come w w1 now s ready c.see_nodes.ensures unix
     (ap (λ t. board_in (with_table new t)) c.pass_on.ensures.table ∙ shown_board w new s _ c.close_files.ensures.shown)
-    (ended_unix w1 now s ready closed c.exit_now.ensures.agree state c.exit_now.ensures.board c.see_images.ensures refl c.exit_now.ensures.marks refl refl refl)
-    c.exit_now.ensures.board
+    (ended_unix w1 now s ready closed c.exit_now.ensures.agree state c.exit_now.ensures.does.shown c.see_images.ensures refl c.exit_now.ensures.marks refl refl refl)
+    c.exit_now.ensures.does.shown
 
 pub returns-in-Ok-clause-good : goal.returns-in-Ok-clause-good
 returns-in-Ok-clause-good g c =
@@ -70,8 +70,8 @@ returns-in-Ok-clause-good g c =
     let now : World = record w1 { files = record w1.files { tree = c.exit_now.new.tree }; procs = c.exit_now.new.p } in
     let unix = unix_then w new s c.pass_on.new.table c.close_files.ensures.unix c.pass_on.ensures.table in
     let closed = closed_then w w1 s c.requires ready unix in
-    let state = end_state w1 s ready _ c.exit_now.ensures.state in
-    ended_good w1 now s ready closed c.exit_now.ensures.agree state c.exit_now.ensures.board c.see_images.ensures refl c.exit_now.ensures.marks refl refl refl
+    let state = end_state w1 s ready _ c.exit_now.ensures.does.state in
+    ended_good w1 now s ready closed c.exit_now.ensures.agree state c.exit_now.ensures.does.shown c.see_images.ensures refl c.exit_now.ensures.marks refl refl refl
 
 pub returns-in-Ok-clause-items : goal.returns-in-Ok-clause-items
 returns-in-Ok-clause-items g c =
@@ -84,34 +84,34 @@ returns-in-Ok-clause-items g c =
     (ap (λ t. unix_of (with_table new t)) c.pass_on.ensures.table ∙ woken_unix new new.tape.entries ∙ c.close_files.ensures.unix)
     (ap (λ t. board_in (with_table new t)) c.pass_on.ensures.table ∙ shown_board w new s _ c.close_files.ensures.shown)
     _ _ _ (subst (λ l. Took (g.T.Trace.taken c.args.trace.now) l (g.T.Trace.taken c.pass_on.new.trace)) c.close_files.ensures.shown.shown c.pass_on.ensures.items)
-    c.exit_now.ensures.items
+    c.exit_now.ensures.does.items
 
 pub returns-in-Err-clause-come : goal.returns-in-Err-clause-come
 returns-in-Err-clause-come g c =
     let new : World = c.close_files.new.world in
     let ready = ready_then new c.args.s c.pass_on.new.table c.close_files.ensures.shown.ready c.pass_on.ensures.table c.pass_on.ensures.good in
-    let no = sym (end_answer (with_table new c.pass_on.new.table) c.args.s ready _ c.exit_now.ensures.answer) ∙ c.in-Err.is in
+    let no = sym (end_answer (with_table new c.pass_on.new.table) c.args.s ready _ c.exit_now.ensures.does.answer) ∙ c.in-Err.is in
     absurd (cc no)
 
 pub returns-in-Err-clause-good : goal.returns-in-Err-clause-good
 returns-in-Err-clause-good g c =
     let new : World = c.close_files.new.world in
     let ready = ready_then new c.args.s c.pass_on.new.table c.close_files.ensures.shown.ready c.pass_on.ensures.table c.pass_on.ensures.good in
-    let no = sym (end_answer (with_table new c.pass_on.new.table) c.args.s ready _ c.exit_now.ensures.answer) ∙ c.in-Err.is in
+    let no = sym (end_answer (with_table new c.pass_on.new.table) c.args.s ready _ c.exit_now.ensures.does.answer) ∙ c.in-Err.is in
     absurd (cc no)
 
 pub returns-in-Err-clause-runs : goal.returns-in-Err-clause-runs
 returns-in-Err-clause-runs g c =
     let new : World = c.close_files.new.world in
     let ready = ready_then new c.args.s c.pass_on.new.table c.close_files.ensures.shown.ready c.pass_on.ensures.table c.pass_on.ensures.good in
-    let no = sym (end_answer (with_table new c.pass_on.new.table) c.args.s ready _ c.exit_now.ensures.answer) ∙ c.in-Err.is in
+    let no = sym (end_answer (with_table new c.pass_on.new.table) c.args.s ready _ c.exit_now.ensures.does.answer) ∙ c.in-Err.is in
     absurd (cc no)
 
 pub returns-in-Err-clause-items : goal.returns-in-Err-clause-items
 returns-in-Err-clause-items g c =
     let new : World = c.close_files.new.world in
     let ready = ready_then new c.args.s c.pass_on.new.table c.close_files.ensures.shown.ready c.pass_on.ensures.table c.pass_on.ensures.good in
-    let no = sym (end_answer (with_table new c.pass_on.new.table) c.args.s ready _ c.exit_now.ensures.answer) ∙ c.in-Err.is in
+    let no = sym (end_answer (with_table new c.pass_on.new.table) c.args.s ready _ c.exit_now.ensures.does.answer) ∙ c.in-Err.is in
     absurd (cc no)
 
 pub returns-in-Ok-clause-frame : goal.returns-in-Ok-clause-frame

@@ -13,18 +13,18 @@ use Rattle.unix_core.proofs.process.fault.Goals as goal
 pub returns-in-Segment-clause-come : goal.returns-in-Segment-clause-come
 returns-in-Segment-clause-come g c =
     let w : World = c.args.world.now in
-    subst (λ (k : Kind). HasCome (board_in w) (faults (board_in w) (unix_of w) c.args.s k) c.grow_stack.result c.grow_stack.new.world)
+    subst (λ (k : Kind). HasCome (board_in w) (faults (unix_of w) c.args.s k) c.grow_stack.result c.grow_stack.new.world)
     (sym c.in-Segment.is) c.grow_stack.ensures.come
 
 pub returns-in_default-clause-come : goal.returns-in_default-clause-come
 returns-in_default-clause-come g c =
     let w : World = c.args.world.now in
     subst (λ (x : Steps). HasCome (board_in w) x NotBuilt w)
-    (no_growth (board_in w) (unix_of w) c.args.s c.args.kind c.in_default.not-Segment)
+    (no_growth (unix_of w) c.args.s c.args.kind c.in_default.not-Segment)
     (record { ending = refl; unix = refl; board = refl })
 
 pub returns-in_default-clause-items : goal.returns-in_default-clause-items
 returns-in_default-clause-items g c =
     let w : World = c.args.world.now in
     took_nothing _ _ (ap (λ (x : Steps). (logged (board_in w) x.effects).items)
-    (sym (no_growth (board_in w) (unix_of w) c.args.s c.args.kind c.in_default.not-Segment)))
+    (sym (no_growth (unix_of w) c.args.s c.args.kind c.in_default.not-Segment)))

@@ -1,6 +1,5 @@
 use Rattle.std.proofs.Common.{◌≡◌, ◌∙◌, ℕ, List, Option, refl, sym, ap, subst, arith}
 use Rattle.v6_base.specs.declared.answer.Answer.{Answer}
-use Rattle.v6_base.proofs.Took.{took_none}
 use Rattle.fs_laws.specs.Rest.{SameRest}
 use Rattle.image_keep.specs.Kept.{area_of}
 use Rattle.open_files.specs.declared.file.OpenFile.{OpenFile}
@@ -18,9 +17,8 @@ use Rattle.unix_core.specs.Parts.{unix_of, named, IsReady}
 use Rattle.unix_core.proofs.ReferenceLemmas.{few_named}
 use Rattle.unix_core.proofs.WorldLemmas.{files_open, fifteen_each}
 use Rattle.unix_core.proofs.AreaLemmas.{own_area}
-use Rattle.unix_core.proofs.CameLemmas.{ready_calls}
-use Rattle.unix_core.proofs.ForkingLemmas.{fork_answer, fork_gives, fork_took, fork_ready, fork_come, no_room_come, no_room_took}
-use Rattle.unix_core.proofs.process.fork.Given as given
+use Rattle.unix_core.proofs.CameLemmas.{ready_calls, after, beside, over_then}
+use Rattle.unix_core.proofs.ForkingLemmas.{fork_took, fork_stops, fork_ready, fork_come}
 use Rattle.unix_core.proofs.process.fork.Goals as goal
 
 -- no file has so many numbers that fifteen more can't be counted
@@ -33,14 +31,6 @@ room_for w s ready entry file is =
 
 pub area-u-requires : goal.area-u-requires
 area-u-requires g c = c.requires.good.running c.args.s c.requires.runs c.requires.user
-
-pub returns-then-not-can_fork-clause-come : goal.returns-then-not-can_fork-clause-come
-returns-then-not-can_fork-clause-come g c =
-    no_room_come c.args.world.now c.args.s (sym c.can_fork.ensures ∙ c.if-not-can_fork.true)
-
-pub returns-then-not-can_fork-clause-items : goal.returns-then-not-can_fork-clause-items
-returns-then-not-can_fork-clause-items g c =
-    no_room_took c.args.world.now c.args.s _ (sym c.can_fork.ensures ∙ c.if-not-can_fork.true) (took_none _)
 
 pub fork_one-requires : goal.fork_one-requires
 fork_one-requires g c = ready_calls c.args.world.now c.args.s c.requires c.see_table.ensures
@@ -55,8 +45,8 @@ pub share_files-requires-clause-few : goal.share_files-requires-clause-few
 share_files-requires-clause-few g c = room_for c.args.world.now c.args.s c.requires
 
 -- the world before the answer is concluded
-abbrev after : World → Tree → List (Option OpenFile) → Procs → World
-after w tree table procs = record w { files = record w.files { tree = tree; table = table }; procs = procs }
+abbrev shared : World → Tree → List (Option OpenFile) → Procs → World
+shared w tree table procs = record w { files = record w.files { tree = tree; table = table }; procs = procs }
 
 its_table : (w : World) (s : ℕ) (u : UArea) (table : List (Option OpenFile)) (answer : Answer) → IsReady w s → u ≡ area_of w.procs.images s
     → table ≡ shares w.files.table u.files answer → table ≡ shares w.files.table (process_of (unix_of w) s).u.files answer
@@ -65,43 +55,48 @@ its_table w s u table answer ready area is = is ∙ ap (λ (v : UArea). shares w
 pub conclude-requires : goal.conclude-requires
 conclude-requires g c =
     let w : World = c.args.world.now in
-    let room = sym c.can_fork.ensures ∙ c.if-not-can_fork.false in
-    fork_ready w (after w c.fork_one.new.tree c.share_files.new.table c.fork_one.new.p) c.args.s c.requires room
-    c.fork_one.ensures.agree c.fork_one.ensures.state c.fork_one.ensures.board c.see_images.ensures
-    c.in-Ok.answer (fork_gives w c.args.s c.requires room _ c.in-Ok.answer c.fork_one.ensures.answer c.in-Ok.is)
-    (its_table w c.args.s c.area-u.result _ c.in-Ok.answer c.requires c.area-u.ensures.u c.share_files.ensures)
-    c.fork_one.ensures.marks refl refl refl
+    let e = c.fork_one.ensures in
+    fork_ready w (after w c.fork_one.new.tree c.fork_one.new.p) c.args.s c.requires c.see_nodes.ensures
+    (beside w c.fork_one.new.tree c.fork_one.new.p e.marks) e.does
+    c.in-Ok.answer c.in-Ok.is (shared w c.fork_one.new.tree c.share_files.new.table c.fork_one.new.p) refl refl
+    (its_table w c.args.s c.area-u.result _ c.in-Ok.answer c.requires c.area-u.ensures.u c.share_files.ensures) refl refl refl
+    e.agree c.see_images.ensures
 
 pub returns-in-Ok-clause-come : goal.returns-in-Ok-clause-come
 returns-in-Ok-clause-come g c =
     let w : World = c.args.world.now in
-    let room = sym c.can_fork.ensures ∙ c.if-not-can_fork.false in
-    fork_come w (after w c.fork_one.new.tree c.share_files.new.table c.fork_one.new.p) c.args.s c.requires room
-    c.fork_one.ensures.agree c.fork_one.ensures.state c.fork_one.ensures.board c.see_images.ensures
-    c.in-Ok.answer (fork_gives w c.args.s c.requires room _ c.in-Ok.answer c.fork_one.ensures.answer c.in-Ok.is)
-    (its_table w c.args.s c.area-u.result _ c.in-Ok.answer c.requires c.area-u.ensures.u c.share_files.ensures)
-    c.fork_one.ensures.marks refl refl refl
-    c.conclude.new.world c.conclude.result c.see_nodes.ensures c.conclude.ensures.ending c.conclude.ensures.unix c.conclude.ensures.board
+    let e = c.fork_one.ensures in
+    fork_come w (after w c.fork_one.new.tree c.fork_one.new.p) c.args.s c.requires c.see_nodes.ensures
+    (beside w c.fork_one.new.tree c.fork_one.new.p e.marks) e.does
+    c.in-Ok.answer c.in-Ok.is (shared w c.fork_one.new.tree c.share_files.new.table c.fork_one.new.p) refl refl
+    (its_table w c.args.s c.area-u.result _ c.in-Ok.answer c.requires c.area-u.ensures.u c.share_files.ensures) refl refl refl
+    e.agree c.see_images.ensures
+    c.conclude.new.world c.conclude.result c.conclude.ensures.ending c.conclude.ensures.unix c.conclude.ensures.board
 
 pub returns-in-Ok-clause-items : goal.returns-in-Ok-clause-items
-returns-in-Ok-clause-items g c = fork_took c.args.world.now c.args.s c.requires (sym c.can_fork.ensures ∙ c.if-not-can_fork.false) _ _ c.see_nodes.ensures c.fork_one.ensures.items
+returns-in-Ok-clause-items g c =
+    let w : World = c.args.world.now in
+    let e = c.fork_one.ensures in
+    fork_took w (after w c.fork_one.new.tree c.fork_one.new.p) c.args.s c.requires c.see_nodes.ensures
+    (beside w c.fork_one.new.tree c.fork_one.new.p e.marks) e.does
 
 pub returns-in-Ok-clause-rest : goal.returns-in-Ok-clause-rest
 returns-in-Ok-clause-rest g c =
     subst (λ b. SameRest c.args.world.now.files.tree.nodes.blocks b) (sym c.conclude.ensures.blocks) c.fork_one.ensures.blocks
 
--- it never panics
-no_panic : (g : given.Over) (c : goal.In-Err g) → ⊥
-no_panic g c =
-    let never = sym (fork_answer c.args.world.now c.args.s c.requires (sym c.can_fork.ensures ∙ c.if-not-can_fork.false) _ c.fork_one.ensures.answer)
-    ∙ c.in-Err.is in
-    cc never
-
 pub returns-in-Err-clause-come : goal.returns-in-Err-clause-come
-returns-in-Err-clause-come g c = absurd (no_panic g c)
+returns-in-Err-clause-come g c =
+    let w : World = c.args.world.now in
+    let e = c.fork_one.ensures in
+    fork_stops w (after w c.fork_one.new.tree c.fork_one.new.p) c.args.s c.requires c.see_nodes.ensures
+    (beside w c.fork_one.new.tree c.fork_one.new.p e.marks) e.does c.in-Err.kind c.unmet_as.result c.in-Err.is c.unmet_as.ensures
 
 pub returns-in-Err-clause-ready : goal.returns-in-Err-clause-ready
-returns-in-Err-clause-ready g c = absurd (no_panic g c)
+returns-in-Err-clause-ready g c goes = over_then c.unmet_as.result c.in-Err.kind c.unmet_as.ensures goes
 
 pub returns-in-Err-clause-items : goal.returns-in-Err-clause-items
-returns-in-Err-clause-items g c = absurd (no_panic g c)
+returns-in-Err-clause-items g c =
+    let w : World = c.args.world.now in
+    let e = c.fork_one.ensures in
+    fork_took w (after w c.fork_one.new.tree c.fork_one.new.p) c.args.s c.requires c.see_nodes.ensures
+    (beside w c.fork_one.new.tree c.fork_one.new.p e.marks) e.does

@@ -1,16 +1,11 @@
-use Rattle.std.proofs.Common.{◌≡◌, ◌∙◌, Bool, true, false, refl, ap}
+use Rattle.std.proofs.Common.{◌≡◌, ◌∙◌, Bool, true, false, ap}
 use Rattle.std.specs.Prelude.{Result, Ok}
-use Rattle.sys_procs.specs.declared.halt.Halt.{Halt}
-use Rattle.fs_tree.specs.declared.tree.Tree.{Tree}
-use Rattle.sys_procs.specs.declared.procs.Procs.{Procs}
+use Rattle.v6_base.specs.declared.entry.PanicKind.{PanicKind}
 use Rattle.unix_core.specs.declared.world.World.{World}
-use Rattle.unix_core.proofs.CameLemmas.{ready_calls}
-use Rattle.unix_core.proofs.GrowthLemmas.{growth, has_grown, has_not_grown, growth_halted, grown_ready, grown_come, growth_halts, not_grown_come, grown_took}
+use Rattle.unix_core.proofs.CameLemmas.{after, beside, ready_calls, over_then}
+use Rattle.unix_core.proofs.EndingLemmas.{unmet_call}
+use Rattle.unix_core.proofs.GrowthLemmas.{grown_ready, grown_come, growth_stops, not_grown_come, grown_took}
 use Rattle.unix_core.proofs.process.grow_stack.Goals as goal
-
--- the world when the call is done
-abbrev after : World → Tree → Procs → World
-after w tree procs = record w { files = record w.files { tree = tree }; procs = procs }
 
 pub grow-grown-requires : goal.grow-grown-requires
 grow-grown-requires g c = ready_calls c.args.world.now c.args.s c.requires c.see_table.ensures
@@ -18,57 +13,60 @@ grow-grown-requires g c = ready_calls c.args.world.now c.args.s c.requires c.see
 pub returns-in-Ok-true-clause-come : goal.returns-in-Ok-true-clause-come
 returns-in-Ok-true-clause-come g c =
     let w : World = c.args.world.now in
-    let is : ◌≡◌ {A = Result Bool Halt} c.grow-grown.result (Ok true) = c.in-Ok-true.is ∙ ap (λ (x : Bool). Ok x) c.in-Ok-true.field-0-test in
-    let grown = has_grown (growth w c.args.s c.args.sp) _ c.grow-grown.ensures.answer is in
-    grown_come w (after w c.grow-grown.new.tree c.grow-grown.new.p) c.args.s c.args.sp
-    c.requires c.see_nodes.ensures
-    c.grow-grown.ensures.agree c.grow-grown.ensures.state c.grow-grown.ensures.board c.grow-grown.ensures.stop c.see_images.ensures refl c.grow-grown.ensures.marks refl refl refl
-    grown.0 grown.1.0 grown.1.1
+    let e = c.grow-grown.ensures in
+    let is : ◌≡◌ {A = Result Bool PanicKind} c.grow-grown.result (Ok true) = c.in-Ok-true.is ∙ ap (λ (x : Bool). Ok x) c.in-Ok-true.field-0-test in
+    grown_come w (after w c.grow-grown.new.tree c.grow-grown.new.p) c.args.s c.args.sp c.requires c.see_nodes.ensures
+    (beside w c.grow-grown.new.tree c.grow-grown.new.p e.marks) e.does is
 
 pub returns-in-Ok-true-clause-ready : goal.returns-in-Ok-true-clause-ready
-returns-in-Ok-true-clause-ready g c =
+returns-in-Ok-true-clause-ready g c goes =
     let w : World = c.args.world.now in
-    grown_ready w (after w c.grow-grown.new.tree c.grow-grown.new.p) c.args.s c.args.sp
-    c.requires c.see_nodes.ensures
-    c.grow-grown.ensures.agree c.grow-grown.ensures.state c.grow-grown.ensures.board c.grow-grown.ensures.stop c.see_images.ensures refl c.grow-grown.ensures.marks refl refl refl
+    let e = c.grow-grown.ensures in
+    let is : ◌≡◌ {A = Result Bool PanicKind} c.grow-grown.result (Ok true) = c.in-Ok-true.is ∙ ap (λ (x : Bool). Ok x) c.in-Ok-true.field-0-test in
+    grown_ready w (after w c.grow-grown.new.tree c.grow-grown.new.p) c.args.s c.args.sp c.requires c.see_nodes.ensures
+    (beside w c.grow-grown.new.tree c.grow-grown.new.p e.marks) e.does is e.agree c.see_images.ensures
 
 pub returns-in-Ok-true-clause-items : goal.returns-in-Ok-true-clause-items
-returns-in-Ok-true-clause-items g c = grown_took c.args.world.now c.args.s c.args.sp _ _ c.requires c.see_nodes.ensures c.grow-grown.ensures.items
+returns-in-Ok-true-clause-items g c =
+    let w : World = c.args.world.now in
+    let e = c.grow-grown.ensures in
+    grown_took w (after w c.grow-grown.new.tree c.grow-grown.new.p) c.args.s c.args.sp c.requires c.see_nodes.ensures
+    (beside w c.grow-grown.new.tree c.grow-grown.new.p e.marks) e.does
 
 pub returns-in-Ok-false-clause-come : goal.returns-in-Ok-false-clause-come
 returns-in-Ok-false-clause-come g c =
     let w : World = c.args.world.now in
-    let is : ◌≡◌ {A = Result Bool Halt} c.grow-grown.result (Ok false) = c.in-Ok-false.is ∙ ap (λ (x : Bool). Ok x) c.in-Ok-false.field-0-test in
-    not_grown_come w (after w c.grow-grown.new.tree c.grow-grown.new.p) c.args.s c.args.sp
-    c.requires c.see_nodes.ensures
-    c.grow-grown.ensures.agree c.grow-grown.ensures.state c.grow-grown.ensures.board c.grow-grown.ensures.stop c.see_images.ensures refl c.grow-grown.ensures.marks refl refl refl
-    (has_not_grown (growth w c.args.s c.args.sp) _ c.grow-grown.ensures.answer is)
+    let e = c.grow-grown.ensures in
+    let is : ◌≡◌ {A = Result Bool PanicKind} c.grow-grown.result (Ok false) = c.in-Ok-false.is ∙ ap (λ (x : Bool). Ok x) c.in-Ok-false.field-0-test in
+    not_grown_come w (after w c.grow-grown.new.tree c.grow-grown.new.p) c.args.s c.args.sp c.requires c.see_nodes.ensures
+    (beside w c.grow-grown.new.tree c.grow-grown.new.p e.marks) e.does is
 
 pub returns-in-Ok-false-clause-ready : goal.returns-in-Ok-false-clause-ready
-returns-in-Ok-false-clause-ready g c =
-    let w : World = c.args.world.now in
-    grown_ready w (after w c.grow-grown.new.tree c.grow-grown.new.p) c.args.s c.args.sp
-    c.requires c.see_nodes.ensures
-    c.grow-grown.ensures.agree c.grow-grown.ensures.state c.grow-grown.ensures.board c.grow-grown.ensures.stop c.see_images.ensures refl c.grow-grown.ensures.marks refl refl refl
+returns-in-Ok-false-clause-ready g c goes = absurd (cc goes)
 
 pub returns-in-Ok-false-clause-items : goal.returns-in-Ok-false-clause-items
-returns-in-Ok-false-clause-items g c = grown_took c.args.world.now c.args.s c.args.sp _ _ c.requires c.see_nodes.ensures c.grow-grown.ensures.items
+returns-in-Ok-false-clause-items g c =
+    let w : World = c.args.world.now in
+    let e = c.grow-grown.ensures in
+    grown_took w (after w c.grow-grown.new.tree c.grow-grown.new.p) c.args.s c.args.sp c.requires c.see_nodes.ensures
+    (beside w c.grow-grown.new.tree c.grow-grown.new.p e.marks) e.does
 
 pub returns-in-Err-clause-come : goal.returns-in-Err-clause-come
 returns-in-Err-clause-come g c =
     let w : World = c.args.world.now in
-    let grown = growth_halted (growth w c.args.s c.args.sp) c.in-Err.halt _ c.grow-grown.ensures.answer c.in-Err.is in
-    growth_halts w (after w c.grow-grown.new.tree c.grow-grown.new.p) c.args.s c.args.sp
-    c.requires c.see_nodes.ensures
-    c.grow-grown.ensures.agree c.grow-grown.ensures.state c.grow-grown.ensures.board c.grow-grown.ensures.stop c.see_images.ensures refl c.grow-grown.ensures.marks refl refl refl
-    grown.0 c.in-Err.halt c.halted.result grown.1.0 grown.1.1 c.halted.ensures
+    let e = c.grow-grown.ensures in
+    growth_stops w (after w c.grow-grown.new.tree c.grow-grown.new.p) c.args.s c.args.sp c.requires c.see_nodes.ensures
+    (beside w c.grow-grown.new.tree c.grow-grown.new.p e.marks) e.does c.in-Err.kind c.unmet_as.result c.in-Err.is c.unmet_as.ensures
 
 pub returns-in-Err-clause-ready : goal.returns-in-Err-clause-ready
-returns-in-Err-clause-ready g c =
-    let w : World = c.args.world.now in
-    grown_ready w (after w c.grow-grown.new.tree c.grow-grown.new.p) c.args.s c.args.sp
-    c.requires c.see_nodes.ensures
-    c.grow-grown.ensures.agree c.grow-grown.ensures.state c.grow-grown.ensures.board c.grow-grown.ensures.stop c.see_images.ensures refl c.grow-grown.ensures.marks refl refl refl
+returns-in-Err-clause-ready g c goes = over_then c.unmet_as.result c.in-Err.kind c.unmet_as.ensures goes
+
+pub returns-in-Err-clause-call : goal.returns-in-Err-clause-call
+returns-in-Err-clause-call g c = unmet_call c.unmet_as.result c.in-Err.kind c.unmet_as.ensures
 
 pub returns-in-Err-clause-items : goal.returns-in-Err-clause-items
-returns-in-Err-clause-items g c = grown_took c.args.world.now c.args.s c.args.sp _ _ c.requires c.see_nodes.ensures c.grow-grown.ensures.items
+returns-in-Err-clause-items g c =
+    let w : World = c.args.world.now in
+    let e = c.grow-grown.ensures in
+    grown_took w (after w c.grow-grown.new.tree c.grow-grown.new.p) c.args.s c.args.sp c.requires c.see_nodes.ensures
+    (beside w c.grow-grown.new.tree c.grow-grown.new.p e.marks) e.does

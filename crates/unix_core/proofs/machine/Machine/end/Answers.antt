@@ -5,14 +5,18 @@ use Rattle.unix_core.specs.declared.machine.Stage.{Stage}
 use Rattle.unix_core.specs.Turn.{settled}
 use Rattle.unix_core.specs.Parts.{board_in, system_at, IsRested}
 use Rattle.unix_core.proofs.TableLemmas.{with_table}
-use Rattle.unix_core.proofs.EndLemmas.{ended_rested, ended_takes, ended_items, stopped_takes, stopped_items, end_answer}
+use Rattle.unix_core.proofs.EndLemmas.{not_over, ended_rested, ended_takes, ended_items, stopped_takes, stopped_items, end_answer}
 use Rattle.unix_core.proofs.machine.Machine.end.Goals as goal
+
+pub end_turn-requires-clause-table : goal.end_turn-requires-clause-table
+end_turn-requires-clause-table g c = (c.requires.good (not_over c.args.ending 0 (c.in-Ran.ensures.goes refl 0))).agree.table
 
 pub settle-requires : goal.settle-requires
 settle-requires g c =
     let w : World = c.args.self.now.world in
+    let on = not_over c.args.ending 0 (c.in-Ran.ensures.goes refl 0) in
     subst (λ (at : Stage). IsRested at (with_table w c.end_turn.new.table)) (sym c.requires.stage)
-    (ended_rested w c.requires.good c.args.s c.requires.user c.requires.slot c.args.ending c.requires.runs c.end_turn.new.table c.end_turn.ensures.table c.end_turn.ensures.good)
+    (ended_rested w (c.requires.good on) c.args.s c.requires.user c.requires.slot c.args.ending (c.requires.runs on) c.end_turn.new.table c.end_turn.ensures.table c.end_turn.ensures.good)
 
 pub returns-in-Ran-clause-answer : goal.returns-in-Ran-clause-answer
 returns-in-Ran-clause-answer g c pc = c.in-Ran.ensures.went pc ∙ end_answer c.args.self.now.world c.args.s pc c.args.ending
@@ -22,14 +26,16 @@ returns-in-Ran-clause-takes g c pc =
     let m = c.args.self.now in
     let w : World = m.world in
     let w' : World = with_table w c.end_turn.new.table in
-    ended_takes w c.requires.good c.args.s c.requires.user c.requires.slot c.args.ending c.requires.runs c.end_turn.new.table c.end_turn.ensures.table c.end_turn.ensures.good
+    let on = not_over c.args.ending pc (c.in-Ran.ensures.goes refl pc) in
+    ended_takes w (c.requires.good on) c.args.s c.requires.user c.requires.slot c.args.ending (c.requires.runs on) c.end_turn.new.table c.end_turn.ensures.table c.end_turn.ensures.good
     pc (c.in-Ran.ensures.goes refl pc) _ _ m.regs _ c.settle.ensures.kernel c.settle.ensures.started (c.end_turn.ensures.board w.procs.images)
     (c.settle.ensures.system ∙ ap (λ (at : Stage). record (system_at at m.regs w') { board = (settled (board_in w')).board }) c.requires.stage)
 
 pub returns-in-Ran-clause-items : goal.returns-in-Ran-clause-items
 returns-in-Ran-clause-items g c pc =
     let w : World = c.args.self.now.world in
-    ended_items w c.requires.good c.args.s c.requires.user c.requires.slot c.args.ending c.requires.runs c.end_turn.new.table c.end_turn.ensures.table c.end_turn.ensures.good
+    let on = not_over c.args.ending pc (c.in-Ran.ensures.goes refl pc) in
+    ended_items w (c.requires.good on) c.args.s c.requires.user c.requires.slot c.args.ending (c.requires.runs on) c.end_turn.new.table c.end_turn.ensures.table c.end_turn.ensures.good
     pc (c.in-Ran.ensures.goes refl pc) _ _ _ (c.end_turn.ensures.board w.procs.images) (c.end_turn.ensures.items (board_in w)) c.settle.ensures.items
 
 pub returns-in_default-clause-answer : goal.returns-in_default-clause-answer
