@@ -110,8 +110,8 @@ class Assembler:
         self.long, self.grew = set(), False  # the jumps that need more than a branch, by their count
 
     def assemble(self, sources, shared=False, symbols=False):
-        """The file of a program, of its sources: (name, text). None where one has an error: see `errors`. The first pass finds
-        what the names are, others which jumps need more than a branch, and the last makes the words."""
+        """The file of a program, of its sources: (name, text). None where one has an error: see `errors`. The first pass
+        finds what the names are, others which jumps need more than a branch, and the last makes the words."""
         while True:
             self.parts = {name: Part() for name in ("text", "data", "bss")}
             if not self.first:
@@ -136,7 +136,8 @@ class Assembler:
 
     def symbols(self):
         """The names that the source gives, with the types of a.out(V) and their values, by address."""
-        named = {**{name: value for name, value in self.constants.items() if name not in CODES}, **self.common_at, **self.labels}
+        constants = {name: value for name, value in self.constants.items() if name not in CODES}
+        named = {**constants, **self.common_at, **self.labels}
         found = [(name, TYPES[value.part] + GLOBAL * (name in self.globals), self.resolve(value) & WORD)
                  for name, value in named.items()]
         return sorted(found, key=lambda symbol: (symbol[1] & 7, symbol[2], symbol[0]))
@@ -236,7 +237,7 @@ class Assembler:
             self.words(self.expression())
 
     def is_unknown(self):
-        """Whether a name, which is no instruction's, has operands behind it."""
+        """Whether a name, which is no instruction's, has operands after it."""
         kind, text = self.tokens[1] if self.peek("name") else ("end", "")
         return kind != "end" and (kind != "mark" or text in "*$(")
 

@@ -79,7 +79,8 @@ def page(name, section):
     source, about = PAGES[name, section]
     with open(os.path.join(TOP, "docs", "manual", source), encoding="utf-8") as file:
         lines = file.read().split("\n")[1:]
-    text = [f'.TH {name.upper()} {section} "" "v6" "Sixth Edition UNIX"', ".SH NAME", f"{name} \\- {plain(about)}", ".SH DESCRIPTION"]
+    text = [f'.TH {name.upper()} {section} "" "v6" "Sixth Edition UNIX"', ".SH NAME", f"{name} \\- {plain(about)}",
+            ".SH DESCRIPTION"]
     return "\n".join(text + body(lines)) + "\n"
 
 

@@ -32,8 +32,8 @@ def options_of(words):
 
 
 def run(options):
-    """The status of the program. What it writes goes to files of its own first. The disk takes its place where the run is done;
-    what was shown and logged up to there is kept in any case, but not of a run that never began."""
+    """The status of the program. What it writes goes to files of its own first. The disk takes its place where the run is
+    done; what was shown and logged up to there is kept in any case, but not of a run that never began."""
     outputs = {name: getattr(options, name) for name in OUTPUTS if getattr(options, name)}
     for name in outputs.values():
         if name not in STREAMS:

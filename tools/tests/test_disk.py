@@ -6,7 +6,7 @@ import unittest
 from dataclasses import replace as replaced
 from unittest import mock
 
-from common import DISK_BYTES, V6, read, tool, v6, write
+from common import DISK_BYTES, read, tool, v6, write
 from disks import Disks, disk_main
 
 from files import replace
