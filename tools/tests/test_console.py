@@ -320,6 +320,9 @@ class Sessions(Case):
         self.assertEqual(read(script), self.script(f"run 10000\n{passes}run 10000\ntype ab\nrun 10000\n", image))
         again = self.session("cd\n", "--script", script, image=image)
         self.assertEqual(again, (0, b"AB\r\nAB\r\nCD\r\nCD\r\n", ""))
+        typed = "sleep 3\necho a >b\nsleep 75\ndate\n"
+        term = b"# SLEEP 3\r\n# ECHO A >B\r\n# SLEEP 75\r\n# DATE\r\nTHU JAN  1 00:01:18 GMT 1970\r\n# "
+        self.assertEqual(self.session(typed), (0, term, ""))
         # a time that is too long for the limit: the console says so, and goes on
         image = self.disk_with("\tmov\t$100.,r0\n\tsys\tsleep\n\tsys\texit\n")
         status, _, said = self.session("~:clock 1\n~:run 4000\n", "--slots", "2000", image=image)

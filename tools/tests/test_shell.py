@@ -124,6 +124,23 @@ MV: CANNOT FIND THE FILE
 MV: ONE FILE
 # mv m
 USAGE: MV OLDNAME NEWNAME
+# chmod 711 m nosuch
+NOSUCH: CAN'T CHANGE
+# ls -l m
+-RWX--X--X  1  0       8 M
+# chmod 8 m
+USAGE: CHMOD MODE FILE ...
+# cmp m m
+# echo one teo >n
+# cmp m n
+5 167 145
+# echo one >n
+# cmp m n
+3 40 12
+# cmp m nosuch
+CMP: CANNOT OPEN
+# sleep
+USAGE: SLEEP SECONDS
 # stty
 ERASE = '#'; KILL = '@'
 -TABS LCASE ECHO -NL -RAW\x20
