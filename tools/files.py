@@ -7,6 +7,7 @@ import sys
 import tempfile
 
 BLOCK = 512  # in which holes are counted
+MOST = 2**28  # bytes of a file that is read whole
 STREAMS = ("-", b"-", "/dev/stdout", b"/dev/stdout")
 
 
@@ -43,12 +44,16 @@ def _interrupt(*_):
     raise KeyboardInterrupt
 
 
-def read_bytes(name, most=-1):
-    """The bytes of a file, or the first of them; those of the standard input for `-`."""
+def read_bytes(name, most=None):
+    """The bytes of a file, or the first of them; those of the standard input for `-`. A file without an end, as /dev/zero, is
+    refused."""
     if name in ("-", b"-"):
-        return sys.stdin.buffer.read(most)
+        return sys.stdin.buffer.read(most or -1)
     with open(name, "rb") as file:
-        return file.read(most)
+        data = file.read(most or MOST + 1)
+    if not most and len(data) > MOST:
+        raise OSError(errno.EFBIG, f"more than {MOST} bytes", name)
+    return data
 
 
 def read_sparse(name):

@@ -4,6 +4,7 @@ import struct
 import subprocess
 import sys
 import unittest
+from unittest import mock
 
 from common import TOOLS, Case, read, tool, words
 
@@ -262,6 +263,10 @@ class Command(Case):
             self.assertEqual((done.returncode, done.stdout, done.stderr), (0, made, b""))
         done = subprocess.run([sys.executable, os.path.join(TOOLS, "as.py"), "-o", "-", "-"], input=b"\tnop\n", capture_output=True)
         self.assertEqual((done.returncode, done.stdout), (0, made))
+
+    def test_a_file_without_an_end(self):
+        with mock.patch("files.MOST", 1000):
+            self.assertEqual(self.call(as_main, "-o", self.path("out"), "/dev/zero"), (1, "", "as.py: /dev/zero: more than 1000 bytes\n"))
 
     def test_a_closed_pipe(self):
         source = self.put("x.s", b"\tnop\n" * 20000)

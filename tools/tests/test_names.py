@@ -9,6 +9,7 @@ import unittest
 from common import TOOLS, V6, read, v6, write
 from disks import Disks, disk_main
 
+from survey import Survey
 from volume import Volume
 
 OTHER = """
@@ -61,6 +62,42 @@ class Names(Disks):
         self.done("put", image, self.put("new", b"5"), "/a/y")
         self.assertEqual(self.names(image)[3], "-rw-r--r-- 1 /a/y")
 
+    def test_random_changes(self):
+        """Files against a dictionary of their bytes, under any order of changes; each disk between them is without a fault."""
+        for _ in range(6):
+            image, files = self.new({}, "--blocks", "300", "--inodes", "64"), {}
+            for directory in ("/d", "/e"):
+                self.done("mkdir", image, directory)
+            for _ in range(30):
+                path = self.random.choice(("", "/d", "/e")) + "/" + self.random.choice("abc")
+                other = self.random.choice(list(files) or [path])
+                kind = self.random.choice(("put", "put", "rm", "mv", "ln", "grow"))
+                if kind == "put":
+                    data = self.random.randbytes(self.random.choice((0, 10, 600, 5000)))
+                    names = [name for name in files if path in files and files[name] is files[path]]
+                    files.update({name: [data] for name in [path]} if not names else {})
+                    for name in names:
+                        files[name][0] = data
+                    self.done("put", image, self.put("file", data), path)
+                elif kind == "rm" and files:
+                    self.done("rm", image, other)
+                    del files[other]
+                elif kind == "mv" and files and files[other] is not files.get(path):
+                    self.done("mv", image, other, path)
+                    files[path] = files.pop(other)
+                elif kind == "ln" and files and path not in files:
+                    self.done("ln", image, other, path)
+                    files[path] = files[other]
+                elif kind == "grow":
+                    volume = Volume(read(image))
+                    self.done("grow", image, "--blocks", str(volume.fsize + 5), "--inodes", str(16 * volume.isize + 16))
+                self.assertEqual(Survey(read(image)).report(), [])
+            volume = Volume(read(image))
+            for path, (data,) in files.items():
+                self.assertEqual(volume.read(volume.inode(volume.find(path.encode()))), data)
+            listed = [line.split()[-1] for line in self.done("list", image).splitlines()]
+            self.assertEqual(sorted(listed), sorted(["/", "/d", "/e", *files]))
+
     def test_what_is_refused(self):
         image = self.new({"a/x": b"1", "a/d/y": b"2", "b": b"3"}, "--blocks", "100")
         before = read(image)
@@ -89,6 +126,18 @@ class Names(Disks):
         done = subprocess.run([sys.executable, tool_name, "--v6", V6, "list", image], stdout=writes, stderr=subprocess.PIPE)
         os.close(writes)
         self.assertEqual((done.returncode, done.stderr), (141, b""))
+
+    def test_odd_names_and_files(self):
+        """Names that begin with a minus, and devices of the host, which have no end or no bytes."""
+        image, folder = self.new({}, "--blocks", "100"), self.folder_of({"-x": b"1"})
+        self.done("put", image, folder + "/-x", "/")
+        self.done("mv", image, "--", "-x", "-y")
+        self.assertEqual(self.done("cat", image, "--", "-y"), "1")
+        self.refused("/dev/zero: image: too long", "list", "/dev/zero")
+        self.refused("/dev/zero: a socket, a pipe or a device, and only files and folders can be put on a disk", "put", image,
+                     "/dev/zero", "/z")
+        self.refused(f"{folder}: Is a directory", "list", folder)
+        self.assertEqual(self.disk("list", "/dev/null")[0], 1)
 
     def test_a_disk_that_changes(self):
         """What was written in between isn't lost."""
