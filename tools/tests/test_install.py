@@ -1,4 +1,5 @@
-"""`make install`: what it puts where, and that it works from there."""
+"""What all tools have, and `make install`: what it puts where, and that it works from there."""
+import hashlib
 import os
 import re
 import shutil
@@ -6,10 +7,20 @@ import subprocess
 import sys
 import unittest
 
-from common import TOP, Case, read
+from common import TOP, Case, read, tool
 
 ENVIRONMENT = {**{key: value for key, value in os.environ.items() if key != "V6"},
                "PATH": f"{os.path.dirname(sys.executable)}:{os.environ['PATH']}"}
+
+
+class Words(Case):
+    def test_help_and_version(self):
+        program = hashlib.sha256(read(os.path.join(TOP, "bin", "v6"))).hexdigest()[:12]
+        for name in ("as", "console", "disk", "run", "try"):
+            self.assertEqual(self.call(tool(name).main, "--version"),
+                             (0, f"{name}.py of the repository whose bin/v6 is {program}\n", ""))
+            status, said, _ = self.call(tool(name).main, "--help")
+            self.assertEqual((status, said.split()[:2]), (0, ["usage:", name + ".py"]))
 
 
 @unittest.skipUnless(shutil.which("make"), "make isn't there")
