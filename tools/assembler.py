@@ -7,7 +7,8 @@ from pdp11 import CALLS, CODES, INSTRUCTIONS, JUMPS, MAGIC, REGISTERS, SECOND_NA
 
 TOKEN = re.compile(r"""(?P<blank>[ \t]+) | (?P<comment>/.*) | (?P<text><(?:\\.|[^>\\])*>) | (?P<open><.*)
     | (?P<local>[0-9][fb](?![\w.~])) | (?P<number>[0-9][\w]*\.?) | (?P<name>[A-Za-z_.~][\w.~]*)
-    | (?P<char>'(?:\\.|[^\\])) | (?P<pair>"(?:\\.|[^\\])(?:\\.|[^\\])) | (?P<mark>\\[/<>] | [-+&|*$(),:;=!%^[\]])""", re.X | re.A)
+    | (?P<char>'(?:\\.|[^\\])) | (?P<pair>"(?:\\.|[^\\])(?:\\.|[^\\])) | (?P<mark>\\[/<>] | [-+&|*$(),:;=!%^[\]])""",
+    re.X | re.A)
 ESCAPES = {"n": 0o12, "t": 0o11, "e": 0o4, "0": 0, "r": 0o15, "a": 0o6, "p": 0o33, "\\": 0o134, ">": 0o76}
 WORD = 0o177777
 MOST = 65536
@@ -162,7 +163,7 @@ class Assembler:
         if self.ifs:
             self.complain(".if without .endif")
         bss = self.parts["bss"]
-        for name in self.common.keys() - self.labels.keys():
+        for name in [name for name in self.common if name not in self.labels]:
             bss.size = even(bss.size)
             self.common_at[name] = Value(bss.size, "bss")
             bss.size += self.common[name]

@@ -17,7 +17,8 @@ def options_of(words):
     parser = argparse.ArgumentParser(prog="run.py", description="Plays a script on a disk: docs/tools/run.md")
     parser.add_argument("image", help="the disk")
     parser.add_argument("script", help="the script: docs/manual/scripts.md")
-    parser.add_argument("--term", metavar="FILE", default="-", help="where what the terminal shows goes (the standard output)")
+    parser.add_argument("--term", metavar="FILE", default="-",
+                        help="where what the terminal shows goes (the standard output)")
     parser.add_argument("--log", metavar="FILE", help="where the log goes")
     parser.add_argument("--disk", metavar="FILE", help="where the disk goes that the run leaves; it may be the image")
     parser.add_argument("--core", type=int, default=CORE, help=f"the size of core, in clicks ({CORE})")

@@ -276,7 +276,8 @@ def options_of(words):
     parser = argparse.ArgumentParser(prog="try.py", description="Runs one program on a small disk: docs/tools/try.md")
     parser.add_argument("-t", dest="tell", action="store_true", help="tell the status and the slots on standard error")
     parser.add_argument("--with", dest="sources", metavar="FILE", action="append", default=[], help="another source")
-    parser.add_argument("--file", dest="files", metavar="FILE", action="append", default=[], help="a file for the disk's root")
+    parser.add_argument("--file", dest="files", metavar="FILE", action="append", default=[],
+                        help="a file for the disk's root")
     parser.add_argument("--disk", metavar="IMAGE", help="a copy of this disk in the place of a small one")
     parser.add_argument("--final", metavar="FILE", help="where the disk goes that the run leaves")
     parser.add_argument("--core", type=int, default=CORE, help=f"the size of core, in clicks ({CORE})")

@@ -1,5 +1,6 @@
 #!/usr/bin/env python3
-"""Runs all tests of the tools, those of one class in one process. The program v6 is bin/v6, or the command in the environment's V6."""
+"""Runs all tests of the tools, those of one class in one process. The program v6 is bin/v6, or the command in the
+environment's V6."""
 import io
 import os
 import sys

@@ -13,8 +13,8 @@ class Damaged(Disks):
     """Disks with faults; what `check` tells is by hand."""
 
     def hurt(self, *changes):
-        """A disk of three files of two blocks, with words changed: its data begin at block 3 with the root's, and the files hold
-        4 and 5, 6 and 7, 8 and 9; their inodes are 2, 3 and 4."""
+        """A disk of three files of two blocks, with words changed: its data begin at block 3 with the root's, and the files
+        hold 4 and 5, 6 and 7, 8 and 9; their inodes are 2, 3 and 4."""
         self.new({name: name.encode() * 1024 for name in "abc"}, "--blocks", "20", "--inodes", "16")
         data = bytearray(read(self.path("image")))
         for at, value in changes:
@@ -39,7 +39,8 @@ class Damaged(Disks):
     def test_names(self):
         root = 3 * 512
         bad = self.hurt((root + 2 * 16, 0), (root + 3 * 16, 9))
-        self.told(bad, "/b: its inode 9 is free", "inode 2 has no name: a file of 1024 bytes", "inode 3 has no name: a file of 1024 bytes")
+        self.told(bad, "/b: its inode 9 is free", "inode 2 has no name: a file of 1024 bytes",
+                  "inode 3 has no name: a file of 1024 bytes")
         listed = self.done("list", "--damaged", bad)
         self.assertIn("    2  -rw-r--r--   1   0   0      1024  #2\n", listed)
         self.assertEqual(self.done("cat", "--damaged", bad, "#2"), "a" * 1024)
@@ -72,7 +73,8 @@ class Damaged(Disks):
 
     def test_no_root(self):
         bad = self.hurt((1024, 0o100644))
-        self.told(bad, "no root", *(f"inode {n} has no name: a file of {size} bytes" for n, size in ((2, 1024), (3, 1024), (4, 1024))))
+        self.told(bad, "no root", *(f"inode {n} has no name: a file of {size} bytes" for n,
+                                    size in ((2, 1024), (3, 1024), (4, 1024))))
         self.assertEqual(self.disk("repair", bad, self.path("good"))[0], 0)
         self.assertEqual(self.done("cat", self.path("good"), "/lost/4"), "c" * 1024)
 
@@ -95,11 +97,13 @@ class Damaged(Disks):
     def test_random_damage(self):
         """Whatever is in its bytes, a disk is listed and repaired, and what comes out is a disk without a fault."""
         for count in range(40):
-            self.new({f"d{k % 3}/{k}": self.random.randbytes(self.random.choice((10, 600, 5000))) for k in range(9)}, "--blocks", "120",
+            self.new({f"d{k % 3}/{k}": self.random.randbytes(self.random.choice((10, 600, 5000))) for k in range(9)},
+                     "--blocks", "120",
                      "--inodes", "32")
             data = bytearray(read(self.path("image")))
             for _ in range(self.random.choice((1, 3, 30, 300))):
-                data[self.random.choice((self.random.randrange(512, 4096), self.random.randrange(len(data))))] = self.random.randrange(256)
+                data[self.random.choice((self.random.randrange(512, 4096),
+                                         self.random.randrange(len(data))))] = self.random.randrange(256)
             bad, good = self.put("bad", data), self.path("good")
             self.done("list", "--damaged", bad)
             survey = Survey(bytes(data))

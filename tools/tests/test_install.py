@@ -26,16 +26,19 @@ class Words(Case):
 @unittest.skipUnless(shutil.which("make"), "make isn't there")
 class Install(Case):
     def make(self, *words):
-        done = subprocess.run(["make", "-s", "-C", TOP, *words, f"DESTDIR={self.folder}"], env=ENVIRONMENT, capture_output=True)
+        done = subprocess.run(["make", "-s", "-C", TOP, *words, f"DESTDIR={self.folder}"], env=ENVIRONMENT,
+                              capture_output=True)
         self.assertEqual((done.returncode, done.stderr), (0, b""))
 
     def files(self):
-        return sorted(os.path.relpath(os.path.join(folder, name), self.folder) for folder, _, names in os.walk(self.folder) for name in names)
+        return sorted(os.path.relpath(os.path.join(folder, name), self.folder) for folder, _,
+                      names in os.walk(self.folder) for name in names)
 
     def test_install(self):
         self.make("install", "PREFIX=/usr")
         found = self.files()
-        for name in ("usr/bin/v6", "usr/bin/v6-console", "usr/bin/v6-try", "usr/lib/v6/tools/volume.py", "usr/share/man/man1/v6.1",
+        for name in ("usr/bin/v6", "usr/bin/v6-console", "usr/bin/v6-try", "usr/lib/v6/tools/volume.py",
+                     "usr/share/man/man1/v6.1",
                      "usr/share/man/man5/v6log.5", "usr/share/bash-completion/completions/v6-disk"):
             self.assertIn(name, found)
         self.assertEqual(read(self.path("usr/bin/v6")), read(os.path.join(TOP, "bin", "v6")))
@@ -47,7 +50,8 @@ class Install(Case):
         done = subprocess.run(["make", "-s", "-C", TOP, "install", f"PREFIX={prefix}"], env=ENVIRONMENT, capture_output=True)
         self.assertEqual((done.returncode, done.stderr), (0, b""))
         image = os.path.join(TOP, "examples", "shell", "image")
-        done = subprocess.run([prefix + "/bin/v6-disk", "cat", image, "/usr/sys/ken/slp.c"], env=ENVIRONMENT, capture_output=True)
+        done = subprocess.run([prefix + "/bin/v6-disk", "cat", image, "/usr/sys/ken/slp.c"], env=ENVIRONMENT,
+                              capture_output=True)
         self.assertEqual((done.returncode, done.stderr, done.stdout[:4]), (0, b"", b"\t/*\n"))
 
     def test_pages(self):
@@ -66,7 +70,8 @@ class Install(Case):
     def test_completion(self):
         for words, wanted in (("v6 ch", "check"), ("v6-disk re", "repair"), ("v6-console x --sc", "--script")):
             *_, last = words.split()
-            script = f"source {TOP}/tools/completion.bash; COMP_WORDS=({words}); COMP_CWORD={len(words.split()) - 1}; _v6; echo ${{COMPREPLY[@]}}"
+            script = (f"source {TOP}/tools/completion.bash; COMP_WORDS=({words}); COMP_CWORD={len(words.split()) - 1}; _v6; "
+                      "echo ${COMPREPLY[@]}")
             self.assertEqual(subprocess.run(["bash", "-c", script], capture_output=True, text=True).stdout, wanted + "\n")
 
 

@@ -46,7 +46,8 @@ class Names(Disks):
         self.done("ln", image, "/a/x", "/c/d")
         self.done("mv", image, "/b", "/c/d/e")
         self.assertEqual(self.names(image), ["drwxr-xr-x 4 /", "drwxr-xr-x 2 /a", "-rw-r--r-- 2 /a/x", "-rw-r--r-- 1 /a/y",
-                                             "drwxr-xr-x 3 /c", "drwxr-xr-x 2 /c/d", "-rw-r--r-- 2 /c/d/x", "-rw-r--r-- 1 /c/d/e"])
+                                             "drwxr-xr-x 3 /c", "drwxr-xr-x 2 /c/d", "-rw-r--r-- 2 /c/d/x",
+                                             "-rw-r--r-- 1 /c/d/e"])
         self.done("mv", image, "/c/d", "/a")
         self.done("mv", image, "/a/d/e", "/b")
         self.done("mv", image, "/a/y", "/a/x")
@@ -102,13 +103,15 @@ class Names(Disks):
         image = self.new({"a/x": b"1", "a/d/y": b"2", "b": b"3"}, "--blocks", "100")
         before = read(image)
         for said, *words in (("/a: a directory that isn't empty; -r removes what is in it", "rm", image, "/a"),
-                             ("/no: no such file on the disk", "rm", image, "/no"), ("the root is a directory", "rm", image, "/"),
+                             ("/no: no such file on the disk", "rm", image, "/no"),
+                             ("the root is a directory", "rm", image, "/"),
                              ("/a/.: a directory keeps its entries . and ..", "rm", image, "-r", "/a/."),
                              ("/b: there already", "mkdir", image, "/b"), ("/a/x: there already", "ln", image, "/b", "/a/x"),
                              ("/a: a directory has one name", "ln", image, "/a", "/c"),
                              ("/a: a directory can't go below itself", "mv", image, "/a", "/a/d"),
                              ("/a: a directory can't go below itself", "mv", image, "/a", "/a/d/z"),
-                             ("/b and /b are one file", "mv", image, "/b", "/b"), ("/b: there already", "mv", image, "/a", "/b"),
+                             ("/b and /b are one file", "mv", image, "/b", "/b"),
+                             ("/b: there already", "mv", image, "/a", "/b"),
                              ("/b: not a directory", "mkdir", image, "/b/c")):
             self.refused(said, *words)
         self.assertEqual(read(image), before)
@@ -119,7 +122,8 @@ class Names(Disks):
         for words in (("get", image, "/a", "-"), ("get", image, "/a", "/dev/stdout"), ("cat", image, "/a")):
             done = subprocess.run([sys.executable, tool_name, "--v6", V6, *words], capture_output=True)
             self.assertEqual((done.returncode, done.stdout, done.stderr), (0, b"\0\377\n", b""), words)
-        done = subprocess.run([sys.executable, tool_name, "--v6", V6, "put", image, "-", "/b"], input=b"typed", capture_output=True)
+        done = subprocess.run([sys.executable, tool_name, "--v6", V6, "put", image, "-", "/b"], input=b"typed",
+                              capture_output=True)
         self.assertEqual((done.returncode, done.stderr, self.done("cat", image, "/b")), (0, b"", "typed"))
         reads, writes = os.pipe()
         os.close(reads)
@@ -178,7 +182,7 @@ class Names(Disks):
         self.assertEqual(read(again), read(image))
 
     def test_the_same_disk(self):
-        """Of what `get` gives of any disk, `new` makes one with the same files, times and links, and it gives the same table."""
+        """Of what `get` gives of any disk, `new` makes one with the same files, times and links, which gives the same table."""
         image = self.new({"etc/init": b"x", "u/a": b"y" * 5000}, "--blocks", "300", "--inodes", "32", "--time", "70000")
         self.done("put", image, self.put("file", b"z"), "/u", "--time", "80000")
         self.done("ln", image, "/u/file", "/etc/init2", "--time", "90000")
@@ -198,7 +202,8 @@ class Names(Disks):
 
     def test_grow(self):
         """Files stay as they are, also those whose blocks stood where the new inodes stand."""
-        files = {"a": self.random.randbytes(9000), "b": self.random.randbytes(300), "c": b"", "d/e": self.random.randbytes(1793 * 512)}
+        files = {"a": self.random.randbytes(9000), "b": self.random.randbytes(300), "c": b"",
+                 "d/e": self.random.randbytes(1793 * 512)}
         image = self.new(files, "--blocks", "2000", "--inodes", "16")
         listed, free = self.done("list", image), int(self.free(image).split()[3])
         self.done("grow", image, "--blocks", "3000")
@@ -239,7 +244,8 @@ class Archives(Disks):
         self.done("get", image, "/lib", self.path("back.a"), "--as", "ar")
         members = self.AR[2:22], self.AR[22:]  # in the order of the directory, which is that of the names
         self.assertEqual(read(self.path("back.a")), self.AR[:2] + members[1] + members[0])
-        for data, said in ((b"x", "no archive: it doesn't begin with 0177555"), (self.AR[:10], "the archive ends in the middle of a header"),
+        for data, said in ((b"x", "no archive: it doesn't begin with 0177555"),
+                           (self.AR[:10], "the archive ends in the middle of a header"),
                            (self.AR[:20], "the archive ends in the middle of one.s")):
             bad = self.put("bad", data)
             self.refused(f"{bad}: {said}", "put", image, bad, "/x", "--as", "ar")
