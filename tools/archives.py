@@ -93,7 +93,8 @@ def write_tp(members):
         path, address = one.path.lstrip(b"/"), 1 + TP_TAPE + len(files) // BLOCK
         if len(path) > 31 or address > SMALL:
             raise DiskError(f"{shown(one.path)}: a tape has names of 31 bytes, and {SMALL} blocks")
-        fields = (path, one.mode, one.owner, one.group, 0, len(one.data) >> 16, len(one.data) & 0xFFFF, *words_of_time(one.time),
+        fields = (path, one.mode, one.owner, one.group, 0, len(one.data) >> 16, len(one.data) & 0xFFFF,
+                  *words_of_time(one.time),
                   address, b"")
         entry = TP_ENTRY.pack(*fields, 0)
         directory += TP_ENTRY.pack(*fields, -sum(struct.unpack("<32H", entry)) & 0xFFFF)

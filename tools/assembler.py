@@ -7,7 +7,8 @@ from pdp11 import CALLS, CODES, INSTRUCTIONS, JUMPS, MAGIC, REGISTERS, SECOND_NA
 
 TOKEN = re.compile(r"""(?P<blank>[ \t]+) | (?P<comment>/.*) | (?P<text><(?:\\.|[^>\\])*>) | (?P<open><.*)
     | (?P<local>[0-9][fb](?![\w.~])) | (?P<number>[0-9][\w]*\.?) | (?P<name>[A-Za-z_.~][\w.~]*)
-    | (?P<char>'(?:\\.|[^\\])) | (?P<pair>"(?:\\.|[^\\])(?:\\.|[^\\])) | (?P<mark>\\[/<>] | [-+&|*$(),:;=!%^[\]])""", re.X | re.A)
+    | (?P<char>'(?:\\.|[^\\])) | (?P<pair>"(?:\\.|[^\\])(?:\\.|[^\\])) | (?P<mark>\\[/<>] | [-+&|*$(),:;=!%^[\]])""",
+    re.X | re.A)
 ESCAPES = {"n": 0o12, "t": 0o11, "e": 0o4, "0": 0, "r": 0o15, "a": 0o6, "p": 0o33, "\\": 0o134, ">": 0o76}
 WORD = 0o177777
 MOST = 65536
@@ -110,8 +111,8 @@ class Assembler:
         self.long, self.grew = set(), False  # the jumps that need more than a branch, by their count
 
     def assemble(self, sources, shared=False, symbols=False):
-        """The file of a program, of its sources: (name, text). None where one has an error: see `errors`. The first pass finds
-        what the names are, others which jumps need more than a branch, and the last makes the words."""
+        """The file of a program, of its sources: (name, text). None where one has an error: see `errors`. The first pass
+        finds what the names are, others which jumps need more than a branch, and the last makes the words."""
         while True:
             self.parts = {name: Part() for name in ("text", "data", "bss")}
             if not self.first:
@@ -136,7 +137,8 @@ class Assembler:
 
     def symbols(self):
         """The names that the source gives, with the types of a.out(V) and their values, by address."""
-        named = {**{name: value for name, value in self.constants.items() if name not in CODES}, **self.common_at, **self.labels}
+        constants = {name: value for name, value in self.constants.items() if name not in CODES}
+        named = {**constants, **self.common_at, **self.labels}
         found = [(name, TYPES[value.part] + GLOBAL * (name in self.globals), self.resolve(value) & WORD)
                  for name, value in named.items()]
         return sorted(found, key=lambda symbol: (symbol[1] & 7, symbol[2], symbol[0]))
@@ -161,7 +163,7 @@ class Assembler:
         if self.ifs:
             self.complain(".if without .endif")
         bss = self.parts["bss"]
-        for name in self.common.keys() - self.labels.keys():
+        for name in [name for name in self.common if name not in self.labels]:
             bss.size = even(bss.size)
             self.common_at[name] = Value(bss.size, "bss")
             bss.size += self.common[name]
@@ -236,7 +238,7 @@ class Assembler:
             self.words(self.expression())
 
     def is_unknown(self):
-        """Whether a name, which is no instruction's, has operands behind it."""
+        """Whether a name, which is no instruction's, has operands after it."""
         kind, text = self.tokens[1] if self.peek("name") else ("end", "")
         return kind != "end" and (kind != "mark" or text in "*$(")
 

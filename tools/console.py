@@ -7,8 +7,8 @@ import tempfile
 from dataclasses import dataclass
 
 sys.path.insert(0, os.path.dirname(os.path.abspath(__file__)))
-from dialogue import (END_OF_FILE, HEADER, INTERRUPT, MANY, OVER, RETURN, RUNS, SLEEPS, WAITS, Dialogue, DialogueError, Machine,
-                      Refused, keys, shown)
+from dialogue import (END_OF_FILE, HEADER, INTERRUPT, MANY, OVER, RETURN, RUNS, SLEEPS, WAITS, Dialogue, DialogueError,
+                      Machine, Refused, keys, shown)
 from files import place_of, read_bytes, replace, same_file, told
 from processes import Processes
 from program import CORE, V6, ProgramError, add_version
@@ -193,8 +193,8 @@ class Console:
     def runs_on(self):
         everybody = self.processes()
         busy = "; ".join([line for line in everybody if line.endswith(" runs")] or everybody)
-        tell(f"the machine runs on after {self.dialogue.limit} slots ({busy}); ~:run N gives it more, and what you type waits "
-             "for it")
+        tell(f"the machine runs on after {self.dialogue.limit} slots ({busy}); ~:run N gives it more, and what you type "
+             "waits for it")
 
 
 ORDERS = {"?": Console.help, "l": Console.list, "u": Console.back, "g": Console.go, "w": Console.who}
@@ -277,7 +277,8 @@ def check_header(options, machine, found):
         return
     same = HEADER.fullmatch(machine.header)[1] == found[1]
     what = "with another size of core" if same else f"at another disk than {options.image}"
-    raise ConsoleError(f"{options.script} was typed {what}: another --script begins a new dialogue, and --replay plays this one")
+    raise ConsoleError(f"{options.script} was typed {what}: another --script begins a new dialogue, and --replay plays this "
+                       "one")
 
 
 def run(options, folder):

@@ -1,4 +1,4 @@
-"""A dialogue with a machine: a script that grows line by line, and what the machine comes to. docs/tools/console.md tells how."""
+"""A dialogue with a machine: a script that grows line by line, and what the machine comes to. See docs/tools/console.md."""
 import hashlib
 import os
 import re
@@ -96,7 +96,7 @@ def shown(step):
         if line.startswith(b"type"):
             text += line[5:]
         elif line.startswith(b"byte "):
-            text += _key(int(line[5:], 8))
+            text += key_shown(int(line[5:], 8))
         elif line == PASSES:
             break
         elif not line.startswith((b"run ", b";")):
@@ -106,9 +106,11 @@ def shown(step):
     return text.decode("ascii", "replace")
 
 
-def _key(key):
+def key_shown(key):
     key &= 0o177
-    return b"" if key == RETURN else bytes([key]) if 0o40 <= key <= 0o176 else b"^?" if key == INTERRUPT else b"^%c" % (key | 0o100)
+    if key in (RETURN, INTERRUPT):
+        return b"^?" if key == INTERRUPT else b""
+    return bytes([key]) if key >= 0o40 else b"^%c" % (key | 0o100)
 
 
 def total(lines):
@@ -214,7 +216,8 @@ class Dialogue:
         return []
 
     def add_all(self, batch):
-        """Adds a front of many typed lines in one run: those for which the first number of slots is enough. Gives how many."""
+        """Adds the first of many typed lines in one run: those for which the first number of slots is enough. Gives how many
+        these are."""
         if self.state() != WAITS or total(self.lines()) + len(batch) * FIRST_SLOTS > MOST_SLOTS:
             return 0
         before = self.lines()

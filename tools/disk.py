@@ -1,5 +1,5 @@
 #!/usr/bin/env python3
-"""Takes files out of disks of the Sixth Edition, puts files in, and makes, checks and repairs disks: see docs/tools/disk.md."""
+"""Takes files out of disks of the Sixth Edition, puts files in; makes, checks and repairs disks: see docs/tools/disk.md."""
 import argparse
 import datetime
 import os
@@ -36,8 +36,8 @@ def open_disk(options):
 
 
 def open_for_reading(options):
-    """The volume of a disk that isn't changed. It may fill a whole pack, which leaves no swap; and it may have any fault where
-    that is asked for."""
+    """The volume of a disk that isn't changed. It may fill a whole pack, which leaves no swap; and it may have any fault
+    where that is asked for."""
     image = read_bytes(options.disk, MOST)
     if options.damaged:
         return damaged(image)
@@ -170,8 +170,8 @@ class Folder:
             absent.discard(path)
             self.put(number, path)
         if not self.table and (self.devices or self.others):
-            print(f"disk.py: {self.devices} devices, and modes, owners or times of {self.others} files are not in the folder: "
-                  "--table FILE keeps them", file=sys.stderr)
+            print(f"disk.py: {self.devices} devices, and modes, owners or times of {self.others} files are not in the folder"
+                  ": --table FILE keeps them", file=sys.stderr)
 
     def put(self, number, path):
         inode = self.volume.inode(number)
@@ -189,9 +189,13 @@ class Folder:
             self.devices += inode.is_device()
         if inode.mode & BLOCKS == PLAIN:
             get_file(self.volume, inode, self.volume.read(inode), self.target + path)
-        usual = (0o755,) if inode.is_directory() else (0o644, 0o755)
+        self.others += not (inode.is_device() or self.is_usual(inode))
+
+    def is_usual(self, inode):
+        """Whether a new disk has these mode, owner and times without a table."""
+        modes = (0o755,) if inode.is_directory() else (0o644, 0o755)
         times = (inode.accessed, inode.changed) == (self.volume.time,) * 2
-        self.others += not (inode.is_device() or times and (inode.owner, inode.group) == (0, 0) and inode.mode & PERMISSIONS in usual)
+        return times and (inode.owner, inode.group) == (0, 0) and inode.mode & PERMISSIONS in modes
 
 
 def get(options):
@@ -229,7 +233,8 @@ def members_of(volume, start, path):
         inode = volume.inode(number)
         if not inode.is_directory():
             inner = full[len(top) + 1 :] if full != path else name
-            members.append(Member(inner, volume.read(inode), inode.changed, inode.mode & PERMISSIONS, inode.owner, inode.group))
+            owners = inode.owner, inode.group
+            members.append(Member(inner, volume.read(inode), inode.changed, inode.mode & PERMISSIONS, *owners))
     return members
 
 
@@ -277,7 +282,8 @@ def items_of(options, source):
             if not names:
                 raise DiskError("a file without a name")
             mode = 0o644 if one.mode is None else one.mode
-            above(root, names).below[names[-1]] = Item(mode, b"", one.owner, one.group, times=(one.time, one.time), data=one.data)
+            item = Item(mode, b"", one.owner, one.group, times=(one.time, one.time), data=one.data)
+            above(root, names).below[names[-1]] = item
     except DiskError as error:
         raise DiskError(f"{options.source}: {error}") from None
     return root

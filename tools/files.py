@@ -7,6 +7,7 @@ import sys
 import tempfile
 
 BLOCK = 512  # in which holes are counted
+MOST = 2**28  # bytes of a file that is read whole
 STREAMS = ("-", b"-", "/dev/stdout", b"/dev/stdout")
 
 
@@ -17,8 +18,8 @@ def told(error):
 
 
 def guarded(tool, body, *known, failed=1):
-    """The status of a tool: what `body` gives, or `failed` where it fails with an error of the host or a known one, which is told
-    in a line. An interrupt, also by another program's signal, ends it as an error does, so that nothing is left beside a
+    """The status of a tool: what `body` gives, or `failed` where it fails with an error of the host or a known one, which is
+    told in a line. An interrupt, also by another program's signal, ends it as an error does, so that nothing is left beside a
     file; so does a pipe that is closed, without a word."""
     for number in (signal.SIGTERM, signal.SIGHUP):
         if signal.getsignal(number) == signal.SIG_DFL:
@@ -43,12 +44,16 @@ def _interrupt(*_):
     raise KeyboardInterrupt
 
 
-def read_bytes(name, most=-1):
-    """The bytes of a file, or the first of them; those of the standard input for `-`."""
+def read_bytes(name, most=None):
+    """The bytes of a file, or the first of them; those of the standard input for `-`. A file without an end, as /dev/zero, is
+    refused."""
     if name in ("-", b"-"):
-        return sys.stdin.buffer.read(most)
+        return sys.stdin.buffer.read(most or -1)
     with open(name, "rb") as file:
-        return file.read(most)
+        data = file.read(most or MOST + 1)
+    if not most and len(data) > MOST:
+        raise OSError(errno.EFBIG, f"more than {MOST} bytes", name)
+    return data
 
 
 def read_sparse(name):

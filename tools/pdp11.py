@@ -7,7 +7,7 @@ REGISTERS = {**{f"r{n}": n for n in range(8)}, "sp": 6, "pc": 7}
 
 # A form says which operands follow the name: `s,d` a source and a destination, `d` a destination, `j` a destination that is
 # no register, `r,d` and `r,j` a register before one, `s,r` a source and a register, `r` a register, `b` an address within
-# reach of a branch, `r,b` a register and one behind, `n6` and `n8` a number of so many bits, `call`
+# reach of a branch, `r,b` a register and one further back, `n6` and `n8` a number of so many bits, `call`
 # a call of the kernel by its name or its number, and `` nothing.
 WORDS = {
     "s,d": {"mov": 0o010000, "cmp": 0o020000, "bit": 0o030000, "bic": 0o040000, "bis": 0o050000},

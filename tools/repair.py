@@ -1,8 +1,8 @@
-"""What is done to a disk as a whole: more room on it, and a good disk of what is whole on a damaged one. docs/tools/disk.md."""
+"""What is done to a disk as a whole: more room on it, and a good disk of what is whole on a damaged one."""
 import struct
 
 from survey import ROOT, Survey, walk
-from tree import KINDS, PERMISSIONS, Item, own, place_all
+from tree import PERMISSIONS, Item, own, place_all
 from volume import BLOCK, BLOCKS, LARGE, SWAP, DiskError, Volume, check_name, shown
 
 LOST = b"lost"  # the directory that gets what has no name
@@ -88,7 +88,8 @@ class Repair:
             self.lost.append(f"{shown(path)}: {'its entries in a damaged block' if inode.is_directory() else 'not whole'}")
         self.items[number] = None
         if whole or inode.is_directory():
-            item = Item(inode.mode & (PERMISSIONS | BLOCKS), b"", inode.owner, inode.group, times=(inode.accessed, inode.changed))
+            item = Item(inode.mode & (PERMISSIONS | BLOCKS), b"", inode.owner, inode.group)
+            item.times = inode.accessed, inode.changed
             if inode.is_directory():
                 item.below = {}
             elif inode.is_device():

@@ -17,7 +17,8 @@ def options_of(words):
     parser = argparse.ArgumentParser(prog="run.py", description="Plays a script on a disk: docs/tools/run.md")
     parser.add_argument("image", help="the disk")
     parser.add_argument("script", help="the script: docs/manual/scripts.md")
-    parser.add_argument("--term", metavar="FILE", default="-", help="where what the terminal shows goes (the standard output)")
+    parser.add_argument("--term", metavar="FILE", default="-",
+                        help="where what the terminal shows goes (the standard output)")
     parser.add_argument("--log", metavar="FILE", help="where the log goes")
     parser.add_argument("--disk", metavar="FILE", help="where the disk goes that the run leaves; it may be the image")
     parser.add_argument("--core", type=int, default=CORE, help=f"the size of core, in clicks ({CORE})")
@@ -32,8 +33,8 @@ def options_of(words):
 
 
 def run(options):
-    """The status of the program. What it writes goes to files of its own first. The disk takes its place where the run is done;
-    what was shown and logged up to there is kept in any case, but not of a run that never began."""
+    """The status of the program. What it writes goes to files of its own first. The disk takes its place where the run is
+    done; what was shown and logged up to there is kept in any case, but not of a run that never began."""
     outputs = {name: getattr(options, name) for name in OUTPUTS if getattr(options, name)}
     for name in outputs.values():
         if name not in STREAMS:

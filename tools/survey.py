@@ -5,7 +5,7 @@ names and blocks that are lost.
 """
 import struct
 
-from volume import BLOCK, DIRECTORY, GROUP, IN_BLOCK, LARGE, PACK, ROOT, SUPER, SWAP, TYPE, USED, Volume, shown
+from volume import BLOCK, GROUP, PACK, ROOT, SWAP, USED, Volume, shown
 
 FREE = 0  # stands for the free list where the owners of a block are told
 INODES = 16  # in a block
@@ -61,7 +61,10 @@ class Survey:
         self.blocks()
         self.free_list()
         self.twice = {block: who for block, who in self.owners.items() if len(who) > 1}
-        self.hurt = set(self.outside) | {n for who in self.twice.values() if FREE not in who or len(set(who)) > 2 for n in who} - {FREE}
+        self.hurt = set(self.outside)  # the inodes of files that aren't whole
+        for who in self.twice.values():
+            files = [number for number in who if number != FREE]
+            self.hurt |= set(files) if len(files) > 1 else set()
 
     def super_block(self, image):
         isize, fsize, count = struct.unpack("<3H", self.volume.block(1)[:6])
@@ -70,8 +73,8 @@ class Survey:
             self.lines.append(f"the image has more than {PACK * BLOCK} bytes")
         (spares,) = struct.unpack("<H", self.volume.block(1)[206:208])
         if not isize or isize + 2 > fsize or count > GROUP or spares > GROUP:
-            self.lines.append(f"bad super-block: {isize} blocks of inodes, a file system of {fsize}, {count} numbers of free blocks "
-                              f"and {spares} of inodes")
+            self.lines.append(f"bad super-block: {isize} blocks of inodes, a file system of {fsize}, {count} numbers of free "
+                              f"blocks and {spares} of inodes")
         elif fsize > SWAP:
             self.lines.append(f"file system of {fsize} blocks leaves no swap")
 

@@ -8,11 +8,11 @@ import tempfile
 
 sys.path.insert(0, os.path.dirname(os.path.abspath(__file__)))
 from assembler import Assembler
-from dialogue import FIRST_SLOTS, MOST_SLOTS, Dialogue, DialogueError, Machine, Refused, total
+from dialogue import MOST_SLOTS, Dialogue, DialogueError, Machine, Refused, total
 from files import guarded, read_bytes, replace
-from processes import BUSY, OVER, RUNS, WAITS
+from processes import BUSY, RUNS, WAITS
 from program import CORE, V6, ProgramError, add_version, call
-from volume import BLOCK, CHARACTER, DIRECTORY, ROOT, DiskError, Volume, check_name
+from volume import CHARACTER, ROOT, DiskError, Volume, check_name
 
 FAILED, OUT_OF_SLOTS, NOT_BUILT = 125, 124, 126  # the status where it isn't the program's own
 ENDS = 20  # how often the end of a file is typed to a program that reads on
@@ -183,7 +183,7 @@ class Run:
         return mark in log if mark else len(log) >= length
 
     def least(self, before, step, mark, length=0):
-        """With how few slots a step comes to a line of the log, or to all its lines; within a hundredth where they are many."""
+        """With how few slots a step comes to a line of the log, or to all its lines; within a hundredth of many."""
         *more, last = step
         low, high = -1, int(last[4:])
         while high - low > max(1, high // 100 if high > EXACT else 1):
@@ -276,7 +276,8 @@ def options_of(words):
     parser = argparse.ArgumentParser(prog="try.py", description="Runs one program on a small disk: docs/tools/try.md")
     parser.add_argument("-t", dest="tell", action="store_true", help="tell the status and the slots on standard error")
     parser.add_argument("--with", dest="sources", metavar="FILE", action="append", default=[], help="another source")
-    parser.add_argument("--file", dest="files", metavar="FILE", action="append", default=[], help="a file for the disk's root")
+    parser.add_argument("--file", dest="files", metavar="FILE", action="append", default=[],
+                        help="a file for the disk's root")
     parser.add_argument("--disk", metavar="IMAGE", help="a copy of this disk in the place of a small one")
     parser.add_argument("--final", metavar="FILE", help="where the disk goes that the run leaves")
     parser.add_argument("--core", type=int, default=CORE, help=f"the size of core, in clicks ({CORE})")

@@ -127,7 +127,7 @@ class Volume:
         return volume
 
     def image(self, short=False):
-        """The bytes of the disk: as many as it had, or more where blocks behind them are used. A short one ends with the
+        """The bytes of the disk: as many as it had, or more where blocks after them are used. A short one ends with the
         last block that isn't zeros."""
         count = len(self.group)
         group = self.group + [0] * (GROUP - count)

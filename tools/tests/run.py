@@ -1,11 +1,37 @@
 #!/usr/bin/env python3
-"""Runs all tests of the tools. The program v6 is bin/v6, or the command in the environment's V6."""
+"""Runs all tests of the tools, those of one class in one process. The program v6 is bin/v6, or the command in the
+environment's V6."""
+import io
 import os
 import sys
+import time
 import unittest
+from concurrent.futures import ProcessPoolExecutor
+
+HERE = os.path.dirname(os.path.abspath(__file__))
+sys.path.insert(0, HERE)
+
+
+def classes(suite):
+    """The names of the test classes in a suite."""
+    for one in suite:
+        yield from classes(one) if isinstance(one, unittest.TestSuite) else [f"{type(one).__module__}.{type(one).__qualname__}"]
+
+
+def run(name):
+    """How many tests a class has, how many failed, and what is to be said of these."""
+    out = io.StringIO()
+    done = unittest.TextTestRunner(out).run(unittest.defaultTestLoader.loadTestsFromName(name))
+    failed = len(done.failures) + len(done.errors) + len(done.unexpectedSuccesses)
+    return done.testsRun, failed, "" if done.wasSuccessful() else out.getvalue()
+
 
 if __name__ == "__main__":
-    here = os.path.dirname(os.path.abspath(__file__))
-    sys.path.insert(0, here)
-    done = unittest.TextTestRunner().run(unittest.defaultTestLoader.discover(here))
-    sys.exit(not done.wasSuccessful())
+    began = time.monotonic()
+    names = sorted(set(classes(unittest.defaultTestLoader.discover(HERE))))
+    with ProcessPoolExecutor() as pool:
+        results = list(pool.map(run, names))
+    print("".join(text for _, _, text in results), end="", file=sys.stderr)
+    count, failed = (sum(numbers) for numbers in list(zip(*results))[:2])
+    print(f"Ran {count} tests in {time.monotonic() - began:.1f}s: {count - failed} passed, {failed} failed", file=sys.stderr)
+    sys.exit(int(failed > 0 or count == 0))

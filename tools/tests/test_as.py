@@ -4,6 +4,7 @@ import struct
 import subprocess
 import sys
 import unittest
+from unittest import mock
 
 from common import TOOLS, Case, read, tool, words
 
@@ -104,7 +105,8 @@ LINES = {  # a line, and its words at address 0
     "jbr 1f; 1: jeq 1b; jne 1b; jlo 1b; jec 1b": "000400 001777 001376 103775 103374",
     "mpy r1,r0; dvd r1,r0; als r1,r0; alsc r1,r0": "070001 071001 072001 073001",
     # registers, and programs that stand elsewhere
-    "x=r5; mov x,(x)+; rts x": "010525 000205", "..=1000; a: mov $a,r0; jmp a; b-a; b: .": "012700 1000 000167 177770 12 1012",
+    "x=r5; mov x,(x)+; rts x": "010525 000205",
+    "..=1000; a: mov $a,r0; jmp a; b-a; b: .": "012700 1000 000167 177770 12 1012",
     # conditions
     ".if 1; 5; .endif; 6": "5 6", ".if 0; 5; .endif; 6": "6", "a=2; .if a-2\n{garbage\n.if 1; 4; .endif; 5\n.endif\n6": "6",
     ".if 1\n.if 0\n4\n.endif\n5\n.endif": "5", ".globl a,b; a: 3; b=4": "3",
@@ -116,10 +118,12 @@ FAULTS = {  # a source, and the fault of its last line
     "mov 1(5),r0": "'5' where a register is wanted", "mov 1(a),r0": "'a' where a register is wanted",
     "mov (r0,r1": "',' where ')' is wanted", "rts": "the end of the line where a register is wanted",
     "a: 0\na: 0": "'a' is defined twice", "nosuch": "'nosuch' isn't defined", "r0: 1": "'r0' has a meaning already",
-    "clc = 1": "'clc' has a meaning already", "a: 0\na = 1": "'a' has a meaning already", "12: 1": "'12': no name for a label",
+    "clc = 1": "'clc' has a meaning already", "a: 0\na = 1": "'a' has a meaning already",
+    "12: 1": "'12': no name for a label",
     "br 1f": "'1f': there is no label 1: that way", "br 1b": "'1b': there is no label 1: that way",
     "9": "'9': no number; one in decimal ends with a point", "200000": "'200000': too large for a word",
-    "<abc": "the text has no end: > is missing", "<\\q>": "'\\q': no such escape", "<\u00e9>": "'\u00e9': no character of ASCII",
+    "<abc": "the text has no end: > is missing", "<\\q>": "'\\q': no such escape",
+    "<\u00e9>": "'\u00e9': no character of ASCII",
     "{": "'{': no character of a program", ".byte 400": "a number that doesn't fit a byte",
     ".byte 1\nmov r0,r0": "a word at an odd address: .even is wanted before it",
     "br .+402": "the branch is too far: 256 bytes", "br .-400": "the branch is too far: -258 bytes",
@@ -130,10 +134,13 @@ FAULTS = {  # a source, and the fault of its last line
     "frob r0,r1": "'frob': no instruction", "MOV (r0),r1": "'MOV': no instruction", "mov: 1": "'mov' has a meaning already",
     ".even = 1": "'.even' has a meaning already", "1 = 2": "'=' isn't expected here",
     ".=.+n; n=2": "'.' can't go by a name that stands further on", "mov $x,r0; x=n; n=2": "'x' isn't defined",
-    ".if 1": ".if without .endif", ".endif": ".endif without .if", ".if n; .endif; n=1": "'.if' can't go by a name that stands further on",
+    ".if 1": ".if without .endif", ".endif": ".endif without .if",
+    ".if n; .endif; n=1": "'.if' can't go by a name that stands further on",
     "5\\/0": "division by 0", "a: 5*a": "addresses can't be put together so", "[5": "the end of the line where ']' is wanted",
-    "jbr": "the end of the line where a value is wanted", "jbr nosuch": "'nosuch' isn't defined", "jeq = 3": "'jeq' has a meaning already",
-    ".comm a": "the end of the line where ',' is wanted", ".globl 5": "'5' where a name is wanted", "x=r5; x: 0": "'x' has a meaning already",
+    "jbr": "the end of the line where a value is wanted", "jbr nosuch": "'nosuch' isn't defined",
+    "jeq = 3": "'jeq' has a meaning already",
+    ".comm a": "the end of the line where ',' is wanted", ".globl 5": "'5' where a name is wanted",
+    "x=r5; x: 0": "'x' has a meaning already",
     ".=.+1f; 1: 0": "'.' can't go by a name that stands further on", "x=x+1": "'x' isn't defined",
 }
 
@@ -193,9 +200,11 @@ class Words(Case):
     def test_jumps(self):
         """A jump is a branch as far as one reaches, on both sides, and no further: by hand, 127 words ahead and 128 behind."""
         for gap, wanted in ((127, "000577"), (128, "000167 000400")):
-            self.assertEqual(self.assemble(f"jbr 1f; .=.+{2 * gap:o}; 1: 0")[0][16:16 + 2 * len(wanted.split())], words(wanted))
+            self.assertEqual(self.assemble(f"jbr 1f; .=.+{2 * gap:o}; 1: 0")[0][16:16 + 2 * len(wanted.split())],
+                             words(wanted))
         for gap, wanted in ((127, "001177"), (128, "001402 000167 000400")):
-            self.assertEqual(self.assemble(f"jne 1f; .=.+{2 * gap:o}; 1: 0")[0][16:16 + 2 * len(wanted.split())], words(wanted))
+            self.assertEqual(self.assemble(f"jne 1f; .=.+{2 * gap:o}; 1: 0")[0][16:16 + 2 * len(wanted.split())],
+                             words(wanted))
         for gap, wanted in ((127, "000600"), (128, "000167 177374")):
             self.assertEqual(self.assemble(f"1: .=.+{2 * gap:o}; jbr 1b")[0][16 + 2 * gap:], words(wanted))
         # one that grows moves the target of another out of reach
@@ -208,13 +217,14 @@ class Words(Case):
         made, errors = self.assemble(source)
         self.assertEqual(errors, [])
         self.assertEqual(made[:16], words("407 12 0 14 0 0 0 0"))
-        self.assertEqual(sorted((words(f"012700 {a:o} 012700 {b:o} 0") for a, b in ((12, 16), (18, 12))), key=lambda w: w != made[16:])[0],
-                         made[16:])
+        self.assertEqual(made[16:], words("012700 14 012700 20 0"))
 
     def test_symbols(self):
         """The table of a.out(V): eight bytes of a name, a type and a value, after the data."""
         assembler = Assembler()
-        made = assembler.assemble([("it.s", ".globl a,longer_name; x=5; a: 0; b: 0; .data; longer_name: 6; .bss; z: .=.+2")], False, True)
+        made = assembler.assemble([("it.s",
+                                    ".globl a,longer_name; x=5; a: 0; b: 0; .data; longer_name: 6; .bss; z: .=.+2")],
+                                    False, True)
         table = [(b"x", 0o1, 5), (b"a", 0o42, 0), (b"b", 0o2, 2), (b"longer_n", 0o43, 4), (b"z", 0o4, 6)]
         self.assertEqual(made[:16], words("407 4 2 2 74 0 0 0"))
         self.assertEqual(made[22:], b"".join(struct.pack("<8s2H", *row) for row in table))
@@ -260,14 +270,21 @@ class Command(Case):
         for name in ("-", "/dev/stdout"):
             done = subprocess.run([sys.executable, os.path.join(TOOLS, "as.py"), "-o", name, source], capture_output=True)
             self.assertEqual((done.returncode, done.stdout, done.stderr), (0, made, b""))
-        done = subprocess.run([sys.executable, os.path.join(TOOLS, "as.py"), "-o", "-", "-"], input=b"\tnop\n", capture_output=True)
+        done = subprocess.run([sys.executable, os.path.join(TOOLS, "as.py"), "-o", "-", "-"], input=b"\tnop\n",
+                              capture_output=True)
         self.assertEqual((done.returncode, done.stdout), (0, made))
+
+    def test_a_file_without_an_end(self):
+        with mock.patch("files.MOST", 1000):
+            self.assertEqual(self.call(as_main, "-o", self.path("out"), "/dev/zero"),
+                             (1, "", "as.py: /dev/zero: more than 1000 bytes\n"))
 
     def test_a_closed_pipe(self):
         source = self.put("x.s", b"\tnop\n" * 20000)
         reads, writes = os.pipe()
         os.close(reads)
-        done = subprocess.run([sys.executable, os.path.join(TOOLS, "as.py"), "-l", "-o", self.path("out"), source], stdout=writes,
+        done = subprocess.run([sys.executable, os.path.join(TOOLS, "as.py"), "-l", "-o", self.path("out"), source],
+                              stdout=writes,
                               stderr=subprocess.PIPE)
         os.close(writes)
         self.assertEqual((done.returncode, done.stderr), (141, b""))

@@ -88,7 +88,8 @@ LOGS = (
     (FORK + "sleep 1 10 keys\ngo 2\nwake keys\ngo 1\nsleep 1 10 keys\ngo 2\n", "waits"),
     # two read, and one has the line: whether he is done can't be seen from the other
     (FORK + "sleep 1 10 keys\ngo 2\nsleep 2 10 keys\nidle\nwake keys\ngo 1\nsleep 1 10 keys\ngo 2\n", "busy"),
-    (FORK + "sleep 1 10 keys\ngo 2\nsleep 2 10 keys\nidle\nwake keys\ngo 1\nsleep 1 10 keys\ngo 2\nexit 2 swap 4000\n", "waits"),
+    (FORK + "sleep 1 10 keys\ngo 2\nsleep 2 10 keys\nidle\nwake keys\ngo 1\nsleep 1 10 keys\ngo 2\nexit 2 swap 4000\n",
+     "waits"),
 )
 BOOT = "boot 1200 0\nsleep 0 -100 runout\ngo 1\n"
 
@@ -235,13 +236,15 @@ class Sessions(Case):
         words = ("--script", script, "--disk", image)
         self.assertEqual(self.session("mkdir /tmp\n", *words, image=image)[0], 0)
         before = read(script), read(image)
-        said = f"\nconsole: {script} was typed at another disk than {image}: another --script begins a new dialogue, and --replay plays this one\n"
+        said = (f"\nconsole: {script} was typed at another disk than {image}: another --script begins a new dialogue, and "
+                "--replay plays this one\n")
         self.assertEqual(self.session("ls\n", *words, image=image), (1, b"", said))
         self.assertEqual((read(script), read(image)), before)
         status, term, _ = self.session("ls\n", "--replay", "--script", script, image=image)
         self.assertEqual((status, term.count(b"CANNOT MAKE DIRECTORY")), (0, 1))
         self.assertIn(hashlib.sha256(read(image)).hexdigest().encode(), read(script))
-        self.assertIn("was typed with another size of core", self.session("", "--script", script, "--core", "1200", image=image)[2])
+        self.assertIn("was typed with another size of core",
+                      self.session("", "--script", script, "--core", "1200", image=image)[2])
         self.assertEqual(self.session("", "--script", self.put("old", self.script("run 9000\n", core=1200)))[0], 0)
         self.assertIn(b" core 1200\n", read(self.path("old")))
 
@@ -257,8 +260,8 @@ class Sessions(Case):
 
     def test_signals(self):
         status, _, said = self.session("~^?\n")
-        self.assertEqual((status, said), (1, "\nconsole: not built: line 3: the keys that interrupt (0177, control-C) and quit (034) "
-                                             "make signals, which aren't built yet\nconsole: this line is taken back\n"))
+        self.assertEqual((status, said), (1, "\nconsole: not built: line 3: the keys that interrupt (0177, control-C) and quit "
+                                             "(034) make signals, which aren't built yet\nconsole: this line is taken back\n"))
 
     def test_back_and_forth(self):
         status, term, said = self.session("chdir /usr\nls\n~u 2\n~l\nls\nls\n~u\n~l\n~w\n~g 2\n~u 3\n~g 4\n", "--script",
@@ -284,8 +287,8 @@ class Sessions(Case):
     def test_a_program_that_runs_on(self):
         image = self.disk_with("\tbr\t.\n")
         script = self.path("script")
-        more = ("\nconsole: the machine runs on after 500 slots (process 1 runs); ~:run N gives it more, and what you type waits "
-                "for it\n")
+        more = ("\nconsole: the machine runs on after 500 slots (process 1 runs); ~:run N gives it more, and what you type "
+                "waits for it\n")
         self.assertEqual(self.session("x\n", "--slots", "500", "--script", script, image=image), (0, b"", more + more))
         self.assertEqual(read(script), self.script("run 500\ntype x\nrun 500\n", image))
 
@@ -320,6 +323,9 @@ class Sessions(Case):
         self.assertEqual(read(script), self.script(f"run 10000\n{passes}run 10000\ntype ab\nrun 10000\n", image))
         again = self.session("cd\n", "--script", script, image=image)
         self.assertEqual(again, (0, b"AB\r\nAB\r\nCD\r\nCD\r\n", ""))
+        typed = "sleep 3\necho a >b\nsleep 75\ndate\n"
+        term = b"# SLEEP 3\r\n# ECHO A >B\r\n# SLEEP 75\r\n# DATE\r\nTHU JAN  1 00:01:18 GMT 1970\r\n# "
+        self.assertEqual(self.session(typed), (0, term, ""))
         # a time that is too long for the limit: the console says so, and goes on
         image = self.disk_with("\tmov\t$100.,r0\n\tsys\tsleep\n\tsys\texit\n")
         status, _, said = self.session("~:clock 1\n~:run 4000\n", "--slots", "2000", image=image)

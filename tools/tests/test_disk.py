@@ -1,22 +1,17 @@
 """Disks: those of the generator, random folders there and back, what is refused, and what odd disks come to."""
 import os
-import shutil
 import socket
 import struct
-import subprocess
-import sys
-import time
 import unittest
 from dataclasses import replace as replaced
 from unittest import mock
 
-from common import DISK_BYTES, TOOLS, V6, Case, read, tool, v6, write
+from common import DISK_BYTES, read, tool, v6, write
+from disks import Disks, disk_main
 
 from files import replace
-from survey import Survey
 from volume import DiskError, Volume
 
-disk_main = tool("disk").main
 as_main = tool("as").main
 ROUNDS = int(os.environ.get("ROUNDS", 60))
 TABLE = "# the devices\n/dev/tty8 0666 0 0 c 0 0\n/dev/null 0666 0 0 c 8 2\n/tmp/ 0777 3 4\n"
@@ -51,54 +46,12 @@ EMPTIES = """
 	sys	exit
 name:	</large\\0>
 """
-OTHER = """
-import subprocess, sys
-disk, *words = sys.argv[1:]
-done = subprocess.run(words, input=sys.stdin.buffer.read())
-with open(disk, "r+b") as file:
-    file.seek(-7, 2)
-    file.write(b"changed")
-sys.exit(done.returncode)
-"""
-SLOW = """
-import os, sys, time
-if any(name.startswith(".new-") for name in os.listdir(os.path.dirname(sys.argv[1]))):
-    time.sleep(60)
-"""
 UNKEPT = "disk.py: {} devices, and modes, owners or times of {} files are not in the folder: --table FILE keeps them\n"
 
 
 def generated(n, k):
     """The bytes of the file k of the disk that `v6 make n` writes, by docs/manual/generator.md."""
     return bytes((n + k + i) % 256 for i in range((331 * (k + 1) + 97 * n) % 3000))
-
-
-class Disks(Case):
-    def disk(self, *words):
-        return self.call(disk_main, "--v6", V6, *words)
-
-    def done(self, *words):
-        status, out, error = self.disk(*words)
-        self.assertEqual((status, error), (0, ""))
-        return out
-
-    def refused(self, said, *words):
-        self.assertEqual(self.disk(*words), (1, "", f"disk.py: {said}\n"))
-
-    def folder_of(self, files):
-        """A folder with these files: their bytes by their paths."""
-        top = self.path("from")
-        shutil.rmtree(top, ignore_errors=True)
-        os.mkdir(top)
-        for name, data in files.items():
-            os.makedirs(os.path.dirname(os.path.join(top, name)), exist_ok=True)
-            write(os.path.join(top, name), data)
-        return top
-
-    def new(self, files, *words):
-        image = self.path("image")
-        self.done("new", "--replace", *words, image, self.folder_of(files))
-        return image
 
 
 class Generator(Disks):
@@ -387,10 +340,12 @@ class Refusals(Disks):
                            ("/etc/init 0999", "'0999': no mode: four octal digits, at most 7777"),
                            ("/etc/init 0644 256 0", "'256': no owner or group: 0 to 255"),
                            ("/dev/x 0644 0 0 p 0 0", "'p': a device is c or b"),
-                           ("/etc/init 0644 0 0 times 1", "PATH MODE, PATH MODE OWNER GROUP, or these and c or b MAJOR MINOR is wanted"),
+                           ("/etc/init 0644 0 0 times 1",
+                            "PATH MODE, PATH MODE OWNER GROUP, or these and c or b MAJOR MINOR is wanted"),
                            ("/etc/init 0644 0 0 times 1 x", "'x': no time: 0 to 4294967295 seconds"),
                            ("/etc/init 0644 0 0 holes 3-x", "'x': no number of a block: 0 to 32767"),
-                           ("/a = /nosuch", "'/nosuch': no file that can have a second name"), ("disk 1 2 x", "'x': no size or time"),
+                           ("/a = /nosuch", "'/nosuch': no file that can have a second name"),
+                           ("disk 1 2 x", "'x': no size or time"),
                            ("/dev/x 0644 0 0 c 0 -1", "'-1': no number of a device: 0 to 255"),
                            ("/etc/passwd 0644", "the folder has no such file; the path of a directory ends with a slash"),
                            ("/etc/init/x 0644 0 0 c 0 0", "init: not a directory"),
@@ -533,303 +488,6 @@ disk.py: /c: passed over: the name comes twice in its directory
         self.done("put", image, self.path("back"), "/a")
         self.assertEqual(v6("check", image)[1], before)
         self.assertLess(int(before.split()[1]) + 25, 100)
-
-
-class Names(Disks):
-    """What changes names: by link(II), unlink(II) and mkdir of section I."""
-
-    def names(self, image):
-        return [" ".join(line.split()[1:3] + line.split()[-1:]) for line in self.done("list", image).splitlines()]
-
-    def free(self, image):
-        status, said = v6("check", image)
-        self.assertEqual((status, self.done("check", image)), (0, ""))
-        return said
-
-    def test_names(self):
-        image = self.new({"a/x": b"12", "a/y": b"3", "b": b"4" * 5000}, "--blocks", "100")
-        before = self.free(image)
-        self.done("mkdir", image, "/c", "/c/d")
-        self.done("ln", image, "/a/x", "/c/d")
-        self.done("mv", image, "/b", "/c/d/e")
-        self.assertEqual(self.names(image), ["drwxr-xr-x 4 /", "drwxr-xr-x 2 /a", "-rw-r--r-- 2 /a/x", "-rw-r--r-- 1 /a/y",
-                                             "drwxr-xr-x 3 /c", "drwxr-xr-x 2 /c/d", "-rw-r--r-- 2 /c/d/x", "-rw-r--r-- 1 /c/d/e"])
-        self.done("mv", image, "/c/d", "/a")
-        self.done("mv", image, "/a/d/e", "/b")
-        self.done("mv", image, "/a/y", "/a/x")
-        self.assertEqual(self.done("cat", image, "/a/x", "/a/d/x"), "312")
-        self.done("chmod", image, "4711", "/a/x", "/a")
-        self.done("chown", image, "3", "4", "/a/x")
-        self.assertIn("-rws--x--x   1   3   4         1  /a/x", self.done("list", image))
-        self.free(image)
-        self.done("rm", image, "-r", "/c", "/a/d")
-        self.assertEqual(self.names(image), ["drwxr-xr-x 3 /", "drws--x--x 2 /a", "-rws--x--x 1 /a/x", "-rw-r--r-- 1 /b"])
-        self.assertEqual(self.free(image).split()[1], str(int(before.split()[1]) - 1))
-        self.assertEqual(int(self.free(image).split()[3]), int(before.split()[3]) + 1)
-        self.done("put", image, self.put("new", b"5"), "/a/y")
-        self.assertEqual(self.names(image)[3], "-rw-r--r-- 1 /a/y")
-
-    def test_what_is_refused(self):
-        image = self.new({"a/x": b"1", "a/d/y": b"2", "b": b"3"}, "--blocks", "100")
-        before = read(image)
-        for said, *words in (("/a: a directory that isn't empty; -r removes what is in it", "rm", image, "/a"),
-                             ("/no: no such file on the disk", "rm", image, "/no"), ("the root is a directory", "rm", image, "/"),
-                             ("/a/.: a directory keeps its entries . and ..", "rm", image, "-r", "/a/."),
-                             ("/b: there already", "mkdir", image, "/b"), ("/a/x: there already", "ln", image, "/b", "/a/x"),
-                             ("/a: a directory has one name", "ln", image, "/a", "/c"),
-                             ("/a: a directory can't go below itself", "mv", image, "/a", "/a/d"),
-                             ("/a: a directory can't go below itself", "mv", image, "/a", "/a/d/z"),
-                             ("/b and /b are one file", "mv", image, "/b", "/b"), ("/b: there already", "mv", image, "/a", "/b"),
-                             ("/b: not a directory", "mkdir", image, "/b/c")):
-            self.refused(said, *words)
-        self.assertEqual(read(image), before)
-
-    def test_standard_streams(self):
-        image = self.new({"a": b"\0\377\n"}, "--blocks", "100")
-        tool_name = os.path.join(TOOLS, "disk.py")
-        for words in (("get", image, "/a", "-"), ("get", image, "/a", "/dev/stdout"), ("cat", image, "/a")):
-            done = subprocess.run([sys.executable, tool_name, "--v6", V6, *words], capture_output=True)
-            self.assertEqual((done.returncode, done.stdout, done.stderr), (0, b"\0\377\n", b""), words)
-        done = subprocess.run([sys.executable, tool_name, "--v6", V6, "put", image, "-", "/b"], input=b"typed", capture_output=True)
-        self.assertEqual((done.returncode, done.stderr, self.done("cat", image, "/b")), (0, b"", "typed"))
-        reads, writes = os.pipe()
-        os.close(reads)
-        done = subprocess.run([sys.executable, tool_name, "--v6", V6, "list", image], stdout=writes, stderr=subprocess.PIPE)
-        os.close(writes)
-        self.assertEqual((done.returncode, done.stderr), (141, b""))
-
-    def test_a_disk_that_changes(self):
-        """What was written in between isn't lost."""
-        image, file = self.new({"a": b"1"}, "--blocks", "100"), self.put("file", b"2")
-        other = self.put("other.py", OTHER.encode())
-        again = f"{sys.executable} {other} {image} {V6}"
-        status, _, said = self.call(disk_main, "--v6", again, "put", image, file, "/b")
-        self.assertEqual((status, said), (1, f"disk.py: {image}: it has changed since it was read\n"))
-        self.assertEqual(read(image)[-7:], b"changed")
-
-    def test_an_interrupt(self):
-        """A tool that is ended by a signal leaves nothing beside the disk."""
-        image, file = self.new({"a": b"1"}, "--blocks", "100"), self.put("file", b"2")
-        slow = self.put("slow.py", SLOW.encode())
-        before = sorted(os.listdir(self.folder))
-        running = subprocess.Popen([sys.executable, os.path.join(TOOLS, "disk.py"), "--v6", f"{sys.executable} {slow} {file}",
-                                    "put", image, file, "/b"], stderr=subprocess.PIPE)
-        while not any(name.startswith(".new-") for name in os.listdir(self.folder)):
-            time.sleep(0.01)
-        running.terminate()
-        self.assertEqual(running.communicate()[1], b"")
-        self.assertEqual(running.returncode, 130)
-        self.assertEqual(sorted(os.listdir(self.folder)), before)
-
-    def test_second_names(self):
-        """Of a folder with hard links, there and back."""
-        top = self.folder_of({"a": b"1", "d/b": b"2"})
-        os.link(top + "/a", top + "/d/c")
-        image, table, back, again = (self.path(name) for name in ("image", "table", "back", "again"))
-        self.done("new", image, top, "--blocks", "100")
-        self.assertEqual(self.names(image), ["drwxr-xr-x 3 /", "-rw-r--r-- 2 /a", "drwxr-xr-x 2 /d", "-rw-r--r-- 1 /d/b",
-                                             "-rw-r--r-- 2 /d/c"])
-        self.done("get", image, "/", back, "--table", table)
-        self.assertIn(b"/d/c = /a\n", read(table))
-        self.assertEqual(os.stat(back + "/a").st_nlink, 2)
-        os.remove(back + "/d/c")
-        self.done("new", again, back, "--table", table)
-        self.assertEqual(read(again), read(image))
-
-    def test_the_same_disk(self):
-        """Of what `get` gives of any disk, `new` makes one with the same files, times and links, and it gives the same table."""
-        image = self.new({"etc/init": b"x", "u/a": b"y" * 5000}, "--blocks", "300", "--inodes", "32", "--time", "70000")
-        self.done("put", image, self.put("file", b"z"), "/u", "--time", "80000")
-        self.done("ln", image, "/u/file", "/etc/init2", "--time", "90000")
-        for disk, back, table in ((image, "one", "table1"), (self.path("again"), "two", "table2")):
-            self.done("get", disk, "/", self.path(back), "--table", self.path(table))
-            self.done("new", self.path("again"), self.path(back), "--table", self.path(table), "--replace")
-        self.assertEqual(read(self.path("table1")), read(self.path("table2")))
-        self.assertIn(b"/etc/init2 0644 0 0 times 80000 80000\n", read(self.path("table1")))
-        self.assertEqual(v6("check", image), v6("check", self.path("again")))
-
-    def test_many_files(self):
-        files = {f"f{k}": b"x" * (k % 4 > 0) for k in range(4000)}
-        folder, image, began = self.folder_of(files), self.path("image"), time.process_time()
-        self.done("new", image, folder, "--inodes", "4096")
-        self.assertLess(time.process_time() - began, 2)
-        self.assertEqual(v6("check", image)[1].split()[1], "4001")
-
-    def test_grow(self):
-        """Files stay as they are, also those whose blocks stood where the new inodes stand."""
-        files = {"a": self.random.randbytes(9000), "b": self.random.randbytes(300), "c": b"", "d/e": self.random.randbytes(1793 * 512)}
-        image = self.new(files, "--blocks", "2000", "--inodes", "16")
-        listed, free = self.done("list", image), int(self.free(image).split()[3])
-        self.done("grow", image, "--blocks", "3000")
-        self.assertEqual(int(self.free(image).split()[3]), free + 1000)
-        self.done("grow", image, "--inodes", "400")
-        self.assertEqual(int(self.free(image).split()[3]), free + 1000 - 24)
-        self.assertEqual(self.done("list", image), listed)
-        self.done("get", image, "/", self.path("back"))
-        for name, data in files.items():
-            self.assertEqual(read(self.path("back/" + name)), data)
-        self.refused("it has 3000 blocks and 400 inodes, and can't become smaller", "grow", image, "--blocks", "2999")
-        self.refused("at most 4000 blocks and 65535 inodes", "grow", image, "--blocks", "4001")
-        self.refused("no room for 32000 inodes: 1824 blocks must move, and 998 are free", "grow", image, "--inodes", "32000")
-
-
-class Archives(Disks):
-    """The forms are those of ar(V) and tp(V), with bytes by hand."""
-
-    AR = struct.pack("<H", 0o177555) + struct.pack("<8s2H2BH", b"one.s", 1, 2, 3, 0o244, 3) + b"abc\0" + \
-        struct.pack("<8s2H2BH", b"eightbyt", 0, 5, 0, 0o244, 2) + b"de"
-
-    def entry(self, *fields):
-        """An entry of a tape: its 32 words come to 0 together."""
-        words = struct.unpack("<32H", struct.pack("<32sH3BBHHHH16sH", *fields, b"", 0))
-        return struct.pack("<32H", *words[:31], -sum(words) & 0xFFFF)
-
-    def tape(self, directory):
-        entries = self.entry(b"bin/x", 0o100755, 3, 4, 0, 0, 600, 1, 2, directory + 1)
-        entries += self.entry(b"", 0, 0, 0, 0, 0, 0, 0, 0, 0) + self.entry(b"y", 0o100600, 0, 0, 0, 0, 1, 0, 7, directory + 3)
-        return bytes(512) + entries.ljust(512 * directory, b"\0") + b"x" * 600 + bytes(424) + b"y" + bytes(511)
-
-    def test_ar(self):
-        image, archive = self.new({}, "--blocks", "100"), self.put("lib.a", self.AR)
-        self.done("put", image, archive, "/lib", "--as", "ar")
-        self.assertEqual(self.done("cat", image, "/lib/one.s", "/lib/eightbyt"), "abcde")
-        inode = Volume(read(image)).inode(Volume(read(image)).find(b"/lib/one.s"))
-        self.assertEqual((inode.changed, inode.owner, inode.mode), (65538, 3, 0o100644))
-        self.done("get", image, "/lib", self.path("back.a"), "--as", "ar")
-        members = self.AR[2:22], self.AR[22:]  # in the order of the directory, which is that of the names
-        self.assertEqual(read(self.path("back.a")), self.AR[:2] + members[1] + members[0])
-        for data, said in ((b"x", "no archive: it doesn't begin with 0177555"), (self.AR[:10], "the archive ends in the middle of a header"),
-                           (self.AR[:20], "the archive ends in the middle of one.s")):
-            bad = self.put("bad", data)
-            self.refused(f"{bad}: {said}", "put", image, bad, "/x", "--as", "ar")
-        self.refused("nine.byte: an archive has names of 8 bytes and files of 65535", "get",
-                     self.new({"nine.byte": b""}, "--blocks", "100"), "/", "-", "--as", "ar")
-
-    def test_tp(self):
-        for directory in (24, 62):
-            image, tape = self.new({}, "--blocks", "100"), self.put("tape", self.tape(directory))
-            self.done("put", image, tape, "/", "--as", "tp")
-            self.assertEqual(self.done("cat", image, "/bin/x", "/y"), "x" * 600 + "y")
-            inode = Volume(read(image)).inode(Volume(read(image)).find(b"/bin/x"))
-            self.assertEqual((inode.changed, inode.owner, inode.group, inode.mode), (65538, 3, 4, 0o100755))
-        bad = self.put("bad", b"x" * 2000)
-        self.refused(f"{bad}: no tape of tp(I): its directory isn't one", "put", image, bad, "/x", "--as", "tp")
-        bad = self.put("bad", self.tape(24)[: 512 * 26])
-        self.refused(f"{bad}: the tape ends in the middle of bin/x", "put", image, bad, "/x", "--as", "tp")
-
-    def test_simh(self):
-        image, tape = self.new({}, "--blocks", "100"), self.tape(62)
-        records = [tape[at : at + 512] for at in range(0, len(tape), 512)]
-        data = b"".join(struct.pack("<I", 512) + record + struct.pack("<I", 512) for record in records) + bytes(8)
-        self.done("put", image, self.put("t.tap", data), "/", "--as", "tap")
-        self.done("get", image, "/", self.path("back"), "--as", "tap")
-        other = self.new({}, "--blocks", "100")
-        self.done("put", other, self.path("back"), "/", "--as", "tap")
-        self.assertEqual(self.done("list", other, "-l"), self.done("list", image, "-l"))
-        self.assertEqual(self.done("cat", other, "/bin/x", "/y"), "x" * 600 + "y")
-        self.done("get", image, "/", self.path("tp"), "--as", "tp")
-        self.assertEqual(read(self.path("tp"))[512 * 63 :], tape[512 * 63 :])
-
-
-class Damaged(Disks):
-    """Disks with faults; what `check` tells is by hand."""
-
-    def hurt(self, *changes):
-        """A disk of three files of two blocks, with words changed: its data begin at block 3 with the root's, and the files hold
-        4 and 5, 6 and 7, 8 and 9; their inodes are 2, 3 and 4."""
-        self.new({name: name.encode() * 1024 for name in "abc"}, "--blocks", "20", "--inodes", "16")
-        data = bytearray(read(self.path("image")))
-        for at, value in changes:
-            data[at : at + 2] = struct.pack("<H", value)
-        return self.put("bad", data)
-
-    def told(self, bad, *lines):
-        status, out, error = self.disk("check", bad)
-        self.assertEqual((status, out, error), (int(bool(lines)), "".join(f"{bad}: {line}\n" for line in lines), ""))
-
-    def address(self, inode, n):
-        return 1024 + 32 * (inode - 1) + 8 + 2 * n
-
-    def test_good(self):
-        self.told(self.hurt())
-
-    def test_all_faults(self):
-        bad = self.hurt((self.address(2, 1), 21), (self.address(3, 0), 8), (512 + 6 + 2, 4), (1024 + 32 * 3 + 2, 7))
-        self.told(bad, "/a: block 21 outside", "block 4 twice: /a and the free list", "block 8 twice: /b and /c",
-                  "/c: 7 links, and 1 entries", "3 blocks are neither free nor of a file, from 5 on")
-
-    def test_names(self):
-        root = 3 * 512
-        bad = self.hurt((root + 2 * 16, 0), (root + 3 * 16, 9))
-        self.told(bad, "/b: its inode 9 is free", "inode 2 has no name: a file of 1024 bytes", "inode 3 has no name: a file of 1024 bytes")
-        listed = self.done("list", "--damaged", bad)
-        self.assertIn("    2  -rw-r--r--   1   0   0      1024  #2\n", listed)
-        self.assertEqual(self.done("cat", "--damaged", bad, "#2"), "a" * 1024)
-        good = self.path("good")
-        self.assertEqual(self.disk("repair", bad, good), (0, f"{bad}: lost: /b: its inode 9 is free\n"
-                                                             f"{good}: 4 files and directories, 1 lost\n", ""))
-        self.told(good)
-        self.assertEqual(self.done("cat", good, "/c", "/lost/2", "/lost/3"), "c" * 1024 + "a" * 1024 + "b" * 1024)
-
-    def test_repair(self):
-        bad = self.hurt((self.address(2, 1), 21), (512 + 6 + 2, 8))
-        before, good = read(bad), self.path("good")
-        self.assertEqual(self.disk("repair", bad, good),
-                         (0, f"{bad}: lost: /a: not whole\n{good}: 3 files and directories, 1 lost\n", ""))
-        self.assertEqual((read(bad), v6("check", good)[1]), (before, "ok 3 nodes 12 free\n"))
-        self.told(good)
-        self.assertEqual(self.done("cat", good, "/b", "/c"), "b" * 1024 + "c" * 1024)
-        self.assertEqual(self.done("cat", "--damaged", bad, "/a"), "a" * 512 + "\0" * 512)
-        self.refused(f"{good}: there already; --replace makes it anew", "repair", bad, good)
-        self.refused(f"{bad}: the damaged disk itself, which is kept", "repair", "--replace", bad, bad)
-
-    def test_no_super_block(self):
-        """It is told by the inodes how many blocks they have."""
-        for word in (512, 514):
-            bad = self.hurt((word, 0))
-            self.assertIn("bad super-block", self.disk("check", bad)[1])
-            self.assertEqual(self.done("cat", "--damaged", bad, "/b"), "b" * 1024)
-            self.disk("repair", "--replace", bad, self.path("good"))
-            self.assertEqual(self.done("cat", self.path("good"), "/a", "/b", "/c"), "".join(name * 1024 for name in "abc"))
-
-    def test_no_root(self):
-        bad = self.hurt((1024, 0o100644))
-        self.told(bad, "no root", *(f"inode {n} has no name: a file of {size} bytes" for n, size in ((2, 1024), (3, 1024), (4, 1024))))
-        self.assertEqual(self.disk("repair", bad, self.path("good"))[0], 0)
-        self.assertEqual(self.done("cat", self.path("good"), "/lost/4"), "c" * 1024)
-
-    def test_a_pack_without_swap(self):
-        """4,872 blocks of files can be read, and not written."""
-        self.new({"a": b"1" * 600})
-        volume = Volume(read(self.path("image")))
-        volume.fsize = 4872
-        for block in range(4871, 3999, -1):
-            volume.give(block)
-        pack = self.put("pack", volume.image())
-        self.assertEqual(self.done("cat", pack, "/a"), "1" * 600)
-        self.done("get", pack, "/", self.path("back"))
-        self.assertEqual(len(self.done("list", pack).splitlines()), 2)
-        self.refused(f"{pack}: image: file system of 4872 blocks leaves no swap", "put", pack, pack, "/b")
-        self.told(pack, "file system of 4872 blocks leaves no swap")
-        self.done("repair", pack, self.path("good"))
-        self.assertEqual(self.done("cat", self.path("good"), "/a"), "1" * 600)
-
-    def test_random_damage(self):
-        """Whatever is in its bytes, a disk is listed and repaired, and what comes out is a disk without a fault."""
-        for count in range(40):
-            self.new({f"d{k % 3}/{k}": self.random.randbytes(self.random.choice((10, 600, 5000))) for k in range(9)}, "--blocks", "120",
-                     "--inodes", "32")
-            data = bytearray(read(self.path("image")))
-            for _ in range(self.random.choice((1, 3, 30, 300))):
-                data[self.random.choice((self.random.randrange(512, 4096), self.random.randrange(len(data))))] = self.random.randrange(256)
-            bad, good = self.put("bad", data), self.path("good")
-            self.done("list", "--damaged", bad)
-            survey = Survey(bytes(data))
-            faults = survey.lines or survey.outside or survey.twice or "no root" in survey.report()
-            self.assertEqual((bool(faults), self.disk("check", bad)[0] >= bool(faults)), (v6("check", bad)[0] != 0, True))
-            status, _, error = self.disk("repair", "--replace", bad, good)
-            self.assertEqual((status, error), (0, ""), count)
-            self.told(good)
 
 
 if __name__ == "__main__":

@@ -36,7 +36,8 @@ class Run(Case):
     def test_a_run_that_is_not_done(self):
         """The image keeps its bytes though it is the disk of the run too; what was shown until then is kept."""
         program, image = self.path("init"), self.image()
-        source = self.put("init.s", b"\tsys\topen; tty; 2\n\tsys\twrite; hi; 3\n\tsys\tpipe\ntty:\t</dev/tty8\\0>\nhi:\t<hi\\n>\n")
+        source = self.put("init.s", b"\tsys\topen; tty; 2\n\tsys\twrite; hi; 3\n\tsys\tpipe\n"
+                                    b"tty:\t</dev/tty8\\0>\nhi:\t<hi\\n>\n")
         self.assertEqual(self.call(as_main, "-o", program, source), (0, "", ""))
         self.assertEqual(self.call(tool("disk").main, "--v6", V6, "put", image, program, "/etc/init"), (0, "", ""))
         before, log = read(image), self.path("log")
@@ -51,7 +52,8 @@ class Run(Case):
         self.assertEqual(self.run_it(self.image(), bad, "--term", term), (5, "", "run.py: script: line 1\n"))
         self.assertEqual(read(term), b"before")
         absent = self.path("no") + "/term"
-        self.assertEqual(self.run_it(self.image(), bad, "--term", absent), (3, "", f"run.py: {absent}: No such file or directory\n"))
+        self.assertEqual(self.run_it(self.image(), bad, "--term", absent),
+                         (3, "", f"run.py: {absent}: No such file or directory\n"))
 
 
 if __name__ == "__main__":

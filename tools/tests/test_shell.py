@@ -124,6 +124,23 @@ MV: CANNOT FIND THE FILE
 MV: ONE FILE
 # mv m
 USAGE: MV OLDNAME NEWNAME
+# chmod 711 m nosuch
+NOSUCH: CAN'T CHANGE
+# ls -l m
+-RWX--X--X  1  0       8 M
+# chmod 8 m
+USAGE: CHMOD MODE FILE ...
+# cmp m m
+# echo one teo >n
+# cmp m n
+5 167 145
+# echo one >n
+# cmp m n
+3 40 12
+# cmp m nosuch
+CMP: CANNOT OPEN
+# sleep
+USAGE: SLEEP SECONDS
 # stty
 ERASE = '#'; KILL = '@'
 -TABS LCASE ECHO -NL -RAW\x20
@@ -134,9 +151,12 @@ ERASE: UNKNOWN MODE
 """
 EDITED = (
     ("a\none\ntwo\nthree\n.\n", ""), ("1,$p\n", "one\ntwo\nthree\n"), ("2\n", "two\n"), ("=\n", "3\n"), (".=\n", "2\n"),
-    ("s/two/deux/p\n", "deux\n"), ("1i\nzero\n.\n", ""), ("$\n", "three\n"), ("\n", "?\n"), ("-\n", "deux\n"), ("/one/\n", "one\n"),
-    ("/o/p\n", "zero\n"), ("\n", "one\n"), ("2,3d\n", ""), ("1,$p\n", "zero\nthree\n"), ("w f\n", "11\n"), ("1,2c\nx\n.\n", ""),
-    ("1,$p\n", "x\n"), ("r f\n", "11\n"), ("1,$p\n", "x\nzero\nthree\n"), ("s/nosuch/y/\n", "?\n"), ("9p\n", "?\n"), ("zz\n", "?\n"),
+    ("s/two/deux/p\n", "deux\n"), ("1i\nzero\n.\n", ""), ("$\n", "three\n"), ("\n", "?\n"), ("-\n", "deux\n"),
+    ("/one/\n", "one\n"),
+    ("/o/p\n", "zero\n"), ("\n", "one\n"), ("2,3d\n", ""), ("1,$p\n", "zero\nthree\n"), ("w f\n", "11\n"),
+    ("1,2c\nx\n.\n", ""),
+    ("1,$p\n", "x\n"), ("r f\n", "11\n"), ("1,$p\n", "x\nzero\nthree\n"), ("s/nosuch/y/\n", "?\n"), ("9p\n", "?\n"),
+    ("zz\n", "?\n"),
     ("2,1p\n", "?\n"), ("/nosuch/\n", "?\n"), ("e f\n", "11\n"), ("1,$s/e/E/p\n", "thrEe\n"), ("1,$p\n", "zEro\nthrEe\n"),
     ("$a\nlast\n.\n", ""), ("w\n", "16\n"), ("f\n", "f\n"), ("$-1p\n", "thrEe\n"), ("1+1p\n", "thrEe\n"), ("e g\n", "?\n"),
     ("0a\nfirst\n.\n", ""), (".-1,.p\n", "?\n"), ("1s,first,a/b,p\n", "a/b\n"), ("f h\n", "h\n"), ("q\n", ""),
@@ -181,7 +201,8 @@ class Shell(Case):
     def test_build(self):
         image = self.path("image")
         path = f"{os.path.dirname(sys.executable)}:{os.environ['PATH']}"  # the tools with the same Python
-        done = subprocess.run([os.path.join(SHELL, "build.sh"), image], env={**os.environ, "V6": V6, "PATH": path}, capture_output=True)
+        done = subprocess.run([os.path.join(SHELL, "build.sh"), image], env={**os.environ, "V6": V6, "PATH": path},
+                              capture_output=True)
         self.assertEqual((done.returncode, done.stderr), (0, b""))
         self.assertEqual(read(image), read(os.path.join(SHELL, "image")))
 
@@ -211,8 +232,10 @@ class Shell(Case):
 
     def try_it(self, name, *words):
         """What a command prints, run alone."""
-        more = ("--with", os.path.join(SHELL, "src", "lib.s"), *words[:2], os.path.join(SHELL, "src", name + ".s"), *words[2:])
-        done = subprocess.run([sys.executable, os.path.join(TOP, "tools", "try.py"), "--v6", V6, *more], capture_output=True, input=b"")
+        more = ("--with", os.path.join(SHELL, "src", "lib.s"), *words[:2], os.path.join(SHELL, "src", name + ".s"),
+                *words[2:])
+        done = subprocess.run([sys.executable, os.path.join(TOP, "tools", "try.py"), "--v6", V6, *more],
+                              capture_output=True, input=b"")
         self.assertEqual((done.returncode, done.stderr), (0, b""))
         return done.stdout.decode()
 
@@ -235,7 +258,8 @@ class Shell(Case):
         for time, shown in ((68169599, "Mon Feb 28 23:59:59 GMT 1972"), (68169600, "Tue Feb 29 00:00:00 GMT 1972"),
                             (94694399, "Sun Dec 31 23:59:59 GMT 1972"), (169171203, "Tue May 13 00:00:03 GMT 1975"),
                             (4102444799, "Thu Dec 31 23:59:59 GMT 2099")):
-            self.assertEqual(self.call(disk_main, "--v6", V6, "new", "--replace", "--short", "--time", str(time), image, empty)[0], 0)
+            self.assertEqual(self.call(disk_main, "--v6", V6, "new", "--replace", "--short", "--time", str(time), image,
+                                       empty)[0], 0)
             self.assertEqual(self.try_it("date", "--disk", image), shown + "\n")
 
     def test_a_large_file(self):

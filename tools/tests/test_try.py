@@ -71,7 +71,8 @@ class Try(Case):
     def test_what_does_not_end(self):
         pipe = self.source("\tmov\t$3,r0\n\tsys\tpipe\n\tsys\texit\n")
         self.assertEqual(self.run_it(pipe), (126, b"", "try.py: not built: pc 4: sys\tpipe\n"))
-        self.assertEqual(self.run_it("--slots", "1000", self.source("\tbr\t.\n")), (124, b"", "try.py: it runs on after 1000 slots\n"))
+        self.assertEqual(self.run_it("--slots", "1000", self.source("\tbr\t.\n")),
+                         (124, b"", "try.py: it runs on after 1000 slots\n"))
 
     def test_what_is_refused(self):
         text = self.put("text", b"no program")

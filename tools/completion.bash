@@ -1,0 +1,23 @@
+# Completion for v6 and its tools: the commands of v6 and of disk.py, options, and the names of files.
+
+_v6() {
+    local word=${COMP_WORDS[COMP_CWORD]} words=
+    case ${COMP_WORDS[0]##*/} in
+    v6) [ "$COMP_CWORD" -eq 1 ] && words='run check make' ;;
+    v6-disk | disk.py)
+        [ "$COMP_CWORD" -eq 1 ] && words='list cat get put new mkdir rm mv ln chmod chown grow check repair --v6 --help'
+        case $word in -*) words='--as --blocks --damaged --help --inodes --mode --replace --short --table --time -l -r' ;; esac ;;
+    v6-console | console.py)
+        case $word in -*) words='--clock --core --disk --help --replay --script --slots --v6' ;; esac ;;
+    v6-as | as.py) case $word in -*) words='--disassemble --help -l -n -o -s' ;; esac ;;
+    v6-run | run.py) case $word in -*) words='--core --disk --help --log --term --v6' ;; esac ;;
+    v6-try | try.py) case $word in -*) words='--core --disk --file --final --help --slots --v6 --with -t' ;; esac ;;
+    esac
+    if [ -n "$words" ]; then
+        mapfile -t COMPREPLY < <(compgen -W "$words" -- "$word")
+    else
+        mapfile -t COMPREPLY < <(compgen -f -- "$word")
+    fi
+}
+
+complete -o filenames -F _v6 v6 v6-as v6-console v6-disk v6-run v6-try as.py console.py disk.py run.py try.py
