@@ -1,5 +1,6 @@
 #!/usr/bin/env python3
 """Makes the manual pages v6(1), v6script(5) and v6log(5) of docs/manual, for `make install`."""
+import argparse
 import os
 import re
 import sys
@@ -85,11 +86,11 @@ def page(name, section):
 
 
 def main(words):
-    if len(words) != 1:
-        print("usage: manpages.py FOLDER", file=sys.stderr)
-        return 2
+    parser = argparse.ArgumentParser(prog="manpages.py", description="Makes the manual pages of v6, for make install.")
+    parser.add_argument("folder", metavar="FOLDER", help="where man1 and man5 are made")
+    options = parser.parse_args(words)
     for name, section in PAGES:
-        folder = os.path.join(words[0], f"man{section}")
+        folder = os.path.join(options.folder, f"man{section}")
         os.makedirs(folder, exist_ok=True)
         with open(os.path.join(folder, f"{name}.{section}"), "w", encoding="utf-8") as file:
             file.write(page(name, section))

@@ -12,7 +12,7 @@ sys.path.insert(0, os.path.dirname(os.path.abspath(__file__)))
 import disassembler
 from files import read_bytes, told
 from pdp11 import ARGUMENTS
-from program import V6, ProgramError
+from program import V6, ProgramError, add_version
 from rowfile import DATA, HI, TEXT, Row, RowError, names
 
 FILES = ("term", "log", "final")
@@ -188,6 +188,7 @@ def main(words):
     parser.add_argument("names", metavar="NAME", nargs="*", help="a row, or a pattern as 'calls/*'; none: the list of all")
     parser.add_argument("-q", "--quiet", action="store_true", help="tell only whether each row came out as it says")
     parser.add_argument("--v6", metavar="COMMAND", default=V6, help="the program that runs them (bin/v6)")
+    add_version(parser)
     options = parser.parse_args(words)
     failed = 0
     try:

@@ -16,11 +16,13 @@ ENVIRONMENT = {**{key: value for key, value in os.environ.items() if key != "V6"
 class Words(Case):
     def test_help_and_version(self):
         program = hashlib.sha256(read(os.path.join(TOP, "bin", "v6"))).hexdigest()[:12]
-        for name in ("as", "console", "disk", "run", "try"):
+        for name in ("as", "console", "disk", "row", "run", "try"):
             self.assertEqual(self.call(tool(name).main, "--version"),
                              (0, f"{name}.py of the repository whose bin/v6 is {program}\n", ""))
+        for name in ("as", "console", "disk", "manpages", "row", "run", "try"):
             status, said, _ = self.call(tool(name).main, "--help")
             self.assertEqual((status, said.split()[:2]), (0, ["usage:", name + ".py"]))
+        self.assertFalse(os.path.exists("--help"))
 
 
 @unittest.skipUnless(shutil.which("make"), "make isn't there")
