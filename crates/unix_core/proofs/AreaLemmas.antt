@@ -16,8 +16,8 @@ use Rattle.sys_procs.proofs.Slots.{area_changed}
 use Rattle.sys_procs.proofs.Agreement.{agree_but}
 use Rattle.sys_procs.proofs.Alive.{is_here, area_here}
 use Rattle.unix_core.specs.declared.world.World.{World}
-use Rattle.unix_core.specs.Unix.{Unix, process_of, with_process}
-use Rattle.unix_core.specs.References.{is_in, referrers}
+use Rattle.abstract_unix.specs.Unix.{Unix, process_of, with_process}
+use Rattle.abstract_unix.specs.References.{is_in, referrers}
 use Rattle.unix_core.specs.Parts.{unix_of, board_in, named, numbers_in, IsReady}
 use Rattle.unix_core.proofs.ReferenceLemmas.{numbers_living, in_living, named_set, in_set, slot_within}
 use Rattle.unix_core.proofs.WorldLemmas.{ready_alive, slot_is, is_living}

@@ -17,9 +17,9 @@ use Rattle.pick_rules.specs.Logged.{logged, log_one}
 use Rattle.image_keep.specs.Kept.{Kept}
 use Rattle.sys_procs.specs.Agree.{untimed, board_of}
 use Rattle.sys_procs.proofs.Tables.{untimed_ready, untimed_wakeup}
-use Rattle.unix_core.specs.Unix.{Unix}
+use Rattle.abstract_unix.specs.Unix.{Unix}
 use Rattle.unix_core.specs.Passing.{trapped}
-use Rattle.unix_core.specs.Turn.{settled, settled_as}
+use Rattle.abstract_unix.specs.Turn.{settled, settled_as}
 
 gives_same : (t : Table) (r : Option ℕ) → gives_up (untimed t) r ≡ gives_up t r
 gives_same t None = refl

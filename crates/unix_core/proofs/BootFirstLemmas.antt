@@ -22,9 +22,9 @@ use Rattle.sys_procs.specs.Agree.{Agrees, Agree, board_of}
 use Rattle.sys_procs.proofs.Slots.{are_processes}
 use Rattle.unix_core.specs.declared.world.World.{World}
 use Rattle.unix_core.specs.declared.machine.Stage.TheVariants as stage
-use Rattle.unix_core.specs.Unix.{Unix, no_texts}
-use Rattle.unix_core.specs.References.{is_in, is_text_of, referrers}
-use Rattle.unix_core.specs.Runs.{first_process, first_unix, system_with}
+use Rattle.abstract_unix.specs.Unix.{Unix, no_texts}
+use Rattle.abstract_unix.specs.References.{is_in, is_text_of, referrers}
+use Rattle.abstract_unix.specs.Runs.{first_process, first_unix, system_with}
 use Rattle.pdp_step.specs.declared.regs.Regs.{Regs}
 use Rattle.unix_core.specs.Parts.{unix_of, system_at, named, numbers_in, first_held, IsGood, IsKernel}
 use Rattle.unix_core.proofs.ReferenceLemmas.{one_in}

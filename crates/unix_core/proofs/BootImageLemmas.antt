@@ -10,7 +10,7 @@ use Rattle.image_keep.specs.Area.{sized_area}
 use Rattle.image_keep.specs.Kept.{Held, Nothing, Alive, Kept, HasImage, keeping, first_kept, with_keeping, with_area, with_image, described, imaged, area_in, area_of, image_in, image_of}
 use Rattle.image_keep.specs.Places.{placed, with_image_at, cleared}
 use Rattle.image_keep.proofs.Frames.{keeping_same, keeping_twice}
-use Rattle.unix_core.specs.Init.{init_data}
+use Rattle.abstract_unix.specs.Init.{init_data}
 use Rattle.unix_core.specs.Parts.{first_held}
 use Rattle.unix_core.proofs.PlaceLemmas.{placed_first}
 

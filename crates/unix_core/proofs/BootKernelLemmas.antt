@@ -9,9 +9,9 @@ use Rattle.pdp_step.specs.declared.regs.Regs.{Regs}
 use Rattle.unix_core.specs.declared.world.World.{World}
 use Rattle.unix_core.specs.declared.machine.Stage.{Stage}
 use Rattle.unix_core.specs.declared.machine.Stage.TheVariants as stage
-use Rattle.unix_core.specs.Unix.{Unix, New, Started}
-use Rattle.unix_core.specs.Turn.{pass_of, settled_after}
-use Rattle.unix_core.specs.Runs.{start_of, event_of, Switch, finished}
+use Rattle.abstract_unix.specs.Unix.{Unix, New, Started}
+use Rattle.abstract_unix.specs.Turn.{pass_of, settled_after}
+use Rattle.abstract_unix.specs.Runs.{start_of, event_of, Switch, finished}
 use Rattle.unix_core.specs.Parts.{unix_of, board_in, with_regs, system_at, phase_of, IsGood, IsUser, IsKernel}
 
 pub kernel_good : (at : Stage) (w : World) → phase_of at ≡ Started → IsKernel at w → IsGood w

@@ -16,8 +16,8 @@ use Rattle.fs_laws.proofs.SyncLemmas.{alike_fault, alike_store}
 use Rattle.fs_laws.proofs.AgreeLemmas.{files_store}
 use Rattle.fs_blocks.specs.State.{State, disk, opened}
 use Rattle.fs_blocks.specs.Store.{store_now}
-use Rattle.unix_core.specs.Unix.{System}
-use Rattle.unix_core.specs.Runs.{system_with, system_of, boots}
+use Rattle.abstract_unix.specs.Unix.{System}
+use Rattle.abstract_unix.specs.Runs.{system_with, system_of, boots}
 
 clean_store : (volume : State) → volume.changed ≡ false → store_now volume ≡ store_of (disk volume)
 unfolding store_now store_of

@@ -30,11 +30,11 @@ use Rattle.sys_procs.proofs.Slots.{process_in_slot, fifty_processes}
 use Rattle.sys_procs.proofs.Agreement.{is_there}
 use Rattle.sys_procs.proofs.Alive.{is_here}
 use Rattle.unix_core.specs.declared.world.World.{World}
-use Rattle.unix_core.specs.declared.ending.Ending.{Ending}
-use Rattle.unix_core.specs.Unix.{Unix, no_texts, process_of}
-use Rattle.unix_core.specs.References.{is_in, is_text_of, referrers}
-use Rattle.unix_core.specs.Steps.{Steps}
-use Rattle.unix_core.specs.Calls.{answers, came_by, with_world, world_of}
+use Rattle.abstract_unix.specs.declared.ending.Ending.{Ending}
+use Rattle.abstract_unix.specs.Unix.{Unix, no_texts, process_of}
+use Rattle.abstract_unix.specs.References.{is_in, is_text_of, referrers}
+use Rattle.abstract_unix.specs.Steps.{Steps}
+use Rattle.abstract_unix.specs.Calls.{answers, came_by, with_world, world_of}
 use Rattle.unix_core.specs.Parts.{unix_of, board_in, refs, IsReady, HasCome, unmet_as, ended_as, is_over}
 use Rattle.unix_core.proofs.ReferenceLemmas.{in_within, few_referrers}
 use Rattle.unix_core.proofs.WorldLemmas.{ready_alive, slot_is, is_living, fifteen_each, forty, references_in}

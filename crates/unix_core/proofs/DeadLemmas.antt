@@ -18,7 +18,7 @@ use Rattle.sys_procs.specs.Process.{Process, no_process}
 use Rattle.sys_procs.specs.World as its
 use Rattle.sys_procs.specs.Exit.{adopted, ended, leaves, dead}
 use Rattle.sys_procs.proofs.Agreement.{wakeup_like}
-use Rattle.unix_core.specs.References.{is_in}
+use Rattle.abstract_unix.specs.References.{is_in}
 use Rattle.unix_core.specs.Parts.{numbers_in, named}
 use Rattle.unix_core.proofs.ReferenceLemmas.{slot_within, numbers_living, in_living, named_set, in_set}
 use Rattle.unix_core.proofs.DyingLemmas.{named_adopted, in_adopted}

@@ -22,7 +22,7 @@ use Rattle.sys_procs.specs.Process.{Process}
 use Rattle.sys_procs.specs.Exit.{adopted}
 use Rattle.sys_procs.specs.Agree.{Died, kind_of_stat, Agrees}
 use Rattle.unix_core.specs.declared.world.World.{World}
-use Rattle.unix_core.specs.References.{is_in}
+use Rattle.abstract_unix.specs.References.{is_in}
 use Rattle.unix_core.specs.Parts.{board_in, numbers_in, named, IsGood}
 use Rattle.unix_core.proofs.RoomLemmas.{taken_by, taken_each, one_fits}
 

@@ -18,9 +18,9 @@ use Rattle.sys_procs.specs.Handed.{AreProcs, handed, board, came}
 use Rattle.sys_procs.proofs.Slots.{process_in_slot}
 use Rattle.sys_procs.proofs.Agreement.{is_there}
 use Rattle.unix_core.specs.declared.world.World.{World}
-use Rattle.unix_core.specs.Unix.{Unix, no_texts, process_of}
-use Rattle.unix_core.specs.References.{is_in, is_text_of, referrers}
-use Rattle.unix_core.specs.Calls.{closes_all, handed_of, with_handed, with_world}
+use Rattle.abstract_unix.specs.Unix.{Unix, no_texts, process_of}
+use Rattle.abstract_unix.specs.References.{is_in, is_text_of, referrers}
+use Rattle.abstract_unix.specs.Calls.{closes_all, handed_of, with_handed, with_world}
 use Rattle.unix_core.specs.Parts.{unix_of, board_in, named, refs, IsGood, IsReady}
 use Rattle.unix_core.proofs.ReferenceLemmas.{in_within}
 use Rattle.unix_core.proofs.WorldLemmas.{slot_is, is_living, fifteen_each}

@@ -11,15 +11,15 @@ use Rattle.sys_files.specs.Did.{Did}
 use Rattle.sys_procs.specs.Comes.{Comes}
 use Rattle.sys_procs.specs.Fork.{fork_one}
 use Rattle.unix_core.specs.declared.world.World.{World}
-use Rattle.unix_core.specs.declared.ending.Ending.{Ending}
-use Rattle.unix_core.specs.declared.ending.Ending.TheVariants.{Next, Ended}
-use Rattle.unix_core.specs.Unix.{Unix}
-use Rattle.unix_core.specs.Steps.{Steps, returns, not_built}
-use Rattle.unix_core.specs.Errors.{error_number}
-use Rattle.unix_core.specs.Calls.{answers, came_by, did_by, does_call, exits, forks, refused_area, with_area, with_handed, with_world, world_of}
+use Rattle.abstract_unix.specs.declared.ending.Ending.{Ending}
+use Rattle.abstract_unix.specs.declared.ending.Ending.TheVariants.{Next, Ended}
+use Rattle.abstract_unix.specs.Unix.{Unix}
+use Rattle.abstract_unix.specs.Steps.{Steps, returns, not_built}
+use Rattle.abstract_unix.specs.Errors.{error_number}
+use Rattle.abstract_unix.specs.Calls.{answers, came_by, did_by, does_call, exits, forks, refused_area, with_area, with_handed, with_world, world_of}
 use Rattle.pdp_step.specs.declared.outcome.Kind.{Kind}
 use Rattle.pdp_step.specs.declared.outcome.Kind.TheVariants as kind
-use Rattle.unix_core.specs.Turn.{faults}
+use Rattle.abstract_unix.specs.Turn.{faults}
 use Rattle.unix_core.specs.Parts.{HasCome, unmet_as, ended_as}
 
 refused_end : (u : Unix) (s n : ℕ) (b : Bool) →

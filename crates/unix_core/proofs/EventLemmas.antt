@@ -26,11 +26,11 @@ use Rattle.sys_procs.specs.Agree.{Agree, untimed, board_of}
 use Rattle.sys_procs.proofs.Agreement.{AreLike, agree_like, tables_same, wakeup_like}
 use Rattle.unix_core.specs.declared.world.World.{World}
 use Rattle.unix_core.specs.declared.machine.Stage.{Stage}
-use Rattle.unix_core.specs.Unix.{Unix, System}
+use Rattle.abstract_unix.specs.Unix.{Unix, System}
 use Rattle.unix_core.specs.Passing.{called_table}
-use Rattle.unix_core.specs.Turn.{Happened, happens, settled, settled_after, pass_effects, pass_of}
-use Rattle.unix_core.specs.Outside as outside
-use Rattle.unix_core.specs.Outside.{wakes, typed_of}
+use Rattle.abstract_unix.specs.Turn.{Happened, happens, settled, settled_after, pass_effects, pass_of}
+use Rattle.abstract_unix.specs.Outside as outside
+use Rattle.abstract_unix.specs.Outside.{wakes, typed_of}
 use Rattle.unix_core.specs.Parts.{unix_of, board_in, with_regs, system_at, IsRested}
 use Rattle.unix_core.proofs.BoardLemmas.{logged_line}
 use Rattle.unix_core.proofs.LoggedLemmas.{after_items, logged_shown, logged_after}

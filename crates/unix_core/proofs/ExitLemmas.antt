@@ -19,9 +19,9 @@ use Rattle.sys_procs.specs.Agree.{answered}
 use Rattle.sys_procs.specs.Handed.{handed, board, came}
 use Rattle.fs_nodes.specs.FileSystem.{IsFileSystem}
 use Rattle.unix_core.specs.declared.world.World.{World}
-use Rattle.unix_core.specs.declared.ending.Ending.TheVariants.{Ended}
-use Rattle.unix_core.specs.Unix.{Unix}
-use Rattle.unix_core.specs.Calls.{exits, closes_all, with_handed, with_world, world_of}
+use Rattle.abstract_unix.specs.declared.ending.Ending.TheVariants.{Ended}
+use Rattle.abstract_unix.specs.Unix.{Unix}
+use Rattle.abstract_unix.specs.Calls.{exits, closes_all, with_handed, with_world, world_of}
 use Rattle.unix_core.specs.Parts.{unix_of, board_in, IsReady, HasCome, ended_as}
 use Rattle.unix_core.proofs.LoggedLemmas.{over, after_items, logged_both}
 use Rattle.unix_core.proofs.CameLemmas.{world_is}

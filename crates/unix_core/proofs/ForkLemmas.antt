@@ -8,7 +8,7 @@ use Rattle.open_files.specs.Files.{AreOpen, file_at, times, changed, with_more, 
 use Rattle.sys_files.specs.Sound.{is_of, numbers_of, HasNoPipe}
 use Rattle.sys_files.proofs.NumberLemmas.{free_times}
 use Rattle.sys_procs.specs.Process.{Process}
-use Rattle.unix_core.specs.References.{is_in}
+use Rattle.abstract_unix.specs.References.{is_in}
 use Rattle.unix_core.specs.Parts.{numbers_in, named}
 use Rattle.unix_core.proofs.ReferenceLemmas.{named_set, in_set, numbers_living, in_living}
 

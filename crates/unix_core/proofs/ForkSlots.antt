@@ -14,7 +14,7 @@ use Rattle.sys_procs.specs.World.{members}
 use Rattle.sys_procs.specs.Handed.{handed}
 use Rattle.sys_procs.proofs.Slots.{fifty_processes}
 use Rattle.unix_core.specs.declared.world.World.{World}
-use Rattle.unix_core.specs.Unix.{process_of}
+use Rattle.abstract_unix.specs.Unix.{process_of}
 use Rattle.unix_core.specs.Parts.{unix_of, board_in, IsReady}
 use Rattle.unix_core.proofs.WorldLemmas.{slot_is}
 

@@ -18,9 +18,9 @@ use Rattle.sys_procs.specs.Handed.{AreProcs, handed, board}
 use Rattle.sys_procs.proofs.Slots.{process_in_slot, fifty_processes}
 use Rattle.sys_procs.proofs.Agreement.{is_there}
 use Rattle.unix_core.specs.declared.world.World.{World}
-use Rattle.unix_core.specs.Unix.{no_texts, process_of}
-use Rattle.unix_core.specs.References.{is_in, is_text_of, referrers}
-use Rattle.unix_core.specs.Calls.{with_world}
+use Rattle.abstract_unix.specs.Unix.{no_texts, process_of}
+use Rattle.abstract_unix.specs.References.{is_in, is_text_of, referrers}
+use Rattle.abstract_unix.specs.Calls.{with_world}
 use Rattle.unix_core.specs.Parts.{unix_of, numbers_in, named, refs, IsReady}
 use Rattle.unix_core.proofs.ReferenceLemmas.{slot_within, in_within, numbers_living, in_living, named_set, in_set}
 use Rattle.unix_core.proofs.WorldLemmas.{ready_alive, slot_is, is_living, files_open, fifteen_each}

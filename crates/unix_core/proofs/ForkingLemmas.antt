@@ -19,10 +19,10 @@ use Rattle.sys_procs.specs.Agree.{board_of}
 use Rattle.sys_procs.specs.Handed.{AreProcs, handed, board, came}
 use Rattle.sys_procs.specs.Done.{HasDone, HasLeft}
 use Rattle.unix_core.specs.declared.world.World.{World}
-use Rattle.unix_core.specs.declared.ending.Ending.{Ending}
-use Rattle.unix_core.specs.Unix.{Unix, process_of}
-use Rattle.unix_core.specs.Steps.{Steps}
-use Rattle.unix_core.specs.Calls.{answers, came_by, shares, forks, with_world}
+use Rattle.abstract_unix.specs.declared.ending.Ending.{Ending}
+use Rattle.abstract_unix.specs.Unix.{Unix, process_of}
+use Rattle.abstract_unix.specs.Steps.{Steps}
+use Rattle.abstract_unix.specs.Calls.{answers, came_by, shares, forks, with_world}
 use Rattle.unix_core.specs.Parts.{unix_of, board_in, IsReady, HasCome, unmet_as, ended_as}
 use Rattle.unix_core.proofs.LoggedLemmas.{over, logged_over}
 use Rattle.unix_core.proofs.MildLemmas.{mild_comes, near_change}

@@ -17,11 +17,11 @@ use Rattle.sys_procs.specs.Break.{sized, expands, clicks_up_to, break_at, grown_
 use Rattle.sys_procs.specs.Handed.{AreProcs, board, came}
 use Rattle.sys_procs.specs.Done.{HasGrown, HasLeft}
 use Rattle.unix_core.specs.declared.world.World.{World}
-use Rattle.unix_core.specs.Unix.{process_of}
-use Rattle.unix_core.specs.declared.ending.Ending.{Ending}
-use Rattle.unix_core.specs.declared.ending.Ending.TheVariants.{Trapped, NotBuilt}
-use Rattle.unix_core.specs.Calls.{grows, grows_to}
-use Rattle.unix_core.specs.Calls as unix
+use Rattle.abstract_unix.specs.Unix.{process_of}
+use Rattle.abstract_unix.specs.declared.ending.Ending.{Ending}
+use Rattle.abstract_unix.specs.declared.ending.Ending.TheVariants.{Trapped, NotBuilt}
+use Rattle.abstract_unix.specs.Calls.{grows, grows_to}
+use Rattle.abstract_unix.specs.Calls as unix
 use Rattle.unix_core.specs.Parts.{unix_of, board_in, IsReady, HasCome, unmet_as}
 use Rattle.unix_core.proofs.WorldLemmas.{ready_alive, slot_is, is_living}
 use Rattle.unix_core.proofs.MildLemmas.{counts_same, counts_put}

@@ -10,13 +10,13 @@ use Rattle.pick_rules.proofs.Chosen.{chosen_is_choice}
 use Rattle.pdp_step.specs.declared.regs.Regs.{Regs}
 use Rattle.unix_core.specs.declared.world.World.{World}
 use Rattle.unix_core.specs.declared.machine.Stage.{Stage}
-use Rattle.unix_core.specs.declared.turned.Unbuilt.{Unbuilt}
-use Rattle.unix_core.specs.declared.turned.Turned.{Turned}
-use Rattle.unix_core.specs.declared.turned.Turned.TheVariants.{Idle}
+use Rattle.abstract_unix.specs.declared.turned.Unbuilt.{Unbuilt}
+use Rattle.abstract_unix.specs.declared.turned.Turned.{Turned}
+use Rattle.abstract_unix.specs.declared.turned.Turned.TheVariants.{Idle}
 use Rattle.unix_core.specs.declared.machine.Stage.TheVariants as stage
-use Rattle.unix_core.specs.Unix.{System, Started}
-use Rattle.unix_core.specs.Turn.{Happened, turned_by, turned, stays, settles, calls_for_settling, settled_after, slot_of, NobodyCanRun}
-use Rattle.unix_core.specs.Runs.{Slot, event_of}
+use Rattle.abstract_unix.specs.Unix.{System, Started}
+use Rattle.abstract_unix.specs.Turn.{Happened, turned_by, turned, stays, settles, calls_for_settling, settled_after, slot_of, NobodyCanRun}
+use Rattle.abstract_unix.specs.Runs.{Slot, event_of}
 use Rattle.unix_core.specs.Parts.{system_at, phase_of, IsGood, IsKernel}
 use Rattle.unix_core.proofs.BootKernelLemmas.{kernel_good}
 

@@ -20,8 +20,8 @@ use Rattle.sys_files.specs.Descriptors.{close_all}
 use Rattle.sys_files.specs.declared.files.Files.{Files}
 use Rattle.sys_procs.proofs.Alive.{area_here}
 use Rattle.unix_core.specs.declared.world.World.{World}
-use Rattle.unix_core.specs.Unix.{process_of}
-use Rattle.unix_core.specs.Calls.{handed_of, with_handed}
+use Rattle.abstract_unix.specs.Unix.{process_of}
+use Rattle.abstract_unix.specs.Calls.{handed_of, with_handed}
 use Rattle.unix_core.specs.Parts.{unix_of, IsReady, IsReadyToShow}
 use Rattle.unix_core.proofs.WorldLemmas.{ready_alive, no_marks, handed_is, IsAfter, unix_after, ready_to_show}
 use Rattle.unix_core.proofs.LoanLemmas.{area_now, area_other, area_core, image_now, image_other, image_core, row_now, row_other}

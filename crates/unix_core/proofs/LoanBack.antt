@@ -16,7 +16,7 @@ use Rattle.sys_files.specs.Did.{Did}
 use Rattle.sys_files.proofs.Steady.{SameRow, Steady, Confined}
 use Rattle.sys_procs.proofs.Alive.{SameSizes, sizes_stay}
 use Rattle.unix_core.specs.declared.world.World.{World}
-use Rattle.unix_core.specs.Outside.{timed_area}
+use Rattle.abstract_unix.specs.Outside.{timed_area}
 use Rattle.unix_core.proofs.LeavingLemmas.{given, IsLent, lent_parts}
 
 none_in : (xs : List ℕ) → length xs ≡ 0 → xs ≡ []

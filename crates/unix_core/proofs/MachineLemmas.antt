@@ -17,9 +17,9 @@ use Rattle.sys_procs.proofs.Alive.{area_here}
 use Rattle.unix_core.specs.declared.world.World.{World}
 use Rattle.unix_core.specs.declared.machine.Stage.{Stage}
 use Rattle.unix_core.specs.declared.machine.Stage.TheVariants as stage
-use Rattle.unix_core.specs.Unix.{process_of, with_process}
-use Rattle.unix_core.specs.Turn.{is_user}
-use Rattle.unix_core.specs.Outside.{mode_by, mode_of, timed_area, timed, charged}
+use Rattle.abstract_unix.specs.Unix.{process_of, with_process}
+use Rattle.abstract_unix.specs.Turn.{is_user}
+use Rattle.abstract_unix.specs.Outside.{mode_by, mode_of, timed_area, timed, charged}
 use Rattle.unix_core.specs.Parts.{unix_of, board_in, holding, with_regs, system_at, IsGood, IsReady, IsUser, IsRested, IsKernel}
 use Rattle.unix_core.proofs.LoanLemmas.{area_core}
 use Rattle.unix_core.proofs.PutLemmas.{IsLikeArea, with_images, alive_slot, unix_put, good_put}

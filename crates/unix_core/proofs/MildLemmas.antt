@@ -21,7 +21,7 @@ use Rattle.sys_procs.specs.Process.{Process, no_process}
 use Rattle.sys_procs.specs.World.{World, process_of, change}
 use Rattle.sys_procs.specs.Comes.{Comes, comes, logs}
 use Rattle.sys_procs.proofs.Agreement.{wakeup_like}
-use Rattle.unix_core.specs.References.{is_in}
+use Rattle.abstract_unix.specs.References.{is_in}
 use Rattle.unix_core.specs.Parts.{numbers_in, named}
 use Rattle.unix_core.proofs.ReferenceLemmas.{slot_within, numbers_living, in_living, named_set, in_set}
 

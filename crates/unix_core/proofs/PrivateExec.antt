@@ -14,7 +14,7 @@ use Rattle.sys_procs.specs.Texts.{entry_of, free_entry, new_text, goes, text_of,
 use Rattle.sys_procs.specs.Break.{break_at, grow, grown_stack, clicks_up_to, sized, expands}
 use Rattle.sys_procs.specs.ExecFile.{Tested, let_go, tests, node_at, with_moved, text_clicks, without_text, leaves_text, is_sticky, xfree, with_entry, shares_text, makes_text, xalloc_by, xalloc, data_read, reads_text, image_clicks, begins, executes, loads, done_by, exec_file}
 use Rattle.sys_procs.proofs.TestedSlots.{tests_processes}
-use Rattle.unix_core.specs.Calls.{ProcessCall, process_calls, process_call}
+use Rattle.abstract_unix.specs.Calls.{ProcessCall, process_calls, process_call}
 use Rattle.unix_core.proofs.PrivateSlots.{Spared}
 use Rattle.unix_core.proofs.PrivateRows.{IsSparing, spared_change, sparing_comes, sparing_logs, sparing_if, sparing_wait, sparing_time_now, sparing_pid_of, sparing_set_uid, sparing_get_uid, sparing_set_time, sparing_no_op, sparing_nice_to, sparing_sleep_for, sparing_switches, sparing_times_to, sparing_set_gid, sparing_get_gid}
 

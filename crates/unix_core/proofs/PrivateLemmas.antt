@@ -26,17 +26,17 @@ use Rattle.sys_procs.specs.Wait.{pending_wait}
 use Rattle.sys_procs.specs.Exit.{exit_now}
 use Rattle.sys_procs.specs.Fork.{fork_one}
 use Rattle.sys_procs.specs.Resume.{resume_proc}
-use Rattle.unix_core.specs.declared.asked.Asked.{Asked}
-use Rattle.unix_core.specs.declared.ending.Ending.{Ending}
-use Rattle.unix_core.specs.declared.ending.Ending.TheVariants as ending
-use Rattle.unix_core.specs.Unix.{Unix, System, process_of, with_process}
-use Rattle.unix_core.specs.Steps.{Steps, quietly, returns, not_built}
-use Rattle.unix_core.specs.Errors.{error_number}
-use Rattle.unix_core.specs.Calls.{FileCall, ProcessCall, handed_of, with_handed, world_of, with_world, with_area, entered_area, words_passed, asked, given_area, refused_area, answers, file_call, process_call, did_by, came_by, forks, closes_all, exits, by_process_row, by_file_row, grows, grown_by, does_call, count_of, does_if_built, pending_read, resumed}
-use Rattle.unix_core.specs.Turn.{Happened, stays, settles, calls_for_settling, settled_after, machine_of, with_machine, faults, comes_to, instruction, is_user, turn, end_effects, turn_of, pass_effects, pass_of, slot_of}
-use Rattle.unix_core.specs.Outside.{mode_of, timed, charged, ticked, is_due, wakes, tick_entry, tick_of, calls, typed_of}
-use Rattle.unix_core.specs.Runs.{Slot, Tick, Byte, Switch, event_of, start_of}
-use Rattle.unix_core.specs.Private.{IsUndisturbed, AllUndisturbed, OthersUndisturbed}
+use Rattle.abstract_unix.specs.declared.asked.Asked.{Asked}
+use Rattle.abstract_unix.specs.declared.ending.Ending.{Ending}
+use Rattle.abstract_unix.specs.declared.ending.Ending.TheVariants as ending
+use Rattle.abstract_unix.specs.Unix.{Unix, System, process_of, with_process}
+use Rattle.abstract_unix.specs.Steps.{Steps, quietly, returns, not_built}
+use Rattle.abstract_unix.specs.Errors.{error_number}
+use Rattle.abstract_unix.specs.Calls.{FileCall, ProcessCall, handed_of, with_handed, world_of, with_world, with_area, entered_area, words_passed, asked, given_area, refused_area, answers, file_call, process_call, did_by, came_by, forks, closes_all, exits, by_process_row, by_file_row, grows, grown_by, does_call, count_of, does_if_built, pending_read, resumed}
+use Rattle.abstract_unix.specs.Turn.{Happened, stays, settles, calls_for_settling, settled_after, machine_of, with_machine, faults, comes_to, instruction, is_user, turn, end_effects, turn_of, pass_effects, pass_of, slot_of}
+use Rattle.abstract_unix.specs.Outside.{mode_of, timed, charged, ticked, is_due, wakes, tick_entry, tick_of, calls, typed_of}
+use Rattle.abstract_unix.specs.Runs.{Slot, Tick, Byte, Switch, event_of, start_of}
+use Rattle.abstract_unix.specs.Private.{IsUndisturbed, AllUndisturbed, OthersUndisturbed}
 use Rattle.unix_core.proofs.PrivateSlots.{Spared, AllCarry, spared_same, spared_then, spared_other, spared_timed, left_carried, carry_shown, carry_both, carry_lifted}
 use Rattle.unix_core.proofs.PrivateExec.{IsSparingCall, IsSparingRow, sparing_row, sparing_grow}
 use Rattle.unix_core.proofs.PrivateRows.{IsSparing, sparing_fork, sparing_exit, sparing_resume}

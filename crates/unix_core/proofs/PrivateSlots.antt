@@ -15,8 +15,8 @@ use Rattle.pick_rules.specs.Effects.{Effect, Show, Size, Fork, Text, Image, Exit
 use Rattle.pick_rules.specs.Logged.{Logged, Stop, logged, log_one, left_by, with_what_came, unless_stopped}
 use Rattle.sys_procs.specs.Process.{Process, no_process}
 use Rattle.sys_procs.specs.Exit.{adopted}
-use Rattle.unix_core.specs.Outside.{timed}
-use Rattle.unix_core.specs.Private.{SameMemory, LivesOn}
+use Rattle.abstract_unix.specs.Outside.{timed}
+use Rattle.abstract_unix.specs.Private.{SameMemory, LivesOn}
 use Rattle.unix_core.proofs.ReferenceLemmas.{slot_within}
 
 -- the process of a slot lives on

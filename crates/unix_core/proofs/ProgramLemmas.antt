@@ -32,7 +32,7 @@ use Rattle.sys_procs.specs.Handed.{board}
 use Rattle.sys_procs.proofs.Alive.{is_here}
 use Rattle.sys_procs.proofs.LoadForms.{begun, image, loads_effects, loads_state}
 use Rattle.unix_core.specs.declared.world.World.{World}
-use Rattle.unix_core.specs.Unix.{process_of}
+use Rattle.abstract_unix.specs.Unix.{process_of}
 use Rattle.unix_core.specs.Parts.{unix_of, IsReady}
 use Rattle.unix_core.proofs.WorldLemmas.{ready_alive, slot_is, is_living}
 use Rattle.unix_core.proofs.MildLemmas.{SameCounts, counts_same, counts_put}

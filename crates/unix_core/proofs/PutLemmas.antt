@@ -15,8 +15,8 @@ use Rattle.sys_procs.proofs.Slots.{process_in_slot, area_changed}
 use Rattle.sys_procs.proofs.Agreement.{agree_but}
 use Rattle.sys_procs.proofs.Alive.{SameSizes, is_here}
 use Rattle.unix_core.specs.declared.world.World.{World}
-use Rattle.unix_core.specs.Unix.{no_texts, process_of, with_process}
-use Rattle.unix_core.specs.References.{is_in, is_text_of, referrers}
+use Rattle.abstract_unix.specs.Unix.{no_texts, process_of, with_process}
+use Rattle.abstract_unix.specs.References.{is_in, is_text_of, referrers}
 use Rattle.unix_core.specs.Parts.{unix_of, named, numbers_in, IsGood}
 use Rattle.unix_core.proofs.ReferenceLemmas.{slot_within, numbers_living, one_in, in_living, named_set, in_set}
 use Rattle.unix_core.proofs.LoanLemmas.{area_now, area_other, area_core}

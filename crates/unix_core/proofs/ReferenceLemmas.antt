@@ -12,9 +12,9 @@ use Rattle.fs_nodes.specs.FileSystem.{FileSystem, IsFileSystem}
 use Rattle.sys_files.specs.Handed.{Handed}
 use Rattle.sys_files.specs.Sound.{is_of, numbers_of, IsKept}
 use Rattle.sys_procs.specs.Process.{Process}
-use Rattle.unix_core.specs.Unix.{Unix, process_of}
-use Rattle.unix_core.specs.References.{is_in, is_text_of, referrers, references_of}
-use Rattle.unix_core.specs.Calls.{handed_of, with_handed}
+use Rattle.abstract_unix.specs.Unix.{Unix, process_of}
+use Rattle.abstract_unix.specs.References.{is_in, is_text_of, referrers, references_of}
+use Rattle.abstract_unix.specs.Calls.{handed_of, with_handed}
 use Rattle.unix_core.specs.Parts.{numbers_in, named}
 
 -- Who is in a slot is within the list.

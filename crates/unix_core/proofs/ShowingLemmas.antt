@@ -16,9 +16,9 @@ use Rattle.sys_files.specs.Did.{Did}
 use Rattle.sys_procs.specs.Agree.{Lives, kind_of_stat, untimed}
 use Rattle.sys_procs.proofs.Agreement.{IsLike, AreLike, tables_same, wakeup_like, agree_like}
 use Rattle.unix_core.specs.declared.world.World.{World}
-use Rattle.unix_core.specs.declared.ending.Ending.{Ending}
-use Rattle.unix_core.specs.Unix.{Unix}
-use Rattle.unix_core.specs.Calls.{answers, did_by, with_handed}
+use Rattle.abstract_unix.specs.declared.ending.Ending.{Ending}
+use Rattle.abstract_unix.specs.Unix.{Unix}
+use Rattle.abstract_unix.specs.Calls.{answers, did_by, with_handed}
 use Rattle.unix_core.specs.Passing.{woken_by, all_woken, shown_by}
 use Rattle.unix_core.specs.Parts.{unix_of, board_in, IsReady, IsReadyToShow, HasCome, ended_as}
 use Rattle.unix_core.proofs.LoggedLemmas.{logged_shown}

@@ -11,14 +11,14 @@ use Rattle.image_keep.specs.Kept.{Keeping, Nothing, keeping, area_of}
 use Rattle.sys_procs.specs.Process.{Process, no_process, process_in, register}
 use Rattle.sys_procs.proofs.Slots.{own_is}
 use Rattle.sys_procs.proofs.Alive.{area_here}
-use Rattle.unix_core.specs.declared.ending.Ending.{Ending}
+use Rattle.abstract_unix.specs.declared.ending.Ending.{Ending}
 use Rattle.unix_core.specs.declared.machine.Stage.{Stage}
 use Rattle.unix_core.specs.declared.machine.Stage.TheVariants as stage
 use Rattle.unix_core.specs.declared.world.World.{World}
-use Rattle.unix_core.specs.Unix.{Started, Unix, System, process_of}
-use Rattle.unix_core.specs.Steps.{Steps}
-use Rattle.unix_core.specs.Calls.{resumed}
-use Rattle.unix_core.specs.Turn.{is_user, instruction, turn}
+use Rattle.abstract_unix.specs.Unix.{Started, Unix, System, process_of}
+use Rattle.abstract_unix.specs.Steps.{Steps}
+use Rattle.abstract_unix.specs.Calls.{resumed}
+use Rattle.abstract_unix.specs.Turn.{is_user, instruction, turn}
 use Rattle.unix_core.specs.Parts.{unix_of, with_regs, pc_by, pc_at, phase_of, IsUser, IsRested, IsKernel, HasCome}
 use Rattle.unix_core.proofs.MachineLemmas.{rested_unix, some_good, rested_alive}
 use Rattle.unix_core.proofs.TurnSteps.{apart_process}

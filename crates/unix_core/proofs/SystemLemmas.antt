@@ -12,11 +12,11 @@ use Rattle.sys_procs.specs.Wait.{pending_wait}
 use Rattle.sys_procs.specs.Resume.{resume_proc}
 use Rattle.sys_procs.proofs.Alive.{is_here}
 use Rattle.unix_core.specs.declared.world.World.{World}
-use Rattle.unix_core.specs.declared.asked.Asked.{Asked}
-use Rattle.unix_core.specs.Unix.{Unix, process_of}
-use Rattle.unix_core.specs.Steps.{Steps, returns, not_built}
-use Rattle.unix_core.specs.Calls.{FileCall, ProcessCall, file_call, process_call, handed_of, world_of, with_area, entered_area, words_passed, asked, did_by, came_by, by_file_row, count_by_rows, count_of, does_call, does_if_built, forks, exits, resumed, system_call}
-use Rattle.unix_core.specs.Parts.{unix_of, board_in, row_of, process_row_of, IsReady}
+use Rattle.abstract_unix.specs.declared.asked.Asked.{Asked}
+use Rattle.abstract_unix.specs.Unix.{Unix, process_of}
+use Rattle.abstract_unix.specs.Steps.{Steps, returns, not_built}
+use Rattle.abstract_unix.specs.Calls.{FileCall, ProcessCall, file_call, process_call, handed_of, world_of, with_area, entered_area, words_passed, asked, did_by, came_by, by_file_row, count_by_rows, count_of, does_call, does_if_built, forks, exits, resumed, system_call, row_of, process_row_of}
+use Rattle.unix_core.specs.Parts.{unix_of, board_in, IsReady}
 use Rattle.unix_core.proofs.WorldLemmas.{ready_alive}
 use Rattle.unix_core.proofs.AreaLemmas.{own_area, area_unix, area_board, area_ready}
 

@@ -3,8 +3,8 @@
 use Rattle.std.proofs.Common.{ℕ, Bool, true, false, ◌==◌, if◌then◌else◌, List, [], ◌∷◌, find, Option, Some, None, slice_index}
 use Rattle.std.specs.Prelude.{⊤, MatchOption}
 use Rattle.unix_core.specs.declared.world.World.{World}
-use Rattle.unix_core.specs.Calls.{ProcessCall, process_calls, process_call}
-use Rattle.unix_core.specs.Parts.{process_row_of, IsReady}
+use Rattle.abstract_unix.specs.Calls.{ProcessCall, process_calls, process_call, process_row_of}
+use Rattle.unix_core.specs.Parts.{IsReady}
 use Rattle.unix_core.proofs.MildLemmas.{IsNear}
 use Rattle.unix_core.proofs.MildRows.{mild_wait, mild_time_now, mild_pid_of, mild_set_uid, mild_get_uid, mild_set_time, mild_no_op, mild_nice_to, mild_sleep_for, mild_switches, mild_times_to, mild_set_gid, mild_get_gid}
 use Rattle.unix_core.proofs.CameLemmas.{IsTame, mild_tame, tame_comes, near_here}

@@ -29,11 +29,11 @@ use Rattle.sys_procs.proofs.Agreement.{IsLike, AreLike, agree_like, tables_same}
 use Rattle.sys_procs.proofs.Tables.{untimed_setpri}
 use Rattle.unix_core.specs.declared.world.World.{World}
 use Rattle.unix_core.specs.declared.machine.Stage.{Stage}
-use Rattle.unix_core.specs.Unix.{Unix, System}
+use Rattle.abstract_unix.specs.Unix.{Unix, System}
 use Rattle.unix_core.specs.Passing.{trapped, called_table}
-use Rattle.unix_core.specs.Turn.{settled_after, settled}
-use Rattle.unix_core.specs.Outside as outside
-use Rattle.unix_core.specs.Outside.{mode_of, tick_entry, clock_after, wakes, tick_of}
+use Rattle.abstract_unix.specs.Turn.{settled_after, settled}
+use Rattle.abstract_unix.specs.Outside as outside
+use Rattle.abstract_unix.specs.Outside.{mode_of, tick_entry, clock_after, wakes, tick_of}
 use Rattle.unix_core.specs.Parts.{unix_of, board_in, with_regs, system_at, IsRested}
 use Rattle.unix_core.proofs.BoardLemmas.{untimed_runin}
 use Rattle.unix_core.proofs.LoggedLemmas.{after_items, logged_shown, logged_after}

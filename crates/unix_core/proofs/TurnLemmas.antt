@@ -16,17 +16,17 @@ use Rattle.pdp_step.specs.declared.outcome.Outcome.{Outcome}
 use Rattle.pdp_step.specs.declared.regs.Regs.{Regs}
 use Rattle.pdp_step.specs.Instruction.{instr}
 use Rattle.sys_procs.specs.Process.{register}
-use Rattle.unix_core.specs.declared.ending.Ending.{Ending}
-use Rattle.unix_core.specs.declared.ending.Ending.TheVariants as ending
+use Rattle.abstract_unix.specs.declared.ending.Ending.{Ending}
+use Rattle.abstract_unix.specs.declared.ending.Ending.TheVariants as ending
 use Rattle.unix_core.specs.declared.machine.Stage.{Stage}
 use Rattle.unix_core.specs.declared.machine.Stage.TheVariants as stage
-use Rattle.unix_core.specs.declared.turned.Unbuilt.{Unbuilt}
+use Rattle.abstract_unix.specs.declared.turned.Unbuilt.{Unbuilt}
 use Rattle.unix_core.specs.declared.world.World.{World}
-use Rattle.unix_core.specs.Unix.{Unix, System, process_of, with_process}
-use Rattle.unix_core.specs.Steps.{Steps}
-use Rattle.unix_core.specs.Calls.{resumed}
-use Rattle.unix_core.specs.Turn.{Happened, Turn, machine_of, with_machine, comes_to, instruction, turn, end_effects, settled, settled_after, ending_at, unmet, ending_by, turn_of}
-use Rattle.unix_core.specs.Parts.{unix_of, board_in, system_at, phase_after, turn_end, unmet_as, ended_as, HasCome, HasStepped, Takes}
+use Rattle.abstract_unix.specs.Unix.{Unix, System, process_of, with_process, phase_after}
+use Rattle.abstract_unix.specs.Steps.{Steps}
+use Rattle.abstract_unix.specs.Calls.{resumed}
+use Rattle.abstract_unix.specs.Turn.{Happened, Turn, machine_of, with_machine, comes_to, instruction, turn, end_effects, settled, settled_after, ending_at, unmet, ending_by, turn_of}
+use Rattle.unix_core.specs.Parts.{unix_of, board_in, system_at, turn_end, unmet_as, ended_as, HasCome, HasStepped, Takes}
 use Rattle.unix_core.proofs.BoardLemmas.{logged_line}
 
 -- after a panic nothing is logged

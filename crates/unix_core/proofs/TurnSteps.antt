@@ -24,15 +24,15 @@ use Rattle.sys_procs.specs.Agree.{Agrees}
 use Rattle.sys_procs.proofs.Slots.{one_changed}
 use Rattle.sys_procs.proofs.Agreement.{agree_but}
 use Rattle.sys_procs.proofs.Alive.{is_here, put_here}
-use Rattle.unix_core.specs.declared.turned.Turned.TheVariants.{Ran}
+use Rattle.abstract_unix.specs.declared.turned.Turned.TheVariants.{Ran}
 use Rattle.unix_core.specs.declared.machine.Stage.TheVariants as stage
 use Rattle.unix_core.specs.declared.world.World.{World}
-use Rattle.unix_core.specs.Unix.{Unix, System, process_of, with_process}
-use Rattle.unix_core.specs.References.{referrers}
-use Rattle.unix_core.specs.Steps.{steps}
-use Rattle.unix_core.specs.Calls.{resumed}
-use Rattle.unix_core.specs.Turn.{Turn, machine_of, with_machine, is_user, comes_to, instruction, turn, turn_of, slot_by, slot_of, settled_as, settled_after, turned}
-use Rattle.unix_core.specs.Runs.{Slot, event_of}
+use Rattle.abstract_unix.specs.Unix.{Unix, System, process_of, with_process}
+use Rattle.abstract_unix.specs.References.{referrers}
+use Rattle.abstract_unix.specs.Steps.{steps}
+use Rattle.abstract_unix.specs.Calls.{resumed}
+use Rattle.abstract_unix.specs.Turn.{Turn, machine_of, with_machine, is_user, comes_to, instruction, turn, turn_of, slot_by, slot_of, settled_as, settled_after, turned}
+use Rattle.abstract_unix.specs.Runs.{Slot, event_of}
 use Rattle.unix_core.specs.Parts.{unix_of, board_in, holding, with_regs, system_at, named, numbers_in, IsReady, IsUser, HasStepped}
 use Rattle.unix_core.proofs.ReferenceLemmas.{numbers_living, one_in, in_living, named_set, in_set, slot_within}
 use Rattle.unix_core.proofs.WorldLemmas.{ready_alive, slot_is, is_living}

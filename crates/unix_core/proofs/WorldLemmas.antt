@@ -27,9 +27,9 @@ use Rattle.sys_procs.proofs.Slots.{process_in_slot, fifty_processes, one_changed
 use Rattle.sys_procs.proofs.Agreement.{agree_but}
 use Rattle.sys_procs.proofs.Alive.{is_here, area_here}
 use Rattle.unix_core.specs.declared.world.World.{World}
-use Rattle.unix_core.specs.Unix.{Text, Unix, no_texts, process_of}
-use Rattle.unix_core.specs.References.{is_in, is_text_of, referrers, references_of}
-use Rattle.unix_core.specs.Calls.{marks_of, handed_of, with_handed}
+use Rattle.abstract_unix.specs.Unix.{Text, Unix, no_texts, process_of}
+use Rattle.abstract_unix.specs.References.{is_in, is_text_of, referrers, references_of}
+use Rattle.abstract_unix.specs.Calls.{marks_of, handed_of, with_handed}
 use Rattle.unix_core.specs.Passing.{all_woken}
 use Rattle.unix_core.specs.Parts.{unix_of, named, IsGood, IsReady, IsReadyToShow}
 use Rattle.unix_core.proofs.ReferenceLemmas.{slot_within, numbers_within, in_within, open_by_numbers, references_are, few_named, few_referrers, numbers_kept, referred_kept}

@@ -1,13 +1,3 @@
 pub mod Boots
-pub mod Calls
-pub mod Errors
-pub mod Init
 pub mod Parts
-pub mod References
-pub mod Runs
-pub mod Steps
-pub mod Turn
-pub mod Outside
 pub mod Passing
-pub mod Private
-pub mod Unix

@@ -28,23 +28,23 @@ use Rattle.sys_procs.specs.Comes.{Comes, returns}
 use Rattle.sys_procs.specs.Agree.{board_of}
 use Rattle.sys_procs.specs.Handed.{AreProcs}
 use Rattle.unix_core.specs.declared.world.World as parts
-use Rattle.unix_core.specs.declared.ending.Ending.{Ending}
-use Rattle.unix_core.specs.declared.ending.Ending.TheVariants.{NoRoom, NotBuilt}
+use Rattle.abstract_unix.specs.declared.ending.Ending.{Ending}
+use Rattle.abstract_unix.specs.declared.ending.Ending.TheVariants.{NoRoom, NotBuilt}
 use Rattle.unix_core.specs.declared.machine.Went.{Went}
 use Rattle.unix_core.specs.declared.machine.Went.TheVariants as went
-use Rattle.unix_core.specs.declared.turned.Turned.{Turned}
-use Rattle.unix_core.specs.declared.turned.Turned.TheVariants as turned
-use Rattle.unix_core.specs.declared.turned.Unbuilt.{Unbuilt}
-use Rattle.unix_core.specs.declared.turned.Unbuilt.TheVariants.{At, Room}
+use Rattle.abstract_unix.specs.declared.turned.Turned.{Turned}
+use Rattle.abstract_unix.specs.declared.turned.Turned.TheVariants as turned
+use Rattle.abstract_unix.specs.declared.turned.Unbuilt.{Unbuilt}
+use Rattle.abstract_unix.specs.declared.turned.Unbuilt.TheVariants.{At, Room}
 use Rattle.unix_core.specs.declared.machine.Stage.{Stage}
 use Rattle.unix_core.specs.declared.machine.Stage.TheVariants as stage
-use Rattle.unix_core.specs.Unix.{Unix, System, Phase, New, Started, Stopped, Finished, no_texts, process_of, with_process}
-use Rattle.unix_core.specs.References.{referrers}
-use Rattle.unix_core.specs.Init.{init_data}
-use Rattle.unix_core.specs.Calls.{FileCall, ProcessCall}
-use Rattle.unix_core.specs.Steps.{Steps}
+use Rattle.abstract_unix.specs.Unix.{Unix, System, Phase, New, Started, Stopped, Finished, no_texts, process_of, with_process}
+use Rattle.abstract_unix.specs.References.{referrers}
+use Rattle.abstract_unix.specs.Init.{init_data}
+use Rattle.abstract_unix.specs.Calls.{FileCall, ProcessCall}
+use Rattle.abstract_unix.specs.Steps.{Steps}
 use Rattle.unix_core.specs.Passing.{shown_by, all_woken}
-use Rattle.unix_core.specs.Turn.{Turn, machine_of, with_machine, is_user, end_effects, ending_at, settled_after, slot_of}
+use Rattle.abstract_unix.specs.Turn.{Turn, machine_of, with_machine, is_user, end_effects, ending_at, settled_after, slot_of}
 
 -- the Unix of a world
 abbrev pub unix_of : parts.World → Unix
@@ -96,15 +96,6 @@ pc_by u (Some s) = register (process_of u s) 7
 
 abbrev pub pc_at : Stage → Regs → parts.World → ℕ
 pc_at at regs w = pc_by (with_regs at regs (unix_of w)) w.procs.table.running
-
--- what a call by its row does; none does nothing
-abbrev pub row_of : Option FileCall → Handed → List ℕ → ℕ → Did
-row_of None h args now = is_done h
-row_of (Some c) h args now = c.does h args now
-
-abbrev pub process_row_of : Option ProcessCall → World → ℕ → List ℕ → Comes
-process_row_of None w slot args = returns w slot
-process_row_of (Some c) w slot args = c.does w slot args
 
 -- the first image of process 1
 abbrev pub first_held : Held
@@ -201,11 +192,6 @@ phase_of (stage.Running s) = Started
 phase_of stage.Resting = Started
 phase_of stage.Stopped = Stopped
 phase_of stage.Finished = Finished
-
--- how far the run has come after an event that ends it so, where it does
-abbrev pub phase_after : Option Unbuilt → Phase
-phase_after None = Started
-phase_after (Some place) = Stopped
 
 -- what is so of every kernel
 pub record IsKernel (at : Stage) (w : parts.World) : Type 0 where

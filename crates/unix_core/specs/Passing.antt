@@ -10,8 +10,8 @@ use Rattle.pick_rules.specs.Priority.{setpri}
 use Rattle.pick_rules.specs.Sleepers.{wakeup, fall_asleep}
 use Rattle.pick_rules.specs.Choice.{chosen, gives_up, settled_by}
 use Rattle.pick_rules.specs.Apply.{change_row}
-use Rattle.unix_core.specs.declared.ending.Ending.{Ending}
-use Rattle.unix_core.specs.declared.ending.Ending.TheVariants as ending
+use Rattle.abstract_unix.specs.declared.ending.Ending.{Ending}
+use Rattle.abstract_unix.specs.declared.ending.Ending.TheVariants as ending
 
 -- A process that comes out of its call has its priority in user mode anew.
 abbrev pub trapped : Table → ℕ → Table

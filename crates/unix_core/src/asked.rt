@@ -2,8 +2,9 @@
 //! of the manual.
 ghost use Rattle.std.specs.Prelude.{◌≡◌, ◌%◌, [], slice_index};
 ghost use Rattle.image_keep.specs.Kept.{Held, Has, HasImage, image_of};
-ghost use Rattle.unix_core.specs.Calls.{word_at, arguments_at, named_call, asked};
+ghost use Rattle.abstract_unix.specs.Calls.{word_at, arguments_at, named_call, asked};
 
+use abstract_unix::Asked;
 use image_keep::Images;
 use v6_base::{Slot, Space};
 
@@ -17,15 +18,6 @@ const LAST_CALL: u16 = 0o104477;
 
 /// A number that is no call's.
 const NO_CALL: u8 = 63;
-
-/// What a call asks for: its number and its arguments, and whether they stand after the word of another call. Call 0 is
-/// indirect: the word after it is the address of that other call's word.
-#[derive(Clone, Copy, Debug, PartialEq, Eq)]
-pub(crate) struct Asked {
-    pub(crate) number: u8,
-    pub(crate) args: [u16; 4],
-    pub(crate) is_indirect: bool,
-}
 
 /// A word of a process's memory. One that can't be read is all ones.
 fn word_at(images: &mut Images, s: Slot, at: u16) -> u16

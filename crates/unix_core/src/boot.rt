@@ -46,8 +46,8 @@ fn file_system_of(alloc: Global, image: &[u8]) -> Result<(Nodes, u32), AllocErro
 
 impl Kernel {
     ghost use Rattle.unix_core.specs.Boots.{RefusesBoot};
-    ghost use Rattle.unix_core.specs.Unix.{New};
-    ghost use Rattle.unix_core.specs.Runs.{boots};
+    ghost use Rattle.abstract_unix.specs.Unix.{New};
+    ghost use Rattle.abstract_unix.specs.Runs.{boots};
 
     /// Makes the kernel for a disk image and so many clicks of core, before the start of its run.
     ///

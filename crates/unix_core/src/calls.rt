@@ -8,9 +8,8 @@ ghost use Rattle.sys_procs.specs.Done.{HasDone};
 ghost use Rattle.sys_procs.specs.Handed.{handed, AreProcs, Calls};
 ghost use Rattle.sys_files.specs.Sound.{IsSound};
 ghost use Rattle.sys_files.specs.Does.{Does};
-ghost use Rattle.unix_core.specs.Errors.{error_number};
-ghost use Rattle.unix_core.specs.Calls.{file_call, process_call, count_of};
-ghost use Rattle.unix_core.specs.Parts.{row_of, process_row_of};
+ghost use Rattle.abstract_unix.specs.Errors.{error_number};
+ghost use Rattle.abstract_unix.specs.Calls.{file_call, process_call, count_of, row_of, process_row_of};
 
 use fs_tree::Tree;
 use proc_tab::Row;

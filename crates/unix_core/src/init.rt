@@ -2,7 +2,7 @@
 ghost use Rattle.std.specs.Prelude.{◌≡◌, ◌++◌, [], drop, length, replicate};
 ghost use Rattle.fs_codec.specs.Bytes.{bytes_of};
 ghost use Rattle.image_keep.specs.Kept.{HasImage, image_of, with_image};
-ghost use Rattle.unix_core.specs.Init.{init_words, init_data};
+ghost use Rattle.abstract_unix.specs.Init.{init_words, init_data};
 
 use crate::files::see_kept;
 use sys_procs::Procs;

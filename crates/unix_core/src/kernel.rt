@@ -8,15 +8,15 @@ ghost use Rattle.buf_cache.specs.Blocks.{block_at, IsDisk};
 ghost use Rattle.fs_laws.specs.Rest.{SameRest};
 ghost use Rattle.image_keep.specs.Kept.{Alive, first_kept, with_keeping};
 ghost use Rattle.unix_core.specs.Parts.{first_held};
-ghost use Rattle.unix_core.specs.Turn.{turned, NobodyCanRun};
-ghost use Rattle.unix_core.specs.Outside.{is_signal_key};
-ghost use Rattle.unix_core.specs.Private.{AllUndisturbed, OthersUndisturbed};
+ghost use Rattle.abstract_unix.specs.Turn.{turned, NobodyCanRun};
+ghost use Rattle.abstract_unix.specs.Outside.{is_signal_key};
+ghost use Rattle.abstract_unix.specs.Private.{AllUndisturbed, OthersUndisturbed};
 
 use crate::files::{ROOT, see_kept, see_nodes};
 use crate::init::put_program;
 use crate::machine::{Machine, Stage, turned_at};
-use crate::turned::{Turned, Unbuilt};
 use crate::world::World;
+use abstract_unix::{Turned, Unbuilt};
 use fs_codec::DISK_BLOCKS;
 use fs_nodes::Nodes;
 use fs_tree::Tree;
@@ -62,7 +62,7 @@ pub struct Kernel {
 }
 
 impl Model for Kernel {
-    ghost use Rattle.unix_core.specs.Unix.{SystemOnDisk};
+    ghost use Rattle.abstract_unix.specs.Unix.{SystemOnDisk};
     ghost use Rattle.unix_core.specs.Parts.{IsKernel, system_at, phase_of};
 
     ghost Value = { SystemOnDisk };
@@ -78,9 +78,8 @@ impl Model for Kernel {
 }
 
 impl Kernel {
-    ghost use Rattle.unix_core.specs.Unix.{New, Started, Stopped, Finished};
-    ghost use Rattle.unix_core.specs.Parts.{phase_after};
-    ghost use Rattle.unix_core.specs.Runs.{Slot, Tick, Byte, Switch, start_of, event_of, system_with, finished};
+    ghost use Rattle.abstract_unix.specs.Unix.{New, Started, Stopped, Finished, phase_after};
+    ghost use Rattle.abstract_unix.specs.Runs.{Slot, Tick, Byte, Switch, start_of, event_of, system_with, finished};
 
     /// A kernel with a file system, whose process 1 is about to execute `/etc/init`, with images and a tape of which nothing
     /// is used. Inode 1 is referred to as the root and as a directory.

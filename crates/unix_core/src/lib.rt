@@ -4,7 +4,6 @@
 mod asked;
 mod boot;
 mod calls;
-mod ending;
 mod files;
 mod init;
 mod kernel;
@@ -13,9 +12,8 @@ mod onfiles;
 mod passing;
 mod process;
 mod settling;
-mod turned;
 mod world;
 
+pub use abstract_unix::{Turned, Unbuilt};
 pub use boot::BootFault;
 pub use kernel::Kernel;
-pub use turned::{Turned, Unbuilt};

@@ -4,9 +4,9 @@ ghost use Rattle.fs_laws.specs.Rest.{SameRest};
 ghost use Rattle.sys_files.specs.Descriptors.{close_all};
 ghost use Rattle.sys_files.specs.Moving.{resume_read};
 ghost use Rattle.image_keep.specs.Kept.{area_of};
-ghost use Rattle.unix_core.specs.Unix.{process_of};
-ghost use Rattle.unix_core.specs.Calls.{file_call, handed_of, with_handed};
-ghost use Rattle.unix_core.specs.Parts.{unix_of, board_in, IsReady, IsReadyToShow, row_of};
+ghost use Rattle.abstract_unix.specs.Unix.{process_of};
+ghost use Rattle.abstract_unix.specs.Calls.{file_call, handed_of, with_handed, row_of};
+ghost use Rattle.unix_core.specs.Parts.{unix_of, board_in, IsReady, IsReadyToShow};
 
 use crate::calls::do_file_call;
 use crate::files::{see_count, see_nodes, see_numbers, see_table};

@@ -9,14 +9,14 @@ ghost use Rattle.pick_rules.specs.Board.{Board};
 ghost use Rattle.pick_rules.specs.Logged.{logged};
 ghost use Rattle.image_keep.specs.Kept.{Kept};
 ghost use Rattle.sys_procs.specs.Agree.{board_of};
-ghost use Rattle.unix_core.specs.Unix.{Unix};
-ghost use Rattle.unix_core.specs.Turn.{end_effects, settled, pass_effects};
-ghost use Rattle.unix_core.specs.Outside.{wakes};
+ghost use Rattle.abstract_unix.specs.Unix.{Unix};
+ghost use Rattle.abstract_unix.specs.Turn.{end_effects, settled, pass_effects};
+ghost use Rattle.abstract_unix.specs.Outside.{wakes};
 ghost use Rattle.pick_rules.specs.Priority.{pswp};
 ghost use Rattle.pick_rules.specs.Sleepers.{fall_asleep};
 ghost use Rattle.unix_core.specs.Passing.{trapped, ended_table, called_table, settled_table};
 
-use crate::ending::Ending;
+use abstract_unix::Ending;
 use pick_rules::{Table, TableRow};
 use v6_base::{Chan, Entry, Place, Slot, Trace};
 

@@ -6,9 +6,9 @@ use Rattle.std.proofs.lemmas.List.{append-nil, drop_more, drop_all}
 use Rattle.v6_base.specs.Trace.{Taken}
 use Rattle.script_text.specs.declared.script.Event as asked
 use Rattle.script_text.specs.declared.script.Event.TheVariants as ask
-use Rattle.unix_core.specs.declared.turned.Unbuilt.{Unbuilt}
-use Rattle.unix_core.specs.Unix.{System}
-use Rattle.unix_core.specs.Runs.{Event, Slot, Tick, Byte, Switch, Course, begun}
+use Rattle.abstract_unix.specs.declared.turned.Unbuilt.{Unbuilt}
+use Rattle.abstract_unix.specs.Unix.{System}
+use Rattle.abstract_unix.specs.Runs.{Event, Slot, Tick, Byte, Switch, Course, begun}
 use Rattle.v6_run.specs.Events.{Clock, is_ticked, slot_with, slot_numbered, happens, clock_after, events_from, events_of}
 use Rattle.v6_run.specs.Clocks.{TicksAlike}
 use Rattle.v6_run.specs.Courses.{HasRun}

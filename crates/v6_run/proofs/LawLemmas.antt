@@ -2,8 +2,8 @@
 use Rattle.std.proofs.Common.{◌++◌, Option, sym, subst}
 use Rattle.v6_base.specs.Trace.{entries_of}
 use Rattle.pick_rules.specs.Lawful.{Lawful}
-use Rattle.unix_core.specs.declared.turned.Unbuilt.{Unbuilt}
-use Rattle.run_laws.proofs.Lawfully.{logs_are_lawful}
+use Rattle.abstract_unix.specs.declared.turned.Unbuilt.{Unbuilt}
+use Rattle.abstract_unix.proofs.Lawfully.{logs_are_lawful}
 use Rattle.v6_run.specs.Outputs.{end_items}
 use Rattle.v6_run.specs.Headline.{LogsAreLawful}
 

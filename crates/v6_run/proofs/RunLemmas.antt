@@ -10,15 +10,15 @@ use Rattle.v6_port.specs.Causes.{Calm}
 use Rattle.fs_codec.specs.Disk.{disk_of}
 use Rattle.fs_codec.specs.Faults.{image_fault}
 use Rattle.fs_codec.specs.declared.fault.ImageFault as codec
-use Rattle.unix_core.specs.Unix.{System}
-use Rattle.unix_core.proofs.RunsLemmas.{IsMet, course_is}
-use Rattle.unix_core.specs.Runs.{Course, system_of, started, boots, course}
+use Rattle.abstract_unix.specs.Unix.{System}
+use Rattle.abstract_unix.proofs.RunsLemmas.{IsMet, course_is}
+use Rattle.abstract_unix.specs.Runs.{Course, system_of, started, boots, course}
 use Rattle.v6_run.specs.declared.image.TheConstants.{IMAGE_LIMIT}
 use Rattle.v6_run.specs.declared.run.TheConstants.{SCRIPT_LIMIT}
 use Rattle.v6_run.specs.declared.status.Status.{Status}
 use Rattle.v6_run.specs.declared.status.Status.TheVariants.{ReadFault, WriteFault, ScriptFault, NoMemory, NotBuilt}
-use Rattle.unix_core.specs.declared.turned.Unbuilt.{Unbuilt}
-use Rattle.unix_core.specs.declared.turned.Unbuilt.TheVariants as unbuilt
+use Rattle.abstract_unix.specs.declared.turned.Unbuilt.{Unbuilt}
+use Rattle.abstract_unix.specs.declared.turned.Unbuilt.TheVariants as unbuilt
 use Rattle.v6_run.specs.declared.files.ReadError.{ReadError}
 use Rattle.v6_run.specs.declared.files.ReadError.TheVariants as reading
 use Rattle.v6_run.specs.declared.image.ImageError.{ImageError}

@@ -5,10 +5,10 @@ use Rattle.std.proofs.lemmas.List.{replicate-append-replicate}
 use Rattle.v6_base.specs.declared.entry.Entry.TheVariants.{End}
 use Rattle.v6_base.specs.Trace.{Item, Taken, Took, Log}
 use Rattle.v6_base.proofs.Took.{took_none, took_then}
-use Rattle.unix_core.specs.declared.turned.Unbuilt.{Unbuilt}
-use Rattle.unix_core.specs.Unix.{System}
-use Rattle.unix_core.specs.Runs.{Event, Slot, Course, begun, started, start_of, event_of, course}
-use Rattle.unix_core.proofs.RunsLemmas.{course_joined, course_last}
+use Rattle.abstract_unix.specs.declared.turned.Unbuilt.{Unbuilt}
+use Rattle.abstract_unix.specs.Unix.{System}
+use Rattle.abstract_unix.specs.Runs.{Event, Slot, Course, begun, started, start_of, event_of, course}
+use Rattle.abstract_unix.proofs.RunsLemmas.{course_joined, course_last}
 use Rattle.v6_run.specs.Courses.{HasRun}
 use Rattle.v6_run.specs.Outputs.{end_items, shown_by}
 

@@ -3,7 +3,7 @@ use Rattle.std.specs.Prelude.{ℕ, Bool, not, ◌+◌, ◌%◌, ◌==◌, ◌&&�
 use Rattle.std.specs.List.{range_with_len}
 use Rattle.script_text.specs.declared.script.Event as asked
 use Rattle.script_text.specs.declared.script.Event.TheVariants as ask
-use Rattle.unix_core.specs.Runs.{Event, Slot, Tick, Byte, Switch}
+use Rattle.abstract_unix.specs.Runs.{Event, Slot, Tick, Byte, Switch}
 
 -- The clock that a script has set: a tick comes after every so manyth slot, 0 being none, and so many slots have been taken
 -- since it was set.

@@ -18,14 +18,14 @@ use Rattle.script_text.specs.declared.script.ScriptFault.TheVariants.{NoMemory}
 use Rattle.script_text.specs.declared.script.Event.{Event}
 use Rattle.script_text.specs.Script.{script_of, signal_line_of}
 use Rattle.make_image.specs.Image.{build_of}
-use Rattle.unix_core.specs.Runs.{Course, runs, run_of}
-use Rattle.unix_core.specs.Runs as kernel
+use Rattle.abstract_unix.specs.Runs.{Course, runs, run_of}
+use Rattle.abstract_unix.specs.Runs as kernel
 use Rattle.v6_run.specs.declared.image.TheConstants.{IMAGE_LIMIT}
 use Rattle.v6_run.specs.declared.run.TheConstants.{SCRIPT_LIMIT}
 use Rattle.v6_run.specs.declared.status.Status.{Status}
 use Rattle.v6_run.specs.declared.status.Status.TheVariants as status
-use Rattle.unix_core.specs.declared.turned.Unbuilt.{Unbuilt}
-use Rattle.unix_core.specs.declared.turned.Unbuilt.TheVariants as unbuilt
+use Rattle.abstract_unix.specs.declared.turned.Unbuilt.{Unbuilt}
+use Rattle.abstract_unix.specs.declared.turned.Unbuilt.TheVariants as unbuilt
 use Rattle.v6_run.specs.Words.{RunWords, Command, Run, Check, Make}
 use Rattle.v6_run.specs.Events.{events_of}
 use Rattle.v6_run.specs.Status.{has_written}

@@ -3,7 +3,7 @@ use Rattle.std.specs.Prelude.{ℕ, Bool, true, false, Option, Some, None}
 use Rattle.v6_port.specs.Outside.{Port, In, Out}
 use Rattle.v6_run.specs.declared.status.Status.{Status}
 use Rattle.v6_run.specs.declared.status.Status.TheVariants.{Done, Usage, ReadFault, WriteFault, CoreSize, ScriptFault, ImageFault, NoMemory, NotBuilt}
-use Rattle.unix_core.specs.declared.turned.Unbuilt.TheVariants as unbuilt
+use Rattle.abstract_unix.specs.declared.turned.Unbuilt.TheVariants as unbuilt
 
 abbrev pub status_number : Status → ℕ
 status_number Done = 0

@@ -3,9 +3,8 @@ ghost use Rattle.std.specs.Prelude.{◌≡◌, ◌<◌, ◌+◌, false, replicat
 ghost use Rattle.std.specs.List.{list_any, range_with_len};
 ghost use Rattle.script_text.specs.Script.{is_signal};
 ghost use Rattle.fs_laws.specs.Rest.{SameRest};
-ghost use Rattle.unix_core.specs.Unix.{New, Started};
-ghost use Rattle.unix_core.specs.Parts.{phase_after};
-ghost use Rattle.unix_core.specs.Runs.{Slot, begun, started, course};
+ghost use Rattle.abstract_unix.specs.Unix.{New, Started, phase_after};
+ghost use Rattle.abstract_unix.specs.Runs.{Slot, begun, started, course};
 ghost use Rattle.v6_run.specs.Events.{slot_with, slot_numbered, happens, clock_after, events_of};
 ghost use Rattle.v6_run.specs.Clocks.{clock_value, TicksAlike};
 ghost use Rattle.v6_base.specs.Trace.{Took};

@@ -1,7 +1,7 @@
 use Rattle.std.proofs.Common.{rules, refl}
 use Rattle.v6_base.proofs.Took.{took_nothing}
 use Rattle.sys_files.proofs.KeptLemmas.{kept_same}
-use Rattle.unix_core.specs.Calls.{file_call}
+use Rattle.abstract_unix.specs.Calls.{file_call}
 use Rattle.unix_core.proofs.calls.do_file_call.Goals as goal
 
 pub returns-in_default-clause-does : goal.returns-in_default-clause-does

@@ -3,8 +3,7 @@ use Rattle.sys_procs.specs.Comes.{Comes}
 use Rattle.sys_procs.specs.Done.{HasDone}
 use Rattle.sys_procs.specs.Handed.{handed}
 use Rattle.sys_procs.specs.Ids.{no_op}
-use Rattle.unix_core.specs.Calls.{process_call}
-use Rattle.unix_core.specs.Parts.{process_row_of}
+use Rattle.abstract_unix.specs.Calls.{process_call, process_row_of}
 use Rattle.unix_core.proofs.calls.do_process_call.Given.{Over}
 use Rattle.unix_core.proofs.calls.do_process_call.Goals.{After-no_op}
 use Rattle.unix_core.proofs.calls.do_process_call.Goals as goal

@@ -2,7 +2,7 @@ use Rattle.std.proofs.Common.{◌≡◌, ◌∙◌, ◌++◌, List, ℕ, drop, a
 use Rattle.v6_base.specs.Image.{Image}
 use Rattle.fs_codec.specs.Bytes.{bytes_of}
 use Rattle.image_keep.specs.Kept.{Kept, image_of, with_image}
-use Rattle.unix_core.specs.Init.{init_words, init_data}
+use Rattle.abstract_unix.specs.Init.{init_words, init_data}
 use Rattle.unix_core.proofs.LoanLemmas.{lent_back}
 use Rattle.unix_core.proofs.init.put_program.Goals as goal
 

@@ -2,7 +2,7 @@ use Rattle.std.proofs.Common.{ℕ, List, ◌≡◌, ◌<◌, ◌+◌, ◌*◌, �
 use Rattle.std.proofs.lemmas.List.{length-append, length-drop}
 use Rattle.v6_base.specs.Image.{Image}
 use Rattle.fs_codec.specs.Bytes.{bytes_of}
-use Rattle.unix_core.specs.Init.{init_words}
+use Rattle.abstract_unix.specs.Init.{init_words}
 use Rattle.unix_core.proofs.MemoryLemmas.{IsWritten, written_none, written_word, written_front, byte_low, byte_high, store-data_word}
 use Rattle.unix_core.proofs.init.store_program.Goals as goal
 

@@ -1,6 +1,6 @@
 use Rattle.std.proofs.Common.{◌≡◌, ◌*◌, ◌++◌, drop}
 use Rattle.fs_codec.specs.Bytes.{bytes_of}
-use Rattle.unix_core.specs.Init.{init_words}
+use Rattle.abstract_unix.specs.Init.{init_words}
 use Rattle.unix_core.proofs.MemoryLemmas.{IsWritten}
 use Rattle.unix_core.proofs.init.store_program.Given as goal
 

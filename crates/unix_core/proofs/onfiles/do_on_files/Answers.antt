@@ -2,9 +2,8 @@ use Rattle.std.proofs.Common.{rules, ◌∙◌, refl, ap}
 use Rattle.u_area.specs.declared.area.UArea.{UArea}
 use Rattle.image_keep.specs.Kept.{Kept, image_of, with_area}
 use Rattle.sys_files.specs.Handed.{Handed, handed}
-use Rattle.unix_core.specs.Calls.{file_call}
-use Rattle.unix_core.specs.Parts.{row_of}
-use Rattle.unix_core.proofs.FileLemmas.{row_confined}
+use Rattle.abstract_unix.specs.Calls.{file_call, row_of}
+use Rattle.abstract_unix.proofs.FileRows.{row_confined}
 use Rattle.unix_core.specs.declared.world.World.{World}
 use Rattle.unix_core.proofs.WorldLemmas.{sound_parts}
 use Rattle.unix_core.proofs.LoanLemmas.{lent_back}

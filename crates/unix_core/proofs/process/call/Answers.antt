@@ -4,10 +4,10 @@ use Rattle.v6_base.proofs.Took.{took_nothing}
 use Rattle.pick_rules.specs.Logged.{logged}
 use Rattle.image_keep.specs.Kept.{Kept, HasImage}
 use Rattle.unix_core.specs.declared.world.World.{World}
-use Rattle.unix_core.specs.declared.asked.Asked.{Asked}
-use Rattle.unix_core.specs.declared.ending.Ending.TheVariants.{NotBuilt}
-use Rattle.unix_core.specs.Steps.{Steps}
-use Rattle.unix_core.specs.Calls.{system_call}
+use Rattle.abstract_unix.specs.declared.asked.Asked.{Asked}
+use Rattle.abstract_unix.specs.declared.ending.Ending.TheVariants.{NotBuilt}
+use Rattle.abstract_unix.specs.Steps.{Steps}
+use Rattle.abstract_unix.specs.Calls.{system_call}
 use Rattle.unix_core.specs.Parts.{unix_of, board_in, HasCome}
 use Rattle.unix_core.proofs.SystemLemmas.{asked_here, system_is_not, entered_ready, entered_board, entered_call}
 use Rattle.unix_core.proofs.process.call.Goals as goal

@@ -4,9 +4,9 @@ use Rattle.pick_rules.specs.declared.table.Table.{Table}
 use Rattle.pick_rules.specs.Table.{IsTable}
 use Rattle.sys_files.specs.Did.{Did}
 use Rattle.unix_core.specs.declared.world.World.{World}
-use Rattle.unix_core.specs.Unix.{process_of}
-use Rattle.unix_core.specs.Calls.{answers, file_call, handed_of}
-use Rattle.unix_core.specs.Parts.{unix_of, board_in, IsReady, row_of}
+use Rattle.abstract_unix.specs.Unix.{process_of}
+use Rattle.abstract_unix.specs.Calls.{answers, file_call, handed_of, row_of}
+use Rattle.unix_core.specs.Parts.{unix_of, board_in, IsReady}
 use Rattle.unix_core.proofs.ShowingLemmas.{woken_ready, shown_come, shown_took}
 use Rattle.unix_core.proofs.process.call_files.Goals as goal
 

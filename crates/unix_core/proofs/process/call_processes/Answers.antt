@@ -7,8 +7,8 @@ use Rattle.pick_rules.specs.Logged.{logged}
 use Rattle.sys_procs.specs.Comes.{Comes}
 use Rattle.sys_procs.specs.Handed.{AreProcs}
 use Rattle.unix_core.specs.declared.world.World.{World}
-use Rattle.unix_core.specs.Calls.{came_by, process_call}
-use Rattle.unix_core.specs.Parts.{unix_of, board_in, HasCome, IsReady, process_row_of}
+use Rattle.abstract_unix.specs.Calls.{came_by, process_call, process_row_of}
+use Rattle.unix_core.specs.Parts.{unix_of, board_in, HasCome, IsReady}
 use Rattle.unix_core.proofs.CameLemmas.{IsTame, after, beside, world_is, ready_calls, over_then, call_took, call_stops, call_ready, call_come}
 use Rattle.unix_core.proofs.ForkSlots.{given}
 use Rattle.unix_core.proofs.TameRows.{tame_row}

@@ -3,7 +3,7 @@ use Rattle.v6_base.specs.Trace.{Took}
 use Rattle.pick_rules.specs.Logged.{logged}
 use Rattle.pdp_step.specs.declared.outcome.Outcome.{Outcome}
 use Rattle.unix_core.specs.declared.world.World.{World}
-use Rattle.unix_core.specs.Turn.{comes_to}
+use Rattle.abstract_unix.specs.Turn.{comes_to}
 use Rattle.unix_core.specs.Parts.{unix_of, board_in, HasCome}
 use Rattle.unix_core.proofs.process.come_to.Goals as goal
 

@@ -4,10 +4,10 @@ use Rattle.v6_base.specs.declared.answer.Answer.{Answer}
 use Rattle.u_area.specs.declared.area.UArea.{UArea}
 use Rattle.image_keep.specs.Kept.{Kept, with_area}
 use Rattle.unix_core.specs.declared.world.World.{World}
-use Rattle.unix_core.specs.Unix.{process_of}
-use Rattle.unix_core.specs.Calls.{given_area, refused_area, refuses, answers}
-use Rattle.unix_core.specs.Calls as calls
-use Rattle.unix_core.specs.Steps.{returns, not_built}
+use Rattle.abstract_unix.specs.Unix.{process_of}
+use Rattle.abstract_unix.specs.Calls.{given_area, refused_area, refuses, answers}
+use Rattle.abstract_unix.specs.Calls as calls
+use Rattle.abstract_unix.specs.Steps.{returns, not_built}
 use Rattle.unix_core.specs.Parts.{unix_of, board_in, IsReady}
 use Rattle.unix_core.proofs.AreaLemmas.{own_area, area_unix, area_board, area_ready}
 use Rattle.unix_core.proofs.process.conclude.Goals.{After-give, After-refuse}

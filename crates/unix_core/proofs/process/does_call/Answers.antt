@@ -3,11 +3,11 @@ use Rattle.v6_base.specs.Trace.{Took}
 use Rattle.v6_base.proofs.Took.{took_nothing}
 use Rattle.pick_rules.specs.Logged.{logged}
 use Rattle.unix_core.specs.declared.world.World.{World}
-use Rattle.unix_core.specs.declared.ending.Ending.TheVariants.{Trapped}
-use Rattle.unix_core.specs.Unix.{process_of}
-use Rattle.unix_core.specs.Steps.{Steps}
-use Rattle.unix_core.specs.Calls.{file_call, handed_of, process_call, world_of}
-use Rattle.unix_core.specs.Parts.{unix_of, board_in, row_of, process_row_of, HasCome}
+use Rattle.abstract_unix.specs.declared.ending.Ending.TheVariants.{Trapped}
+use Rattle.abstract_unix.specs.Unix.{process_of}
+use Rattle.abstract_unix.specs.Steps.{Steps}
+use Rattle.abstract_unix.specs.Calls.{file_call, handed_of, process_call, world_of, row_of, process_row_of}
+use Rattle.unix_core.specs.Parts.{unix_of, board_in, HasCome}
 use Rattle.unix_core.proofs.EndingLemmas.{came_next, did_next, exit_end, fork_end, never_next, is_indirect, is_exit, is_fork}
 use Rattle.unix_core.proofs.SystemLemmas.{is_on_files, is_on_processes}
 use Rattle.unix_core.proofs.process.does_call.Goals as goal

@@ -5,8 +5,8 @@ use Rattle.pick_rules.specs.Table.{IsTable}
 use Rattle.unix_core.specs.declared.world.World.{World}
 use Rattle.open_files.specs.Files.{times}
 use Rattle.sys_procs.specs.Process.{Process}
-use Rattle.unix_core.specs.Unix.{Unix, process_of}
-use Rattle.unix_core.specs.Calls.{closes_all, with_handed}
+use Rattle.abstract_unix.specs.Unix.{Unix, process_of}
+use Rattle.abstract_unix.specs.Calls.{closes_all, with_handed}
 use Rattle.unix_core.specs.Parts.{unix_of, board_in, IsReady}
 use Rattle.unix_core.proofs.ReferenceLemmas.{slot_within}
 use Rattle.unix_core.proofs.WorldLemmas.{slot_is, is_living, fifteen_each}

@@ -3,9 +3,9 @@ use Rattle.v6_base.proofs.Took.{took_nothing}
 use Rattle.pick_rules.specs.Logged.{logged}
 use Rattle.pdp_step.specs.declared.outcome.Kind.{Kind}
 use Rattle.unix_core.specs.declared.world.World.{World}
-use Rattle.unix_core.specs.declared.ending.Ending.TheVariants.{NotBuilt}
-use Rattle.unix_core.specs.Steps.{Steps}
-use Rattle.unix_core.specs.Turn.{faults}
+use Rattle.abstract_unix.specs.declared.ending.Ending.TheVariants.{NotBuilt}
+use Rattle.abstract_unix.specs.Steps.{Steps}
+use Rattle.abstract_unix.specs.Turn.{faults}
 use Rattle.unix_core.specs.Parts.{unix_of, board_in, HasCome}
 use Rattle.unix_core.proofs.EndingLemmas.{no_growth}
 use Rattle.unix_core.proofs.process.fault.Goals as goal

@@ -11,8 +11,8 @@ use Rattle.u_area.specs.declared.area.UArea.{UArea}
 use Rattle.unix_core.specs.declared.world.World.{World}
 use Rattle.fs_tree.specs.declared.tree.Tree.{Tree}
 use Rattle.sys_procs.specs.declared.procs.Procs.{Procs}
-use Rattle.unix_core.specs.Unix.{process_of}
-use Rattle.unix_core.specs.Calls.{shares}
+use Rattle.abstract_unix.specs.Unix.{process_of}
+use Rattle.abstract_unix.specs.Calls.{shares}
 use Rattle.unix_core.specs.Parts.{unix_of, named, IsReady}
 use Rattle.unix_core.proofs.ReferenceLemmas.{few_named}
 use Rattle.unix_core.proofs.WorldLemmas.{files_open, fifteen_each}

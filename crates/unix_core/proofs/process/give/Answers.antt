@@ -1,7 +1,7 @@
 use Rattle.std.proofs.Common.{◌∙◌, ap}
 use Rattle.u_area.specs.declared.area.UArea.{UArea}
 use Rattle.image_keep.specs.Kept.{with_area}
-use Rattle.unix_core.specs.Calls.{given_area}
+use Rattle.abstract_unix.specs.Calls.{given_area}
 use Rattle.unix_core.proofs.AreaLemmas.{given_is}
 use Rattle.unix_core.proofs.process.give.Goals as goal
 

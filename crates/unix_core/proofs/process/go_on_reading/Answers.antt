@@ -5,8 +5,8 @@ use Rattle.pick_rules.specs.Table.{IsTable}
 use Rattle.sys_files.specs.Did.{Did}
 use Rattle.sys_files.specs.Moving.{resume_read}
 use Rattle.unix_core.specs.declared.world.World.{World}
-use Rattle.unix_core.specs.Unix.{process_of}
-use Rattle.unix_core.specs.Calls.{answers, handed_of}
+use Rattle.abstract_unix.specs.Unix.{process_of}
+use Rattle.abstract_unix.specs.Calls.{answers, handed_of}
 use Rattle.unix_core.specs.Parts.{unix_of, board_in, IsReady}
 use Rattle.unix_core.proofs.ShowingLemmas.{woken_ready, shown_come, shown_took}
 use Rattle.unix_core.proofs.process.go_on_reading.Goals as goal

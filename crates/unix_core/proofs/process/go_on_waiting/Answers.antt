@@ -10,7 +10,7 @@ use Rattle.sys_procs.specs.Agree.{answered}
 use Rattle.sys_procs.specs.Handed.{came}
 use Rattle.sys_procs.specs.Resume.{resume_proc}
 use Rattle.unix_core.specs.declared.world.World.{World}
-use Rattle.unix_core.specs.Calls.{came_by}
+use Rattle.abstract_unix.specs.Calls.{came_by}
 use Rattle.unix_core.specs.Parts.{unix_of, board_in, HasCome, IsReady}
 use Rattle.unix_core.proofs.MildLemmas.{IsMild}
 use Rattle.unix_core.proofs.MildRows.{mild_resume}

@@ -7,10 +7,10 @@ use Rattle.image_keep.specs.Kept.{area_of}
 use Rattle.sys_files.specs.Moving.{resume_read}
 use Rattle.sys_procs.specs.Resume.{resume_proc}
 use Rattle.unix_core.specs.declared.world.World.{World}
-use Rattle.unix_core.specs.declared.ending.Ending.TheVariants.{NotBuilt}
-use Rattle.unix_core.specs.Unix.{process_of}
-use Rattle.unix_core.specs.Steps.{Steps}
-use Rattle.unix_core.specs.Calls.{handed_of, world_of}
+use Rattle.abstract_unix.specs.declared.ending.Ending.TheVariants.{NotBuilt}
+use Rattle.abstract_unix.specs.Unix.{process_of}
+use Rattle.abstract_unix.specs.Steps.{Steps}
+use Rattle.abstract_unix.specs.Calls.{handed_of, world_of}
 use Rattle.unix_core.specs.Parts.{unix_of, board_in, HasCome, IsReady}
 use Rattle.unix_core.proofs.AreaLemmas.{own_area}
 use Rattle.unix_core.proofs.EndingLemmas.{came_lives, did_lives, never_ended}

@@ -3,8 +3,8 @@ use Rattle.v6_base.specs.declared.entry.Entry.TheVariants as line
 use Rattle.pick_rules.specs.Sleepers.{fall_asleep}
 use Rattle.pick_rules.specs.Logged.{Logged, logged}
 use Rattle.sys_procs.specs.Agree.{board_of}
-use Rattle.unix_core.specs.Unix.{Unix}
-use Rattle.unix_core.specs.Turn.{end_effects}
+use Rattle.abstract_unix.specs.Unix.{Unix}
+use Rattle.abstract_unix.specs.Turn.{end_effects}
 use Rattle.unix_core.proofs.BoardLemmas.{board_trapped, board_asleep, logged_line}
 use Rattle.unix_core.proofs.settling.end_turn.Goals as goal
 

@@ -4,7 +4,7 @@ use Rattle.v6_base.specs.declared.entry.Entry.TheVariants as line
 use Rattle.pick_rules.specs.Priority.{pswp}
 use Rattle.pick_rules.specs.Logged.{Logged}
 use Rattle.sys_procs.specs.Agree.{board_of}
-use Rattle.unix_core.specs.Unix.{Unix}
+use Rattle.abstract_unix.specs.Unix.{Unix}
 use Rattle.unix_core.proofs.BoardLemmas.{board_asleep, logged_line}
 use Rattle.unix_core.proofs.settling.pass.Goals as goal
 

@@ -1,5 +1,5 @@
 use Rattle.std.proofs.Common.{◌∙◌, Some, None, refl, sym, ap, rules}
-use Rattle.unix_core.specs.Turn.{Settled}
+use Rattle.abstract_unix.specs.Turn.{Settled}
 use Rattle.unix_core.proofs.BoardLemmas.{settled_quiet, settled_as_chosen}
 use Rattle.unix_core.proofs.settling.settle.Goals as goal
 

@@ -2,8 +2,8 @@ use Rattle.std.proofs.Common.{◌∙◌, sym, ap}
 use Rattle.v6_base.specs.declared.entry.Entry.TheVariants as line
 use Rattle.pick_rules.specs.Logged.{Logged, logged}
 use Rattle.sys_procs.specs.Agree.{board_of}
-use Rattle.unix_core.specs.Unix.{Unix}
-use Rattle.unix_core.specs.Outside.{wakes}
+use Rattle.abstract_unix.specs.Unix.{Unix}
+use Rattle.abstract_unix.specs.Outside.{wakes}
 use Rattle.unix_core.proofs.BoardLemmas.{board_woken, logged_line}
 use Rattle.unix_core.proofs.settling.wake.Goals as goal
 

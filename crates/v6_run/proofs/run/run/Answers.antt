@@ -3,8 +3,8 @@ use Rattle.v6_port.specs.Outside.{PortState}
 use Rattle.fs_codec.specs.Disk.{disk_of, head}
 use Rattle.fs_codec.specs.declared.layout.TheConstants.{SWAP_START}
 use Rattle.buf_cache.specs.Blocks.{block_at, blocks_of}
-use Rattle.unix_core.specs.declared.turned.Unbuilt.{Unbuilt}
-use Rattle.unix_core.specs.Runs.{boots, started, course}
+use Rattle.abstract_unix.specs.declared.turned.Unbuilt.{Unbuilt}
+use Rattle.abstract_unix.specs.Runs.{boots, started, course}
 use Rattle.v6_run.specs.Events.{events_of}
 use Rattle.v6_run.specs.Outputs.{EndsRun}
 use Rattle.v6_run.specs.Words.{Run, run_words_value}

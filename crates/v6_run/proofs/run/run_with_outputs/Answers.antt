@@ -1,4 +1,4 @@
-use Rattle.unix_core.specs.Runs.{started, course}
+use Rattle.abstract_unix.specs.Runs.{started, course}
 use Rattle.v6_run.specs.Events.{events_of}
 use Rattle.v6_run.proofs.ResultLemmas.{match_passed}
 use Rattle.v6_run.proofs.OutputLemmas.{stopped_playing, stopped_writing, stopped_finishing, came_to_end, run_leaves, came_to_none, fault_where_err, calm_where_ok, told_where_ok}

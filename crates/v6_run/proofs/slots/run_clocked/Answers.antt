@@ -1,5 +1,5 @@
 use Rattle.std.proofs.Common.{◌+◌, ◌∙◌, Some, None, ap}
-use Rattle.unix_core.specs.Parts.{phase_after}
+use Rattle.abstract_unix.specs.Unix.{phase_after}
 use Rattle.fs_laws.proofs.RestLemmas.{rest_stays, rest_then}
 use Rattle.v6_run.proofs.SlotLemmas.{run_none, run_more, run_last, run_as, ends_as}
 use Rattle.v6_run.proofs.ClockLemmas.{since_first, since_more, since_below, ticks_is, numbered_more, numbered_part}

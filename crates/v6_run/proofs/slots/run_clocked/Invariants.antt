@@ -1,8 +1,8 @@
 use Rattle.std.proofs.Common.{◌≡◌, ◌+◌, ◌%◌, None, flat_map}
 use Rattle.std.specs.List.{range_with_len}
 use Rattle.fs_laws.specs.Rest.{SameRest}
-use Rattle.unix_core.specs.Unix.{Started}
-use Rattle.unix_core.specs.Runs.{begun}
+use Rattle.abstract_unix.specs.Unix.{Started}
+use Rattle.abstract_unix.specs.Runs.{begun}
 use Rattle.v6_run.specs.Events.{slot_numbered}
 use Rattle.v6_run.specs.Courses.{HasRun}
 use Rattle.v6_run.proofs.slots.run_clocked.Given as goal

@@ -1,5 +1,5 @@
 use Rattle.std.proofs.Common.{◌∙◌, ap, refl, Some, None}
-use Rattle.unix_core.specs.Parts.{phase_after}
+use Rattle.abstract_unix.specs.Unix.{phase_after}
 use Rattle.fs_laws.proofs.RestLemmas.{rest_then}
 use Rattle.v6_run.specs.Clocks.{clock_value}
 use Rattle.v6_run.proofs.SlotLemmas.{ends_as}

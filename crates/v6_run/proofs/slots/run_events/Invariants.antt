@@ -1,7 +1,7 @@
 use Rattle.std.proofs.Common.{◌≡◌}
 use Rattle.fs_laws.specs.Rest.{SameRest}
-use Rattle.unix_core.specs.Unix.{Started}
-use Rattle.unix_core.specs.Runs.{begun}
+use Rattle.abstract_unix.specs.Unix.{Started}
+use Rattle.abstract_unix.specs.Runs.{begun}
 use Rattle.v6_run.specs.Clocks.{clock_value}
 use Rattle.v6_run.proofs.ClockLemmas.{HasTaken}
 use Rattle.v6_run.proofs.slots.run_events.Given as goal

@@ -1,8 +1,8 @@
 use Rattle.std.proofs.Common.{◌+◌, ◌-◌, ◌∙◌, ap, sym, Some, None, replicate}
 use Rattle.fs_laws.proofs.RestLemmas.{rest_stays, rest_then}
-use Rattle.unix_core.specs.Parts.{phase_after}
-use Rattle.unix_core.specs.Runs.{Slot, event_of}
-use Rattle.unix_core.proofs.RunsLemmas.{turn_ends, turn_goes}
+use Rattle.abstract_unix.specs.Unix.{phase_after}
+use Rattle.abstract_unix.specs.Runs.{Slot, event_of}
+use Rattle.abstract_unix.proofs.RunsLemmas.{turn_ends, turn_goes}
 use Rattle.v6_run.proofs.SlotLemmas.{run_none, run_event, run_more, run_last, one_more, some_more}
 use Rattle.v6_run.proofs.slots.run_slots.Goals as goal
 

@@ -1,7 +1,7 @@
 use Rattle.std.proofs.Common.{◌≡◌, None, replicate}
 use Rattle.fs_laws.specs.Rest.{SameRest}
-use Rattle.unix_core.specs.Unix.{Started}
-use Rattle.unix_core.specs.Runs.{Slot, begun}
+use Rattle.abstract_unix.specs.Unix.{Started}
+use Rattle.abstract_unix.specs.Runs.{Slot, begun}
 use Rattle.v6_run.specs.Courses.{HasRun}
 use Rattle.v6_run.proofs.slots.run_slots.Given as goal
 

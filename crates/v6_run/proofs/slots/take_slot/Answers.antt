@@ -1,8 +1,8 @@
 use Rattle.std.proofs.Common.{rules, ◌≡◌, ◌∙◌, sym, ap, refl, true, None}
 use Rattle.std.specs.Result.{result_err}
 use Rattle.fs_laws.proofs.RestLemmas.{rest_then}
-use Rattle.unix_core.specs.Parts.{phase_after}
-use Rattle.unix_core.specs.Runs.{Tick}
+use Rattle.abstract_unix.specs.Unix.{phase_after}
+use Rattle.abstract_unix.specs.Runs.{Tick}
 use Rattle.v6_run.specs.Events.{slot_with}
 use Rattle.v6_run.proofs.SlotLemmas.{run_event, run_more, run_as, ends_as}
 use Rattle.v6_run.proofs.slots.take_slot.Goals as goal

@@ -4,8 +4,8 @@ use Rattle.fs_codec.specs.Stands.{StandsFor}
 use Rattle.fs_codec.specs.declared.layout.TheConstants.{DISK_BLOCKS}
 use Rattle.buf_cache.specs.Blocks.{block_at}
 use Rattle.unix_core.specs.declared.machine.Stage.{Stage}
-use Rattle.unix_core.specs.Unix.{SystemOnDisk}
-use Rattle.unix_core.specs.Runs.{finished}
+use Rattle.abstract_unix.specs.Unix.{SystemOnDisk}
+use Rattle.abstract_unix.specs.Runs.{finished}
 use Rattle.unix_core.specs.Parts.{system_at, IsKernel}
 use Rattle.unix_core.proofs.BootLemmas.{stands_below}
 use Rattle.unix_core.proofs.BootKernelLemmas.{updated, finished_kernel, updated_system}

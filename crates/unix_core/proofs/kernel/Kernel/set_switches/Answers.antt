@@ -1,8 +1,8 @@
 use Rattle.std.proofs.Common.{◌∙◌, ap, sym, subst}
-use Rattle.unix_core.specs.Unix.{System, SystemOnDisk}
-use Rattle.unix_core.specs.Runs.{event_of, Switch}
+use Rattle.abstract_unix.specs.Unix.{System, SystemOnDisk}
+use Rattle.abstract_unix.specs.Runs.{event_of, Switch}
 use Rattle.unix_core.proofs.BootKernelLemmas.{switched_kernel, switched_system}
-use Rattle.unix_core.specs.Private.{AllUndisturbed}
+use Rattle.abstract_unix.specs.Private.{AllUndisturbed}
 use Rattle.unix_core.proofs.PrivateLemmas.{switched_private}
 use Rattle.unix_core.proofs.kernel.Kernel.set_switches.Goals as goal
 

@@ -2,11 +2,11 @@ use Rattle.std.proofs.Common.{◌∙◌, refl, ap, subst, sym}
 use Rattle.v6_base.specs.Trace.{Took}
 use Rattle.unix_core.specs.declared.machine.Stage.{Stage}
 use Rattle.unix_core.specs.declared.machine.Stage.TheVariants as stage
-use Rattle.unix_core.specs.Unix.{System, SystemOnDisk}
-use Rattle.unix_core.specs.Runs.{start_of}
+use Rattle.abstract_unix.specs.Unix.{System, SystemOnDisk}
+use Rattle.abstract_unix.specs.Runs.{start_of}
 use Rattle.unix_core.specs.Parts.{system_at}
 use Rattle.unix_core.proofs.BootKernelLemmas.{new_stage, start_items}
-use Rattle.unix_core.specs.Private.{AllUndisturbed}
+use Rattle.abstract_unix.specs.Private.{AllUndisturbed}
 use Rattle.unix_core.proofs.PrivateLemmas.{start_private}
 use Rattle.unix_core.proofs.kernel.Kernel.start.Goals as goal
 

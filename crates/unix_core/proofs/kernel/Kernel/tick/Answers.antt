@@ -1,8 +1,8 @@
 use Rattle.std.proofs.Common.{◌∙◌, ap, sym, subst}
-use Rattle.unix_core.specs.Unix.{System, SystemOnDisk}
-use Rattle.unix_core.specs.Turn.{settled_after}
-use Rattle.unix_core.specs.Outside.{tick_of}
-use Rattle.unix_core.specs.Private.{AllUndisturbed}
+use Rattle.abstract_unix.specs.Unix.{System, SystemOnDisk}
+use Rattle.abstract_unix.specs.Turn.{settled_after}
+use Rattle.abstract_unix.specs.Outside.{tick_of}
+use Rattle.abstract_unix.specs.Private.{AllUndisturbed}
 use Rattle.unix_core.proofs.PrivateLemmas.{tick_private}
 use Rattle.unix_core.proofs.kernel.Kernel.tick.Goals as goal
 

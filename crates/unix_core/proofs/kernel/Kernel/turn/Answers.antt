@@ -8,16 +8,16 @@ use Rattle.sys_procs.specs.Process.{Process, register}
 use Rattle.unix_core.specs.declared.world.World.{World}
 use Rattle.unix_core.specs.declared.machine.Stage.{Stage}
 use Rattle.unix_core.specs.declared.machine.Stage.TheVariants as stage
-use Rattle.unix_core.specs.Unix.{System, SystemOnDisk}
-use Rattle.unix_core.specs.Turn.{Turn, turned}
-use Rattle.unix_core.specs.Runs.{Slot, event_of}
-use Rattle.unix_core.specs.Parts.{turned_at, system_at, phase_of, phase_after, HasStepped, IsKernel, IsPaused, IsUser}
+use Rattle.abstract_unix.specs.Unix.{System, SystemOnDisk, phase_after}
+use Rattle.abstract_unix.specs.Turn.{Turn, turned}
+use Rattle.abstract_unix.specs.Runs.{Slot, event_of}
+use Rattle.unix_core.specs.Parts.{turned_at, system_at, phase_of, HasStepped, IsKernel, IsPaused, IsUser}
 use Rattle.unix_core.proofs.WorldLemmas.{ready_alive}
 use Rattle.unix_core.proofs.LoanLemmas.{lent_back}
 use Rattle.unix_core.proofs.PutLemmas.{with_images}
 use Rattle.unix_core.proofs.MachineLemmas.{runs_kernel}
 use Rattle.unix_core.proofs.TurnSteps.{lent_stepped, lent_user, apart_process, user_slot, quiet_system, plain_answer, plain_goes, plain_next, plain_items}
-use Rattle.unix_core.specs.Private.{OthersUndisturbed}
+use Rattle.abstract_unix.specs.Private.{OthersUndisturbed}
 use Rattle.unix_core.proofs.PrivateLemmas.{slot_private}
 use Rattle.unix_core.proofs.IdleLemmas.{idle_nobody}
 use Rattle.unix_core.proofs.kernel.Kernel.turn.Goals as goal

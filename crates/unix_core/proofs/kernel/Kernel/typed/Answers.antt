@@ -1,9 +1,9 @@
 use Rattle.std.proofs.Common.{◌∙◌, ap, sym, subst}
 use Rattle.v6_base.specs.Trace.{Took}
-use Rattle.unix_core.specs.Unix.{System, SystemOnDisk}
-use Rattle.unix_core.specs.Turn.{settled_after}
-use Rattle.unix_core.specs.Outside.{typed_of}
-use Rattle.unix_core.specs.Private.{AllUndisturbed}
+use Rattle.abstract_unix.specs.Unix.{System, SystemOnDisk}
+use Rattle.abstract_unix.specs.Turn.{settled_after}
+use Rattle.abstract_unix.specs.Outside.{typed_of}
+use Rattle.abstract_unix.specs.Private.{AllUndisturbed}
 use Rattle.unix_core.proofs.PrivateLemmas.{typed_private}
 use Rattle.unix_core.proofs.kernel.Kernel.typed.Goals as goal
 

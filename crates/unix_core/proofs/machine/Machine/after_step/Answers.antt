@@ -4,8 +4,8 @@ use Rattle.sys_procs.specs.Process.{register}
 use Rattle.unix_core.specs.declared.world.World.{World}
 use Rattle.unix_core.specs.declared.machine.Stage.{Stage}
 use Rattle.unix_core.specs.declared.machine.Stage.TheVariants as stage
-use Rattle.unix_core.specs.Unix.{process_of}
-use Rattle.unix_core.specs.Turn.{turn, turned}
+use Rattle.abstract_unix.specs.Unix.{process_of}
+use Rattle.abstract_unix.specs.Turn.{turn, turned}
 use Rattle.unix_core.specs.Parts.{system_at, phase_of, HasCome, IsKernel}
 use Rattle.unix_core.proofs.MachineLemmas.{runs_kernel}
 use Rattle.unix_core.proofs.TurnLemmas.{turn_is, turn_takes, turn_items, stepped_come, stepped_items}

@@ -1,5 +1,5 @@
 use Rattle.std.proofs.Common.{◌∙◌, ap, arith}
-use Rattle.unix_core.specs.Outside.{timed_area}
+use Rattle.abstract_unix.specs.Outside.{timed_area}
 use Rattle.image_keep.specs.Kept.{image_of}
 use Rattle.unix_core.proofs.LoanBack.{timed_sizes}
 use Rattle.unix_core.proofs.MachineLemmas.{rested_alive, charge_unix, charge_board, charge_rested}

@@ -2,7 +2,7 @@ use Rattle.std.proofs.Common.{◌∙◌, refl, ap, sym, subst}
 use Rattle.v6_base.proofs.Took.{took_nothing}
 use Rattle.unix_core.specs.declared.world.World.{World}
 use Rattle.unix_core.specs.declared.machine.Stage.{Stage}
-use Rattle.unix_core.specs.Turn.{settled}
+use Rattle.abstract_unix.specs.Turn.{settled}
 use Rattle.unix_core.specs.Parts.{board_in, system_at, IsRested}
 use Rattle.unix_core.proofs.TableLemmas.{with_table}
 use Rattle.unix_core.proofs.EndLemmas.{not_over, ended_rested, ended_takes, ended_items, stopped_takes, stopped_items, end_answer}

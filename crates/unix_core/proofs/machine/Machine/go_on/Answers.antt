@@ -1,8 +1,8 @@
 use Rattle.std.proofs.Common.{◌≡◌, false}
 use Rattle.unix_core.specs.declared.world.World.{World}
 use Rattle.unix_core.specs.declared.machine.Stage.TheVariants as stage
-use Rattle.unix_core.specs.Unix.{process_of}
-use Rattle.unix_core.specs.Turn.{is_user}
+use Rattle.abstract_unix.specs.Unix.{process_of}
+use Rattle.abstract_unix.specs.Turn.{is_user}
 use Rattle.unix_core.specs.Parts.{unix_of, with_regs, system_at}
 use Rattle.unix_core.proofs.SlotLemmas.{resting_unix, later_come, later_took}
 use Rattle.unix_core.proofs.machine.Machine.go_on.Goals as goal

@@ -1,8 +1,8 @@
 use Rattle.std.proofs.Common.{◌<◌, ◌∙◌, rules, ap, sym, subst}
 use Rattle.v6_base.specs.Trace.{Took}
 use Rattle.sys_procs.specs.Process.{register}
-use Rattle.unix_core.specs.Unix.{System, process_of}
-use Rattle.unix_core.specs.Turn.{Turn, turn, turned}
+use Rattle.abstract_unix.specs.Unix.{System, process_of}
+use Rattle.abstract_unix.specs.Turn.{Turn, turn, turned}
 use Rattle.unix_core.specs.Parts.{system_at, pc_by, pc_at, turn_end, Takes}
 use Rattle.unix_core.proofs.MachineLemmas.{rested_alive}
 use Rattle.unix_core.proofs.TurnLemmas.{turn_is, turn_takes, turn_items}

@@ -1,7 +1,7 @@
 use Rattle.std.proofs.Common.{◌∙◌, ap, sym}
 use Rattle.unix_core.specs.declared.world.World.{World}
 use Rattle.unix_core.specs.declared.machine.Stage.{Stage}
-use Rattle.unix_core.specs.Unix.{process_of}
+use Rattle.abstract_unix.specs.Unix.{process_of}
 use Rattle.unix_core.specs.Parts.{unix_of, system_at, IsUser}
 use Rattle.unix_core.proofs.WorldLemmas.{ready_alive}
 use Rattle.sys_procs.proofs.Alive.{area_here}

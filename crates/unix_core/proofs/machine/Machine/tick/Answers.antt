@@ -1,9 +1,9 @@
 use Rattle.std.proofs.Common.{◌∙◌, ◌∷◌, [], ap, subst}
 use Rattle.v6_base.specs.Trace.{Took, Log}
 use Rattle.v6_base.specs.declared.entry.Entry.{Entry}
-use Rattle.unix_core.specs.Unix.{System}
-use Rattle.unix_core.specs.Turn.{settled_after}
-use Rattle.unix_core.specs.Outside.{tick_of}
+use Rattle.abstract_unix.specs.Unix.{System}
+use Rattle.abstract_unix.specs.Turn.{settled_after}
+use Rattle.abstract_unix.specs.Outside.{tick_of}
 use Rattle.unix_core.proofs.MachineLemmas.{some_good}
 use Rattle.unix_core.proofs.TickLemmas.{second_due, tick_rested, tick_next, tick_items}
 use Rattle.unix_core.proofs.machine.Machine.tick.Goals as goal

@@ -1,8 +1,8 @@
 use Rattle.std.proofs.Common.{◌∙◌, ap}
-use Rattle.unix_core.specs.Unix.{System}
-use Rattle.unix_core.specs.Turn.{settled_after}
-use Rattle.unix_core.specs.Outside as outside
-use Rattle.unix_core.specs.Outside.{typed_of}
+use Rattle.abstract_unix.specs.Unix.{System}
+use Rattle.abstract_unix.specs.Turn.{settled_after}
+use Rattle.abstract_unix.specs.Outside as outside
+use Rattle.abstract_unix.specs.Outside.{typed_of}
 use Rattle.unix_core.proofs.MachineLemmas.{some_good}
 use Rattle.unix_core.proofs.EventLemmas.{typed_woken, typed_next, typed_items}
 use Rattle.unix_core.proofs.machine.Machine.typed.Goals as goal

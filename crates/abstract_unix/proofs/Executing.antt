@@ -43,11 +43,11 @@ use Rattle.sys_procs.specs.Tests.{must, user_of}
 use Rattle.sys_procs.specs.Stack.{arguments, first_stack, stack_clicks}
 use Rattle.sys_procs.specs.Break as break
 use Rattle.sys_procs.specs.ExecFile as exec
-use Rattle.unix_core.specs.Unix.{Unix}
-use Rattle.unix_core.specs.Calls.{world_of, with_world, grows, grown_by, grows_to}
-use Rattle.run_laws.proofs.Sitting.{seat_for, seats_in, seats_here, runner_seat, runner_text, put_in, no_entry}
-use Rattle.run_laws.proofs.Steps.{AptSteps, unbuilt_apt, apt_lifted, trapped}
-use Rattle.run_laws.proofs.Rows.{FineComes, Calling, fails_fine}
+use Rattle.abstract_unix.specs.Unix.{Unix}
+use Rattle.abstract_unix.specs.Calls.{world_of, with_world, grows, grown_by, grows_to}
+use Rattle.abstract_unix.proofs.Sitting.{seat_for, seats_in, seats_here, runner_seat, runner_text, put_in, no_entry}
+use Rattle.abstract_unix.proofs.Steps.{AptSteps, unbuilt_apt, apt_lifted, trapped}
+use Rattle.abstract_unix.proofs.Rows.{FineComes, Calling, fails_fine}
 
 -- sizes that aren't refused are those of an image, where core has a place for it
 first_false : (x y : Bool) → (x || y) ≡ false → x ≡ false

@@ -2,9 +2,9 @@
 use Rattle.std.specs.Prelude.{ℤ, List, []}
 use Rattle.v6_base.specs.declared.entry.Chan.{Chan}
 use Rattle.pick_rules.specs.Effects.{Effect}
-use Rattle.unix_core.specs.declared.ending.Ending.{Ending}
-use Rattle.unix_core.specs.declared.ending.Ending.TheVariants.{Next, Trapped, Slept, NotBuilt}
-use Rattle.unix_core.specs.Unix.{Unix}
+use Rattle.abstract_unix.specs.declared.ending.Ending.{Ending}
+use Rattle.abstract_unix.specs.declared.ending.Ending.TheVariants.{Next, Trapped, Slept, NotBuilt}
+use Rattle.abstract_unix.specs.Unix.{Unix}
 
 -- its effects in order, the Unix then, and how it ended
 pub record Steps : Type 0 where

@@ -8,15 +8,15 @@ use Rattle.v6_base.specs.declared.entry.PanicKind.TheVariants as panic
 use Rattle.pick_rules.specs.Effects.{kind_of}
 use Rattle.pick_rules.specs.Logged.{Stop, logged}
 use Rattle.sys_procs.specs.Process.{register}
-use Rattle.unix_core.specs.declared.ending.Ending.{Ending}
-use Rattle.unix_core.specs.declared.ending.Ending.TheVariants as came
-use Rattle.unix_core.specs.declared.turned.Unbuilt.{Unbuilt}
-use Rattle.unix_core.specs.declared.turned.Unbuilt.TheVariants as unbuilt
-use Rattle.unix_core.specs.declared.turned.Turned.TheVariants.{NotBuilt}
-use Rattle.unix_core.specs.Unix.{Unix, System, process_of}
-use Rattle.unix_core.specs.Steps.{Steps}
-use Rattle.unix_core.specs.Turn.{Happened, Turn, stays, settles, calls_for_settling, settled_after, ending_at, unmet, ending_by, end_effects, turn_of, slot_of, turn, turned_by, turned}
-use Rattle.unix_core.specs.Runs.{Event, Slot, Tick, Byte, Switch, Course, begun, event_of, start_of, goes_on_by, unless_ended, after_event, course, started, after_items}
+use Rattle.abstract_unix.specs.declared.ending.Ending.{Ending}
+use Rattle.abstract_unix.specs.declared.ending.Ending.TheVariants as came
+use Rattle.abstract_unix.specs.declared.turned.Unbuilt.{Unbuilt}
+use Rattle.abstract_unix.specs.declared.turned.Unbuilt.TheVariants as unbuilt
+use Rattle.abstract_unix.specs.declared.turned.Turned.TheVariants.{NotBuilt}
+use Rattle.abstract_unix.specs.Unix.{Unix, System, process_of}
+use Rattle.abstract_unix.specs.Steps.{Steps}
+use Rattle.abstract_unix.specs.Turn.{Happened, Turn, stays, settles, calls_for_settling, settled_after, ending_at, unmet, ending_by, end_effects, turn_of, slot_of, turn, turned_by, turned}
+use Rattle.abstract_unix.specs.Runs.{Event, Slot, Tick, Byte, Switch, Course, begun, event_of, start_of, goes_on_by, unless_ended, after_event, course, started, after_items}
 
 -- first these events and then those
 pub course-append : (c : Course) (xs ys : List Event) → course c (xs ++ ys) ≡ course (course c xs) ys

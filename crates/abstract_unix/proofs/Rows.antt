@@ -18,8 +18,8 @@ use Rattle.sys_procs.specs.World.{World, process_of, change}
 use Rattle.sys_procs.specs.Comes.{Comes, returns, fails, logs}
 use Rattle.sys_procs.specs.Ids.{set_uid, set_gid, kept_nice, nice_to, pid_of, get_uid, get_gid, switches, no_op}
 use Rattle.sys_procs.specs.Times.{time_now, set_time, stored, times_to, sleeping_until, tout_with, sleep_until, sleep_for}
-use Rattle.run_laws.proofs.Sitting.{seats_here, runner_alive, kept_in, changed_in}
-use Rattle.run_laws.proofs.Steps.{Answered}
+use Rattle.abstract_unix.proofs.Sitting.{seats_here, runner_alive, kept_in, changed_in}
+use Rattle.abstract_unix.proofs.Steps.{Answered}
 
 -- a call on processes whose effects are apt
 pub record FineComes (s : ℕ) (seen : Seen) (c : Comes) : Type 0 where

@@ -10,7 +10,7 @@ use Rattle.open_files.specs.declared.file.OpenFile.{OpenFile}
 use Rattle.open_files.specs.Files.{shared}
 use Rattle.u_area.specs.declared.area.UArea.{UArea}
 use Rattle.sys_files.specs.Handed.{Handed}
-use Rattle.sys_files.specs.Did.{Did}
+use Rattle.sys_files.specs.Did.{Did, is_done}
 use Rattle.sys_files.specs.Descriptors.{Closing, dup_file, close_file, close_all}
 use Rattle.sys_files.specs.Making.{creat_file, mknod_at, link_file, unlink_file}
 use Rattle.sys_files.specs.Modes.{stty_set, gtty_get}
@@ -21,6 +21,7 @@ use Rattle.sys_files.specs.Status.{stat_file, stat_open}
 use Rattle.sys_procs.specs.Process.{Process, with_state, register, image_of}
 use Rattle.sys_procs.specs.World.{World}
 use Rattle.sys_procs.specs.Comes.{Comes}
+use Rattle.sys_procs.specs.Comes as comes
 use Rattle.sys_procs.specs.Break.{break_at, grow}
 use Rattle.sys_procs.specs.ExecFile.{exec_file}
 use Rattle.sys_procs.specs.Ids.{pid_of, set_uid, get_uid, set_gid, get_gid, switches, no_op, nice_to}
@@ -29,12 +30,12 @@ use Rattle.sys_procs.specs.Fork.{fork_one}
 use Rattle.sys_procs.specs.Wait.{wait_child, pending_wait}
 use Rattle.sys_procs.specs.Exit.{exit_now}
 use Rattle.sys_procs.specs.Resume.{resume_proc}
-use Rattle.unix_core.specs.declared.asked.Asked.{Asked}
-use Rattle.unix_core.specs.declared.ending.Ending.TheVariants.{Ended, Trapped}
-use Rattle.unix_core.specs.Unix.{Text, Unix, process_of, with_process}
-use Rattle.unix_core.specs.References.{references_of}
-use Rattle.unix_core.specs.Errors.{error_number}
-use Rattle.unix_core.specs.Steps.{Steps, returns, sleeps, not_built}
+use Rattle.abstract_unix.specs.declared.asked.Asked.{Asked}
+use Rattle.abstract_unix.specs.declared.ending.Ending.TheVariants.{Ended, Trapped}
+use Rattle.abstract_unix.specs.Unix.{Text, Unix, process_of, with_process}
+use Rattle.abstract_unix.specs.References.{references_of}
+use Rattle.abstract_unix.specs.Errors.{error_number}
+use Rattle.abstract_unix.specs.Steps.{Steps, returns, sleeps, not_built}
 
 -- the inodes whose texts are shared
 abbrev pub inode_of : Option Text → List ℕ
@@ -306,3 +307,12 @@ resumed u slot =
     if pending == pending_read then did_by u slot (resume_read (handed_of u (process_of u slot))) else (
     if (pending == pending_sleep) || (pending == pending_wait) then came_by u slot (resume_proc (world_of u) slot)
     else not_built u)
+
+-- what a call by its row does; none does nothing
+abbrev pub row_of : Option FileCall → Handed → List ℕ → ℕ → Did
+row_of None h args now = is_done h
+row_of (Some c) h args now = c.does h args now
+
+abbrev pub process_row_of : Option ProcessCall → World → ℕ → List ℕ → Comes
+process_row_of None w slot args = comes.returns w slot
+process_row_of (Some c) w slot args = c.does w slot args

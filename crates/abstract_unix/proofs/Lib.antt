@@ -9,3 +9,5 @@ pub mod Turning
 pub mod Events
 pub mod Outside
 pub mod Lawfully
+pub mod RunsLemmas
+pub mod FileRows

@@ -24,13 +24,13 @@ use Rattle.log_laws.proofs.Seats.{Seat, Seats, seat_at, stands, rule_of, AgreesA
 use Rattle.log_laws.proofs.Settles.{Settled, IsSettled, settling}
 use Rattle.log_laws.proofs.Passes.{Moves, pass_ends}
 use Rattle.sys_procs.specs.Process.{register}
-use Rattle.unix_core.specs.Unix.{Unix, System, process_of}
-use Rattle.unix_core.specs.Steps.{Steps}
-use Rattle.unix_core.specs.Turn.{Turn, happens, settled_after, end_effects, ending_at, ending_by, settled_as, settled, turn_of, pass_effects, pass_of, slot_of}
-use Rattle.unix_core.proofs.RunsLemmas.{settled_ending}
-use Rattle.run_laws.proofs.Sitting.{is_core, seats_of}
-use Rattle.run_laws.proofs.Steps.{AptSteps}
-use Rattle.run_laws.proofs.Turning.{turn_apt}
+use Rattle.abstract_unix.specs.Unix.{Unix, System, process_of}
+use Rattle.abstract_unix.specs.Steps.{Steps}
+use Rattle.abstract_unix.specs.Turn.{Turn, happens, settled_after, end_effects, ending_at, ending_by, settled_as, settled, turn_of, pass_effects, pass_of, slot_of}
+use Rattle.abstract_unix.proofs.RunsLemmas.{settled_ending}
+use Rattle.abstract_unix.proofs.Sitting.{is_core, seats_of}
+use Rattle.abstract_unix.proofs.Steps.{AptSteps}
+use Rattle.abstract_unix.proofs.Turning.{turn_apt}
 
 -- the system at these lines
 abbrev pub system_at : Unix → Seen → System

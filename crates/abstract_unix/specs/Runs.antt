@@ -13,11 +13,11 @@ use Rattle.pick_rules.specs.Board.{first_board}
 use Rattle.proc_tab.specs.Processes.{no_row}
 use Rattle.image_keep.specs.Area.{sized_area}
 use Rattle.sys_procs.specs.Process.{Process, no_process}
-use Rattle.unix_core.specs.declared.turned.Unbuilt.{Unbuilt}
-use Rattle.unix_core.specs.Unix.{Unix, System, no_texts}
-use Rattle.unix_core.specs.Init.{init_data}
-use Rattle.unix_core.specs.Turn.{Happened, Turn, stays, settled_after, pass_of, slot_of}
-use Rattle.unix_core.specs.Outside.{tick_of, typed_of, switched_of}
+use Rattle.abstract_unix.specs.declared.turned.Unbuilt.{Unbuilt}
+use Rattle.abstract_unix.specs.Unix.{Unix, System, no_texts}
+use Rattle.abstract_unix.specs.Init.{init_data}
+use Rattle.abstract_unix.specs.Turn.{Happened, Turn, stays, settled_after, pass_of, slot_of}
+use Rattle.abstract_unix.specs.Outside.{tick_of, typed_of, switched_of}
 
 -- process 1, whose program executes `/etc/init`: it has no parent, one click of data, and the root as its directory
 abbrev pub first_process : Process

@@ -3,7 +3,7 @@ use v6_base::Chan;
 
 /// How a turn of a process ended.
 #[derive(Clone, Copy, Debug, PartialEq, Eq)]
-pub(crate) enum Ending {
+pub enum Ending {
     /// An instruction is done.
     Next,
     /// A call is done, and the process goes on.

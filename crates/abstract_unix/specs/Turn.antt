@@ -21,16 +21,16 @@ use Rattle.v6_base.specs.declared.entry.PanicKind.TheVariants as panic
 use Rattle.pick_rules.specs.Effects.{Effect, Show, kind_of}
 use Rattle.pick_rules.specs.Logged.{Logged, Stop, nothing_logged, logged, left_by}
 use Rattle.sys_procs.specs.Process.{Process, with_state, register, image_of}
-use Rattle.unix_core.specs.declared.ending.Ending.{Ending}
-use Rattle.unix_core.specs.declared.ending.Ending.TheVariants as ending
-use Rattle.unix_core.specs.declared.turned.Unbuilt.{Unbuilt}
-use Rattle.unix_core.specs.declared.turned.Unbuilt.TheVariants.{At, Room}
-use Rattle.unix_core.specs.declared.turned.Turned.{Turned}
-use Rattle.unix_core.specs.declared.turned.Turned.TheVariants.{Ran, Idle, NotBuilt}
-use Rattle.unix_core.specs.Unix.{Unix, System, process_of, with_process}
-use Rattle.unix_core.specs.Steps as to
-use Rattle.unix_core.specs.Steps.{Steps, not_built}
-use Rattle.unix_core.specs.Calls.{system_call, grows_to, resumed}
+use Rattle.abstract_unix.specs.declared.ending.Ending.{Ending}
+use Rattle.abstract_unix.specs.declared.ending.Ending.TheVariants as ending
+use Rattle.abstract_unix.specs.declared.turned.Unbuilt.{Unbuilt}
+use Rattle.abstract_unix.specs.declared.turned.Unbuilt.TheVariants.{At, Room}
+use Rattle.abstract_unix.specs.declared.turned.Turned.{Turned}
+use Rattle.abstract_unix.specs.declared.turned.Turned.TheVariants.{Ran, Idle, NotBuilt}
+use Rattle.abstract_unix.specs.Unix.{Unix, System, process_of, with_process}
+use Rattle.abstract_unix.specs.Steps as to
+use Rattle.abstract_unix.specs.Steps.{Steps, not_built}
+use Rattle.abstract_unix.specs.Calls.{system_call, grows_to, resumed}
 
 -- what an instruction of a process works on, and the process after it
 abbrev pub machine_of : Process → Machine

@@ -21,8 +21,8 @@ use Rattle.sys_procs.specs.Texts.{Text}
 use Rattle.sys_procs.specs.World.{Clock, World, process_at, process_of, without_process, change, members}
 use Rattle.sys_procs.specs.Fork.{copied, past_word, next_pid, fork_into, fork_one}
 use Rattle.sys_procs.specs.Wait.{buries, waiting, waits_for, wait_child}
-use Rattle.run_laws.proofs.Sitting.{seat_for, seat_of, seats_in, seats_here, seat_in, runner_seat, runner_alive, put_in, taken_out, changed_in, kept_in}
-use Rattle.run_laws.proofs.Rows.{FineComes, Calling, fails_fine}
+use Rattle.abstract_unix.proofs.Sitting.{seat_for, seat_of, seats_in, seats_here, seat_in, runner_seat, runner_alive, put_in, taken_out, changed_in, kept_in}
+use Rattle.abstract_unix.proofs.Rows.{FineComes, Calling, fails_fine}
 
 -- who is in a slot, by its process
 member_in : (processes : List (Option Process)) (r : ℕ)

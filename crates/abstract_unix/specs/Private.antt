@@ -1,7 +1,7 @@
 -- The memory of a process is its own: between two of its turns nobody changes a register or a byte of it.
 use Rattle.std.specs.Prelude.{◌≡◌, ◌≢◌, ℕ, false, Option, Some}
 use Rattle.sys_procs.specs.Process.{Process}
-use Rattle.unix_core.specs.Unix.{Unix, System, process_at}
+use Rattle.abstract_unix.specs.Unix.{Unix, System, process_at}
 
 -- The second of two processes has the registers of the first, its condition codes, and its bytes of data and stack.
 pub record SameMemory (p q : Process) : Type 0 where

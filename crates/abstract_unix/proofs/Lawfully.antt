@@ -18,14 +18,14 @@ use Rattle.pick_rules.proofs.Shapes.{shape_at, Sleeps}
 use Rattle.log_laws.proofs.Fitting.{fit_items, fit_item, seen_append, seen_items, Apt}
 use Rattle.log_laws.proofs.Seats.{Seat, seat_at, rule_of, AgreesAt, Agrees, Paused, Holds}
 use Rattle.log_laws.proofs.Settles.{end_fits}
-use Rattle.unix_core.specs.declared.turned.Unbuilt.{Unbuilt}
-use Rattle.unix_core.specs.Unix.{Unix, System, no_texts}
-use Rattle.unix_core.specs.Turn.{Turn, settled_after, pass_effects, pass_of}
-use Rattle.unix_core.specs.Runs.{first_unix, system_with, Event, Slot, Tick, Byte, Switch, event_of, Course, goes_on_by, unless_ended, after_event, course, started, boots}
-use Rattle.run_laws.specs.Law.{log_of, LogsAreLawful}
-use Rattle.run_laws.proofs.Sitting.{seats_of}
-use Rattle.run_laws.proofs.Events.{system_at, Stands, Fine, FineTurn, shown_stop, event_by, slot_fine}
-use Rattle.run_laws.proofs.Outside.{tick_fine, typed_fine, switched_fine}
+use Rattle.abstract_unix.specs.declared.turned.Unbuilt.{Unbuilt}
+use Rattle.abstract_unix.specs.Unix.{Unix, System, no_texts}
+use Rattle.abstract_unix.specs.Turn.{Turn, settled_after, pass_effects, pass_of}
+use Rattle.abstract_unix.specs.Runs.{first_unix, system_with, Event, Slot, Tick, Byte, Switch, event_of, Course, goes_on_by, unless_ended, after_event, course, started, boots}
+use Rattle.abstract_unix.specs.Law.{log_of, LogsAreLawful}
+use Rattle.abstract_unix.proofs.Sitting.{seats_of}
+use Rattle.abstract_unix.proofs.Events.{system_at, Stands, Fine, FineTurn, shown_stop, event_by, slot_fine}
+use Rattle.abstract_unix.proofs.Outside.{tick_fine, typed_fine, switched_fine}
 
 get_replicate : {X : Type 0} (x : X) (n k : ℕ) → get_or (replicate n x) k x ≡ x
 get_replicate x zero k = refl

@@ -17,12 +17,12 @@ use Rattle.log_laws.proofs.Lines.{wake_paused}
 use Rattle.log_laws.proofs.Clocks.{tick_line, ticked_at, a_tick_later, tick_paused, tick_fits, mode_is}
 use Rattle.sys_procs.specs.Process.{Process}
 use Rattle.sys_procs.specs.World.{Clock}
-use Rattle.unix_core.specs.Unix.{Unix, process_of, with_process}
-use Rattle.unix_core.specs.Turn.{stays, settled_after, is_user}
-use Rattle.unix_core.specs.Outside.{mode_by, tick_entry, timed, charged, clock_after, is_due, ticked, wakes, tick_of, calls, typed_of, switched_of}
-use Rattle.run_laws.proofs.Sitting.{seat_for, seats_of, runner_seat}
-use Rattle.run_laws.proofs.Turning.{same_seats}
-use Rattle.run_laws.proofs.Events.{system_at, FineTurn, AreShown, shown_stop, event_by}
+use Rattle.abstract_unix.specs.Unix.{Unix, process_of, with_process}
+use Rattle.abstract_unix.specs.Turn.{stays, settled_after, is_user}
+use Rattle.abstract_unix.specs.Outside.{mode_by, tick_entry, timed, charged, clock_after, is_due, ticked, wakes, tick_of, calls, typed_of, switched_of}
+use Rattle.abstract_unix.proofs.Sitting.{seat_for, seats_of, runner_seat}
+use Rattle.abstract_unix.proofs.Turning.{same_seats}
+use Rattle.abstract_unix.proofs.Events.{system_at, FineTurn, AreShown, shown_stop, event_by}
 
 -- a wake between two events
 wakes_apt : (u : Unix) (seen : Seen) (due : Bool) (chan : Chan) → Paused (seats_of u) seen

@@ -23,13 +23,13 @@ use Rattle.sys_procs.specs.Process.{Process, register}
 use Rattle.sys_procs.specs.World.{World, process_of}
 use Rattle.sys_procs.specs.Comes.{Comes}
 use Rattle.sys_procs.specs.Exit.{leaves, parent_slot, adopted, dead, dies, end_proc, exit_now}
-use Rattle.unix_core.specs.Unix as unix
-use Rattle.unix_core.specs.Unix.{Unix}
-use Rattle.unix_core.specs.Calls.{handed_of, with_handed, world_of, with_world, did_by, closes_all, exits}
-use Rattle.run_laws.proofs.Sitting.{seat_for, seat_of, seats_here, seats_of, runner_seat, runner_alive, runner_text, put_in, changed_in, kept_in}
-use Rattle.run_laws.proofs.Steps.{AptSteps, Answered, apt_lifted, answers_apt}
-use Rattle.run_laws.proofs.Quiet.{AreQuiet, SameSize, SameCall, EndsIn, Calm, CalmClosing, close_all_calm}
-use Rattle.run_laws.proofs.Rows.{Calling}
+use Rattle.abstract_unix.specs.Unix as unix
+use Rattle.abstract_unix.specs.Unix.{Unix}
+use Rattle.abstract_unix.specs.Calls.{handed_of, with_handed, world_of, with_world, did_by, closes_all, exits}
+use Rattle.abstract_unix.proofs.Sitting.{seat_for, seat_of, seats_here, seats_of, runner_seat, runner_alive, runner_text, put_in, changed_in, kept_in}
+use Rattle.abstract_unix.proofs.Steps.{AptSteps, Answered, apt_lifted, answers_apt}
+use Rattle.abstract_unix.proofs.Quiet.{AreQuiet, SameSize, SameCall, EndsIn, Calm, CalmClosing, close_all_calm}
+use Rattle.abstract_unix.proofs.Rows.{Calling}
 
 -- bytes and wakes leave a call as it is
 module _ (W : Type 0) (s : ℕ) (calling : Bool) (v : Seats) where

@@ -15,12 +15,12 @@ use Rattle.log_laws.proofs.Fitting.{Apt, AptCame, apt_append}
 use Rattle.log_laws.proofs.Seats.{Seats, InCall, Paused}
 use Rattle.log_laws.proofs.Lines.{trap_apt, sleep_apt}
 use Rattle.sys_procs.specs.Comes.{Comes}
-use Rattle.unix_core.specs.Unix.{Unix}
-use Rattle.unix_core.specs.Errors.{error_number}
-use Rattle.unix_core.specs.Steps.{Steps, returns, not_built}
-use Rattle.unix_core.specs.Calls.{given_area, refused_area, with_area, answers, came_by, with_world}
-use Rattle.unix_core.specs.Turn.{end_effects, ending_at}
-use Rattle.run_laws.proofs.Sitting.{seats_here, seats_of, kept_in}
+use Rattle.abstract_unix.specs.Unix.{Unix}
+use Rattle.abstract_unix.specs.Errors.{error_number}
+use Rattle.abstract_unix.specs.Steps.{Steps, returns, not_built}
+use Rattle.abstract_unix.specs.Calls.{given_area, refused_area, with_area, answers, came_by, with_world}
+use Rattle.abstract_unix.specs.Turn.{end_effects, ending_at}
+use Rattle.abstract_unix.proofs.Sitting.{seats_here, seats_of, kept_in}
 
 -- a turn whose effects are apt, with the lines with which it ends
 pub record AptSteps (s : ℕ) (seen : Seen) (steps : Steps) : Type 0 where

@@ -14,8 +14,8 @@ use Rattle.log_laws.proofs.Deaths.{change_in}
 use Rattle.sys_procs.specs.Process.{Process, no_process}
 use Rattle.sys_procs.specs.Texts.{Text, is_of, entry_of}
 use Rattle.sys_procs.specs.World.{Clock, World}
-use Rattle.unix_core.specs.Unix.{Unix}
-use Rattle.unix_core.specs.Turn.{is_user}
+use Rattle.abstract_unix.specs.Unix.{Unix}
+use Rattle.abstract_unix.specs.Turn.{is_user}
 
 -- images don't go to the swap area yet
 abbrev pub is_core : Place → Bool

@@ -16,8 +16,8 @@ use Rattle.pick_rules.specs.Logged.{nothing_logged, logged}
 use Rattle.u_area.specs.declared.area.UArea.{UArea}
 use Rattle.sys_procs.specs.Process.{Process}
 use Rattle.sys_procs.specs.World.{Clock}
-use Rattle.unix_core.specs.Unix.{Unix, System, process_of, with_process}
-use Rattle.unix_core.specs.Turn.{Happened, happens, is_user}
+use Rattle.abstract_unix.specs.Unix.{Unix, System, process_of, with_process}
+use Rattle.abstract_unix.specs.Turn.{Happened, happens, is_user}
 
 -- where a tick comes
 abbrev pub mode_by : Unix → Option ℕ → Mode

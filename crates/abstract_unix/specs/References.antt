@@ -4,7 +4,7 @@ use Rattle.std.specs.Prelude.{ℕ, Bool, false, ◌+◌, ◌==◌, ◌&&◌, not
 use Rattle.std.specs.List.{range_with_len}
 use Rattle.sys_files.specs.Sound.{is_of}
 use Rattle.sys_procs.specs.Process.{Process}
-use Rattle.unix_core.specs.Unix.{Text, Unix}
+use Rattle.abstract_unix.specs.Unix.{Text, Unix}
 
 -- a process whose current directory is this inode; one that has ended has left it
 abbrev pub is_in : ℕ → Option Process → Bool

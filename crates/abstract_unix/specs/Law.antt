@@ -4,7 +4,7 @@ use Rattle.v6_base.specs.Trace.{Log, entries_of}
 use Rattle.v6_base.specs.declared.entry.Entry.{Entry}
 use Rattle.v6_base.specs.declared.entry.Entry.TheVariants.{End}
 use Rattle.pick_rules.specs.Lawful.{Lawful}
-use Rattle.unix_core.specs.Runs.{Event, Course, runs}
+use Rattle.abstract_unix.specs.Runs.{Event, Course, runs}
 
 -- the log of a run at the end of its script
 abbrev pub log_of : Course → List Entry

@@ -18,18 +18,18 @@ use Rattle.sys_procs.specs.World as world
 use Rattle.sys_procs.specs.Fork.{fork_one}
 use Rattle.sys_procs.specs.Resume.{awake, resume_proc}
 use Rattle.sys_procs.specs.Times.{until_of}
-use Rattle.unix_core.specs.Unix.{Unix, process_of, with_process}
-use Rattle.unix_core.specs.Steps.{Steps}
-use Rattle.unix_core.specs.Calls.{handed_of, world_of, with_area, entered_area, words_passed, asked, forks, FileCall, file_call, ProcessCall, process_calls, process_call, by_process_row, by_file_row, does_call, count_of, does_if_built, system_call, resumed}
-use Rattle.unix_core.specs.Turn.{machine_of, with_machine, faults, comes_to, instruction, is_user, turn}
-use Rattle.run_laws.proofs.Sitting.{seat_for, seats_in, seats_of, found_in, runner_seat, runner_alive, put_in, kept_in, changed_in}
-use Rattle.run_laws.proofs.Steps.{AptSteps, unbuilt_apt, returns_apt, came_apt}
-use Rattle.run_laws.proofs.Quiet.{Calm, same_call, calm_walks, resume_calm}
-use Rattle.unix_core.proofs.FileLemmas.{found_row}
-use Rattle.run_laws.proofs.Rows.{FineComes, Calling, if_fine, time_fine, pid_fine, set_uid_fine, get_uid_fine, set_time_fine, no_op_fine, nice_fine, sleep_fine, switches_fine, times_fine, set_gid_fine, get_gid_fine, until_fine}
-use Rattle.run_laws.proofs.Children.{wait_fine, fork_fine}
-use Rattle.run_laws.proofs.Ending.{did_apt, no_pending, exits_apt}
-use Rattle.run_laws.proofs.Executing.{break_fine, grow_apt, exec_fine}
+use Rattle.abstract_unix.specs.Unix.{Unix, process_of, with_process}
+use Rattle.abstract_unix.specs.Steps.{Steps}
+use Rattle.abstract_unix.specs.Calls.{handed_of, world_of, with_area, entered_area, words_passed, asked, forks, FileCall, file_call, ProcessCall, process_calls, process_call, by_process_row, by_file_row, does_call, count_of, does_if_built, system_call, resumed}
+use Rattle.abstract_unix.specs.Turn.{machine_of, with_machine, faults, comes_to, instruction, is_user, turn}
+use Rattle.abstract_unix.proofs.Sitting.{seat_for, seats_in, seats_of, found_in, runner_seat, runner_alive, put_in, kept_in, changed_in}
+use Rattle.abstract_unix.proofs.Steps.{AptSteps, unbuilt_apt, returns_apt, came_apt}
+use Rattle.abstract_unix.proofs.Quiet.{Calm, same_call, calm_walks, resume_calm}
+use Rattle.abstract_unix.proofs.FileRows.{found_row}
+use Rattle.abstract_unix.proofs.Rows.{FineComes, Calling, if_fine, time_fine, pid_fine, set_uid_fine, get_uid_fine, set_time_fine, no_op_fine, nice_fine, sleep_fine, switches_fine, times_fine, set_gid_fine, get_gid_fine, until_fine}
+use Rattle.abstract_unix.proofs.Children.{wait_fine, fork_fine}
+use Rattle.abstract_unix.proofs.Ending.{did_apt, no_pending, exits_apt}
+use Rattle.abstract_unix.proofs.Executing.{break_fine, grow_apt, exec_fine}
 
 -- a fact of each of some rows holds of the one that is found
 abbrev Each : {X : Type 0} → (X → Type 0) → List X → Type 0

@@ -1,0 +1,11 @@
+pub mod Calls
+pub mod Errors
+pub mod Init
+pub mod Law
+pub mod Outside
+pub mod Private
+pub mod References
+pub mod Runs
+pub mod Steps
+pub mod Turn
+pub mod Unix
