@@ -19,7 +19,6 @@ use Rattle.sys_procs.specs.Agree.{board_of}
 use Rattle.sys_procs.proofs.Tables.{board_woken}
 use Rattle.abstract_unix.specs.Unix.{Unix}
 use Rattle.abstract_unix.specs.Calls.{FileCall, file_calls, file_call, row_of}
-use Rattle.unix_core.specs.Passing.{woken_by, all_woken}
 
 -- A fact that the words of the rows keep holds of what each row of a list comes to.
 module _ {P : Handed → Type 0} {Q : Did → Type 0} {Few : ℕ → Type 0} (k : Walks P Q Few) where

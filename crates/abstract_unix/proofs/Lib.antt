@@ -3,7 +3,7 @@ pub mod Steps
 pub mod Quiet
 pub mod Rows
 pub mod Children
-pub mod Ending
+pub mod Exiting
 pub mod Executing
 pub mod Turning
 pub mod Events

@@ -28,7 +28,7 @@ use Rattle.abstract_unix.proofs.Quiet.{Calm, same_call, calm_walks, resume_calm}
 use Rattle.abstract_unix.proofs.FileRows.{found_row}
 use Rattle.abstract_unix.proofs.Rows.{FineComes, Calling, if_fine, time_fine, pid_fine, set_uid_fine, get_uid_fine, set_time_fine, no_op_fine, nice_fine, sleep_fine, switches_fine, times_fine, set_gid_fine, get_gid_fine, until_fine}
 use Rattle.abstract_unix.proofs.Children.{wait_fine, fork_fine}
-use Rattle.abstract_unix.proofs.Ending.{did_apt, no_pending, exits_apt}
+use Rattle.abstract_unix.proofs.Exiting.{did_apt, no_pending, exits_apt}
 use Rattle.abstract_unix.proofs.Executing.{break_fine, grow_apt, exec_fine}
 
 -- a fact of each of some rows holds of the one that is found

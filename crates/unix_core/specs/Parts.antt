@@ -38,7 +38,7 @@ use Rattle.abstract_unix.specs.declared.turned.Unbuilt.{Unbuilt}
 use Rattle.abstract_unix.specs.declared.turned.Unbuilt.TheVariants.{At, Room}
 use Rattle.unix_core.specs.declared.machine.Stage.{Stage}
 use Rattle.unix_core.specs.declared.machine.Stage.TheVariants as stage
-use Rattle.abstract_unix.specs.Unix.{Unix, System, Phase, New, Started, Stopped, Finished, no_texts, process_of, with_process}
+use Rattle.abstract_unix.specs.Unix.{Unix, System, Phase, New, Started, Stopped, Finished, no_texts, process_of, with_process, phase_after}
 use Rattle.abstract_unix.specs.References.{referrers}
 use Rattle.abstract_unix.specs.Init.{init_data}
 use Rattle.abstract_unix.specs.Calls.{FileCall, ProcessCall}
