@@ -3,7 +3,7 @@
 PREFIX = /usr/local
 DESTDIR =
 LIB = $(PREFIX)/lib/v6
-TOOLS = as console disk run try
+TOOLS = as cc console disk run try
 root = $(DESTDIR)$(PREFIX)
 
 .PHONY: all check install uninstall
@@ -18,6 +18,11 @@ install:
 	install -d $(root)/bin $(root)/lib/v6/bin $(root)/lib/v6/tools $(root)/share/man $(root)/share/bash-completion/completions
 	install -m 755 bin/v6 $(root)/lib/v6/bin/v6
 	install -m 644 tools/*.py $(root)/lib/v6/tools
+	install -d $(root)/lib/v6/tools/c/include $(root)/lib/v6/tools/c/lib
+	install -m 755 tools/c/build.sh $(root)/lib/v6/tools/c
+	install -m 644 tools/c/pcc.patch $(root)/lib/v6/tools/c
+	install -m 644 tools/c/include/* $(root)/lib/v6/tools/c/include
+	install -m 644 tools/c/lib/* $(root)/lib/v6/tools/c/lib
 	ln -sf ../lib/v6/bin/v6 $(root)/bin/v6
 	for tool in $(TOOLS); do \
 		printf '#!/bin/sh\nexec python3 "%s" "$$@"\n' "$(LIB)/tools/$$tool.py" >$(root)/bin/v6-$$tool && \

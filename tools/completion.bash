@@ -10,6 +10,7 @@ _v6() {
     v6-console | console.py)
         case $word in -*) words='--clock --core --disk --help --replay --script --slots --v6' ;; esac ;;
     v6-as | as.py) case $word in -*) words='--disassemble --help -l -n -o -s' ;; esac ;;
+    v6-cc | cc.py) case $word in -*) words='--compiler --help -D -I -S -o -s' ;; esac ;;
     v6-run | run.py) case $word in -*) words='--core --disk --help --log --term --v6' ;; esac ;;
     v6-try | try.py) case $word in -*) words='--core --disk --file --final --help --slots --v6 --with -t' ;; esac ;;
     esac
@@ -20,4 +21,4 @@ _v6() {
     fi
 }
 
-complete -o filenames -F _v6 v6 v6-as v6-console v6-disk v6-run v6-try as.py console.py disk.py run.py try.py
+complete -o filenames -F _v6 v6 v6-as v6-cc v6-console v6-disk v6-run v6-try as.py cc.py console.py disk.py run.py try.py

@@ -19,11 +19,11 @@ def classes(suite):
 
 
 def run(name):
-    """How many tests a class has, how many failed, and what is to be said of these."""
+    """How many tests a class has, how many failed, what is to be said of these, and why others were skipped."""
     out = io.StringIO()
     done = unittest.TextTestRunner(out).run(unittest.defaultTestLoader.loadTestsFromName(name))
     failed = len(done.failures) + len(done.errors) + len(done.unexpectedSuccesses)
-    return done.testsRun, failed, "" if done.wasSuccessful() else out.getvalue()
+    return done.testsRun, failed, "" if done.wasSuccessful() else out.getvalue(), [why for _, why in done.skipped]
 
 
 if __name__ == "__main__":
@@ -31,7 +31,11 @@ if __name__ == "__main__":
     names = sorted(set(classes(unittest.defaultTestLoader.discover(HERE))))
     with ProcessPoolExecutor() as pool:
         results = list(pool.map(run, names))
-    print("".join(text for _, _, text in results), end="", file=sys.stderr)
+    print("".join(text for _, _, text, _ in results), end="", file=sys.stderr)
     count, failed = (sum(numbers) for numbers in list(zip(*results))[:2])
+    skipped = [why for *_, reasons in results for why in reasons]
+    for why in sorted(set(skipped)):
+        print(f"skipped {skipped.count(why)}: {why}", file=sys.stderr)
+    count -= len(skipped)
     print(f"Ran {count} tests in {time.monotonic() - began:.1f}s: {count - failed} passed, {failed} failed", file=sys.stderr)
     sys.exit(int(failed > 0 or count == 0))

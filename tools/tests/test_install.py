@@ -16,10 +16,10 @@ ENVIRONMENT = {**{key: value for key, value in os.environ.items() if key != "V6"
 class Words(Case):
     def test_help_and_version(self):
         program = hashlib.sha256(read(os.path.join(TOP, "bin", "v6"))).hexdigest()[:12]
-        for name in ("as", "console", "disk", "row", "run", "try"):
+        for name in ("as", "cc", "console", "disk", "row", "run", "try"):
             self.assertEqual(self.call(tool(name).main, "--version"),
                              (0, f"{name}.py of the repository whose bin/v6 is {program}\n", ""))
-        for name in ("as", "console", "disk", "manpages", "row", "run", "try"):
+        for name in ("as", "cc", "console", "disk", "manpages", "row", "run", "try"):
             status, said, _ = self.call(tool(name).main, "--help")
             self.assertEqual((status, said.split()[:2]), (0, ["usage:", name + ".py"]))
         self.assertFalse(os.path.exists("--help"))
@@ -50,6 +50,9 @@ class Install(Case):
     def test_a_tool_from_there(self):
         prefix = self.path("here")
         done = subprocess.run(["make", "-s", "-C", TOP, "install", f"PREFIX={prefix}"], env=ENVIRONMENT, capture_output=True)
+        self.assertEqual((done.returncode, done.stderr), (0, b""))
+        plain = self.put("it.s", b"\t.globl\t_main\n_main:\n\tclr\tr0\n\trts\tpc\n")
+        done = subprocess.run([prefix + "/bin/v6-cc", "-o", self.path("it"), plain], env=ENVIRONMENT, capture_output=True)
         self.assertEqual((done.returncode, done.stderr), (0, b""))
         image = os.path.join(TOP, "examples", "shell", "image")
         done = subprocess.run([prefix + "/bin/v6-disk", "cat", image, "/usr/sys/ken/slp.c"], env=ENVIRONMENT,

@@ -251,6 +251,10 @@ class Shell(Case):
         self.assertEqual((done.returncode, done.stdout.decode(), done.stderr), (0, told, b""))
         self.assertEqual(self.call(disk_main, "--v6", V6, "cat", self.path("final"), "/f"), (0, "zEro\nthrEe\nlast\n", ""))
 
+    def test_ps(self):
+        """Of the processes the command sees itself: under try.py it is number 2, of user 0."""
+        self.assertEqual(self.try_it("ps", "--slots", "5000", "-a", "x"), "  pid  uid command\n    2    0 ps -a x\n")
+
     def test_dates(self):
         """Of times that others tell: the last second of February and the first of a leap day, the end of a year, and 1975."""
         empty, image = self.path("empty"), self.path("image")

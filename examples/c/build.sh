@@ -1,0 +1,9 @@
+#!/bin/sh
+# Compiles the programs of this folder into `bin`, or into the folder that is named. tools/c/build.sh makes the compiler.
+set -eu
+cd "$(dirname "$0")/../.."
+here=examples/c
+out=${1:-$here/bin}
+for name in forth grep sort wc; do
+    tools/cc.py -o "$out/$name" $here/src/$name.c
+done

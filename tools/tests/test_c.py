@@ -1,0 +1,248 @@
+"""cc.py, its library, and the programs of examples/c. What the programs must print is by hand, or as Python reckons it."""
+import os
+import random
+import subprocess
+import sys
+import unittest
+
+import expressions
+from common import TOOLS, TOP, V6, Case, read, tool
+
+cc, disk_main = tool("cc"), tool("disk").main
+EXAMPLE = os.path.join(TOP, "examples", "c")
+HERE = os.path.isfile(os.path.join(cc.HOME, "ccom"))
+wants_compiler = unittest.skipUnless(HERE, f"no compiler of C in {cc.HOME}: tools/c/build.sh makes it")
+MAIN = "\t.globl\t_main\n_main:\n"
+WORD = 0xFFFF
+
+
+class Program(Case):
+    def run_it(self, *words, typed=b""):
+        """The status of a program under try.py, what it prints, and what try.py says."""
+        done = subprocess.run([sys.executable, os.path.join(TOOLS, "try.py"), "--v6", V6, *words], input=typed,
+                              capture_output=True)
+        return done.returncode, done.stdout.decode("latin-1"), done.stderr.decode()
+
+    def made(self, source, name="it.c", *options):
+        """The program of a source."""
+        self.assertEqual(self.call(cc.main, *options, "-o", self.path("it"), self.put(name, source.encode())), (0, "", ""))
+        return self.path("it")
+
+
+class WithoutCompiler(Program):
+    """The start of a program and the routines in assembly need no compiler."""
+
+    def assembled(self, source):
+        return self.made(source, "it.s", "--compiler", self.folder)
+
+    def test_refused(self):
+        source = self.put("it.c", b"int main(void) { return 0; }\n")
+        for words, wanted in (
+                ((source,), f"{self.folder}/cpp: no compiler there; tools/c/build.sh makes it, and --compiler names its folder"),
+                (("-o", source, source), f"{source}: the source itself, and the program would take its place"),
+                ((self.path("it.o"),), f"{self.path('it.o')}: neither a source in C, NAME.c, nor one in assembly, NAME.s"),
+                ((self.path("no.c"),), f"{self.path('no.c')}: No such file or directory"),
+                ((self.path("no.s"),), f"{self.path('no.s')}: No such file or directory")):
+            self.assertEqual(self.call(cc.main, "--compiler", self.folder, "-o", self.path("it"), *words),
+                             (1, "", f"cc.py: {wanted}\n"))
+        self.assertEqual(os.listdir(self.folder), ["it.c"])
+        plain = self.put("it.s", MAIN.encode() + b"\trts\tpc\n")
+        for out, why in (("/dev/null", "not a file, and only a file is replaced"), (self.folder, "Is a directory")):
+            self.assertEqual(self.call(cc.main, "--compiler", self.folder, "-o", out, plain), (1, "", f"cc.py: {out}: {why}\n"))
+        wrong = self.put("it.s", MAIN.encode() + b"\tjsr\tpc,_none\n\tmov\tr9,r0\n")
+        self.assertEqual(self.call(cc.main, "--compiler", TOP, "-o", self.path("it"), wrong)[0], 1)
+
+    def test_arguments_and_status(self):
+        """main has their number and their addresses, and what it gives is the status."""
+        program = self.assembled(MAIN + "\tmov\t4(sp),r1\n\tmov\t2(r1),r1\n\tmovb\t(r1),r0\n\tadd\t2(sp),r0\n\trts\tpc\n")
+        self.assertEqual(self.run_it(program, "A", "b", "c"), (ord("A") + 4, "", ""))
+
+    def test_errors_of_calls(self):
+        """A call that is refused gives -1, and errno."""
+        program = self.assembled(MAIN + "\tmov\t$9.,-(sp)\n\tjsr\tpc,_close\n\ttst\t(sp)+\n\tadd\t_errno,r0\n\trts\tpc\n")
+        self.assertEqual(self.run_it(program), (8, "", ""))
+
+    def test_longs(self):
+        """The product, the quotients and the remainders of longs, and those of words without a sign, are the rules' of C."""
+        edges, rows = [0, 1, 2, 3, 10, 0x7FFF, 0x8000, 0xFFFF, 0x10000, 0x7FFFFFFF, 0x80000000, 0xFFFFFFFF], []
+        made = random.Random(self.id())
+        pairs = [(a, b) for a in edges for b in edges if b] + [(made.getrandbits(32), made.getrandbits(made.randrange(1, 33)) or 1)
+                                                              for _ in range(150)]
+        source = [MAIN, "\tmov\t$table,r2\n1:\n\tcmp\tr2,$last\n\tbhis\t2f\n\tmov\t14(r2),-(sp)\n\tmov\t12(r2),-(sp)\n"
+                  "\tmov\t10(r2),-(sp)\n\tmov\t6(r2),-(sp)\n\tmov\t14(r2),r1\n\tmov\t10(r2),r0\n\tjsr\tpc,*(r2)\n"
+                  "\tadd\t$10,sp\n\tcmp\tr0,2(r2)\n\tbne\t3f\n\ttst\t16(r2)\n\tbne\t4f\n\tcmp\tr1,4(r2)\n\tbne\t3f\n4:\n"
+                  "\tadd\t$20,r2\n\tbr\t1b\n2:\tclr\tr0\n\trts\tpc\n3:\tmov\t$1,r0\n\trts\tpc\n\t.data\ntable:\n"]
+        for left, right in pairs:
+            signed = [expressions.fitted(value, "long") for value in (left, right)]
+            quotient = expressions.quotient(*signed)
+            results = {"lmul": left * right, "uldiv": left // right, "ulrem": left % right, "ldiv": quotient,
+                       "lrem": signed[0] - quotient * signed[1]}
+            rows += [f"{name}; {value >> 16 & WORD:o}; {value & WORD:o}; {left >> 16:o}; {left & WORD:o}; {right >> 16:o}; "
+                     f"{right & WORD:o}; 0" for name, value in results.items()]
+            if right & WORD:
+                low, by = left & WORD, right & WORD
+                rows += [f"{name}; {value:o}; 0; 0; {low:o}; 0; {by:o}; 1" for name, value in
+                         (("udiv", low // by), ("urem", low % by))]
+        program = self.assembled("".join(source) + "".join(f"\t{row}\n" for row in rows) + "last:\n")
+        self.assertEqual(self.run_it(program), (0, "", ""))
+
+
+class Examples(Program):
+    TEXT = "the quick brown fox\njumps over\nthe lazy dog\n12 drummers\n9 ladies\nthe end\n"
+
+    def example(self, name, *words, typed=b""):
+        return self.run_it("--file", os.path.join(EXAMPLE, "text"), os.path.join(EXAMPLE, "bin", name), *words, typed=typed)
+
+    def test_wc(self):
+        self.assertEqual(read(os.path.join(EXAMPLE, "text")).decode(), self.TEXT)
+        self.assertEqual(self.example("wc", "text"), (0, "      6      15      73 text\n", ""))
+        self.assertEqual(self.example("wc", "text", "none", "text"),
+                         (1, "wc: can't open none\n      6      15      73 text\n      6      15      73 text\n"
+                             "     12      30     146 total\n", ""))
+        self.assertEqual(self.example("wc", typed=b"a b\n" * 500), (0, "    500    1000    2000\n", ""))
+
+    def test_grep(self):
+        lines = self.TEXT.splitlines(True)
+        for pattern, wanted in (("the", [0, 2, 5]), ("^[0-9][0-9]* ", [3, 4]), ("d$", [5]), ("o.*o", [0]), ("^.[^a-h]", [1, 3, 4]),
+                                ("x*y", [2]), ("\\.", [])):
+            self.assertEqual(self.example("grep", pattern, "text"), (int(not wanted), "".join(lines[at] for at in wanted), ""))
+        self.assertEqual(self.example("grep", "-v", "-n", "e", "text"), (1, "", ""))
+        self.assertEqual(self.example("grep", "-c", "the", "text", "text"), (0, "text:3\ntext:3\n", ""))
+        self.assertEqual(self.example("grep"), (2, "grep: usage: grep [-v] [-n] [-c] pattern [file ..]\n", ""))
+
+    def test_sort(self):
+        lines = self.TEXT.splitlines(True)
+        self.assertEqual(self.example("sort", "text"), (0, "".join(sorted(lines)), ""))
+        self.assertEqual(self.example("sort", "-r", "text"), (0, "".join(sorted(lines, reverse=True)), ""))
+        self.assertEqual(self.example("sort", "-n", "-u", typed=b"10 x\n9 y\n-3 z\n9 y\n"), (0, "-3 z\n9 y\n10 x\n", ""))
+        self.assertEqual(self.example("sort", "-x"), (1, "sort: no such option: -x\n", ""))
+
+    def test_forth(self):
+        typed = (b"1 2 + . 7 -2 / .\n: twice dup + ; 21 twice .\n: to5 6 1 do i . loop ; to5\nnone\n1 0 /\n"
+                 b": down begin dup . 1 - dup 0= until drop ; 3 down\nvariable x 5 x ! 3 x +! x @ .\n")
+        self.assertEqual(self.example("forth", typed=typed)[:2],
+                         (0, "3 -3  ok\n42  ok\n1 2 3 4 5  ok\nnone?\ndivision by zero?\n3 2 1  ok\n8  ok\n"))
+
+    def test_run(self):
+        """run.sh prints what the page of the example shows."""
+        done = subprocess.run([os.path.join(EXAMPLE, "run.sh")], capture_output=True, text=True)
+        page = read(os.path.join(EXAMPLE, "README.md")).decode()
+        self.assertEqual((done.returncode, done.stderr), (0, ""))
+        self.assertIn(f"```\n{done.stdout}```\n", page)
+
+    @wants_compiler
+    def test_built(self):
+        """The programs that are kept are what the compiler makes of their sources."""
+        for name in ("forth", "grep", "sort", "wc"):
+            self.assertEqual(self.call(cc.main, "-o", self.path(name), os.path.join(EXAMPLE, "src", name + ".c")), (0, "", ""))
+            self.assertEqual(read(self.path(name)), read(os.path.join(EXAMPLE, "bin", name)), name)
+
+
+@wants_compiler
+class Compiled(Program):
+    def prints(self, source, wanted, *words, typed=b""):
+        self.assertEqual(self.run_it(self.made(source), *words, typed=typed), (0, wanted, ""))
+
+    def body(self, statements, wanted, *words, typed=b""):
+        """What statements in main print, with all headers."""
+        heads = "".join(f"#include <{name}.h>\n" for name in ("ctype", "errno", "limits", "stdio", "stdlib", "string", "unix"))
+        self.prints(f"{heads}int main(int argc, char **argv)\n{{\n{statements}\nreturn 0;\n}}\n", wanted, *words, typed=typed)
+
+    def test_expressions(self):
+        """Expressions at random come to what the rules of C say."""
+        for seed in range(3):
+            self.prints(*expressions.program(random.Random(seed), 40, 3))
+
+    def test_statements(self):
+        self.prints(read(os.path.join(TOP, "tools", "tests", "statements.c")).decode(),
+                    "37 two wxyz 4\n2 3 3\nBA\n1 22 200 2\n7 -1 6\n3628800 479001600\n11\n25 1 2 3 -1\n63\nhell0, w0rld\n3\n1 1 1\n"
+                    "11\n1 2 0\n14 4\n5 5\nyes\n2\n9\nffff 177777 65535\n7\ndeadbee adbeef00 390178\n-142857 -1 -125000\n")
+
+    def test_printf(self):
+        """The diagnostic output has no buffer, so it comes first."""
+        self.body('char text[20];\n'
+                  'printf("%d %u %o %x %c %s %%|%5d|%-5d|%05d|%5s|%-4s|%.2s|\\n", -5, 65535u, 8, 255, 65, "s", 42, 42, -42, "ab", '
+                  '"cd", "xyz");\n'
+                  'printf("%ld %lu %lo %lx %d\\n", -2147483647L - 1, 4294967295UL, 8L, 0xabcdef01L, printf("four"));\n'
+                  'sprintf(text, "%d-%s", 7, "x"); puts(text); fprintf(stderr, "e\\n");',
+                  "e\n-5 65535 10 ff A s %|   42|42   |-0042|   ab|cd  |xy|\nfour-2147483648 4294967295 10 abcdef01 4\n7-x\n")
+
+    def test_strings(self):
+        self.body('char a[20], b[20]; strcpy(a, "one"); strcat(a, "two"); strncpy(b, "abcdef", 3); b[3] = 0;\n'
+                  'printf("%s %s %d %d %d %d\\n", a, b, (int)strlen(a), strcmp("a", "b") < 0, strcmp("b", "a") > 0, strcmp(a, a));\n'
+                  'printf("%d %d %s %s %s\\n", strncmp("abc", "abd", 2), strncmp("abc", "abd", 3) < 0, strchr(a, 116), strrchr(a, 111), '
+                  'strstr(a, "et"));\nmemmove(a + 1, a, 6); a[7] = 0; printf("%s %d\\n", a, memcmp("ab", "ac", 2) < 0);\n'
+                  'memset(a, 120, 3); printf("%s %d %ld %d\\n", a, atoi("-12x"), atol(" 99999"), abs(-4));\n'
+                  'printf("%d%d%d%d%c%c\\n", !!isalpha(65), !!isdigit(65), !!isspace(9), !!ispunct(44), toupper(97), tolower(90));',
+                  "onetwo abc 6 1 1 0\n0 1 two o etwo\noonetwo 1\nxxxetwo -12 99999 4\n1011Az\n")
+
+    def test_room(self):
+        """Pieces of memory don't overlap, keep their bytes, and come back; too much is refused."""
+        self.body("char *kept[40]; int at, round, size, bad = 0; unsigned sizes[40];\nmemset(kept, 0, sizeof kept);\n"
+                  "for (round = 0; round < 400; round++) {\nat = rand() % 40;\nif (kept[at]) {\n"
+                  "for (size = 0; size < sizes[at]; size++) if (kept[at][size] != (char)at) bad++;\nfree(kept[at]); kept[at] = 0;\n"
+                  "} else {\nsizes[at] = rand() % 300; kept[at] = malloc(sizes[at]); memset(kept[at], at, sizes[at]);\n}\n}\n"
+                  'printf("%d %d %d\\n", bad, malloc(65000u) == NULL, malloc(40000u) != NULL);', "0 1 1\n")
+
+    def test_qsort(self):
+        made = random.Random(self.id())
+        numbers = [made.randrange(-30000, 30000) for _ in range(100)]
+        self.prints("#include <stdio.h>\n#include <stdlib.h>\n"
+                    f"static int numbers[] = {{ {', '.join(map(str, numbers))} }};\n"
+                    "static int by(const void *a, const void *b) { int x = *(int *)a, y = *(int *)b; return x < y ? -1 : x > y; }\n"
+                    "int main(void) { int i; qsort(numbers, 100, sizeof(int), by);\n"
+                    'for (i = 0; i < 100; i++) printf("%d\\n", numbers[i]); return 0; }\n',
+                    "".join(f"{number}\n" for number in sorted(numbers)))
+
+    def test_files(self):
+        self.body('FILE *file = fopen("new", "w"); int c; char line[20];\nfputs("first\\nsecond", file); fclose(file);\n'
+                  'file = fopen("new", "a"); for (c = 0; c < 600; c++) putc(46, file); putc(10, file); fclose(file);\n'
+                  'file = fopen("new", "r"); c = getc(file); ungetc(c, file); while (fgets(line, 20, file) && line[0] != 46)\n'
+                  'printf("%s", line); putchar(10); fclose(file);\n'
+                  'struct stat s; printf("%d %u %d\\n", stat("new", &s), s.size_low, fopen("none", "r") == NULL);\n'
+                  'while ((c = getchar()) != EOF) putchar(c + 1);', "first\nsecond.............\n0 613 1\nbc", typed=b"ab")
+
+    def test_calls(self):
+        """Each call of section II that is built, in a new machine: process 2, of user 0, in the root."""
+        self.body("int status, modes[3], old; char bytes[8]; struct stat s; unsigned char *end; char clock[12];\n"
+                  'old = creat("f", 0644); printf("%d ", write(old, "abcdef", 6)); printf("%d ", close(old));\n'
+                  'old = open("f", 0); printf("%d ", seek(old, 2, 0)); printf("%d ", read(old, bytes, 3)); printf("%c ", bytes[0]);\n'
+                  'status = dup(old); printf("%d ", read(status, bytes, 8)); close(status); close(old);\n'
+                  'printf("%d ", link("f", "g")); printf("%d ", stat("g", &s)); printf("%d %d %o ", s.links, s.size_low, s.mode & 0777);\n'
+                  'printf("%d ", chmod("f", 0600)); printf("%d ", chown("f", 3)); stat("f", &s); printf("%d %o ", s.owner, s.mode & 0777);\n'
+                  'printf("%d ", unlink("g")); printf("%d ", stat("g", &s)); printf("%d\\n", errno);\n'
+                  'printf("%d ", mknod("d", 040777, 0)); printf("%d ", chdir("d")); printf("%d ", chdir("/none"));\n'
+                  'printf("%d %d %d %d ", getpid(), getuid(), getgid(), csw()); nice(0); sync(); fstat(1, &s);\n'
+                  'printf("%o ", s.mode & 060000); printf("%d ", gtty(1, modes)); printf("%d ", stty(1, modes));\n'
+                  'printf("%d ", stime(70000L)); printf("%ld ", time()); printf("%d ", times(clock)); end = sbrk(10); *end = 1;\n'
+                  'printf("%d ", (int)((unsigned char *)sbrk(0) - end)); printf("%d\\n", brk(end)); fflush(stdout);\n'
+                  'if (fork() == 0) exit(3); printf("%d ", wait(&status)); printf("%o\\n", status);\n'
+                  'setgid(4); setuid(5); fflush(stdout);\n'
+                  'if (fork() == 0) { execl("/bin/none", "none", 0); printf("%d ", errno); exit(0); } wait(0); printf("%d\\n", setuid(0));',
+                  "6 0 0 3 c 1 0 0 2 6 644 0 0 3 600 0 -1 2\n0 0 -1 2 0 0 0 20000 0 0 0 70000 0 10 0\n3 1400\n2 -1\n")
+
+    def test_wrong(self):
+        """What the compiler refuses is told, and no program is written."""
+        for source, why in (("int main(void) { return x; }\n", "it.c, line 1: x undefined\n"),
+                            ("int main(void) { return none(); }\n", "none: neither in the program nor in the library\n"),
+                            ("int main(void) { float f = 1.5; return f * 2; }\n",
+                             "it.c: float or double: the PDP-11/40 has no floating point\n")):
+            status, out, said = self.call(cc.main, "-o", self.path("it"), self.put("it.c", source.encode()))
+            self.assertEqual((status, out, os.path.exists(self.path("it"))), (1, "", False))
+            self.assertIn(why, said.replace(self.folder + "/", ""))
+
+    def test_known_faults(self):
+        """What docs/tools/c.md says of the compiler's faults."""
+        self.body("char c = -1; unsigned char u = 1; long long wide = 1;\n"
+                  'printf("%d %d %d\\n", argc ? c : u, (int)sizeof wide, (int)sizeof(long));', "255 4 4\n")
+
+    def test_names_of_files(self):
+        """Two files have static names and labels of their own, and share what is global."""
+        one = self.put("-one.c", b"static int n = 1; int shared; int other(void); int main(void) { shared = n; return other(); }\n")
+        two = self.put("two.c", b"static int n = 5; extern int shared; int other(void) { return shared + n; }\n")
+        self.assertEqual(self.call(cc.main, "-o", self.path("it"), one, two), (0, "", ""))
+        self.assertEqual(self.run_it(self.path("it")), (6, "", ""))
+
+
+if __name__ == "__main__":
+    unittest.main()
