@@ -18,7 +18,7 @@ use Rattle.fs_tree.specs.declared.made.Made.TheVariants as made
 use Rattle.fs_tree.specs.Permission.{may_use}
 use Rattle.fs_tree.specs.Name.{is_whole, components, start_of}
 use Rattle.fs_tree.specs.Directory.{entry_count, first_below, is_empty, is_named, entry_or_room, looked}
-use Rattle.fs_tree.specs.Path.{with_node_of, used_number, entry_number, looked_in, in_directory, is_last, walk, way, found_or_room, to_make, entry_to_remove, to_remove}
+use Rattle.fs_tree.specs.Path.{with_node_of, used_number, entry_number, looked_in, in_directory, is_last, walk, way, write_access, found_or_room, to_make, entry_to_remove, to_remove}
 use Rattle.fs_tree.specs.Finding.{named_by_made}
 use Rattle.fs_tree.proofs.PathLemmas.{IsUsedWay, way_used, made_used, removed_used}
 
@@ -166,86 +166,87 @@ made_number store (Err e) m is = absurd (cc)
 made_number store (Ok ino) m is = let e : made.Found ino ≡ m = cc in let P : Made → Type 0 =
     IsMadePlace store in subst P e tt
 
-made_room : (store : Store) (t : Bool) (dir offset : ℕ) (name : List ℕ) (m : Made) → IsPlace store dir offset
-    → cond t (Ok (made.Room dir offset name)) (Err EACCES) ≡ Ok m → IsMadePlace store m
-made_room store false dir offset name m place is = absurd (cc)
-made_room store true dir offset name m place is = let e : made.Room dir offset name ≡ m = cc in let P : Made → Type 0 =
+made_room : (store : Store) (r : Result (Unit {0}) Errno) (dir offset : ℕ) (name : List ℕ) (m : Made)
+    → IsPlace store dir offset → then_do r (λ may. Ok (made.Room dir offset name)) ≡ Ok m → IsMadePlace store m
+made_room store (Err e) dir offset name m place is = absurd (cc)
+made_room store (Ok may) dir offset name m place is = let e : made.Room dir offset name ≡ m = cc in let P : Made → Type 0 =
     IsMadePlace store in subst P e place
 
-made_looked : (store : Store) (last : Last) (l : Looked) (m : Made) → IsPlace store last.dir (16 * place_of l)
-    → found_or_room store last l ≡ Ok m → IsMadePlace store m
-made_looked store last (Entry i j) m place is = made_number store (used_number store j) m is
-made_looked store last (Room i) m place is = made_room store last.may_write last.dir (16 * i) last.name m place is
+made_looked : (store : Store) (marks : List Bool) (last : Last) (l : Looked) (m : Made) → IsPlace store last.dir (16 * place_of l)
+    → found_or_room store marks last l ≡ Ok m → IsMadePlace store m
+made_looked store marks last (Entry i j) m place is = made_number store (used_number store j) m is
+made_looked store marks last (Room i) m place is = made_room store (write_access marks last) last.dir (16 * i) last.name m place is
 
-pub made_place : (store : Store) (w : Way) (m : Made) → IsSearchWay store w → to_make store w ≡ Ok m
+pub made_place : (store : Store) (marks : List Bool) (w : Way) (m : Made) → IsSearchWay store w → to_make store marks w ≡ Ok m
     → IsMadePlace store m
-made_place store (Start i) m search is = absurd (cc)
-made_place store (End last) m search is = made_looked store last last.looked m (search_place store last search) is
+made_place store marks (Start i) m search is = absurd (cc)
+made_place store marks (End last) m search is = made_looked store marks last last.looked m (search_place store last search) is
 
 -- An entry that is to be removed is at such a place.
-entry_when : (store : Store) (t : Bool) (r : Result ℕ Errno) (dir offset : ℕ) (e : ℕ × ℕ × ℕ) → IsPlace store dir offset
-    → cond t (then_do r (λ ino. Ok (dir, offset, ino))) (Err EACCES) ≡ Ok e → IsPlace store e.0 e.1
-entry_when store false r dir offset e place is = absurd (cc)
-entry_when store true (Err x) dir offset e place is = absurd (cc)
-entry_when store true (Ok ino) dir offset e place is =
+entry_when : (store : Store) (t : Result (Unit {0}) Errno) (r : Result ℕ Errno) (dir offset : ℕ) (e : ℕ × ℕ × ℕ)
+    → IsPlace store dir offset → then_do t (λ may. then_do r (λ ino. Ok (dir, offset, ino))) ≡ Ok e
+    → IsPlace store e.0 e.1
+entry_when store (Err x) r dir offset e place is = absurd (cc)
+entry_when store (Ok may) (Err x) dir offset e place is = absurd (cc)
+entry_when store (Ok may) (Ok ino) dir offset e place is =
     let T : Type 0 = ℕ × ℕ × ℕ in
     let same : ◌≡◌ {A = T} (dir, offset, ino) e = cc in
     let P : ℕ × ℕ × ℕ → Type 0 = λ x. IsPlace store x.0 x.1 in
     subst P same place
 
-entry_looked : (store : Store) (last : Last) (l : Looked) (e : ℕ × ℕ × ℕ) → IsPlace store last.dir (16 * place_of l)
-    → entry_to_remove store last l ≡ Ok e → IsPlace store e.0 e.1
-entry_looked store last (Entry i j) e place is =
-    entry_when store last.may_write (used_number store j) last.dir (16 * i) e place is
-entry_looked store last (Room i) e place is = absurd (cc)
+entry_looked : (store : Store) (marks : List Bool) (last : Last) (l : Looked) (e : ℕ × ℕ × ℕ) → IsPlace store last.dir (16 * place_of l)
+    → entry_to_remove store marks last l ≡ Ok e → IsPlace store e.0 e.1
+entry_looked store marks last (Entry i j) e place is =
+    entry_when store (write_access marks last) (used_number store j) last.dir (16 * i) e place is
+entry_looked store marks last (Room i) e place is = absurd (cc)
 
-pub removed_place : (store : Store) (w : Way) (e : ℕ × ℕ × ℕ) → IsSearchWay store w → to_remove store w ≡ Ok e
+pub removed_place : (store : Store) (marks : List Bool) (w : Way) (e : ℕ × ℕ × ℕ) → IsSearchWay store w → to_remove store marks w ≡ Ok e
     → IsPlace store e.0 e.1
-removed_place store (Start i) e search is = absurd (cc)
-removed_place store (End last) e search is = entry_looked store last last.looked e (search_place store last search) is
+removed_place store marks (Start i) e search is = absurd (cc)
+removed_place store marks (End last) e search is = entry_looked store marks last last.looked e (search_place store last search) is
 
-made_after : (store : Store) (r : Result Way Errno) (m : Made) → ((w : Way) → r ≡ Ok w → IsSearchWay store w)
-    → then_do r (to_make store) ≡ Ok m → IsMadePlace store m
-made_after store (Err e) m search is = absurd (cc)
-made_after store (Ok w) m search is = made_place store w m (search w refl) is
+made_after : (store : Store) (marks : List Bool) (r : Result Way Errno) (m : Made) → ((w : Way) → r ≡ Ok w → IsSearchWay store w)
+    → then_do r (to_make store marks) ≡ Ok m → IsMadePlace store m
+made_after store marks (Err e) m search is = absurd (cc)
+made_after store marks (Ok w) m search is = made_place store marks w m (search w refl) is
 
 -- what a name that may be new comes to
-pub made_at : (store : Store) (user : User) (dir : ℕ) (bytes : List ℕ) (m : Made)
-    → then_do (way store user dir bytes) (to_make store) ≡ Ok m → IsMadePlace store m
-made_at store user dir bytes m is = made_after store (way store user dir bytes) m (way_searched store user dir bytes) is
+pub made_at : (store : Store) (marks : List Bool) (user : User) (dir : ℕ) (bytes : List ℕ) (m : Made)
+    → then_do (way store user dir bytes) (to_make store marks) ≡ Ok m → IsMadePlace store m
+made_at store marks user dir bytes m is = made_after store marks (way store user dir bytes) m (way_searched store user dir bytes) is
 
-removed_after : (store : Store) (r : Result Way Errno) (e : ℕ × ℕ × ℕ) → ((w : Way) → r ≡ Ok w → IsSearchWay store w)
-    → then_do r (to_remove store) ≡ Ok e → IsPlace store e.0 e.1
-removed_after store (Err x) e search is = absurd (cc)
-removed_after store (Ok w) e search is = removed_place store w e (search w refl) is
+removed_after : (store : Store) (marks : List Bool) (r : Result Way Errno) (e : ℕ × ℕ × ℕ) → ((w : Way) → r ≡ Ok w → IsSearchWay store w)
+    → then_do r (to_remove store marks) ≡ Ok e → IsPlace store e.0 e.1
+removed_after store marks (Err x) e search is = absurd (cc)
+removed_after store marks (Ok w) e search is = removed_place store marks w e (search w refl) is
 
 -- what a name that is to be removed comes to
-pub removed_at : (store : Store) (user : User) (dir : ℕ) (bytes : List ℕ) (e : ℕ × ℕ × ℕ)
-    → then_do (way store user dir bytes) (to_remove store) ≡ Ok e → IsPlace store e.0 e.1
-removed_at store user dir bytes e is =
-    removed_after store (way store user dir bytes) e (way_searched store user dir bytes) is
+pub removed_at : (store : Store) (marks : List Bool) (user : User) (dir : ℕ) (bytes : List ℕ) (e : ℕ × ℕ × ℕ)
+    → then_do (way store user dir bytes) (to_remove store marks) ≡ Ok e → IsPlace store e.0 e.1
+removed_at store marks user dir bytes e is =
+    removed_after store marks (way store user dir bytes) e (way_searched store user dir bytes) is
 
 -- Both name inodes that are used, where a name starts at one.
-made_used_after : (store : Store) (r : Result Way Errno) (m : Made) → ((w : Way) → r ≡ Ok w → IsUsedWay store w)
-    → then_do r (to_make store) ≡ Ok m → IsSome (node_numbered store (named_by_made m))
-made_used_after store (Err e) m used is = absurd (cc)
-made_used_after store (Ok w) m used is = made_used store w m (used w refl) (sym is)
+made_used_after : (store : Store) (marks : List Bool) (r : Result Way Errno) (m : Made) → ((w : Way) → r ≡ Ok w → IsUsedWay store w)
+    → then_do r (to_make store marks) ≡ Ok m → IsSome (node_numbered store (named_by_made m))
+made_used_after store marks (Err e) m used is = absurd (cc)
+made_used_after store marks (Ok w) m used is = made_used store marks w m (used w refl) (sym is)
 
-pub made_used_at : (store : Store) (user : User) (dir : ℕ) (bytes : List ℕ) (m : Made)
-    → IsSome (node_numbered store (start_of dir bytes)) → then_do (way store user dir bytes) (to_make store) ≡ Ok m
+pub made_used_at : (store : Store) (marks : List Bool) (user : User) (dir : ℕ) (bytes : List ℕ) (m : Made)
+    → IsSome (node_numbered store (start_of dir bytes)) → then_do (way store user dir bytes) (to_make store marks) ≡ Ok m
     → IsSome (node_numbered store (named_by_made m))
-made_used_at store user dir bytes m start is =
-    made_used_after store (way store user dir bytes) m (λ w w_is. way_used store user dir bytes w (sym w_is) start) is
+made_used_at store marks user dir bytes m start is =
+    made_used_after store marks (way store user dir bytes) m (λ w w_is. way_used store user dir bytes w (sym w_is) start) is
 
-removed_used_after : (store : Store) (r : Result Way Errno) (e : ℕ × ℕ × ℕ) → ((w : Way) → r ≡ Ok w → IsUsedWay store w)
-    → then_do r (to_remove store) ≡ Ok e
+removed_used_after : (store : Store) (marks : List Bool) (r : Result Way Errno) (e : ℕ × ℕ × ℕ) → ((w : Way) → r ≡ Ok w → IsUsedWay store w)
+    → then_do r (to_remove store marks) ≡ Ok e
     → IsSome (node_numbered store e.0) × IsSome (node_numbered store e.2)
-removed_used_after store (Err x) e used is = absurd (cc)
-removed_used_after store (Ok w) e used is = removed_used store w e (used w refl) (sym is)
+removed_used_after store marks (Err x) e used is = absurd (cc)
+removed_used_after store marks (Ok w) e used is = removed_used store marks w e (used w refl) (sym is)
 
-pub removed_used_at : (store : Store) (user : User) (dir : ℕ) (bytes : List ℕ) (e : ℕ × ℕ × ℕ)
-    → IsSome (node_numbered store (start_of dir bytes)) → then_do (way store user dir bytes) (to_remove store) ≡ Ok e
+pub removed_used_at : (store : Store) (marks : List Bool) (user : User) (dir : ℕ) (bytes : List ℕ) (e : ℕ × ℕ × ℕ)
+    → IsSome (node_numbered store (start_of dir bytes)) → then_do (way store user dir bytes) (to_remove store marks) ≡ Ok e
     → IsSome (node_numbered store e.0) × IsSome (node_numbered store e.2)
-removed_used_at store user dir bytes e start is =
-    removed_used_after store (way store user dir bytes) e (λ w w_is. way_used store user dir bytes w (sym w_is) start)
+removed_used_at store marks user dir bytes e start is =
+    removed_used_after store marks (way store user dir bytes) e (λ w w_is. way_used store user dir bytes w (sym w_is) start)
     is

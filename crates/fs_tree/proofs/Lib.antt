@@ -4,4 +4,3 @@ pub mod PathLemmas
 pub mod FindingLemmas
 pub mod EntryLemmas
 pub mod SearchLemmas
-mod MarkLemmas

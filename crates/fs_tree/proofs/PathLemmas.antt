@@ -18,7 +18,7 @@ use Rattle.fs_tree.specs.declared.walk.Way.TheVariants.{Start, End}
 use Rattle.fs_tree.specs.Permission.{may, may_use}
 use Rattle.fs_tree.specs.Name.{is_whole, components, start_of}
 use Rattle.fs_tree.specs.Directory.{looked}
-use Rattle.fs_tree.specs.Path.{with_node_of, used_number, entry_number, looked_in, in_directory, is_last, walk, way, found, found_or_room, to_make, entry_to_remove, to_remove}
+use Rattle.fs_tree.specs.Path.{with_node_of, used_number, entry_number, looked_in, in_directory, is_last, walk, way, found, write_access, found_or_room, to_make, entry_to_remove, to_remove}
 use Rattle.fs_tree.specs.declared.made.Made.{Made}
 use Rattle.fs_tree.specs.declared.made.Made.TheVariants as made
 use Rattle.fs_tree.specs.Finding.{named_by_made}
@@ -213,34 +213,34 @@ entry_made store (Err e) i m r_is is = absurd (cc)
 entry_made store (Ok ino) i m r_is is =
     let e : made.Found ino ≡ m = cc in let P : Made → Type 0 = λ x. IsSome (node_numbered store (named_by_made x)) in subst P e (number_used store i ino r_is)
 
-room_made : (store : Store) (t : Bool) (dir offset : ℕ) (name : List ℕ) (m : Made) → IsSome (node_numbered store dir) → Ok m ≡ cond t (Ok (made.Room dir offset name)) (Err EACCES) → IsSome (node_numbered store (named_by_made m))
-room_made store false dir offset name m some is = absurd (cc)
-room_made store true dir offset name m some is =
+room_made : (store : Store) (r : Result (Unit {0}) Errno) (dir offset : ℕ) (name : List ℕ) (m : Made) → IsSome (node_numbered store dir) → Ok m ≡ then_do r (λ may. Ok (made.Room dir offset name)) → IsSome (node_numbered store (named_by_made m))
+room_made store (Err e) dir offset name m some is = absurd (cc)
+room_made store (Ok may) dir offset name m some is =
     let e : made.Room dir offset name ≡ m = cc in let P : Made → Type 0 = λ x. IsSome (node_numbered store (named_by_made x)) in subst P e some
 
-looked_made : (store : Store) (last : Last) (l : Looked) (m : Made) → IsSome (node_numbered store last.dir) → Ok m ≡ found_or_room store last l → IsSome (node_numbered store (named_by_made m))
-looked_made store last (Entry i j) m some is = entry_made store (used_number store j) j m refl is
-looked_made store last (Room i) m some is = room_made store last.may_write last.dir (16 * i) last.name m some is
+looked_made : (store : Store) (marks : List Bool) (last : Last) (l : Looked) (m : Made) → IsSome (node_numbered store last.dir) → Ok m ≡ found_or_room store marks last l → IsSome (node_numbered store (named_by_made m))
+looked_made store marks last (Entry i j) m some is = entry_made store (used_number store j) j m refl is
+looked_made store marks last (Room i) m some is = room_made store (write_access marks last) last.dir (16 * i) last.name m some is
 
-pub made_used : (store : Store) (w : Way) (m : Made) → IsUsedWay store w → Ok m ≡ to_make store w → IsSome (node_numbered store (named_by_made m))
-made_used store (Start i) m some is = absurd (cc)
-made_used store (End last) m some is = looked_made store last last.looked m some is
+pub made_used : (store : Store) (marks : List Bool) (w : Way) (m : Made) → IsUsedWay store w → Ok m ≡ to_make store marks w → IsSome (node_numbered store (named_by_made m))
+made_used store marks (Start i) m some is = absurd (cc)
+made_used store marks (End last) m some is = looked_made store marks last last.looked m some is
 
-entry_removed : (store : Store) (t : Bool) (r : Result ℕ Errno) (i dir offset : ℕ) (e : ℕ × ℕ × ℕ) → used_number store i ≡ r → IsSome (node_numbered store dir)
-    → Ok e ≡ cond t (then_do r (λ ino. Ok (dir, offset, ino))) (Err EACCES) → IsSome (node_numbered store e.0) × IsSome (node_numbered store e.2)
-entry_removed store false r i dir offset e r_is some is = absurd (cc)
-entry_removed store true (Err x) i dir offset e r_is some is = absurd (cc)
-entry_removed store true (Ok ino) i dir offset e r_is some is =
+entry_removed : (store : Store) (t : Result (Unit {0}) Errno) (r : Result ℕ Errno) (i dir offset : ℕ) (e : ℕ × ℕ × ℕ) → used_number store i ≡ r → IsSome (node_numbered store dir)
+    → Ok e ≡ then_do t (λ may. then_do r (λ ino. Ok (dir, offset, ino))) → IsSome (node_numbered store e.0) × IsSome (node_numbered store e.2)
+entry_removed store (Err x) r i dir offset e r_is some is = absurd (cc)
+entry_removed store (Ok may) (Err x) i dir offset e r_is some is = absurd (cc)
+entry_removed store (Ok may) (Ok ino) i dir offset e r_is some is =
     let T : Type 0 = ℕ × ℕ × ℕ in
     let same : ◌≡◌ {A = T} (dir, offset, ino) e = cc in
     let P : ℕ × ℕ × ℕ → Type 0 = λ x. IsSome (node_numbered store x.0) × IsSome (node_numbered store x.2) in
     subst P same (some, number_used store i ino r_is)
 
-looked_removed : (store : Store) (last : Last) (l : Looked) (e : ℕ × ℕ × ℕ) → IsSome (node_numbered store last.dir) → Ok e ≡ entry_to_remove store last l
+looked_removed : (store : Store) (marks : List Bool) (last : Last) (l : Looked) (e : ℕ × ℕ × ℕ) → IsSome (node_numbered store last.dir) → Ok e ≡ entry_to_remove store marks last l
     → IsSome (node_numbered store e.0) × IsSome (node_numbered store e.2)
-looked_removed store last (Entry i j) e some is = entry_removed store last.may_write (used_number store j) j last.dir (16 * i) e refl some is
-looked_removed store last (Room i) e some is = absurd (cc)
+looked_removed store marks last (Entry i j) e some is = entry_removed store (write_access marks last) (used_number store j) j last.dir (16 * i) e refl some is
+looked_removed store marks last (Room i) e some is = absurd (cc)
 
-pub removed_used : (store : Store) (w : Way) (e : ℕ × ℕ × ℕ) → IsUsedWay store w → Ok e ≡ to_remove store w → IsSome (node_numbered store e.0) × IsSome (node_numbered store e.2)
-removed_used store (Start i) e some is = absurd (cc)
-removed_used store (End last) e some is = looked_removed store last last.looked e some is
+pub removed_used : (store : Store) (marks : List Bool) (w : Way) (e : ℕ × ℕ × ℕ) → IsUsedWay store w → Ok e ≡ to_remove store marks w → IsSome (node_numbered store e.0) × IsSome (node_numbered store e.2)
+removed_used store marks (Start i) e some is = absurd (cc)
+removed_used store marks (End last) e some is = looked_removed store marks last last.looked e some is

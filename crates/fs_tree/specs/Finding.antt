@@ -56,8 +56,8 @@ abbrev pub making : Inodes → Result Made Errno → Finding Made
 making n (Ok answer) = referring n (named_by_made answer) answer
 making n (Err e) = refused n e
 
-abbrev pub make_in : Inodes → User → ℕ → List ℕ → Finding Made
-make_in n user dir bytes = making n (then_do (way n.store user dir bytes) (to_make n.store))
+abbrev pub make_in : Inodes → List Bool → User → ℕ → List ℕ → Finding Made
+make_in n marks user dir bytes = making n (then_do (way n.store user dir bytes) (to_make n.store marks))
 
 -- the store when a reference to an inode has gone, of so many
 abbrev pub put_in : Store → ℕ → ℕ → Option Node → Store
@@ -82,5 +82,5 @@ abbrev pub removing : Inodes → Result (ℕ × ℕ × ℕ) Errno → Finding (�
 removing n (Ok entry) = referring_both n entry
 removing n (Err e) = refused n e
 
-abbrev pub remove_in : Inodes → User → ℕ → List ℕ → Finding (ℕ × ℕ × ℕ)
-remove_in n user dir bytes = removing n (then_do (way n.store user dir bytes) (to_remove n.store))
+abbrev pub remove_in : Inodes → List Bool → User → ℕ → List ℕ → Finding (ℕ × ℕ × ℕ)
+remove_in n marks user dir bytes = removing n (then_do (way n.store user dir bytes) (to_remove n.store marks))

@@ -14,7 +14,7 @@ use Rattle.fs_tree.specs.declared.walk.Way.{Way}
 use Rattle.fs_tree.specs.declared.walk.Way.TheVariants.{Start, End}
 use Rattle.fs_tree.specs.declared.made.Made.{Made}
 use Rattle.fs_tree.specs.declared.made.Made.TheVariants as made
-use Rattle.fs_tree.specs.Permission.{may_use}
+use Rattle.fs_tree.specs.Permission.{may_use, granted}
 use Rattle.fs_tree.specs.Name.{is_whole, components, start_of}
 use Rattle.fs_tree.specs.Directory.{looked}
 
@@ -68,21 +68,27 @@ abbrev pub found : Store → Way → Result ℕ Errno
 found store (Start ino) = Ok ino
 found store (End last) = entry_number store last.looked
 
--- The second finds a node, or the room for an entry of a directory that the user may write.
-abbrev pub found_or_room : Store → Last → Looked → Result Made Errno
-found_or_room store last (Entry i ino) = then_do (used_number store ino) (λ ino. Ok (made.Found ino))
-found_or_room store last (Room i) = if last.may_write then Ok (made.Room last.dir (16 * i) last.name) else Err EACCES
+-- What access answers to the user who wants to write the directory that was searched.
+abbrev pub write_access : List Bool → Last → Result (Unit {0}) Errno
+write_access marks last = granted marks last.dir Write last.may_write
 
-abbrev pub to_make : Store → Way → Result Made Errno
-to_make store (Start ino) = Err ENOENT
-to_make store (End last) = found_or_room store last last.looked
+-- The second finds a node, or the room for an entry of a directory that the user may write.
+abbrev pub found_or_room : Store → List Bool → Last → Looked → Result Made Errno
+found_or_room store marks last (Entry i ino) = then_do (used_number store ino) (λ ino. Ok (made.Found ino))
+found_or_room store marks last (Room i) =
+    then_do (write_access marks last) (λ may. Ok (made.Room last.dir (16 * i) last.name))
+
+abbrev pub to_make : Store → List Bool → Way → Result Made Errno
+to_make store marks (Start ino) = Err ENOENT
+to_make store marks (End last) = found_or_room store marks last last.looked
 
 -- The third finds an entry of a directory that the user may write.
-abbrev pub entry_to_remove : Store → Last → Looked → Result (ℕ × ℕ × ℕ) Errno
-entry_to_remove store last (Entry i ino) =
-    if last.may_write then then_do (used_number store ino) (λ ino. Ok (last.dir, 16 * i, ino)) else Err EACCES
-entry_to_remove store last (Room i) = Err ENOENT
+abbrev pub entry_to_remove : Store → List Bool → Last → Looked → Result (ℕ × ℕ × ℕ) Errno
+entry_to_remove store marks last (Entry i ino) =
+    then_do (write_access marks last) (λ may.
+    then_do (used_number store ino) (λ ino. Ok (last.dir, 16 * i, ino)))
+entry_to_remove store marks last (Room i) = Err ENOENT
 
-abbrev pub to_remove : Store → Way → Result (ℕ × ℕ × ℕ) Errno
-to_remove store (Start ino) = Err ENOENT
-to_remove store (End last) = entry_to_remove store last last.looked
+abbrev pub to_remove : Store → List Bool → Way → Result (ℕ × ℕ × ℕ) Errno
+to_remove store marks (Start ino) = Err ENOENT
+to_remove store marks (End last) = entry_to_remove store marks last last.looked

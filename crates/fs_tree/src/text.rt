@@ -1,7 +1,5 @@
 //! Texts that are shared are marked: xalloc and xfree in Lions' Commentary, `text.c`.
-ghost use Rattle.std.specs.Prelude.{◌≡◌, ◌<◌, ◌≤◌, ℕ, true, false, Some, length, slice_index};
-ghost use Rattle.fs_codec.specs.Modes.{file_type};
-ghost use Rattle.fs_codec.specs.Store.{Node, node_numbered};
+ghost use Rattle.std.specs.Prelude.{◌≡◌, ◌<◌, ◌≤◌, ℕ, true, false, slice_index};
 ghost use Rattle.fs_nodes.specs.FileSystem.{SameRest, IsFileSystem};
 ghost use Rattle.fs_tree.specs.Finding.{inodes_of, with_reference, put_back};
 ghost use Rattle.fs_tree.specs.Marks.{is_marked, with_mark, without_mark};
@@ -39,14 +37,11 @@ fn let_go(nodes: &mut Nodes, ino: u16, time: u32)
 
 /// While a process runs a program whose text is shared, its file is marked, and cannot be written.
 impl Tree {
-    /// Marks the inode of a plain file whose text is shared from now on, and refers to it once more. Of fewer than a hundred
-    /// inodes that are marked already: there are at most forty texts.
+    /// Marks an inode whose text is shared from now on, and refers to it once more.
     pub fn mark_text(&mut self, ino: u16)
         requires referenced { 0 < slice_index self.old.nodes.references ino }
         requires few { (i : ℕ) → slice_index self.old.nodes.references i ≤ 65530 }
-        requires file { (node : Node) → node_numbered self.old.nodes.store ino ≡ Some node → file_type node.mode ≡ 0 }
         requires unmarked { is_marked self.old.marks ino ≡ false }
-        requires room { length self.old.marks < 100 }
         ensures marks { self.new.marks ≡ with_mark self.old.marks ino }
         ensures inodes { inodes_of self.new.nodes ≡ with_reference (inodes_of self.old.nodes) ino }
         ensures blocks { self.new.nodes.blocks ≡ self.old.nodes.blocks }

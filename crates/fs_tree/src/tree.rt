@@ -1,13 +1,14 @@
 //! The tree of names over a file system.
-ghost use Rattle.std.specs.Prelude.{◌≡◌, ◌<◌, ◌≤◌, ℕ, [], true, false, if◌then◌else◌, Some, IsSome, IfOk, IfErr};
+ghost use Rattle.std.specs.Prelude.{◌≡◌, ◌<◌, ◌≤◌, ℕ, true, false, if◌then◌else◌, Some, IsSome, IfOk, IfErr};
 ghost use Rattle.std.specs.Prelude.{slice_index};
 ghost use Rattle.fs_codec.specs.Store.{Node, node_numbered};
+ghost use Rattle.fs_tree.specs.Marks.{no_marks};
 ghost use Rattle.fs_tree.specs.Permission.{access};
 ghost use Rattle.fs_tree.specs.Finding.{find_in, make_in, remove_in, referring_both, can_refer, with_reference};
 ghost use Rattle.fs_tree.specs.Finding.{put_back, inodes_of};
 ghost use Rattle.fs_nodes.specs.FileSystem.{FileSystem, SameRest};
 
-use crate::access::{is_to_write, may};
+use crate::access::{grant, may};
 use crate::made::Made;
 use crate::marks::Marks;
 use crate::name::NameBytes;
@@ -68,7 +69,7 @@ impl Tree {
     /// The tree of names of a file system, of which no text is shared yet.
     pub fn new(nodes: Nodes) -> Tree
         ensures nodes { result.nodes ≡ nodes }
-        ensures none { result.marks ≡ [] }
+        ensures none { result.marks ≡ no_marks }
     {
         Tree {
             nodes,
@@ -88,14 +89,8 @@ impl Tree {
         ensures { (node : Node) → node_numbered self.now.nodes.store ino ≡ Some node
             → result ≡ access self.now.marks ino node who want }
     {
-        if is_to_write(want) && self.marks.has(ino) {
-            return Err(Errno::ETXTBSY);
-        }
-        if may(self.nodes.node(ino), who, want) {
-            Ok(())
-        } else {
-            Err(Errno::EACCES)
-        }
+        let may = may(self.nodes.node(ino), who, want);
+        grant(&self.marks, ino, want, may)
     }
 
     /// Finds the inode of a name, and refers to it once more: namei in Lions' Commentary, `nami.c`. `dir` is the directory
@@ -133,8 +128,8 @@ impl Tree {
     ///
     /// # Errors
     ///
-    /// Those of `find`, but for the last component: where it is not found, only `EACCES`, where the user may not write the
-    /// directory. `ENOENT` too for a name without a component.
+    /// Those of `find`, but for the last component: where it is not found, only those of `access` to write the directory.
+    /// `ENOENT` too for a name without a component.
     pub fn find_to_make<S: Space>(
         &mut self,
         dir: u16,
@@ -143,15 +138,15 @@ impl Tree {
     ) -> Result<Made, Errno>
         requires referenced { 0 < slice_index self.old.nodes.references dir }
         requires few { (i : ℕ) → slice_index self.old.nodes.references i ≤ 65530 }
-        ensures answer { result ≡ (make_in (inodes_of self.old.nodes) who dir name.entry).answer }
-        ensures inodes { inodes_of self.new.nodes ≡ (make_in (inodes_of self.old.nodes) who dir name.entry).inodes }
+        ensures answer { result ≡ (make_in (inodes_of self.old.nodes) self.old.marks who dir name.entry).answer }
+        ensures inodes { inodes_of self.new.nodes ≡ (make_in (inodes_of self.old.nodes) self.old.marks who dir name.entry).inodes }
         ensures marks { self.new.marks ≡ self.old.marks }
         ensures blocks { self.new.nodes.blocks ≡ self.old.nodes.blocks }
     {
         see_start(&self.nodes, dir);
         let mut name = name;
         let way = walk(&mut self.nodes, dir, who, &mut name)?;
-        let made = to_make(&mut self.nodes, way)?;
+        let made = to_make(&mut self.nodes, &self.marks, way)?;
         take(&mut self.nodes, made.number())?;
         Ok(made)
     }
@@ -161,8 +156,8 @@ impl Tree {
     ///
     /// # Errors
     ///
-    /// Those of `find`, but for the last component: where it is found, `EACCES`, where the user may not write the directory,
-    /// and then `ENOENT`, where its inode is free or there is none of its number. `ENOENT` too for a name without a component.
+    /// Those of `find`, but for the last component: where it is found, those of `access` to write the directory, and then
+    /// `ENOENT`, where its inode is free or there is none of its number. `ENOENT` too for a name without a component.
     /// Where the inode cannot be referred to, the directory is no longer, as by `put` of `Nodes`.
     pub fn find_to_remove<S: Space>(
         &mut self,
@@ -172,15 +167,15 @@ impl Tree {
     ) -> Result<(u16, u32, u16), Errno>
         requires referenced { 0 < slice_index self.old.nodes.references dir }
         requires few { (i : ℕ) → slice_index self.old.nodes.references i ≤ 65530 }
-        ensures answer { result ≡ (remove_in (inodes_of self.old.nodes) who dir name.entry).answer }
-        ensures inodes { inodes_of self.new.nodes ≡ (remove_in (inodes_of self.old.nodes) who dir name.entry).inodes }
+        ensures answer { result ≡ (remove_in (inodes_of self.old.nodes) self.old.marks who dir name.entry).answer }
+        ensures inodes { inodes_of self.new.nodes ≡ (remove_in (inodes_of self.old.nodes) self.old.marks who dir name.entry).inodes }
         ensures marks { self.new.marks ≡ self.old.marks }
         ensures rest { SameRest self.old.nodes.blocks self.new.nodes.blocks }
     {
         see_start(&self.nodes, dir);
         let mut name = name;
         let way = walk(&mut self.nodes, dir, who, &mut name)?;
-        let entry = to_remove(&mut self.nodes, way)?;
+        let entry = to_remove(&mut self.nodes, &self.marks, way)?;
         take_both(&mut self.nodes, entry)
     }
 }

@@ -6,9 +6,10 @@ ghost use Rattle.fs_nodes.specs.FileSystem.{SameFiles};
 ghost use Rattle.fs_tree.specs.Name.{components, is_whole, begins, start_of};
 ghost use Rattle.fs_tree.specs.Path.{used_number, entry_number, in_directory, is_last, way, found, to_make, to_remove};
 
-use crate::access::may;
+use crate::access::{grant, may};
 use crate::directory::{Looked, look_up};
 use crate::made::Made;
+use crate::marks::Marks;
 use crate::name::NameBytes;
 use crate::user::{User, Want};
 use fs_codec::is_directory;
@@ -20,7 +21,7 @@ use v6_base::{Errno, Space};
 pub(crate) struct Last {
     pub(crate) dir: u16,
     pub(crate) name: [u8; 14],
-    /// Whether the user may write the directory.
+    /// Whether the user may write the directory, by the bits of its mode.
     pub(crate) may_write: bool,
     pub(crate) looked: Looked,
 }
@@ -140,8 +141,8 @@ pub(crate) fn found(nodes: &mut Nodes, way: Way) -> Result<u16, Errno>
 }
 
 /// The inode that a name leads to, or the room for an entry of this name.
-pub(crate) fn to_make(nodes: &mut Nodes, way: Way) -> Result<Made, Errno>
-    ensures result { result ≡ to_make nodes.old.store way }
+pub(crate) fn to_make(nodes: &mut Nodes, marks: &Marks, way: Way) -> Result<Made, Errno>
+    ensures result { result ≡ to_make nodes.old.store marks.now way }
     ensures same { SameFiles nodes.old nodes.new }
 {
     let Way::End(last) = way else {
@@ -149,26 +150,32 @@ pub(crate) fn to_make(nodes: &mut Nodes, way: Way) -> Result<Made, Errno>
     };
     match last.looked {
         Looked::Entry(_, ino) => Ok(Made::Found(used_number(nodes, ino)?)),
-        Looked::Room(_) if !last.may_write => Err(Errno::EACCES),
-        Looked::Room(place) => Ok(Made::Room {
-            dir: last.dir,
-            offset: 16 * place as u32,
-            name: last.name,
-        }),
+        Looked::Room(place) => {
+            grant(marks, last.dir, Want::Write, last.may_write)?;
+            Ok(Made::Room {
+                dir: last.dir,
+                offset: 16 * place as u32,
+                name: last.name,
+            })
+        }
     }
 }
 
 /// The entry that a name leads to: its directory, its first byte there, and its inode.
-pub(crate) fn to_remove(nodes: &mut Nodes, way: Way) -> Result<(u16, u32, u16), Errno>
-    ensures result { result ≡ to_remove nodes.old.store way }
+pub(crate) fn to_remove(
+    nodes: &mut Nodes,
+    marks: &Marks,
+    way: Way,
+) -> Result<(u16, u32, u16), Errno>
+    ensures result { result ≡ to_remove nodes.old.store marks.now way }
     ensures same { SameFiles nodes.old nodes.new }
 {
     let Way::End(last) = way else {
         return Err(Errno::ENOENT);
     };
     match last.looked {
-        Looked::Entry(_, _) if !last.may_write => Err(Errno::EACCES),
         Looked::Entry(place, ino) => {
+            grant(marks, last.dir, Want::Write, last.may_write)?;
             let ino = used_number(nodes, ino)?;
             Ok((last.dir, 16 * place as u32, ino))
         }

@@ -1,5 +1,5 @@
 -- What is found, made and entered is referred to, and what stays.
-use Rattle.std.proofs.Common.{◌≡◌, ◌≢◌, ◌+◌, ◌<◌, ◌≤◌, ◌&&◌, inl, inr, ℕ, Bool, true, false, cond, List, length, nat_lt, nat_le, slice_index, slice_set, Option, Some, None, IsSome, Result, Ok, Err, IfOk, refl, sym, ap, ◌∙◌, subst, arith}
+use Rattle.std.proofs.Common.{◌≡◌, ◌≢◌, ◌+◌, ◌<◌, ◌≤◌, ◌&&◌, inl, inr, ℕ, Bool, true, false, cond, List, length, nat_lt, nat_le, slice_index, slice_set, Option, Some, None, IsSome, Result, Ok, Err, IfOk, IfErr, refl, sym, ap, ◌∙◌, subst, arith}
 use Rattle.std.proofs.lemmas.Bool.{cases_lt, eq-eqb}
 use Rattle.std.proofs.lemmas.Bool.Decides.{nat_tests}
 use Rattle.std.proofs.lemmas.List.{get_or_past, get_or-set_other}
@@ -39,6 +39,10 @@ taken old new ino takes = let more = takes.references ino in let one = own ino i
 pub if_ok : {A E : Type 0} (r : Result A E) (P : A → Type 0) → ((a : A) → r ≡ Ok a → P a) → IfOk r P
 if_ok (Ok a) P holds = holds a refl
 if_ok (Err e) P holds = tt
+
+pub if_err : {A E : Type 0} (r : Result A E) (P : Type 0) → ((e : E) → r ≡ Err e → P) → IfErr r (λ e. P)
+if_err (Ok a) P holds = tt
+if_err (Err e) P holds = holds e refl
 
 there : (o : Option Node) → IsSome o → (node : Node) × (o ≡ Some node)
 there None some = absurd (cc)
@@ -106,22 +110,34 @@ making_ok : (n : Inodes) (r : Result Made Errno) (m : Made) → (making n r).ans
 making_ok n (Ok a) m ok = referring_made n (can_refer n (named_by_made a)) a m (referring n (named_by_made a) a) refl ok
 making_ok n (Err e) m ok = absurd (cc)
 
-module _ (fs new : FileSystem) (user : User) (dir : ℕ) (bytes : List ℕ) (r : Result Made Errno) (form : IsFileSystem fs)
+-- A search that is refused refers to nothing.
+referring_none : (n : Inodes) (t : Bool) (a : Made) (e : Errno) (f : Finding Made)
+    → f ≡ cond t (record { answer = Ok a; inodes = with_reference n (named_by_made a) }) (refused n ENFILE)
+    → f.answer ≡ Err e → f.inodes ≡ n
+referring_none n true a e f is err = absurd (cc)
+referring_none n false a e f is err = ap (λ (g : Finding Made). g.inodes) is
+
+making_none : (n : Inodes) (r : Result Made Errno) (e : Errno) → (making n r).answer ≡ Err e → (making n r).inodes ≡ n
+making_none n (Ok a) e err =
+    referring_none n (can_refer n (named_by_made a)) a e (referring n (named_by_made a) a) refl err
+making_none n (Err x) e err = refl
+
+module _ (fs new : FileSystem) (marks : List Bool) (user : User) (dir : ℕ) (bytes : List ℕ) (r : Result Made Errno) (form : IsFileSystem fs)
     (referred : 0 < slice_index fs.references dir)
-    (answer : r ≡ (make_in (inodes_of fs) user dir bytes).answer)
-    (inodes : inodes_of new ≡ (make_in (inodes_of fs) user dir bytes).inodes) (blocks : new.blocks ≡ fs.blocks)
+    (answer : r ≡ (make_in (inodes_of fs) marks user dir bytes).answer)
+    (inodes : inodes_of new ≡ (make_in (inodes_of fs) marks user dir bytes).inodes) (blocks : new.blocks ≡ fs.blocks)
   where
     made_is : (m : Made) → r ≡ Ok m
-        → Makes (inodes_of fs) m (then_do (way fs.store user dir bytes) (to_make fs.store))
-        (make_in (inodes_of fs) user dir bytes).inodes
+        → Makes (inodes_of fs) m (then_do (way fs.store user dir bytes) (to_make fs.store marks))
+        (make_in (inodes_of fs) marks user dir bytes).inodes
     made_is m ok =
-        making_ok (inodes_of fs) (then_do (way fs.store user dir bytes) (to_make fs.store)) m (sym answer ∙ ok)
+        making_ok (inodes_of fs) (then_do (way fs.store user dir bytes) (to_make fs.store marks)) m (sym answer ∙ ok)
 
     made_one : (m : Made) → r ≡ Ok m → OneReferenceMore fs (named_by_made m) new
     made_one m ok =
         let is = made_is m ok in
         takes_one fs form new (named_by_made m)
-        (made_used_at fs.store user dir bytes m (start_used fs form dir bytes referred) is.made) (inodes ∙ is.inodes)
+        (made_used_at fs.store marks user dir bytes m (start_used fs form dir bytes referred) is.made) (inodes ∙ is.inodes)
         (rest_same fs.blocks new.blocks blocks)
 
     pub made_takes : IfOk r (λ m. OneReferenceMore fs (named_by_made m) new)
@@ -141,7 +157,17 @@ module _ (fs new : FileSystem) (user : User) (dir : ℕ) (bytes : List ℕ) (r :
     made_has = if_ok r (λ m. HasMade new m) (λ m ok.
         let is = made_is m ok in
         has_made m (made_one m ok) (ap (λ (n : Inodes). n.store) (inodes ∙ is.inodes))
-        (made_at fs.store user dir bytes m is.made))
+        (made_at fs.store marks user dir bytes m is.made))
+
+    pub made_none : IfErr r (λ e. SameReferences fs new)
+    made_none = if_err r (SameReferences fs new) (λ e err.
+        let same = inodes ∙ making_none (inodes_of fs) (then_do (way fs.store user dir bytes) (to_make fs.store marks)) e
+        (sym answer ∙ err) in
+        record {
+          references = λ i. ap (λ (n : Inodes). slice_index n.references i) same;
+          count = ap (λ (n : Inodes). n.store.count) same;
+          blocks = rest_same fs.blocks new.blocks blocks;
+        })
 
 -- An entry that is written keeps references and numbers.
 pub written_keeps : (old new : FileSystem) (dir : ℕ) (m : Node → Moving (Unit {0})) (r : Result (Unit {0}) Errno)

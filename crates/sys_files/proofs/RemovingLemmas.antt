@@ -14,11 +14,7 @@ use Rattle.fs_tree.specs.Finding.{Inodes, Finding, inodes_of, can_refer, with_re
 use Rattle.fs_tree.proofs.EntryLemmas.{removed_at, removed_used_at}
 use Rattle.sys_files.specs.Entering.{HasEntry, SameReferences, one_to, TwoReferencesMore}
 use Rattle.sys_files.proofs.OwingLemmas.{once_more, once_less, put_count}
-use Rattle.sys_files.proofs.EnteringLemmas.{used_low, start_used, if_ok}
-
-if_err : {A E : Type 0} (r : Result A E) (P : Type 0) → ((e : E) → r ≡ Err e → P) → IfErr r (λ e. P)
-if_err (Ok a) P holds = tt
-if_err (Err e) P holds = holds e refl
+use Rattle.sys_files.proofs.EnteringLemmas.{used_low, start_used, if_ok, if_err}
 
 long_set : (r : List ℕ) (i x j : ℕ) → j < length r → j < length (slice_set r i x)
 long_set r i x j low = let same = length-set r i x in omega (arith, same, low)
@@ -100,19 +96,19 @@ removing_err n (Ok a) x low err =
     both_err n (can_refer n a.0) (can_refer (with_reference n a.0) a.2) a x (referring_both n a) (low a refl) refl err
 removing_err n (Err y) x low err = record { references = λ i. refl; count = refl }
 
-module _ (fs new : FileSystem) (user : User) (dir : ℕ) (bytes : List ℕ) (r : Result Entry Errno)
+module _ (fs new : FileSystem) (marks : List Bool) (user : User) (dir : ℕ) (bytes : List ℕ) (r : Result Entry Errno)
     (form : IsFileSystem fs) (referred : 0 < slice_index fs.references dir)
-    (answer : r ≡ (remove_in (inodes_of fs) user dir bytes).answer)
-    (inodes : inodes_of new ≡ (remove_in (inodes_of fs) user dir bytes).inodes)
+    (answer : r ≡ (remove_in (inodes_of fs) marks user dir bytes).answer)
+    (inodes : inodes_of new ≡ (remove_in (inodes_of fs) marks user dir bytes).inodes)
     (blocks : SameRest fs.blocks new.blocks) where
-  entry_used : (e : Entry) → then_do (way fs.store user dir bytes) (to_remove fs.store) ≡ Ok e
+  entry_used : (e : Entry) → then_do (way fs.store user dir bytes) (to_remove fs.store marks) ≡ Ok e
       → IsSome (node_numbered fs.store e.0) × IsSome (node_numbered fs.store e.2)
-  entry_used e is = removed_used_at fs.store user dir bytes e (start_used fs form dir bytes referred) is
+  entry_used e is = removed_used_at fs.store marks user dir bytes e (start_used fs form dir bytes referred) is
 
   removed_is : (e : Entry) → r ≡ Ok e
-      → Removes (inodes_of fs) e (then_do (way fs.store user dir bytes) (to_remove fs.store))
-      (remove_in (inodes_of fs) user dir bytes).inodes
-  removed_is e ok = removing_ok (inodes_of fs) (then_do (way fs.store user dir bytes) (to_remove fs.store)) e
+      → Removes (inodes_of fs) e (then_do (way fs.store user dir bytes) (to_remove fs.store marks))
+      (remove_in (inodes_of fs) marks user dir bytes).inodes
+  removed_is e ok = removing_ok (inodes_of fs) (then_do (way fs.store user dir bytes) (to_remove fs.store marks)) e
       (sym answer ∙ ok)
 
   removed_both : (e : Entry) → r ≡ Ok e → TwoReferencesMore fs e.0 e.2 new
@@ -132,7 +128,7 @@ module _ (fs new : FileSystem) (user : User) (dir : ℕ) (bytes : List ℕ) (r :
   pub removed_has : IfOk r (λ e. HasEntry new e.0 e.1)
   removed_has = if_ok r (λ e. HasEntry new e.0 e.1) (λ e ok.
       let is = removed_is e ok in
-      let place = removed_at fs.store user dir bytes e is.entry in
+      let place = removed_at fs.store marks user dir bytes e is.entry in
       let more = (removed_both e ok).references e.0 in
       let own : one_to e.0 e.0 ≡ 1 = ap (λ t. cond t 1 0) (eq-eqb e.0 e.0 refl) in
       let same : new.store ≡ fs.store = ap (λ (n : Inodes). n.store) (inodes ∙ is.inodes) in
@@ -145,7 +141,7 @@ module _ (fs new : FileSystem) (user : User) (dir : ℕ) (bytes : List ℕ) (r :
 
   pub removed_none : IfErr r (λ e. SameReferences fs new)
   removed_none = if_err r (SameReferences fs new) (λ x err.
-      let left = removing_err (inodes_of fs) (then_do (way fs.store user dir bytes) (to_remove fs.store)) x
+      let left = removing_err (inodes_of fs) (then_do (way fs.store user dir bytes) (to_remove fs.store marks)) x
       (λ a is. used_low fs form a.0 (entry_used a is).0) (sym answer ∙ err) in
       record {
         references = λ i. ap (λ (n : Inodes). slice_index n.references i) inodes ∙ left.references i;

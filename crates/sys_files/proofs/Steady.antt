@@ -50,7 +50,7 @@ pub record Steady (old new : Handed) : Type 0 where
   pub row : SameRow old.row new.row
   pub area : SameArea old.u new.u
   pub image : SameLengths old.image new.image
-  pub marks : ◌≡◌ {A = List ℕ} new.marks old.marks
+  pub marks : ◌≡◌ {A = List Bool} new.marks old.marks
 
 -- A call that shows little, and leaves as it is what has to stay.
 pub record Confined (old : Handed) (did : Did) : Type 0 where

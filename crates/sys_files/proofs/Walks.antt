@@ -262,7 +262,7 @@ module _ {P : Handed → Type 0} {Q : Did → Type 0} {Few : ℕ → Type 0} (k 
 
   pub walk_unlink : (h : Handed) (name now : ℕ) → P h → Q (unlink_file h name now)
   walk_unlink h name now p =
-      walk_named h (remove_in h.inodes (user_of h.u) h.u.dir (name_at h.image name)) (removes now) p (λ l entry q. removed l now entry q)
+      walk_named h (remove_in h.inodes h.marks (user_of h.u) h.u.dir (name_at h.image name)) (removes now) p (λ l entry q. removed l now entry q)
 
   -- 12, chdir
   pub walk_chdir : (h : Handed) (name : ℕ) → P h → Q (chdir_to h name)

@@ -61,4 +61,4 @@ by_made old new h (made.Found ino) = until_end ino (old h ino)
 by_made old new h (made.Room dir offset name) = until_end dir (new h dir offset name)
 
 abbrev pub makes : Handed → ℕ → (Handed → ℕ → Did) → (Handed → ℕ → ℕ → List ℕ → Did) → Did
-makes h name old new = then_named h (make_in h.inodes (user_of h.u) h.u.dir (name_at h.image name)) (by_made old new)
+makes h name old new = then_named h (make_in h.inodes h.marks (user_of h.u) h.u.dir (name_at h.image name)) (by_made old new)

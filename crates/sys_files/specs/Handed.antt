@@ -15,7 +15,7 @@ use Rattle.sys_files.specs.declared.files.Files.{Files}
 
 pub record Handed : Type 0 where
   pub inodes : Inodes  -- the store, and how often its inodes are referred to
-  pub marks : List ℕ  -- the inodes whose text is shared
+  pub marks : List Bool  -- which inodes have a text that is shared
   pub files : List (Option OpenFile)  -- the table of open files
   pub line : Terminal  -- the console
   pub u : UArea  -- of the process that calls

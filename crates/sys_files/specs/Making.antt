@@ -152,4 +152,4 @@ removes now h (dir, offset, ino) = until_end ino (until_end dir (empties now h d
 
 -- 10, unlink: a name. The inode goes with its last link and its last reference.
 abbrev pub unlink_file : Handed → ℕ → ℕ → Did
-unlink_file h name now = then_named h (remove_in h.inodes (user_of h.u) h.u.dir (name_at h.image name)) (removes now)
+unlink_file h name now = then_named h (remove_in h.inodes h.marks (user_of h.u) h.u.dir (name_at h.image name)) (removes now)

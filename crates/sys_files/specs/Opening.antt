@@ -36,7 +36,7 @@ abbrev pub last_failure : List (Result (Unit {0}) Errno) → Result (Unit {0}) E
 last_failure [] = Ok tt
 last_failure (test ∷ tests) = or_earlier (last_failure tests) test
 
-abbrev pub open_tests : List ℕ → ℕ → Node → User → ℕ → List (Result (Unit {0}) Errno)
+abbrev pub open_tests : List Bool → ℕ → Node → User → ℕ → List (Result (Unit {0}) Errno)
 open_tests marks ino node user mode =
     only_if (opens_to_read mode) (permission node user Read)
     ∷ only_if (opens_to_write mode) (access marks ino node user Write)

@@ -28,9 +28,9 @@ pub(crate) fn find_to_make<S: Space>(
     requires directory { 0 < slice_index tree.old.nodes.references u.now.dir }
     requires few { (i : ℕ) → slice_index tree.old.nodes.references i ≤ 65530 }
     ensures answer { result
-        ≡ (make_in (inodes_of tree.old.nodes) (user_of u.now) u.now.dir (name_at (S.image space.now) name)).answer }
+        ≡ (make_in (inodes_of tree.old.nodes) tree.old.marks (user_of u.now) u.now.dir (name_at (S.image space.now) name)).answer }
     ensures inodes { inodes_of tree.new.nodes
-        ≡ (make_in (inodes_of tree.old.nodes) (user_of u.now) u.now.dir (name_at (S.image space.now) name)).inodes }
+        ≡ (make_in (inodes_of tree.old.nodes) tree.old.marks (user_of u.now) u.now.dir (name_at (S.image space.now) name)).inodes }
     ensures marks { tree.new.marks ≡ tree.old.marks }
     ensures made { IfOk result (λ made. HasMade tree.new.nodes made) }
     ensures found { IfOk result (λ made. OneReferenceMore tree.old.nodes (named_by_made made) tree.new.nodes) }
@@ -94,9 +94,9 @@ pub(crate) fn find_to_remove<S: Space>(
     requires directory { 0 < slice_index tree.old.nodes.references u.now.dir }
     requires few { (i : ℕ) → slice_index tree.old.nodes.references i ≤ 65530 }
     ensures answer { result
-        ≡ (remove_in (inodes_of tree.old.nodes) (user_of u.now) u.now.dir (name_at (S.image space.now) name)).answer }
+        ≡ (remove_in (inodes_of tree.old.nodes) tree.old.marks (user_of u.now) u.now.dir (name_at (S.image space.now) name)).answer }
     ensures inodes { inodes_of tree.new.nodes
-        ≡ (remove_in (inodes_of tree.old.nodes) (user_of u.now) u.now.dir (name_at (S.image space.now) name)).inodes }
+        ≡ (remove_in (inodes_of tree.old.nodes) tree.old.marks (user_of u.now) u.now.dir (name_at (S.image space.now) name)).inodes }
     ensures marks { tree.new.marks ≡ tree.old.marks }
     ensures entry { IfOk result (λ entry. HasEntry tree.new.nodes entry.0 entry.1) }
     ensures found { IfOk result (λ entry. TwoReferencesMore tree.old.nodes entry.0 entry.2 tree.new.nodes) }

@@ -10,7 +10,7 @@ take_both-requires-clause-dir g c =
     let w = way_used fs.store c.args.who c.args.dir c.args.name c.in_ok-way.way c.in_ok-way.ensures.result (c.see_start.ensures c.args.name) in
     let P : Store → Type 0 = λ s. IsSome (node_numbered s c.in_ok-entry.entry.0) in
     subst P (sym (c.to_remove.ensures.same.store ∙ c.walk.ensures.same.store))
-    (removed_used fs.store c.in_ok-way.way c.in_ok-entry.entry w (c.in_ok-entry.ensures.result ∙ ap (λ (s : Store). to_remove s c.in_ok-way.way) c.walk.ensures.same.store)).0
+    (removed_used fs.store c.args.self.now.marks c.in_ok-way.way c.in_ok-entry.entry w (c.in_ok-entry.ensures.result ∙ ap (λ (s : Store). to_remove s c.args.self.now.marks c.in_ok-way.way) c.walk.ensures.same.store)).0
 
 pub take_both-requires-clause-node : goal.take_both-requires-clause-node
 take_both-requires-clause-node g c =
@@ -18,4 +18,4 @@ take_both-requires-clause-node g c =
     let w = way_used fs.store c.args.who c.args.dir c.args.name c.in_ok-way.way c.in_ok-way.ensures.result (c.see_start.ensures c.args.name) in
     let P : Store → Type 0 = λ s. IsSome (node_numbered s c.in_ok-entry.entry.2) in
     subst P (sym (c.to_remove.ensures.same.store ∙ c.walk.ensures.same.store))
-    (removed_used fs.store c.in_ok-way.way c.in_ok-entry.entry w (c.in_ok-entry.ensures.result ∙ ap (λ (s : Store). to_remove s c.in_ok-way.way) c.walk.ensures.same.store)).1
+    (removed_used fs.store c.args.self.now.marks c.in_ok-way.way c.in_ok-entry.entry w (c.in_ok-entry.ensures.result ∙ ap (λ (s : Store). to_remove s c.args.self.now.marks c.in_ok-way.way) c.walk.ensures.same.store)).1
