@@ -155,7 +155,7 @@ class Console:
         return found
 
     def help(self, _):
-        tell(HELP.rstrip())
+        tell("lines that begin with ~:\n" + HELP.rstrip())
 
     def list(self, _):
         first = self.dialogue.first()

@@ -256,7 +256,7 @@ class Sessions(Case):
         self.assertEqual(said, f"\nconsole: script: line 5: 'walk'{back}\nconsole: only characters of ASCII can be typed{back}")
         self.assertEqual(read(script), self.script("run 10000\ntype echo a\nrun 10000\ntype echo b\nrun 10000\n"))
         self.assertEqual(self.session("~x\n"), (1, b"# ", "\nconsole: no command of the console; ~? tells which there are\n"))
-        self.assertEqual(self.session("~?\n"), (0, b"# ", f"\nconsole: {console.HELP}"))
+        self.assertEqual(self.session("~?\n"), (0, b"# ", f"\nconsole: lines that begin with ~:\n{console.HELP}"))
 
     def test_signals(self):
         status, _, said = self.session("~^?\n")
