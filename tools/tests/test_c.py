@@ -259,6 +259,13 @@ class Compiled(Program):
         """What docs/tools/c.md says of the compiler's faults."""
         self.body('long long wide = 65536L * 16384; printf("%d %d\\n", (int)sizeof wide, wide * 4 == 0);', "4 1\n")
 
+    def test_under_try(self):
+        """try.py compiles a source in C, as it assembles one in assembly."""
+        one = self.put("one.c", b"#include <stdio.h>\nint two(void);\nint main(int n, char **v) { puts(*v); return two(); }\n")
+        two = self.put("two.s", b"\t.globl\t_two\n_two:\tmov\t$7,r0\n\trts\tpc\n")
+        self.assertEqual(self.run_it("--with", two, one), (7, "one\n", ""))
+        self.assertEqual(self.run_it(one), (125, "", "try.py: two: neither in the program nor in the library\n"))
+
     def test_names_of_files(self):
         """Two files have static names and labels of their own, and share what is global."""
         one = self.put("-one.c", b"static int n = 1; int shared; int other(void); int main(void) { shared = n; return other(); }\n")
