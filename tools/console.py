@@ -10,7 +10,7 @@ sys.path.insert(0, os.path.dirname(os.path.abspath(__file__)))
 from dialogue import (END_OF_FILE, HEADER, INTERRUPT, MANY, OVER, RETURN, RUNS, SLEEPS, WAITS, Dialogue, DialogueError,
                       Machine, Refused, keys, shown)
 from files import place_of, read_bytes, replace, same_file, told
-from processes import Processes
+from processes import Processes, programs_of
 from program import CORE, V6, ProgramError, add_version
 from screen import without_echo
 
@@ -155,7 +155,7 @@ class Console:
         return found
 
     def help(self, _):
-        tell(HELP.rstrip())
+        tell("lines that begin with ~:\n" + HELP.rstrip())
 
     def list(self, _):
         first = self.dialogue.first()
@@ -185,7 +185,8 @@ class Console:
         return found
 
     def who(self, _):
-        tell("\n".join(self.processes()))
+        disk = self.dialogue.machine.disk(self.dialogue.lines())
+        tell("\n".join(Processes(self.dialogue.played.log).told(programs_of(disk))))
 
     def processes(self):
         return Processes(self.dialogue.played.log).told()

@@ -1,6 +1,10 @@
 """What the processes of a machine do at the end of a run, as its log tells: docs/manual/log.md."""
 from dataclasses import dataclass
 
+from assembler import HEADER
+from pdp11 import MAGIC
+from volume import ROOT, Volume, shown
+
 # What a machine comes to when the slots of a line are done.
 WAITS = "waits"  # for a key: whoever was woken by the last line reads the terminal again, or nobody can run
 BUSY = "busy"  # somebody waits for a key, and others run on
@@ -9,7 +13,28 @@ RUNS = "runs"  # somebody runs, and nobody waits for a key
 OVER = "over"  # nobody can run, and no key and no tick changes that
 KEYS, TIME = b"keys", b"tout"
 MOST_NUMBER = 32767
+CLICK, U_AREA, STACK = 64, 16, 20  # bytes, and the clicks that exec(II) gives to these
 DOES = {"keys": "reads the terminal", "tout": "sleeps for a time", "runs": "runs", "ended": "has ended"}
+
+
+def programs_of(disk):
+    """The paths of the programs of magic 0407 on a disk, by the clicks of the images that exec(II) makes of them."""
+    volume, found, folders, seen = Volume(disk), {}, [(b"", ROOT)], set()
+    while folders:
+        path, folder = folders.pop()
+        seen.add(folder)
+        for number, name in volume.entries(volume.inode(folder)):
+            inode = volume.inode(number)
+            if not volume.is_used(number) or inode.is_device() or number in seen:
+                continue
+            if inode.is_directory():
+                folders.append((path + b"/" + name, number))
+                continue
+            header = volume.read(inode)[: HEADER.size]
+            if len(header) == HEADER.size and HEADER.unpack(header)[0] == MAGIC:
+                clicks = U_AREA + STACK + -(-sum(HEADER.unpack(header)[1:4]) // CLICK)
+                found.setdefault(clicks, []).append(shown(path + b"/" + name))
+    return {clicks: sorted(names) for clicks, names in found.items()}
 
 
 @dataclass
@@ -17,6 +42,7 @@ class Process:
     number: int
     parent: int
     does: str = "runs"
+    image: int = 0  # the clicks of the image that exec(II) made of its program
 
 
 class Processes:
@@ -63,7 +89,12 @@ class Processes:
             self.last = self.last % MOST_NUMBER + 1
             if self.last not in taken:
                 break
-        self.slots[int(words[2])] = Process(self.last, self.slots[int(words[1])].number)
+        parent = self.slots[int(words[1])]
+        self.slots[int(words[2])] = Process(self.last, parent.number, image=parent.image)
+
+    def image(self, words):
+        if int(words[1]) in self.slots:
+            self.slots[int(words[1])].image = int(words[2])
 
     def exit(self, words):
         gone = self.slots[int(words[1])]
@@ -84,15 +115,17 @@ class Processes:
             return RUNS
         return SLEEPS if self.sleepers(TIME) else OVER
 
-    def told(self):
-        """What each process does, in words."""
+    def told(self, programs=None):
+        """What each process does, in words, and the programs whose image is as large as its own: see programs_of."""
         lines = []
         for _, one in sorted(self.slots.items()):
             does = DOES.get(one.does) or "waits for a child"
+            if one.image in (programs or {}) and one.does != "ended":
+                does += f" ({' or '.join(programs[one.image])})"
             lines.append(f"process {one.number}, a child of {one.parent}, {does}" if one.parent else
                          f"process {one.number} {does}")
         return lines
 
 
 LINES = {b"go": Processes.choice, b"idle": Processes.choice, b"sleep": Processes.sleep, b"wake": Processes.wake,
-         b"signal": Processes.signal, b"fork": Processes.fork, b"exit": Processes.exit, b"reap": Processes.reap}
+         b"signal": Processes.signal, b"image": Processes.image, b"fork": Processes.fork, b"exit": Processes.exit, b"reap": Processes.reap}

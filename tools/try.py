@@ -7,6 +7,7 @@ import sys
 import tempfile
 
 sys.path.insert(0, os.path.dirname(os.path.abspath(__file__)))
+import compiler
 from assembler import Assembler
 from dialogue import MOST_SLOTS, Dialogue, DialogueError, Machine, Refused, total
 from files import guarded, read_bytes, replace
@@ -61,6 +62,11 @@ class TryError(Exception):
 def program_of(options):
     """The bytes of the program, and the assembler where it is made of a source."""
     names = [options.program, *options.sources]
+    if options.program.endswith(".c"):
+        try:
+            return compiler.program_of(names)
+        except compiler.CompileError as error:
+            raise TryError(error) from None
     if not options.program.endswith(".s"):
         return read_bytes(options.program), None
     assembler = Assembler()
@@ -253,7 +259,7 @@ def tell(text):
 
 def run_program(options):
     program, assembler = program_of(options)
-    name = os.fsencode(os.path.basename(options.program).removesuffix(".s"))
+    name = os.fsencode(os.path.basename(options.program).removesuffix(".s").removesuffix(".c"))
     try:
         check_name(name)
     except DiskError as error:
@@ -284,7 +290,7 @@ def options_of(words):
     parser.add_argument("--slots", type=int, default=MOST_SLOTS, help=f"what the program is given at most ({MOST_SLOTS})")
     parser.add_argument("--v6", metavar="COMMAND", default=V6, help="the program that runs disks (bin/v6)")
     add_version(parser)
-    parser.add_argument("program", metavar="PROGRAM", help="a program, or its source: FILE.s")
+    parser.add_argument("program", metavar="PROGRAM", help="a program, or its source: FILE.s or FILE.c")
     parser.add_argument("arguments", metavar="ARG", nargs=argparse.REMAINDER, help="its arguments")
     options = parser.parse_args(words)
     if options.slots < 1:

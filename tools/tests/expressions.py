@@ -63,8 +63,6 @@ class Expressions:
 
     def choice(self, depth):
         which, one, other = self.make(depth), self.make(depth), self.make(depth)
-        if {one[1], other[1]} == {"char", "unsigned char"}:  # the compiler has these wrong: docs/tools/c.md
-            return one
         kind = common(one[1], other[1])
         return f"({which[0]} ? {one[0]} : {other[0]})", kind, fitted(one[2] if which[2] else other[2], kind)
 

@@ -6,7 +6,7 @@ import sys
 import unittest
 
 import expressions
-from common import TOOLS, TOP, V6, Case, read, tool
+from common import TOOLS, TOP, V6, Case, read, tool, v6
 
 cc, disk_main = tool("cc"), tool("disk").main
 EXAMPLE = os.path.join(TOP, "examples", "c")
@@ -123,6 +123,18 @@ class Examples(Program):
         self.assertEqual(self.example("forth", typed=typed)[:2],
                          (0, "3 -3  ok\n42  ok\n1 2 3 4 5  ok\nnone?\ndivision by zero?\n3 2 1  ok\n8  ok\n"))
 
+    def test_at_the_shell(self):
+        """Put on the shell's disk, they run there as its own commands do, also with 1200 clicks of core."""
+        image = self.put("image", read(os.path.join(TOP, "examples", "shell", "image")))
+        for name in ("sort", "grep"):
+            self.assertEqual(self.call(disk_main, "--v6", V6, "put", image, os.path.join(EXAMPLE, "bin", name), "/bin"), (0, "", ""))
+        script = self.put("script", b"run 9000\ntype sort </usr/sys/ken/slp.c >/t\nrun 20000\ntype grep -n sory /t\nrun 20000\n"
+                          b"type grep -c t. /t\nrun 20000\n")
+        for core in ("1200", "3968"):
+            self.assertEqual(v6("run", image, core, script, *map(self.path, ("term", "log", "final")))[0], 0)
+            self.assertEqual(read(self.path("term")).replace(b"\r\n", b"\n"),
+                             b"# SORT </USR/SYS/KEN/SLP.C >/T\n# GREP -N SORY /T\n# GREP -C T. /T\n1\n# ")
+
     def test_run(self):
         """run.sh prints what the page of the example shows."""
         done = subprocess.run([os.path.join(EXAMPLE, "run.sh")], capture_output=True, text=True)
@@ -231,10 +243,28 @@ class Compiled(Program):
             self.assertEqual((status, out, os.path.exists(self.path("it"))), (1, "", False))
             self.assertIn(why, said.replace(self.folder + "/", ""))
 
+    def test_the_page(self):
+        """The program of docs/tools/c.md, with the commands as they stand there, but for the folder."""
+        page = read(os.path.join(TOP, "docs", "tools", "c.md")).decode()
+        source, commands = page.split("```c\n")[1].split("```")[0], page.split("```c\n")[1].split("```\n")[2].split("\n")[:2]
+        self.assertEqual([line.split()[0] for line in commands], ["tools/cc.py", "printf"])
+        self.put("lines.c", source.encode())
+        os.symlink(TOOLS, self.path("tools"))
+        done = subprocess.run(["sh", "-ec", "\n".join(commands)], cwd=self.folder, capture_output=True, text=True,
+                              env={**os.environ, "V6": V6})
+        self.assertEqual((done.returncode, done.stdout, done.stderr), (0, "there: 2 lines\n", ""))
+        self.assertIn("prints `there: 2 lines`", page)
+
     def test_known_faults(self):
         """What docs/tools/c.md says of the compiler's faults."""
-        self.body("char c = -1; unsigned char u = 1; long long wide = 1;\n"
-                  'printf("%d %d %d\\n", argc ? c : u, (int)sizeof wide, (int)sizeof(long));', "255 4 4\n")
+        self.body('long long wide = 65536L * 16384; printf("%d %d\\n", (int)sizeof wide, wide * 4 == 0);', "4 1\n")
+
+    def test_under_try(self):
+        """try.py compiles a source in C, as it assembles one in assembly."""
+        one = self.put("one.c", b"#include <stdio.h>\nint two(void);\nint main(int n, char **v) { puts(*v); return two(); }\n")
+        two = self.put("two.s", b"\t.globl\t_two\n_two:\tmov\t$7,r0\n\trts\tpc\n")
+        self.assertEqual(self.run_it("--with", two, one), (7, "one\n", ""))
+        self.assertEqual(self.run_it(one), (125, "", "try.py: two: neither in the program nor in the library\n"))
 
     def test_names_of_files(self):
         """Two files have static names and labels of their own, and share what is global."""

@@ -6,6 +6,7 @@ import pty
 import re
 import select
 import shutil
+import struct
 import subprocess
 import sys
 import time
@@ -14,7 +15,7 @@ import unittest
 from common import DISK_BYTES, TOOLS, TOP, V6, Case, read, tool, v6, write
 
 import dialogue
-from processes import Processes
+from processes import Processes, programs_of
 from screen import echo, without_echo
 from volume import CHARACTER, Volume
 
@@ -256,18 +257,34 @@ class Sessions(Case):
         self.assertEqual(said, f"\nconsole: script: line 5: 'walk'{back}\nconsole: only characters of ASCII can be typed{back}")
         self.assertEqual(read(script), self.script("run 10000\ntype echo a\nrun 10000\ntype echo b\nrun 10000\n"))
         self.assertEqual(self.session("~x\n"), (1, b"# ", "\nconsole: no command of the console; ~? tells which there are\n"))
-        self.assertEqual(self.session("~?\n"), (0, b"# ", f"\nconsole: {console.HELP}"))
+        self.assertEqual(self.session("~?\n"), (0, b"# ", f"\nconsole: lines that begin with ~:\n{console.HELP}"))
 
     def test_signals(self):
         status, _, said = self.session("~^?\n")
         self.assertEqual((status, said), (1, "\nconsole: not built: line 3: the keys that interrupt (0177, control-C) and quit "
                                              "(034) make signals, which aren't built yet\nconsole: this line is taken back\n"))
 
+    def test_names_of_programs(self):
+        """Programs of 100 and 200 bytes have images of 16, 20 and two or four clicks; one that isn't 0407 has none."""
+        for name, words in (("one", (0o407, 60, 20, 20)), ("two", (0o407, 200, 0, 0)), ("three", (0o407, 0, 0, 193)),
+                            ("four", (0o410, 60, 20, 20))):
+            folder = "bin/more" if name == "three" else "bin"
+            os.makedirs(self.path("disk/" + folder), exist_ok=True)
+            self.put(f"disk/{folder}/{name}", struct.pack("<8H", *words, 0, 0, 0, 0) + bytes(80))
+        self.assertEqual(self.call(tool("disk").main, "--v6", V6, "new", self.path("image"), self.path("disk"))[0], 0)
+        found = programs_of(read(self.path("image")))
+        self.assertEqual(found, {38: ["/bin/one"], 40: ["/bin/more/three", "/bin/two"]})
+        log = "bare 1\nimage 1 40 at 1\nfork 1 2 at 41\ngo 2\nbare 2\nimage 2 38 at 81\nsize 2 40 at 81\nsleep 2 10 keys\n"
+        self.assertEqual(Processes((BOOT + log).encode()).told(found),
+                         ["process 1 runs (/bin/more/three or /bin/two)", "process 2, a child of 1, reads the terminal (/bin/one)"])
+
     def test_back_and_forth(self):
         status, term, said = self.session("chdir /usr\nls\n~u 2\n~l\nls\nls\n~u\n~l\n~w\n~g 2\n~u 3\n~g 4\n", "--script",
                                           self.path("new"))
         root = b"LS\r\nBIN\r\nDEV\r\nETC\r\nUSR\r\n# "
         self.assertEqual(term, b"# CHDIR /USR\r\n# LS\r\nSYS\r\n# " + root + root + root)
+        self.assertIn("reads the terminal (", said)
+        said = re.sub(r" \(/bin/[^)]*or /bin/sh or /etc/init\)", "", said)
         self.assertEqual(said, "\nconsole: 0 lines, as they were typed\ntaken back:\n    1  chdir /usr\n    2  ls\n"
                                "\nconsole: 1 lines, as they were typed\n    1  ls\ntaken back:\n    2  ls\n"
                                "\nconsole: process 1 reads the terminal\n"
