@@ -13,7 +13,7 @@ use Rattle.pick_rules.specs.Effects.{came}
 use Rattle.pick_rules.specs.Lawful.{Seen, seen_after}
 use Rattle.pick_rules.proofs.Found.{IsFound, found_in}
 use Rattle.log_laws.proofs.Fitting.{Apt}
-use Rattle.log_laws.proofs.Seats.{Seats, with_seat, InCall}
+use Rattle.log_laws.proofs.Seats.{Seats, with_seat, InCall, in_its_slot}
 use Rattle.log_laws.proofs.Births.{free_seat, fork_apt}
 use Rattle.log_laws.proofs.Deaths.{IsDead, reap_fits, reap_in}
 use Rattle.sys_procs.specs.Process.{Process, member_of}
@@ -61,7 +61,7 @@ module _ (s : ℕ) (seen : Seen) where
       → FineComes s seen (record { effects = []; state = change w s waiting; answer = Sleep pwait (Wait s) })
   unfolding Apt
   waits w i = record {
-    fine = (changed_in w.processes w.clock w.texts s false seen (waiting (process_of w s)) i (runner_alive w.processes w.clock w.texts s seen.board i.turn) refl refl, (refl, refl));
+    fine = (changed_in w.processes w.clock w.texts s false seen (waiting (process_of w s)) i (runner_alive w.processes w.clock w.texts s seen.board i.turn) refl refl, (refl, refl), in_its_slot i.turn);
   }
 
   buries_fine : (w : World) (c : ℕ) → Calling s w seen → IsDead (seats_here w) c

@@ -24,12 +24,12 @@ use Rattle.log_laws.proofs.Seats.{Seat, Seats, seat_at, stands, rule_of, AgreesA
 use Rattle.log_laws.proofs.Settles.{Settled, IsSettled, settling}
 use Rattle.log_laws.proofs.Passes.{Moves, pass_ends}
 use Rattle.sys_procs.specs.Process.{register}
+use Rattle.abstract_unix.specs.declared.turned.Unbuilt.{Unbuilt}
 use Rattle.abstract_unix.specs.Unix.{Unix, System, process_of}
 use Rattle.abstract_unix.specs.Steps.{Steps}
 use Rattle.abstract_unix.specs.Turn.{Turn, happens, settled_after, end_effects, ending_at, ending_by, settled_as, settled, turn_of, pass_effects, pass_of, slot_of}
-use Rattle.abstract_unix.proofs.RunsLemmas.{settled_ending}
 use Rattle.abstract_unix.proofs.Sitting.{is_core, seats_of}
-use Rattle.abstract_unix.proofs.Steps.{AptSteps}
+use Rattle.abstract_unix.proofs.Steps.{GoesOn, AptSteps}
 use Rattle.abstract_unix.proofs.Turning.{turn_apt}
 
 -- the system at these lines
@@ -41,14 +41,13 @@ pub record Stands (m : System) (seen : Seen) : Type 0 where
   pub board : seen.board ≡ m.board
   pub holds : Holds (seats_of m.unix) seen
 
--- lines that fit, and the system then
-pub record Fine (seen : Seen) (items : List Item) (m : System) : Type 0 where
+-- lines that fit, and, where the run goes on after them, the system then
+pub record Fine (seen : Seen) (items : List Item) (m : System) (ending : Option Unbuilt) : Type 0 where
   pub fit : FitAll seen (entries_of items)
-  pub stands : Stands m (seen_items seen items)
+  pub stands : ending ≡ None → Stands m (seen_items seen items)
 
--- an event after which the run goes on
-pub record FineTurn (seen : Seen) (t : Turn) : Type 0 where
-  pub fine : t.ending ≡ None → Fine seen t.items t.next
+abbrev pub FineTurn : Seen → Turn → Type 0
+FineTurn seen t = Fine seen t.items t.next t.ending
 
 -- the kernel settles
 module _ (u : Unix) (first : Seen) (l : Logged Unix) (fit : FitAll first (entries_of l.items)) (board : (seen_items first l.items).board ≡ l.board)
@@ -59,33 +58,33 @@ module _ (u : Unix) (first : Seen) (l : Logged Unix) (fit : FitAll first (entrie
   abbrev next : Board → System
   next b = record { unix = u; board = b }
 
-  rests_fine : Holds (seats_of u) now → Fine first l.items (next l.board)
-  rests_fine h = record { fit = fit; stands = record { board = board; holds = h } }
+  rests_fine : Holds (seats_of u) now → Fine first l.items (next l.board) None
+  rests_fine h = record { fit = fit; stands = λ e. record { board = board; holds = h } }
 
   chosen_fine : (e : Entry) → settle now.board.table ≡ Some e → Settled (seats_of u) now e
-      → Fine first (l.items ++ Log e ∷ []) (next (applied l.board e))
+      → Fine first (l.items ++ Log e ∷ []) (next (applied l.board e)) None
   unfolding FitAll
   chosen_fine e f s =
       let after : seen_items first (l.items ++ Log e ∷ []) ≡ seen_after now e = seen_append first l.items (Log e ∷ []) in
       record {
         fit = fit_item first l.items (Log e) fit (s.fits, tt);
-        stands = record {
+        stands = λ none. record {
           board = ap (λ x. x.board) after ∙ ap (λ b. applied b e) board;
           holds = subst (Holds (seats_of u)) (sym after) s.holds;
         };
       }
 
-  settled_fine : Fine first (l.items ++ (settled l.board).items) (next (settled l.board).board)
-  settled_fine = subst (λ b. Fine first (l.items ++ (settled_as (settle b.table) l.board).items) (next (settled_as (settle b.table) l.board).board)) board
+  settled_fine : Fine first (l.items ++ (settled l.board).items) (next (settled l.board).board) None
+  settled_fine = subst (λ b. Fine first (l.items ++ (settled_as (settle b.table) l.board).items) (next (settled_as (settle b.table) l.board).board) None) board
       (by (settle now.board.table) refl (settling (seats_of u) now p))
     where
       by : (o : Option Entry) → settle now.board.table ≡ o → IsSettled (seats_of u) now o
-          → Fine first (l.items ++ (settled_as o l.board).items) (next (settled_as o l.board).board)
+          → Fine first (l.items ++ (settled_as o l.board).items) (next (settled_as o l.board).board) None
       by None f s = rw (append-nil l.items) (rests_fine s)
       by (Some e) f s = chosen_fine e f s
 
-  pub settles_fine : l.stop ≡ None → Fine first (settled_after (happens u l)).items (settled_after (happens u l)).next
-  settles_fine stop = subst (λ x. Fine first (l.items ++ (settled l.board).items) (record { unix = x; board = (settled l.board).board }))
+  pub settles_fine : l.stop ≡ None → FineTurn first (settled_after (happens u l))
+  settles_fine stop = subst (λ x. Fine first (l.items ++ (settled l.board).items) (record { unix = x; board = (settled l.board).board }) None)
       (sym (ap (λ o. left_by o u) stop)) settled_fine
 
 -- effects that name no place don't panic
@@ -120,7 +119,7 @@ ends_none Q (Some stop) seen e h = absurd (cc e)
 
 pub event_by : (u v : Unix) (seen : Seen) (es : List (Effect Unix))
     → Apt (Paused (seats_of v)) seen es → (logged seen.board es).stop ≡ None
-    → Fine seen (settled_after (happens v (logged seen.board es))).items (settled_after (happens v (logged seen.board es))).next
+    → FineTurn seen (settled_after (happens v (logged seen.board es)))
 event_by u v seen es a stop =
     let l : Logged Unix = logged seen.board es in
     let f : Fitted (Paused (seats_of v)) seen l = apt_fits (Paused (seats_of v)) seen es a in
@@ -134,16 +133,29 @@ stops pc (Some stop) steps e = absurd (cc e)
 
 turned_fine : (s : ℕ) (u : Unix) (seen : Seen) (steps : Steps) → AptSteps s seen steps
     → FineTurn seen (settled_after (turn_of (system_at u seen) s steps))
-turned_fine s u seen steps a = record {
-  fine = λ e.
-      let none : (turn_of (system_at u seen) s steps).ending ≡ None = sym (settled_ending (turn_of (system_at u seen) s steps)) ∙ e in
-      let k = stops (register (process_of u s) 7) (logged seen.board es).stop steps none in
-      subst (λ (t : Turn). Fine seen t.items t.next) (ap (λ o. settled_after (record (happens steps.unix (logged seen.board es)) { ending = o })) (sym none))
-      (event_by u steps.unix seen es (a.apt (register (process_of u s) 7) k.1) k.0);
-}
+turned_fine s u seen steps a = by (ending_by pc l.stop steps.ending) refl
   where
+    pc : ℕ
+    pc = register (process_of u s) 7
+
     es : List (Effect Unix)
     es = steps.effects ++ end_effects s steps.ending
+
+    l : Logged Unix
+    l = logged seen.board es
+
+    Goes : Seen → Type 0
+    Goes = GoesOn steps.unix steps.ending
+
+    f : Fitted Goes seen l
+    f = apt_fits Goes seen es a.apt
+
+    by : (o : Option Unbuilt) → ending_by pc l.stop steps.ending ≡ o
+        → FineTurn seen (settled_after (record (happens steps.unix l) { ending = o }))
+    by None e =
+        let k = stops pc l.stop steps e in
+        settles_fine steps.unix seen l f.fit f.board (ends_none Goes l.stop (seen_items seen l.items) k.0 f.ends pc k.1) k.0
+    by (Some place) e = record { fit = f.fit; stands = λ x. absurd (cc x) }
 
 -- The pass of process 0: no image is out of core.
 loaded_by : (v : Seats) (seen : Seen) (s : ℕ) → v.may ≡ is_core → Agrees 0 v seen.board → Lives seen.board.table s
@@ -192,11 +204,9 @@ pass_waits v seen core a = ap (move_for seen.board) (nobody_out v seen core a)
 pass_fine : (u : Unix) (seen : Seen) → Paused (seats_of u) seen → seen.board.table.running ≡ Some 0
     → FineTurn seen (settled_after (pass_of (system_at u seen)))
 unfolding Apt came
-pass_fine u seen p r = record {
-  fine = λ e. event_by u u seen pass_effects
-      (let k : Moves (seats_of u) seen (line.Sleep 0 pswp RunOut) = pass_ends (seats_of u) seen RunOut p r (pass_waits (seats_of u) seen refl p.agrees) in
-      (k.fits, k.next.paused)) (shown_stop seen.board pass_effects tt);
-}
+pass_fine u seen p r =
+    let k : Moves (seats_of u) seen (line.Sleep 0 pswp RunOut) = pass_ends (seats_of u) seen RunOut p r tt (pass_waits (seats_of u) seen refl p.agrees) in
+    event_by u u seen pass_effects (k.fits, k.next.paused) (shown_stop seen.board pass_effects tt)
 
 -- a slot
 pub slot_fine : (u : Unix) (seen : Seen) → Holds (seats_of u) seen
@@ -207,7 +217,7 @@ slot_fine u seen h = by seen.board.table.running refl h.paused.runner
     by : (o : Option ℕ) → seen.board.table.running ≡ o → RunnerAt (seats_of u) seen.board o
         → FineTurn seen (settled_after (slot_of (system_at u seen) o))
     by None e r =
-        record { fine = λ f. record { fit = tt; stands = record { board = refl; holds = h } } }
+        record { fit = tt; stands = λ f. record { board = refl; holds = h } }
     by (Some zero) e r = pass_fine u seen h.paused e
     by (Some (suc s)) e (inl z) = absurd (cc z)
     by (Some (suc s)) e (inr t) =

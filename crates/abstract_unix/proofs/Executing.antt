@@ -46,7 +46,7 @@ use Rattle.sys_procs.specs.ExecFile as exec
 use Rattle.abstract_unix.specs.Unix.{Unix}
 use Rattle.abstract_unix.specs.Calls.{world_of, with_world, grows, grown_by, grows_to}
 use Rattle.abstract_unix.proofs.Sitting.{seat_for, seats_in, seats_here, runner_seat, runner_text, put_in, no_entry}
-use Rattle.abstract_unix.proofs.Steps.{AptSteps, unbuilt_apt, apt_lifted, trapped}
+use Rattle.abstract_unix.proofs.Steps.{AptSteps, nothing_built, apt_lifted, trapped}
 use Rattle.abstract_unix.proofs.Rows.{FineComes, Calling, fails_fine}
 
 -- sizes that aren't refused are those of an image, where core has a place for it
@@ -183,7 +183,7 @@ module _ (s : ℕ) (seen : Seen) where
 
       by : (o : Option ℕ) → break.grown_stack p.u.text_size p.u.data_size p.u.stack_size u.limit sp ≡ o
           → AptSteps s seen (grown_by u (option_map (break.expands (world_of u) s p.u.data_size) o))
-      by None e = unbuilt_apt s seen u []
+      by None e = nothing_built s seen u
       by (Some new) e =
           grows_apt u (break.expands (world_of u) s p.u.data_size new)
           (expand_fine s seen (world_of u) i p.u.text_size p.u.data_size new u.limit (grown_fits p.u.text_size p.u.data_size p.u.stack_size u.limit sp new e)).fine

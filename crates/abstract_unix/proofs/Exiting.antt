@@ -1,5 +1,5 @@
 -- exit(II): its effects are apt, and so are those of the calls on files.
-use Rattle.std.proofs.Common.{◌≡◌, ◌∙◌, ◌*◌, ◌%◌, ◌==◌, ℕ, not, Bool, true, false, cond, List, [], ◌∷◌, ◌++◌, append-nil, map, Option, Some, None, refl, sym, ap, subst}
+use Rattle.std.proofs.Common.{◌≡◌, ◌∙◌, ◌*◌, ◌%◌, ◌==◌, ◌≤◌, ℕ, not, Bool, true, false, cond, List, [], ◌∷◌, ◌++◌, append-nil, map, Option, Some, None, unwrap_or, refl, sym, ap, subst, arith}
 use Rattle.std.proofs.lemmas.Bool.{eqb-true}
 use Rattle.v6_base.specs.Trace.{Item, Byte, Log}
 use Rattle.v6_base.specs.declared.answer.Answer.{Answer}
@@ -9,9 +9,13 @@ use Rattle.v6_base.specs.declared.entry.Chan.TheVariants.{Wait}
 use Rattle.v6_base.specs.declared.entry.Entry.{Entry}
 use Rattle.v6_base.specs.declared.entry.Entry.TheVariants as line
 use Rattle.u_area.specs.declared.area.UArea.{UArea}
+use Rattle.proc_tab.specs.Processes.{member_at, lowest, passes}
+use Rattle.proc_tab.specs.Pids.{has_pid}
 use Rattle.pick_rules.specs.Effects.{Effect, Show, lifted, came}
+use Rattle.pick_rules.specs.Ranges.{IsChannel}
 use Rattle.pick_rules.specs.Fits.{IsSleep}
 use Rattle.pick_rules.specs.Lawful.{Seen, seen_after}
+use Rattle.pick_rules.proofs.Found.{found_in}
 use Rattle.log_laws.proofs.Fitting.{IsGoing, Apt, apt_append, wake_apt}
 use Rattle.log_laws.proofs.Seats.{Seat, Seats, InCall, Paused, own}
 use Rattle.log_laws.proofs.Lines.{wake_in, wake_paused}
@@ -20,25 +24,26 @@ use Rattle.sys_files.specs.Handed.{Handed}
 use Rattle.sys_files.specs.Did.{Did}
 use Rattle.sys_files.specs.Descriptors.{Closing}
 use Rattle.sys_procs.specs.Process.{Process, register}
-use Rattle.sys_procs.specs.World.{World, process_of}
+use Rattle.sys_procs.specs.World.{World, process_of, members}
 use Rattle.sys_procs.specs.Comes.{Comes}
 use Rattle.sys_procs.specs.Exit.{leaves, parent_slot, adopted, dead, dies, end_proc, exit_now}
+use Rattle.abstract_unix.specs.declared.ending.Ending.TheVariants.{Ended}
 use Rattle.abstract_unix.specs.Unix as unix
 use Rattle.abstract_unix.specs.Unix.{Unix}
 use Rattle.abstract_unix.specs.Calls.{handed_of, with_handed, world_of, with_world, did_by, closes_all, exits}
 use Rattle.abstract_unix.proofs.Sitting.{seat_for, seat_of, seats_here, seats_of, runner_seat, runner_alive, runner_text, put_in, changed_in, kept_in}
-use Rattle.abstract_unix.proofs.Steps.{AptSteps, Answered, apt_lifted, answers_apt}
+use Rattle.abstract_unix.proofs.Steps.{AptSteps, Answered, ends_in, apt_lifted, answers_apt}
 use Rattle.abstract_unix.proofs.Quiet.{AreQuiet, SameSize, SameCall, EndsIn, Calm, CalmClosing, close_all_calm}
 use Rattle.abstract_unix.proofs.Rows.{Calling}
 
 -- bytes and wakes leave a call as it is
 module _ (W : Type 0) (s : ℕ) (calling : Bool) (v : Seats) where
-  wake_first : (seen : Seen) (e : Entry) (items : List Item) → ((chan : Chan) × (e ≡ line.Wake chan))
+  wake_first : (seen : Seen) (e : Entry) (items : List Item) → ((chan : Chan) × (e ≡ line.Wake chan) × IsChannel chan)
       → IsGoing seen.stage
       → ((chan : Chan) → Apt {W = W} (InCall s calling v) (seen_after seen (line.Wake chan)) (map Show items))
       → Apt {W = W} (InCall s calling v) seen (Show (Log e) ∷ map Show items)
-  wake_first seen e items (chan, is) going rest =
-      subst (λ x. Apt {W = W} (InCall s calling v) seen (Show (Log x) ∷ map Show items)) (sym is) (wake_apt (InCall s calling v) seen chan (map Show items) going (rest chan))
+  wake_first seen e items (chan, is, r) going rest =
+      subst (λ x. Apt {W = W} (InCall s calling v) seen (Show (Log x) ∷ map Show items)) (sym is) (wake_apt (InCall s calling v) seen chan (map Show items) going r (rest chan))
 
   pub shown_apt : (seen : Seen) (items : List Item) → AreQuiet items → InCall s calling v seen
       → Apt {W = W} (InCall s calling v) seen (map Show items)
@@ -78,6 +83,7 @@ module _ (s : ℕ) where
       by (Sleep pri chan) e = (
         shown_apt Unix s true (seats_of (with_handed u s did.state)) seen did.items c.quiet (handed_in u seen calling did.state 1 i (same e.size) e.pending),
         subst (λ w. IsSleep s w pri) (sym e.on) e.at,
+        subst (λ w. IsChannel w) (sym e.on) tt,
       )
 
   -- a process in its call waits in none
@@ -113,6 +119,16 @@ module _ (s : ℕ) where
       ap (λ slots. record (seats_here w) { slots = slots }) (adopted_seats (process_of w s).row.pid _)
       ∙ put_in w.processes w.clock w.texts s (record (process_of w s) { is_zombie = true; «data» = []; stack = [] })
 
+  -- its parent's slot
+  parent_range : (w : World) (ppid : ℕ) → parent_slot w ppid ≤ 49
+  unfolding lowest
+  parent_range w ppid = by (ppid == 0) (lowest (passes (has_pid ppid)) (members w)) refl
+    where
+      by : (x : Bool) (o : Option ℕ) → lowest (passes (has_pid ppid)) (members w) ≡ o → cond x 0 (unwrap_or o 1) ≤ 49
+      by true o e = omega arith
+      by false None e = omega arith
+      by false (Some c) e = let l = (found_in (λ k. passes (has_pid ppid) (member_at (members w) k)) 1 49 c e).below in omega (arith, l)
+
   pub dies_apt : (w : World) (seen : Seen) → Calling s w seen
       → Apt (Paused (seats_here (dead w s))) seen (dies w s).effects
   unfolding Apt
@@ -136,8 +152,8 @@ module _ (s : ℕ) where
       woken : (later : Seen) → Paused now later → Apt {W = World} (Paused now) later rest
       woken later p =
           let first : Paused now (seen_after later (line.Wake (Wait 1))) = wake_paused now later (Wait 1) p in
-          wake_apt {W = World} (Paused now) later (Wait 1) (Show (Log (line.Wake (Wait (parent_slot w (process_of w s).row.ppid)))) ∷ []) p.going (
-          wake_apt {W = World} (Paused now) (seen_after later (line.Wake (Wait 1))) (Wait (parent_slot w (process_of w s).row.ppid)) [] first.going
+          wake_apt {W = World} (Paused now) later (Wait 1) (Show (Log (line.Wake (Wait (parent_slot w (process_of w s).row.ppid)))) ∷ []) p.going (omega arith) (
+          wake_apt {W = World} (Paused now) (seen_after later (line.Wake (Wait 1))) (Wait (parent_slot w (process_of w s).row.ppid)) [] first.going (parent_range w (process_of w s).row.ppid)
           (wake_paused now (seen_after later (line.Wake (Wait 1))) (Wait (parent_slot w (process_of w s).row.ppid)) first))
 
   pub ends_apt : (w : World) (seen : Seen) (status : ℕ) → Calling s w seen
@@ -148,7 +164,7 @@ module _ (s : ℕ) where
 
   pub exits_apt : (u : Unix) (seen : Seen) → Calling s (world_of u) seen → AptSteps s seen (exits u s)
   unfolding exit_now
-  exits_apt u seen i = record { apt = λ pc b. by }
+  exits_apt u seen i = ends_in s seen (exits u s).unix (exits u s).effects Ended by
     where
       closed : Closing
       closed = closes_all u s

@@ -1,19 +1,25 @@
--- The log of each run that comes to its script's end is lawful.
-use Rattle.std.proofs.Common.{◌≡◌, ◌∙◌, ◌<◌, ◌≤◌, ◌==◌, ℕ, zero, suc, Bool, true, false, List, [], ◌∷◌, if◌then◌else◌, Option, Some, None, is_some, option_map, get_or, replicate, refl, sym, ap, subst, inl, inr, arith}
-use Rattle.v6_base.specs.Trace.{Log}
+-- The log of each run fits, line after line, and that of one that comes to its script's end is lawful.
+use Rattle.std.proofs.Common.{◌≡◌, ◌∙◌, ◌<◌, ◌≤◌, ◌==◌, ℕ, zero, suc, Bool, true, false, List, [], ◌∷◌, ◌++◌, append-nil, length, if◌then◌else◌, Option, Some, None, is_some, option_map, get_or, slice_index, replicate, refl, sym, ap, subst, inl, inr, arith}
+use Rattle.std.proofs.lemmas.Bool.{cases_lt}
+use Rattle.std.proofs.lemmas.Int.{ints}
+use Rattle.std.proofs.lemmas.List.{get_or_past}
+use Rattle.v6_base.specs.Image.{AreBytes}
+use Rattle.v6_base.specs.Trace.{Log, entries_of}
 use Rattle.v6_base.specs.declared.entry.Chan.TheVariants.{RunOut}
 use Rattle.v6_base.specs.declared.entry.Entry.TheVariants as line
 use Rattle.fs_codec.specs.Store.{Store}
 use Rattle.fs_codec.specs.Faults.{image_fault}
+use Rattle.fs_codec.specs.Words.{bytes_from}
 use Rattle.fs_codec.specs.Disk.{disk_of}
 use Rattle.fs_codec.specs.Stands.{store_of}
 use Rattle.pick_rules.specs.Priority.{pswp}
+use Rattle.pick_rules.specs.Ranges.{IsTime}
 use Rattle.pick_rules.specs.Table.{empty_row, row_at}
 use Rattle.pick_rules.specs.Sleepers.{fall_asleep}
 use Rattle.pick_rules.specs.Board.{Board, first_board}
 use Rattle.pick_rules.specs.Apply.{applied}
 use Rattle.pick_rules.specs.Effects.{came}
-use Rattle.pick_rules.specs.Lawful.{Booted, Seen, FitAll, Lawful, nothing_seen, seen_after}
+use Rattle.pick_rules.specs.Lawful.{Booted, Over, Seen, FitAll, Lawful, nothing_seen, seen_after, seen_of}
 use Rattle.pick_rules.proofs.Shapes.{shape_at, Sleeps}
 use Rattle.log_laws.proofs.Fitting.{fit_items, fit_item, seen_append, seen_items, Apt}
 use Rattle.log_laws.proofs.Seats.{Seat, seat_at, rule_of, AgreesAt, Agrees, Paused, Holds}
@@ -21,7 +27,7 @@ use Rattle.log_laws.proofs.Settles.{end_fits}
 use Rattle.abstract_unix.specs.declared.turned.Unbuilt.{Unbuilt}
 use Rattle.abstract_unix.specs.Unix.{Unix, System, no_texts}
 use Rattle.abstract_unix.specs.Turn.{Turn, settled_after, pass_effects, pass_of}
-use Rattle.abstract_unix.specs.Runs.{first_unix, system_with, Event, Slot, Tick, Byte, Switch, event_of, Course, goes_on_by, unless_ended, after_event, course, started, boots}
+use Rattle.abstract_unix.specs.Runs.{first_unix, system_with, Event, Slot, Tick, Byte, Switch, event_of, Course, goes_on_by, unless_ended, after_event, shown_by, end_items, course, started, boots}
 use Rattle.abstract_unix.specs.Law.{log_of, LogsAreLawful}
 use Rattle.abstract_unix.proofs.Sitting.{seats_of}
 use Rattle.abstract_unix.proofs.Events.{system_at, Stands, Fine, FineTurn, shown_stop, event_by, slot_fine}
@@ -40,16 +46,14 @@ event_fine (Byte byte) u seen h = typed_fine u seen byte h.paused
 event_fine (Switch word) u seen h = switched_fine u seen word h
 
 -- a run as far as it has come
-record FineCourse (c : Course) : Type 0 where
-  fine : c.ending ≡ None → Fine nothing_seen c.items c.system
+abbrev FineCourse : Course → Type 0
+FineCourse c = Fine nothing_seen c.items c.system c.ending
 
-further : (c : Course) (t : Turn) → Fine nothing_seen c.items c.system → FineTurn (seen_items nothing_seen c.items) t
+further : (c : Course) (t : Turn) → FitAll nothing_seen (entries_of c.items) → FineTurn (seen_items nothing_seen c.items) t
     → FineCourse (goes_on_by c t)
 further c t f g = record {
-  fine = λ e. let k = g.fine e in record {
-    fit = fit_items nothing_seen c.items t.items f.fit k.fit;
-    stands = subst (Stands t.next) (sym (seen_append nothing_seen c.items t.items)) k.stands;
-  };
+  fit = fit_items nothing_seen c.items t.items f g.fit;
+  stands = λ e. subst (Stands t.next) (sym (seen_append nothing_seen c.items t.items)) (g.stands e);
 }
 
 event_goes : (c : Course) (e : Event) → FineCourse c → FineCourse (after_event c e)
@@ -64,7 +68,7 @@ event_goes c e f = by c.ending refl
         (event_fine e c.system.unix now h.holds)
 
     by : (o : Option Unbuilt) → c.ending ≡ o → FineCourse (unless_ended o c e)
-    by None n = further c (event_of e c.system) (f.fine n) (at_lines (f.fine n).stands)
+    by None n = further c (event_of e c.system) f.fit (at_lines (f.stands n))
     by (Some place) n = f
 
 course_fine : (events : List Event) (c : Course) → FineCourse c → FineCourse (course c events)
@@ -72,7 +76,7 @@ course_fine [] c f = f
 course_fine (e ∷ events) c f = course_fine events (after_event c e) (event_goes c e f)
 
 -- The beginning: two lines, and a choice.
-module _ (store : Store) (core : ℕ) (low : 64 ≤ core) where
+module _ (store : Store) (core : ℕ) (low : 64 ≤ core) (high : core ≤ 3968) where
   abbrev u : Unix
   u = first_unix store core
 
@@ -107,7 +111,7 @@ module _ (store : Store) (core : ℕ) (low : 64 ≤ core) where
   first_agrees : Agrees 0 (seats_of u) (applied (first_board core store.stamp) (line.Sleep 0 pswp RunOut))
   unfolding applied fall_asleep no_texts
   first_agrees =
-      record { each = first_each _ refl; sleeps = first_sleeps; rows = refl; seats = refl; time = refl; ticks = refl; texts = refl }
+      record { each = first_each _ refl; sleeps = first_sleeps; rows = refl; seats = refl; time = refl; ticks = refl; texts = refl; core = high }
 
   first_paused : Paused (seats_of u) (seen_after booted_seen (line.Sleep 0 pswp RunOut))
   unfolding applied fall_asleep
@@ -116,28 +120,44 @@ module _ (store : Store) (core : ℕ) (low : 64 ≤ core) where
   start_fine : FineTurn booted_seen (settled_after (pass_of (system_at u booted_seen)))
   unfolding Apt came
   start_fine =
-      record { fine = λ e. event_by u u booted_seen pass_effects (refl, first_paused) (shown_stop (first_board core store.stamp) pass_effects tt) }
+      event_by u u booted_seen pass_effects (((omega arith, (omega (arith, ints), omega (arith, ints)), tt), refl), first_paused)
+      (shown_stop (first_board core store.stamp) pass_effects tt)
 
-  started_fine : core ≤ 3968 → FineCourse (started (system_with store core))
+  started_fine : IsTime store.stamp → FineCourse (started (system_with store core))
   unfolding FitAll applied
-  started_fine high = record {
-    fine = λ e. let k = start_fine.fine e in record { fit = ((low, high), k.fit); stands = k.stands };
-  }
+  started_fine time =
+      record { fit = (((omega (arith, high), time), (low, high)), start_fine.fit); stands = start_fine.stands }
 
-ends_lawful : (c : Course) → FineCourse c → c.ending ≡ None → Lawful (log_of c)
-unfolding FitAll
-ends_lawful c f e =
-    let k : Fine nothing_seen c.items c.system = f.fine e in
-    record {
-      fit = fit_item nothing_seen c.items (Log line.End) k.fit (end_fits (seats_of c.system.unix) (seen_items nothing_seen c.items) k.stands.holds, tt);
-      over = ap (λ s. s.stage) (seen_append nothing_seen c.items (Log line.End ∷ []));
-    }
+-- the log of a run, with its last line where it has come to its end
+module _ (c : Course) (f : FineCourse c) where
+  log_fits : FitAll nothing_seen (log_of c)
+  unfolding FitAll
+  log_fits = by c.ending refl
+    where
+      by : (o : Option Unbuilt) → c.ending ≡ o → FitAll nothing_seen (entries_of (c.items ++ end_items o))
+      by None e =
+          fit_item nothing_seen c.items (Log line.End) f.fit (end_fits (seats_of c.system.unix) (seen_items nothing_seen c.items) (f.stands e).holds, tt)
+      by (Some place) e = rw (append-nil c.items) f.fit
 
-pub log_lawful : (store : Store) (core : ℕ) (events : List Event) → 64 ≤ core → core ≤ 3968
-    → (course (started (system_with store core)) events).ending ≡ None
-    → Lawful (log_of (course (started (system_with store core)) events))
-log_lawful store core events low high e =
-    ends_lawful (course (started (system_with store core)) events) (course_fine events (started (system_with store core)) (started_fine store core low high)) e
+  log_ends : c.ending ≡ None → (seen_of (log_of c)).stage ≡ Over
+  log_ends e =
+      ap (λ o. (seen_of (entries_of (c.items ++ end_items o))).stage) e
+      ∙ ap (λ s. s.stage) (seen_append nothing_seen c.items (Log line.End ∷ []))
+
+  log_lawful : FitAll nothing_seen (log_of c) × (c.ending ≡ None → Lawful (log_of c))
+  log_lawful = (log_fits, λ e. record { fit = log_fits; over = log_ends e })
+
+-- the time of an image's super-block is two words of its bytes
+byte_in : (bytes : List ℕ) (i : ℕ) → AreBytes bytes → slice_index bytes i < 256
+byte_in bytes i are = elim (cases_lt i (length bytes)) [
+  | inl low ↦ are i 0 low
+  | inr past ↦ omega (arith, get_or_past {X = ℕ} bytes i 0 past)
+]
+
+stamp_in_range : (image : List ℕ) → AreBytes image → IsTime (store_of (disk_of image)).stamp
+unfolding store_of disk_of bytes_from
+stamp_in_range image are =
+    omega (arith, byte_in image 924 are, byte_in image 925 are, byte_in image 926 are, byte_in image 927 are)
 
 -- the system that an image boots
 boots_is : (image : List ℕ) (core : ℕ) (m : System) → boots image core ≡ Some m
@@ -151,12 +171,15 @@ boots_is image core m e = by (is_some (image_fault image)) e
 
 -- Each line of each log fits what the lines before it give, and the last one ends it.
 pub logs_are_lawful : LogsAreLawful
-logs_are_lawful image core events c low high e done = by (boots image core) refl e
+logs_are_lawful image core events c are low high e = by (boots image core) refl e
   where
     by : (o : Option System) → boots image core ≡ o → option_map (λ m. course (started m) events) o ≡ Some c
-        → Lawful (log_of c)
+        → FitAll nothing_seen (log_of c) × (c.ending ≡ None → Lawful (log_of c))
     by None f g = absurd (cc g)
     by (Some m) f g =
-        let is : course (started (system_with (store_of (disk_of image)) core)) events ≡ c =
+        let store : Store = store_of (disk_of image) in
+        let is : course (started (system_with store core)) events ≡ c =
         ap (λ n. course (started n) events) (boots_is image core m f) ∙ cc g in
-        subst (λ c. c.ending ≡ None → Lawful (log_of c)) is (log_lawful (store_of (disk_of image)) core events low high) done
+        let fine : FineCourse (started (system_with store core)) = started_fine store core low high (stamp_in_range image are) in
+        subst (λ c. FitAll nothing_seen (log_of c) × (c.ending ≡ None → Lawful (log_of c))) is
+        (log_lawful (course (started (system_with store core)) events) (course_fine events (started (system_with store core)) fine))

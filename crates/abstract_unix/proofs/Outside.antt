@@ -8,9 +8,10 @@ use Rattle.tty_line.specs.Input.{Typed, typed}
 use Rattle.pick_rules.specs.declared.row.Mode.{Mode}
 use Rattle.pick_rules.specs.declared.row.Mode.TheVariants.{User, Kernel, Idle}
 use Rattle.pick_rules.specs.Effects.{Show, came}
+use Rattle.pick_rules.specs.Ranges.{IsChannel}
 use Rattle.pick_rules.specs.Fits as fits
 use Rattle.pick_rules.specs.Fits.{mode_now}
-use Rattle.pick_rules.specs.Lawful.{Seen, FitsStage, FitAll, seen_after}
+use Rattle.pick_rules.specs.Lawful.{Seen, Fits, FitAll, seen_after}
 use Rattle.log_laws.proofs.Fitting.{Apt, wake_apt}
 use Rattle.log_laws.proofs.Seats.{Seats, InTurn, RunnerAt, Paused, Holds}
 use Rattle.log_laws.proofs.Lines.{wake_paused}
@@ -25,12 +26,12 @@ use Rattle.abstract_unix.proofs.Turning.{same_seats}
 use Rattle.abstract_unix.proofs.Events.{system_at, FineTurn, AreShown, shown_stop, event_by}
 
 -- a wake between two events
-wakes_apt : (u : Unix) (seen : Seen) (due : Bool) (chan : Chan) → Paused (seats_of u) seen
+wakes_apt : (u : Unix) (seen : Seen) (due : Bool) (chan : Chan) → IsChannel chan → Paused (seats_of u) seen
     → Apt (Paused (seats_of u)) seen (wakes due chan)
 unfolding Apt
-wakes_apt u seen true chan p =
-    wake_apt (Paused (seats_of u)) seen chan [] p.going (wake_paused (seats_of u) seen chan p)
-wakes_apt u seen false chan p = p
+wakes_apt u seen true chan r p =
+    wake_apt (Paused (seats_of u)) seen chan [] p.going r (wake_paused (seats_of u) seen chan p)
+wakes_apt u seen false chan r p = p
 
 -- The mode of the system is that of the board.
 mode_same : (u : Unix) (seen : Seen) → Paused (seats_of u) seen
@@ -117,12 +118,11 @@ shown_wakes false chan = tt
 pub tick_fine : (u : Unix) (seen : Seen) → Paused (seats_of u) seen
     → FineTurn seen (settled_after (tick_of (system_at u seen)))
 unfolding Apt came
-tick_fine u seen p = record {
-  fine = λ e. event_by u now seen (Show (Log (tick_entry mode)) ∷ wakes due Tout)
-      (subst (λ x. FitsStage seen.stage seen.board x × Apt (Paused (seats_of now)) (seen_after seen x) (wakes due Tout)) (sym line_is)
-      (tick_fits seen p.going, wakes_apt now (seen_after seen (tick_line (mode_now seen.board))) due Tout (tick_keeps u seen (mode_now seen.board) p)))
-      (shown_stop seen.board (Show (Log (tick_entry mode)) ∷ wakes due Tout) (shown_wakes due Tout));
-}
+tick_fine u seen p =
+    event_by u now seen (Show (Log (tick_entry mode)) ∷ wakes due Tout)
+    (subst (λ x. Fits seen x × Apt (Paused (seats_of now)) (seen_after seen x) (wakes due Tout)) (sym line_is)
+    (tick_fits seen p.going, wakes_apt now (seen_after seen (tick_line (mode_now seen.board))) due Tout tt (tick_keeps u seen (mode_now seen.board) p)))
+    (shown_stop seen.board (Show (Log (tick_entry mode)) ∷ wakes due Tout) (shown_wakes due Tout))
   where
     mode : Mode
     mode = mode_by u seen.board.table.running
@@ -140,7 +140,7 @@ tick_fine u seen p = record {
 keys_apt : (v : Unix) (seen : Seen) (bytes : List ℕ) (due : Bool) → Paused (seats_of v) seen
     → Apt (Paused (seats_of v)) seen (map Show (sent 0 bytes) ++ wakes due Keys)
 unfolding Apt came
-keys_apt v seen [] due p = wakes_apt v seen due Keys p
+keys_apt v seen [] due p = wakes_apt v seen due Keys tt p
 keys_apt v seen (byte ∷ bytes) due p = keys_apt v seen bytes due p
 
 shown_keys : (bytes : List ℕ) (due : Bool) → AreShown (map Show (sent 0 bytes) ++ wakes due Keys)
@@ -152,14 +152,12 @@ pub typed_fine : (u : Unix) (seen : Seen) (byte : ℕ) → Paused (seats_of u) s
 typed_fine u seen byte p =
     let k : Typed = typed u.line byte in
     let now : Unix = record u { line = k.terminal } in
-    record {
-      fine = λ e. event_by u now seen (map Show (sent 0 k.shown) ++ wakes (calls k.keyed) Keys)
-          (keys_apt now seen k.shown (calls k.keyed) p)
-          (shown_stop seen.board (map Show (sent 0 k.shown) ++ wakes (calls k.keyed) Keys) (shown_keys k.shown (calls k.keyed)));
-    }
+    event_by u now seen (map Show (sent 0 k.shown) ++ wakes (calls k.keyed) Keys)
+    (keys_apt now seen k.shown (calls k.keyed) p)
+    (shown_stop seen.board (map Show (sent 0 k.shown) ++ wakes (calls k.keyed) Keys) (shown_keys k.shown (calls k.keyed)))
 
 -- the switches
 pub switched_fine : (u : Unix) (seen : Seen) (word : ℕ) → Holds (seats_of u) seen → FineTurn seen (stays (switched_of (system_at u seen) word))
 unfolding FitAll
 switched_fine u seen word h =
-    record { fine = λ e. record { fit = tt; stands = record { board = refl; holds = h } } }
+    record { fit = tt; stands = λ e. record { board = refl; holds = h } }

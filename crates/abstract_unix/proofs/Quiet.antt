@@ -14,6 +14,7 @@ use Rattle.open_files.specs.declared.file.Closed.{Closed}
 use Rattle.open_files.specs.declared.file.Closed.TheVariants.{Still, Last}
 use Rattle.tty_line.specs.Output.{shows}
 use Rattle.pick_rules.specs.Priority.{ttipri}
+use Rattle.pick_rules.specs.Ranges.{IsChannel}
 use Rattle.sys_files.specs.Handed.{Handed}
 use Rattle.sys_files.specs.Did.{Did}
 use Rattle.sys_files.specs.Descriptors.{is_closed_by, Closing, released, told_by, dropped, closes, then_closes, close_all}
@@ -24,7 +25,7 @@ use Rattle.sys_files.proofs.Walks.{Walks, walk_resume}
 abbrev pub AreQuiet : List Item → Type 0
 AreQuiet [] = Unit {0}
 AreQuiet (Byte line byte ∷ items) = AreQuiet items
-AreQuiet (Log e ∷ items) = ((chan : Chan) × (e ≡ Wake chan)) × AreQuiet items
+AreQuiet (Log e ∷ items) = ((chan : Chan) × (e ≡ Wake chan) × IsChannel chan) × AreQuiet items
 
 quiet_append : (xs ys : List Item) → AreQuiet xs → AreQuiet ys → AreQuiet (xs ++ ys)
 quiet_append [] ys p q = q
@@ -34,9 +35,6 @@ quiet_append (Log e ∷ xs) ys p q = (p.0, quiet_append xs ys p.1 q)
 pub quiet_sent : (line : ℕ) (bytes : List ℕ) → AreQuiet (sent line bytes)
 quiet_sent line [] = tt
 quiet_sent line (byte ∷ bytes) = quiet_sent line bytes
-
-one_wake : (chan : Chan) → AreQuiet (Log (Wake chan) ∷ [])
-one_wake chan = ((chan, refl), tt)
 
 -- the image has the same size
 pub record SameSize (old new : UArea) : Type 0 where
@@ -68,7 +66,7 @@ pub record Calm (old : UArea) (did : Did) : Type 0 where
   pub ends : EndsIn old did.state.u did.answer
 
 close_quiet : (last : Bool) → AreQuiet (cond last (Log (Wake Keys) ∷ []) [])
-close_quiet true = one_wake Keys
+close_quiet true = ((Keys, refl, tt), tt)
 close_quiet false = tt
 
 -- Each row of a call on files is calm.

@@ -1,5 +1,8 @@
 -- The rows of the calls on processes: the effects of each are apt.
-use Rattle.std.proofs.Common.{◌%◌, ℕ, ℤ, pos, nat_lt, Bool, true, false, cond, [], Option, Some, None, refl}
+use Rattle.std.proofs.Common.{◌≡◌, ◌+◌, ◌*◌, ◌%◌, ◌^◌, ◌<◌, ℕ, ℤ, pos, ◌-ℤ◌, nat_lt, Bool, true, false, cond, [], Option, Some, None, refl, arith}
+use Rattle.std.proofs.lemmas.Bool.{ltb-true, ltb-false}
+use Rattle.std.proofs.lemmas.Int.{ints, int_min_is}
+use Rattle.std.proofs.lemmas.Nat.{mod_below}
 use Rattle.std.specs.Int.{int_min}
 use Rattle.v6_base.specs.Image.{Image}
 use Rattle.v6_base.specs.declared.answer.Answer.TheVariants.{Ret, Sleep}
@@ -8,6 +11,7 @@ use Rattle.v6_base.specs.declared.entry.Entry.TheVariants as line
 use Rattle.v6_base.specs.declared.errno.Errno.{Errno}
 use Rattle.v6_base.specs.declared.errno.Errno.TheVariants.{EPERM, EFAULT}
 use Rattle.pick_rules.specs.Priority.{pslep}
+use Rattle.pick_rules.specs.Ranges.{IsTime, IsPriority}
 use Rattle.pick_rules.specs.Effects.{came}
 use Rattle.pick_rules.specs.Lawful.{Seen, seen_after}
 use Rattle.log_laws.proofs.Fitting.{Apt, wake_apt}
@@ -16,7 +20,7 @@ use Rattle.log_laws.proofs.Lines.{nice_fits, nice_in, time_fits, time_in, wake_i
 use Rattle.sys_procs.specs.Process.{Process, register, is_super}
 use Rattle.sys_procs.specs.World.{World, process_of, change}
 use Rattle.sys_procs.specs.Comes.{Comes, returns, fails, logs}
-use Rattle.sys_procs.specs.Ids.{set_uid, set_gid, kept_nice, nice_to, pid_of, get_uid, get_gid, switches, no_op}
+use Rattle.sys_procs.specs.Ids.{set_uid, set_gid, signed_in, kept_nice, nice_to, pid_of, get_uid, get_gid, switches, no_op}
 use Rattle.sys_procs.specs.Times.{time_now, set_time, stored, times_to, sleeping_until, tout_with, sleep_until, sleep_for}
 use Rattle.abstract_unix.proofs.Sitting.{seats_here, runner_alive, kept_in, changed_in}
 use Rattle.abstract_unix.proofs.Steps.{Answered}
@@ -86,44 +90,59 @@ module _ (s : ℕ) (seen : Seen) where
       if_fine _ _ _ (changed_fine w (λ p. record p { u = record p.u { gid = id; rgid = id } })
       (kept_in w.processes w.clock w.texts s false seen _ i refl refl refl refl)) (fails_fine w EPERM i)
 
-  -- the line of a nice
-  nice_returns : (w : World) (value : ℤ) → Calling s w seen → FineComes s seen (logs (line.Nice s value) (returns w s))
+  -- the line of a nice, which has eight bits
+  at_most_20 : (value : ℕ) → IsPriority (int_min (pos 20) (pos value))
+  at_most_20 value = let m = int_min_is (pos 20) (pos value) in (omega (arith, ints, m), omega (arith, ints, m))
+
+  eight_bits : (value : ℕ) → IsPriority (kept_nice value)
+  eight_bits value = by (value % 256) (mod_below value 256 (omega arith))
+    where
+      by : (n : ℕ) → n < 256 → IsPriority (signed_in 256 n)
+      by n l = cases (nat_lt (2 * n) 256) refl
+        where
+          cases : (b : Bool) → nat_lt (2 * n) 256 ≡ b → IsPriority (cond b (pos n) (pos n -ℤ pos 256))
+          cases true e = let k = ltb-true (2 * n) 256 e in (omega (arith, ints, k), omega (arith, ints, k))
+          cases false e = let k = ltb-false (2 * n) 256 e in (omega (arith, ints, k, l), omega (arith, ints, k, l))
+
+  nice_returns : (w : World) (value : ℤ) → IsPriority value → Calling s w seen → FineComes s seen (logs (line.Nice s value) (returns w s))
   unfolding Apt came
-  nice_returns w value i = record {
-    fine = (nice_fits s false (seats_here w) seen value i, nice_in s false (seats_here w) seen value i);
+  nice_returns w value r i = record {
+    fine = (nice_fits s false (seats_here w) seen value r i, nice_in s false (seats_here w) seen value i);
   }
 
-  nice_fails : (w : World) (value : ℤ) → Calling s w seen → FineComes s seen (logs (line.Nice s value) (fails w EPERM))
+  nice_fails : (w : World) (value : ℤ) → IsPriority value → Calling s w seen → FineComes s seen (logs (line.Nice s value) (fails w EPERM))
   unfolding Apt came
-  nice_fails w value i = record {
-    fine = (nice_fits s false (seats_here w) seen value i, nice_in s false (seats_here w) seen value i);
+  nice_fails w value r i = record {
+    fine = (nice_fits s false (seats_here w) seen value r i, nice_in s false (seats_here w) seen value i);
   }
 
   pub nice_fine : (w : World) → Calling s w seen → FineComes s seen (nice_to w s)
   unfolding nice_to
   nice_fine w i =
       let value = register (process_of w s) 0 in
-      if_fine (nat_lt value 32768) _ _ (nice_returns w (int_min (pos 20) (pos value)) i)
-      (if_fine (is_super (process_of w s)) _ _ (nice_returns w (kept_nice value) i) (nice_fails w (pos 0) i))
+      if_fine (nat_lt value 32768) _ _ (nice_returns w (int_min (pos 20) (pos value)) (at_most_20 value) i)
+      (if_fine (is_super (process_of w s)) _ _ (nice_returns w (kept_nice value) (eight_bits value) i) (nice_fails w (pos 0) (omega (arith, ints), omega (arith, ints)) i))
 
   -- a time is set, and sleepers look at it
-  time_sets : (w : World) (new : ℕ) → Calling s w seen
+  time_sets : (w : World) (new : ℕ) → IsTime new → Calling s w seen
       → FineComes s seen (logs (line.Time new) (logs (line.Wake Tout) (returns (record w { clock = record w.clock { time = new } }) s)))
   unfolding Apt came
-  time_sets w new i =
+  time_sets w new r i =
       let later = record w { clock = record w.clock { time = new } } in
       let now : Seen = seen_after seen (line.Time new) in
       let j : Calling s later now = time_in s false (seats_here w) seen new i in
       record {
         fine = (
-          time_fits s false (seats_here w) seen new i,
-          wake_apt {W = World} (InCall s false (seats_here later)) now Tout [] j.going (wake_in s false (seats_here later) now Tout j),
+          time_fits s false (seats_here w) seen new r i,
+          wake_apt {W = World} (InCall s false (seats_here later)) now Tout [] j.going tt (wake_in s false (seats_here later) now Tout j),
         );
       }
 
   pub set_time_fine : (w : World) → Calling s w seen → FineComes s seen (set_time w s)
   unfolding set_time
-  set_time_fine w i = if_fine _ _ _ (time_sets w _ i) (fails_fine w EPERM i)
+  set_time_fine w i =
+      let l = mod_below (65536 * register (process_of w s) 0 + register (process_of w s) 1) (2 ^ 32) (omega arith) in
+      if_fine _ _ _ (time_sets w _ (omega (arith, l)) i) (fails_fine w EPERM i)
 
   -- times
   stored_fine : (w : World) (o : Option Image) → Calling s w seen → FineComes s seen (stored w s o)
@@ -148,6 +167,7 @@ module _ (s : ℕ) (seen : Seen) where
     fine = (
       changed_in w.processes w.clock w.texts s false seen (sleeping_until until (process_of w s)) i (runner_alive w.processes w.clock w.texts s seen.board i.turn) refl refl,
       refl,
+      tt,
     );
   }
 

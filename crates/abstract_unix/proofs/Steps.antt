@@ -1,5 +1,5 @@
 -- How a turn ends: the process comes out of its call, or it sleeps.
-use Rattle.std.proofs.Common.{◌≡◌, ℕ, nat_lt, nat_le, Bool, true, false, cond, List, [], ◌∷◌, ◌++◌, map, Option, Some, None, refl}
+use Rattle.std.proofs.Common.{◌≡◌, ℕ, nat_lt, nat_le, Bool, true, false, cond, List, [], ◌∷◌, ◌++◌, append-nil, map, Option, Some, None, refl}
 use Rattle.v6_base.specs.Trace.{Byte, Log}
 use Rattle.v6_base.specs.declared.answer.Answer.{Answer}
 use Rattle.v6_base.specs.declared.answer.Answer.TheVariants.{Ret, Fail, Sleep}
@@ -9,12 +9,15 @@ use Rattle.v6_base.specs.declared.entry.Entry.TheVariants as line
 use Rattle.pick_rules.specs.Table.{row_at}
 use Rattle.pick_rules.specs.Board.{placed, swap_fit}
 use Rattle.pick_rules.specs.Effects.{Effect, Show, Size, Fork, Text, Image, Exit, Why, Panicked, Unbuilt, Lets, Stops, in_core, at_fit, image_at, came, lifted}
+use Rattle.pick_rules.specs.Ranges.{IsChannel}
 use Rattle.pick_rules.specs.Fits.{IsSleep}
 use Rattle.pick_rules.specs.Lawful.{Seen}
-use Rattle.log_laws.proofs.Fitting.{Apt, AptCame, apt_append}
+use Rattle.log_laws.proofs.Fitting.{Apt, AptCame, apt_append, apt_more}
 use Rattle.log_laws.proofs.Seats.{Seats, InCall, Paused}
 use Rattle.log_laws.proofs.Lines.{trap_apt, sleep_apt}
 use Rattle.sys_procs.specs.Comes.{Comes}
+use Rattle.abstract_unix.specs.declared.ending.Ending.{Ending}
+use Rattle.abstract_unix.specs.declared.ending.Ending.TheVariants.{Trapped, Slept, NotBuilt}
 use Rattle.abstract_unix.specs.Unix.{Unix}
 use Rattle.abstract_unix.specs.Errors.{error_number}
 use Rattle.abstract_unix.specs.Steps.{Steps, returns, not_built}
@@ -22,15 +25,32 @@ use Rattle.abstract_unix.specs.Calls.{given_area, refused_area, with_area, answe
 use Rattle.abstract_unix.specs.Turn.{end_effects, ending_at}
 use Rattle.abstract_unix.proofs.Sitting.{seats_here, seats_of, kept_in}
 
+-- after a turn by which the run goes on its process is between two turns
+abbrev pub GoesOn : Unix → Ending → Seen → Type 0
+GoesOn u ending seen = (pc : ℕ) → ending_at pc ending ≡ None → Paused (seats_of u) seen
+
 -- a turn whose effects are apt, with the lines with which it ends
 pub record AptSteps (s : ℕ) (seen : Seen) (steps : Steps) : Type 0 where
-  pub apt : (pc : ℕ) → ending_at pc steps.ending ≡ None
-      → Apt {W = Unix} (Paused (seats_of steps.unix)) seen (steps.effects ++ end_effects s steps.ending)
+  pub apt : Apt {W = Unix} (GoesOn steps.unix steps.ending) seen (steps.effects ++ end_effects s steps.ending)
 
--- nothing is said of what isn't built
-pub unbuilt_apt : (s : ℕ) (seen : Seen) (u : Unix) (effects : List (Effect Unix))
+-- after what isn't built nothing goes on
+pub unbuilt_apt : (s : ℕ) (seen : Seen) (u : Unix) (P : Seen → Type 0) (effects : List (Effect Unix)) → Apt P seen effects
     → AptSteps s seen (record (not_built u) { effects = effects })
-unbuilt_apt s seen u effects = record { apt = λ pc b. absurd (cc b) }
+unbuilt_apt s seen u P effects a = record {
+  apt = rw (append-nil effects) (apt_more P (GoesOn u NotBuilt) seen effects (λ now p pc b. absurd (cc b)) a);
+}
+
+pub nothing_built : (s : ℕ) (seen : Seen) (u : Unix) → AptSteps s seen (not_built u)
+unfolding Apt
+nothing_built s seen u = record { apt = λ pc b. absurd (cc b) }
+
+-- a turn by which it goes on
+pub ends_in : (s : ℕ) (seen : Seen) (u : Unix) (es : List (Effect Unix)) (ending : Ending)
+    → Apt (Paused (seats_of u)) seen (es ++ end_effects s ending)
+    → AptSteps s seen (record { effects = es; unix = u; ending = ending })
+ends_in s seen u es ending a = record {
+  apt = apt_more (Paused (seats_of u)) (GoesOn u ending) seen (es ++ end_effects s ending) (λ now p pc b. p) a;
+}
 
 -- Effects over another state are as apt.
 module _ {V W : Type 0} (f : V → W) (seen : Seen) (P Q : Seen → Type 0) (h : (now : Seen) → P now → Q now) where
@@ -76,17 +96,16 @@ apt_lifted f Q seen (e ∷ es) a =
 abbrev pub Answered : {W : Type 0} → ℕ → Seats → Seen → List (Effect W) → Answer → Type 0
 Answered s v seen es (Ret r0 r1) = Apt (InCall s false v) seen es
 Answered s v seen es (Fail e) = Apt (InCall s false v) seen es
-Answered s v seen es (Sleep pri chan) = Apt (InCall s true v) seen es × IsSleep s chan pri
+Answered s v seen es (Sleep pri chan) = Apt (InCall s true v) seen es × IsSleep s chan pri × IsChannel chan
 
 -- the end of a turn in which a call was answered
 module _ (s : ℕ) (seen : Seen) where
   pub trapped : (u v : Unix) (es : List (Effect Unix))
       → ((now : Seen) → InCall s false (seats_of u) now → InCall s false (seats_of v) now)
       → Apt (InCall s false (seats_of u)) seen es → AptSteps s seen (record (returns v) { effects = es })
-  trapped u v es change a = record {
-    apt = λ pc b. apt_append (InCall s false (seats_of u)) (Paused (seats_of v)) seen es (Show (Log (line.Trap s)) ∷ []) a
-        (λ now i. trap_apt Unix s (seats_of v) now (change now i));
-  }
+  trapped u v es change a =
+      ends_in s seen v es Trapped (apt_append (InCall s false (seats_of u)) (Paused (seats_of v)) seen es (Show (Log (line.Trap s)) ∷ []) a
+      (λ now i. trap_apt Unix s (seats_of v) now (change now i)))
 
   pub returns_apt : (u : Unix) → InCall s false (seats_of u) seen → AptSteps s seen (returns u)
   unfolding Apt
@@ -104,11 +123,11 @@ module _ (s : ℕ) (seen : Seen) where
       by true =
           trapped u (with_area u s (refused_area (error_number e))) es
           (λ now i. kept_in u.processes u.clock u.texts s false now _ i refl refl refl refl) a
-      by false = unbuilt_apt s seen u es
-  answers_apt u es (Sleep pri chan) a = record {
-    apt = λ pc b. apt_append (InCall s true (seats_of u)) (Paused (seats_of u)) seen es (Show (Log (line.Sleep s pri chan)) ∷ []) a.0
-        (λ now i. sleep_apt Unix s (seats_of u) now pri chan i a.1);
-  }
+      by false = unbuilt_apt s seen u (InCall s false (seats_of u)) es a
+  answers_apt u es (Sleep pri chan) a =
+      ends_in s seen u es (Slept pri chan)
+      (apt_append (InCall s true (seats_of u)) (Paused (seats_of u)) seen es (Show (Log (line.Sleep s pri chan)) ∷ []) a.0
+      (λ now i. sleep_apt Unix s (seats_of u) now pri chan i a.1 a.2))
 
   -- a call on processes, by its row
   pub came_apt : (u : Unix) (c : Comes) → Answered s (seats_here c.state) seen c.effects c.answer
@@ -122,4 +141,4 @@ module _ (s : ℕ) (seen : Seen) where
       by (Fail e) a =
           apt_lifted (with_world u) (InCall s false (seats_here c.state)) seen c.effects a
       by (Sleep pri chan) a =
-          (apt_lifted (with_world u) (InCall s true (seats_here c.state)) seen c.effects a.0, a.1)
+          (apt_lifted (with_world u) (InCall s true (seats_here c.state)) seen c.effects a.0, a.1, a.2)

@@ -23,7 +23,7 @@ use Rattle.abstract_unix.specs.Steps.{Steps}
 use Rattle.abstract_unix.specs.Calls.{handed_of, world_of, with_area, entered_area, words_passed, asked, forks, FileCall, file_call, ProcessCall, process_calls, process_call, by_process_row, by_file_row, does_call, count_of, does_if_built, system_call, resumed}
 use Rattle.abstract_unix.specs.Turn.{machine_of, with_machine, faults, comes_to, instruction, is_user, turn}
 use Rattle.abstract_unix.proofs.Sitting.{seat_for, seats_in, seats_of, found_in, runner_seat, runner_alive, put_in, kept_in, changed_in}
-use Rattle.abstract_unix.proofs.Steps.{AptSteps, unbuilt_apt, returns_apt, came_apt}
+use Rattle.abstract_unix.proofs.Steps.{AptSteps, nothing_built, returns_apt, came_apt}
 use Rattle.abstract_unix.proofs.Quiet.{Calm, same_call, calm_walks, resume_calm}
 use Rattle.abstract_unix.proofs.FileRows.{found_row}
 use Rattle.abstract_unix.proofs.Rows.{FineComes, Calling, if_fine, time_fine, pid_fine, set_uid_fine, get_uid_fine, set_time_fine, no_op_fine, nice_fine, sleep_fine, switches_fine, times_fine, set_gid_fine, get_gid_fine, until_fine}
@@ -112,7 +112,7 @@ module _ (s : ℕ) (seen : Seen) where
       → Calling s (world_of u) seen
       → AptSteps s seen (by_process_row u s args o)
   unfolding IsFine
-  process_row_apt u args None h i = unbuilt_apt s seen u []
+  process_row_apt u args None h i = nothing_built s seen u
   process_row_apt u args (Some c) h i =
       came_apt s seen u (c.does (world_of u) s args) (h c refl s seen (world_of u) args i).fine
 
@@ -142,7 +142,7 @@ module _ (s : ℕ) (seen : Seen) where
 
   built_apt : (u : Unix) (count : Option ℕ) (number : ℕ) → Calling s (world_of u) seen
       → AptSteps s seen (does_if_built u s (asked (image_of (process_of u s)) (register (process_of u s) 7) number) count)
-  built_apt u None number i = unbuilt_apt s seen u []
+  built_apt u None number i = nothing_built s seen u
   built_apt u (Some count) number i =
       let a = asked (image_of (process_of u s)) (register (process_of u s) 7) number in
       call_apt (with_area u s (entered_area (words_passed a count))) a.number a.args
@@ -178,7 +178,7 @@ module _ (s : ℕ) (seen : Seen) where
       let old : UArea = record (process_of u s).u { pending = 0; call = replicate 8 0 } in
       if_apt _ _ _ (did_apt s u seen t.seat.calling old _ (begins u p t) (record { «data» = refl; stack = refl }) refl (resume_calm (handed_of u (process_of u s)))) (
       if_apt _ _ _ (came_apt s seen u (resume_proc (world_of u) s) (goes_on (world_of u) (wakes u p t)).fine)
-      (unbuilt_apt s seen u []))
+      (nothing_built s seen u))
 
   -- another process that sits as this one did
   pub same_seats : (processes : List (Option Process)) (clock : Clock) (texts : List (Option Text)) (p : Process)
@@ -218,12 +218,12 @@ module _ (s : ℕ) (seen : Seen) where
       by (outcome.Fault k) = fault_apt k
         where
           fault_apt : (k : Kind) → AptSteps s seen (faults now s k)
-          fault_apt kind.Odd = unbuilt_apt s seen now []
+          fault_apt kind.Odd = nothing_built s seen now
           fault_apt (kind.Segment sp) = grow_apt s seen now sp i
-          fault_apt (kind.Illegal word) = unbuilt_apt s seen now []
-          fault_apt kind.Bpt = unbuilt_apt s seen now []
-          fault_apt kind.Iot = unbuilt_apt s seen now []
-          fault_apt kind.Emt = unbuilt_apt s seen now []
+          fault_apt (kind.Illegal word) = nothing_built s seen now
+          fault_apt kind.Bpt = nothing_built s seen now
+          fault_apt kind.Iot = nothing_built s seen now
+          fault_apt kind.Emt = nothing_built s seen now
 
   pub turn_apt : (u : Unix) → Paused (seats_of u) seen → InTurn s (seats_of u) seen.board
       → AptSteps s seen (turn (record { unix = u; board = seen.board }) s)

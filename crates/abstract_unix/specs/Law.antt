@@ -1,18 +1,18 @@
 -- The law of the log.
-use Rattle.std.specs.Prelude.{◌≡◌, ℕ, ◌≤◌, List, [], ◌∷◌, ◌++◌, Some, None}
-use Rattle.v6_base.specs.Trace.{Log, entries_of}
+use Rattle.std.specs.Prelude.{◌≡◌, ℕ, ◌≤◌, List, Some, None}
+use Rattle.v6_base.specs.Image.{AreBytes}
+use Rattle.v6_base.specs.Trace.{entries_of}
 use Rattle.v6_base.specs.declared.entry.Entry.{Entry}
-use Rattle.v6_base.specs.declared.entry.Entry.TheVariants.{End}
-use Rattle.pick_rules.specs.Lawful.{Lawful}
-use Rattle.abstract_unix.specs.Runs.{Event, Course, runs}
+use Rattle.pick_rules.specs.Lawful.{nothing_seen, FitAll, Lawful}
+use Rattle.abstract_unix.specs.Runs.{Event, Course, shown_by, runs}
 
--- the log of a run at the end of its script
+-- the log of a run
 abbrev pub log_of : Course → List Entry
-log_of c = entries_of (c.items ++ Log End ∷ [])
+log_of c = entries_of (shown_by c)
 
--- For every image, core size and list of events: where the run comes to the script's end, each line of its log fits what
--- the lines before it give, and the last one ends it.
+-- For every image, which is bytes, every core size and list of events: each line of the log of the run has its numbers in
+-- their ranges and fits what the lines before it give; and where the run comes to the script's end, the last line ends it.
 abbrev pub LogsAreLawful : Type 0
 LogsAreLawful =
-    (image : List ℕ) (core : ℕ) (events : List Event) (c : Course) → 64 ≤ core → core ≤ 3968
-    → runs image core events ≡ Some c → c.ending ≡ None → Lawful (log_of c)
+    (image : List ℕ) (core : ℕ) (events : List Event) (c : Course) → AreBytes image → 64 ≤ core → core ≤ 3968
+    → runs image core events ≡ Some c → FitAll nothing_seen (log_of c) × (c.ending ≡ None → Lawful (log_of c))

@@ -3,7 +3,7 @@ use Rattle.std.specs.Prelude.{ℕ, List, [], ◌∷◌, ◌++◌, min, is_some, 
 use Rattle.std.specs.Option.{option_map}
 use Rattle.fs_codec.specs.Faults.{image_fault}
 use Rattle.v6_base.specs.Trace.{Item, Log}
-use Rattle.v6_base.specs.declared.entry.Entry.TheVariants.{Boot}
+use Rattle.v6_base.specs.declared.entry.Entry.TheVariants.{Boot, End}
 use Rattle.fs_codec.specs.Disk.{disk_of}
 use Rattle.fs_codec.specs.Store.{Store}
 use Rattle.fs_codec.specs.Stands.{store_of}
@@ -116,6 +116,15 @@ started m = goes_on_by (begun m) (start_of m)
 -- a course that has shown these items before its own
 abbrev pub after_items : List Item → Course → Course
 after_items items c = record c { items = items ++ c.items }
+
+-- the last line of the log, where a run has come to its end; one that came to what isn't built shows nothing more
+abbrev pub end_items : Option Unbuilt → List Item
+end_items None = Log End ∷ []
+end_items (Some place) = []
+
+-- all that a run shows
+abbrev pub shown_by : Course → List Item
+shown_by c = c.items ++ end_items c.ending
 
 -- the run of an image without a fault, in so much core, over some events
 abbrev pub run_of : List ℕ → ℕ → List Event → Course

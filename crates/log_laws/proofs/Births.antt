@@ -15,10 +15,11 @@ use Rattle.pick_rules.specs.Effects as effect
 use Rattle.pick_rules.specs.Fits.{IsRunning, FitsBoard, free_slot}
 use Rattle.pick_rules.specs.Lawful.{Seen, seen_after}
 use Rattle.pick_rules.proofs.Found.{IsFound, found_in}
+use Rattle.pick_rules.proofs.Within.{click_within}
 use Rattle.pick_rules.proofs.Shapes.{Shape, shape_at, same_none, runout_same}
 use Rattle.pick_rules.proofs.Placing.{text_table, text_core, again_row, core_table, core_core}
 use Rattle.log_laws.proofs.Fitting.{going_fits, Apt, AptCame}
-use Rattle.log_laws.proofs.Seats.{Seat, Seats, seat_at, with_seat, Rule, rule_of, AgreesAt, Agrees, InTurn, InCall, runs_in, not_busy, own, same_board, kept_agrees, change_agrees}
+use Rattle.log_laws.proofs.Seats.{Seat, Seats, seat_at, with_seat, Rule, rule_of, AgreesAt, Agrees, InTurn, InCall, runs_in, in_its_slot, not_busy, own, same_board, kept_agrees, change_agrees}
 
 -- the lowest slot in which nobody sits
 abbrev pub free_seat : Seats → Option ℕ
@@ -157,7 +158,9 @@ fork_apt Q s v seen child before es i f may rest = by (placed seen.board s (row_
     by : (o : Option Place) → placed seen.board s (row_at seen.board.table s).size ≡ o
         → AptCame seen (image_at before o (λ place. line.Fork s child place)) (λ now. Apt Q now es)
     by (Some (Core c)) e = (
-      going_fits seen.stage seen.board (line.Fork s child (Core c)) i.going (running, sym (same_free s v seen.board i.agrees) ∙ f, e),
+      going_fits seen (line.Fork s child (Core c)) i.going
+          (in_its_slot i.turn, (let l = found.below in omega (arith, l)), click_within seen.board s _ c i.agrees.core e)
+          (running, sym (same_free s v seen.board i.agrees) ∙ f, e),
       rest (seen_after seen (line.Fork s child (Core c)))
           (fork_in s v seen child i (let l = found.below in omega (arith, l)) found.least (free_other s v seen.board child i.turn found.passes) (Core c) (may c)),
     )

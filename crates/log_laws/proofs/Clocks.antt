@@ -9,7 +9,7 @@ use Rattle.pick_rules.specs.Clock.{tick}
 use Rattle.pick_rules.specs.Board.{Board}
 use Rattle.pick_rules.specs.Apply.{applied}
 use Rattle.pick_rules.specs.Fits.{FitsBoard, mode_of, mode_now}
-use Rattle.pick_rules.specs.Lawful.{Seen, FitsStage, seen_after}
+use Rattle.pick_rules.specs.Lawful.{Seen, Fits, seen_after}
 use Rattle.pick_rules.proofs.Laws.{time_passed, passed_running}
 use Rattle.pick_rules.proofs.Shapes.{SameShapes}
 use Rattle.pick_rules.proofs.TickShapes.{tick_same}
@@ -39,8 +39,8 @@ clock_agrees v b a = subst (λ n. Agrees 0 (ticked_at n v) (record b { table = t
         → Agrees 0 (cond x (record v { ticks = 0; time = (v.time + 1) % 2 ^ 32 }) (record v { ticks = b.table.ticks + 1 }))
         (record b { table = cond x (record b.table { ticks = 0; now = (b.table.now + 1) % 2 ^ 32 }) (record b.table { ticks = b.table.ticks + 1; now = b.table.now }) })
     by true =
-        record { each = a.each; sleeps = a.sleeps; rows = a.rows; seats = a.seats; time = ap (λ n. (n + 1) % 2 ^ 32) a.time; ticks = refl; texts = a.texts }
-    by false = record { each = a.each; sleeps = a.sleeps; rows = a.rows; seats = a.seats; time = a.time; ticks = refl; texts = a.texts }
+        record { each = a.each; sleeps = a.sleeps; rows = a.rows; seats = a.seats; time = ap (λ n. (n + 1) % 2 ^ 32) a.time; ticks = refl; texts = a.texts; core = a.core }
+    by false = record { each = a.each; sleeps = a.sleeps; rows = a.rows; seats = a.seats; time = a.time; ticks = refl; texts = a.texts; core = a.core }
 
 -- who runs is the same a tick later
 later_runner : (v : Seats) (b : Board) (o : Option ℕ) → RunnerAt v b o → RunnerAt (a_tick_later v) b o
@@ -79,17 +79,14 @@ tick_paused v seen mode p = on mode
     on Idle = record { going = tt; agrees = agrees Idle; runner = runs Idle }
 
 -- the mode is the board's
-mode_fits : (b : Board) → FitsBoard b (tick_line (mode_now b))
+pub tick_fits : (seen : Seen) → IsGoing seen.stage → Fits seen (tick_line (mode_now seen.board))
 unfolding FitsBoard
-mode_fits b = by (mode_now b) refl
+tick_fits seen g = by (mode_now seen.board) refl
   where
-    by : (m : Mode) → mode_now b ≡ m → FitsBoard b (tick_line m)
-    by User e = e
-    by Kernel e = e
-    by Idle e = e
-
-pub tick_fits : (seen : Seen) → IsGoing seen.stage → FitsStage seen.stage seen.board (tick_line (mode_now seen.board))
-tick_fits seen g = going_fits seen.stage seen.board (tick_line (mode_now seen.board)) g (mode_fits seen.board)
+    by : (m : Mode) → mode_now seen.board ≡ m → Fits seen (tick_line m)
+    by User e = going_fits seen line.TickUser g tt e
+    by Kernel e = going_fits seen line.TickKernel g tt e
+    by Idle e = going_fits seen line.TickIdle g tt e
 
 -- the mode of a process is whether it waits in a call
 pub mode_is : (s : ℕ) (v : Seats) (b : Board) → Agrees 0 v b → (t : InTurn s v b)

@@ -1,5 +1,5 @@
 -- The end of a process, and the wait for it: it leaves its text; its exit finds a block, or panics; its slot is emptied.
-use Rattle.std.proofs.Common.{◌≡◌, ◌≢◌, ◌∙◌, ◌<◌, ◌==◌, ℕ, Bool, true, false, cond, List, ◌∷◌, Option, Some, None, set, length, get_or-set_same, refl, sym, ap, subst, inl}
+use Rattle.std.proofs.Common.{◌≡◌, ◌≢◌, ◌∙◌, ◌<◌, ◌==◌, ℕ, Bool, true, false, cond, List, ◌∷◌, Option, Some, None, set, length, get_or-set_same, refl, sym, ap, subst, inl, arith}
 use Rattle.std.proofs.lemmas.Bool.{eq-eqb}
 use Rattle.std.proofs.lemmas.List.{set-get_or}
 use Rattle.v6_base.specs.declared.entry.Place.TheVariants.{Swap}
@@ -14,11 +14,12 @@ use Rattle.pick_rules.specs.Apply.{in_table, change_row, leaves_core, parted, go
 use Rattle.pick_rules.specs.Effects.{Effect, Panicked, at_fit, came}
 use Rattle.pick_rules.specs.Effects as effect
 use Rattle.pick_rules.specs.Fits.{FitsBoard, IsRunning}
-use Rattle.pick_rules.specs.Lawful.{Seen, FitsStage, seen_after}
+use Rattle.pick_rules.specs.Lawful.{Seen, Fits, seen_after}
+use Rattle.pick_rules.proofs.Within.{block_within}
 use Rattle.pick_rules.proofs.Shapes.{shape_at}
 use Rattle.pick_rules.proofs.Placing.{text_table, text_core}
 use Rattle.log_laws.proofs.Fitting.{going_fits, Apt, AptCame}
-use Rattle.log_laws.proofs.Seats.{Seat, Seats, seat_at, with_seat, Same, rule_of, AgreesAt, InTurn, InCall, Paused, runs_in, own, same_board, change_agrees}
+use Rattle.log_laws.proofs.Seats.{Seat, Seats, seat_at, with_seat, Same, rule_of, AgreesAt, InTurn, InCall, Paused, runs_in, in_its_slot, own, same_board, change_agrees}
 use Rattle.log_laws.proofs.Births.{other_turn}
 
 -- a process that has ended
@@ -37,9 +38,11 @@ is_zombie_stat stat.Ready e = absurd (cc e)
 is_zombie_stat stat.Zombie e = refl
 
 module _ (s : ℕ) (calling : Bool) (v : Seats) (seen : Seen) (c : ℕ) (i : InCall s calling v seen) (d : IsDead v c) where
-  pub reap_fits : FitsStage seen.stage seen.board (line.Reap c)
+  pub reap_fits : Fits seen (line.Reap c)
   unfolding FitsBoard
-  reap_fits = going_fits seen.stage seen.board (line.Reap c) i.going ((s, runs_in s v seen.board i.turn), is_zombie_stat _ (same.zombie ∙ d.dead))
+  reap_fits =
+      going_fits seen (line.Reap c) i.going (let l = d.small in omega (arith, l))
+      ((s, runs_in s v seen.board i.turn), is_zombie_stat _ (same.zombie ∙ d.dead))
     where
       same : Same (c == s) (rule_of v seen.board) d.seat (shape_at seen.board.table c)
       same =
@@ -110,10 +113,9 @@ own_turn s v b d seat a t n e = record {
 module _ (s : ℕ) (calling : Bool) (v : Seats) (seen : Seen) (i : InCall s calling v seen) where
   -- its text is left
   pub leave_fits : (k : ℕ) (sticky : Bool) → i.turn.seat.text ≡ Some k
-      → FitsStage seen.stage seen.board (line.Leave s k sticky)
+      → Fits seen (line.Leave s k sticky)
   unfolding FitsBoard
-  leave_fits k sticky e = going_fits seen.stage seen.board (line.Leave s k sticky) i.going
-      (runs_in s v seen.board i.turn, (own s s v seen.board i.agrees i.turn).text ∙ e)
+  leave_fits k sticky e = let o = own s s v seen.board i.agrees i.turn in absurd (let none = o.bare in cc (none, e))
 
   pub leave_in : (k : ℕ) (sticky : Bool)
       → InCall s calling (with_own s v (record i.turn.seat { text = None })) (seen_after seen (line.Leave s k sticky))
@@ -174,10 +176,10 @@ module _ (s : ℕ) (calling : Bool) (v : Seats) (seen : Seen) (i : InCall s call
       by : (o : Option ℕ) → swap_fit seen.board 1 ≡ o
           → AptCame seen (at_fit (Panicked panic.Zombie) before o (λ block. line.Exit s block)) (λ now. Apt Q now es)
       by (Some block) e = (
-        going_fits seen.stage seen.board (line.Exit s block) i.going (running, (own s s v seen.board i.agrees i.turn).text ∙ bare, e),
+        going_fits seen (line.Exit s block) i.going (in_its_slot i.turn, block_within seen.board 1 block (omega arith) e) (running, (own s s v seen.board i.agrees i.turn).text ∙ bare, e),
         rest (seen_after seen (line.Exit s block)) (exit_paused block seat dead (text ∙ sym bare)),
       )
-      by None e = going_fits seen.stage seen.board (line.Panic panic.Zombie) i.going (inl ((s, running), e))
+      by None e = going_fits seen (line.Panic panic.Zombie) i.going tt (inl ((s, running), e))
 
   -- a change of the process that doesn't show in its row
   pub change_in : (seat : Seat) → seat.dead ≡ false → seat.text ≡ i.turn.seat.text → seat.size ≡ i.turn.seat.size

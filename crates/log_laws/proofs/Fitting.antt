@@ -7,6 +7,7 @@ use Rattle.v6_base.specs.declared.entry.Entry.TheVariants as line
 use Rattle.pick_rules.specs.Board.{Board}
 use Rattle.pick_rules.specs.Effects.{Effect, Show, Why, Panicked, Unbuilt, Came, Lets, Stops, came}
 use Rattle.pick_rules.specs.Logged.{Stop, Logged, with_what_came, log_one, logged}
+use Rattle.pick_rules.specs.Ranges.{IsChannel, IsInRange}
 use Rattle.pick_rules.specs.Fits.{FitsBoard}
 use Rattle.pick_rules.specs.Lawful.{Stage, Blank, Booted, Open, Idling, Bared, Over, Seen, Fits, FitsStage, FitAll, seen_after}
 use Rattle.pick_rules.proofs.Stopping.{stays_stopped}
@@ -49,13 +50,16 @@ IsGoing Idling = Unit {0}
 IsGoing (Bared s) = ⊥
 IsGoing Over = ⊥
 
-pub going_fits : (stage : Stage) (b : Board) (e : Entry) → IsGoing stage → FitsBoard b e → FitsStage stage b e
-going_fits Blank b e g f = absurd g
-going_fits Booted b e g f = absurd g
-going_fits Open b e g f = f
-going_fits Idling b e g f = inr f
-going_fits (Bared s) b e g f = absurd g
-going_fits Over b e g f = absurd g
+may_come : (stage : Stage) (b : Board) (e : Entry) → IsGoing stage → FitsBoard b e → FitsStage stage b e
+may_come Blank b e g f = absurd g
+may_come Booted b e g f = absurd g
+may_come Open b e g f = f
+may_come Idling b e g f = inr f
+may_come (Bared s) b e g f = absurd g
+may_come Over b e g f = absurd g
+
+pub going_fits : (seen : Seen) (e : Entry) → IsGoing seen.stage → IsInRange e → FitsBoard seen.board e → Fits seen e
+going_fits seen e g r f = (r, may_come seen.stage seen.board e g f)
 
 -- a log that a panic has stopped has ended
 abbrev pub EndsBy : Why → Seen → Type 0
@@ -146,7 +150,7 @@ module _ {W : Type 0} where
 
   -- a wake fits always
   pub wake_apt : (Q : Seen → Type 0) (seen : Seen) (chan : Chan) (es : List (Effect W)) → IsGoing seen.stage
-      → Apt Q (seen_after seen (line.Wake chan)) es
+      → IsChannel chan → Apt Q (seen_after seen (line.Wake chan)) es
       → Apt Q seen (Show (Log (line.Wake chan)) ∷ es)
   unfolding Apt came FitsBoard
-  wake_apt Q seen chan es g a = (going_fits seen.stage seen.board (line.Wake chan) g tt, a)
+  wake_apt Q seen chan es g r a = (going_fits seen (line.Wake chan) g r tt, a)

@@ -1,5 +1,5 @@
 -- The lines of images: a size, and an exec, whose new image takes the place of the old one.
-use Rattle.std.proofs.Common.{◌≡◌, ◌≢◌, ◌∙◌, ◌≤◌, ◌<◌, ◌==◌, ℕ, nat_le, Bool, true, false, cond, List, ◌∷◌, Option, Some, None, set, set-set, length, get_or-set_same, refl, sym, ap, subst, inl}
+use Rattle.std.proofs.Common.{◌≡◌, ◌≢◌, ◌∙◌, ◌≤◌, ◌<◌, ◌==◌, ℕ, nat_le, Bool, true, false, cond, List, ◌∷◌, Option, Some, None, set, set-set, length, get_or-set_same, refl, sym, ap, subst, inl, arith}
 use Rattle.std.proofs.lemmas.Bool.{leb-true, leb-false}
 use Rattle.v6_base.specs.Trace.{Log}
 use Rattle.v6_base.specs.declared.entry.Place.{Place}
@@ -14,12 +14,14 @@ use Rattle.pick_rules.specs.Board.{Board, limit, placed}
 use Rattle.pick_rules.specs.Apply.{change_row, applied}
 use Rattle.pick_rules.specs.Effects.{Effect, Show, Lets, image_at, came}
 use Rattle.pick_rules.specs.Effects as effect
+use Rattle.pick_rules.specs.Ranges.{IsClicks}
 use Rattle.pick_rules.specs.Fits.{FitsBoard, IsRunning, IsSize}
-use Rattle.pick_rules.specs.Lawful.{Bared, Seen, FitsStage, seen_after}
+use Rattle.pick_rules.specs.Lawful.{Bared, Seen, Fits, FitsStage, seen_after}
+use Rattle.pick_rules.proofs.Within.{click_within}
 use Rattle.pick_rules.proofs.Shapes.{shape, shape_at, Sleeps, same_none, runout_same}
 use Rattle.pick_rules.proofs.Placing.{again_row, row_in, row_out, core_table, core_core, bare_table, bare_core, moved_in, moved_out, moved_core}
 use Rattle.log_laws.proofs.Fitting.{going_fits, Apt, AptCame}
-use Rattle.log_laws.proofs.Seats.{Seat, Seats, stands, Same, rule_of, Agrees, InTurn, InCall, runs_in, own, same_board, kept_agrees, change_agrees}
+use Rattle.log_laws.proofs.Seats.{Seat, Seats, stands, Same, rule_of, Agrees, InTurn, InCall, runs_in, in_its_slot, own, same_board, kept_agrees, change_agrees}
 use Rattle.log_laws.proofs.Lines.{same_turn}
 use Rattle.log_laws.proofs.Deaths.{with_own, own_turn}
 
@@ -36,6 +38,9 @@ pub record Houses (s : ℕ) (v : Seats) (b : Board) (row : TableRow) : Type 0 wh
   pub same : (place : Place) (clicks : ℕ) → v.may place ≡ true → clicks ≤ limit b.core
       → Same (s == s) (rule_of v b) (record seat { size = clicks }) (shape (record row { size = clicks; place = Some place }))
   pub sleeps : Sleeps row
+
+clicks_range : (b : Board) (clicks : ℕ) → IsSize b clicks → IsClicks clicks
+clicks_range b clicks z = let l = z.most in omega (arith, l)
 
 -- a seat with an image of so many clicks
 abbrev pub sized : Seat → ℕ → Seat
@@ -132,7 +137,8 @@ module _ (s : ℕ) (calling : Bool) (v : Seats) (seen : Seen) (i : InCall s call
       placing : nat_le clicks (row_at seen.board.table s).size ≡ false → (o : Option Place) → placed seen.board s clicks ≡ o
           → AptCame seen (image_at before o (λ place. line.Size s clicks place)) (λ now. Apt Q now es)
       placing g (Some (Core c)) e = (
-        going_fits seen.stage seen.board (line.Size s clicks (Core c)) i.going (running, z, leb-false _ _ g, e),
+        going_fits seen (line.Size s clicks (Core c)) i.going
+            (in_its_slot i.turn, clicks_range seen.board clicks z, click_within seen.board s clicks c i.agrees.core e) (running, z, leb-false _ _ g, e),
         rest (seen_after seen (line.Size s clicks (Core c))) (size_in clicks (Core c) (may c) z.most),
       )
       placing g (Some (Swap block)) e = tt
@@ -141,7 +147,7 @@ module _ (s : ℕ) (calling : Bool) (v : Seats) (seen : Seen) (i : InCall s call
       by : (x : Bool) → nat_le clicks (row_at seen.board.table s).size ≡ x
           → AptCame seen (cond x (Lets (Log (line.SizeKeep s clicks))) (image_at before (placed seen.board s clicks) (λ place. line.Size s clicks place))) (λ now. Apt Q now es)
       by true e = (
-        going_fits seen.stage seen.board (line.SizeKeep s clicks) i.going (running, z, leb-true _ _ e),
+        going_fits seen (line.SizeKeep s clicks) i.going (in_its_slot i.turn, clicks_range seen.board clicks z) (running, z, leb-true _ _ e),
         rest (seen_after seen (line.SizeKeep s clicks)) (keep_in clicks z.most),
       )
       by false e = placing e (placed seen.board s clicks) refl
@@ -153,14 +159,15 @@ pub record InExec (s : ℕ) (v : Seats) (seen : Seen) : Type 0 where
   pub calls : turn.seat.calling ≡ false
   pub place : (row_at seen.board.table s).place ≡ None
   pub seats : length v.slots ≡ 50
+  pub core : seen.board.core ≤ 3968
   pub houses : Houses s v seen.board (row_at seen.board.table s)
   pub seat : houses.seat ≡ turn.seat
 
 -- the old image is given up
 module _ (s : ℕ) (v : Seats) (seen : Seen) (i : InCall s false v seen) (bare : i.turn.seat.text ≡ None) where
-  pub bare_fits : FitsStage seen.stage seen.board (line.Bare s)
+  pub bare_fits : Fits seen (line.Bare s)
   unfolding FitsBoard
-  bare_fits = going_fits seen.stage seen.board (line.Bare s) i.going (running s false v seen i, is_placed, o.text ∙ bare)
+  bare_fits = going_fits seen (line.Bare s) i.going (in_its_slot i.turn) (running s false v seen i, is_placed, o.text ∙ bare)
     where
       o : Same (s == s) (rule_of v seen.board) i.turn.seat (shape_at seen.board.table s)
       o = own s s v seen.board i.agrees i.turn
@@ -177,6 +184,7 @@ module _ (s : ℕ) (v : Seats) (seen : Seen) (i : InCall s false v seen) (bare :
         calls = i.calls;
         place = ap (λ row. row.place) row_is;
         seats = i.agrees.seats;
+        core = rw core i.agrees.core;
         seat = refl;
         houses = record {
           seat = i.turn.seat;
@@ -255,7 +263,8 @@ module _ (s : ℕ) (v : Seats) (seen : Seen) (i : InExec s v seen) where
       by : (o : Option Place) → placed seen.board s clicks ≡ o
           → AptCame seen (image_at before o (λ place. line.Image s clicks place)) (λ now. Apt Q now es)
       by (Some (Core c)) e = (
-        bared_fits (line.Image s clicks (Core c)) (refl, (exec_runs, i.place, z, e)),
+        ((in_its_slot i.turn, clicks_range seen.board clicks z, click_within seen.board s clicks c i.core e),
+        bared_fits (line.Image s clicks (Core c)) (refl, (exec_runs, i.place, z, e))),
         rest (seen_after seen (line.Image s clicks (Core c))) (image_in clicks (Core c) (may c) z.most),
       )
       by (Some (Swap block)) e = tt

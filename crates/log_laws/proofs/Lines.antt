@@ -1,8 +1,10 @@
 -- The lines of a turn that name no place: why each fits, and what it leaves.
-use Rattle.std.proofs.Common.{◌≡◌, ◌≢◌, ◌∙◌, ◌<◌, ◌≤◌, ◌==◌, ℕ, ℤ, pos, int_lt, Bool, true, false, cond, List, [], ◌∷◌, Option, Some, None, get_or, set, set-set, get_or-set_same, refl, sym, ap, subst, inl, inr}
+use Rattle.std.proofs.Common.{◌≡◌, ◌≢◌, ◌∙◌, ◌<◌, ◌≤◌, ◌==◌, ℕ, ℤ, pos, int_lt, Bool, true, false, cond, List, [], ◌∷◌, Option, Some, None, get_or, set, set-set, get_or-set_same, refl, sym, ap, subst, inl, inr, arith}
+use Rattle.std.proofs.lemmas.Int.{ints}
 use Rattle.std.proofs.lemmas.List.{set-get_or}
 use Rattle.v6_base.specs.Trace.{Log}
 use Rattle.v6_base.specs.declared.entry.Chan.{Chan}
+use Rattle.v6_base.specs.declared.entry.Chan.TheVariants.{RunIn, RunOut, Tout, Keys, Wait, Read, Write}
 use Rattle.v6_base.specs.declared.entry.Entry.{Entry}
 use Rattle.v6_base.specs.declared.entry.Entry.TheVariants as line
 use Rattle.pick_rules.specs.declared.row.Stat.TheVariants.{Empty, Sleeping, Waiting}
@@ -13,12 +15,14 @@ use Rattle.pick_rules.specs.Sleepers.{asleep, runin_told, fall_asleep, sleep_sta
 use Rattle.pick_rules.specs.Board.{Board}
 use Rattle.pick_rules.specs.Apply.{applied}
 use Rattle.pick_rules.specs.Effects.{Show, came}
+use Rattle.pick_rules.specs.Ranges.{IsSlot, IsTime, IsPriority, IsChannel}
 use Rattle.pick_rules.specs.Fits.{IsSleep, FitsBoard}
-use Rattle.pick_rules.specs.Lawful.{Open, Seen, FitsStage, stage_after, seen_after}
+use Rattle.pick_rules.specs.Lawful.{Open, Seen, Fits, stage_after, seen_after}
+use Rattle.pick_rules.proofs.Movers.{in_rows}
 use Rattle.pick_rules.proofs.Laws.{sleep_running}
 use Rattle.pick_rules.proofs.Shapes.{is_asleep, shape_at, Sleeps, SameShapes, same_none, row_same, wakeup_same, runin_same, signalled_same}
 use Rattle.log_laws.proofs.Fitting.{IsGoing, going_fits, Apt}
-use Rattle.log_laws.proofs.Seats.{Seat, Seats, seat_at, Same, AgreesAt, rule_of, Agrees, InTurn, InCall, RunnerAt, Paused, runs_in, not_zero, own, kept_agrees, change_agrees}
+use Rattle.log_laws.proofs.Seats.{Seat, Seats, seat_at, Same, AgreesAt, rule_of, Agrees, InTurn, InCall, RunnerAt, Paused, runs_in, in_its_slot, not_zero, own, kept_agrees, change_agrees}
 
 -- a turn goes on over a board with the same runner
 unfoldable pub same_turn : (s : ℕ) (v : Seats) (b c : Board) → c.table.running ≡ b.table.running → InTurn s v b
@@ -104,12 +108,15 @@ signal_paused v seen r n p =
 -- to a process
 pub signal_fits : (busy : ℕ) (v : Seats) (seen : Seen) (r n : ℕ) (seat : Seat) → IsGoing seen.stage
     → Agrees busy v seen.board → 0 < r → seat_at v r ≡ Some seat
-    → 1 ≤ n → n ≤ 19 → FitsStage seen.stage seen.board (line.Signal r n)
+    → 1 ≤ n → n ≤ 19 → Fits seen (line.Signal r n)
 unfolding FitsBoard
-signal_fits busy v seen r n seat g a h at l m = going_fits seen.stage seen.board (line.Signal r n) g (h, used, l, m)
+signal_fits busy v seen r n seat g a h at l m = going_fits seen (line.Signal r n) g (in_slot, (l, m)) (h, used)
   where
     same : Same (r == busy) (rule_of v seen.board) seat (shape_at seen.board.table r)
     same = subst (λ o. AgreesAt (r == busy) (rule_of v seen.board) o (shape_at seen.board.table r)) at (a.each r h)
+
+    in_slot : IsSlot r
+    in_slot = let k = in_rows seen.board.table.rows r same.used in let e = a.rows in omega (arith, k, e)
 
     used : (row_at seen.board.table r).stat ≢ Empty
     used e = let u : is_empty (row_at seen.board.table r).stat ≡ false = same.used in absurd (let w : is_empty (row_at seen.board.table r).stat ≡ true = rw e refl in cc (u, w))
@@ -132,11 +139,11 @@ nice_in s calling v seen value i =
     same_in s calling v seen (line.Nice s value) refl (nice_shapes seen.board s value i.agrees.sleeps)
     (nice_core seen.board s value) i
 
-pub nice_fits : (s : ℕ) (calling : Bool) (v : Seats) (seen : Seen) (value : ℤ) → InCall s calling v seen
-    → FitsStage seen.stage seen.board (line.Nice s value)
+pub nice_fits : (s : ℕ) (calling : Bool) (v : Seats) (seen : Seen) (value : ℤ) → IsPriority value → InCall s calling v seen
+    → Fits seen (line.Nice s value)
 unfolding FitsBoard
-nice_fits s calling v seen value i =
-    going_fits seen.stage seen.board (line.Nice s value) i.going (runs_in s v seen.board i.turn)
+nice_fits s calling v seen value r i =
+    going_fits seen (line.Nice s value) i.going (in_its_slot i.turn, r) (runs_in s v seen.board i.turn)
 
 -- a time is set
 pub time_in : (s : ℕ) (calling : Bool) (v : Seats) (seen : Seen) (time : ℕ) → InCall s calling v seen
@@ -144,16 +151,16 @@ pub time_in : (s : ℕ) (calling : Bool) (v : Seats) (seen : Seen) (time : ℕ) 
 unfolding applied
 time_in s calling v seen time i = record {
   going = tt;
-  agrees = let a = i.agrees in record { each = a.each; sleeps = a.sleeps; rows = a.rows; seats = a.seats; time = refl; ticks = a.ticks; texts = a.texts };
+  agrees = let a = i.agrees in record { each = a.each; sleeps = a.sleeps; rows = a.rows; seats = a.seats; time = refl; ticks = a.ticks; texts = a.texts; core = a.core };
   turn = let t = i.turn in record { seat = t.seat; at = t.at; runs = t.runs; user = t.user; small = t.small; alive = t.alive };
   calls = i.calls;
 }
 
-pub time_fits : (s : ℕ) (calling : Bool) (v : Seats) (seen : Seen) (time : ℕ) → InCall s calling v seen
-    → FitsStage seen.stage seen.board (line.Time time)
+pub time_fits : (s : ℕ) (calling : Bool) (v : Seats) (seen : Seen) (time : ℕ) → IsTime time → InCall s calling v seen
+    → Fits seen (line.Time time)
 unfolding FitsBoard
-time_fits s calling v seen time i =
-    going_fits seen.stage seen.board (line.Time time) i.going (s, runs_in s v seen.board i.turn)
+time_fits s calling v seen time r i =
+    going_fits seen (line.Time time) i.going r (s, runs_in s v seen.board i.turn)
 
 -- The end of a turn: the process comes out of its call.
 trap_agrees : (s : ℕ) (v : Seats) (b : Board) → Agrees s v b → (t : InTurn s v b) → t.seat.calling ≡ false
@@ -182,7 +189,7 @@ pub trap_apt : (W : Type 0) (s : ℕ) (v : Seats) (seen : Seen) → InCall s fal
     → Apt {W = W} (Paused v) seen (Show (Log (line.Trap s)) ∷ [])
 unfolding Apt came FitsBoard applied setpri
 trap_apt W s v seen i = (
-  going_fits seen.stage seen.board (line.Trap s) i.going (runs_in s v seen.board i.turn),
+  going_fits seen (line.Trap s) i.going (in_its_slot i.turn) (runs_in s v seen.board i.turn),
   record {
     going = tt;
     agrees = trap_agrees s v seen.board i.agrees i.turn i.calls;
@@ -228,12 +235,22 @@ slept_running : (b : Board) (s : ℕ) (pri : ℤ) (chan : Chan) → (applied b (
 unfolding applied
 slept_running b s pri chan = sleep_running b.table s pri chan
 
+-- the priorities at which processes sleep
+sleep_pri : (s : ℕ) (chan : Chan) (pri : ℤ) → IsSleep s chan pri → IsPriority pri
+sleep_pri s RunIn pri k = absurd k
+sleep_pri s RunOut pri k = absurd k
+sleep_pri s Tout pri k = rw k (omega (arith, ints), omega (arith, ints))
+sleep_pri s Keys pri k = rw k (omega (arith, ints), omega (arith, ints))
+sleep_pri s (Wait t) pri k = rw k.0 (omega (arith, ints), omega (arith, ints))
+sleep_pri s (Read i) pri k = rw k (omega (arith, ints), omega (arith, ints))
+sleep_pri s (Write i) pri k = rw k (omega (arith, ints), omega (arith, ints))
+
 pub sleep_apt : (W : Type 0) (s : ℕ) (v : Seats) (seen : Seen) (pri : ℤ) (chan : Chan) → InCall s true v seen
-    → IsSleep s chan pri
+    → IsSleep s chan pri → IsChannel chan
     → Apt {W = W} (Paused v) seen (Show (Log (line.Sleep s pri chan)) ∷ [])
 unfolding Apt came FitsBoard
-sleep_apt W s v seen pri chan i k = (
-  going_fits seen.stage seen.board (line.Sleep s pri chan) i.going (inl (runs_in s v seen.board i.turn, k)),
+sleep_apt W s v seen pri chan i k r = (
+  going_fits seen (line.Sleep s pri chan) i.going (in_its_slot i.turn, sleep_pri s chan pri k, r) (inl (runs_in s v seen.board i.turn, k)),
   record {
     going = tt;
     agrees = sleep_agrees s v seen.board pri chan i.agrees i.turn i.calls;

@@ -1,5 +1,6 @@
 -- A pass of process 0: each of its moves fits, or there is no place for who goes out and the panic fits.
-use Rattle.std.proofs.Common.{◌≡◌, ◌∙◌, ◌<◌, ◌==◌, ℕ, Bool, true, false, cond, Option, Some, None, get_or, set, length-set, get_or-set_other, refl, sym, ap, subst, inl, inr, ◌⊎◌, arith}
+use Rattle.std.proofs.Common.{◌≡◌, ◌∙◌, ◌<◌, ◌≤◌, ◌==◌, ℕ, Bool, true, false, cond, Option, Some, None, get_or, set, length-set, get_or-set_other, refl, sym, ap, subst, inl, inr, ◌⊎◌, arith}
+use Rattle.std.proofs.lemmas.Int.{ints}
 use Rattle.std.proofs.lemmas.List.{set-get_or}
 use Rattle.v6_base.specs.declared.entry.Chan.{Chan}
 use Rattle.v6_base.specs.declared.entry.Chan.TheVariants.{RunIn}
@@ -17,8 +18,10 @@ use Rattle.pick_rules.specs.Sleepers.{runout_told, asleep, fall_asleep}
 use Rattle.pick_rules.specs.Board.{Board, blocks, swap_fit}
 use Rattle.pick_rules.specs.Apply.{applied}
 use Rattle.pick_rules.specs.Swapper.{In, Out, Waits, swap_move}
+use Rattle.pick_rules.specs.Ranges.{IsSlot, IsClicks, IsChannel}
 use Rattle.pick_rules.specs.Fits.{FitsBoard}
 use Rattle.pick_rules.specs.Lawful.{Open, Seen, Fits, stage_after, seen_after}
+use Rattle.pick_rules.proofs.Within.{block_within}
 use Rattle.pick_rules.proofs.Movers.{Lives, IsMover, mover}
 use Rattle.pick_rules.proofs.Shapes.{is_asleep, shape, shape_at, Sleeps, SameShapes, same_none, each_set, runout_same}
 use Rattle.pick_rules.proofs.Placing.{row_out, loaded_row, HasCome, comes_in, goes_out, goes_core}
@@ -114,19 +117,23 @@ module _ (v : Seats) (seen : Seen) (any : (place : Place) → v.may place ≡ tr
   lives_out : (s : ℕ) → swap_move seen.board ≡ Out s → Lives seen.board.table s
   lives_out s e = subst (IsMover seen.board.table) e (mover seen.board)
 
-  pub in_moves : (s c : ℕ) → swap_move seen.board ≡ In s c → Moves v seen (line.SwapIn s c)
+  slot_of : (s : ℕ) → Lives seen.board.table s → IsSlot s
+  slot_of s l = let k = small v seen p r s l in omega (arith, k)
+
+  pub in_moves : (s c : ℕ) → IsClicks c → swap_move seen.board ≡ In s c → Moves v seen (line.SwapIn s c)
   unfolding FitsBoard
-  in_moves s c e = record {
-    fits = going_fits seen.stage seen.board (line.SwapIn s c) p.going (r, e);
+  in_moves s c k e = record {
+    fits = going_fits seen (line.SwapIn s c) p.going (slot_of s (lives_in s c e), k) (r, e);
     next = come v seen p r s (lives_in s c e) c any;
   }
 
-  pub out_moves : (s block : ℕ) → swap_move seen.board ≡ Out s
+  pub out_moves : (s block : ℕ) → 1 ≤ (row_at seen.board.table s).size → swap_move seen.board ≡ Out s
       → swap_fit seen.board (blocks (row_at seen.board.table s).size) ≡ Some block
       → Moves v seen (line.SwapOut s block)
   unfolding FitsBoard
-  out_moves s block e f = record {
-    fits = going_fits seen.stage seen.board (line.SwapOut s block) p.going (r, e, f);
+  out_moves s block l e f = record {
+    fits = going_fits seen (line.SwapOut s block) p.going
+        (slot_of s (lives_out s e), block_within seen.board (blocks (row_at seen.board.table s).size) block (omega (arith, l)) f) (r, e, f);
     next = go v seen p r s (lives_out s e) block any;
   }
 
@@ -135,7 +142,7 @@ module _ (v : Seats) (seen : Seen) (any : (place : Place) → v.may place ≡ tr
       → Fits seen (line.Panic panic.Swap)
   unfolding FitsBoard
   no_room s e f =
-      going_fits seen.stage seen.board (line.Panic panic.Swap) p.going
+      going_fits seen (line.Panic panic.Swap) p.going tt
       (inr (refl, record { runs = r; s = s; out = e; full = f }))
 
 -- process 0 falls asleep
@@ -161,6 +168,7 @@ zero_sleeps v seen chan p = by (same_chan chan RunIn)
       time = p.agrees.time;
       ticks = p.agrees.ticks;
       texts = p.agrees.texts;
+      core = p.agrees.core;
     }
 
     by : (x : Bool)
@@ -169,10 +177,10 @@ zero_sleeps v seen chan p = by (same_chan chan RunIn)
     by false = record { paused = record { going = tt; agrees = agrees t.runin true; runner = tt }; zero = inl refl }
 
 pub pass_ends : (v : Seats) (seen : Seen) (chan : Chan) → Paused v seen → seen.board.table.running ≡ Some 0
-    → swap_move seen.board ≡ Waits chan
+    → IsChannel chan → swap_move seen.board ≡ Waits chan
     → Moves v seen (line.Sleep 0 pswp chan)
 unfolding FitsBoard
-pass_ends v seen chan p r e = record {
-  fits = going_fits seen.stage seen.board (line.Sleep 0 pswp chan) p.going (inr (r, refl, refl, e));
+pass_ends v seen chan p r k e = record {
+  fits = going_fits seen (line.Sleep 0 pswp chan) p.going (omega arith, (omega (arith, ints), omega (arith, ints)), k) (inr (r, refl, refl, e));
   next = zero_sleeps v seen chan p;
 }

@@ -7,6 +7,7 @@ use Rattle.pick_rules.specs.declared.table.Table.{Table}
 use Rattle.pick_rules.specs.Table.{empty_row, row_at}
 use Rattle.pick_rules.specs.Choice.{settle}
 use Rattle.pick_rules.specs.Board.{Board, limit}
+use Rattle.pick_rules.specs.Ranges.{IsSlot}
 use Rattle.pick_rules.specs.Fits.{IsRunning}
 use Rattle.pick_rules.specs.Lawful.{Idling, Seen}
 use Rattle.pick_rules.proofs.Shapes.{Shape, shape, shape_at, Sleeps, SameShapes, each_set}
@@ -68,6 +69,7 @@ pub record Agrees (busy : ℕ) (v : Seats) (b : Board) : Type 0 where
   pub time : v.time ≡ b.table.now
   pub ticks : v.ticks ≡ b.table.ticks
   pub texts : v.texts ≡ false
+  pub core : b.core ≤ 3968
 
 -- the slot that is in its turn
 pub record InTurn (s : ℕ) (v : Seats) (b : Board) : Type 0 where
@@ -104,6 +106,9 @@ pub record Holds (v : Seats) (seen : Seen) : Type 0 where
 pub runs_in : (s : ℕ) (v : Seats) (b : Board) → InTurn s v b → IsRunning b s
 runs_in s v b t = record { runs = t.runs; user = t.user }
 
+pub in_its_slot : {s : ℕ} {v : Seats} {b : Board} → InTurn s v b → IsSlot s
+in_its_slot t = let l = t.small in omega (arith, l)
+
 -- at another slot than the busy one, who is busy makes no difference
 pub not_busy : (s r : ℕ) → r ≢ s → (r == s) ≡ false
 not_busy s r e = by (r == s) refl
@@ -136,6 +141,7 @@ busy_agrees s v b a = record {
   time = a.time;
   ticks = a.ticks;
   texts = a.texts;
+  core = a.core;
 }
 
 -- what the busy slot has in common with its row
@@ -154,6 +160,7 @@ same_board busy v b c e f a = record {
   time = rw e a.time;
   ticks = rw e a.ticks;
   texts = a.texts;
+  core = rw f a.core;
 }
 
 -- a table with rows of the same shapes
@@ -167,6 +174,7 @@ kept_agrees busy v b c k f a = record {
   time = a.time ∙ sym k.now;
   ticks = a.ticks ∙ sym k.ticks;
   texts = a.texts;
+  core = rw f a.core;
 }
 
 -- One slot is changed on both sides. Before, `s` was busy; it is that slot, or it stays busy.
@@ -184,6 +192,7 @@ change_agrees s t c v now b new o row stays a l slots rows time ticks k sleeps =
   time = time;
   ticks = ticks;
   texts = a.texts;
+  core = a.core;
 }
   where
     another : (r : ℕ) → 0 < r → r ≢ c → (x : Bool) → (r == s) ≡ x

@@ -43,7 +43,7 @@ go_holds : (v : Seats) (seen : Seen) (s : ℕ) → Paused v seen → chosen seen
     → settle seen.board.table ≡ Some (line.Go s) → Settled v seen (line.Go s)
 unfolding FitsBoard applied
 go_holds v seen s p c e = record {
-  fits = going_fits seen.stage seen.board (line.Go s) p.going e;
+  fits = going_fits seen (line.Go s) p.going (let l = small in omega (arith, l)) e;
   holds = record {
     paused = record { going = tt; agrees = agrees; runner = by s refl };
     rests = inr (go_settles seen.board.table s c);
@@ -54,7 +54,10 @@ go_holds v seen s p c e = record {
     b = record seen.board { table = runs seen.board.table s }
 
     agrees : Agrees 0 v b
-    agrees = let a = p.agrees in record { each = a.each; sleeps = a.sleeps; rows = a.rows; seats = a.seats; time = a.time; ticks = a.ticks; texts = a.texts }
+    agrees = let a = p.agrees in record { each = a.each; sleeps = a.sleeps; rows = a.rows; seats = a.seats; time = a.time; ticks = a.ticks; texts = a.texts; core = a.core }
+
+    small : s < 50
+    small = subst (λ n. s < n) p.agrees.rows (in_rows seen.board.table.rows s (ready_alive _ (runs_ready seen.board.table s (chosen_runs seen.board.table s c))).used)
 
     by : (r : ℕ) → s ≡ r → RunnerAt v b (Some s)
     by zero f = inl f
@@ -64,11 +67,11 @@ idle_holds : (v : Seats) (seen : Seen) → Paused v seen → settle seen.board.t
     → Settled v seen line.Idle
 unfolding FitsBoard applied
 idle_holds v seen p e = record {
-  fits = going_fits seen.stage seen.board line.Idle p.going e;
+  fits = going_fits seen line.Idle p.going tt e;
   holds = record {
     paused = record {
       going = tt;
-      agrees = let a = p.agrees in record { each = a.each; sleeps = a.sleeps; rows = a.rows; seats = a.seats; time = a.time; ticks = a.ticks; texts = a.texts };
+      agrees = let a = p.agrees in record { each = a.each; sleeps = a.sleeps; rows = a.rows; seats = a.seats; time = a.time; ticks = a.ticks; texts = a.texts; core = a.core };
       runner = tt;
     };
     rests = inl refl;
@@ -98,7 +101,7 @@ settling v seen p = by (gives_up t t.running) (chosen t) refl refl
 -- where the kernel rests the log may end
 pub end_fits : (v : Seats) (seen : Seen) → Holds v seen → Fits seen line.End
 unfolding FitsBoard
-end_fits v seen h = by seen.stage h.paused.going h.rests
+end_fits v seen h = (tt, by seen.stage h.paused.going h.rests)
   where
     by : (stage : Stage) → IsGoing stage → (stage ≡ Idling) ⊎ (settle seen.board.table ≡ None)
         → FitsStage stage seen.board line.End

@@ -10,7 +10,7 @@ use Rattle.std.proofs.lemmas.Str.Parse.{not_in_digits}
 use Rattle.v6_base.specs.declared.entry.Chan.{Chan}
 use Rattle.v6_base.specs.declared.entry.Chan.TheVariants.{RunIn, RunOut, Tout, Keys, Wait, Read, Write}
 use Rattle.v6_base.specs.LogLine.{channel}
-use Rattle.log_text.specs.Ranges.{IsSlot, IsText, IsSignal, IsClicks, IsBlock, IsInode, IsTime, IsPriority, IsChannel}
+use Rattle.pick_rules.specs.Ranges.{IsSlot, IsText, IsSignal, IsClicks, IsBlock, IsInode, IsTime, IsPriority, IsChannel}
 use Rattle.log_text.specs.Reading.{number_of, signed_of, negated, not_negated, channel_of}
 use Rattle.log_text.proofs.NumberLemmas.{own, number_is}
 

@@ -5,7 +5,7 @@ use Rattle.std.proofs.lemmas.Int.{ints}
 use Rattle.v6_base.specs.declared.entry.Chan.{Chan}
 use Rattle.v6_base.specs.declared.entry.Chan.TheVariants.{RunIn, RunOut, Tout, Keys, Wait, Read, Write}
 use Rattle.v6_base.specs.LogLine.{channel}
-use Rattle.log_text.specs.Ranges.{IsSlot, IsText, IsSignal, IsClicks, IsBlock, IsInode, IsTime, IsPriority, IsChannel}
+use Rattle.pick_rules.specs.Ranges.{IsSlot, IsText, IsSignal, IsClicks, IsBlock, IsInode, IsTime, IsPriority, IsChannel}
 use Rattle.log_text.proofs.SplitLemmas.{is_whole, decimal_whole}
 
 pub slot_whole : (n : ℕ) → IsSlot n → is_whole (decimal n) ≡ true

@@ -1,23 +1,9 @@
-//! The numbers that a line of the log may have.
+//! Whether the numbers of a line are those that a line of the log may have.
 ghost use Rattle.std.specs.Prelude.{◌↔◌, IsTrue};
-ghost use Rattle.log_text.specs.Ranges.{IsSlot, IsText, IsBlock, IsSignal, IsInode, IsChannel, IsPlace, IsInRange};
+ghost use Rattle.pick_rules.specs.Ranges.{IsSlot, IsText, IsBlock, IsSignal, IsInode, IsChannel, IsPlace, IsInRange};
 
+use pick_rules::{LAST_BLOCK, LAST_SIGNAL, LAST_SLOT, LAST_TEXT, SWAP_START};
 use v6_base::{Chan, Entry, Place, Slot};
-
-/// The last slot of the table of processes.
-pub(crate) const LAST_SLOT: Slot = 49;
-
-/// The last of the texts.
-pub(crate) const LAST_TEXT: u8 = 39;
-
-/// The first block of the swap area.
-pub(crate) const SWAP_START: u16 = 4000;
-
-/// The last block of the swap area, and of the disk.
-pub(crate) const LAST_BLOCK: u16 = 4871;
-
-/// The last of the signals: signal(II).
-pub(crate) const LAST_SIGNAL: u8 = 19;
 
 fn is_slot(slot: Slot) -> bool
     ensures { IsTrue result ↔ IsSlot slot }

@@ -2,7 +2,7 @@
 ghost use Rattle.std.specs.Prelude.{◌≡◌, ◌≢◌, ◌↔◌, Some, IsTrue, MatchOption};
 ghost use Rattle.v6_base.specs.declared.entry.Entry.{Entry};
 ghost use Rattle.v6_base.specs.LogLine.{entry_line};
-ghost use Rattle.log_text.specs.Ranges.{IsInRange};
+ghost use Rattle.pick_rules.specs.Ranges.{IsInRange};
 
 use crate::entries::entry;
 use crate::ranges::is_in_range;

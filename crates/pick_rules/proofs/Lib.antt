@@ -7,6 +7,7 @@ pub mod Shapes
 pub mod TickShapes
 pub mod Movers
 pub mod Placing
+pub mod Within
 pub mod NoPlace
 pub mod OneBlock
 pub mod Stopping

@@ -1,4 +1,5 @@
--- Which logs are lawful: each line fits what the lines before it give, and the last one ends the log.
+-- Which logs are lawful: each line has its numbers in their ranges and fits what the lines before it give, and the last one
+-- ends the log.
 use Rattle.std.specs.Prelude.{◌≡◌, ◌⊎◌, ℕ, ◌≤◌, List, [], ◌∷◌, fold}
 use Rattle.v6_base.specs.declared.entry.Chan.TheVariants.{RunOut}
 use Rattle.v6_base.specs.declared.entry.Entry.{Entry}
@@ -6,6 +7,7 @@ use Rattle.v6_base.specs.declared.entry.Entry.TheVariants.{Boot, Idle, Sleep, Ba
 use Rattle.pick_rules.specs.Priority.{pswp}
 use Rattle.pick_rules.specs.Board.{Board, first_board}
 use Rattle.pick_rules.specs.Apply.{applied}
+use Rattle.pick_rules.specs.Ranges.{IsInRange}
 use Rattle.pick_rules.specs.Fits.{FitsBoard}
 
 -- how far a log has come
@@ -60,8 +62,9 @@ FitsStage Idling b e = (e ≡ End) ⊎ FitsBoard b e
 FitsStage (Bared s) b e = IsOfExec s e × FitsBoard b e
 FitsStage Over b e = ⊥
 
+-- its numbers are such as a line may have, and it may come here
 abbrev pub Fits : Seen → Entry → Type 0
-Fits seen e = FitsStage seen.stage seen.board e
+Fits seen e = IsInRange e × FitsStage seen.stage seen.board e
 
 -- each of these lines fits what those before it give
 unfoldable pub FitAll : Seen → List Entry → Type 0

@@ -9,5 +9,6 @@ pub mod Apply
 pub mod Effects
 pub mod Logged
 pub mod Swapper
+pub mod Ranges
 pub mod Fits
 pub mod Lawful

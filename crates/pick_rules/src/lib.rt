@@ -3,9 +3,11 @@
 
 mod ageing;
 mod choice;
+mod ranges;
 mod row;
 mod sleepers;
 mod table;
 
+pub use crate::ranges::{LAST_BLOCK, LAST_SIGNAL, LAST_SLOT, LAST_TEXT, SWAP_START};
 pub use crate::row::{Mode, Second, Stat, TableRow};
 pub use crate::table::Table;

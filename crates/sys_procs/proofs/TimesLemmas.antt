@@ -24,13 +24,13 @@ clock_woken t w =
 
 -- the super-user sets the time
 pub time_set : (w : World) (s : ℕ) (u : UArea) → u ≡ (process_of w s).u → u.uid ≡ 0
-    → set_time w s ≡ logs (line.Time (65536 * get_or u.r 0 0 + get_or u.r 1 0)) (logs (line.Wake Tout) (returns (with_time w (65536 * get_or u.r 0 0 + get_or u.r 1 0)) s))
+    → set_time w s ≡ logs (line.Time ((65536 * get_or u.r 0 0 + get_or u.r 1 0) % 2 ^ 32)) (logs (line.Wake Tout) (returns (with_time w ((65536 * get_or u.r 0 0 + get_or u.r 1 0) % 2 ^ 32)) s))
 unfolding set_time
 time_set w s u is super =
     ap (λ (v : UArea). by v (v.uid == 0)) (sym is) ∙ ap (by u) (eq-eqb u.uid 0 super)
   where
     by : UArea → Bool → Comes
-    by v b = cond b (logs (line.Time (65536 * get_or v.r 0 0 + get_or v.r 1 0)) (logs (line.Wake Tout) (returns (with_time w (65536 * get_or v.r 0 0 + get_or v.r 1 0)) s))) (fails w EPERM)
+    by v b = cond b (logs (line.Time ((65536 * get_or v.r 0 0 + get_or v.r 1 0) % 2 ^ 32)) (logs (line.Wake Tout) (returns (with_time w ((65536 * get_or v.r 0 0 + get_or v.r 1 0) % 2 ^ 32)) s))) (fails w EPERM)
 
 -- a sleep by whether its time has come
 abbrev pub sleeps_on : World → ℕ → ℕ → Comes

@@ -23,7 +23,7 @@ with_time w time = record w { clock = record w.clock { time = time } }
 unfoldable pub set_time : World → ℕ → Comes
 set_time w s =
     let p : Process = process_of w s in
-    let new = 65536 * register p 0 + register p 1 in
+    let new = (65536 * register p 0 + register p 1) % 2 ^ 32 in
     if is_super p then
     logs (Time new) (
     logs (Wake Tout) (

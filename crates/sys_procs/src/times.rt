@@ -1,5 +1,5 @@
 //! The time, and the times of processes: time(II), stime(II), times(II), sleep(II).
-ghost use Rattle.std.specs.Prelude.{◌≡◌, ℕ, ◌+◌, ◌*◌, ◌/◌, ◌%◌, ◌<◌, [], ◌∷◌, slice_index, is_some};
+ghost use Rattle.std.specs.Prelude.{◌≡◌, ℕ, ◌+◌, ◌*◌, ◌/◌, ◌%◌, ◌^◌, ◌<◌, [], ◌∷◌, slice_index, is_some};
 ghost use Rattle.v6_base.specs.Trace.{Took, Log};
 ghost use Rattle.v6_base.specs.Copy.{store_bytes};
 ghost use Rattle.fs_codec.specs.Bytes.{bytes_of};
@@ -65,6 +65,13 @@ fn put_time<T: Trace>(p: &mut Procs, s: Slot, time: u32, trace: &mut T)
     trace.entry(Entry::Wake(Chan::Tout));
 }
 
+/// The time in its high and its low word.
+fn time_in(high: u16, low: u16) -> u32
+    ensures { result ≡ (65536 * high + low) % 2 ^ 32 }
+{
+    65536 * u32::from(high) + u32::from(low)
+}
+
 /// stime(II): R0 and R1 are the high and the low word of the new time, for the super-user. Those who sleep until a time
 /// look at the new one.
 ///
@@ -91,7 +98,7 @@ pub fn set_time<T: Trace>(
     if u.uid != 0 {
         return Ok(Answer::Fail(Errno::EPERM));
     }
-    put_time(p, s, 65536 * u32::from(u.r[0]) + u32::from(u.r[1]), trace);
+    put_time(p, s, time_in(u.r[0], u.r[1]), trace);
     Ok(Answer::Ret {
         r0: u.r[0],
         r1: u.r[1],

@@ -146,7 +146,7 @@ pub mild_set_time : (w : World) (s : ℕ) → IsNear w w s → IsMild w (set_tim
 unfolding set_time
 mild_set_time w s near =
     let p : Process = process_of w s in
-    let new = 65536 * register p 0 + register p 1 in
+    let new = (65536 * register p 0 + register p 1) % 2 ^ 32 in
     let set : World = record w { clock = record w.clock { time = new } } in
     mild_if w (is_super p) _ _
     (mild_logs w (Time new) _ (mild_time new) (mild_logs w (Wake Tout) _ (mild_wake Tout)

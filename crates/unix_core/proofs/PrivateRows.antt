@@ -158,7 +158,7 @@ module _ (ps : List (Option Process)) (r s : ℕ) (other : r ≢ s) where
     unfolding set_time
     sparing_set_time =
         let p : Process = process_of w s in
-        let new = 65536 * register p 0 + register p 1 in
+        let new = (65536 * register p 0 + register p 1) % 2 ^ 32 in
         sparing_if (is_super p) _ _
         (sparing_logs (Time new) _ (sparing_logs (Wake Tout) _ (sparing_comes (with_time w new) _ h)))
         (sparing_comes w _ h)

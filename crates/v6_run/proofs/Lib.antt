@@ -14,4 +14,3 @@ pub mod AnswerLemmas
 pub mod RunLemmas
 pub mod CheckLemmas
 pub mod CommandLemmas
-pub mod LawLemmas

@@ -14,14 +14,14 @@ use Rattle.fs_laws.specs.Rest.{SameRest}
 use Rattle.fs_laws.proofs.RestLemmas.{rest_then}
 use Rattle.abstract_unix.specs.declared.turned.Unbuilt.{Unbuilt}
 use Rattle.abstract_unix.specs.Unix.{System, SystemOnDisk}
-use Rattle.abstract_unix.specs.Runs.{Course, finished}
+use Rattle.abstract_unix.specs.Runs.{Course, shown_by, finished}
 use Rattle.fs_laws.proofs.ImageLemmas.{block_of_image}
 use Rattle.v6_run.specs.declared.outputs.Output.{Output}
 use Rattle.v6_run.specs.declared.outputs.Output.TheVariants.{Final}
 use Rattle.v6_run.specs.Ports.{term, log_of, final_of, HasShown, HasShownFronts}
 use Rattle.v6_run.specs.Fronts.{HoldsFront, HoldsSome, HoldsFrontOfSome}
 use Rattle.v6_run.specs.Final.{IsFinal, disk_text}
-use Rattle.v6_run.specs.Outputs.{port_of, is_shown, is_output, shown_by, final_writes, run_writes, EndsRun, StopsRun}
+use Rattle.v6_run.specs.Outputs.{port_of, is_shown, is_output, final_writes, run_writes, EndsRun, StopsRun}
 use Rattle.v6_port.proofs.CauseLemmas.{still_tells, calm_then, fault_then}
 use Rattle.v6_run.proofs.FrontLemmas.{front_of_nothing, front_of_all}
 use Rattle.v6_run.proofs.FinalLemmas.{final_is, final_same}

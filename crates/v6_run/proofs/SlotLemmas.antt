@@ -7,10 +7,9 @@ use Rattle.v6_base.specs.Trace.{Item, Taken, Took, Log}
 use Rattle.v6_base.proofs.Took.{took_none, took_then}
 use Rattle.abstract_unix.specs.declared.turned.Unbuilt.{Unbuilt}
 use Rattle.abstract_unix.specs.Unix.{System}
-use Rattle.abstract_unix.specs.Runs.{Event, Slot, Course, begun, started, start_of, event_of, course}
+use Rattle.abstract_unix.specs.Runs.{Event, Slot, Course, begun, started, start_of, event_of, course, end_items, shown_by}
 use Rattle.abstract_unix.proofs.RunsLemmas.{course_joined, course_last}
 use Rattle.v6_run.specs.Courses.{HasRun}
-use Rattle.v6_run.specs.Outputs.{end_items, shown_by}
 
 pub run_none : (m : System) (t : Taken) → HasRun (begun m) [] None m t t
 run_none m t = record { ends = refl; system_is = refl; items = took_none t }

@@ -1,14 +1,12 @@
 -- What a command answers and writes, from its words and the bytes of its files, in the order of docs/manual/commands.md: the
 -- words, the size of core, the image's first fault, the script's first fault and its first line that isn't built, and the
 -- run.
-use Rattle.std.specs.Prelude.{◌≡◌, ◌≤◌, ℕ, Bool, true, false, not, Option, Some, None, IsSomeAnd, List, [], take, nat_le, ◌&&◌, ◌||◌, if◌then◌else◌, Result, Ok, Err}
+use Rattle.std.specs.Prelude.{◌≡◌, ℕ, Bool, true, false, not, Option, Some, None, IsSomeAnd, List, [], take, nat_le, ◌&&◌, ◌||◌, if◌then◌else◌, Result, Ok, Err}
 use Rattle.v6_port.specs.declared.host.InPort.TheVariants as in_port
 use Rattle.v6_port.specs.declared.host.OutPort.{OutPort}
 use Rattle.v6_port.specs.declared.host.OutPort.TheVariants as out_port
 use Rattle.v6_port.specs.Outside.{Port, In, Out, same, is_report, Environment, Outside}
 use Rattle.v6_port.specs.Calls.{is_given, is_expected}
-use Rattle.v6_base.specs.Trace.{entries_of}
-use Rattle.pick_rules.specs.Lawful.{Lawful}
 use Rattle.fs_codec.specs.declared.fault.ImageFault.{ImageFault}
 use Rattle.fs_codec.specs.Disk.{disk_of}
 use Rattle.fs_codec.specs.Faults.{image_fault}
@@ -18,8 +16,7 @@ use Rattle.script_text.specs.declared.script.ScriptFault.TheVariants.{NoMemory}
 use Rattle.script_text.specs.declared.script.Event.{Event}
 use Rattle.script_text.specs.Script.{script_of, signal_line_of}
 use Rattle.make_image.specs.Image.{build_of}
-use Rattle.abstract_unix.specs.Runs.{Course, runs, run_of}
-use Rattle.abstract_unix.specs.Runs as kernel
+use Rattle.abstract_unix.specs.Runs.{Course, run_of}
 use Rattle.v6_run.specs.declared.image.TheConstants.{IMAGE_LIMIT}
 use Rattle.v6_run.specs.declared.run.TheConstants.{SCRIPT_LIMIT}
 use Rattle.v6_run.specs.declared.status.Status.{Status}
@@ -30,7 +27,7 @@ use Rattle.v6_run.specs.Words.{RunWords, Command, Run, Check, Make}
 use Rattle.v6_run.specs.Events.{events_of}
 use Rattle.v6_run.specs.Status.{has_written}
 use Rattle.v6_run.specs.Fronts.{HoldsSome, HoldsFrontOfSome, exactly}
-use Rattle.v6_run.specs.Outputs.{is_output, shown_by, run_writes}
+use Rattle.v6_run.specs.Outputs.{is_output, run_writes}
 use Rattle.v6_run.specs.Report.{store_line}
 
 abbrev pub is_core_size : ℕ → Bool
@@ -122,12 +119,6 @@ done_line None fixed = []
 done_line (Some (Run words)) fixed = []
 done_line (Some (Check image)) fixed = image_line (fixed.given image)
 done_line (Some (Make number final)) fixed = []
-
--- Each log of a run that comes to the end of its script is lawful: for every image, size of core and list of events.
-abbrev pub LogsAreLawful : Type 0
-LogsAreLawful =
-    (image : List ℕ) (core : ℕ) (events : List kernel.Event) (c : Course) → 64 ≤ core → core ≤ 3968
-    → runs image core events ≡ Some c → c.ending ≡ None → Lawful (entries_of (shown_by c))
 
 -- The command is complete: the status is its, and each file has got all of a text that may be written to it.
 pub record IsComplete (s : Status) (old new : Outside) (completion : Completion) : Type 0 where

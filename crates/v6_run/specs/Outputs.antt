@@ -1,8 +1,6 @@
 -- The files that `run` writes, by docs/manual/commands.md: what the terminal shows, the log, and the disk at the end.
-use Rattle.std.specs.Prelude.{◌≡◌, ℕ, Bool, true, Option, Some, None, is_some, List, [], ◌∷◌, ◌++◌, ◌||◌}
-use Rattle.v6_base.specs.declared.entry.Entry.TheVariants.{End}
-use Rattle.v6_base.specs.Trace as trace
-use Rattle.v6_base.specs.Trace.{Item, line_bytes, text_of}
+use Rattle.std.specs.Prelude.{◌≡◌, ℕ, Bool, true, Option, Some, None, is_some, List, [], ◌||◌}
+use Rattle.v6_base.specs.Trace.{line_bytes, text_of}
 use Rattle.v6_port.specs.declared.host.OutPort.{OutPort}
 use Rattle.v6_port.specs.declared.host.OutPort.TheVariants as out_port
 use Rattle.v6_port.specs.Outside.{Port, Out, same, Outside, Tells}
@@ -10,7 +8,7 @@ use Rattle.v6_port.specs.Causes.{Calm, FaultAt}
 use Rattle.fs_codec.specs.Disk.{Disk}
 use Rattle.abstract_unix.specs.declared.turned.Unbuilt.{Unbuilt}
 use Rattle.abstract_unix.specs.Unix.{System}
-use Rattle.abstract_unix.specs.Runs.{Course, finished}
+use Rattle.abstract_unix.specs.Runs.{Course, shown_by, finished}
 use Rattle.v6_run.specs.declared.outputs.Output.{Output}
 use Rattle.v6_run.specs.declared.outputs.Output.TheVariants.{Term, Log, Final}
 use Rattle.v6_run.specs.Fronts.{HoldsSome, HoldsFrontOfSome, exactly}
@@ -27,15 +25,6 @@ is_shown q = same (Out out_port.Term) q || same (Out out_port.Log) q
 
 abbrev pub is_output : Port → Bool
 is_output q = is_shown q || same (Out out_port.Final) q
-
--- the last line of the log, where a run has come to its end; one that came to what isn't built shows nothing more
-abbrev pub end_items : Option Unbuilt → List Item
-end_items None = trace.Log End ∷ []
-end_items (Some place) = []
-
--- all that a run shows
-abbrev pub shown_by : Course → List Item
-shown_by c = c.items ++ end_items c.ending
 
 -- a run that has come to its end leaves its disk, and one that came to what isn't built nothing
 abbrev pub final_writes : Disk → Option Unbuilt → System → List ℕ → Type 0

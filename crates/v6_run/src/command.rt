@@ -4,13 +4,14 @@ ghost use Rattle.std.specs.Option.{option_map};
 ghost use Rattle.v6_port.specs.Outside.{Out, IsIdle, OnlyAt, Tells, is_report};
 ghost use Rattle.v6_port.specs.declared.host.OutPort.{OutPort};
 ghost use Rattle.v6_port.specs.declared.host.InPort.TheVariants.{Script};
+ghost use Rattle.abstract_unix.specs.Law.{LogsAreLawful};
 ghost use Rattle.v6_run.specs.Words.{command_in, command_value};
 ghost use Rattle.v6_run.specs.Fronts.{HoldsFront};
 ghost use Rattle.v6_run.specs.Report.{report, report_line, tally_line};
 ghost use Rattle.v6_run.specs.Status.{is_decided, has_written, is_unfinished};
 ghost use Rattle.v6_run.specs.Errors.{command_status, end_of};
 ghost use Rattle.v6_run.specs.Causes.{HasCause, MissesUnknown};
-ghost use Rattle.v6_run.specs.Headline.{is_core_size, has_core_size, refused_by, reports_done, words_completion, done_line, IsKnownAnd, IsComplete, IsPartial, IsImageGood, words_may_end, is_touched, is_known, LogsAreLawful};
+ghost use Rattle.v6_run.specs.Headline.{is_core_size, has_core_size, refused_by, reports_done, words_completion, done_line, IsKnownAnd, IsComplete, IsPartial, IsImageGood, words_may_end, is_touched, is_known};
 ghost use Rattle.v6_run.specs.Answers.{Answers, AnswersWords};
 
 use crate::check::check;
@@ -134,7 +135,8 @@ pub fn v6<H: Host>(alloc: Global, words: &Vec<String>, host: &mut H) -> Status
         → (p : OutPort) → is_touched (command_in words.now.items) (Out p) ≡ true → is_report (Out p) ≡ false
         → ((H.outside host.new).port (Out p)).is_open ≡ true }
 
-    // The log of a run that comes to the end of its script is lawful: each choice in it is the one that the rules give.
+    // Each line of the log of a run has its numbers in their ranges and fits what the lines before it give, so that each choice
+    // is the one that the rules give; and the log of a run that comes to the end of its script is lawful.
     ensures lawful { LogsAreLawful }
 
     // A fault is answered only where its port's faults rose, and a name is missing only where it isn't known.

@@ -11,12 +11,12 @@ ghost use Rattle.buf_cache.specs.Blocks.{block_at, blocks_of};
 ghost use Rattle.fs_laws.specs.Rest.{SameRest};
 ghost use Rattle.script_text.specs.Script.{is_signal};
 ghost use Rattle.abstract_unix.specs.Unix.{New, phase_after};
-ghost use Rattle.abstract_unix.specs.Runs.{boots, started, course};
+ghost use Rattle.abstract_unix.specs.Runs.{boots, started, course, shown_by};
 ghost use Rattle.v6_run.specs.Words.{Run, run_words_value};
 ghost use Rattle.v6_run.specs.Events.{events_of};
 ghost use Rattle.v6_run.specs.Ports.{HasShown, HasShownFronts};
 ghost use Rattle.v6_run.specs.Errors.{end_of, run_status};
-ghost use Rattle.v6_run.specs.Outputs.{port_of, is_shown, is_output, shown_by, EndsRun, StopsRun};
+ghost use Rattle.v6_run.specs.Outputs.{port_of, is_shown, is_output, EndsRun, StopsRun};
 ghost use Rattle.v6_run.specs.Headline.{run_knows};
 ghost use Rattle.v6_run.specs.Answers.{Answers, HasFiles};
 

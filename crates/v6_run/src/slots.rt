@@ -4,12 +4,11 @@ ghost use Rattle.std.specs.List.{list_any, range_with_len};
 ghost use Rattle.script_text.specs.Script.{is_signal};
 ghost use Rattle.fs_laws.specs.Rest.{SameRest};
 ghost use Rattle.abstract_unix.specs.Unix.{New, Started, phase_after};
-ghost use Rattle.abstract_unix.specs.Runs.{Slot, begun, started, course};
+ghost use Rattle.abstract_unix.specs.Runs.{Slot, begun, started, course, shown_by};
 ghost use Rattle.v6_run.specs.Events.{slot_with, slot_numbered, happens, clock_after, events_of};
 ghost use Rattle.v6_run.specs.Clocks.{clock_value, TicksAlike};
 ghost use Rattle.v6_base.specs.Trace.{Took};
 ghost use Rattle.v6_run.specs.Courses.{HasRun};
-ghost use Rattle.v6_run.specs.Outputs.{shown_by};
 
 use crate::clock::{Clock, since_after, since_next};
 use script_text::Event;

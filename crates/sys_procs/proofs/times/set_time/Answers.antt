@@ -1,4 +1,4 @@
-use Rattle.std.proofs.Common.{◌≡◌, ◌∙◌, ◌+◌, ◌*◌, ℕ, [], ◌∷◌, get_or, ap, sym}
+use Rattle.std.proofs.Common.{◌≡◌, ◌∙◌, ℕ, [], ◌∷◌, get_or, ap, sym}
 use Rattle.v6_base.specs.Trace.{Log}
 use Rattle.v6_base.specs.declared.entry.Chan.TheVariants.{Tout}
 use Rattle.v6_base.specs.declared.entry.Entry.TheVariants.{Time, Wake}
@@ -16,7 +16,7 @@ use Rattle.sys_procs.proofs.times.set_time.Goals as goal
 
 -- the time as the two registers give it
 abbrev told : (g : given.Over) → goal.After-result-2-1 g → ℕ
-told g c = 65536 * c.from.result + c.from-2.result
+told g c = c.time_in.result
 
 says : (g : given.Over) (c : goal.After-result-2-1 g)
     → let w : World = handed c.args.p.now c.args.tree.now.nodes in
@@ -24,12 +24,9 @@ says : (g : given.Over) (c : goal.After-result-2-1 g)
     (with_time w (told g c)) (Ret (get_or c.area-u.result.r 0 0) (get_or c.area-u.result.r 1 0))
 says g c =
     let w : World = handed c.args.p.now c.args.tree.now.nodes in
-    let at : ℕ → ℕ → ℕ = λ a b. 65536 * a + b in
-    let is : at (get_or c.area-u.result.r 0 0) (get_or c.area-u.result.r 1 0) ≡ told g c =
-    ap (λ n. at n (get_or c.area-u.result.r 1 0)) (sym c.from.ensures) ∙ ap (at c.from.result) (sym c.from-2.ensures) in
     says_lines c.args.p.now (set_time w c.args.s) (Time (told g c)) (Wake Tout) (with_time w (told g c)) _
     (time_set w c.args.s c.area-u.result c.area-u.ensures c.if-u-ne0.false
-    ∙ (ap (λ n. logs (Time n) (logs (Wake Tout) (returns (with_time w n) c.args.s))) is
+    ∙ (ap (λ n. logs (Time n) (logs (Wake Tout) (returns (with_time w n) c.args.s))) (sym c.time_in.ensures)
     ∙ ap (λ (u : UArea). logs (Time (told g c)) (logs (Wake Tout) (comes (with_time w (told g c)) (Ret (get_or u.r 0 0) (get_or u.r 1 0))))) (sym c.area-u.ensures)))
 
 pub returns-clause-does : goal.returns-clause-does

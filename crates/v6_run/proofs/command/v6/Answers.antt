@@ -8,7 +8,7 @@ use Rattle.v6_run.specs.Errors.{command_status, end_of}
 use Rattle.v6_run.specs.Headline.{reports_done, done_line}
 use Rattle.v6_run.specs.Answers.{AnswersWords}
 use Rattle.v6_run.proofs.CommandLemmas as command
-use Rattle.v6_run.proofs.LawLemmas as law
+use Rattle.abstract_unix.proofs.Lawfully.{logs_are_lawful}
 use Rattle.v6_run.proofs.command.v6.Goals as goal
 
 pub report-requires : goal.report-requires
@@ -133,4 +133,4 @@ returns-clause-report_front g c =
     (done_line (command_in items) old.fixed) told (command.line_where_told (Tells old) answer (done_line (command_in items) old.fixed) told line)
 
 pub returns-clause-lawful : goal.returns-clause-lawful
-returns-clause-lawful g c = law.lawful
+returns-clause-lawful g c = logs_are_lawful

@@ -6,7 +6,7 @@ use Rattle.v6_base.specs.declared.entry.Place.{Place}
 use Rattle.v6_base.specs.declared.entry.Place.TheVariants as place
 use Rattle.v6_base.specs.declared.entry.Entry.{Entry}
 use Rattle.v6_base.specs.declared.entry.Entry.TheVariants.{Boot, Go, Idle, Trap, TickUser, TickKernel, TickIdle, Sleep, Wake, Signal, Nice, Time, Size, SizeKeep, Fork, Leave, Bare, Text, Share, Image, SwapIn, SwapOut, Exit, Reap, Panic, End}
-use Rattle.log_text.specs.declared.ranges.TheConstants.{LAST_SLOT, LAST_TEXT, SWAP_START, LAST_BLOCK, LAST_SIGNAL}
+use Rattle.pick_rules.specs.declared.ranges.TheConstants.{LAST_SLOT, LAST_TEXT, SWAP_START, LAST_BLOCK, LAST_SIGNAL}
 
 -- a slot of the table of processes
 abbrev pub IsSlot : ℕ → Type 0
