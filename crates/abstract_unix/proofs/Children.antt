@@ -1,90 +1,24 @@
--- fork(II) and wait(II): their effects are apt.
-use Rattle.std.proofs.Common.{◌≡◌, ◌∙◌, ◌<◌, ◌+◌, ◌==◌, ◌&&◌, ℕ, zero, suc, Bool, true, false, List, [], map, find, Option, Some, None, is_none, get_or, set, refl, sym, ap, subst, arith}
+-- fork(II): its effects are apt.
+use Rattle.std.proofs.Common.{◌≡◌, ◌∙◌, ◌+◌, ℕ, zero, suc, Bool, false, List, [], map, find, Option, Some, None, is_none, get_or, set, refl, sym, ap, subst}
 use Rattle.std.proofs.Math.ListN.{get_or-map}
 use Rattle.std.specs.List.{range_with_len}
-use Rattle.v6_base.specs.declared.entry.Chan.TheVariants.{Wait}
-use Rattle.v6_base.specs.declared.entry.Entry.TheVariants as line
-use Rattle.v6_base.specs.declared.errno.Errno.TheVariants.{ECHILD, EAGAIN}
-use Rattle.v6_base.specs.declared.answer.Answer.TheVariants.{Sleep}
-use Rattle.proc_tab.specs.Processes.{member_at, passes, lowest}
-use Rattle.proc_tab.specs.Children.{is_child_of, is_dead_child_of, told_by}
-use Rattle.pick_rules.specs.Priority.{pwait}
-use Rattle.pick_rules.specs.Effects.{came}
-use Rattle.pick_rules.specs.Lawful.{Seen, seen_after}
-use Rattle.pick_rules.proofs.Found.{IsFound, found_in}
+use Rattle.v6_base.specs.declared.errno.Errno.TheVariants.{EAGAIN}
+use Rattle.proc_tab.specs.Processes.{member_at, lowest}
+use Rattle.pick_rules.specs.Lawful.{Seen}
 use Rattle.log_laws.proofs.Fitting.{Apt}
-use Rattle.log_laws.proofs.Seats.{Seats, with_seat, InCall, in_its_slot}
+use Rattle.log_laws.proofs.Seats.{Seats, with_seat, InCall}
 use Rattle.log_laws.proofs.Births.{free_seat, fork_apt}
-use Rattle.log_laws.proofs.Deaths.{IsDead, reap_fits, reap_in}
 use Rattle.sys_procs.specs.Process.{Process, member_of}
 use Rattle.sys_procs.specs.Texts.{Text}
-use Rattle.sys_procs.specs.World.{Clock, World, process_at, process_of, without_process, change, members}
+use Rattle.sys_procs.specs.World.{Clock, World, process_of, change, members}
 use Rattle.sys_procs.specs.Fork.{copied, past_word, next_pid, fork_into, fork_one}
-use Rattle.sys_procs.specs.Wait.{buries, waiting, waits_for, wait_child}
-use Rattle.abstract_unix.proofs.Sitting.{seat_for, seat_of, seats_in, seats_here, seat_in, runner_seat, runner_alive, put_in, taken_out, changed_in, kept_in}
+use Rattle.abstract_unix.proofs.Sitting.{seat_of, seats_in, seats_here, seat_in, runner_seat, put_in, kept_in}
 use Rattle.abstract_unix.proofs.Rows.{FineComes, Calling, fails_fine}
 
 -- who is in a slot, by its process
 member_in : (processes : List (Option Process)) (r : ℕ)
     → member_at (map member_of processes) r ≡ member_of (get_or processes r None)
 member_in processes r = get_or-map member_of processes r None
-
--- a slot of a process that has ended
-dead_by : (processes : List (Option Process)) (clock : Clock) (texts : List (Option Text)) (c pid : ℕ) → 0 < c → c < 50 → (o : Option Process)
-    → get_or processes c None ≡ o
-    → passes (is_dead_child_of pid) (member_of o) ≡ true → IsDead (seats_in processes clock texts) c
-dead_by processes clock texts c pid l m None e f = absurd (cc f)
-dead_by processes clock texts c pid l m (Some p) e f = record {
-  seat = seat_for p;
-  at = seat_in processes clock texts c ∙ ap seat_of e;
-  dead = second (p.row.ppid == pid) p.is_zombie f;
-  user = l;
-  small = m;
-}
-  where
-    second : (a b : Bool) → (a && b) ≡ true → b ≡ true
-    second true b f = f
-    second false b f = absurd (cc f)
-
-dead_child : (w : World) (c pid : ℕ) → lowest (passes (is_dead_child_of pid)) (members w) ≡ Some c
-    → IsDead (seats_here w) c
-unfolding lowest
-dead_child w c pid e = dead_by w.processes w.clock w.texts c pid found.least (let l = found.below in omega (arith, l)) (process_at w c) refl
-    (ap (passes (is_dead_child_of pid)) (sym (member_in w.processes c)) ∙ found.passes)
-  where
-    found : IsFound (λ r. passes (is_dead_child_of pid) (member_at (members w) r)) 1 49 c
-    found = found_in _ 1 49 c e
-
-module _ (s : ℕ) (seen : Seen) where
-  -- wait
-  waits : (w : World) → Calling s w seen
-      → FineComes s seen (record { effects = []; state = change w s waiting; answer = Sleep pwait (Wait s) })
-  unfolding Apt
-  waits w i = record {
-    fine = (changed_in w.processes w.clock w.texts s false seen (waiting (process_of w s)) i (runner_alive w.processes w.clock w.texts s seen.board i.turn) refl refl, (refl, refl), in_its_slot i.turn);
-  }
-
-  buries_fine : (w : World) (c : ℕ) → Calling s w seen → IsDead (seats_here w) c
-      → FineComes s seen (buries w s c)
-  unfolding Apt came
-  buries_fine w c i d =
-      let v : Seats = seats_here w in
-      let now : Seen = seen_after seen (line.Reap c) in
-      let gone : Calling s (without_process w c) now = subst (λ x. InCall s false x now) (sym (taken_out w.processes w.clock w.texts c)) (reap_in s false v seen c i d) in
-      record { fine = (reap_fits s false v seen c i d, kept_in (set w.processes c None) w.clock w.texts s false now _ gone refl refl refl refl) }
-
-  pub wait_fine : (w : World) → Calling s w seen → FineComes s seen (wait_child w s)
-  unfolding wait_child
-  wait_fine w i = by (lowest (passes (is_child_of pid)) (members w)) (lowest (passes (is_dead_child_of pid)) (members w)) refl
-    where
-      pid : ℕ
-      pid = (process_of w s).row.pid
-
-      by : (o d : Option ℕ) → lowest (passes (is_dead_child_of pid)) (members w) ≡ d
-          → FineComes s seen (waits_for w s (told_by o d))
-      by None d e = fails_fine s seen w ECHILD i
-      by (Some c) None e = waits w i
-      by (Some c) (Some t) e = buries_fine w t i (dead_child w t pid e)
 
 -- the lowest free slot is that of the seats
 seat_free : (o : Option Process) → is_none (member_of o) ≡ is_none (seat_of o)

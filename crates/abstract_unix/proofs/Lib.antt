@@ -1,6 +1,7 @@
 pub mod Sitting
 pub mod Steps
 pub mod Quiet
+pub mod ProcessRows
 pub mod Rows
 pub mod Children
 pub mod Exiting

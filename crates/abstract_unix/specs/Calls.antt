@@ -1,5 +1,6 @@
 -- The system calls that are built: section II of the UNIX Programmer's Manual; Lions' Commentary, `sysent` and `trap`.
 use Rattle.std.specs.Prelude.{ℕ, ◌+◌, ◌-◌, ◌*◌, ◌%◌, ◌==◌, ◌&&◌, ◌||◌, nat_lt, nat_le, true, false, if◌then◌else◌, List, [], ◌∷◌, ◌++◌, map, flat_map, find, Option, Some, None, Result, Ok, Err, slice_index, slice_set}
+use Rattle.std.specs.Option.{option_map}
 use Rattle.v6_base.specs.Access.{load_word}
 use Rattle.v6_base.specs.Image.{Image}
 use Rattle.v6_base.specs.declared.answer.Answer.{Answer}
@@ -10,7 +11,7 @@ use Rattle.open_files.specs.declared.file.OpenFile.{OpenFile}
 use Rattle.open_files.specs.Files.{shared}
 use Rattle.u_area.specs.declared.area.UArea.{UArea}
 use Rattle.sys_files.specs.Handed.{Handed}
-use Rattle.sys_files.specs.Did.{Did, is_done}
+use Rattle.sys_files.specs.Did.{Did}
 use Rattle.sys_files.specs.Descriptors.{Closing, dup_file, close_file, close_all}
 use Rattle.sys_files.specs.Making.{creat_file, mknod_at, link_file, unlink_file}
 use Rattle.sys_files.specs.Modes.{stty_set, gtty_get}
@@ -21,7 +22,6 @@ use Rattle.sys_files.specs.Status.{stat_file, stat_open}
 use Rattle.sys_procs.specs.Process.{Process, with_state, register, image_of}
 use Rattle.sys_procs.specs.World.{World}
 use Rattle.sys_procs.specs.Comes.{Comes}
-use Rattle.sys_procs.specs.Comes as comes
 use Rattle.sys_procs.specs.Break.{break_at, grow}
 use Rattle.sys_procs.specs.ExecFile.{exec_file}
 use Rattle.sys_procs.specs.Ids.{pid_of, set_uid, get_uid, set_gid, get_gid, switches, no_op, nice_to}
@@ -31,6 +31,13 @@ use Rattle.sys_procs.specs.Wait.{wait_child, pending_wait}
 use Rattle.sys_procs.specs.Exit.{exit_now}
 use Rattle.sys_procs.specs.Resume.{resume_proc}
 use Rattle.abstract_unix.specs.declared.asked.Asked.{Asked}
+use Rattle.abstract_unix.specs.declared.calls.FileCall.{FileCall}
+use Rattle.abstract_unix.specs.declared.calls.FileCall.TheVariants as file
+use Rattle.abstract_unix.specs.declared.calls.ProcessCall.{ProcessCall}
+use Rattle.abstract_unix.specs.declared.calls.ProcessCall.TheVariants as process
+use Rattle.abstract_unix.specs.declared.calls.SystemCall.{SystemCall}
+use Rattle.abstract_unix.specs.declared.calls.SystemCall.TheVariants.{Indirect, Exit, Fork, OnFiles, OnProcesses}
+use Rattle.abstract_unix.specs.declared.calls.Sysent.{Sysent}
 use Rattle.abstract_unix.specs.declared.ending.Ending.TheVariants.{Ended, Trapped}
 use Rattle.abstract_unix.specs.Unix.{Text, Unix, process_of, with_process}
 use Rattle.abstract_unix.specs.References.{references_of}
@@ -144,72 +151,44 @@ answers u slot (Ret r0 r1) = returns (with_area u slot (given_area r0 r1))
 answers u slot (Fail e) = refuses u slot (error_number e)
 answers u slot (Sleep pri chan) = sleeps u pri chan
 
--- a call on files: its number, how many arguments follow its word, and its row, over what it is handed, its arguments
--- and the time
-pub record FileCall : Type 0 where
-  pub number : ℕ
-  pub count : ℕ
-  pub does : Handed → List ℕ → ℕ → Did
+-- what a call on files does, by its row, over what it is handed, its arguments and the time
+abbrev pub file_row : FileCall → Handed → List ℕ → ℕ → Did
+file_row file.Read h a now = read_file_of h (slice_index a 0) (slice_index a 1) now
+file_row file.Write h a now = write_file_of h (slice_index a 0) (slice_index a 1) now
+file_row file.Open h a now = open_file h (slice_index a 0) (slice_index a 1)
+file_row file.Close h a now = close_file h
+file_row file.Creat h a now = creat_file h (slice_index a 0) (slice_index a 1) now
+file_row file.Link h a now = link_file h (slice_index a 0) (slice_index a 1) now
+file_row file.Unlink h a now = unlink_file h (slice_index a 0) now
+file_row file.Chdir h a now = chdir_to h (slice_index a 0)
+file_row file.Mknod h a now = mknod_at h (slice_index a 0) (slice_index a 1) (slice_index a 2) now
+file_row file.Chmod h a now = chmod_to h (slice_index a 0) (slice_index a 1) now
+file_row file.Chown h a now = chown_to h (slice_index a 0) (slice_index a 1) now
+file_row file.Stat h a now = stat_file h (slice_index a 0) (slice_index a 1)
+file_row file.Seek h a now = seek_to h (slice_index a 0) (slice_index a 1)
+file_row file.Fstat h a now = stat_open h (slice_index a 0)
+file_row file.Stty h a now = stty_set h (slice_index a 0)
+file_row file.Gtty h a now = gtty_get h (slice_index a 0)
+file_row file.Sync h a now = sync_all h now
+file_row file.Dup h a now = dup_file h
 
-abbrev pub call : ℕ → ℕ → (Handed → List ℕ → ℕ → Did) → FileCall
-call number count does = record { number = number; count = count; does = does }
-
-abbrev pub file_calls : List FileCall
-file_calls =
-    call 3 2 (λ h a now. read_file_of h (slice_index a 0) (slice_index a 1) now)
-    ∷ call 4 2 (λ h a now. write_file_of h (slice_index a 0) (slice_index a 1) now)
-    ∷ call 5 2 (λ h a now. open_file h (slice_index a 0) (slice_index a 1))
-    ∷ call 6 0 (λ h a now. close_file h)
-    ∷ call 8 2 (λ h a now. creat_file h (slice_index a 0) (slice_index a 1) now)
-    ∷ call 9 2 (λ h a now. link_file h (slice_index a 0) (slice_index a 1) now)
-    ∷ call 10 1 (λ h a now. unlink_file h (slice_index a 0) now)
-    ∷ call 12 1 (λ h a now. chdir_to h (slice_index a 0))
-    ∷ call 14 3 (λ h a now. mknod_at h (slice_index a 0) (slice_index a 1) (slice_index a 2) now)
-    ∷ call 15 2 (λ h a now. chmod_to h (slice_index a 0) (slice_index a 1) now)
-    ∷ call 16 2 (λ h a now. chown_to h (slice_index a 0) (slice_index a 1) now)
-    ∷ call 18 2 (λ h a now. stat_file h (slice_index a 0) (slice_index a 1))
-    ∷ call 19 2 (λ h a now. seek_to h (slice_index a 0) (slice_index a 1))
-    ∷ call 28 1 (λ h a now. stat_open h (slice_index a 0))
-    ∷ call 31 1 (λ h a now. stty_set h (slice_index a 0))
-    ∷ call 32 1 (λ h a now. gtty_get h (slice_index a 0))
-    ∷ call 36 0 (λ h a now. sync_all h now)
-    ∷ call 41 0 (λ h a now. dup_file h)
-    ∷ []
-
-unfoldable pub file_call : ℕ → Option FileCall
-file_call number = find (λ (c : FileCall). c.number == number) file_calls
-
--- a call on processes: its number, how many arguments follow its word, and its row, over what it is handed, the slot
--- and its arguments
-pub record ProcessCall : Type 0 where
-  pub number : ℕ
-  pub count : ℕ
-  pub does : World → ℕ → List ℕ → Comes
-
-abbrev pub process_row : ℕ → ℕ → (World → ℕ → List ℕ → Comes) → ProcessCall
-process_row number count does = record { number = number; count = count; does = does }
-
-abbrev pub process_calls : List ProcessCall
-process_calls =
-    process_row 7 0 (λ w slot a. wait_child w slot)
-    ∷ process_row 11 2 (λ w slot a. exec_file w slot (slice_index a 0) (slice_index a 1))
-    ∷ process_row 13 0 (λ w slot a. time_now w slot)
-    ∷ process_row 17 1 (λ w slot a. break_at w slot (slice_index a 0))
-    ∷ process_row 20 0 (λ w slot a. pid_of w slot)
-    ∷ process_row 23 0 (λ w slot a. set_uid w slot)
-    ∷ process_row 24 0 (λ w slot a. get_uid w slot)
-    ∷ process_row 25 0 (λ w slot a. set_time w slot)
-    ∷ process_row 30 1 (λ w slot a. no_op w slot)
-    ∷ process_row 34 0 (λ w slot a. nice_to w slot)
-    ∷ process_row 35 0 (λ w slot a. sleep_for w slot)
-    ∷ process_row 38 0 (λ w slot a. switches w slot)
-    ∷ process_row 43 1 (λ w slot a. times_to w slot (slice_index a 0))
-    ∷ process_row 46 0 (λ w slot a. set_gid w slot)
-    ∷ process_row 47 0 (λ w slot a. get_gid w slot)
-    ∷ []
-
-unfoldable pub process_call : ℕ → Option ProcessCall
-process_call number = find (λ (c : ProcessCall). c.number == number) process_calls
+-- what a call on processes does, by its row, over what it is handed, the slot and its arguments
+abbrev pub process_row : ProcessCall → World → ℕ → List ℕ → Comes
+process_row process.Wait w slot a = wait_child w slot
+process_row process.Exec w slot a = exec_file w slot (slice_index a 0) (slice_index a 1)
+process_row process.Time w slot a = time_now w slot
+process_row process.Break w slot a = break_at w slot (slice_index a 0)
+process_row process.Getpid w slot a = pid_of w slot
+process_row process.Setuid w slot a = set_uid w slot
+process_row process.Getuid w slot a = get_uid w slot
+process_row process.Stime w slot a = set_time w slot
+process_row process.Smdate w slot a = no_op w slot
+process_row process.Nice w slot a = nice_to w slot
+process_row process.Sleep w slot a = sleep_for w slot
+process_row process.Csw w slot a = switches w slot
+process_row process.Times w slot a = times_to w slot (slice_index a 0)
+process_row process.Setgid w slot a = set_gid w slot
+process_row process.Getgid w slot a = get_gid w slot
 
 -- a call on files that has been entered, by its row
 abbrev pub did_by : Unix → ℕ → Did → Steps
@@ -259,43 +238,78 @@ exits u slot =
       ending = Ended;
     }
 
--- a call that has been entered
-abbrev pub by_process_row : Unix → ℕ → List ℕ → Option ProcessCall → Steps
-by_process_row u slot args None = not_built u
-by_process_row u slot args (Some c) = came_by u slot (c.does (world_of u) slot args)
+-- A call that has been entered. An indirect call that leads to another does nothing.
+abbrev pub does_call : Unix → ℕ → SystemCall → List ℕ → Steps
+does_call u slot Indirect args = returns u
+does_call u slot Exit args = exits u slot
+does_call u slot Fork args = forks u slot
+does_call u slot (OnFiles call) args = did_by u slot (file_row call (handed_of u (process_of u slot)) args u.clock.time)
+does_call u slot (OnProcesses call) args = came_by u slot (process_row call (world_of u) slot args)
 
-abbrev pub by_file_row : Unix → ℕ → List ℕ → Option FileCall → Option ProcessCall → Steps
-by_file_row u slot args None on_process = by_process_row u slot args on_process
-by_file_row u slot args (Some c) on_process = did_by u slot (c.does (handed_of u (process_of u slot)) args u.clock.time)
+-- A line of the table of calls: a number; how many arguments follow the word of its call, and which call it is. What has no
+-- line isn't built.
+pub record Line : Type 0 where
+  pub number : ℕ
+  pub entry : Sysent
 
--- A call by its number, which has been entered: an indirect call of an indirect call does nothing.
-abbrev pub does_call : Unix → ℕ → ℕ → List ℕ → Steps
-does_call u slot number args =
-    if number == 0 then returns u else (
-    if number == 1 then exits u slot else (
-    if number == 2 then forks u slot else
-    by_file_row u slot args (file_call number) (process_call number)))
+abbrev pub call : ℕ → ℕ → SystemCall → Line
+call number count which = record { number = number; entry = record { count = count; call = which } }
 
--- how many arguments a call has, or None where it isn't built
-abbrev pub count_by_rows : Option FileCall → Option ProcessCall → Option ℕ
-count_by_rows (Some c) on_process = Some c.count
-count_by_rows None (Some c) = Some c.count
-count_by_rows None None = None
+abbrev pub system_calls : List Line
+system_calls =
+    call 0 0 Indirect
+    ∷ call 1 0 Exit
+    ∷ call 2 0 Fork
+    ∷ call 3 2 (OnFiles file.Read)
+    ∷ call 4 2 (OnFiles file.Write)
+    ∷ call 5 2 (OnFiles file.Open)
+    ∷ call 6 0 (OnFiles file.Close)
+    ∷ call 7 0 (OnProcesses process.Wait)
+    ∷ call 8 2 (OnFiles file.Creat)
+    ∷ call 9 2 (OnFiles file.Link)
+    ∷ call 10 1 (OnFiles file.Unlink)
+    ∷ call 11 2 (OnProcesses process.Exec)
+    ∷ call 12 1 (OnFiles file.Chdir)
+    ∷ call 13 0 (OnProcesses process.Time)
+    ∷ call 14 3 (OnFiles file.Mknod)
+    ∷ call 15 2 (OnFiles file.Chmod)
+    ∷ call 16 2 (OnFiles file.Chown)
+    ∷ call 17 1 (OnProcesses process.Break)
+    ∷ call 18 2 (OnFiles file.Stat)
+    ∷ call 19 2 (OnFiles file.Seek)
+    ∷ call 20 0 (OnProcesses process.Getpid)
+    ∷ call 23 0 (OnProcesses process.Setuid)
+    ∷ call 24 0 (OnProcesses process.Getuid)
+    ∷ call 25 0 (OnProcesses process.Stime)
+    ∷ call 28 1 (OnFiles file.Fstat)
+    ∷ call 30 1 (OnProcesses process.Smdate)
+    ∷ call 31 1 (OnFiles file.Stty)
+    ∷ call 32 1 (OnFiles file.Gtty)
+    ∷ call 34 0 (OnProcesses process.Nice)
+    ∷ call 35 0 (OnProcesses process.Sleep)
+    ∷ call 36 0 (OnFiles file.Sync)
+    ∷ call 38 0 (OnProcesses process.Csw)
+    ∷ call 41 0 (OnFiles file.Dup)
+    ∷ call 43 1 (OnProcesses process.Times)
+    ∷ call 46 0 (OnProcesses process.Setgid)
+    ∷ call 47 0 (OnProcesses process.Getgid)
+    ∷ []
 
-abbrev pub count_of : ℕ → Option ℕ
-count_of number = if nat_le number 2 then Some 0 else count_by_rows (file_call number) (process_call number)
+unfoldable pub sysent_of : ℕ → Option Sysent
+sysent_of number = option_map (λ (l : Line). l.entry) (find (λ (l : Line). l.number == number) system_calls)
 
-abbrev pub does_if_built : Unix → ℕ → Asked → Option ℕ → Steps
+-- a call, where it is built
+abbrev pub does_if_built : Unix → ℕ → Asked → Option Sysent → Steps
 does_if_built u slot a None = not_built u
-does_if_built u slot a (Some count) =
-    does_call (with_area u slot (entered_area (words_passed a count))) slot a.number a.args
+does_if_built u slot a (Some entry) =
+    does_call (with_area u slot (entered_area (words_passed a entry.count))) slot entry.call a.args
 
 -- a call by its number, where the PC has passed its word
 abbrev pub system_call : ℕ → Unix → ℕ → Steps
 system_call number u slot =
     let p : Process = process_of u slot in
     let a : Asked = asked (image_of p) (register p 7) number in
-    does_if_built u slot a (count_of a.number)
+    does_if_built u slot a (sysent_of a.number)
 
 -- A process that slept in a call goes on with it: 1 is a read of the console, 5 a sleep, 6 a wait. The others aren't built.
 abbrev pub pending_read : ℕ
@@ -307,12 +321,3 @@ resumed u slot =
     if pending == pending_read then did_by u slot (resume_read (handed_of u (process_of u slot))) else (
     if (pending == pending_sleep) || (pending == pending_wait) then came_by u slot (resume_proc (world_of u) slot)
     else not_built u)
-
--- what a call by its row does; none does nothing
-abbrev pub row_of : Option FileCall → Handed → List ℕ → ℕ → Did
-row_of None h args now = is_done h
-row_of (Some c) h args now = c.does h args now
-
-abbrev pub process_row_of : Option ProcessCall → World → ℕ → List ℕ → Comes
-process_row_of None w slot args = comes.returns w slot
-process_row_of (Some c) w slot args = c.does w slot args

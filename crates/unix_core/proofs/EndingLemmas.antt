@@ -1,5 +1,5 @@
 -- How a call ends: never as an instruction does that is just done, and only exit ends a process.
-use Rattle.std.proofs.Common.{◌≡◌, ◌≢◌, ◌∙◌, ℕ, Bool, true, false, nat_lt, if◌then◌else◌, List, Option, Some, None, refl, sym, subst}
+use Rattle.std.proofs.Common.{◌≡◌, ◌≢◌, ◌∙◌, ℕ, Bool, true, false, nat_lt, if◌then◌else◌, Option, Some, None, refl, sym}
 use Rattle.v6_base.specs.declared.answer.Answer.{Answer}
 use Rattle.v6_base.specs.declared.answer.Answer.TheVariants.{Ret, Fail, Sleep}
 use Rattle.pick_rules.specs.Board.{Board}
@@ -16,7 +16,7 @@ use Rattle.abstract_unix.specs.declared.ending.Ending.TheVariants.{Next, Ended}
 use Rattle.abstract_unix.specs.Unix.{Unix}
 use Rattle.abstract_unix.specs.Steps.{Steps, returns, not_built}
 use Rattle.abstract_unix.specs.Errors.{error_number}
-use Rattle.abstract_unix.specs.Calls.{answers, came_by, did_by, does_call, exits, forks, refused_area, with_area, with_handed, with_world, world_of}
+use Rattle.abstract_unix.specs.Calls.{answers, came_by, did_by, exits, forks, refused_area, with_area, with_handed, with_world, world_of}
 use Rattle.pdp_step.specs.declared.outcome.Kind.{Kind}
 use Rattle.pdp_step.specs.declared.outcome.Kind.TheVariants as kind
 use Rattle.abstract_unix.specs.Turn.{faults}
@@ -100,14 +100,3 @@ no_growth u s (kind.Illegal word) other = refl
 no_growth u s kind.Bpt other = refl
 no_growth u s kind.Iot other = refl
 no_growth u s kind.Emt other = refl
-
--- the calls that have no row of their own
-module _ (u : Unix) (s number : ℕ) (args : List ℕ) where
-  pub is_indirect : number ≡ 0 → returns u ≡ does_call u s number args
-  is_indirect e = subst (λ n. returns u ≡ does_call u s n args) (sym e) refl
-
-  pub is_exit : number ≡ 1 → exits u s ≡ does_call u s number args
-  is_exit e = subst (λ n. exits u s ≡ does_call u s n args) (sym e) refl
-
-  pub is_fork : number ≡ 2 → forks u s ≡ does_call u s number args
-  is_fork e = subst (λ n. forks u s ≡ does_call u s n args) (sym e) refl

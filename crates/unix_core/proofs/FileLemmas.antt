@@ -1,7 +1,5 @@
 -- What a call on files shows, and what the board of the log comes to by it.
-use Rattle.std.proofs.Common.{◌≡◌, ◌≤◌, ◌==◌, ℕ, suc, Bool, true, false, cond, List, [], ◌∷◌, ◌++◌, map, fold, find, All, Option, Some, None, slice_index, refl, sym, ap, ◌∙◌, subst, arith}
-use Rattle.std.specs.Prelude.{⊤}
-use Rattle.std.proofs.lemmas.Option.{same_Some}
+use Rattle.std.proofs.Common.{◌≡◌, ℕ, suc, List, [], ◌∷◌, ◌++◌, map, fold, All, None, refl, sym, ap, ◌∙◌, arith}
 use Rattle.v6_base.specs.Trace.{Item, Log, sent, line_bytes, entries_of}
 use Rattle.v6_base.specs.declared.entry.Entry.{Entry}
 use Rattle.pick_rules.specs.declared.table.Table.{Table}
@@ -10,15 +8,10 @@ use Rattle.pick_rules.specs.Apply.{applied}
 use Rattle.pick_rules.specs.Effects.{Show, came}
 use Rattle.pick_rules.specs.Logged.{Logged, logged, log_one, board_after}
 use Rattle.image_keep.specs.Kept.{Kept}
-use Rattle.sys_files.specs.Handed.{Handed}
-use Rattle.sys_files.specs.Did.{Did}
-use Rattle.sys_files.proofs.Bounds.{IsWake, Fits, fits_none}
-use Rattle.sys_files.proofs.Steady.{Confined, steady_same, confined_walks}
-use Rattle.sys_files.proofs.Walks.{Walks, walk_read, walk_write, walk_open, walk_close, walk_creat, walk_link, walk_unlink, walk_chdir, walk_mknod, walk_chmod, walk_chown, walk_stat, walk_stat_open, walk_seek, walk_stty, walk_gtty, walk_sync, walk_dup}
+use Rattle.sys_files.proofs.Bounds.{IsWake, Fits}
 use Rattle.sys_procs.specs.Agree.{board_of}
 use Rattle.sys_procs.proofs.Tables.{board_woken}
 use Rattle.abstract_unix.specs.Unix.{Unix}
-use Rattle.abstract_unix.specs.Calls.{FileCall, file_calls, file_call, row_of}
 use Rattle.unix_core.specs.Passing.{woken_by, all_woken}
 
 -- Items that are shown in order: the board takes them one after another.

@@ -54,7 +54,7 @@ module _ (w : World) (s : ℕ) (ready : IsReady w s) (full : lowest is_none (mem
   refused_tame =
       mild_tame w refused
       (mild_comes (given w) (change (given w) s past_word) s (Fail EAGAIN)
-      (near_change (given w) (given w) s past_word (near_here w s ready) (λ p. (refl, (refl, refl)))))
+      (near_change (given w) (given w) s past_word (near_here w s ready) (refl, (refl, refl))))
 
 -- Whatever comes of it, the switches and core stay.
 module _ (w : World) (s : ℕ) (ready : IsReady w s) where

@@ -1,6 +1,6 @@
 -- What the calls on processes leave that only show: nobody's files, directory or place change, and what they show are lines of
 -- the log that name no place.
-use Rattle.std.proofs.Common.{◌≡◌, ◌∙◌, ◌⊎◌, ℕ, ℤ, Bool, true, false, not, cond, ◌&&◌, ◌==◌, if◌then◌else◌, List, [], ◌∷◌, length, get_or, set, map, fold, count_by, Option, Some, None, refl, sym, ap, inl, inr, arith}
+use Rattle.std.proofs.Common.{◌≡◌, ◌∙◌, ◌⊎◌, ℕ, ℤ, true, false, not, cond, ◌&&◌, ◌==◌, if◌then◌else◌, List, [], ◌∷◌, length, get_or, set, map, fold, count_by, Option, Some, None, refl, sym, ap, inl, inr, arith}
 use Rattle.std.specs.Prelude.{unwrap_or}
 use Rattle.std.proofs.lemmas.Bool.{cases_eq}
 use Rattle.std.proofs.lemmas.List.{get_or-set_same, get_or-set_other, length-set}
@@ -223,13 +223,9 @@ mild_logs base e rest mild m = record {
   counts = m.counts;
 }
 
-pub mild_if : (base : World) (b : Bool) (x y : Comes) → IsMild base x → IsMild base y → IsMild base (if b then x else y)
-mild_if base true x y m n = m
-mild_if base false x y m n = n
-
 -- The process of the slot is changed, in nothing that counts.
 pub near_change : (base w : World) (s : ℕ) (rule : Process → Process) → IsNear base w s
-    → ((p : Process) → ((rule p).is_zombie ≡ p.is_zombie) × (((rule p).u.files ≡ p.u.files) × ((rule p).u.dir ≡ p.u.dir)))
+    → (let p : Process = process_of w s in ((rule p).is_zombie ≡ p.is_zombie) × (((rule p).u.files ≡ p.u.files) × ((rule p).u.dir ≡ p.u.dir)))
     → IsNear base (change w s rule) s
 near_change base w s rule near same =
     let p : Process = process_of w s in
@@ -239,7 +235,7 @@ near_change base w s rule near same =
     record {
       inodes = near.inodes;
       switches = near.switches;
-      counts = counts_put base.processes w.processes s p q near.counts near.here near.lives (same p).0 (same p).1.0 (same p).1.1;
+      counts = counts_put base.processes w.processes s p q near.counts near.here near.lives same.0 same.1.0 same.1.1;
       here = got ∙ ap (λ (x : Process). Some x) (sym its);
-      lives = ap (λ (x : Process). x.is_zombie) its ∙ (same p).0 ∙ near.lives;
+      lives = ap (λ (x : Process). x.is_zombie) its ∙ same.0 ∙ near.lives;
     }

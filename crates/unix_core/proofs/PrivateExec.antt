@@ -1,5 +1,5 @@
--- exec, break and the growth of a stack leave the processes of other slots alone, and so does each row of the table.
-use Rattle.std.proofs.Common.{◌≢◌, ℕ, Bool, true, false, ◌==◌, if◌then◌else◌, List, [], ◌∷◌, find, Option, Some, None, slice_index, sym, subst}
+-- exec, break and the growth of a stack leave the processes of other slots alone, and so does each row.
+use Rattle.std.proofs.Common.{◌≢◌, ℕ, Bool, true, false, ◌==◌, if◌then◌else◌, List, Option, Some, None, slice_index, sym, subst}
 use Rattle.std.specs.Prelude.{⊤, MatchOption, Result, Ok, Err, slice_set}
 use Rattle.std.specs.Option.{option_map}
 use Rattle.v6_base.specs.declared.entry.Entry.TheVariants.{Leave, Bare, Share}
@@ -14,9 +14,12 @@ use Rattle.sys_procs.specs.Texts.{entry_of, free_entry, new_text, goes, text_of,
 use Rattle.sys_procs.specs.Break.{break_at, grow, grown_stack, clicks_up_to, sized, expands}
 use Rattle.sys_procs.specs.ExecFile.{Tested, let_go, tests, node_at, with_moved, text_clicks, without_text, leaves_text, is_sticky, xfree, with_entry, shares_text, makes_text, xalloc_by, xalloc, data_read, reads_text, image_clicks, begins, executes, loads, done_by, exec_file}
 use Rattle.sys_procs.proofs.TestedSlots.{tests_processes}
-use Rattle.abstract_unix.specs.Calls.{ProcessCall, process_calls, process_call}
+use Rattle.abstract_unix.specs.declared.calls.ProcessCall.{ProcessCall}
+use Rattle.abstract_unix.specs.declared.calls.ProcessCall.TheVariants as process
+use Rattle.abstract_unix.specs.Calls.{process_row}
+use Rattle.abstract_unix.proofs.ProcessRows.{plain_row}
 use Rattle.unix_core.proofs.PrivateSlots.{Spared}
-use Rattle.unix_core.proofs.PrivateRows.{IsSparing, spared_change, sparing_comes, sparing_logs, sparing_if, sparing_wait, sparing_time_now, sparing_pid_of, sparing_set_uid, sparing_get_uid, sparing_set_time, sparing_no_op, sparing_nice_to, sparing_sleep_for, sparing_switches, sparing_times_to, sparing_set_gid, sparing_get_gid}
+use Rattle.unix_core.proofs.PrivateRows.{IsSparing, spared_change, sparing_comes, sparing_logs, sparing_if, sparing_plain}
 
 module _ (ps : List (Option Process)) (r s : ℕ) (other : r ≢ s) where
   abbrev SparedIn : World → Type 0
@@ -114,68 +117,8 @@ module _ (ps : List (Option Process)) (r s : ℕ) (other : r ≢ s) where
       let p : Process = process_of w s in
       sparing_stack w p.u.data_size (grown_stack p.u.text_size p.u.data_size p.u.stack_size w.limit sp) h
 
-  -- the rows of the table
-  abbrev pub IsSparingRow : ProcessCall → Type 0
-  IsSparingRow row = (w : World) (args : List ℕ) → Spared ps w.processes r → IsSparing ps r (row.does w s args)
-
-  abbrev pub AreSparingRows : List ProcessCall → Type 0
-  AreSparingRows [] = ⊤
-  AreSparingRows (row ∷ rows) = IsSparingRow row × AreSparingRows rows
-
-  all_sparing : AreSparingRows process_calls
-  all_sparing = (
-    (λ w a h. sparing_wait ps r s other w h),
-    (
-      (λ w a h. sparing_exec w (slice_index a 0) (slice_index a 1) h),
-      (
-        (λ w a h. sparing_time_now ps r s other w h),
-        (
-          (λ w a h. sparing_break w (slice_index a 0) h),
-          (
-            (λ w a h. sparing_pid_of ps r s other w h),
-            (
-              (λ w a h. sparing_set_uid ps r s other w h),
-              (
-                (λ w a h. sparing_get_uid ps r s other w h),
-                (
-                  (λ w a h. sparing_set_time ps r s other w h),
-                  (
-                    (λ w a h. sparing_no_op ps r s other w h),
-                    (
-                      (λ w a h. sparing_nice_to ps r s other w h),
-                      (
-                        (λ w a h. sparing_sleep_for ps r s other w h),
-                        (
-                          (λ w a h. sparing_switches ps r s other w h),
-                          (
-                            (λ w a h. sparing_times_to ps r s other w h (slice_index a 0)),
-                            (
-                              (λ w a h. sparing_set_gid ps r s other w h),
-                              ((λ w a h. sparing_get_gid ps r s other w h), tt),
-                            ),
-                          ),
-                        ),
-                      ),
-                    ),
-                  ),
-                ),
-              ),
-            ),
-          ),
-        ),
-      ),
-    ),
-  )
-
-  found_sparing : (test : ProcessCall → Bool) (rows : List ProcessCall) → AreSparingRows rows
-      → MatchOption (find test rows) ⊤ IsSparingRow
-  found_sparing test [] all = tt
-  found_sparing test (row ∷ rows) all =
-      elim (test row) as (λ b. MatchOption (if b then Some row else find test rows) ⊤ IsSparingRow) [
-        | true ↦ all.0
-        | false ↦ found_sparing test rows all.1
-      ]
-
-  pub sparing_row : (number : ℕ) → MatchOption (process_call number) ⊤ IsSparingRow
-  unfolding process_call
-  sparing_row number = found_sparing (λ (c : ProcessCall). c.number == number) process_calls all_sparing
+  -- each row
+  pub sparing_row : (call : ProcessCall) (w : World) (args : List ℕ) → SparedIn w → IsSparing ps r (process_row call w s args)
+  sparing_row process.Exec w a h = sparing_exec w (slice_index a 0) (slice_index a 1) h
+  sparing_row process.Break w a h = sparing_break w (slice_index a 0) h
+  sparing_row call w a h = sparing_plain ps r s other w _ (plain_row call tt s w a) h

@@ -27,18 +27,21 @@ use Rattle.sys_procs.specs.Exit.{exit_now}
 use Rattle.sys_procs.specs.Fork.{fork_one}
 use Rattle.sys_procs.specs.Resume.{resume_proc}
 use Rattle.abstract_unix.specs.declared.asked.Asked.{Asked}
+use Rattle.abstract_unix.specs.declared.calls.SystemCall.{SystemCall}
+use Rattle.abstract_unix.specs.declared.calls.SystemCall.TheVariants.{Indirect, Exit, Fork, OnFiles, OnProcesses}
+use Rattle.abstract_unix.specs.declared.calls.Sysent.{Sysent}
 use Rattle.abstract_unix.specs.declared.ending.Ending.{Ending}
 use Rattle.abstract_unix.specs.declared.ending.Ending.TheVariants as ending
 use Rattle.abstract_unix.specs.Unix.{Unix, System, process_of, with_process}
 use Rattle.abstract_unix.specs.Steps.{Steps, quietly, returns, not_built}
 use Rattle.abstract_unix.specs.Errors.{error_number}
-use Rattle.abstract_unix.specs.Calls.{FileCall, ProcessCall, handed_of, with_handed, world_of, with_world, with_area, entered_area, words_passed, asked, given_area, refused_area, answers, file_call, process_call, did_by, came_by, forks, closes_all, exits, by_process_row, by_file_row, grows, grown_by, does_call, count_of, does_if_built, pending_read, resumed}
+use Rattle.abstract_unix.specs.Calls.{handed_of, with_handed, world_of, with_world, with_area, entered_area, words_passed, asked, given_area, refused_area, answers, file_row, process_row, did_by, came_by, forks, closes_all, exits, grows, grown_by, does_call, sysent_of, does_if_built, pending_read, resumed}
 use Rattle.abstract_unix.specs.Turn.{Happened, stays, settles, calls_for_settling, settled_after, machine_of, with_machine, faults, comes_to, instruction, is_user, turn, end_effects, turn_of, pass_effects, pass_of, slot_of}
 use Rattle.abstract_unix.specs.Outside.{mode_of, timed, charged, ticked, is_due, wakes, tick_entry, tick_of, calls, typed_of}
 use Rattle.abstract_unix.specs.Runs.{Slot, Tick, Byte, Switch, event_of, start_of}
 use Rattle.abstract_unix.specs.Private.{IsUndisturbed, AllUndisturbed, OthersUndisturbed}
 use Rattle.unix_core.proofs.PrivateSlots.{Spared, AllCarry, spared_same, spared_then, spared_other, spared_timed, left_carried, carry_shown, carry_both, carry_lifted}
-use Rattle.unix_core.proofs.PrivateExec.{IsSparingCall, IsSparingRow, sparing_row, sparing_grow}
+use Rattle.unix_core.proofs.PrivateExec.{IsSparingCall, sparing_row, sparing_grow}
 use Rattle.unix_core.proofs.PrivateRows.{IsSparing, sparing_fork, sparing_exit, sparing_resume}
 
 -- a Unix in which the process of a slot lives on
@@ -102,16 +105,6 @@ module _ (ps : List (Option Process)) (r s : ℕ) (other : r ≢ s) where
           unix = came.state;
         }
 
-    sparing_process : (o : Option ProcessCall) (args : List ℕ) → MatchOption o ⊤ (IsSparingRow ps r s other)
-        → AreSparing ps r (by_process_row u s args o)
-    sparing_process None args row = sparing_quiet u ending.NotBuilt h
-    sparing_process (Some c) args row = sparing_came (c.does (world_of u) s args) (row (world_of u) args h)
-
-    sparing_file : (o : Option FileCall) (on_process : Option ProcessCall) (args : List ℕ)
-        → MatchOption on_process ⊤ (IsSparingRow ps r s other) → AreSparing ps r (by_file_row u s args o on_process)
-    sparing_file None on_process args row = sparing_process on_process args row
-    sparing_file (Some c) on_process args row = sparing_did (c.does (handed_of u (process_of u s)) args u.clock.time)
-
     sparing_if : (b : Bool) (x y : Steps) → AreSparing ps r x → AreSparing ps r y → AreSparing ps r (if b then x else y)
     sparing_if true x y k l = k
     sparing_if false x y k l = l
@@ -126,19 +119,19 @@ module _ (ps : List (Option Process)) (r s : ℕ) (other : r ≢ s) where
     sparing_grown None sparing = sparing_quiet u ending.NotBuilt h
     sparing_grown (Some c) sparing = sparing_grows c sparing
 
-    sparing_does : (number : ℕ) (args : List ℕ) → AreSparing ps r (does_call u s number args)
-    sparing_does number args =
-        sparing_if (number == 0) _ _ (sparing_quiet u ending.Trapped h)
-        (sparing_if (number == 1) _ _ sparing_exits
-        (sparing_if (number == 2) _ _ sparing_forks
-        (sparing_file (file_call number) (process_call number) args (sparing_row ps r s other number))))
+    sparing_does : (call : SystemCall) (args : List ℕ) → AreSparing ps r (does_call u s call args)
+    sparing_does Indirect args = sparing_quiet u ending.Trapped h
+    sparing_does Exit args = sparing_exits
+    sparing_does Fork args = sparing_forks
+    sparing_does (OnFiles call) args = sparing_did (file_row call (handed_of u (process_of u s)) args u.clock.time)
+    sparing_does (OnProcesses call) args = sparing_came (process_row call (world_of u) s args) (sparing_row ps r s other call (world_of u) args h)
 
   module _ (u : Unix) (h : Spared ps u.processes r) where
-    sparing_built : (a : Asked) (o : Option ℕ) → AreSparing ps r (does_if_built u s a o)
+    sparing_built : (a : Asked) (o : Option Sysent) → AreSparing ps r (does_if_built u s a o)
     sparing_built a None = sparing_quiet u ending.NotBuilt h
-    sparing_built a (Some count) =
-        let entered : Unix = with_area u s (entered_area (words_passed a count)) in
-        sparing_does entered (spared_area u (entered_area (words_passed a count)) h) a.number a.args
+    sparing_built a (Some entry) =
+        let entered : Unix = with_area u s (entered_area (words_passed a entry.count)) in
+        sparing_does entered (spared_area u (entered_area (words_passed a entry.count)) h) entry.call a.args
 
     sparing_faults : (k : Kind) → AreSparing ps r (faults u s k)
     sparing_faults kind.Odd = sparing_quiet u ending.NotBuilt h
@@ -153,7 +146,7 @@ module _ (ps : List (Option Process)) (r s : ℕ) (other : r ≢ s) where
     sparing_outcome (Call number) =
         let p : Process = process_of u s in
         let a : Asked = asked (image_of p) (register p 7) number in
-        sparing_built a (count_of a.number)
+        sparing_built a (sysent_of a.number)
     sparing_outcome (Fault k) = sparing_faults k
 
   -- turns

@@ -1,30 +1,20 @@
 -- The calls on processes but for exec and break: each leaves the processes of other slots alone.
-use Rattle.std.proofs.Common.{◌≡◌, ◌≢◌, ◌∙◌, ℕ, Bool, true, false, ◌&&◌, ◌||◌, ◌==◌, nat_lt, nat_le, ◌+◌, ◌*◌, ◌%◌, ◌^◌, if◌then◌else◌, List, [], get_or, set, Option, Some, None, is_none, sym, ap}
-use Rattle.std.specs.Prelude.{pos}
-use Rattle.std.specs.Int.{int_min}
+use Rattle.std.proofs.Common.{◌≡◌, ◌≢◌, ◌∙◌, ◌*◌, ◌%◌, ℕ, Bool, true, false, if◌then◌else◌, List, [], get_or, set, Option, Some, None, is_none, sym, ap}
+use Rattle.std.specs.Prelude.{unwrap_or}
 use Rattle.std.proofs.lemmas.List.{get_or-map}
-use Rattle.v6_base.specs.Image.{Image}
-use Rattle.v6_base.specs.Copy.{store_bytes}
 use Rattle.v6_base.specs.declared.answer.Answer.{Answer}
 use Rattle.v6_base.specs.declared.entry.Entry.{Entry}
-use Rattle.v6_base.specs.declared.entry.Chan.TheVariants.{Tout}
-use Rattle.v6_base.specs.declared.entry.Entry.TheVariants.{Nice, Time, Wake, Reap}
-use Rattle.fs_codec.specs.Bytes.{bytes_of}
-use Rattle.u_area.specs.Area.{times}
-use Rattle.proc_tab.specs.declared.child.Child.{Child}
-use Rattle.proc_tab.specs.declared.child.Child.TheVariants.{NoChild, Living, Dead}
-use Rattle.proc_tab.specs.Processes.{IsLowest, Finds, passes, lowest}
-use Rattle.proc_tab.specs.Children.{Tells, child, is_dead_child_of}
-use Rattle.proc_tab.proofs.SearchLemmas.{tells, lowest_finds}
-use Rattle.sys_procs.specs.Process.{Process, member_of, register, image_of, is_super}
+use Rattle.v6_base.specs.declared.entry.Entry.TheVariants as line
+use Rattle.proc_tab.specs.Processes.{IsLowest, Finds, lowest}
+use Rattle.proc_tab.proofs.SearchLemmas.{lowest_finds}
+use Rattle.sys_procs.specs.Process.{Process, no_process, member_of, register}
 use Rattle.sys_procs.specs.World.{World, process_of, change, without_process, members}
 use Rattle.sys_procs.specs.Comes.{Comes, comes, logs}
-use Rattle.sys_procs.specs.Ids.{pid_of, set_uid, get_uid, set_gid, get_gid, switches, no_op, nice_to, as_user, as_group, id_given, kept_nice}
-use Rattle.sys_procs.specs.Times.{time_now, set_time, with_time, times_to, stored, sleep_for, sleep_until, sleeping_until, tout_with, until_of, pending_sleep}
-use Rattle.sys_procs.specs.Wait.{wait_child, waits_for, waiting, with_times_of}
+use Rattle.sys_procs.specs.Times.{with_time}
 use Rattle.sys_procs.specs.Fork.{fork_one, fork_into, past_word, next_pid, with_child}
 use Rattle.sys_procs.specs.Exit.{exit_now, end_proc, leaves, dead, ended}
 use Rattle.sys_procs.specs.Resume.{resume_proc, awake}
+use Rattle.abstract_unix.proofs.ProcessRows.{Plain, gives, refuses, waits, changes, due, nice, wakes, dated, buries, resume_plain}
 use Rattle.unix_core.proofs.ReferenceLemmas.{slot_within}
 use Rattle.unix_core.proofs.PrivateSlots.{Spared, AllCarry, spared_then, spared_other, spared_unless, spared_adopted}
 
@@ -38,17 +28,6 @@ member_here : (w : World) (r : ℕ) (q : Process) → get_or w.processes r None 
     → get_or (members w) r None ≡ member_of (Some q)
 member_here w r q is =
     get_or-map member_of w.processes r None None (slot_within w.processes r q is) ∙ ap member_of is
-
--- who is found as a dead child has ended
-dead_ended : (w : World) (pid d : ℕ) → IsLowest (passes (is_dead_child_of pid)) (members w) d
-    → (q : Process) → get_or w.processes d None ≡ Some q → q.is_zombie ≡ true
-dead_ended w pid d found q is =
-    ended (q.row.ppid == pid) q.is_zombie
-    (sym (ap (passes (is_dead_child_of pid)) (member_here w d q is)) ∙ found.passes)
-  where
-    ended : (b z : Bool) → (b && z) ≡ true → z ≡ true
-    ended true z e = e
-    ended false z e = absurd (cc e)
 
 -- nobody is in a slot that is found as free
 free_empty : (w : World) (child : ℕ) → IsLowest is_none (members w) child
@@ -75,106 +54,24 @@ module _ (ps : List (Option Process)) (r s : ℕ) (other : r ≢ s) where
   sparing_if true x y h k = h
   sparing_if false x y h k = k
 
+  -- a call that wants no place for an image
+  pub sparing_plain : (w : World) (c : Comes) → Plain s w c → Spared ps w.processes r → IsSparing ps r c
+  sparing_plain w c (gives v r0 r1) h = sparing_comes w _ h
+  sparing_plain w c (refuses v e) h = sparing_comes w _ h
+  sparing_plain w c (waits v rule pri chan same sleeping is range) h = sparing_comes (change w s rule) _ (spared_change w rule h)
+  sparing_plain w c (changes v rule d same pending rest) h = sparing_plain (change w s rule) c rest (spared_change w rule h)
+  sparing_plain w c (due v tout d rest) h = sparing_plain (record w { clock = record w.clock { tout = tout } }) c rest h
+  sparing_plain w c (nice v value d range rest) h = sparing_logs (line.Nice s value) d (sparing_plain w d rest h)
+  sparing_plain w c (wakes v chan d range rest) h = sparing_logs (line.Wake chan) d (sparing_plain w d rest h)
+  sparing_plain w c (dated v time d range rest) h = sparing_logs (line.Time time) d (sparing_plain (with_time w time) d rest h)
+  sparing_plain w c (buries v k d grave rest) h =
+      sparing_logs (line.Reap k) d (sparing_plain (without_process w k) d rest
+      (spared_then ps w.processes (without_process w k).processes r h
+      (spared_unless w.processes k r None (λ q is. ap (λ o. (unwrap_or o no_process).is_zombie) (sym is ∙ grave.at) ∙ grave.dead))))
+
   module _ (w : World) (h : Spared ps w.processes r) where
-    sparing_changed : (rule : Process → Process) (a : Answer) → IsSparing ps r (comes (change w s rule) a)
-    sparing_changed rule a = sparing_comes (change w s rule) a (spared_change w rule h)
-
-    sparing_waits : (told : Child) (pid : ℕ) → Tells (members w) pid told → IsSparing ps r (waits_for w s told)
-    sparing_waits NoChild pid told = sparing_comes w _ h
-    sparing_waits Living pid told = sparing_changed waiting _
-    sparing_waits (Dead d) pid told =
-        let buried : World = without_process w d in
-        let rule : Process → Process = λ p. record p { u = with_times_of p.u (process_of w d).u } in
-        sparing_logs (Reap d) _ (sparing_comes (change buried s rule) _ (spared_change buried rule
-        (spared_then ps w.processes buried.processes r h
-        (spared_unless w.processes d r None (dead_ended w pid d told)))))
-
-    pub sparing_wait : IsSparing ps r (wait_child w s)
-    unfolding wait_child
-    sparing_wait =
-        let pid = (process_of w s).row.pid in
-        sparing_waits (child (members w) pid) pid (tells (members w) pid)
-
-    sparing_sleep_until : (until : ℕ) → IsSparing ps r (sleep_until w s until)
-    unfolding sleep_until
-    sparing_sleep_until until =
-        let timed : World = record w { clock = record w.clock { tout = tout_with w.clock until } } in
-        sparing_if (nat_le until w.clock.time) _ _ (sparing_comes w _ h)
-        (sparing_comes (change timed s (sleeping_until until)) _ (spared_change timed (sleeping_until until) h))
-
-    sparing_stored : (o : Option Image) → IsSparing ps r (stored w s o)
-    sparing_stored None = sparing_comes w _ h
-    sparing_stored (Some image) = sparing_changed (λ p. record p { «data» = image.data; stack = image.stack }) _
-
-    pub sparing_time_now : IsSparing ps r (time_now w s)
-    unfolding time_now
-    sparing_time_now = sparing_comes w _ h
-
-    pub sparing_pid_of : IsSparing ps r (pid_of w s)
-    unfolding pid_of
-    sparing_pid_of = sparing_comes w _ h
-
-    pub sparing_set_uid : IsSparing ps r (set_uid w s)
-    unfolding set_uid
-    sparing_set_uid =
-        let p : Process = process_of w s in
-        sparing_if ((id_given p == p.u.ruid) || is_super p) _ _ (sparing_changed (as_user (id_given p)) _)
-        (sparing_comes w _ h)
-
-    pub sparing_set_gid : IsSparing ps r (set_gid w s)
-    unfolding set_gid
-    sparing_set_gid =
-        let p : Process = process_of w s in
-        sparing_if ((id_given p == p.u.rgid) || is_super p) _ _ (sparing_changed (as_group (id_given p)) _)
-        (sparing_comes w _ h)
-
-    pub sparing_get_uid : IsSparing ps r (get_uid w s)
-    unfolding get_uid
-    sparing_get_uid = sparing_comes w _ h
-
-    pub sparing_get_gid : IsSparing ps r (get_gid w s)
-    unfolding get_gid
-    sparing_get_gid = sparing_comes w _ h
-
-    pub sparing_switches : IsSparing ps r (switches w s)
-    unfolding switches
-    sparing_switches = sparing_comes w _ h
-
-    pub sparing_no_op : IsSparing ps r (no_op w s)
-    unfolding no_op
-    sparing_no_op = sparing_comes w _ h
-
-    pub sparing_nice_to : IsSparing ps r (nice_to w s)
-    unfolding nice_to
-    sparing_nice_to =
-        let p : Process = process_of w s in
-        let value = register p 0 in
-        sparing_if (nat_lt value 32768) _ _
-        (sparing_logs (Nice s (int_min (pos 20) (pos value))) _ (sparing_comes w _ h))
-        (sparing_if (is_super p) _ _ (sparing_logs (Nice s (kept_nice value)) _ (sparing_comes w _ h))
-        (sparing_logs (Nice s (pos 0)) _ (sparing_comes w _ h)))
-
-    pub sparing_set_time : IsSparing ps r (set_time w s)
-    unfolding set_time
-    sparing_set_time =
-        let p : Process = process_of w s in
-        let new = (65536 * register p 0 + register p 1) % 2 ^ 32 in
-        sparing_if (is_super p) _ _
-        (sparing_logs (Time new) _ (sparing_logs (Wake Tout) _ (sparing_comes (with_time w new) _ h)))
-        (sparing_comes w _ h)
-
-    pub sparing_times_to : (at : ℕ) → IsSparing ps r (times_to w s at)
-    unfolding times_to
-    sparing_times_to at =
-        let p : Process = process_of w s in
-        sparing_stored (if at % 2 == 1 then None else store_bytes (image_of p) at (bytes_of (times p.u)))
-
-    pub sparing_sleep_for : IsSparing ps r (sleep_for w s)
-    unfolding sleep_for
-    sparing_sleep_for = sparing_sleep_until ((w.clock.time + register (process_of w s) 0) % 2 ^ 32)
-
     sparing_into : (o : Option ℕ) → Finds is_none (members w) o → IsSparing ps r (fork_into w s o)
-    sparing_into None found = sparing_changed past_word _
+    sparing_into None found = sparing_comes (change w s past_word) _ (spared_change w past_word h)
     sparing_into (Some child) found =
         let born : World = with_child w s child (next_pid w) in
         record {
@@ -208,9 +105,4 @@ module _ (ps : List (Option Process)) (r s : ℕ) (other : r ≢ s) where
   sparing_exit w h = sparing_end w (256 * (register (process_of w s) 0 % 256)) h
 
   pub sparing_resume : (w : World) → Spared ps w.processes r → IsSparing ps r (resume_proc w s)
-  unfolding resume_proc
-  sparing_resume w h =
-      let p : Process = process_of w s in
-      let spared : Spared ps (change w s awake).processes r = spared_change w awake h in
-      sparing_if (p.u.pending == pending_sleep) _ _ (sparing_sleep_until (change w s awake) spared (until_of p))
-      (sparing_wait (change w s awake) spared)
+  sparing_resume w h = sparing_plain (change w s awake) _ (resume_plain s w) (spared_change w awake h)

@@ -3,8 +3,6 @@
 use Rattle.std.specs.Prelude.{◌≡◌, ◌<◌, ℕ, min, Bool, true, false, List, [], map, length, Option, Some, None, if◌then◌else◌, slice_index}
 use Rattle.std.specs.List.{sum_by}
 use Rattle.open_files.specs.Files.{file_at, times}
-use Rattle.sys_files.specs.Handed.{Handed}
-use Rattle.sys_files.specs.Did.{Did, is_done}
 use Rattle.sys_files.specs.Sound.{numbers_of, HasNoPipe}
 use Rattle.pdp_step.specs.declared.outcome.Outcome.{Outcome}
 use Rattle.pdp_step.specs.declared.regs.Regs.{Regs}
@@ -23,8 +21,7 @@ use Rattle.image_keep.specs.Area.{sized_area}
 use Rattle.image_keep.specs.Places.{cleared}
 use Rattle.image_keep.specs.Kept.{Held, Kept, Has, HasImage}
 use Rattle.sys_procs.specs.Process.{Process, register}
-use Rattle.sys_procs.specs.World.{clock_of, processes_in, World}
-use Rattle.sys_procs.specs.Comes.{Comes, returns}
+use Rattle.sys_procs.specs.World.{clock_of, processes_in}
 use Rattle.sys_procs.specs.Agree.{board_of}
 use Rattle.sys_procs.specs.Handed.{AreProcs}
 use Rattle.unix_core.specs.declared.world.World as parts
@@ -34,14 +31,12 @@ use Rattle.unix_core.specs.declared.machine.Went.{Went}
 use Rattle.unix_core.specs.declared.machine.Went.TheVariants as went
 use Rattle.abstract_unix.specs.declared.turned.Turned.{Turned}
 use Rattle.abstract_unix.specs.declared.turned.Turned.TheVariants as turned
-use Rattle.abstract_unix.specs.declared.turned.Unbuilt.{Unbuilt}
 use Rattle.abstract_unix.specs.declared.turned.Unbuilt.TheVariants.{At, Room}
 use Rattle.unix_core.specs.declared.machine.Stage.{Stage}
 use Rattle.unix_core.specs.declared.machine.Stage.TheVariants as stage
-use Rattle.abstract_unix.specs.Unix.{Unix, System, Phase, New, Started, Stopped, Finished, no_texts, process_of, with_process, phase_after}
+use Rattle.abstract_unix.specs.Unix.{Unix, System, Phase, New, Started, Stopped, Finished, phase_after, no_texts, process_of, with_process}
 use Rattle.abstract_unix.specs.References.{referrers}
 use Rattle.abstract_unix.specs.Init.{init_data}
-use Rattle.abstract_unix.specs.Calls.{FileCall, ProcessCall}
 use Rattle.abstract_unix.specs.Steps.{Steps}
 use Rattle.unix_core.specs.Passing.{shown_by, all_woken}
 use Rattle.abstract_unix.specs.Turn.{Turn, machine_of, with_machine, is_user, end_effects, ending_at, settled_after, slot_of}

@@ -3,7 +3,6 @@
 
 mod asked;
 mod boot;
-mod calls;
 mod files;
 mod init;
 mod kernel;

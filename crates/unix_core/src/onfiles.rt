@@ -5,23 +5,23 @@ ghost use Rattle.sys_files.specs.Descriptors.{close_all};
 ghost use Rattle.sys_files.specs.Moving.{resume_read};
 ghost use Rattle.image_keep.specs.Kept.{area_of};
 ghost use Rattle.abstract_unix.specs.Unix.{process_of};
-ghost use Rattle.abstract_unix.specs.Calls.{file_call, handed_of, with_handed, row_of};
+ghost use Rattle.abstract_unix.specs.Calls.{handed_of, with_handed, file_row};
 ghost use Rattle.unix_core.specs.Parts.{unix_of, board_in, IsReady, IsReadyToShow};
 
-use crate::calls::do_file_call;
 use crate::files::{see_count, see_nodes, see_numbers, see_table};
 use crate::world::World;
+use abstract_unix::{FileCall, do_file_call};
 use sys_files::{close_all, resume_file};
 use v6_base::{Answer, Slot};
 
 /// Does a call on files by its row.
-pub(crate) fn do_on_files(world: &mut World, s: Slot, number: u8, args: [u16; 4]) -> Answer
+pub(crate) fn do_on_files(world: &mut World, s: Slot, call: FileCall, args: [u16; 4]) -> Answer
     requires { IsReady world.old s }
-    ensures answer { result ≡ (row_of (file_call number)
+    ensures answer { result ≡ (file_row call
         (handed_of (unix_of world.old) (process_of (unix_of world.old) s)) args world.old.procs.table.now).answer }
-    ensures unix { unix_of world.new ≡ with_handed (unix_of world.old) s (row_of (file_call number)
+    ensures unix { unix_of world.new ≡ with_handed (unix_of world.old) s (file_row call
         (handed_of (unix_of world.old) (process_of (unix_of world.old) s)) args world.old.procs.table.now).state }
-    ensures shown { IsReadyToShow world.old world.new s (row_of (file_call number)
+    ensures shown { IsReadyToShow world.old world.new s (file_row call
         (handed_of (unix_of world.old) (process_of (unix_of world.old) s)) args world.old.procs.table.now).items }
     ensures rest { SameRest world.old.files.tree.nodes.blocks world.new.files.tree.nodes.blocks }
 {
@@ -35,7 +35,7 @@ pub(crate) fn do_on_files(world: &mut World, s: Slot, number: u8, args: [u16; 4]
     let answer = {
         let mut space = world.procs.images.space(s);
         do_file_call(
-            number,
+            call,
             &mut world.files,
             s,
             &mut u,

@@ -1,5 +1,5 @@
 //! Turns and calls of a process: what an instruction comes to, and how a call goes on. `trap` in Lions' Commentary, `trap.c`.
-ghost use Rattle.std.specs.Prelude.{◌≡◌, ◌≢◌, Some, true, false, is_some};
+ghost use Rattle.std.specs.Prelude.{◌≡◌, ◌≢◌, Some, true, false};
 ghost use Rattle.v6_base.specs.Trace.{Took};
 ghost use Rattle.fs_laws.specs.Rest.{SameRest};
 ghost use Rattle.pick_rules.specs.Logged.{logged};
@@ -8,29 +8,22 @@ ghost use Rattle.open_files.specs.Files.{AreOpen, HaveRoom};
 ghost use Rattle.sys_files.specs.Moving.{resume_read};
 ghost use Rattle.sys_procs.specs.Resume.{resume_proc};
 ghost use Rattle.abstract_unix.specs.Unix.{process_of};
-ghost use Rattle.abstract_unix.specs.Calls.{world_of, words_passed, entered_area, given_area, refused_area, file_call, process_call, count_of, system_call, does_call, did_by, came_by, shares, forks, exits, grows_to, resumed, answers, handed_of, row_of, process_row_of};
+ghost use Rattle.abstract_unix.specs.Calls.{world_of, words_passed, entered_area, given_area, refused_area, system_call, does_call, did_by, came_by, shares, forks, exits, grows_to, resumed, answers, handed_of, file_row, process_row};
+ghost use Rattle.abstract_unix.specs.Errors.{error_number};
 ghost use Rattle.abstract_unix.specs.Turn.{faults, comes_to};
 ghost use Rattle.unix_core.specs.Parts.{unix_of, board_in, IsGood, IsReady, HasCome, unmet_as, is_over};
 
 use crate::asked::ask;
-use crate::calls::{count_of, do_process_call, error_number, is_file_call};
 use crate::files::{see_images, see_nodes, see_table};
 use crate::onfiles::{close_files, do_on_files, read_on};
 use crate::passing::pass_on;
 use crate::world::World;
-use abstract_unix::{Asked, Ending};
+use abstract_unix::{Asked, Ending, FileCall, ProcessCall, SystemCall, do_process_call, sysent_of};
 use image_keep::Images;
 use open_files::OpenTable;
 use pdp_step::{Kind, Outcome};
 use sys_procs::{exit_now, fork_one, grow, resume_proc};
-use v6_base::{Answer, PanicKind, Slot, Trace};
-
-/// Calls that have no row of their own in the tables: indir(II), exit(II), fork(II).
-const INDIRECT: u8 = 0;
-
-const EXIT: u8 = 1;
-
-const FORK: u8 = 2;
+use v6_base::{Answer, Errno, PanicKind, Slot, Trace};
 
 /// The pending call that is a read of the console, a sleep, or a wait.
 const PENDING_READ: u8 = 1;
@@ -75,6 +68,13 @@ fn refuse(images: &mut Images, s: Slot, number: u16)
     images.set_area(s, &u);
 }
 
+/// The number of an error: INTRO(II).
+fn error_number(error: Errno) -> u16
+    ensures { result ≡ error_number error }
+{
+    error as u16
+}
+
 /// A call ends: the registers take what it answers.
 fn conclude(world: &mut World, s: Slot, answer: Answer) -> Ending
     requires { IsReady world.old s }
@@ -111,50 +111,50 @@ fn unmet_as(kind: PanicKind) -> Ending
     }
 }
 
-/// A call on files by its number, which has been entered.
+/// A call on files, which has been entered.
 fn call_files<T: Trace>(
     world: &mut World,
     s: Slot,
-    number: u8,
+    call: FileCall,
     args: [u16; 4],
     trace: &mut T,
 ) -> Ending
     requires { IsReady world.old s }
-    ensures come { HasCome (board_in world.old) (did_by (unix_of world.old) s (row_of (file_call number)
+    ensures come { HasCome (board_in world.old) (did_by (unix_of world.old) s (file_row call
         (handed_of (unix_of world.old) (process_of (unix_of world.old) s)) args world.old.procs.table.now)) result world.new }
     ensures ready { IsReady world.new s }
-    ensures items { Took (T.taken trace.old) (logged (board_in world.old) (did_by (unix_of world.old) s (row_of (file_call number)
+    ensures items { Took (T.taken trace.old) (logged (board_in world.old) (did_by (unix_of world.old) s (file_row call
         (handed_of (unix_of world.old) (process_of (unix_of world.old) s)) args world.old.procs.table.now)).effects).items
         (T.taken trace.new) }
     ensures frame { T.leads_to trace.old trace.new }
     ensures rest { SameRest world.old.files.tree.nodes.blocks world.new.files.tree.nodes.blocks }
 {
-    let answer = do_on_files(world, s, number, args);
+    let answer = do_on_files(world, s, call, args);
     pass_on(&world.tape, &mut world.procs.table, trace);
     conclude(world, s, answer)
 }
 
-/// A call on processes by its number, which has been entered.
+/// A call on processes, which has been entered.
 fn call_processes<T: Trace>(
     world: &mut World,
     s: Slot,
-    number: u8,
+    call: ProcessCall,
     args: [u16; 4],
     trace: &mut T,
 ) -> Ending
     requires { IsReady world.old s }
-    ensures come { HasCome (board_in world.old) (came_by (unix_of world.old) s (process_row_of (process_call number)
-        (world_of (unix_of world.old)) s args)) result world.new }
+    ensures come { HasCome (board_in world.old) (came_by (unix_of world.old) s
+        (process_row call (world_of (unix_of world.old)) s args)) result world.new }
     ensures ready { is_over result ≡ false → IsReady world.new s }
-    ensures items { Took (T.taken trace.old) (logged (board_in world.old) (came_by (unix_of world.old) s (process_row_of
-        (process_call number) (world_of (unix_of world.old)) s args)).effects).items (T.taken trace.new) }
+    ensures items { Took (T.taken trace.old) (logged (board_in world.old) (came_by (unix_of world.old) s
+        (process_row call (world_of (unix_of world.old)) s args)).effects).items (T.taken trace.new) }
     ensures frame { T.leads_to trace.old trace.new }
     ensures rest { SameRest world.old.files.tree.nodes.blocks world.new.files.tree.nodes.blocks }
 {
     see_nodes(&world.files.tree.nodes);
     see_table(&world.files.table);
     match do_process_call(
-        number,
+        call,
         &mut world.procs,
         &mut world.files.tree,
         s,
@@ -249,38 +249,33 @@ fn grow_stack<T: Trace>(world: &mut World, s: Slot, sp: u16, trace: &mut T) -> E
     }
 }
 
-/// A call by its number, which is built and has been entered.
+/// A call that has been entered.
 fn does_call<T: Trace>(
     world: &mut World,
     s: Slot,
-    number: u8,
+    call: SystemCall,
     args: [u16; 4],
     trace: &mut T,
 ) -> Ending
-    requires ready { IsReady world.old s }
-    requires built { is_some (count_of number) ≡ true }
-    ensures come { HasCome (board_in world.old) (does_call (unix_of world.old) s number args) result world.new }
+    requires { IsReady world.old s }
+    ensures come { HasCome (board_in world.old) (does_call (unix_of world.old) s call args) result world.new }
     ensures good { is_over result ≡ false → IsGood world.new }
     ensures runs { is_over result ≡ false → result ≢ Ending.Ended → world.new.procs.table.running ≡ Some s }
     ensures call { result ≢ Ending.Next }
     ensures items { Took (T.taken trace.old) (logged (board_in world.old)
-        (does_call (unix_of world.old) s number args).effects).items (T.taken trace.new) }
+        (does_call (unix_of world.old) s call args).effects).items (T.taken trace.new) }
     ensures frame { T.leads_to trace.old trace.new }
     ensures rest { SameRest world.old.files.tree.nodes.blocks world.new.files.tree.nodes.blocks }
 {
-    if number == INDIRECT {
-        return Ending::Trapped;
+    match call {
+        SystemCall::Indirect => Ending::Trapped,
+        SystemCall::Exit => exit(world, s, trace),
+        SystemCall::Fork => fork(world, s, trace),
+        SystemCall::OnFiles(on_files) => call_files(world, s, on_files, args, trace),
+        SystemCall::OnProcesses(on_processes) => {
+            call_processes(world, s, on_processes, args, trace)
+        }
     }
-    if number == EXIT {
-        return exit(world, s, trace);
-    }
-    if number == FORK {
-        return fork(world, s, trace);
-    }
-    if is_file_call(number) {
-        return call_files(world, s, number, args, trace);
-    }
-    call_processes(world, s, number, args, trace)
 }
 
 /// The words that the PC passes, for a call of so many arguments.
@@ -303,10 +298,14 @@ fn call<T: Trace>(world: &mut World, s: Slot, number: u8, trace: &mut T) -> Endi
     ensures rest { SameRest world.old.files.tree.nodes.blocks world.new.files.tree.nodes.blocks }
 {
     let asked = ask(&mut world.procs.images, s, number);
-    match count_of(asked.number) {
-        Some(count) => {
-            enter(&mut world.procs.images, s, words_passed(&asked, count));
-            does_call(world, s, asked.number, asked.args, trace)
+    match sysent_of(asked.number) {
+        Some(entry) => {
+            enter(
+                &mut world.procs.images,
+                s,
+                words_passed(&asked, entry.count),
+            );
+            does_call(world, s, entry.call, asked.args, trace)
         }
         None => Ending::NotBuilt,
     }

@@ -2,7 +2,7 @@ use Rattle.std.proofs.Common.{rules, ◌∙◌, refl, ap}
 use Rattle.u_area.specs.declared.area.UArea.{UArea}
 use Rattle.image_keep.specs.Kept.{Kept, image_of, with_area}
 use Rattle.sys_files.specs.Handed.{Handed, handed}
-use Rattle.abstract_unix.specs.Calls.{file_call, row_of}
+use Rattle.abstract_unix.specs.Calls.{file_row}
 use Rattle.abstract_unix.proofs.FileRows.{row_confined}
 use Rattle.unix_core.specs.declared.world.World.{World}
 use Rattle.unix_core.proofs.WorldLemmas.{sound_parts}
@@ -33,7 +33,7 @@ set_area-requires c =
     c.space-space.ensures.images c.space-space.ensures.slot in
     let back = lent_back w.procs.images c.space-space.result.images.now now c.args.s c.space-space.result.slot c.do_file_call-answer.new.space.slot _ _
     c.space-space.ensures.images c.space-space.ensures.slot c.do_file_call-answer.ensures.memory in
-    let put = area_put w c.args.s lent (λ h. row_of (file_call c.args.number) h c.args.args w.procs.table.now) (row_confined c.args.number (given w c.args.s) c.args.args w.procs.table.now c.see_count.ensures)
+    let put = area_put w c.args.s lent (λ h. file_row c.args.call h c.args.args w.procs.table.now) (row_confined c.args.call (given w c.args.s) c.args.args w.procs.table.now c.see_count.ensures)
     c.do_file_call-answer.new.files c.do_file_call-answer.new.u c.do_file_call-answer.new.row _ c.do_file_call-answer.ensures.does.state now back in
     record { image = put.0; sizes = put.1 }
 
@@ -42,7 +42,7 @@ set_row-requires-clause-pid c =
     let w : World = c.args.world.now in
     let lent = lends w c.args.s _ _ c.requires c.see_nodes.ensures c.area-u.ensures.sizes c.area-u.ensures.u c.row.ensures
     c.space-space.ensures.images c.space-space.ensures.slot in
-    (row_put w c.args.s lent (λ h. row_of (file_call c.args.number) h c.args.args w.procs.table.now) (row_confined c.args.number (given w c.args.s) c.args.args w.procs.table.now c.see_count.ensures)
+    (row_put w c.args.s lent (λ h. file_row c.args.call h c.args.args w.procs.table.now) (row_confined c.args.call (given w c.args.s) c.args.args w.procs.table.now c.see_count.ensures)
     c.do_file_call-answer.new.files c.do_file_call-answer.new.u c.do_file_call-answer.new.row _ c.do_file_call-answer.ensures.does.state).pid
 
 pub set_row-requires-clause-ppid : goal.set_row-requires-clause-ppid
@@ -50,7 +50,7 @@ set_row-requires-clause-ppid c =
     let w : World = c.args.world.now in
     let lent = lends w c.args.s _ _ c.requires c.see_nodes.ensures c.area-u.ensures.sizes c.area-u.ensures.u c.row.ensures
     c.space-space.ensures.images c.space-space.ensures.slot in
-    (row_put w c.args.s lent (λ h. row_of (file_call c.args.number) h c.args.args w.procs.table.now) (row_confined c.args.number (given w c.args.s) c.args.args w.procs.table.now c.see_count.ensures)
+    (row_put w c.args.s lent (λ h. file_row c.args.call h c.args.args w.procs.table.now) (row_confined c.args.call (given w c.args.s) c.args.args w.procs.table.now c.see_count.ensures)
     c.do_file_call-answer.new.files c.do_file_call-answer.new.u c.do_file_call-answer.new.row _ c.do_file_call-answer.ensures.does.state).ppid
 
 pub returns : goal.returns
@@ -61,7 +61,7 @@ returns c =
     c.space-space.ensures.images c.space-space.ensures.slot in
     let back = lent_back w.procs.images c.space-space.result.images.now now c.args.s c.space-space.result.slot c.do_file_call-answer.new.space.slot _ _
     c.space-space.ensures.images c.space-space.ensures.slot c.do_file_call-answer.ensures.memory in
-    let done = call_done w c.args.s lent (λ h. row_of (file_call c.args.number) h c.args.args w.procs.table.now) (row_confined c.args.number (given w c.args.s) c.args.args w.procs.table.now c.see_count.ensures)
+    let done = call_done w c.args.s lent (λ h. file_row c.args.call h c.args.args w.procs.table.now) (row_confined c.args.call (given w c.args.s) c.args.args w.procs.table.now c.see_count.ensures)
     c.clear.new.self c.do_file_call-answer.new.trace c.do_file_call-answer.new.files c.do_file_call-answer.new.u c.do_file_call-answer.new.row _ c.do_file_call-answer.ensures.does
     c.set_row.new.self c.set_area.new.self c.clear.ensures c.do_file_call-answer.ensures.frame c.see_numbers.ensures c.set_row.ensures
     (c.set_area.ensures ∙ ap (λ k. with_area k c.args.s c.do_file_call-answer.new.u) back) in

@@ -1,4 +1,4 @@
-use Rattle.std.proofs.Common.{◌∙◌, ℕ, Option, is_some, refl, sym, ap, subst}
+use Rattle.std.proofs.Common.{◌∙◌, refl, sym, ap, subst}
 use Rattle.v6_base.specs.Trace.{Took}
 use Rattle.v6_base.proofs.Took.{took_nothing}
 use Rattle.pick_rules.specs.Logged.{logged}
@@ -20,13 +20,10 @@ enter-requires g c =
     subst (λ k. HasImage k c.args.s) (sym c.ask-asked.ensures.same)
     (c.requires.good.running c.args.s c.requires.runs c.requires.user)
 
-pub does_call-requires-clause-ready : goal.does_call-requires-clause-ready
-does_call-requires-clause-ready g c =
-    entered_ready c.args.world.now c.args.s c.requires c.ask-asked.result c.in-Some.count _ _ _
+pub does_call-requires : goal.does_call-requires
+does_call-requires g c =
+    entered_ready c.args.world.now c.args.s c.requires c.ask-asked.result c.in-Some.entry _ _ _
     c.ask-asked.ensures.same c.words_passed.ensures c.enter.ensures
-
-pub does_call-requires-clause-built : goal.does_call-requires-clause-built
-does_call-requires-clause-built g c = ap (λ (o : Option ℕ). is_some o) (sym c.count_of.ensures ∙ c.in-Some.is)
 
 pub returns-in-Some-clause-come : goal.returns-in-Some-clause-come
 returns-in-Some-clause-come g c =
@@ -34,11 +31,11 @@ returns-in-Some-clause-come g c =
     let s = c.args.s in
     let a : Asked = c.ask-asked.result in
     let asks = asked_here w s c.requires c.ask-asked.ensures.text c.args.number a c.ask-asked.ensures.asked in
-    let same = entered_board w s c.requires a c.in-Some.count _ _ _ c.ask-asked.ensures.same c.words_passed.ensures
+    let same = entered_board w s c.requires a c.in-Some.entry _ _ _ c.ask-asked.ensures.same c.words_passed.ensures
     c.enter.ensures in
-    let steps = entered_call w s c.requires a c.in-Some.count _ _ _ c.ask-asked.ensures.same c.words_passed.ensures
+    let steps = entered_call w s c.requires a c.in-Some.entry _ _ _ c.ask-asked.ensures.same c.words_passed.ensures
     c.enter.ensures c.args.number asks
-    (sym c.count_of.ensures ∙ c.in-Some.is) in
+    (sym c.sysent_of.ensures ∙ c.in-Some.is) in
     subst (λ b. HasCome b (system_call c.args.number (unix_of w) s) c.does_call.result
     c.does_call.new.world) same
     (subst (λ (x : Steps). HasCome (board_in (record w { procs = record w.procs { images = c.enter.new.images } })) x
@@ -50,11 +47,11 @@ returns-in-Some-clause-items g c =
     let s = c.args.s in
     let a : Asked = c.ask-asked.result in
     let asks = asked_here w s c.requires c.ask-asked.ensures.text c.args.number a c.ask-asked.ensures.asked in
-    let same = entered_board w s c.requires a c.in-Some.count _ _ _ c.ask-asked.ensures.same c.words_passed.ensures
+    let same = entered_board w s c.requires a c.in-Some.entry _ _ _ c.ask-asked.ensures.same c.words_passed.ensures
     c.enter.ensures in
-    let steps = entered_call w s c.requires a c.in-Some.count _ _ _ c.ask-asked.ensures.same c.words_passed.ensures
+    let steps = entered_call w s c.requires a c.in-Some.entry _ _ _ c.ask-asked.ensures.same c.words_passed.ensures
     c.enter.ensures c.args.number asks
-    (sym c.count_of.ensures ∙ c.in-Some.is) in
+    (sym c.sysent_of.ensures ∙ c.in-Some.is) in
     subst (λ b. Took (g.T.Trace.taken c.args.trace.now)
     (logged b (system_call c.args.number (unix_of w) s).effects).items
     (g.T.Trace.taken c.does_call.new.trace)) same
@@ -73,7 +70,7 @@ returns-in-None-clause-come g c =
     let a : Asked = c.ask-asked.result in
     let asks = asked_here w s c.requires c.ask-asked.ensures.text c.args.number a c.ask-asked.ensures.asked in
     let steps = system_is_not c.args.number (unix_of w) s a asks
-    (sym c.count_of.ensures ∙ c.in-None.is) in
+    (sym c.sysent_of.ensures ∙ c.in-None.is) in
     subst (λ (k : Kept). HasCome (board_in w)
     (system_call c.args.number (unix_of w) s) NotBuilt (with_images w k))
     (sym c.ask-asked.ensures.same)
@@ -90,5 +87,5 @@ returns-in-None-clause-items g c =
     let a : Asked = c.ask-asked.result in
     let asks = asked_here w s c.requires c.ask-asked.ensures.text c.args.number a c.ask-asked.ensures.asked in
     let steps = system_is_not c.args.number (unix_of w) s a asks
-    (sym c.count_of.ensures ∙ c.in-None.is) in
+    (sym c.sysent_of.ensures ∙ c.in-None.is) in
     took_nothing _ _ (ap (λ (x : Steps). (logged (board_in w) x.effects).items) (sym steps))

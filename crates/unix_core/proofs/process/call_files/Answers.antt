@@ -5,7 +5,7 @@ use Rattle.pick_rules.specs.Table.{IsTable}
 use Rattle.sys_files.specs.Did.{Did}
 use Rattle.unix_core.specs.declared.world.World.{World}
 use Rattle.abstract_unix.specs.Unix.{process_of}
-use Rattle.abstract_unix.specs.Calls.{answers, file_call, handed_of, row_of}
+use Rattle.abstract_unix.specs.Calls.{answers, handed_of, file_row}
 use Rattle.unix_core.specs.Parts.{unix_of, board_in, IsReady}
 use Rattle.unix_core.proofs.ShowingLemmas.{woken_ready, shown_come, shown_took}
 use Rattle.unix_core.proofs.process.call_files.Goals as goal
@@ -29,7 +29,7 @@ returns-clause-come g c =
     let w : World = c.args.world.now in
     let s = c.args.s in
     let done : World = c.do_on_files-answer.new.world in
-    let did : Did = row_of (file_call c.args.number) (handed_of (unix_of w) (process_of (unix_of w) s)) c.args.args w.procs.table.now in
+    let did : Did = file_row c.args.call (handed_of (unix_of w) (process_of (unix_of w) s)) c.args.args w.procs.table.now in
     let table = c.pass_on.ensures.table in
     let answer = c.do_on_files-answer.ensures.answer in
     shown_come w done c.conclude.new.world s did c.conclude.result c.do_on_files-answer.ensures.shown c.do_on_files-answer.ensures.unix
@@ -40,7 +40,7 @@ returns-clause-come g c =
 pub returns-clause-items : goal.returns-clause-items
 returns-clause-items g c =
     let w : World = c.args.world.now in
-    let did : Did = row_of (file_call c.args.number) (handed_of (unix_of w) (process_of (unix_of w) c.args.s)) c.args.args w.procs.table.now in
+    let did : Did = file_row c.args.call (handed_of (unix_of w) (process_of (unix_of w) c.args.s)) c.args.args w.procs.table.now in
     shown_took w c.do_on_files-answer.new.world c.args.s did.items _ _ c.do_on_files-answer.ensures.shown c.pass_on.ensures.items
 
 pub returns-clause-rest : goal.returns-clause-rest

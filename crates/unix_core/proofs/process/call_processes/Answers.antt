@@ -7,18 +7,19 @@ use Rattle.pick_rules.specs.Logged.{logged}
 use Rattle.sys_procs.specs.Comes.{Comes}
 use Rattle.sys_procs.specs.Handed.{AreProcs}
 use Rattle.unix_core.specs.declared.world.World.{World}
-use Rattle.abstract_unix.specs.Calls.{came_by, process_call, process_row_of}
+use Rattle.abstract_unix.specs.declared.calls.ProcessCall.{ProcessCall}
+use Rattle.abstract_unix.specs.Calls.{came_by, process_row}
 use Rattle.unix_core.specs.Parts.{unix_of, board_in, HasCome, IsReady}
 use Rattle.unix_core.proofs.CameLemmas.{IsTame, after, beside, world_is, ready_calls, over_then, call_took, call_stops, call_ready, call_come}
 use Rattle.unix_core.proofs.ForkSlots.{given}
 use Rattle.unix_core.proofs.TameRows.{tame_row}
 use Rattle.unix_core.proofs.process.call_processes.Goals as goal
 
-abbrev row : World → ℕ → ℕ → List ℕ → Comes
-row w number s args = process_row_of (process_call number) (given w) s args
+abbrev row : World → ProcessCall → ℕ → List ℕ → Comes
+row w call s args = process_row call (given w) s args
 
-tame : (w : World) (number s : ℕ) (args : List ℕ) → IsReady w s → IsTame w (row w number s args)
-tame w number s args ready = tame_row w s ready number args
+tame : (w : World) (call : ProcessCall) (s : ℕ) (args : List ℕ) → IsReady w s → IsTame w (row w call s args)
+tame w call s args ready = tame_row w s ready call args
 
 pub do_process_call-requires : goal.do_process_call-requires
 do_process_call-requires g c = ready_calls c.args.world.now c.args.s c.requires c.see_table.ensures
@@ -27,8 +28,8 @@ pub conclude-requires : goal.conclude-requires
 conclude-requires g c =
     let w : World = c.args.world.now in
     let e = c.do_process_call.ensures in
-    call_ready w (after w c.do_process_call.new.tree c.do_process_call.new.p) c.args.s (row w c.args.number c.args.s c.args.args)
-    (tame w c.args.number c.args.s c.args.args c.requires) (beside w c.do_process_call.new.tree c.do_process_call.new.p e.marks) e.does
+    call_ready w (after w c.do_process_call.new.tree c.do_process_call.new.p) c.args.s (row w c.args.call c.args.s c.args.args)
+    (tame w c.args.call c.args.s c.args.args c.requires) (beside w c.do_process_call.new.tree c.do_process_call.new.p e.marks) e.does
     c.in-Ok.answer c.in-Ok.is c.requires
     (IfOk-at_ok (λ (a : Answer). AreProcs c.do_process_call.new.p) c.in-Ok.is e.agree) c.see_images.ensures
 
@@ -37,10 +38,10 @@ returns-in-Ok-clause-come g c =
     let w : World = c.args.world.now in
     let s = c.args.s in
     let e = c.do_process_call.ensures in
-    subst (λ x. HasCome (board_in w) (came_by (unix_of w) s (process_row_of (process_call c.args.number) x s c.args.args)) c.conclude.result c.conclude.new.world)
+    subst (λ x. HasCome (board_in w) (came_by (unix_of w) s (process_row c.args.call x s c.args.args)) c.conclude.result c.conclude.new.world)
     (world_is w s c.requires c.see_nodes.ensures)
-    (call_come w (after w c.do_process_call.new.tree c.do_process_call.new.p) s (row w c.args.number s c.args.args)
-    (tame w c.args.number s c.args.args c.requires) (beside w c.do_process_call.new.tree c.do_process_call.new.p e.marks) e.does
+    (call_come w (after w c.do_process_call.new.tree c.do_process_call.new.p) s (row w c.args.call s c.args.args)
+    (tame w c.args.call s c.args.args c.requires) (beside w c.do_process_call.new.tree c.do_process_call.new.p e.marks) e.does
     c.in-Ok.answer c.in-Ok.is c.conclude.new.world c.conclude.result c.conclude.ensures.ending c.conclude.ensures.unix c.conclude.ensures.board)
 
 pub returns-in-Ok-clause-items : goal.returns-in-Ok-clause-items
@@ -48,11 +49,11 @@ returns-in-Ok-clause-items g c =
     let w : World = c.args.world.now in
     let s = c.args.s in
     let e = c.do_process_call.ensures in
-    subst (λ x. Took (g.T.Trace.taken c.args.trace.now) (logged (board_in w) (came_by (unix_of w) s (process_row_of (process_call c.args.number) x s c.args.args)).effects).items
+    subst (λ x. Took (g.T.Trace.taken c.args.trace.now) (logged (board_in w) (came_by (unix_of w) s (process_row c.args.call x s c.args.args)).effects).items
     (g.T.Trace.taken c.do_process_call.new.trace))
     (world_is w s c.requires c.see_nodes.ensures)
-    (call_took w (after w c.do_process_call.new.tree c.do_process_call.new.p) s (row w c.args.number s c.args.args)
-    (tame w c.args.number s c.args.args c.requires) (beside w c.do_process_call.new.tree c.do_process_call.new.p e.marks) e.does)
+    (call_took w (after w c.do_process_call.new.tree c.do_process_call.new.p) s (row w c.args.call s c.args.args)
+    (tame w c.args.call s c.args.args c.requires) (beside w c.do_process_call.new.tree c.do_process_call.new.p e.marks) e.does)
 
 pub returns-in-Ok-clause-rest : goal.returns-in-Ok-clause-rest
 returns-in-Ok-clause-rest g c =
@@ -63,11 +64,11 @@ returns-in-Err-clause-come g c =
     let w : World = c.args.world.now in
     let s = c.args.s in
     let e = c.do_process_call.ensures in
-    subst (λ x. HasCome (board_in w) (came_by (unix_of w) s (process_row_of (process_call c.args.number) x s c.args.args)) c.unmet_as.result
+    subst (λ x. HasCome (board_in w) (came_by (unix_of w) s (process_row c.args.call x s c.args.args)) c.unmet_as.result
     (after w c.do_process_call.new.tree c.do_process_call.new.p))
     (world_is w s c.requires c.see_nodes.ensures)
-    (call_stops w (after w c.do_process_call.new.tree c.do_process_call.new.p) s (row w c.args.number s c.args.args)
-    (tame w c.args.number s c.args.args c.requires) (beside w c.do_process_call.new.tree c.do_process_call.new.p e.marks) e.does
+    (call_stops w (after w c.do_process_call.new.tree c.do_process_call.new.p) s (row w c.args.call s c.args.args)
+    (tame w c.args.call s c.args.args c.requires) (beside w c.do_process_call.new.tree c.do_process_call.new.p e.marks) e.does
     c.in-Err.kind c.unmet_as.result c.in-Err.is c.unmet_as.ensures)
 
 pub returns-in-Err-clause-ready : goal.returns-in-Err-clause-ready
@@ -78,8 +79,8 @@ returns-in-Err-clause-items g c =
     let w : World = c.args.world.now in
     let s = c.args.s in
     let e = c.do_process_call.ensures in
-    subst (λ x. Took (g.T.Trace.taken c.args.trace.now) (logged (board_in w) (came_by (unix_of w) s (process_row_of (process_call c.args.number) x s c.args.args)).effects).items
+    subst (λ x. Took (g.T.Trace.taken c.args.trace.now) (logged (board_in w) (came_by (unix_of w) s (process_row c.args.call x s c.args.args)).effects).items
     (g.T.Trace.taken c.do_process_call.new.trace))
     (world_is w s c.requires c.see_nodes.ensures)
-    (call_took w (after w c.do_process_call.new.tree c.do_process_call.new.p) s (row w c.args.number s c.args.args)
-    (tame w c.args.number s c.args.args c.requires) (beside w c.do_process_call.new.tree c.do_process_call.new.p e.marks) e.does)
+    (call_took w (after w c.do_process_call.new.tree c.do_process_call.new.p) s (row w c.args.call s c.args.args)
+    (tame w c.args.call s c.args.args c.requires) (beside w c.do_process_call.new.tree c.do_process_call.new.p e.marks) e.does)

@@ -1,4 +1,4 @@
-use Rattle.std.proofs.Common.{◌≡◌, ◌∙◌, ℕ, Some, None, sym, subst}
+use Rattle.std.proofs.Common.{◌≡◌, ◌∙◌, ℕ, Some, None, refl, sym, subst}
 use Rattle.std.specs.Prelude.{Result, Err}
 use Rattle.v6_base.specs.Trace.{Took}
 use Rattle.v6_base.specs.declared.answer.Answer.{Answer}
@@ -8,12 +8,14 @@ use Rattle.pick_rules.specs.Logged.{logged}
 use Rattle.sys_procs.specs.Comes.{Comes}
 use Rattle.sys_procs.specs.Agree.{answered}
 use Rattle.sys_procs.specs.Handed.{came}
-use Rattle.sys_procs.specs.Resume.{resume_proc}
+use Rattle.sys_procs.specs.World.{change}
+use Rattle.sys_procs.specs.Resume.{awake, resume_proc}
 use Rattle.unix_core.specs.declared.world.World.{World}
 use Rattle.abstract_unix.specs.Calls.{came_by}
 use Rattle.unix_core.specs.Parts.{unix_of, board_in, HasCome, IsReady}
-use Rattle.unix_core.proofs.MildLemmas.{IsMild}
-use Rattle.unix_core.proofs.MildRows.{mild_resume}
+use Rattle.unix_core.proofs.MildLemmas.{IsMild, near_change}
+use Rattle.abstract_unix.proofs.ProcessRows.{resume_plain}
+use Rattle.unix_core.proofs.MildRows.{mild_plain}
 use Rattle.unix_core.proofs.CameLemmas.{IsTame, mild_tame, mild_goes, near_here, after, beside, world_is, ready_calls, stops, call_took, call_ready, call_come}
 use Rattle.unix_core.proofs.ForkSlots.{given}
 use Rattle.unix_core.proofs.process.go_on_waiting.Goals as goal
@@ -22,7 +24,9 @@ abbrev row : World → ℕ → Comes
 row w s = resume_proc (given w) s
 
 mild : (w : World) (s : ℕ) → IsReady w s → IsMild (given w) (row w s)
-mild w s ready = mild_resume (given w) s (near_here w s ready)
+mild w s ready =
+    mild_plain (given w) s (change (given w) s awake) (row w s) (resume_plain s (given w))
+    (near_change (given w) (given w) s awake (near_here w s ready) (refl, (refl, refl)))
 
 tame : (w : World) (s : ℕ) → IsReady w s → IsTame w (row w s)
 tame w s ready = mild_tame w (row w s) (mild w s ready)
