@@ -218,20 +218,35 @@ class Compiled(Program):
         """Each call of section II that is built, in a new machine: process 2, of user 0, in the root."""
         self.body("int status, modes[3], old; char bytes[8]; struct stat s; unsigned char *end; char clock[12];\n"
                   'old = creat("f", 0644); printf("%d ", write(old, "abcdef", 6)); printf("%d ", close(old));\n'
-                  'old = open("f", 0); printf("%d ", seek(old, 2, 0)); printf("%d ", read(old, bytes, 3)); printf("%c ", bytes[0]);\n'
+                  'old = open("f", 0); printf("%d ", seek(old, 2, 0)); printf("%d ", read(old, bytes, 3)); '
+                  'printf("%c ", bytes[0]);\n'
                   'status = dup(old); printf("%d ", read(status, bytes, 8)); close(status); close(old);\n'
-                  'printf("%d ", link("f", "g")); printf("%d ", stat("g", &s)); printf("%d %d %o ", s.links, s.size_low, s.mode & 0777);\n'
-                  'printf("%d ", chmod("f", 0600)); printf("%d ", chown("f", 3)); stat("f", &s); printf("%d %o ", s.owner, s.mode & 0777);\n'
+                  'printf("%d ", link("f", "g")); printf("%d ", stat("g", &s)); '
+                  'printf("%d %d %o ", s.links, s.size_low, s.mode & 0777);\n'
+                  'printf("%d ", chmod("f", 0600)); printf("%d ", chown("f", 3)); stat("f", &s); '
+                  'printf("%d %o ", s.owner, s.mode & 0777);\n'
                   'printf("%d ", unlink("g")); printf("%d ", stat("g", &s)); printf("%d\\n", errno);\n'
                   'printf("%d ", mknod("d", 040777, 0)); printf("%d ", chdir("d")); printf("%d ", chdir("/none"));\n'
                   'printf("%d %d %d %d ", getpid(), getuid(), getgid(), csw()); nice(0); sync(); fstat(1, &s);\n'
                   'printf("%o ", s.mode & 060000); printf("%d ", gtty(1, modes)); printf("%d ", stty(1, modes));\n'
-                  'printf("%d ", stime(70000L)); printf("%ld ", time()); printf("%d ", times(clock)); end = sbrk(10); *end = 1;\n'
+                  'printf("%d ", stime(70000L)); printf("%ld ", time()); '
+                  'printf("%d ", times(clock)); end = sbrk(10); *end = 1;\n'
                   'printf("%d ", (int)((unsigned char *)sbrk(0) - end)); printf("%d\\n", brk(end)); fflush(stdout);\n'
                   'if (fork() == 0) exit(3); printf("%d ", wait(&status)); printf("%o\\n", status);\n'
                   'setgid(4); setuid(5); fflush(stdout);\n'
-                  'if (fork() == 0) { execl("/bin/none", "none", 0); printf("%d ", errno); exit(0); } wait(0); printf("%d\\n", setuid(0));',
+                  'if (fork() == 0) { execl("/bin/none", "none", 0); printf("%d ", errno); exit(0); } wait(0); '
+                  'printf("%d\\n", setuid(0));',
                   "6 0 0 3 c 1 0 0 2 6 644 0 0 3 600 0 -1 2\n0 0 -1 2 0 0 0 20000 0 0 0 70000 0 10 0\n3 1400\n2 -1\n")
+
+    def test_headers(self):
+        """All headers together, and the sizes of their types."""
+        names = sorted(os.listdir(os.path.join(TOOLS, "c", "include")))
+        self.assertEqual(len(names), 11)
+        source = "".join(f"#include <{name}>\n#include <{name}>\n" for name in names)
+        self.prints(source + "bool more(int n) { return n; }\nstruct two { char c; long l; };\n"
+                    'int main(void) { printf("%d %d %d %d %d %d %d %u\\n", more(256), sizeof(int8_t), sizeof(uint16_t), '
+                    "sizeof(int32_t), sizeof(size_t), sizeof(struct stat), offsetof(struct two, l), UINT_MAX);\n"
+                    'printf("%d\\n", true + (bool)0x100 + !false); return 0; }\n', "1 1 2 4 2 36 2 65535\n3\n")
 
     def test_wrong(self):
         """What the compiler refuses is told, and no program is written."""
