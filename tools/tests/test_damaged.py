@@ -41,7 +41,7 @@ class Damaged(Disks):
             os.symlink(os.path.join(TOP, name), self.path(name))
         lines = page.split("\n")
         commands = [line[2:] for line in lines if line.startswith("$ ")]
-        script = "".join(f"echo '$ '{shlex.quote(line)}\n{line} || :\n" for line in commands)
+        script = "".join(f"printf '$ %s\\n' {shlex.quote(line)}\n{line} || :\n" for line in commands)
         done = subprocess.run(["sh", "-c", script], cwd=self.folder, stdout=subprocess.PIPE, stderr=subprocess.STDOUT, text=True,
                               env={**os.environ, "V6": V6})
         self.assertEqual(done.stdout, page)
