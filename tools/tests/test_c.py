@@ -52,6 +52,14 @@ class WithoutCompiler(Program):
         wrong = self.put("it.s", MAIN.encode() + b"\tjsr\tpc,_none\n\tmov\tr9,r0\n")
         self.assertEqual(self.call(cc.main, "--compiler", TOP, "-o", self.path("it"), wrong)[0], 1)
 
+    def test_another_archive(self):
+        """build.sh builds of the archive alone whose sum it knows."""
+        wrong, folder = self.put("pcc.tar.gz", b"no archive"), self.path("made")
+        done = subprocess.run([os.path.join(TOOLS, "c", "build.sh"), "-a", wrong, folder], capture_output=True, text=True)
+        self.assertNotEqual(done.returncode, 0)
+        self.assertIn("pcc.tar.gz: FAILED", done.stdout)
+        self.assertEqual(os.listdir(self.folder), ["pcc.tar.gz"])
+
     def test_arguments_and_status(self):
         """main has their number and their addresses, and what it gives is the status."""
         program = self.assembled(MAIN + "\tmov\t4(sp),r1\n\tmov\t2(r1),r1\n\tmovb\t(r1),r0\n\tadd\t2(sp),r0\n\trts\tpc\n")
@@ -66,8 +74,8 @@ class WithoutCompiler(Program):
         """The product, the quotients and the remainders of longs, and those of words without a sign, are the rules' of C."""
         edges, rows = [0, 1, 2, 3, 10, 0x7FFF, 0x8000, 0xFFFF, 0x10000, 0x7FFFFFFF, 0x80000000, 0xFFFFFFFF], []
         made = random.Random(self.id())
-        pairs = [(a, b) for a in edges for b in edges if b] + [(made.getrandbits(32), made.getrandbits(made.randrange(1, 33)) or 1)
-                                                              for _ in range(150)]
+        pairs = [(a, b) for a in edges for b in edges if b]
+        pairs += [(made.getrandbits(32), made.getrandbits(made.randrange(1, 33)) or 1) for _ in range(150)]
         source = [MAIN, "\tmov\t$table,r2\n1:\n\tcmp\tr2,$last\n\tbhis\t2f\n\tmov\t14(r2),-(sp)\n\tmov\t12(r2),-(sp)\n"
                   "\tmov\t10(r2),-(sp)\n\tmov\t6(r2),-(sp)\n\tmov\t14(r2),r1\n\tmov\t10(r2),r0\n\tjsr\tpc,*(r2)\n"
                   "\tadd\t$10,sp\n\tcmp\tr0,2(r2)\n\tbne\t3f\n\ttst\t16(r2)\n\tbne\t4f\n\tcmp\tr1,4(r2)\n\tbne\t3f\n4:\n"
@@ -103,8 +111,8 @@ class Examples(Program):
 
     def test_grep(self):
         lines = self.TEXT.splitlines(True)
-        for pattern, wanted in (("the", [0, 2, 5]), ("^[0-9][0-9]* ", [3, 4]), ("d$", [5]), ("o.*o", [0]), ("^.[^a-h]", [1, 3, 4]),
-                                ("x*y", [2]), ("\\.", [])):
+        for pattern, wanted in (("the", [0, 2, 5]), ("^[0-9][0-9]* ", [3, 4]), ("d$", [5]), ("o.*o", [0]),
+                                ("^.[^a-h]", [1, 3, 4]), ("x*y", [2]), ("\\.", [])):
             self.assertEqual(self.example("grep", pattern, "text"), (int(not wanted), "".join(lines[at] for at in wanted), ""))
         self.assertEqual(self.example("grep", "-v", "-n", "e", "text"), (1, "", ""))
         self.assertEqual(self.example("grep", "-c", "the", "text", "text"), (0, "text:3\ntext:3\n", ""))
@@ -127,7 +135,8 @@ class Examples(Program):
         """Put on the shell's disk, they run there as its own commands do, also with 1200 clicks of core."""
         image = self.put("image", read(os.path.join(TOP, "examples", "shell", "image")))
         for name in ("sort", "grep"):
-            self.assertEqual(self.call(disk_main, "--v6", V6, "put", image, os.path.join(EXAMPLE, "bin", name), "/bin"), (0, "", ""))
+            program = os.path.join(EXAMPLE, "bin", name)
+            self.assertEqual(self.call(disk_main, "--v6", V6, "put", image, program, "/bin"), (0, "", ""))
         script = self.put("script", b"run 9000\ntype sort </usr/sys/ken/slp.c >/t\nrun 20000\ntype grep -n sory /t\nrun 20000\n"
                           b"type grep -c t. /t\nrun 20000\n")
         for core in ("1200", "3968"):
@@ -167,8 +176,8 @@ class Compiled(Program):
 
     def test_statements(self):
         self.prints(read(os.path.join(TOP, "tools", "tests", "statements.c")).decode(),
-                    "37 two wxyz 4\n2 3 3\nBA\n1 22 200 2\n7 -1 6\n3628800 479001600\n11\n25 1 2 3 -1\n63\nhell0, w0rld\n3\n1 1 1\n"
-                    "11\n1 2 0\n14 4\n5 5\nyes\n2\n9\nffff 177777 65535\n7\ndeadbee adbeef00 390178\n-142857 -1 -125000\n")
+                    "37 two wxyz 4\n2 3 3\nBA\n1 22 200 2\n7 -1 6\n3628800 479001600\n11\n25 1 2 3 -1\n63\nhell0, w0rld\n3\n"
+                    "1 1 1\n11\n1 2 0\n14 4\n5 5\nyes\n2\n9\nffff 177777 65535\n7\ndeadbee adbeef00 390178\n-142857 -1 -125000\n")
 
     def test_printf(self):
         """The diagnostic output has no buffer, so it comes first."""
@@ -283,7 +292,7 @@ class Compiled(Program):
 
     def test_names_of_files(self):
         """Two files have static names and labels of their own, and share what is global."""
-        one = self.put("-one.c", b"static int n = 1; int shared; int other(void); int main(void) { shared = n; return other(); }\n")
+        one = self.put("one.c", b"static int n = 1; int shared, other(void); int main(void) { shared = n; return other(); }\n")
         two = self.put("two.c", b"static int n = 5; extern int shared; int other(void) { return shared + n; }\n")
         self.assertEqual(self.call(cc.main, "-o", self.path("it"), one, two), (0, "", ""))
         self.assertEqual(self.run_it(self.path("it")), (6, "", ""))
