@@ -150,6 +150,8 @@ class Examples(Program):
         page = read(os.path.join(EXAMPLE, "README.md")).decode()
         self.assertEqual((done.returncode, done.stderr), (0, ""))
         self.assertIn(f"```\n{done.stdout}```\n", page)
+        for name in ("forth", "grep", "sort", "wc"):
+            self.assertRegex(page, rf"\| `{name}.*\| {os.path.getsize(os.path.join(EXAMPLE, 'bin', name)):,} \|\n")
 
     @wants_compiler
     def test_built(self):
@@ -200,9 +202,9 @@ class Compiled(Program):
     def test_room(self):
         """Pieces of memory don't overlap, keep their bytes, and come back; too much is refused."""
         self.body("char *kept[40]; int at, round, size, bad = 0; unsigned sizes[40];\nmemset(kept, 0, sizeof kept);\n"
-                  "for (round = 0; round < 400; round++) {\nat = rand() % 40;\nif (kept[at]) {\n"
+                  "for (round = 0; round < 1500; round++) {\nat = rand() % 40;\nif (kept[at]) {\n"
                   "for (size = 0; size < sizes[at]; size++) if (kept[at][size] != (char)at) bad++;\nfree(kept[at]); kept[at] = 0;\n"
-                  "} else {\nsizes[at] = rand() % 300; kept[at] = malloc(sizes[at]); memset(kept[at], at, sizes[at]);\n}\n}\n"
+                  "} else {\nsizes[at] = rand() % 24; kept[at] = malloc(sizes[at]); memset(kept[at], at, sizes[at]);\n}\n}\n"
                   'printf("%d %d %d\\n", bad, malloc(65000u) == NULL, malloc(40000u) != NULL);', "0 1 1\n")
 
     def test_qsort(self):
@@ -218,10 +220,11 @@ class Compiled(Program):
     def test_files(self):
         self.body('FILE *file = fopen("new", "w"); int c; char line[20];\nfputs("first\\nsecond", file); fclose(file);\n'
                   'file = fopen("new", "a"); for (c = 0; c < 600; c++) putc(46, file); putc(10, file); fclose(file);\n'
+                  'file = fopen("new", "a"); fputs("end", file); fclose(file);\n'
                   'file = fopen("new", "r"); c = getc(file); ungetc(c, file); while (fgets(line, 20, file) && line[0] != 46)\n'
                   'printf("%s", line); putchar(10); fclose(file);\n'
                   'struct stat s; printf("%d %u %d\\n", stat("new", &s), s.size_low, fopen("none", "r") == NULL);\n'
-                  'while ((c = getchar()) != EOF) putchar(c + 1);', "first\nsecond.............\n0 613 1\nbc", typed=b"ab")
+                  'while ((c = getchar()) != EOF) putchar(c + 1);', "first\nsecond.............\n0 616 1\nbc", typed=b"ab")
 
     def test_calls(self):
         """Each call of section II that is built, in a new machine: process 2, of user 0, in the root."""
@@ -293,9 +296,19 @@ class Compiled(Program):
     def test_names_of_files(self):
         """Two files have static names and labels of their own, and share what is global."""
         one = self.put("one.c", b"static int n = 1; int shared, other(void); int main(void) { shared = n; return other(); }\n")
-        two = self.put("two.c", b"static int n = 5; extern int shared; int other(void) { return shared + n; }\n")
+        two = self.put("two.c", b"static char odd[3]; static int m, n = 5; extern int shared;\n"
+                       b"int other(void) { m++; return shared + n + m + odd[2]; }\n")
         self.assertEqual(self.call(cc.main, "-o", self.path("it"), one, two), (0, "", ""))
-        self.assertEqual(self.run_it(self.path("it")), (6, "", ""))
+        self.assertEqual(self.run_it(self.path("it")), (7, "", ""))
+
+    def test_a_prompt(self):
+        """What was printed is shown before the standard input is read."""
+        self.made('#include <stdio.h>\nint main(void) { printf("? "); printf("%c\\n", getchar()); return 0; }\n')
+        image = self.put("image", read(os.path.join(TOP, "examples", "shell", "image")))
+        self.assertEqual(self.call(disk_main, "--v6", V6, "put", image, self.path("it"), "/bin"), (0, "", ""))
+        script = self.put("script", b"run 9000\ntype it\nrun 20000\ntype x\nrun 20000\n")
+        self.assertEqual(v6("run", image, "3968", script, *map(self.path, ("term", "log", "final")))[0], 0)
+        self.assertEqual(read(self.path("term")), b"# IT\r\n? X\r\nX\r\n# ")
 
 
 if __name__ == "__main__":
