@@ -24,6 +24,9 @@ if [ -z "$archive" ]; then
     apt-get source --download-only "pcc=$version-1" || true   # of the package's files only this one is wanted
 fi
 echo "$sum  $archive" | sha256sum -c -
+for tool in make patch cc bison flex; do
+    command -v $tool >/dev/null || { echo "build.sh: $tool is wanted" >&2; exit 1; }
+done
 tar xzf "$archive"
 cd pcc-*
 patch -s -p1 <"$here/pcc.patch"

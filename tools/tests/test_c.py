@@ -52,6 +52,14 @@ class WithoutCompiler(Program):
         wrong = self.put("it.s", MAIN.encode() + b"\tjsr\tpc,_none\n\tmov\tr9,r0\n")
         self.assertEqual(self.call(cc.main, "--compiler", TOP, "-o", self.path("it"), wrong)[0], 1)
 
+    def test_another_archive(self):
+        """build.sh builds of the archive alone whose sum it knows."""
+        wrong, folder = self.put("pcc.tar.gz", b"no archive"), self.path("made")
+        done = subprocess.run([os.path.join(TOOLS, "c", "build.sh"), "-a", wrong, folder], capture_output=True, text=True)
+        self.assertNotEqual(done.returncode, 0)
+        self.assertIn("pcc.tar.gz: FAILED", done.stdout)
+        self.assertEqual(os.listdir(self.folder), ["pcc.tar.gz"])
+
     def test_arguments_and_status(self):
         """main has their number and their addresses, and what it gives is the status."""
         program = self.assembled(MAIN + "\tmov\t4(sp),r1\n\tmov\t2(r1),r1\n\tmovb\t(r1),r0\n\tadd\t2(sp),r0\n\trts\tpc\n")
@@ -66,8 +74,8 @@ class WithoutCompiler(Program):
         """The product, the quotients and the remainders of longs, and those of words without a sign, are the rules' of C."""
         edges, rows = [0, 1, 2, 3, 10, 0x7FFF, 0x8000, 0xFFFF, 0x10000, 0x7FFFFFFF, 0x80000000, 0xFFFFFFFF], []
         made = random.Random(self.id())
-        pairs = [(a, b) for a in edges for b in edges if b] + [(made.getrandbits(32), made.getrandbits(made.randrange(1, 33)) or 1)
-                                                              for _ in range(150)]
+        pairs = [(a, b) for a in edges for b in edges if b]
+        pairs += [(made.getrandbits(32), made.getrandbits(made.randrange(1, 33)) or 1) for _ in range(150)]
         source = [MAIN, "\tmov\t$table,r2\n1:\n\tcmp\tr2,$last\n\tbhis\t2f\n\tmov\t14(r2),-(sp)\n\tmov\t12(r2),-(sp)\n"
                   "\tmov\t10(r2),-(sp)\n\tmov\t6(r2),-(sp)\n\tmov\t14(r2),r1\n\tmov\t10(r2),r0\n\tjsr\tpc,*(r2)\n"
                   "\tadd\t$10,sp\n\tcmp\tr0,2(r2)\n\tbne\t3f\n\ttst\t16(r2)\n\tbne\t4f\n\tcmp\tr1,4(r2)\n\tbne\t3f\n4:\n"
@@ -103,8 +111,8 @@ class Examples(Program):
 
     def test_grep(self):
         lines = self.TEXT.splitlines(True)
-        for pattern, wanted in (("the", [0, 2, 5]), ("^[0-9][0-9]* ", [3, 4]), ("d$", [5]), ("o.*o", [0]), ("^.[^a-h]", [1, 3, 4]),
-                                ("x*y", [2]), ("\\.", [])):
+        for pattern, wanted in (("the", [0, 2, 5]), ("^[0-9][0-9]* ", [3, 4]), ("d$", [5]), ("o.*o", [0]),
+                                ("^.[^a-h]", [1, 3, 4]), ("x*y", [2]), ("\\.", [])):
             self.assertEqual(self.example("grep", pattern, "text"), (int(not wanted), "".join(lines[at] for at in wanted), ""))
         self.assertEqual(self.example("grep", "-v", "-n", "e", "text"), (1, "", ""))
         self.assertEqual(self.example("grep", "-c", "the", "text", "text"), (0, "text:3\ntext:3\n", ""))
@@ -127,7 +135,8 @@ class Examples(Program):
         """Put on the shell's disk, they run there as its own commands do, also with 1200 clicks of core."""
         image = self.put("image", read(os.path.join(TOP, "examples", "shell", "image")))
         for name in ("sort", "grep"):
-            self.assertEqual(self.call(disk_main, "--v6", V6, "put", image, os.path.join(EXAMPLE, "bin", name), "/bin"), (0, "", ""))
+            program = os.path.join(EXAMPLE, "bin", name)
+            self.assertEqual(self.call(disk_main, "--v6", V6, "put", image, program, "/bin"), (0, "", ""))
         script = self.put("script", b"run 9000\ntype sort </usr/sys/ken/slp.c >/t\nrun 20000\ntype grep -n sory /t\nrun 20000\n"
                           b"type grep -c t. /t\nrun 20000\n")
         for core in ("1200", "3968"):
@@ -141,6 +150,8 @@ class Examples(Program):
         page = read(os.path.join(EXAMPLE, "README.md")).decode()
         self.assertEqual((done.returncode, done.stderr), (0, ""))
         self.assertIn(f"```\n{done.stdout}```\n", page)
+        for name in ("forth", "grep", "sort", "wc"):
+            self.assertRegex(page, rf"\| `{name}.*\| {os.path.getsize(os.path.join(EXAMPLE, 'bin', name)):,} \|\n")
 
     @wants_compiler
     def test_built(self):
@@ -167,8 +178,8 @@ class Compiled(Program):
 
     def test_statements(self):
         self.prints(read(os.path.join(TOP, "tools", "tests", "statements.c")).decode(),
-                    "37 two wxyz 4\n2 3 3\nBA\n1 22 200 2\n7 -1 6\n3628800 479001600\n11\n25 1 2 3 -1\n63\nhell0, w0rld\n3\n1 1 1\n"
-                    "11\n1 2 0\n14 4\n5 5\nyes\n2\n9\nffff 177777 65535\n7\ndeadbee adbeef00 390178\n-142857 -1 -125000\n")
+                    "37 two wxyz 4\n2 3 3\nBA\n1 22 200 2\n7 -1 6\n3628800 479001600\n11\n25 1 2 3 -1\n63\nhell0, w0rld\n3\n"
+                    "1 1 1\n11\n1 2 0\n14 4\n5 5\nyes\n2\n9\nffff 177777 65535\n7\ndeadbee adbeef00 390178\n-142857 -1 -125000\n")
 
     def test_printf(self):
         """The diagnostic output has no buffer, so it comes first."""
@@ -191,9 +202,9 @@ class Compiled(Program):
     def test_room(self):
         """Pieces of memory don't overlap, keep their bytes, and come back; too much is refused."""
         self.body("char *kept[40]; int at, round, size, bad = 0; unsigned sizes[40];\nmemset(kept, 0, sizeof kept);\n"
-                  "for (round = 0; round < 400; round++) {\nat = rand() % 40;\nif (kept[at]) {\n"
+                  "for (round = 0; round < 1500; round++) {\nat = rand() % 40;\nif (kept[at]) {\n"
                   "for (size = 0; size < sizes[at]; size++) if (kept[at][size] != (char)at) bad++;\nfree(kept[at]); kept[at] = 0;\n"
-                  "} else {\nsizes[at] = rand() % 300; kept[at] = malloc(sizes[at]); memset(kept[at], at, sizes[at]);\n}\n}\n"
+                  "} else {\nsizes[at] = rand() % 24; kept[at] = malloc(sizes[at]); memset(kept[at], at, sizes[at]);\n}\n}\n"
                   'printf("%d %d %d\\n", bad, malloc(65000u) == NULL, malloc(40000u) != NULL);', "0 1 1\n")
 
     def test_qsort(self):
@@ -209,29 +220,45 @@ class Compiled(Program):
     def test_files(self):
         self.body('FILE *file = fopen("new", "w"); int c; char line[20];\nfputs("first\\nsecond", file); fclose(file);\n'
                   'file = fopen("new", "a"); for (c = 0; c < 600; c++) putc(46, file); putc(10, file); fclose(file);\n'
+                  'file = fopen("new", "a"); fputs("end", file); fclose(file);\n'
                   'file = fopen("new", "r"); c = getc(file); ungetc(c, file); while (fgets(line, 20, file) && line[0] != 46)\n'
                   'printf("%s", line); putchar(10); fclose(file);\n'
                   'struct stat s; printf("%d %u %d\\n", stat("new", &s), s.size_low, fopen("none", "r") == NULL);\n'
-                  'while ((c = getchar()) != EOF) putchar(c + 1);', "first\nsecond.............\n0 613 1\nbc", typed=b"ab")
+                  'while ((c = getchar()) != EOF) putchar(c + 1);', "first\nsecond.............\n0 616 1\nbc", typed=b"ab")
 
     def test_calls(self):
         """Each call of section II that is built, in a new machine: process 2, of user 0, in the root."""
         self.body("int status, modes[3], old; char bytes[8]; struct stat s; unsigned char *end; char clock[12];\n"
                   'old = creat("f", 0644); printf("%d ", write(old, "abcdef", 6)); printf("%d ", close(old));\n'
-                  'old = open("f", 0); printf("%d ", seek(old, 2, 0)); printf("%d ", read(old, bytes, 3)); printf("%c ", bytes[0]);\n'
+                  'old = open("f", 0); printf("%d ", seek(old, 2, 0)); printf("%d ", read(old, bytes, 3)); '
+                  'printf("%c ", bytes[0]);\n'
                   'status = dup(old); printf("%d ", read(status, bytes, 8)); close(status); close(old);\n'
-                  'printf("%d ", link("f", "g")); printf("%d ", stat("g", &s)); printf("%d %d %o ", s.links, s.size_low, s.mode & 0777);\n'
-                  'printf("%d ", chmod("f", 0600)); printf("%d ", chown("f", 3)); stat("f", &s); printf("%d %o ", s.owner, s.mode & 0777);\n'
+                  'printf("%d ", link("f", "g")); printf("%d ", stat("g", &s)); '
+                  'printf("%d %d %o ", s.links, s.size_low, s.mode & 0777);\n'
+                  'printf("%d ", chmod("f", 0600)); printf("%d ", chown("f", 3)); stat("f", &s); '
+                  'printf("%d %o ", s.owner, s.mode & 0777);\n'
                   'printf("%d ", unlink("g")); printf("%d ", stat("g", &s)); printf("%d\\n", errno);\n'
                   'printf("%d ", mknod("d", 040777, 0)); printf("%d ", chdir("d")); printf("%d ", chdir("/none"));\n'
                   'printf("%d %d %d %d ", getpid(), getuid(), getgid(), csw()); nice(0); sync(); fstat(1, &s);\n'
                   'printf("%o ", s.mode & 060000); printf("%d ", gtty(1, modes)); printf("%d ", stty(1, modes));\n'
-                  'printf("%d ", stime(70000L)); printf("%ld ", time()); printf("%d ", times(clock)); end = sbrk(10); *end = 1;\n'
+                  'printf("%d ", stime(70000L)); printf("%ld ", time()); '
+                  'printf("%d ", times(clock)); end = sbrk(10); *end = 1;\n'
                   'printf("%d ", (int)((unsigned char *)sbrk(0) - end)); printf("%d\\n", brk(end)); fflush(stdout);\n'
                   'if (fork() == 0) exit(3); printf("%d ", wait(&status)); printf("%o\\n", status);\n'
                   'setgid(4); setuid(5); fflush(stdout);\n'
-                  'if (fork() == 0) { execl("/bin/none", "none", 0); printf("%d ", errno); exit(0); } wait(0); printf("%d\\n", setuid(0));',
+                  'if (fork() == 0) { execl("/bin/none", "none", 0); printf("%d ", errno); exit(0); } wait(0); '
+                  'printf("%d\\n", setuid(0));',
                   "6 0 0 3 c 1 0 0 2 6 644 0 0 3 600 0 -1 2\n0 0 -1 2 0 0 0 20000 0 0 0 70000 0 10 0\n3 1400\n2 -1\n")
+
+    def test_headers(self):
+        """All headers together, and the sizes of their types."""
+        names = sorted(os.listdir(os.path.join(TOOLS, "c", "include")))
+        self.assertEqual(len(names), 11)
+        source = "".join(f"#include <{name}>\n#include <{name}>\n" for name in names)
+        self.prints(source + "bool more(int n) { return n; }\nstruct two { char c; long l; };\n"
+                    'int main(void) { printf("%d %d %d %d %d %d %d %u\\n", more(256), sizeof(int8_t), sizeof(uint16_t), '
+                    "sizeof(int32_t), sizeof(size_t), sizeof(struct stat), offsetof(struct two, l), UINT_MAX);\n"
+                    'printf("%d\\n", true + (bool)0x100 + !false); return 0; }\n', "1 1 2 4 2 36 2 65535\n3\n")
 
     def test_wrong(self):
         """What the compiler refuses is told, and no program is written."""
@@ -268,10 +295,20 @@ class Compiled(Program):
 
     def test_names_of_files(self):
         """Two files have static names and labels of their own, and share what is global."""
-        one = self.put("-one.c", b"static int n = 1; int shared; int other(void); int main(void) { shared = n; return other(); }\n")
-        two = self.put("two.c", b"static int n = 5; extern int shared; int other(void) { return shared + n; }\n")
+        one = self.put("one.c", b"static int n = 1; int shared, other(void); int main(void) { shared = n; return other(); }\n")
+        two = self.put("two.c", b"static char odd[3]; static int m, n = 5; extern int shared;\n"
+                       b"int other(void) { m++; return shared + n + m + odd[2]; }\n")
         self.assertEqual(self.call(cc.main, "-o", self.path("it"), one, two), (0, "", ""))
-        self.assertEqual(self.run_it(self.path("it")), (6, "", ""))
+        self.assertEqual(self.run_it(self.path("it")), (7, "", ""))
+
+    def test_a_prompt(self):
+        """What was printed is shown before the standard input is read."""
+        self.made('#include <stdio.h>\nint main(void) { printf("? "); printf("%c\\n", getchar()); return 0; }\n')
+        image = self.put("image", read(os.path.join(TOP, "examples", "shell", "image")))
+        self.assertEqual(self.call(disk_main, "--v6", V6, "put", image, self.path("it"), "/bin"), (0, "", ""))
+        script = self.put("script", b"run 9000\ntype it\nrun 20000\ntype x\nrun 20000\n")
+        self.assertEqual(v6("run", image, "3968", script, *map(self.path, ("term", "log", "final")))[0], 0)
+        self.assertEqual(read(self.path("term")), b"# IT\r\n? X\r\nX\r\n# ")
 
 
 if __name__ == "__main__":

@@ -1,8 +1,11 @@
 """Disks with faults: what is told of them, read from them and made of them."""
+import os
+import shlex
 import struct
+import subprocess
 import unittest
 
-from common import read, v6
+from common import TOP, V6, read, v6
 from disks import Disks
 
 from survey import Survey
@@ -30,6 +33,19 @@ class Damaged(Disks):
 
     def test_good(self):
         self.told(self.hurt())
+
+    def test_the_page(self):
+        """The commands of docs/tools/disk.md on damaged disks come to what stands there, and the file is the generator's."""
+        page = read(os.path.join(TOP, "docs", "tools", "disk.md")).decode().split("## Damaged disks")[1].split("```\n")[1]
+        for name in ("bin", "tools"):
+            os.symlink(os.path.join(TOP, name), self.path(name))
+        lines = page.split("\n")
+        commands = [line[2:] for line in lines if line.startswith("$ ")]
+        script = "".join(f"printf '$ %s\\n' {shlex.quote(line)}\n{line} || :\n" for line in commands)
+        done = subprocess.run(["sh", "-c", script], cwd=self.folder, stdout=subprocess.PIPE, stderr=subprocess.STDOUT, text=True,
+                              env={**os.environ, "V6": V6})
+        self.assertEqual(done.stdout, page)
+        self.assertEqual(len(read(self.path("f00"))), 525)
 
     def test_all_faults(self):
         bad = self.hurt((self.address(2, 1), 21), (self.address(3, 0), 8), (512 + 6 + 2, 4), (1024 + 32 * 3 + 2, 7))

@@ -73,7 +73,8 @@ class Install(Case):
 
     @unittest.skipUnless(shutil.which("bash"), "bash isn't there")
     def test_completion(self):
-        for words, wanted in (("v6 ch", "check"), ("v6-disk re", "repair"), ("v6-console x --sc", "--script")):
+        for words, wanted in (("v6 ch", "check"), ("v6-disk re", "repair"), ("v6-console x --sc", "--script"),
+                              ("v6-cc --co", "--compiler")):
             *_, last = words.split()
             script = (f"source {TOP}/tools/completion.bash; COMP_WORDS=({words}); COMP_CWORD={len(words.split()) - 1}; _v6; "
                       "echo ${COMPREPLY[@]}")

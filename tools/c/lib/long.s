@@ -172,7 +172,6 @@ long:
 	rol	r0
 	rol	r3
 	rol	r2
-	bcs	2f
 	cmp	r2,(sp)
 	blo	3f
 	bhi	2f

@@ -14,7 +14,7 @@ static struct piece *first;
 void *malloc(size_t size)
 {
 	struct piece **at, *piece, *rest;
-	unsigned wanted = (size + 5) & ~1, more;
+	unsigned wanted = size < 2 ? sizeof(struct piece) : (size + 3) & ~1, more;
 
 	if (size > 65000)
 		return NULL;
