@@ -1,5 +1,5 @@
 //! What the calls work on: a small disk, the table of open files, the console, and one process at a time.
-ghost use Rattle.std.specs.Prelude.{◌≡◌, ◌<◌, ◌≤◌, ℕ, [], true, None, IfOk, IfSome, slice_index};
+ghost use Rattle.std.specs.Prelude.{◌≡◌, ◌<◌, ◌≤◌, ℕ, true, None, IfOk, IfSome, slice_index};
 ghost use Rattle.fs_codec.specs.Faults.{disk_fault};
 ghost use Rattle.fs_codec.specs.declared.layout.TheConstants.{DISK_BLOCKS};
 ghost use Rattle.fs_blocks.specs.State.{disk};
@@ -138,7 +138,6 @@ fn parts(nodes: Nodes, space: Whole, tape: Tape) -> World
     requires root { 0 < slice_index nodes.references 1 }
     ensures ready { IsReady result.files.table result.u.files result.u.dir result.files.tree.nodes.references }
     ensures few { (i : ℕ) → slice_index result.files.tree.nodes.references i ≤ 2 }
-    ensures unmarked { result.files.tree.marks ≡ [] }
 {
     World {
         files: Files {
@@ -165,7 +164,6 @@ pub fn begin(
         IsReady w.files.table w.u.files w.u.dir w.files.tree.nodes.references)) }
     ensures few { IfOk result (λ found. IfSome found (λ w.
         (i : ℕ) → slice_index w.files.tree.nodes.references i ≤ 2)) }
-    ensures unmarked { IfOk result (λ found. IfSome found (λ w. w.files.tree.marks ≡ [])) }
 {
     let bytes = image(changes);
     let space = memory(alloc)?;

@@ -1,5 +1,5 @@
 //! The disk on which names are looked for: twenty blocks, of which 18 and 19 are free, with 128 inodes.
-ghost use Rattle.std.specs.Prelude.{◌≡◌, ◌≤◌, ℕ, [], IfOk, IfSome, slice_index};
+ghost use Rattle.std.specs.Prelude.{◌≡◌, ◌≤◌, ℕ, IfOk, IfSome, slice_index};
 
 use crate::fixtures::{TWENTY_BLOCKS, Word, put, put_words};
 use crate::opened::{open, takes};
@@ -187,7 +187,6 @@ pub fn open_tree(
     others: u16,
 ) -> Result<Option<Tree>, AllocError>
     ensures few { IfOk result (λ opened. IfSome opened (λ tree. (i : ℕ) → slice_index tree.nodes.references i ≤ 65530)) }
-    ensures unmarked { IfOk result (λ opened. IfSome opened (λ tree. tree.marks ≡ [])) }
 {
     let Some(mut nodes) = open(alloc, image)? else {
         return Ok(None);

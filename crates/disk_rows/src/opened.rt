@@ -86,6 +86,8 @@ pub fn open(alloc: Global, image: &[u8]) -> Result<Option<Nodes>, AllocError>
 pub fn takes(nodes: &mut Nodes, ino: u16) -> bool
     ensures few { (n : ℕ) → ((i : ℕ) → slice_index nodes.old.references i ≤ n)
         → (i : ℕ) → slice_index nodes.new.references i ≤ n + 1 }
+    ensures low { ((i : ℕ) → slice_index nodes.old.references i ≤ 65530)
+        → (i : ℕ) → slice_index nodes.new.references i ≤ 65530 }
     ensures referenced { result ≡ true → 0 < slice_index nodes.new.references ino }
 {
     if nodes.peek(ino).is_none() || nodes.refs(ino) > 9 {

@@ -6,5 +6,5 @@ use Rattle.call_rows.proofs.shared.mark.Goals as goal
 pub returns : goal.returns
 returns c = λ is i.
     let old = c.args.tree.now.nodes.references in
-    let some : 0 < slice_index old 3 = search rules in
-    ap (λ (n : Inodes). slice_index n.references i) c.mark_text.ensures.inodes ∙ once_more old 3 i (referred_low old 3 some)
+    let some : 0 < slice_index old c.args.ino = search rules in
+    ap (λ (n : Inodes). slice_index n.references i) c.mark_text.ensures.inodes ∙ once_more old c.args.ino i (referred_low old c.args.ino some)

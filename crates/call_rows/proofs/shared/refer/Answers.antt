@@ -7,7 +7,7 @@ use Rattle.call_rows.proofs.shared.refer.Goals as goal
 pub returns-in-Ok : goal.returns-in-Ok
 returns-in-Ok c = λ is i.
     let fs = c.peek.new.self in
-    let some : IsSome (node_numbered fs.store 3) = search rules in
+    let some : IsSome (node_numbered fs.store c.args.ino) = search rules in
     ap (λ l. slice_index l i) c.in-Ok.ensures.outcome.1.references
-    ∙ once_more fs.references 3 i (used_low fs c.refs.ensures.form 3 some)
-    ∙ ap (λ l. slice_index l i + (if 3 == i then 1 else 0)) c.peek.ensures.same.references
+    ∙ once_more fs.references c.args.ino i (used_low fs c.refs.ensures.form c.args.ino some)
+    ∙ ap (λ l. slice_index l i + (if c.args.ino == i then 1 else 0)) c.peek.ensures.same.references
