@@ -16,7 +16,7 @@ use Rattle.pick_rules.specs.Apply.{applied}
 use Rattle.pick_rules.specs.Fits.{FitsBoard}
 use Rattle.pick_rules.specs.Lawful.{Lawful, FitAll, nothing_seen}
 
--- Slot 0 is its parent's. In its place the log may wake any slot, for nobody waits there.
+-- The last wake is for its parent, in slot 0. One for any other slot fits as well, since nobody waits there.
 two_letters : ℕ → List Entry
 two_letters parent =
     Boot 1200 0 ∷ Sleep 0 pswp RunOut ∷ Go 1 ∷ Bare 1 ∷ Image 1 37 (Core 1) ∷ Trap 1 ∷ Go 1 ∷ Trap 1 ∷ Trap 1 ∷ Wake Keys
@@ -71,7 +71,7 @@ two_letters_lawful parent in_range =
       over = refl;
     }
 
--- There is no such slot as 50: with one that a line can't have the same log is not lawful.
+-- With a slot past the last, 49, the same log isn't lawful, for its range alone.
 no_other_slot : (parent : ℕ) → Lawful (two_letters parent) → parent ≤ 49
 unfolding two_letters FitAll
 no_other_slot parent lawful = lawful.fit.1.1.1.1.1.1.1.1.1.1.1.1.0.0
