@@ -41,7 +41,7 @@ logged_fine s seen e c fits rest = record { fine = by c.answer rest.fine }
         → Answered s (seats_here c.state) seen (Show (Log e) ∷ c.effects) a
     by (Ret r0 r1) a = (fits, a)
     by (Fail x) a = (fits, a)
-    by (Sleep pri chan) a = ((fits, a.0), a.1)
+    by (Sleep pri chan) a = ((fits, a.0), a.1, a.2)
 
 -- a dead process sits in its slot
 grave_dead : (w : World) (d : ℕ) → IsGrave w d → IsDead (seats_here w) d
