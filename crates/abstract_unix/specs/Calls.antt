@@ -1,5 +1,6 @@
 -- The system calls that are built: section II of the UNIX Programmer's Manual; Lions' Commentary, `sysent` and `trap`.
-use Rattle.std.specs.Prelude.{ℕ, ◌+◌, ◌-◌, ◌*◌, ◌%◌, ◌==◌, ◌&&◌, ◌||◌, nat_lt, nat_le, true, false, if◌then◌else◌, List, [], ◌∷◌, ◌++◌, map, flat_map, find, Option, Some, None, Result, Ok, Err, slice_index, slice_set}
+use Rattle.std.specs.Prelude.{ℕ, Bool, ◌+◌, ◌-◌, ◌*◌, ◌%◌, ◌==◌, ◌&&◌, ◌||◌, nat_lt, nat_le, true, false, if◌then◌else◌, List, [], ◌∷◌, ◌++◌, map, find, Option, Some, None, Result, Ok, Err, slice_index, slice_set}
+use Rattle.std.specs.List.{list_any, range_with_len}
 use Rattle.std.specs.Option.{option_map}
 use Rattle.v6_base.specs.Access.{load_word}
 use Rattle.v6_base.specs.Image.{Image}
@@ -10,6 +11,7 @@ use Rattle.pick_rules.specs.Effects.{Show, lifted}
 use Rattle.open_files.specs.declared.file.OpenFile.{OpenFile}
 use Rattle.open_files.specs.Files.{shared}
 use Rattle.u_area.specs.declared.area.UArea.{UArea}
+use Rattle.fs_tree.specs.declared.marks.TheConstants.{INODE_NUMBERS}
 use Rattle.sys_files.specs.Handed.{Handed}
 use Rattle.sys_files.specs.Did.{Did}
 use Rattle.sys_files.specs.Descriptors.{Closing, dup_file, close_file, close_all}
@@ -40,17 +42,13 @@ use Rattle.abstract_unix.specs.declared.calls.SystemCall.TheVariants.{Indirect, 
 use Rattle.abstract_unix.specs.declared.calls.Sysent.{Sysent}
 use Rattle.abstract_unix.specs.declared.ending.Ending.TheVariants.{Ended, Trapped}
 use Rattle.abstract_unix.specs.Unix.{Text, Unix, process_of, with_process}
-use Rattle.abstract_unix.specs.References.{references_of}
+use Rattle.abstract_unix.specs.References.{is_text_of, references_of}
 use Rattle.abstract_unix.specs.Errors.{error_number}
 use Rattle.abstract_unix.specs.Steps.{Steps, returns, sleeps, not_built}
 
--- the inodes whose texts are shared
-abbrev pub inode_of : Option Text → List ℕ
-inode_of None = []
-inode_of (Some text) = text.ino ∷ []
-
-abbrev pub marks_of : List (Option Text) → List ℕ
-marks_of texts = flat_map inode_of texts
+-- which inodes have a text that is shared, by their numbers
+unfoldable pub marks_of : List (Option Text) → List Bool
+marks_of texts = map (λ ino. list_any (is_text_of ino) texts) (range_with_len 0 INODE_NUMBERS)
 
 -- the parts of a Unix that a call of a process is handed
 abbrev pub handed_of : Unix → Process → Handed

@@ -12,6 +12,7 @@ use Rattle.tty_line.specs.Terminal.{first_terminal}
 use Rattle.pick_rules.specs.declared.table.Table.{Table}
 use Rattle.pick_rules.specs.Table.{empty_row, row_at, first_table, is_in_core, IsTable}
 use Rattle.fs_nodes.specs.FileSystem.{FileSystem}
+use Rattle.fs_tree.specs.Marks.{no_marks}
 use Rattle.sys_files.specs.Sound.{is_of, numbers_of}
 use Rattle.proc_tab.specs.Processes.{first_processes, member_at}
 use Rattle.image_keep.specs.Kept.{Held, Keeping, Nothing, Alive, Grave, Kept, Has, keeping, first_kept, with_keeping, area_in, clicks_of}
@@ -171,7 +172,7 @@ first_processes_are core = are_processes first_processes.slots (first_images cor
 
 -- The world that a kernel begins with.
 module _ (fs : FileSystem) (core : ℕ) (referred : (ino : ℕ) → slice_index fs.references ino ≡ (if ino == 1 then 2 else 0))
-    (w : World) (nodes : w.files.tree.nodes ≡ fs) (marks : w.files.tree.marks ≡ []) (table : w.files.table ≡ no_files) (line : w.files.line ≡ first_terminal)
+    (w : World) (nodes : w.files.tree.nodes ≡ fs) (marks : w.files.tree.marks ≡ no_marks) (table : w.files.table ≡ no_files) (line : w.files.line ≡ first_terminal)
     (rows : w.procs.rows ≡ first_processes) (slots : w.procs.table ≡ first_table fs.store.stamp) (good : IsTable w.procs.table)
     (images : w.procs.images ≡ first_images core) (switches : w.procs.switches ≡ 0)
     (entries : w.tape.entry_room ≡ 64) (bytes : w.tape.byte_room ≡ 524288) (clicks : w.core ≡ core) where

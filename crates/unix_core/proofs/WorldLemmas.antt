@@ -1,6 +1,7 @@
 -- A process that runs: what a world says of it, what its calls on files are handed, and that they leave it running.
-use Rattle.std.proofs.Common.{◌≡◌, ◌≢◌, ◌<◌, ◌+◌, ◌==◌, ◌⊎◌, if◌then◌else◌, cond, ℕ, zero, suc, true, false, List, [], ◌++◌, length, replicate, get_or, set, map, count_by, Option, Some, None, slice_index, refl, sym, ap, ◌∙◌, subst, inl, inr, arith}
+use Rattle.std.proofs.Common.{◌≡◌, ◌≢◌, ◌<◌, ◌+◌, ◌==◌, ◌⊎◌, if◌then◌else◌, cond, ℕ, zero, suc, Bool, true, false, List, [], ◌∷◌, ◌++◌, length, replicate, get_or, set, map, count_by, Option, Some, None, slice_index, refl, sym, ap, ◌∙◌, subst, inl, inr, arith}
 use Rattle.std.specs.Prelude.{⊤, MatchOption, unwrap_or}
+use Rattle.std.specs.List.{list_any, range_with_len}
 use Rattle.std.proofs.lemmas.Bool.{cases_lt, cases_eq}
 use Rattle.std.proofs.lemmas.List.{length-replicate}
 use Rattle.v6_base.specs.Image.{Image}
@@ -16,6 +17,8 @@ use Rattle.image_keep.specs.Kept.{Held, Keeping, Nothing, Alive, Grave, Kept, Ha
 use Rattle.open_files.specs.declared.file.OpenFile.{OpenFile}
 use Rattle.open_files.specs.Files.{AreOpen, file_at, times}
 use Rattle.fs_nodes.specs.FileSystem.{IsFileSystem}
+use Rattle.fs_tree.specs.Marks.{no_marks}
+use Rattle.fs_tree.specs.declared.marks.TheConstants.{INODE_NUMBERS}
 use Rattle.sys_files.specs.Handed.{Handed, handed}
 use Rattle.sys_files.specs.Sound.{is_of, numbers_of, HasNoPipe, IsSound, IsKept}
 use Rattle.sys_files.proofs.Bounds.{Fits, HasAll}
@@ -89,13 +92,17 @@ pub forty : length no_texts ≡ 40
 unfolding no_texts
 forty = let none : Option Text = None in length-replicate 40 none
 
-none_marked : (n : ℕ) → marks_of (replicate n None) ≡ []
-none_marked zero = refl
-none_marked (suc n) = none_marked n
+none_shared : (ino n : ℕ) → list_any (is_text_of ino) (replicate n None) ≡ false
+none_shared ino zero = refl
+none_shared ino (suc n) = none_shared ino n
 
-pub no_marks : marks_of no_texts ≡ []
-unfolding no_texts
-no_marks = none_marked 40
+all_false : (f : ℕ → Bool) (a n : ℕ) → ((i : ℕ) → f i ≡ false) → map f (range_with_len a n) ≡ replicate n false
+all_false f a zero none = refl
+all_false f a (suc n) none = λ i. none a i ∷ all_false f (a + 1) n none i
+
+pub none_marked : marks_of no_texts ≡ no_marks
+unfolding marks_of no_marks no_texts
+none_marked = all_false (λ ino. list_any (is_text_of ino) (replicate 40 None)) 0 INODE_NUMBERS (λ ino. none_shared ino 40)
 
 -- The parts that a call of the process is handed are sound.
 pub sound_parts : (w : World) (s : ℕ) (h : Handed) → IsReady w s → length w.files.table ≡ 100
@@ -153,7 +160,7 @@ handed_is w s ready form none =
     let here = is_here w.procs s alive in
     let p : Process = process_of (unix_of w) s in
     let references = references_in w s ready form in
-    let marks : w.files.tree.marks ≡ marks_of no_texts = ready.good.marks ∙ sym no_marks in
+    let marks : w.files.tree.marks ≡ marks_of no_texts = ready.good.marks ∙ sym none_marked in
     let area : area_of w.procs.images s ≡ p.u = area_here w.procs s alive in
     let row : proc.row_at w.procs.rows s ≡ p.row = sym (own_row w.procs.rows.slots w.procs.images s alive.below) in
     let image : image_of w.procs.images s ≡ one.image_of p =
@@ -184,7 +191,7 @@ pub record IsAfter (w w' : World) (s : ℕ) (u : UArea) (row : Row) (image : Ima
   pub core : w'.procs.images.core ≡ w.procs.images.core
   pub last_pid : w'.procs.rows.last_pid ≡ w.procs.rows.last_pid
   pub switches : w'.procs.switches ≡ w.procs.switches
-  pub marks : w'.files.tree.marks ≡ []
+  pub marks : w'.files.tree.marks ≡ no_marks
   pub entry_room : w'.tape.entry_room ≡ w.tape.entry_room
   pub byte_room : w'.tape.byte_room ≡ w.tape.byte_room
   pub world_core : w'.core ≡ w.core

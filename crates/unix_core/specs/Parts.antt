@@ -3,6 +3,7 @@
 use Rattle.std.specs.Prelude.{◌≡◌, ◌<◌, ℕ, min, Bool, true, false, List, [], map, length, Option, Some, None, if◌then◌else◌, slice_index}
 use Rattle.std.specs.List.{sum_by}
 use Rattle.open_files.specs.Files.{file_at, times}
+use Rattle.fs_tree.specs.Marks.{no_marks}
 use Rattle.sys_files.specs.Sound.{numbers_of, HasNoPipe}
 use Rattle.pdp_step.specs.declared.outcome.Outcome.{Outcome}
 use Rattle.pdp_step.specs.declared.regs.Regs.{Regs}
@@ -120,7 +121,7 @@ pub record IsGood (w : parts.World) : Type 0 where
   pub fifteen : (s : ℕ) (held : Held) → Has w.procs.images s held → length held.u.files ≡ 15
   pub numbers : (entry : ℕ) → numbers_of (file_at w.files.table entry) ≡ named (unix_of w).processes entry
   pub no_pipe : HasNoPipe w.files.table
-  pub marks : w.files.tree.marks ≡ []
+  pub marks : w.files.tree.marks ≡ no_marks
   pub referred : (ino : ℕ) → refs w ino ≡ referrers (unix_of w) ino
   pub running : (s : ℕ) → w.procs.table.running ≡ Some s → 0 < s → HasImage w.procs.images s
   pub entries : w.tape.entry_room ≡ 64
