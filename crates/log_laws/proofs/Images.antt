@@ -1,5 +1,5 @@
 -- The lines of images: a size, and an exec, whose new image takes the place of the old one.
-use Rattle.std.proofs.Common.{◌≡◌, ◌≢◌, ◌∙◌, ◌≤◌, ◌<◌, ◌==◌, ℕ, nat_le, Bool, true, false, cond, List, ◌∷◌, Option, Some, None, set, set-set, length, get_or-set_same, refl, sym, ap, subst, inl, arith}
+use Rattle.std.proofs.Common.{◌≡◌, ◌≢◌, ◌∙◌, ◌≤◌, ◌<◌, ◌==◌, ℕ, nat_le, Bool, true, false, cond, List, ◌∷◌, Option, Some, None, set, set-set, length, get_or-set_same, refl, sym, ap, subst, arith}
 use Rattle.std.proofs.lemmas.Bool.{leb-true, leb-false}
 use Rattle.v6_base.specs.Trace.{Log}
 use Rattle.v6_base.specs.declared.entry.Place.{Place}
@@ -263,8 +263,10 @@ module _ (s : ℕ) (v : Seats) (seen : Seen) (i : InExec s v seen) where
       by : (o : Option Place) → placed seen.board s clicks ≡ o
           → AptCame seen (image_at before o (λ place. line.Image s clicks place)) (λ now. Apt Q now es)
       by (Some (Core c)) e = (
-        ((in_its_slot i.turn, clicks_range seen.board clicks z, click_within seen.board s clicks c i.core e),
-        bared_fits (line.Image s clicks (Core c)) (refl, (exec_runs, i.place, z, e))),
+        (
+          (in_its_slot i.turn, clicks_range seen.board clicks z, click_within seen.board s clicks c i.core e),
+          bared_fits (line.Image s clicks (Core c)) (refl, (exec_runs, i.place, z, e)),
+        ),
         rest (seen_after seen (line.Image s clicks (Core c))) (image_in clicks (Core c) (may c) z.most),
       )
       by (Some (Swap block)) e = tt

@@ -1,5 +1,5 @@
 -- What first fit finds is a click of core, or a block of the swap area.
-use Rattle.std.proofs.Common.{◌≡◌, ◌≤◌, ℕ, Bool, true, false, cond, List, ◌++◌, flat_map, Option, Some, None, option_map, subst, arith}
+use Rattle.std.proofs.Common.{◌≡◌, ◌≤◌, ℕ, Bool, true, false, cond, List, Option, Some, None, option_map, subst, arith}
 use Rattle.std.specs.Option.{option_or}
 use Rattle.v6_base.specs.declared.entry.Place.{Place}
 use Rattle.v6_base.specs.declared.entry.Place.TheVariants.{Core, Swap}
