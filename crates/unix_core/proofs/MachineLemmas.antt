@@ -10,7 +10,7 @@ use Rattle.pdp_step.specs.declared.regs.Regs.{Regs}
 use Rattle.pick_rules.specs.declared.row.Mode.{Mode}
 use Rattle.pick_rules.specs.declared.row.Mode.TheVariants.{User, Kernel, Idle}
 use Rattle.pick_rules.specs.Choice.{settle}
-use Rattle.image_keep.specs.Kept.{Kept, with_area, area_of}
+use Rattle.image_keep.specs.Kept.{Kept, with_area, area_of, clicks_of}
 use Rattle.sys_procs.specs.Process.{Process}
 use Rattle.sys_procs.specs.Handed.{IsAlive}
 use Rattle.sys_procs.proofs.Alive.{area_here}
@@ -53,11 +53,7 @@ put_is v regs codes p is =
 
 like_held : (u : UArea) (regs : Regs) (p : Process) → u ≡ (holding regs p).u → IsLikeArea u p.u
 like_held u regs p is = record {
-  sizes = record {
-    text = ap (λ (v : UArea). v.text_size) is;
-    «data» = ap (λ (v : UArea). v.data_size) is;
-    stack = ap (λ (v : UArea). v.stack_size) is;
-  };
+  clicks = ap clicks_of is;
   files = ap (λ (v : UArea). v.files) is;
   dir = ap (λ (v : UArea). v.dir) is;
 }
@@ -149,9 +145,9 @@ mode_is at regs w s b rested runs above is =
 
 -- The process that runs is charged with a tick.
 like_timed : (mode : Mode) (u : UArea) → IsLikeArea (timed_area mode u) u
-like_timed User u = record { sizes = record { text = refl; «data» = refl; stack = refl }; files = refl; dir = refl }
-like_timed Kernel u = record { sizes = record { text = refl; «data» = refl; stack = refl }; files = refl; dir = refl }
-like_timed Idle u = record { sizes = record { text = refl; «data» = refl; stack = refl }; files = refl; dir = refl }
+like_timed User u = record { clicks = refl; files = refl; dir = refl }
+like_timed Kernel u = record { clicks = refl; files = refl; dir = refl }
+like_timed Idle u = record { clicks = refl; files = refl; dir = refl }
 
 module _ (mode : Mode) (at : Stage) (w : World) (s : ℕ) (rested : IsRested at w) (runs : w.procs.table.running ≡ Some s) (above : 0 < s)
     (u : UArea) (is : u ≡ timed_area mode (area_of w.procs.images s)) (k : Kept) (kept : k ≡ with_area w.procs.images s u) where
