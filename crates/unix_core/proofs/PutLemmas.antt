@@ -1,22 +1,26 @@
 -- A process's u area is another one, with the same sizes, numbers of files and directory: what belongs together still does.
-use Rattle.std.proofs.Common.{◌≡◌, cond, ℕ, get_or, set, min, Some, None, refl, sym, ap, ◌∙◌, subst}
+use Rattle.std.proofs.Common.{◌≡◌, ◌≢◌, ◌<◌, cond, ℕ, get_or, set, min, Some, None, refl, sym, ap, ◌∙◌, subst}
 use Rattle.u_area.specs.declared.area.UArea.{UArea}
 use Rattle.pick_rules.specs.Table.{row_at}
-use Rattle.proc_tab.specs.Processes.{member_at}
+use Rattle.v6_base.specs.declared.entry.Place.{Place}
+use Rattle.proc_tab.specs.declared.member.Member.{Member}
+use Rattle.proc_tab.specs.declared.row.Row.{Row}
+use Rattle.proc_tab.specs.Processes.{Processes, member_at}
 use Rattle.image_keep.specs.Kept.{Held, Alive, Kept, Has, keeping, with_area, area_in, clicks_of}
 use Rattle.image_keep.proofs.Frames.{alive_low, image_alive}
-use Rattle.sys_procs.specs.Process.{Process, process_in}
+use Rattle.sys_procs.specs.Process.{Process, process_by, process_in}
+use Rattle.sys_procs.specs.World.{processes_in}
 use Rattle.sys_procs.specs.Agree.{Agrees, Agree}
-use Rattle.sys_procs.specs.Handed.{IsAlive}
-use Rattle.sys_procs.proofs.Slots.{process_in_slot, area_changed}
+use Rattle.sys_procs.specs.Handed.{AreProcs, IsAlive}
+use Rattle.sys_procs.proofs.Slots.{process_in_slot, one_changed, area_changed}
 use Rattle.sys_procs.proofs.Agreement.{agree_but}
-use Rattle.sys_procs.proofs.Alive.{is_here}
+use Rattle.sys_procs.proofs.Alive.{IsHere, is_here}
 use Rattle.unix_core.specs.declared.world.World.{World}
 use Rattle.abstract_unix.specs.Unix.{no_texts, process_of, with_process}
 use Rattle.unix_core.specs.Parts.{unix_of, board_in, IsGood}
 use Rattle.abstract_unix.specs.Whole.{told_in, Owes}
 use Rattle.abstract_unix.proofs.Owing.{told_change}
-use Rattle.unix_core.proofs.GoodLemmas.{core_same, runs_same}
+use Rattle.unix_core.proofs.GoodLemmas.{runs_low, core_same, runs_same}
 use Rattle.unix_core.proofs.LoanLemmas.{area_now, area_other, area_core}
 
 pub record IsLikeArea (u v : UArea) : Type 0 where
@@ -35,6 +39,47 @@ alive_slot w s alive =
     ∙ (ap (λ o. process_in o (keeping w.procs.images s)) here.member_is
     ∙ (ap (λ x. process_in (Some here.member) x) here.image_is
     ∙ ap (λ (p : Process). Some p) (sym here.process_is)))
+
+-- who runs lives
+pub good_alive : (w : World) (s : ℕ) → IsGood w → w.procs.table.running ≡ Some s → 0 < s → IsAlive w.procs s
+good_alive w s good runs user = record { agree = good.agree; above = user; below = runs_low w s good.agree runs; image = good.running s runs user }
+
+-- A slot has another row, and another u area or another memory in the same place and of the same size.
+module _ (w : World) (s : ℕ) (alive : IsAlive w.procs s) (v : Processes) (k : Kept) (row : Member → Row) (new : Held → Held)
+    (clicks : (held : Held) → (process_of (unix_of w) s).u ≡ held.u → clicks_of (new held).u ≡ clicks_of held.u) (place : (held : Held) → (new held).place ≡ held.place)
+    (member : (m : Member) → member_at w.procs.rows.slots s ≡ Some m → member_at v.slots s ≡ Some (record m { row = row m }))
+    (members : (r : ℕ) → r ≢ s → member_at v.slots r ≡ member_at w.procs.rows.slots r)
+    (memory : (held : Held) → Has w.procs.images s held → Has k s (new held)) (others : (r : ℕ) → r ≢ s → keeping k r ≡ keeping w.procs.images r) where
+  abbrev here : IsHere w.procs s
+  here = is_here w.procs s alive
+
+  abbrev its : Member
+  its = record here.member { row = row here.member }
+
+  pub slot_put : (q : Process) → process_by its (Alive (new here.held)) ≡ q → processes_in v.slots k ≡ set (unix_of w).processes s (Some q)
+  slot_put q is =
+      one_changed w.procs.rows.slots v.slots w.procs.images k s (Some q) alive.below
+      (ap (λ o. process_in o (keeping k s)) (member here.member here.member_is)
+      ∙ ap (λ x. process_in (Some its) x) (memory here.held here.image_is) ∙ ap (λ (x : Process). Some x) is)
+      (λ r below other. ap (λ o. process_in o (keeping k r)) (members r other) ∙ ap (λ x. process_in (member_at w.procs.rows.slots r) x) (others r other))
+
+  pub agree_put : Agree v w.procs.table k
+  agree_put =
+      let old : Agrees (Some here.member) (row_at w.procs.table s) (Alive here.held) =
+      subst (λ m. Agrees m (row_at w.procs.table s) (Alive here.held)) here.member_is
+      (subst (λ x. Agrees (member_at w.procs.rows.slots s) (row_at w.procs.table s) x) here.image_is (alive.agree.each s alive.above alive.below)) in
+      let now : Agrees (Some its) (row_at w.procs.table s) (Alive (new here.held)) = record {
+        stat = old.stat;
+        image = old.image;
+        place = old.place ∙ ap (λ (p : Place). Some p) (sym (place here.held));
+        size = λ other is. old.size here.held refl ∙ (sym (clicks here.held (ap (λ (x : Process). x.u) here.process_is)) ∙ ap (λ x. clicks_of (area_in x)) is);
+        text = old.text;
+        quiet = old.quiet;
+      } in
+      agree_but w.procs.rows v w.procs.table w.procs.table w.procs.images k s alive.agree alive.above alive.agree.table refl
+      (subst (λ m. Agrees m (row_at w.procs.table s) (keeping k s)) (sym (member here.member here.member_is))
+      (subst (λ x. Agrees (Some its) (row_at w.procs.table s) x) (sym (memory here.held here.image_is)) now))
+      members (λ r other. refl) others
 
 module _ (w : World) (s : ℕ) (u : UArea) (alive : IsAlive w.procs s) where
   abbrev p : Process
@@ -70,34 +115,16 @@ module _ (w : World) (s : ℕ) (u : UArea) (alive : IsAlive w.procs s) where
         ap told_in processes_put
         ∙ told_change (unix_of w).processes s p q (alive_slot w s alive) (λ i. cond p.is_zombie None (Some (record { files = like.files i; dir = like.dir i })))
 
-    clicks_put : (held : Held) → Has k s held → clicks_of u ≡ clicks_of held.u
-    clicks_put held has =
-        let here = is_here w.procs s alive in
-        let own : p.u ≡ held.u = ap (λ (x : Process). x.u) here.process_is ∙ ap area_in (sym here.image_is ∙ has) in
-        like.clicks ∙ ap clicks_of own
-
-    pub agree_put : Agree w.procs.rows w.procs.table (with_area k s u)
-    agree_put =
-        let here = is_here w.procs s alive in
-        let old : Agrees (member_at w.procs.rows.slots s) (row_at w.procs.table s) (Alive here.held) =
-        subst (λ x. Agrees (member_at w.procs.rows.slots s) (row_at w.procs.table s) x) here.image_is (alive.agree.each s alive.above alive.below) in
-        let new : Agrees (member_at w.procs.rows.slots s) (row_at w.procs.table s) (Alive (record here.held { u = u })) = record {
-          stat = old.stat;
-          image = old.image;
-          place = old.place;
-          size = λ other is. old.size here.held refl ∙ (sym (clicks_put here.held here.image_is) ∙ ap (λ x. clicks_of (area_in x)) is);
-          text = old.text;
-          quiet = old.quiet;
-        } in
-        agree_but w.procs.rows w.procs.rows w.procs.table w.procs.table k (with_area k s u) s alive.agree alive.above alive.agree.table refl
-        (subst (λ x. Agrees (member_at w.procs.rows.slots s) (row_at w.procs.table s) x) (sym (area_now k s u here.held here.image_is)) new)
-        (λ r other. refl) (λ r other. refl) (area_other k s u)
+    agree_area : AreProcs w'.procs
+    agree_area =
+        agree_put w s alive w.procs.rows (with_area k s u) (λ m. m.row) (λ held. record held { u = u }) (λ held own. like.clicks ∙ ap clicks_of own) (λ held. refl)
+        (λ m is. is) (λ r other. refl) (area_now k s u) (area_other k s u)
 
     pub good_put : IsGood w → IsGood w'
     good_put good = record {
-      agree = agree_put;
-      in_core = core_same w w' good agree_put refl;
-      running = runs_same w w' good agree_put refl;
+      agree = agree_area;
+      in_core = core_same w w' good agree_area refl;
+      running = runs_same w w' good agree_area refl;
       owed = subst (Owes w.files.tree.nodes.references w.files.table no_texts) (sym told_put) good.owed;
       marks = good.marks;
       rooms = good.rooms;

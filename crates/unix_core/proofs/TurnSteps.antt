@@ -10,17 +10,10 @@ use Rattle.pdp_step.specs.declared.regs.Regs.{Regs}
 use Rattle.pdp_step.specs.Machine as pdp
 use Rattle.pdp_step.specs.Machine.{Machine}
 use Rattle.pdp_step.specs.Instruction.{Stepped, stepped, instr}
-use Rattle.pick_rules.specs.declared.row.TableRow.{TableRow}
-use Rattle.pick_rules.specs.Table.{row_at}
 use Rattle.pick_rules.specs.Choice.{settle}
-use Rattle.proc_tab.specs.declared.member.Member.{Member}
-use Rattle.proc_tab.specs.Processes.{member_at}
-use Rattle.image_keep.specs.Kept.{Held, Alive, Kept, keeping, with_image, image_in, image_of, area_in, clicks_of}
+use Rattle.image_keep.specs.Kept.{Alive, Kept, with_image, image_in, image_of}
 use Rattle.sys_procs.specs.Process as one
-use Rattle.sys_procs.specs.Process.{Process, process_by, process_in}
-use Rattle.sys_procs.specs.Agree.{Agrees}
-use Rattle.sys_procs.proofs.Slots.{one_changed}
-use Rattle.sys_procs.proofs.Agreement.{agree_but}
+use Rattle.sys_procs.specs.Process.{Process, process_by}
 use Rattle.sys_procs.proofs.Alive.{is_here, put_here}
 use Rattle.abstract_unix.specs.declared.turned.Turned.TheVariants.{Ran}
 use Rattle.unix_core.specs.declared.machine.Stage.TheVariants as stage
@@ -37,19 +30,9 @@ use Rattle.unix_core.proofs.GoodLemmas.{core_same, runs_same}
 use Rattle.sys_procs.specs.Handed.{AreProcs}
 use Rattle.unix_core.proofs.WorldLemmas.{ready_alive, slot_is}
 use Rattle.unix_core.proofs.LoanLemmas.{image_now, image_other, image_core}
-use Rattle.unix_core.proofs.PutLemmas.{with_images}
+use Rattle.unix_core.proofs.PutLemmas.{with_images, slot_put, agree_put}
 use Rattle.unix_core.proofs.BoardLemmas.{settle_same}
 use Rattle.unix_core.proofs.AreaLemmas.{state_is}
-
-image_agrees : (m : Option Member) (row : TableRow) (held : Held) (image : Image) → Agrees m row (Alive held) → Agrees m row (Alive (record held { image = image }))
-image_agrees m row held image a = record {
-  stat = a.stat;
-  image = a.image;
-  place = a.place;
-  size = λ other is. a.size held refl ∙ ap (λ x. clicks_of (area_in x)) is;
-  text = a.text;
-  quiet = a.quiet;
-}
 
 -- The memory of the process is another one.
 module _ (w : World) (s : ℕ) (ready : IsReady w s) (image : Image) where
@@ -64,15 +47,11 @@ module _ (w : World) (s : ℕ) (ready : IsReady w s) (image : Image) where
 
   pub memory_unix : unix_of with_memory ≡ with_process (unix_of w) s q
   memory_unix =
-      let alive = ready_alive w s ready in
-      let here = is_here w.procs s alive in
       let k : Kept = w.procs.images in
-      let now : Process → Process = λ x. record x { «data» = image.data; stack = image.stack } in
-      let changed = one_changed w.procs.rows.slots w.procs.rows.slots k (with_image k s image) s (Some q) alive.below
-      (ap (λ o. process_in o (keeping (with_image k s image) s)) here.member_is
-      ∙ (ap (λ x. process_in (Some here.member) x) (image_now k s image here.held here.image_is)
-      ∙ ap (λ (x : Process). Some (now x)) (sym here.process_is)))
-      (λ r below other. ap (λ x. process_in (member_at w.procs.rows.slots r) x) (image_other k s image r other)) in
+      let here = is_here w.procs s (ready_alive w s ready) in
+      let changed = slot_put w s (ready_alive w s ready) w.procs.rows (with_image k s image) (λ m. m.row) (λ held. record held { image = image }) (λ held own. refl) (λ held. refl)
+      (λ m is. is) (λ r other. refl) (image_now k s image) (image_other k s image) q
+      (ap (λ (x : Process). record x { «data» = image.data; stack = image.stack }) (sym here.process_is)) in
       λ i. record (unix_of w) { processes = changed i; limit = min (image_core k s image i) 2048 }
 
   pub memory_board : board_in with_memory ≡ board_in w
@@ -85,15 +64,9 @@ module _ (w : World) (s : ℕ) (ready : IsReady w s) (image : Image) where
 
   memory_agree : AreProcs with_memory.procs
   memory_agree =
-      let alive = ready_alive w s ready in
-      let here = is_here w.procs s alive in
       let k : Kept = w.procs.images in
-      let old : Agrees (member_at w.procs.rows.slots s) (row_at w.procs.table s) (Alive here.held) =
-      subst (λ x. Agrees (member_at w.procs.rows.slots s) (row_at w.procs.table s) x) here.image_is (alive.agree.each s alive.above alive.below) in
-      agree_but w.procs.rows w.procs.rows w.procs.table w.procs.table k (with_image k s image) s alive.agree alive.above alive.agree.table refl
-      (subst (λ x. Agrees (member_at w.procs.rows.slots s) (row_at w.procs.table s) x) (sym (image_now k s image here.held here.image_is))
-      (image_agrees (member_at w.procs.rows.slots s) (row_at w.procs.table s) here.held image old))
-      (λ r other. refl) (λ r other. refl) (image_other k s image)
+      agree_put w s (ready_alive w s ready) w.procs.rows (with_image k s image) (λ m. m.row) (λ held. record held { image = image }) (λ held own. refl) (λ held. refl)
+      (λ m is. is) (λ r other. refl) (image_now k s image) (image_other k s image)
 
   pub memory_ready : IsReady with_memory s
   memory_ready = record {

@@ -1,6 +1,5 @@
 -- A process that runs: what a world says of it, what its calls on files are handed, and that they leave it running.
-use Rattle.std.proofs.Common.{◌≡◌, ◌≢◌, ◌<◌, ◌+◌, ℕ, zero, suc, false, List, [], ◌++◌, length, replicate, get_or, set, map, Option, Some, None, refl, sym, ap, ◌∙◌, subst}
-use Rattle.std.specs.Prelude.{⊤, MatchOption}
+use Rattle.std.proofs.Common.{◌≡◌, ◌≢◌, ◌+◌, ℕ, zero, suc, false, List, [], ◌++◌, length, replicate, get_or, set, map, Option, Some, None, refl, sym, ap, ◌∙◌, subst}
 use Rattle.std.proofs.lemmas.List.{length-replicate}
 use Rattle.v6_base.specs.Image.{Image}
 use Rattle.v6_base.specs.Trace.{Item, Log, sent}
@@ -11,18 +10,17 @@ use Rattle.proc_tab.specs.declared.row.Row.{Row}
 use Rattle.proc_tab.specs.declared.member.Member.{Member}
 use Rattle.proc_tab.specs.Processes as proc
 use Rattle.proc_tab.specs.Processes.{member_at}
-use Rattle.image_keep.specs.Kept.{Held, Alive, Has, keeping, clicks_of, area_in, area_of, image_in, image_of}
+use Rattle.image_keep.specs.Kept.{Held, Alive, Has, keeping, clicks_of, area_of, image_in, image_of}
 use Rattle.open_files.specs.declared.file.OpenFile.{OpenFile}
 use Rattle.fs_nodes.specs.FileSystem.{IsFileSystem}
 use Rattle.sys_files.specs.Handed.{Handed, handed}
 use Rattle.sys_files.specs.Sound.{IsSound, IsKept}
 use Rattle.sys_files.proofs.Bounds.{Fits, HasAll}
 use Rattle.sys_procs.specs.Process as one
-use Rattle.sys_procs.specs.Process.{Process, process_by, process_in}
-use Rattle.sys_procs.specs.Agree.{Agrees, Agree, board_of}
+use Rattle.sys_procs.specs.Process.{Process, process_by}
+use Rattle.sys_procs.specs.Agree.{Agree, board_of}
 use Rattle.sys_procs.specs.Handed.{IsAlive}
-use Rattle.sys_procs.proofs.Slots.{process_in_slot, one_changed, own_row}
-use Rattle.sys_procs.proofs.Agreement.{agree_but}
+use Rattle.sys_procs.proofs.Slots.{own_row}
 use Rattle.sys_procs.proofs.Alive.{is_here, area_here}
 use Rattle.unix_core.specs.declared.world.World.{World}
 use Rattle.abstract_unix.specs.Unix.{Text, no_texts, process_of}
@@ -30,6 +28,7 @@ use Rattle.abstract_unix.specs.References.{referrers, references_of}
 use Rattle.abstract_unix.specs.Calls.{marks_of, handed_of, with_handed}
 use Rattle.unix_core.specs.Passing.{all_woken}
 use Rattle.unix_core.specs.Parts.{unix_of, IsGood, IsReady, IsReadyToShow}
+use Rattle.unix_core.proofs.PutLemmas.{good_alive, alive_slot, slot_put, agree_put}
 use Rattle.unix_core.proofs.GoodLemmas.{told_of_slot, fifty_told, core_same, runs_same}
 use Rattle.std.proofs.lemmas.List.FromFn.{fill_by_all}
 use Rattle.abstract_unix.specs.Whole.{Told, told_of, told_in, Owes, Owed}
@@ -38,21 +37,10 @@ use Rattle.unix_core.proofs.FileLemmas.{shown_woken}
 
 -- who runs lives
 pub ready_alive : (w : World) (s : ℕ) → IsReady w s → IsAlive w.procs s
-ready_alive w s ready = record {
-  agree = ready.good.agree;
-  above = ready.user;
-  below = subst (λ o. MatchOption o ⊤ (λ r. r < 50)) ready.runs ready.good.agree.table.running;
-  image = ready.good.running s ready.runs ready.user;
-}
+ready_alive w s ready = good_alive w s ready.good ready.runs ready.user
 
 pub slot_is : (w : World) (s : ℕ) → IsReady w s → get_or (unix_of w).processes s None ≡ Some (process_of (unix_of w) s)
-slot_is w s ready =
-    let alive = ready_alive w s ready in
-    let here = is_here w.procs s alive in
-    process_in_slot w.procs.rows.slots w.procs.images s alive.below
-    ∙ (ap (λ o. process_in o (keeping w.procs.images s)) here.member_is
-    ∙ (ap (λ x. process_in (Some here.member) x) here.image_is
-    ∙ ap (λ (p : Process). Some p) (sym here.process_is)))
+slot_is w s ready = alive_slot w s (ready_alive w s ready)
 
 pub is_living : (w : World) (s : ℕ) → IsReady w s → (process_of (unix_of w) s).is_zombie ≡ false
 is_living w s ready =
@@ -146,18 +134,17 @@ module _ (w w' : World) (s : ℕ) (ready : IsReady w s) (u : UArea) (row : Row) 
   abbrev q : Process
   q = record p { u = u; row = row; «data» = image.data; stack = image.stack }
 
+  abbrev now : Held → Held
+  now held = record held { u = u; image = image }
+
+  clicks : (held : Held) → p.u ≡ held.u → clicks_of u ≡ clicks_of held.u
+  clicks held own = after.clicks ∙ ap clicks_of own
+
   processes_after : (unix_of w').processes ≡ set (unix_of w).processes s (Some q)
   processes_after =
-      let alive = ready_alive w s ready in
-      let here = is_here w.procs s alive in
-      let now : Process → Process = λ x. record x { u = u; row = row; «data» = image.data; stack = image.stack } in
-      one_changed w.procs.rows.slots w'.procs.rows.slots w.procs.images w'.procs.images s (Some q) alive.below
-      (ap (λ o. process_in o (keeping w'.procs.images s)) (after.member here.member here.member_is)
-      ∙ (ap (λ x. process_in (Some (record here.member { row = row })) x) (after.memory here.held here.image_is)
-      ∙ ap (λ (x : Process). Some (now x)) (sym here.process_is)))
-      (λ r below other.
-      ap (λ o. process_in o (keeping w'.procs.images r)) (after.members r other)
-      ∙ ap (λ x. process_in (member_at w.procs.rows.slots r) x) (after.others r other))
+      slot_put w s (ready_alive w s ready) w'.procs.rows w'.procs.images (λ m. row) now clicks (λ held. refl) after.member after.members after.memory after.others q
+      (let here = is_here w.procs s (ready_alive w s ready) in
+      ap (λ (x : Process). record x { u = u; row = row; «data» = image.data; stack = image.stack }) (sym here.process_is))
 
   -- the Unix then
   pub unix_after : unix_of w' ≡ with_handed (unix_of w) s h
@@ -170,25 +157,7 @@ module _ (w w' : World) (s : ℕ) (ready : IsReady w s) (u : UArea) (row : Row) 
   }
 
   agrees : Agree w'.procs.rows w.procs.table w'.procs.images
-  agrees =
-      let alive = ready_alive w s ready in
-      let here = is_here w.procs s alive in
-      let old : Agrees (Some here.member) (row_at w.procs.table s) (Alive here.held) =
-      subst (λ m. Agrees m (row_at w.procs.table s) (Alive here.held)) here.member_is
-      (subst (λ x. Agrees (member_at w.procs.rows.slots s) (row_at w.procs.table s) x) here.image_is (alive.agree.each s alive.above alive.below)) in
-      let clicks : clicks_of u ≡ clicks_of here.held.u = after.clicks ∙ ap (λ (x : Process). clicks_of x.u) here.process_is in
-      let new : Agrees (Some (record here.member { row = row })) (row_at w.procs.table s) (Alive (record here.held { u = u; image = image })) = record {
-        stat = old.stat;
-        image = old.image;
-        place = old.place;
-        size = λ other is. old.size here.held refl ∙ (sym clicks ∙ ap (λ x. clicks_of (area_in x)) is);
-        text = old.text;
-        quiet = old.quiet;
-      } in
-      agree_but w.procs.rows w'.procs.rows w.procs.table w.procs.table w.procs.images w'.procs.images s alive.agree alive.above alive.agree.table refl
-      (subst (λ m. Agrees m (row_at w.procs.table s) (keeping w'.procs.images s)) (sym (after.member here.member here.member_is))
-      (subst (λ x. Agrees (Some (record here.member { row = row })) (row_at w.procs.table s) x) (sym (after.memory here.held here.image_is)) new))
-      after.members (λ r other. refl) after.others
+  agrees = agree_put w s (ready_alive w s ready) w'.procs.rows w'.procs.images (λ m. row) now clicks (λ held. refl) after.member after.members after.memory after.others
 
   running_after : w'.procs.table.running ≡ Some s
   running_after = ap (λ (t : Table). t.running) after.table ∙ ready.runs
