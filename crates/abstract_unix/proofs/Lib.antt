@@ -12,3 +12,8 @@ pub mod Outside
 pub mod Lawfully
 pub mod RunsLemmas
 pub mod FileRows
+pub mod Owing
+pub mod Sharing
+pub mod Dying
+pub mod Moved
+pub mod Mild

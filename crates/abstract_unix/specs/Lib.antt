@@ -9,3 +9,4 @@ pub mod Runs
 pub mod Steps
 pub mod Turn
 pub mod Unix
+pub mod Whole

@@ -7,7 +7,6 @@ use Rattle.std.proofs.lemmas.List.Folds.{sum_by-replicate}
 use Rattle.std.proofs.lemmas.List.Sums.{sum_by-cons}
 use Rattle.open_files.specs.declared.file.OpenFile.{OpenFile}
 use Rattle.open_files.specs.Files.{file_at}
-use Rattle.fs_codec.specs.Store.{Store}
 use Rattle.tty_line.specs.Terminal.{first_terminal}
 use Rattle.pick_rules.specs.declared.table.Table.{Table}
 use Rattle.pick_rules.specs.Table.{empty_row, row_at, first_table, is_in_core, IsTable}
@@ -23,12 +22,12 @@ use Rattle.sys_procs.specs.Agree.{Agrees, Agree, board_of}
 use Rattle.sys_procs.proofs.Slots.{are_processes}
 use Rattle.unix_core.specs.declared.world.World.{World}
 use Rattle.unix_core.specs.declared.machine.Stage.TheVariants as stage
-use Rattle.abstract_unix.specs.Unix.{Unix, no_texts}
-use Rattle.abstract_unix.specs.References.{is_in, is_text_of, referrers}
+use Rattle.abstract_unix.specs.Unix.{no_texts}
+use Rattle.abstract_unix.specs.References.{is_text_of}
 use Rattle.abstract_unix.specs.Runs.{first_process, first_unix, system_with}
 use Rattle.pdp_step.specs.declared.regs.Regs.{Regs}
-use Rattle.unix_core.specs.Parts.{unix_of, system_at, named, numbers_in, first_held, IsGood, IsKernel}
-use Rattle.unix_core.proofs.ReferenceLemmas.{one_in}
+use Rattle.unix_core.specs.Parts.{unix_of, system_at, first_held, IsGood, IsKernel}
+use Rattle.abstract_unix.specs.Whole.{Told, told_of, told_in, names, stands, all_names, all_stand, refer, Owes}
 
 abbrev no_files : List (Option OpenFile)
 no_files = replicate 100 None
@@ -46,12 +45,22 @@ unfolding no_texts
 texts_refer ino = count_none (is_text_of ino) 40 None refl
 
 -- one slot of fifty counts
-slots_sum : (f : Option Process → ℕ) → f None ≡ 0 → sum_by f first_slots ≡ f (Some first_process)
+abbrev first_told : List (Option Told)
+first_told = None ∷ Some (told_of first_process) ∷ replicate 48 None
+
+nobody_told : (n : ℕ) → told_in (replicate n None) ≡ replicate n None
+nobody_told zero = refl
+nobody_told (suc n) = ap (λ l. None ∷ l) (nobody_told n)
+
+told_is : told_in first_slots ≡ first_told
+told_is = ap (λ l. None ∷ Some (told_of first_process) ∷ l) (nobody_told 48)
+
+slots_sum : (f : Option Told → ℕ) → f None ≡ 0 → sum_by f first_told ≡ f (Some (told_of first_process))
 slots_sum f none =
-    let rest : List (Option Process) = replicate 48 None in
+    let rest : List (Option Told) = replicate 48 None in
     let others : sum_by f rest ≡ 48 * f None = sum_by-replicate f 48 None in
-    let second : sum_by f (Some first_process ∷ rest) ≡ f (Some first_process) + sum_by f rest = sum_by-cons f (Some first_process) rest in
-    let first : sum_by f first_slots ≡ f None + sum_by f (Some first_process ∷ rest) = sum_by-cons f None (Some first_process ∷ rest) in
+    let second : sum_by f (Some (told_of first_process) ∷ rest) ≡ f (Some (told_of first_process)) + sum_by f rest = sum_by-cons f (Some (told_of first_process)) rest in
+    let first : sum_by f first_told ≡ f None + sum_by f (Some (told_of first_process) ∷ rest) = sum_by-cons f None (Some (told_of first_process) ∷ rest) in
     omega (arith, none, others, second, first)
 
 both_ones : (ino : ℕ) → (if 1 == ino then 1 else 0) + (if ino == 1 then 1 else 0) ≡ (if ino == 1 then 2 else 0)
@@ -63,15 +72,14 @@ both_ones ino = elim (eqb_tells ino 1) [
 ]
 
 -- The root is referred to twice.
-first_referrers : (store : Store) (core ino : ℕ) → referrers (first_unix store core) ino ≡ (if ino == 1 then 2 else 0)
-first_referrers store core ino =
+first_referred : (ino : ℕ) → refer no_files no_texts first_told ino ≡ (if ino == 1 then 2 else 0)
+unfolding all_stand
+first_referred ino =
     let files : count_by (is_of ino) no_files ≡ 0 = count_none (is_of ino) 100 None refl in
-    let slots : count_by (is_in ino) first_slots ≡ (if 1 == ino then 1 else 0) = slots_sum (one_in ino) refl in
+    let slots : all_stand first_told ino ≡ (if 1 == ino then 1 else 0) = slots_sum (stands ino) refl in
     let texts = texts_refer ino in
-    ap (λ k. k + count_by (is_in ino) first_slots + count_by (is_text_of ino) no_texts + (if ino == 1 then 1 else 0)) files
-    ∙ ap (λ k. 0 + k + count_by (is_text_of ino) no_texts + (if ino == 1 then 1 else 0)) slots
-    ∙ ap (λ k. 0 + (if 1 == ino then 1 else 0) + k + (if ino == 1 then 1 else 0)) texts
-    ∙ omega arith ∙ both_ones ino
+    let both = both_ones ino in
+    omega (arith, files, slots, texts, both)
 
 -- no file is open
 everywhere : {X : Type 0} (n : ℕ) (x : X) (i : ℕ) → get_or (replicate n x) i x ≡ x
@@ -83,9 +91,17 @@ everywhere n x i = elim (cases_lt i n) [
 none_open : (entry : ℕ) → file_at no_files entry ≡ None
 none_open entry = everywhere 100 None entry
 
-none_named : (entry : ℕ) → named first_slots entry ≡ 0
-unfolding named
-none_named entry = slots_sum (numbers_in entry) refl ∙ count_none (λ number. number == entry + 1) 15 0 (ne_eqb 0 (entry + 1) (λ is. omega (arith, is)))
+none_named : (entry : ℕ) → all_names first_told entry ≡ 0
+unfolding all_names
+none_named entry = slots_sum (names entry) refl ∙ count_none (λ number. number == entry + 1) 15 0 (ne_eqb 0 (entry + 1) (λ is. omega (arith, is)))
+
+-- process 1 has fifteen numbers
+first_fifteen : (s : ℕ) (t : Told) → get_or first_told s None ≡ Some t → length t.files ≡ 15
+first_fifteen zero t is = absurd (cc is)
+first_fifteen (suc zero) t is =
+    let same : told_of first_process ≡ t = cc is in
+    let none : ℕ = 0 in ap (λ (x : Told). length x.files) (sym same) ∙ length-replicate 15 none
+first_fifteen (suc (suc s)) t is = absurd (let none : get_or first_told (suc (suc s)) None ≡ None = everywhere 48 None s in cc (none, is))
 
 -- Process 1 alone has an image.
 abbrev first_images : ℕ → Kept
@@ -198,18 +214,18 @@ module _ (fs : FileSystem) (core : ℕ) (referred : (ino : ℕ) → slice_index 
     agree = let begun : Agree first_processes (first_table fs.store.stamp) (first_images core) = first_agree core fs.store.stamp (subst IsTable slots good) in
         subst (λ v. Agree v w.procs.table w.procs.images) (sym rows)
         (subst (λ t. Agree first_processes t w.procs.images) (sym slots) (subst (λ k. Agree first_processes (first_table fs.store.stamp) k) (sym images) begun));
-    in_core = λ s held has. first_each core (λ h. is_in_core (Some h.place) ≡ true) refl s held (ap (λ k. keeping k s) (sym images) ∙ has);
-    fifteen = λ s held has. first_each core (λ h. length h.u.files ≡ 15) (let none : ℕ = 0 in length-replicate 15 none) s held (ap (λ k. keeping k s) (sym images) ∙ has);
-    numbers = λ entry. ap (λ l. numbers_of (file_at l entry)) table ∙ ap numbers_of (none_open entry) ∙ sym (ap (λ l. named l entry) processes_are ∙ none_named entry);
-    no_pipe = λ entry file is. (let none : file_at w.files.table entry ≡ None = ap (λ l. file_at l entry) table ∙ none_open entry in absurd (cc (none, is)));
+    in_core = λ s above low held has. first_each core (λ h. is_in_core (Some h.place) ≡ true) refl s held (ap (λ k. keeping k s) (sym images) ∙ has);
+    owed = subst (λ (files : List (Option OpenFile)). Owes w.files.tree.nodes.references files no_texts (told_in (unix_of w).processes)) (sym table)
+        (subst (Owes w.files.tree.nodes.references no_files no_texts) (sym (ap told_in processes_are ∙ told_is)) (record {
+          numbers = λ entry. ap numbers_of (none_open entry) ∙ sym (none_named entry);
+          referred = λ ino. ap (λ (f : FileSystem). slice_index f.references ino) nodes ∙ referred ino ∙ sym (first_referred ino);
+          no_pipe = λ entry file is. (let none = none_open entry in absurd (cc (none, is)));
+          fifteen = first_fifteen;
+        }));
     marks = marks;
-    referred = λ ino.
-        ap (λ (f : FileSystem). slice_index f.references ino) nodes ∙ referred ino
-        ∙ sym (ap (λ (u : Unix). referrers u ino) unix_is ∙ first_referrers fs.store core ino);
     running = λ s runs above. absurd (let zero_ : Some 0 ≡ Some s = sym (ap (λ (t : Table). t.running) slots) ∙ runs in
         let same : 0 ≡ s = cc zero_ in omega (arith, same, above));
-    entries = entries;
-    bytes = bytes;
+    rooms = (entries, bytes);
     core = clicks ∙ sym (ap (λ (k : Kept). k.core) images);
   }
 

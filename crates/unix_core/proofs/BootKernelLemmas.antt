@@ -48,14 +48,10 @@ module _ (w : World) (word : ℕ) where
   switched_good good = record {
     agree = good.agree;
     in_core = good.in_core;
-    fifteen = good.fifteen;
-    numbers = good.numbers;
-    no_pipe = good.no_pipe;
+    owed = good.owed;
     marks = good.marks;
-    referred = good.referred;
     running = good.running;
-    entries = good.entries;
-    bytes = good.bytes;
+    rooms = good.rooms;
     core = good.core;
   }
 

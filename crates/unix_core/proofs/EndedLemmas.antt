@@ -1,34 +1,36 @@
 -- The world after exit(II): the Unix then, and that it is good.
-use Rattle.std.proofs.Common.{◌≡◌, ◌<◌, ◌+◌, ◌*◌, ◌%◌, ◌∙◌, ℕ, true, false, ◌==◌, if◌then◌else◌, cond, List, [], length, get_or, count_by, Option, Some, None, slice_index, min, refl, sym, ap, subst, inl, inr, arith}
+use Rattle.std.proofs.Common.{◌≡◌, ◌<◌, ◌*◌, ◌%◌, ◌∙◌, ℕ, true, List, length, get_or, Option, Some, None, refl, sym, ap, subst, inl, inr, ◌≢◌, set, ◌⊎◌}
+use Rattle.std.proofs.lemmas.Bool.{cases_eq}
+use Rattle.std.proofs.lemmas.List.{get_or-set_same, get_or-set_other}
 use Rattle.std.specs.Prelude.{unwrap_or}
-use Rattle.std.proofs.lemmas.Bool.{cases_lt, eq-eqb}
-use Rattle.std.proofs.lemmas.List.{get_or-set_same}
-use Rattle.pick_rules.specs.Table.{row_at, is_in_core}
+use Rattle.v6_base.specs.declared.entry.Chan.TheVariants.{Wait}
+use Rattle.v6_base.specs.declared.entry.Place.TheVariants.{Swap}
+use Rattle.pick_rules.proofs.Laws.{wakeup_kept}
+use Rattle.pick_rules.specs.Apply.{applied}
 use Rattle.pick_rules.specs.Board.{Board}
-use Rattle.proc_tab.specs.Processes.{member_at}
-use Rattle.image_keep.specs.Kept.{Held, Nothing, Alive, Has, keeping, place_in}
-use Rattle.open_files.specs.Files.{file_at, times}
+use Rattle.pick_rules.specs.Sleepers.{wakeup}
+use Rattle.pick_rules.specs.Table.{row_at, empty_row, is_in_core}
+use Rattle.pick_rules.specs.declared.row.Stat.TheVariants.{Zombie}
+use Rattle.pick_rules.specs.declared.row.TableRow.{TableRow}
+use Rattle.pick_rules.specs.declared.table.Table.{Table}
+use Rattle.open_files.specs.Files.{times}
 use Rattle.open_files.specs.declared.file.OpenFile.{OpenFile}
 use Rattle.sys_files.specs.Handed.{Handed}
-use Rattle.sys_files.specs.Sound.{is_of, numbers_of, HasNoPipe}
-use Rattle.sys_procs.specs.Process.{Process, no_process, process_by, process_in, register}
-use Rattle.sys_procs.specs.World as its
+use Rattle.sys_procs.proofs.Agreement.{wakeup_like}
 use Rattle.sys_procs.specs.Exit.{exit_now, end_proc}
 use Rattle.sys_procs.specs.Handed.{AreProcs, handed, board, came}
-use Rattle.sys_procs.proofs.Slots.{process_in_slot}
-use Rattle.sys_procs.proofs.Agreement.{is_there}
-use Rattle.unix_core.specs.declared.world.World.{World}
-use Rattle.abstract_unix.specs.Unix.{Unix, no_texts, process_of}
-use Rattle.abstract_unix.specs.References.{is_in, is_text_of, referrers}
+use Rattle.sys_procs.specs.Process.{Process, no_process, register}
+use Rattle.sys_procs.specs.World as its
+use Rattle.abstract_unix.proofs.Dying.{closed_none, told_ended, end_owes}
+use Rattle.abstract_unix.proofs.Owing.{some_within}
 use Rattle.abstract_unix.specs.Calls.{closes_all, handed_of, with_handed, with_world}
-use Rattle.unix_core.specs.Parts.{unix_of, board_in, named, refs, IsGood, IsReady}
-use Rattle.unix_core.proofs.ReferenceLemmas.{in_within}
-use Rattle.unix_core.proofs.WorldLemmas.{slot_is, is_living, fifteen_each}
-use Rattle.unix_core.proofs.AreaLemmas.{held_within}
-use Rattle.unix_core.proofs.CameLemmas.{held_by}
-use Rattle.unix_core.proofs.DyingLemmas.{closed_none}
+use Rattle.abstract_unix.specs.Unix.{Unix, no_texts, process_of}
+use Rattle.abstract_unix.specs.Whole.{Told, told_in, Owes, Owed}
+use Rattle.unix_core.specs.Parts.{unix_of, board_in, IsGood, IsReady}
+use Rattle.unix_core.specs.declared.world.World.{World}
 use Rattle.unix_core.proofs.ExitLemmas.{of_end, ends, end_log}
-use Rattle.unix_core.proofs.DeadLemmas.{put_refs, end_places, end_running, end_core, Lived, dead_numbers, dead_inside, dead_lived}
+use Rattle.unix_core.proofs.GoodLemmas.{told_of_slot, core_stays, Rests, moved_unix, good_then}
+use Rattle.unix_core.proofs.WorldLemmas.{slot_is, is_living, told_here}
 
 -- What a process has whose files are closed.
 pub all_closed : (u : Unix) (s : ℕ) (entry : ℕ) → s < length u.processes → length (process_of (with_handed u s (closes_all u s).state) s).u.files ≡ 15
@@ -40,10 +42,30 @@ all_closed u s entry low long =
     ap (λ o. (unwrap_or o no_process).u.files) (get_or-set_same u.processes s (Some q) None low) in
     ap (λ l. times l entry) here ∙ closed_none (handed_of u (process_of u s)) entry (sym (ap length here) ∙ long)
 
+-- The board when a process has ended.
+pub end_places : (b : Board) (s block parent r : ℕ) → r ≢ s → (row_at (of_end {W = its.World} b s block parent).board.table r).place ≡ (row_at b.table r).place
+unfolding applied
+end_places b s block parent r other =
+    let grave : TableRow = record (row_at b.table s) { stat = Zombie; channel = None; place = Some (Swap block) } in
+    let t : Table = record b.table { rows = set b.table.rows s grave; running = None } in
+    ((wakeup_like (wakeup t (Wait 1)) (Wait parent)).each r).place
+    ∙ ((wakeup_like t (Wait 1)).each r).place
+    ∙ ap (λ (row : TableRow). row.place) (get_or-set_other b.table.rows s r grave empty_row other)
+
+pub end_running : (b : Board) (s block parent : ℕ) → (of_end {W = its.World} b s block parent).board.table.running ≡ None
+unfolding applied
+end_running b s block parent =
+    let grave : TableRow = record (row_at b.table s) { stat = Zombie; channel = None; place = Some (Swap block) } in
+    let t : Table = record b.table { rows = set b.table.rows s grave; running = None } in
+    (wakeup_kept (wakeup t (Wait 1)) (Wait parent)).running ∙ (wakeup_kept t (Wait 1)).running
+
+pub end_core : (b : Board) (s block parent : ℕ) → (of_end {W = its.World} b s block parent).board.core ≡ b.core
+unfolding applied
+end_core b s block parent = refl
+
 module _ (w1 now : World) (s : ℕ) (ready : IsReady w1 s) (closed : (entry : ℕ) → times (process_of (unix_of w1) s).u.files entry ≡ 0) (agree : AreProcs now.procs)
     (state : handed now.procs now.files.tree.nodes ≡ (ends w1 s ready).state) (shown : board now.procs ≡ (came w1.procs (ends w1 s ready)).board)
-    (slots : length now.procs.images.slots ≡ 50) (table : now.files.table ≡ w1.files.table) (marks : now.files.tree.marks ≡ w1.files.tree.marks) (line : now.files.line ≡ w1.files.line)
-    (tape : now.tape ≡ w1.tape) (core : now.core ≡ w1.core) where
+    (table : now.files.table ≡ w1.files.table) (rests : Rests w1 now) where
   abbrev x : its.World
   x = handed w1.procs w1.files.tree.nodes
 
@@ -64,120 +86,38 @@ module _ (w1 now : World) (s : ℕ) (ready : IsReady w1 s) (closed : (entry : �
   same_switches = refl
 
   pub ended_unix : unix_of now ≡ with_world (unix_of w1) (ends w1 s ready).state
-  ended_unix =
-      let switches : now.procs.switches ≡ w1.procs.switches = ap (λ (x : its.World). x.switches) state ∙ same_switches in
-      let core_is = clicks in
-      λ i. record {
-        store = (state i).inodes.store;
-        processes = (state i).processes;
-        files = table i;
-        pipes = [];
-        texts = (state i).texts;
-        line = line i;
-        clock = (state i).clock;
-        switches = switches i;
-        last_pid = (state i).last_pid;
-        limit = min (core_is i) 2048;
-      }
+  ended_unix = moved_unix w1 now rests clicks (ends w1 s ready).state w1.files.table state same_switches table
 
-  processes : (unix_of now).processes ≡ (ends w1 s ready).state.processes
-  processes = ap (λ (x : its.World). x.processes) state
-
-  lived : (r : ℕ) (q : Process) → get_or (unix_of now).processes r None ≡ Some q → q.is_zombie ≡ false → Lived (unix_of w1).processes s r q
+  -- who is told of then
+  told : told_in (unix_of now).processes ≡ set (told_in (unix_of w1).processes) s None
   unfolding exit_now end_proc
-  lived r q there living =
-      dead_lived x s status (slot_is w1 s ready) (is_living w1 s ready) r q (ap (λ l. get_or l r None) (sym processes) ∙ there) living
+  told = ap (λ (v : its.World). told_in v.processes) state ∙ told_ended x s status
 
-  numbers : (entry : ℕ) → named (unix_of now).processes entry ≡ named (unix_of w1).processes entry
+  in_core : (r : ℕ) (t : Told) → told_of_slot now r ≡ Some t → ((row_at now.procs.table r).place ≡ None)
+      ⊎ ((((row_at now.procs.table r).place ≡ (row_at w1.procs.table r).place) × (told_of_slot w1 r ≡ Some t)) ⊎ (is_in_core (row_at now.procs.table r).place ≡ true))
+  in_core r t is =
+      let ts : List (Option Told) = told_in (unix_of w1).processes in
+      let there : get_or (set ts s None) r None ≡ Some t = ap (λ l. get_or l r None) (sym told) ∙ is in
+      elim (cases_eq r s) [
+        | inl here ↦ absurd (
+            let none : get_or (set ts s None) r None ≡ None =
+            ap (λ n. get_or (set ts s None) n None) here ∙ get_or-set_same ts s None None (some_within ts s _ (told_here w1 s ready)) in
+            cc (none, there))
+        | inr other ↦
+            let b = its_board in
+            inr (inl (ap (λ (x : Board). (row_at x.table r).place) b.1.1 ∙ end_places (board_in w1) s b.0 b.1.0 r other, sym (get_or-set_other ts s r None None other) ∙ there))
+      ]
+
+  owed : Owed now.files.tree.nodes.references (unix_of now)
   unfolding exit_now end_proc
-  numbers entry =
-      let a = dead_numbers x s status (slot_is w1 s ready) (is_living w1 s ready) entry in
-      let b : named (unix_of now).processes entry ≡ named (ends w1 s ready).state.processes entry = ap (λ l. named l entry) processes in
-      let c = closed entry in
-      omega (arith, a, b, c)
-
-  inside : (ino : ℕ) → count_by (is_in ino) (unix_of now).processes + (if p.u.dir == ino then 1 else 0) ≡ count_by (is_in ino) (unix_of w1).processes
-  unfolding exit_now end_proc
-  inside ino =
-      let a = dead_inside x s status (slot_is w1 s ready) (is_living w1 s ready) ino in
-      let b : count_by (is_in ino) (unix_of now).processes ≡ count_by (is_in ino) (ends w1 s ready).state.processes = ap (count_by (is_in ino)) processes in
-      omega (arith, a, b)
-
-  referred_dir : 0 < refs w1 p.u.dir
-  referred_dir =
-      let least = in_within (unix_of w1).processes s p p.u.dir (slot_is w1 s ready) (is_living w1 s ready) in
-      let one : ◌≡◌ {A = ℕ} (if p.u.dir == p.u.dir then 1 else 0) 1 = ap (λ b. cond {A = ℕ} b 1 0) (eq-eqb p.u.dir p.u.dir refl) in
-      let all = ready.good.referred p.u.dir in
-      let total : referrers (unix_of w1) p.u.dir ≡ count_by (is_of p.u.dir) w1.files.table + count_by (is_in p.u.dir) (unix_of w1).processes + count_by (is_text_of p.u.dir) no_texts + (if p.u.dir == 1 then 1 else 0) = refl in
-      omega (arith, least, one, all, total)
-
-  put : (ino : ℕ) → refs now ino + (if p.u.dir == ino then 1 else 0) ≡ refs w1 ino
-  unfolding exit_now end_proc
-  put ino =
-      let a = put_refs w1.files.tree.nodes.references p.u.dir ino referred_dir in
-      let b : refs now ino ≡ slice_index (ends w1 s ready).state.inodes.references ino = ap (λ (x : its.World). slice_index x.inodes.references ino) state in
-      omega (arith, a, b)
-
-  -- who has an image then
-  above : (r : ℕ) (held : Held) → Has now.procs.images r held → 0 < r
-  above r held has = elim (cases_lt 0 r) [
-    | inl l ↦ l
-    | inr h ↦ absurd (
-        let zero : r ≡ 0 = omega (arith, h) in
-        let never : Alive held ≡ Nothing = sym has ∙ ap (keeping now.procs.images) zero ∙ agree.images in
-        cc never)
-  ]
-
-  below : (r : ℕ) (held : Held) → Has now.procs.images r held → r < 50
-  below r held has = let within = held_within now.procs.images r held has in omega (arith, within, slots)
-
-  had : (r : ℕ) (held : Held) → Has now.procs.images r held → (q : Process) × (Lived (unix_of w1).processes s r q × (q.u.files ≡ held.u.files))
-  had r held has =
-      let low = below r held has in
-      let there = is_there (member_at now.procs.rows.slots r) (row_at now.procs.table r) (keeping now.procs.images r) held (agree.each r (above r held has) low) has in
-      let living : get_or (unix_of now).processes r None ≡ Some (process_by there.0 (Alive held)) =
-      process_in_slot now.procs.rows.slots now.procs.images r low
-      ∙ (ap (λ o. process_in o (keeping now.procs.images r)) there.1 ∙ ap (λ x. process_in (Some there.0) x) has) in
-      (process_by there.0 (Alive held), (lived r (process_by there.0 (Alive held)) living there.2, refl))
-
-  in_core : (r : ℕ) (held : Held) → Has now.procs.images r held → is_in_core (Some held.place) ≡ true
-  in_core r held has =
-      let up = above r held has in
-      let low = below r held has in
-      let was : Lived (unix_of w1).processes s r (had r held has).0 = (had r held has).1.0 in
-      let old = ready.good.agree.each r up low in
-      let image = held_by (member_at w1.procs.rows.slots r) (keeping w1.procs.images r) was.before
-      (sym (process_in_slot w1.procs.rows.slots w1.procs.images r low) ∙ was.there) was.lives old.image in
-      let place : (row_at now.procs.table r).place ≡ Some held.place = (agree.each r up low).place ∙ ap place_in has in
-      let b = its_board in
-      let same : (row_at now.procs.table r).place ≡ (row_at w1.procs.table r).place =
-      ap (λ (x : Board). (row_at x.table r).place) b.1.1 ∙ end_places (board_in w1) s b.0 b.1.0 r was.other in
-      ap is_in_core (sym place ∙ same ∙ old.place ∙ ap place_in image.1) ∙ ready.good.in_core r image.0 image.1
+  owed =
+      let P : its.World → Type 0 = λ v. Owes v.inodes.references w1.files.table no_texts (told_in v.processes) in
+      subst (λ (files : List (Option OpenFile)). Owes now.files.tree.nodes.references files no_texts (told_in (unix_of now).processes)) (sym table)
+      (subst P (sym state) (end_owes x s status w1.files.table (slot_is w1 s ready) (is_living w1 s ready) closed ready.good.owed))
 
   pub ended_good : IsGood now
-  ended_good = record {
-    agree = agree;
-    in_core = in_core;
-    fifteen = λ r held has.
-        let was : Lived (unix_of w1).processes s r (had r held has).0 = (had r held has).1.0 in
-        ap length (sym (had r held has).1.1 ∙ was.files) ∙ fifteen_each w1 ready.good r was.before was.there was.lives;
-    numbers = λ entry. ap (λ files. numbers_of (file_at files entry)) table ∙ ready.good.numbers entry ∙ sym (numbers entry);
-    no_pipe = subst (λ (files : List (Option OpenFile)). HasNoPipe files) (sym table) ready.good.no_pipe;
-    referred = λ ino.
-        let refs_are = put ino in
-        let before = ready.good.referred ino in
-        let files : count_by (is_of ino) now.files.table ≡ count_by (is_of ino) w1.files.table = ap (count_by (is_of ino)) table in
-        let dirs = inside ino in
-        let old : referrers (unix_of w1) ino ≡ count_by (is_of ino) w1.files.table + count_by (is_in ino) (unix_of w1).processes + count_by (is_text_of ino) no_texts + (if ino == 1 then 1 else 0) = refl in
-        let new : referrers (unix_of now) ino ≡ count_by (is_of ino) now.files.table + count_by (is_in ino) (unix_of now).processes + count_by (is_text_of ino) no_texts + (if ino == 1 then 1 else 0) = refl in
-        omega (arith, refs_are, before, files, dirs, old, new);
-    running = λ r is up. absurd (
-        let b = its_board in
-        let none : now.procs.table.running ≡ None = ap (λ (x : Board). x.table.running) b.1.1 ∙ end_running (board_in w1) s b.0 b.1.0 in
-        let never : ◌≡◌ {A = Option ℕ} None (Some r) = sym none ∙ is in
-        cc never);
-    marks = marks ∙ ready.good.marks;
-    entries = ap (λ t. t.entry_room) tape ∙ ready.good.entries;
-    bytes = ap (λ t. t.byte_room) tape ∙ ready.good.bytes;
-    core = core ∙ ready.good.core ∙ sym clicks;
-  }
+  ended_good = good_then w1 now rests clicks ready.good agree (core_stays w1 now ready.good agree in_core) (λ r is up. absurd (
+      let b = its_board in
+      let none : now.procs.table.running ≡ None = ap (λ (x : Board). x.table.running) b.1.1 ∙ end_running (board_in w1) s b.0 b.1.0 in
+      let never : ◌≡◌ {A = Option ℕ} None (Some r) = sym none ∙ is in
+      cc never)) owed

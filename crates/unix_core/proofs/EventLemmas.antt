@@ -22,7 +22,7 @@ use Rattle.image_keep.specs.Kept.{Kept}
 use Rattle.proc_tab.specs.Processes.{Processes}
 use Rattle.sys_procs.specs.World.{clock_of}
 use Rattle.sys_procs.specs.Agree as kind
-use Rattle.sys_procs.specs.Agree.{Agree, untimed, board_of}
+use Rattle.sys_procs.specs.Agree.{Agree, board_of}
 use Rattle.sys_procs.proofs.Agreement.{AreLike, agree_like, tables_same, wakeup_like}
 use Rattle.unix_core.specs.declared.world.World.{World}
 use Rattle.unix_core.specs.declared.machine.Stage.{Stage}
@@ -132,14 +132,10 @@ module _ (at : Stage) (regs : Regs) (w : World) (byte : ℕ) (rested : IsRested 
     good = let good = rested.good in record {
       agree = good.agree;
       in_core = good.in_core;
-      fifteen = good.fifteen;
-      numbers = good.numbers;
-      no_pipe = good.no_pipe;
-      marks = good.marks;
-      referred = good.referred;
       running = good.running;
-      entries = good.entries;
-      bytes = good.bytes;
+      owed = good.owed;
+      marks = good.marks;
+      rooms = good.rooms;
       core = good.core;
     };
   }

@@ -9,12 +9,12 @@ use Rattle.v6_base.specs.declared.answer.Answer.{Answer}
 use Rattle.v6_base.specs.declared.entry.PanicKind.{PanicKind}
 use Rattle.pick_rules.specs.Board.{Board, swap_fit}
 use Rattle.pick_rules.specs.Apply.{applied}
-use Rattle.pick_rules.specs.Effects.{Effect, Show, Exit, lifted}
+use Rattle.pick_rules.specs.Effects.{Show, Exit}
 use Rattle.pick_rules.specs.Effects as effects
 use Rattle.pick_rules.specs.Logged.{Logged, logged, log_one, left_by}
 use Rattle.sys_procs.specs.World as its
 use Rattle.sys_procs.specs.Comes.{Comes}
-use Rattle.sys_procs.specs.Exit.{parent_slot, leaves, exit_now, end_proc}
+use Rattle.sys_procs.specs.Exit.{exit_now, end_proc}
 use Rattle.sys_procs.specs.Agree.{answered}
 use Rattle.sys_procs.specs.Handed.{handed, board, came}
 use Rattle.fs_nodes.specs.FileSystem.{IsFileSystem}
@@ -43,10 +43,6 @@ logged_exit b s block parent w fit = rw fit refl
 found : (o : Option ℕ) → IsSome o → (x : ℕ) × (o ≡ Some x)
 found None some = absurd (cc some)
 found (Some x) some = (x, refl)
-
--- the slot of its parent
-abbrev pub parent_of : its.World → ℕ → ℕ
-parent_of x s = parent_slot (leaves x s 0) (its.process_of x s).row.ppid
 
 module _ (w1 : World) (s : ℕ) (ready : IsReady w1 s) where
   abbrev pub ends : Comes

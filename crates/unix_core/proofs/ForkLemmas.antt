@@ -1,117 +1,239 @@
--- fork(II): the files that a child shares, and the directory to which it refers.
-use Rattle.std.proofs.Common.{◌≡◌, ◌<◌, ◌+◌, ◌∙◌, ℕ, suc, Bool, false, cond, ◌==◌, if◌then◌else◌, List, [], ◌∷◌, length, get_or, set, fold, count_by, Option, Some, None, slice_index, refl, sym, ap, inl, inr, arith}
-use Rattle.std.proofs.lemmas.Bool.{cases_lt, cases_eq, ne_eqb, eq-eqb}
-use Rattle.std.proofs.lemmas.List.{get_or_past, get_or-set_same, get_or-set_other}
-use Rattle.std.proofs.lemmas.List.FromFn.{get_or-map-range_with_len, length-map-range_with_len}
+-- fork(II): the slot of the child, the world then, and that the call has come to its row.
+use Rattle.std.proofs.Common.{◌≡◌, ◌≢◌, ◌∙◌, ◌<◌, ◌+◌, ◌⊎◌, ℕ, Bool, true, false, nat_lt, cond, if◌then◌else◌, List, get_or, set, map, Option, Some, None, slice_index, is_none, refl, sym, ap, subst, inl, inr, arith}
+use Rattle.std.specs.Prelude.{Result, Ok, Err, unwrap_or}
+use Rattle.std.proofs.lemmas.Bool.{cases_eq}
+use Rattle.std.proofs.lemmas.List.{get_or-set_other, map-set}
+use Rattle.std.proofs.Math.ListN.{get_or-map}
+use Rattle.v6_base.specs.Trace.{Taken, Took}
+use Rattle.v6_base.specs.declared.answer.Answer.{Answer}
+use Rattle.v6_base.specs.declared.answer.Answer.TheVariants.{Ret, Fail, Sleep}
+use Rattle.v6_base.specs.declared.entry.PanicKind.{PanicKind}
+use Rattle.pick_rules.specs.Table.{row_at}
+use Rattle.pick_rules.specs.Logged.{logged, left_by}
+use Rattle.proc_tab.specs.declared.member.Member.{Member}
+use Rattle.proc_tab.specs.Processes.{Finds, IsLowest, lowest, member_at}
+use Rattle.proc_tab.proofs.SearchLemmas.{lowest_finds}
+use Rattle.image_keep.specs.Kept.{Keeping, Nothing, Alive, Grave, keeping, place_in}
 use Rattle.open_files.specs.declared.file.OpenFile.{OpenFile}
-use Rattle.open_files.specs.Files.{AreOpen, file_at, times, changed, with_more, shared}
-use Rattle.sys_files.specs.Sound.{is_of, numbers_of, HasNoPipe}
-use Rattle.sys_files.proofs.NumberLemmas.{free_times}
-use Rattle.sys_procs.specs.Process.{Process}
-use Rattle.abstract_unix.specs.References.{is_in}
-use Rattle.unix_core.specs.Parts.{numbers_in, named}
-use Rattle.unix_core.proofs.ReferenceLemmas.{named_set, in_set, numbers_living, in_living}
+use Rattle.fs_nodes.specs.FileSystem.{IsFileSystem}
+use Rattle.sys_procs.specs.Process.{Process, no_process, process_in, member_of}
+use Rattle.sys_procs.specs.World as its
+use Rattle.sys_procs.specs.World.{members}
+use Rattle.sys_procs.specs.Comes.{Comes}
+use Rattle.sys_procs.specs.Fork.{copied, past_word, next_pid, fork_into, fork_one}
+use Rattle.sys_procs.specs.Agree.{kind_of_member, kind_of_keeping}
+use Rattle.sys_procs.specs.Handed.{AreProcs, handed, board, came}
+use Rattle.sys_procs.specs.Done.{HasDone, HasLeft}
+use Rattle.sys_procs.proofs.Slots.{process_in_slot}
+use Rattle.abstract_unix.specs.declared.ending.Ending.{Ending}
+use Rattle.abstract_unix.specs.Unix.{Unix, no_texts, process_of}
+use Rattle.abstract_unix.specs.Whole.{Told, told_of, told_by, told_in, Owes}
+use Rattle.abstract_unix.specs.Errors.{error_number}
+use Rattle.abstract_unix.specs.Steps.{Steps, returns, not_built}
+use Rattle.abstract_unix.specs.Calls.{with_world, with_area, refused_area, answers, came_by, shares, forks}
+use Rattle.abstract_unix.proofs.Owing.{told_none, told_change}
+use Rattle.abstract_unix.proofs.Sharing.{child_owes}
+use Rattle.abstract_unix.proofs.Moved.{MovedBoard}
+use Rattle.unix_core.specs.declared.world.World.{World}
+use Rattle.unix_core.specs.Parts.{unix_of, board_in, IsReady, HasCome, unmet_as}
+use Rattle.unix_core.proofs.GoodLemmas.{told_of_slot, fifty_told, core_moved, still_runs, Rests, moved_unix, good_then}
+use Rattle.unix_core.proofs.WorldLemmas.{slot_is, is_living, told_here}
+use Rattle.unix_core.proofs.CameLemmas.{IsStill, StaysBeside, given, world_is, goes_on, stops, gone_moved, left_took, gone_come, stopped_come}
 
--- The files that are shared: each is named once more by each number of the parent.
-more_numbers : (n : ℕ) (o : Option OpenFile) → (o ≡ None → n ≡ 0) → numbers_of (changed (with_more n) o) ≡ numbers_of o + n
-more_numbers n None none = let zero = none refl in omega (arith, zero)
-more_numbers n (Some file) none = refl
+abbrev call : World → ℕ → Comes
+call w s = fork_one (given w) s
 
-shared_at : (files : List (Option OpenFile)) (mine : List ℕ) (entry : ℕ) → entry < length files
-    → file_at (shared files mine) entry ≡ changed (with_more (times mine entry)) (file_at files entry)
-unfolding shared
-shared_at files mine entry low =
-    get_or-map-range_with_len (λ entry. changed (with_more (times mine entry)) (file_at files entry)) 0 (length files) entry entry None low (omega arith)
+-- Whatever comes of it, the switches stay.
+still_by : (w : World) (s : ℕ) (o : Option ℕ) → IsStill w (fork_into (given w) s o)
+still_by w s None = record { effects = tt; switches = λ none. refl }
+still_by w s (Some child) = record { effects = (refl, tt); switches = λ none. refl }
 
-pub shared_length : (files : List (Option OpenFile)) (mine : List ℕ) → length (shared files mine) ≡ length files
-unfolding shared
-shared_length files mine = length-map-range_with_len (λ entry. changed (with_more (times mine entry)) (file_at files entry)) 0 (length files)
+fork_still : (w : World) (s : ℕ) → IsStill w (call w s)
+unfolding fork_one
+fork_still w s = still_by w s (lowest is_none (members (given w)))
 
-pub shared_numbers : (files : List (Option OpenFile)) (mine : List ℕ) (entry : ℕ) → AreOpen files mine
-    → numbers_of (file_at (shared files mine) entry) ≡ numbers_of (file_at files entry) + times mine entry
-shared_numbers files mine entry are = elim (cases_lt entry (length files)) [
-  | inl low ↦
-      ap numbers_of (shared_at files mine entry low)
-      ∙ more_numbers (times mine entry) (file_at files entry) (λ none. free_times files mine entry are none)
-  | inr past ↦
-      let none : file_at files entry ≡ None = get_or_past files entry None past in
-      let after : file_at (shared files mine) entry ≡ None = get_or_past (shared files mine) entry None (let same = shared_length files mine in omega (arith, past, same)) in
-      let zero = free_times files mine entry are none in
-      let a : numbers_of (file_at files entry) ≡ 0 = ap numbers_of none in
-      let b : numbers_of (file_at (shared files mine) entry) ≡ 0 = ap numbers_of after in
-      omega (arith, zero, a, b)
-]
+-- The slot of a child is free, and has no place.
+nobody : (o : Option Process) → is_none (member_of o) ≡ true → o ≡ None
+nobody None e = refl
+nobody (Some p) e = absurd (cc e)
 
--- A file that is shared is the same but for its count.
-is_of_more : (ino n : ℕ) (o : Option OpenFile) → is_of ino (changed (with_more n) o) ≡ is_of ino o
-is_of_more ino n None = refl
-is_of_more ino n (Some file) = refl
+no_place : (m : Option Member) (x : Keeping) → process_in m x ≡ None → kind_of_keeping x ≡ kind_of_member m → place_in x ≡ None
+no_place None Nothing is kind = refl
+no_place None (Alive held) is kind = absurd (cc kind)
+no_place None (Grave u block) is kind = absurd (cc kind)
+no_place (Some m) Nothing is kind = absurd (cc is)
+no_place (Some m) (Alive held) is kind = absurd (cc is)
+no_place (Some m) (Grave u block) is kind = absurd (cc is)
 
-counts_like : (f : Option OpenFile → Bool) (xs ys : List (Option OpenFile)) (n : ℕ) → length xs ≡ length ys
-    → ((i : ℕ) → i < length xs → f (get_or xs i None) ≡ f (get_or ys i None)) → fold (λ a x. a + cond (f x) 1 0) n xs ≡ fold (λ a x. a + cond (f x) 1 0) n ys
-counts_like f [] [] n long each = refl
-counts_like f [] (y ∷ ys) n long each = absurd (omega (arith, long))
-counts_like f (x ∷ xs) [] n long each = absurd (omega (arith, long))
-counts_like f (x ∷ xs) (y ∷ ys) n long each =
-    let here : f x ≡ f y = each 0 (omega arith) in
-    counts_like f xs ys (n + cond (f x) 1 0) (omega (arith, long)) (λ i low. each (suc i) (omega (arith, low)))
-    ∙ ap (λ b. fold (λ a x. a + cond (f x) 1 0) (n + cond b 1 0) ys) here
+record IsFree (w : World) (child : ℕ) : Type 0 where
+  low : child < 50
+  empty : get_or (unix_of w).processes child None ≡ None
+  place : (row_at w.procs.table child).place ≡ None
 
-pub shared_inodes : (files : List (Option OpenFile)) (mine : List ℕ) (ino : ℕ) → count_by (is_of ino) (shared files mine) ≡ count_by (is_of ino) files
-shared_inodes files mine ino =
-    counts_like (is_of ino) (shared files mine) files 0 (shared_length files mine)
-    (λ i low. ap (is_of ino) (shared_at files mine i (let same = shared_length files mine in omega (arith, low, same))) ∙ is_of_more ino (times mine i) (file_at files i))
+free_slot : (w : World) (child : ℕ) → AreProcs w.procs → lowest is_none (members (given w)) ≡ Some child → IsFree w child
+free_slot w child agree free =
+    let ps : List (Option Process) = (unix_of w).processes in
+    let found : IsLowest is_none (map member_of ps) child = subst (λ o. Finds is_none (map member_of ps) o) free (lowest_finds is_none (map member_of ps)) in
+    let none : get_or ps child None ≡ None = nobody (get_or ps child None) (ap is_none (sym (get_or-map member_of ps child None)) ∙ found.passes) in
+    let at = agree.each child found.above found.low in
+    record {
+      low = found.low;
+      empty = none;
+      place = at.place ∙ no_place (member_at w.procs.rows.slots child) (keeping w.procs.images child)
+          (sym (process_in_slot w.procs.rows.slots w.procs.images child found.low) ∙ none) at.image;
+    }
 
--- no end of a pipe is among them
-no_pipe_more : (n : ℕ) (o : Option OpenFile) → ((file : OpenFile) → o ≡ Some file → file.kind.pipe ≡ false)
-    → (file : OpenFile) → changed (with_more n) o ≡ Some file → file.kind.pipe ≡ false
-no_pipe_more n None each file e = absurd (cc e)
-no_pipe_more n (Some old) each file e =
-    let same : with_more n old ≡ file = cc e in ap (λ (x : OpenFile). x.kind.pipe) (sym same) ∙ each old refl
+-- Who is told of then, and what is owed when the files are shared.
+record ForkOwes (w : World) (s : ℕ) (c : Comes) : Type 0 where
+  new : (r : ℕ) (t : Told) → get_or (told_in c.state.processes) r None ≡ Some t → (told_of_slot w r ≡ Some t) ⊎ ((row_at w.procs.table r).place ≡ None)
+  stays : (t : Told) → told_of_slot w s ≡ Some t → get_or (told_in c.state.processes) s None ≡ Some t
+  owed : Owes c.state.inodes.references (shares w.files.table (process_of (unix_of w) s).u.files c.answer) no_texts (told_in c.state.processes)
 
-pub shared_no_pipe : (files : List (Option OpenFile)) (mine : List ℕ) → HasNoPipe files → HasNoPipe (shared files mine)
-shared_no_pipe files mine none entry file is = elim (cases_lt entry (length files)) [
-  | inl low ↦
-      no_pipe_more (times mine entry) (file_at files entry) (λ old there. none entry old there) file (sym (shared_at files mine entry low) ∙ is)
-  | inr past ↦ absurd (
-      let empty : file_at (shared files mine) entry ≡ None = get_or_past (shared files mine) entry None (let same = shared_length files mine in omega (arith, past, same)) in
-      let never : ◌≡◌ {A = Option OpenFile} None (Some file) = sym empty ∙ is in
-      cc never)
-]
+module _ (w : World) (s : ℕ) (ready : IsReady w s) where
+  abbrev ps : List (Option Process)
+  ps = (unix_of w).processes
 
--- A reference is taken.
-pub more_refs : (l : List ℕ) (d ino : ℕ) → 0 < slice_index l d → slice_index (set l d (slice_index l d + 1)) ino ≡ slice_index l ino + (if d == ino then 1 else 0)
-more_refs l d ino some =
-    let within : d < length l = elim (cases_lt d (length l)) [
-      | inl low ↦ low
-      | inr high ↦ absurd (let none = get_or_past l d 0 high in omega (arith, none, some))
-    ] in
-    elim (cases_eq ino d) [
-      | inl here ↦
-          let now : slice_index (set l d (slice_index l d + 1)) ino ≡ slice_index l d + 1 =
-          ap (slice_index (set l d (slice_index l d + 1))) here ∙ get_or-set_same l d (slice_index l d + 1) 0 within in
-          let was : slice_index l ino ≡ slice_index l d = ap (slice_index l) here in
-          let one : ◌≡◌ {A = ℕ} (if d == ino then 1 else 0) 1 = ap (λ b. cond {A = ℕ} b 1 0) (eq-eqb d ino (sym here)) in
-          omega (arith, now, was, one)
-      | inr other ↦
-          let same : slice_index (set l d (slice_index l d + 1)) ino ≡ slice_index l ino = get_or-set_other l d ino (slice_index l d + 1) 0 other in
-          let none : ◌≡◌ {A = ℕ} (if d == ino then 1 else 0) 0 = ap (λ b. cond {A = ℕ} b 1 0) (ne_eqb d ino (λ e. other (sym e))) in
-          omega (arith, same, none)
-    ]
+  abbrev ts : List (Option Told)
+  ts = told_in ps
 
--- The child, in a slot that was empty, names what its parent does, and is where it is.
-module _ (ps : List (Option Process)) (c : ℕ) (p q : Process) (low : c < length ps) (empty : get_or ps c None ≡ None) (living : q.is_zombie ≡ false) (alive : p.is_zombie ≡ false)
-    (files : q.u.files ≡ p.u.files) (dir : q.u.dir ≡ p.u.dir) where
-  pub child_numbers : (entry : ℕ) → named (set ps c (Some q)) entry ≡ named ps entry + times p.u.files entry
-  child_numbers entry =
-      let change = named_set ps c None (Some q) entry low empty in
-      let own : numbers_in entry (Some q) ≡ times p.u.files entry = numbers_living entry q living ∙ ap (λ l. times l entry) files in
-      let none : numbers_in entry None ≡ 0 = refl in
-      omega (arith, change, own, none)
+  abbrev p : Process
+  p = process_of (unix_of w) s
 
-  pub child_inside : (ino : ℕ) → count_by (is_in ino) (set ps c (Some q)) ≡ count_by (is_in ino) ps + (if p.u.dir == ino then 1 else 0)
-  child_inside ino =
-      let change = in_set ps c None (Some q) ino low empty in
-      let own : cond {A = ℕ} (is_in ino (Some q)) 1 0 ≡ cond {A = ℕ} (p.u.dir == ino) 1 0 = in_living ino q living ∙ ap (λ d. cond {A = ℕ} (d == ino) 1 0) dir in
-      let none : cond {A = ℕ} (is_in ino None) 1 0 ≡ 0 = refl in
-      omega (arith, change, own, none)
+  abbrev refs : List ℕ
+  refs = w.files.tree.nodes.references
+
+  fork_by : (o : Option ℕ) → lowest is_none (members (given w)) ≡ o → ForkOwes w s (fork_into (given w) s o)
+  fork_by None full =
+      let same : told_in (set ps s (Some (past_word p))) ≡ ts = told_change ps s p (past_word p) (slot_is w s ready) refl in
+      record {
+        new = λ r t is. inl (ap (λ l. get_or l r None) (sym same) ∙ is);
+        stays = λ t is. ap (λ l. get_or l s None) same ∙ is;
+        owed = subst (Owes refs w.files.table no_texts) (sym same) ready.good.owed;
+      }
+  fork_by (Some child) found =
+      let free = free_slot w child ready.good.agree found in
+      let q : Process = copied p (next_pid (given w)) in
+      let born : List (Option Process) = set ps child (Some q) in
+      let apart : s ≢ child = λ same.
+      (let never : ◌≡◌ {A = Option Process} None (Some p) = sym free.empty ∙ ap (λ n. get_or ps n None) (sym same) ∙ slot_is w s ready in cc never) in
+      let parent : get_or born s None ≡ Some p = get_or-set_other ps child s (Some q) None apart ∙ slot_is w s ready in
+      let put : set ts child (Some (told_of p)) ≡ told_in (set born s (Some (past_word (unwrap_or (get_or born s None) no_process)))) =
+      sym (ap (λ o. told_in (set born s (Some (past_word (unwrap_or o no_process))))) parent ∙ told_change born s p (past_word p) parent refl
+      ∙ map-set told_by ps child (Some q) ∙ ap (λ b. set ts child (cond b None (Some (told_of p)))) (is_living w s ready)) in
+      let P : List (Option Told) → Type 0 = λ l. (r : ℕ) (t : Told) → get_or l r None ≡ Some t → (told_of_slot w r ≡ Some t) ⊎ ((row_at w.procs.table r).place ≡ None) in
+      let Q : List (Option Told) → Type 0 = λ l. (t : Told) → told_of_slot w s ≡ Some t → get_or l s None ≡ Some t in
+      record {
+        new = subst P put (λ r t is. elim (cases_eq r child) [
+          | inl here ↦ inr (ap (λ n. (row_at w.procs.table n).place) here ∙ free.place)
+          | inr other ↦ inl (sym (get_or-set_other ts child r (Some (told_of p)) None other) ∙ is)
+        ]);
+        stays = subst Q put (λ t is. get_or-set_other ts child s (Some (told_of p)) None apart ∙ is);
+        owed = subst (Owes (set refs p.u.dir (slice_index refs p.u.dir + 1)) (shares w.files.table p.u.files (fork_into (given w) s (Some child)).answer) no_texts) put
+            (child_owes refs w.files.table no_texts ts s child (told_of p) ready.good.owed (told_here w s ready) (told_none ps child free.empty)
+            (let low = free.low in let long = fifty_told w in omega (arith, low, long)));
+      }
+
+  fork_owes : ForkOwes w s (call w s)
+  unfolding fork_one
+  fork_owes = fork_by (lowest is_none (members (given w))) refl
+
+-- The world then, when the files are shared.
+module _ (w now : World) (s : ℕ) (ready : IsReady w s) (agree : AreProcs now.procs) (state : handed now.procs now.files.tree.nodes ≡ (call w s).state)
+    (switches : (call w s).state.switches ≡ w.procs.switches) (moved : MovedBoard (board w.procs) (board now.procs))
+    (table : now.files.table ≡ shares w.files.table (process_of (unix_of w) s).u.files (call w s).answer) (rests : Rests w now) where
+  forked_unix : unix_of now ≡ record (with_world (unix_of w) (call w s).state) { files = shares w.files.table (process_of (unix_of w) s).u.files (call w s).answer }
+  forked_unix = moved_unix w now rests moved.core (call w s).state (shares w.files.table (process_of (unix_of w) s).u.files (call w s).answer) state switches table
+
+  told : (r : ℕ) → told_of_slot now r ≡ get_or (told_in (call w s).state.processes) r None
+  told r = ap (λ (x : its.World). get_or (told_in x.processes) r None) state
+
+  forked_ready : IsReady now s
+  forked_ready =
+      let owes = fork_owes w s ready in
+      let P : its.World → Type 0 = λ x. Owes x.inodes.references (shares w.files.table (process_of (unix_of w) s).u.files (call w s).answer) no_texts (told_in x.processes) in
+      record {
+        good = good_then w now rests moved.core ready.good agree (core_moved w now ready.good agree moved (λ r t is. owes.new r t (sym (told r) ∙ is)))
+            (still_runs w now ready.good agree (λ r is. sym moved.running ∙ is) (λ r t was is.
+            let same : s ≡ r = ap (λ o. unwrap_or o 0) (sym ready.runs ∙ was) in
+            subst (λ n. told_of_slot now n ≡ Some t) same (told s ∙ owes.stays t (subst (λ n. told_of_slot w n ≡ Some t) (sym same) is))))
+            (subst (λ (l : List (Option OpenFile)). Owes now.files.tree.nodes.references l no_texts (told_in (unix_of now).processes)) (sym table) (subst P (sym state) owes.owed));
+        runs = moved.running ∙ ready.runs;
+        user = ready.user;
+      }
+
+-- The files are shared by what the call on processes has answered.
+abbrev shared_by : Unix → ℕ → Comes → Steps
+shared_by u s c = record (came_by u s c) { unix = record (came_by u s c).unix { files = shares u.files (process_of u s).u.files c.answer } }
+
+whole_is : (w : World) (s : ℕ) → IsReady w s → IsFileSystem w.files.tree.nodes → forks (unix_of w) s ≡ shared_by (unix_of w) s (call w s)
+whole_is w s ready form = ap (λ x. shared_by (unix_of w) s (fork_one x s)) (sym (world_is w s ready form))
+
+-- what is answered with other files
+record SameBut (u : Unix) (files : List (Option OpenFile)) (old new : Steps) : Type 0 where
+  ending : new.ending ≡ old.ending
+  unix : new.unix ≡ record old.unix { files = files }
+
+with_files : (u : Unix) (files : List (Option OpenFile)) (s : ℕ) (a : Answer) → SameBut u files (answers u s a) (answers (record u { files = files }) s a)
+with_files u files s (Ret r0 r1) = record { ending = refl; unix = refl }
+with_files u files s (Fail e) = by (nat_lt (error_number e) 100)
+  where
+    by : (b : Bool) → SameBut u files (if b then returns (with_area u s (refused_area (error_number e))) else not_built u)
+        (if b then returns (with_area (record u { files = files }) s (refused_area (error_number e))) else not_built (record u { files = files }))
+    by true = record { ending = refl; unix = refl }
+    by false = record { ending = refl; unix = refl }
+with_files u files s (Sleep pri chan) = record { ending = refl; unix = refl }
+
+-- What it has come to, of which this is the world before the files are shared.
+module _ (w done : World) (s : ℕ) (ready : IsReady w s) (form : IsFileSystem w.files.tree.nodes) (stays : StaysBeside w done)
+    {r : Result Answer PanicKind} {start end : Taken}
+    (does : HasDone w.procs done.procs done.files.tree.nodes r start end (call w s)) where
+  left : HasLeft w.procs done.procs done.files.tree.nodes start end (call w s)
+  left = record { state = does.state; shown = does.shown; items = does.items }
+
+  pub fork_took : Took start (logged (board_in w) (forks (unix_of w) s).effects).items end
+  fork_took =
+      subst (λ (x : Steps). Took start (logged (board_in w) x.effects).items end) (sym (whole_is w s ready form))
+      (left_took w done (call w s) (fork_still w s) stays left (shared_by (unix_of w) s (call w s)) refl)
+
+  pub fork_stops : (kind : PanicKind) (e : Ending) → r ≡ Err kind → e ≡ unmet_as kind → HasCome (board_in w) (forks (unix_of w) s) e done
+  fork_stops kind e err ends =
+      let halt = stops (came w.procs (call w s)).stop (call w s).answer kind r does.answer err in
+      subst (λ (x : Steps). HasCome (board_in w) x e done) (sym (whole_is w s ready form))
+      (stopped_come w done (call w s) (fork_still w s) stays left (shared_by (unix_of w) s (call w s)) refl halt.0 e halt.1.0 (ends ∙ ap unmet_as halt.1.1))
+
+  -- It has answered, and the files are shared.
+  module _ (answer : Answer) (ok : r ≡ Ok answer) (now : World) (procs : now.procs ≡ done.procs) (tree : now.files.tree ≡ done.files.tree)
+      (table : now.files.table ≡ shares w.files.table (process_of (unix_of w) s).u.files answer)
+      (line : now.files.line ≡ w.files.line) (tape : now.tape ≡ w.tape) (core : now.core ≡ w.core) (agree : AreProcs now.procs) where
+    went : ((came w.procs (call w s)).stop ≡ None) × (answer ≡ (call w s).answer)
+    went = goes_on (came w.procs (call w s)).stop (call w s).answer answer r does.answer ok
+
+    state : handed now.procs now.files.tree.nodes ≡ (call w s).state
+    state = (λ i. handed (procs i) (tree i).nodes) ∙ does.state ∙ ap (λ o. left_by o (call w s).state) went.0
+
+    moved : MovedBoard (board w.procs) (board now.procs)
+    moved = subst (MovedBoard (board w.procs)) (sym (ap board procs)) (gone_moved w done (call w s) (fork_still w s) stays left went.0)
+
+    its_table : now.files.table ≡ shares w.files.table (process_of (unix_of w) s).u.files (call w s).answer
+    its_table = table ∙ ap (shares w.files.table (process_of (unix_of w) s).u.files) went.1
+
+    switches : (call w s).state.switches ≡ w.procs.switches
+    switches = (fork_still w s).switches went.0
+
+    rests : Rests w now
+    rests = record { marks = ap (λ t. t.marks) tree ∙ stays.rests.marks; line = line; tape = tape; core = core }
+
+    pub fork_ready : IsReady now s
+    fork_ready = forked_ready w now s ready agree state switches moved its_table rests
+
+    -- when the answer has been concluded
+    pub fork_come : (fin : World) (e : Ending) → e ≡ (answers (unix_of now) s answer).ending → unix_of fin ≡ (answers (unix_of now) s answer).unix
+        → board_in fin ≡ board_in now → HasCome (board_in w) (forks (unix_of w) s) e fin
+    fork_come fin e ends unix same =
+        let now_is = forked_unix w now s ready agree state switches moved its_table rests in
+        let its_answer = went.1 in
+        let but = with_files (with_world (unix_of w) (call w s).state) (shares w.files.table (process_of (unix_of w) s).u.files (call w s).answer) s (call w s).answer in
+        subst (λ (x : Steps). HasCome (board_in w) x e fin) (sym (whole_is w s ready form))
+        (gone_come w done (call w s) (fork_still w s) stays left (shared_by (unix_of w) s (call w s)) refl fin e went.0
+        (ends ∙ (λ i. (answers (now_is i) s (its_answer i)).ending) ∙ but.ending) (unix ∙ (λ i. (answers (now_is i) s (its_answer i)).unix) ∙ but.unix)
+        (same ∙ ap board procs))

@@ -1,5 +1,5 @@
 -- break(II) and the growth of a stack: what the world is then, and what they have come to.
-use Rattle.std.proofs.Common.{◌≡◌, ◌∙◌, ℕ, ◌+◌, Bool, true, false, length, option_map, is_some, Option, Some, None, refl, sym, ap, subst}
+use Rattle.std.proofs.Common.{◌≡◌, ◌∙◌, ℕ, Bool, true, false, option_map, is_some, Option, Some, None, refl, sym, ap, subst}
 use Rattle.std.specs.Prelude.{Result, Ok, Err}
 use Rattle.v6_base.specs.Trace.{Taken, Took}
 use Rattle.v6_base.specs.declared.answer.Answer.TheVariants.{Fail}
@@ -8,13 +8,12 @@ use Rattle.v6_base.specs.declared.errno.Errno.TheVariants.{ENOMEM}
 use Rattle.pick_rules.specs.Effects.{kind_of}
 use Rattle.pick_rules.specs.Logged.{Stop, logged}
 use Rattle.fs_nodes.specs.FileSystem.{IsFileSystem}
-use Rattle.pick_rules.specs.Table.{row_at}
 use Rattle.seg_regs.specs.Sizes.{is_refused}
 use Rattle.sys_procs.specs.Process.{Process}
 use Rattle.sys_procs.specs.World as its
 use Rattle.sys_procs.specs.Comes.{Comes, fails}
 use Rattle.sys_procs.specs.Break.{sized, expands, clicks_up_to, break_at, grown_stack, grow, grown_or_not, grown_by}
-use Rattle.sys_procs.specs.Handed.{AreProcs, board, came}
+use Rattle.sys_procs.specs.Handed.{AreProcs, came}
 use Rattle.sys_procs.specs.Done.{HasGrown, HasLeft}
 use Rattle.unix_core.specs.declared.world.World.{World}
 use Rattle.abstract_unix.specs.Unix.{process_of}
@@ -23,40 +22,33 @@ use Rattle.abstract_unix.specs.declared.ending.Ending.TheVariants.{Trapped, NotB
 use Rattle.abstract_unix.specs.Calls.{grows, grows_to}
 use Rattle.abstract_unix.specs.Calls as unix
 use Rattle.unix_core.specs.Parts.{unix_of, board_in, IsReady, HasCome, unmet_as}
-use Rattle.unix_core.proofs.WorldLemmas.{ready_alive, slot_is, is_living}
-use Rattle.unix_core.proofs.MildLemmas.{counts_same, counts_put}
-use Rattle.unix_core.proofs.MovedLemmas.{size_moved}
-use Rattle.unix_core.proofs.CameLemmas.{StaysBeside, IsLike, IsTame, tame_by, tame_comes, tame_if, world_is, gone_unix, gone_come, stopped_come, left_took, gone_ready}
-use Rattle.unix_core.proofs.ForkSlots.{given}
+use Rattle.unix_core.proofs.WorldLemmas.{slot_is}
+use Rattle.abstract_unix.proofs.Owing.{told_change}
+use Rattle.unix_core.proofs.CameLemmas.{StaysBeside, IsLike, IsTame, tame_comes, tame_if, world_is, gone_unix, gone_come, stopped_come, left_took, gone_ready}
+use Rattle.unix_core.proofs.CameLemmas.{given}
 
 pub given_like : (w : World) → IsLike w (given w)
-given_like w = record { switches = refl; refs = λ ino. refl; counts = counts_same (unix_of w).processes }
-
--- no process has a text
-pub text_none : (w : World) (s : ℕ) → IsReady w s → (row_at w.procs.table s).text ≡ None
-text_none w s ready = let alive = ready_alive w s ready in (alive.agree.each s alive.above alive.below).text
+given_like w = record { refs = λ ino. refl; told = refl }
 
 module _ (w : World) (s : ℕ) (ready : IsReady w s) where
   abbrev p : Process
   p = its.process_of (given w) s
 
   expands_tame : (d stack : ℕ) → IsTame w (expands (given w) s d stack)
-  expands_tame d stack =
-      tame_by w (expands (given w) s d stack) (given w) refl
-      (record {
-        switches = refl;
-        refs = λ ino. refl;
-        counts = counts_put (unix_of w).processes (unix_of w).processes s (process_of (unix_of w) s) (sized d stack (process_of (unix_of w) s))
-            (counts_same (unix_of w).processes) (slot_is w s ready) (is_living w s ready) refl refl refl;
-      })
-      (size_moved (board w.procs) s (16 + d + stack) (given w) (text_none w s ready))
+  expands_tame d stack = record {
+        still = record { effects = (refl, tt); switches = λ none. refl };
+        like = λ none. record {
+          refs = λ ino. refl;
+          told = told_change (unix_of w).processes s (process_of (unix_of w) s) (sized d stack (process_of (unix_of w) s)) (slot_is w s ready) refl;
+        };
+      }
 
   pub break_tame : (at : ℕ) → IsTame w (break_at (given w) s at)
   unfolding break_at
   break_tame at =
       let d = clicks_up_to p.u.text_size at in
       tame_if w (is_refused p.u.text_size d p.u.stack_size (given w).limit) (fails (given w) ENOMEM) (expands (given w) s d p.u.stack_size)
-      (tame_comes w (given w) (Fail ENOMEM) (given_like w)) (expands_tame d p.u.stack_size)
+      (tame_comes w (given w) (Fail ENOMEM) refl (given_like w)) (expands_tame d p.u.stack_size)
 
   grow_tame : (sp : ℕ) (c : Comes) → grow (given w) s sp ≡ Some c → IsTame w c
   unfolding grow
@@ -96,7 +88,7 @@ abbrev row : World → ℕ → Option Comes → Comes
 row w s o = grown_or_not (given w) s o
 
 row_tame : (w : World) (s sp : ℕ) → IsReady w s → (o : Option Comes) → growth w s sp ≡ o → IsTame w (row w s o)
-row_tame w s sp ready None e = tame_comes w (given w) _ (given_like w)
+row_tame w s sp ready None e = tame_comes w (given w) _ refl (given_like w)
 row_tame w s sp ready (Some c) e = grow_tame w s ready sp c e
 
 module _ (w now : World) (s sp : ℕ) (ready : IsReady w s) (form : IsFileSystem w.files.tree.nodes) (stays : StaysBeside w now)
@@ -133,14 +125,14 @@ module _ (w now : World) (s sp : ℕ) (ready : IsReady w s) (form : IsFileSystem
         let none = stop_is c is None went.0 in
         let t = tame c is in
         whole_come (Some c) Trapped is
-        (gone_come w now c t.switches t.core stays (left c is) (grows (unix_of w) c) refl now Trapped none refl
-        (gone_unix w now c t.switches t.core stays (left c is) none) refl)
+        (gone_come w now c t.still stays (left c is) (grows (unix_of w) c) refl now Trapped none refl
+        (gone_unix w now c t.still stays (left c is) none) refl)
 
-    pub grown_ready : AreProcs now.procs → length now.procs.images.slots ≡ 50 → IsReady now s
-    grown_ready agree slots =
+    pub grown_ready : AreProcs now.procs → IsReady now s
+    grown_ready agree =
         let c : Comes = its_growth.0 in
         let is = its_growth.1 in
-        gone_ready w now s c (tame c is) stays (left c is) (stop_is c is None went.0) ready agree slots
+        gone_ready w now s c (tame c is) stays (left c is) (stop_is c is None went.0) ready agree
 
   pub not_grown_come : r ≡ Ok false → HasCome (board_in w) (grows_to (unix_of w) s sp) NotBuilt now
   not_grown_come grown =
@@ -151,8 +143,8 @@ module _ (w now : World) (s sp : ℕ) (ready : IsReady w s) (form : IsFileSystem
       let left : HasLeft w.procs now.procs now.files.tree.nodes start end c =
       subst (λ o. HasLeft w.procs now.procs now.files.tree.nodes start end (row w s o)) none does.left in
       whole_come None NotBuilt none
-      (gone_come w now c t.switches t.core stays left (unix.grown_by (unix_of w) None) refl now NotBuilt refl refl
-      (gone_unix w now c t.switches t.core stays left refl) refl)
+      (gone_come w now c t.still stays left (unix.grown_by (unix_of w) None) refl now NotBuilt refl refl
+      (gone_unix w now c t.still stays left refl) refl)
 
   pub growth_stops : (kind : PanicKind) (e : Ending) → r ≡ Err kind → e ≡ unmet_as kind → HasCome (board_in w) (grows_to (unix_of w) s sp) e now
   growth_stops kind e err ends =
@@ -166,7 +158,7 @@ module _ (w now : World) (s sp : ℕ) (ready : IsReady w s) (form : IsFileSystem
       by (Some c) is stop some same =
           let t = tame c is in
           whole_come (Some c) e is
-          (stopped_come w now c t.switches t.core stays (left c is) (grows (unix_of w) c) refl stop e (stop_is c is (Some stop) some) same)
+          (stopped_come w now c t.still stays (left c is) (grows (unix_of w) c) refl stop e (stop_is c is (Some stop) some) same)
 
   pub grown_took : Took start (logged (board_in w) (grows_to (unix_of w) s sp).effects).items end
   grown_took =
@@ -176,4 +168,4 @@ module _ (w now : World) (s sp : ℕ) (ready : IsReady w s) (form : IsFileSystem
       by : (o : Option Comes) → growth w s sp ≡ o → HasLeft w.procs now.procs now.files.tree.nodes start end (row w s o)
           → Took start (logged (board_in w) (unix.grown_by (unix_of w) o).effects).items end
       by None is left = left.items
-      by (Some c) is left = let t = tame c is in left_took w now c t.switches t.core stays left (grows (unix_of w) c) refl
+      by (Some c) is left = let t = tame c is in left_took w now c t.still stays left (grows (unix_of w) c) refl

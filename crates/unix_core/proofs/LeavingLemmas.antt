@@ -89,8 +89,8 @@ module _ (w w' : World) (s : ℕ) (u : UArea) (row : Row) (image : Image) (state
 
   has_all : HasAll w'.tape items
   has_all =
-      let entries = ready.good.entries in
-      let bytes = ready.good.bytes in
+      let entries = ready.good.rooms.0 in
+      let bytes = ready.good.rooms.1 in
       never_filled (record w.tape { entries = []; bytes = [] }) w'.tape items leaves.fits
       (record { entries = refl; bytes = refl; entry_room = omega (arith, entries); byte_room = omega (arith, bytes) })
       leaves.rooms.0 leaves.rooms.1 leaves.took

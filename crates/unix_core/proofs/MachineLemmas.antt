@@ -1,7 +1,6 @@
 -- What the parts of a kernel are while the registers of the process that executes instructions stand apart, and when they have
 -- been put back into its u area.
 use Rattle.std.proofs.Common.{◌≡◌, ◌<◌, ◌==◌, if◌then◌else◌, ℕ, Bool, false, set, Option, Some, None, refl, sym, ap, ◌∙◌, subst, arith}
-use Rattle.std.specs.Prelude.{⊤, MatchOption}
 use Rattle.std.proofs.lemmas.Bool.{ne_eqb}
 use Rattle.std.proofs.lemmas.List.{set-get_or}
 use Rattle.u_area.specs.declared.area.UArea.{UArea}
@@ -10,7 +9,7 @@ use Rattle.pdp_step.specs.declared.regs.Regs.{Regs}
 use Rattle.pick_rules.specs.declared.row.Mode.{Mode}
 use Rattle.pick_rules.specs.declared.row.Mode.TheVariants.{User, Kernel, Idle}
 use Rattle.pick_rules.specs.Choice.{settle}
-use Rattle.image_keep.specs.Kept.{Kept, with_area, area_of}
+use Rattle.image_keep.specs.Kept.{Kept, with_area, area_of, clicks_of}
 use Rattle.sys_procs.specs.Process.{Process}
 use Rattle.sys_procs.specs.Handed.{IsAlive}
 use Rattle.sys_procs.proofs.Alive.{area_here}
@@ -22,7 +21,7 @@ use Rattle.abstract_unix.specs.Turn.{is_user}
 use Rattle.abstract_unix.specs.Outside.{mode_by, mode_of, timed_area, timed, charged}
 use Rattle.unix_core.specs.Parts.{unix_of, board_in, holding, with_regs, system_at, IsGood, IsReady, IsUser, IsRested, IsKernel}
 use Rattle.unix_core.proofs.LoanLemmas.{area_core}
-use Rattle.unix_core.proofs.PutLemmas.{IsLikeArea, with_images, alive_slot, unix_put, good_put}
+use Rattle.unix_core.proofs.PutLemmas.{good_alive, IsLikeArea, with_images, alive_slot, unix_put, good_put}
 
 -- Where no registers stand apart, the Unix is the world's.
 pub rested_unix : (at : Stage) (regs : Regs) (w : World) → IsRested at w → with_regs at regs (unix_of w) ≡ unix_of w
@@ -30,15 +29,6 @@ rested_unix at regs w r = ap (λ x. with_regs x regs (unix_of w)) r.resting
 
 pub some_good : (at : Stage) (w : World) → IsRested at w → IsGood w
 some_good at w r = r.good
-
--- who runs lives
-pub good_alive : (w : World) (s : ℕ) → IsGood w → w.procs.table.running ≡ Some s → 0 < s → IsAlive w.procs s
-good_alive w s good runs user = record {
-  agree = good.agree;
-  above = user;
-  below = subst (λ o. MatchOption o ⊤ (λ r. r < 50)) runs good.agree.table.running;
-  image = good.running s runs user;
-}
 
 pub rested_alive : (at : Stage) (w : World) (s : ℕ) → IsRested at w → w.procs.table.running ≡ Some s → 0 < s → IsAlive w.procs s
 rested_alive at w s r runs user = good_alive w s (some_good at w r) runs user
@@ -53,11 +43,7 @@ put_is v regs codes p is =
 
 like_held : (u : UArea) (regs : Regs) (p : Process) → u ≡ (holding regs p).u → IsLikeArea u p.u
 like_held u regs p is = record {
-  sizes = record {
-    text = ap (λ (v : UArea). v.text_size) is;
-    «data» = ap (λ (v : UArea). v.data_size) is;
-    stack = ap (λ (v : UArea). v.stack_size) is;
-  };
+  clicks = ap clicks_of is;
   files = ap (λ (v : UArea). v.files) is;
   dir = ap (λ (v : UArea). v.dir) is;
 }
@@ -149,9 +135,9 @@ mode_is at regs w s b rested runs above is =
 
 -- The process that runs is charged with a tick.
 like_timed : (mode : Mode) (u : UArea) → IsLikeArea (timed_area mode u) u
-like_timed User u = record { sizes = record { text = refl; «data» = refl; stack = refl }; files = refl; dir = refl }
-like_timed Kernel u = record { sizes = record { text = refl; «data» = refl; stack = refl }; files = refl; dir = refl }
-like_timed Idle u = record { sizes = record { text = refl; «data» = refl; stack = refl }; files = refl; dir = refl }
+like_timed User u = record { clicks = refl; files = refl; dir = refl }
+like_timed Kernel u = record { clicks = refl; files = refl; dir = refl }
+like_timed Idle u = record { clicks = refl; files = refl; dir = refl }
 
 module _ (mode : Mode) (at : Stage) (w : World) (s : ℕ) (rested : IsRested at w) (runs : w.procs.table.running ≡ Some s) (above : 0 < s)
     (u : UArea) (is : u ≡ timed_area mode (area_of w.procs.images s)) (k : Kept) (kept : k ≡ with_area w.procs.images s u) where

@@ -15,7 +15,7 @@ use Rattle.sys_procs.specs.Fork.{fork_one, fork_into, past_word, next_pid, with_
 use Rattle.sys_procs.specs.Exit.{exit_now, end_proc, leaves, dead, ended}
 use Rattle.sys_procs.specs.Resume.{resume_proc, awake}
 use Rattle.abstract_unix.proofs.ProcessRows.{Plain, gives, refuses, waits, changes, due, nice, wakes, dated, buries, resume_plain}
-use Rattle.unix_core.proofs.ReferenceLemmas.{slot_within}
+use Rattle.abstract_unix.proofs.Owing.{some_within}
 use Rattle.unix_core.proofs.PrivateSlots.{Spared, AllCarry, spared_then, spared_other, spared_unless, spared_adopted}
 
 -- A call of another process has left a slot alone, and so had its parts before each effect.
@@ -27,7 +27,7 @@ pub record IsSparing (ps : List (Option Process)) (r : ℕ) (c : Comes) : Type 0
 member_here : (w : World) (r : ℕ) (q : Process) → get_or w.processes r None ≡ Some q
     → get_or (members w) r None ≡ member_of (Some q)
 member_here w r q is =
-    get_or-map member_of w.processes r None None (slot_within w.processes r q is) ∙ ap member_of is
+    get_or-map member_of w.processes r None None (some_within w.processes r q is) ∙ ap member_of is
 
 -- nobody is in a slot that is found as free
 free_empty : (w : World) (child : ℕ) → IsLowest is_none (members w) child

@@ -17,7 +17,7 @@ use Rattle.sys_procs.specs.Process.{Process, no_process}
 use Rattle.sys_procs.specs.Exit.{adopted}
 use Rattle.abstract_unix.specs.Outside.{timed}
 use Rattle.abstract_unix.specs.Private.{SameMemory, LivesOn}
-use Rattle.unix_core.proofs.ReferenceLemmas.{slot_within}
+use Rattle.abstract_unix.proofs.Owing.{some_within}
 
 -- the process of a slot lives on
 abbrev pub Spared : List (Option Process) → List (Option Process) → ℕ → Type 0
@@ -86,7 +86,7 @@ spared_timed ps s r mode = elim (cases_eq r s) [
         now = timed mode p;
         there =
             ap (λ n. get_or (set ps s (Some (timed mode q))) n None) here
-            ∙ get_or-set_same ps s (Some (timed mode q)) None (slot_within ps s p at)
+            ∙ get_or-set_same ps s (Some (timed mode q)) None (some_within ps s p at)
             ∙ ap (λ x. Some (timed mode x)) its;
         lives = lives;
         pid = refl;
@@ -98,7 +98,7 @@ spared_timed ps s r mode = elim (cases_eq r s) [
 -- children of a process that has ended are process 1's
 pub spared_adopted : (ps : List (Option Process)) (pid r : ℕ) → Spared ps (map (adopted pid) ps) r
 spared_adopted ps pid r p is lives =
-    by (p.row.ppid == pid) (get_or-map (adopted pid) ps r None None (slot_within ps r p is) ∙ ap (adopted pid) is)
+    by (p.row.ppid == pid) (get_or-map (adopted pid) ps r None None (some_within ps r p is) ∙ ap (adopted pid) is)
   where
     by : (b : Bool)
         → get_or (map (adopted pid) ps) r None ≡ Some (cond b (record p { row = record p.row { ppid = 1 } }) p)

@@ -8,7 +8,6 @@ use Rattle.v6_base.specs.declared.errno.Errno.{Errno}
 use Rattle.v6_base.specs.declared.errno.Errno.TheVariants.{ENOEXEC, ENOMEM, ENFILE, EACCES, ETXTBSY}
 use Rattle.v6_base.specs.declared.entry.Entry.TheVariants as line
 use Rattle.pick_rules.specs.Effects as effect
-use Rattle.pick_rules.specs.Logged.{logged}
 use Rattle.fs_codec.specs.Modes.{file_type}
 use Rattle.fs_codec.specs.Store.{Node}
 use Rattle.fs_laws.specs.Pieces.{Moving}
@@ -34,12 +33,15 @@ use Rattle.sys_procs.proofs.LoadForms.{begun, image, loads_effects, loads_state}
 use Rattle.unix_core.specs.declared.world.World.{World}
 use Rattle.abstract_unix.specs.Unix.{process_of}
 use Rattle.unix_core.specs.Parts.{unix_of, IsReady}
-use Rattle.unix_core.proofs.WorldLemmas.{ready_alive, slot_is, is_living}
-use Rattle.unix_core.proofs.MildLemmas.{SameCounts, counts_same, counts_put}
-use Rattle.unix_core.proofs.MovedLemmas.{MovedLog, image_moved, text_moved, text_stops}
-use Rattle.unix_core.proofs.CameLemmas.{IsLike, IsTame, tame_by, tame_halted, tame_comes}
-use Rattle.unix_core.proofs.GrowthLemmas.{text_none}
-use Rattle.unix_core.proofs.ForkSlots.{given}
+use Rattle.unix_core.proofs.WorldLemmas.{ready_alive, slot_is}
+use Rattle.abstract_unix.specs.Whole.{told_by, told_in}
+use Rattle.abstract_unix.proofs.Owing.{told_change}
+use Rattle.sys_procs.proofs.PlacingLemmas.{logged_text}
+use Rattle.pick_rules.specs.Logged.{Logged}
+use Rattle.abstract_unix.proofs.Moved.{AreTamed, mild_bare}
+use Rattle.sys_procs.specs.Handed.{board, came}
+use Rattle.unix_core.proofs.CameLemmas.{IsLike, IsTame, tame_comes}
+use Rattle.unix_core.proofs.CameLemmas.{given}
 
 -- One reference more, and then one less.
 abbrev more : List ℕ → ℕ → List ℕ
@@ -141,9 +143,8 @@ module _ (base : its.World) (s : ℕ) where
 module _ (w : World) (s : ℕ) (ready : IsReady w s) where
   out_like : (x : its.World) → IsOut (given w) x → IsLike w x
   out_like x is = record {
-    switches = ap (λ (v : its.World). v.switches) is.0;
     refs = is.1;
-    counts = subst (λ ps. SameCounts (unix_of w).processes ps) (sym (ap (λ (v : its.World). v.processes) is.0)) (counts_same (unix_of w).processes);
+    told = ap (λ (v : its.World). told_in v.processes) is.0;
   }
 
   module _ (x : its.World) (program : Program) (is : IsIn (given w) x program.ino) where
@@ -160,6 +161,9 @@ module _ (w : World) (s : ℕ) (ready : IsReady w s) where
     no_text_of =
         let here = is_here w.procs s (ready_alive w s ready) in
         ap (λ (q : Process). q.text) own ∙ ap (λ (q : Process). q.text) here.process_is
+
+    same_switches : x.switches ≡ w.procs.switches
+    same_switches = ap (λ (v : its.World). v.switches) is.0
 
     -- no text is in an entry
     no_entry : entry_of x.texts program.ino ≡ None
@@ -186,33 +190,32 @@ module _ (w : World) (s : ℕ) (ready : IsReady w s) where
 
       begun_like : IsLike w (loads x s program).state
       begun_like =
-          let put : SameCounts (unix_of w).processes (set (unix_of w).processes s (Some begins)) =
-          counts_put (unix_of w).processes (unix_of w).processes s p begins (counts_same (unix_of w).processes) (slot_is w s ready) (is_living w s ready)
-          (ap (λ (q : Process). q.is_zombie) own) (ap (λ (q : Process). q.u.files) own) (ap (λ (q : Process). q.u.dir) own) in
           let state = loads_state x s program no_text_of empty in
           record {
-            switches = ap (λ (v : its.World). v.switches) state ∙ ap (λ (v : its.World). v.switches) is.0;
             refs = λ ino.
                 ap (λ (v : its.World). slice_index v.inodes.references ino) state
                 ∙ ap (λ l. slice_index (less l program.ino) ino) is.1 ∙ less_more (given w).inodes.references program.ino ino;
-            counts = subst (λ ps. SameCounts (unix_of w).processes ps)
-                (sym (ap (λ (v : its.World). v.processes) state ∙ ap (λ ps. set ps s (Some begins)) same_processes)) put;
+            told = ap (λ (v : its.World). told_in v.processes) state ∙ ap (λ ps. told_in (set ps s (Some begins))) same_processes
+                ∙ told_change (unix_of w).processes s p begins (slot_is w s ready) (ap (λ (q : Process). told_by (Some q)) own);
           }
 
       placed_tame : IsTame w (loads x s program)
-      placed_tame =
-          tame_by w (loads x s program) x (ap (λ (v : its.World). v.switches) is.0) begun_like
-          (subst (λ es. MovedLog (board w.procs) x (logged (board w.procs) es)) (sym (loads_effects x s program no_text_of empty))
-          (image_moved (board w.procs) s (image_clicks program.plan) x (text_none w s ready)))
+      placed_tame = record {
+        still = record {
+          effects = subst (AreTamed (λ (v : its.World). v.switches ≡ w.procs.switches)) (sym (loads_effects x s program no_text_of empty)) (mild_bare s, (same_switches, tt));
+          switches = λ none. ap (λ (v : its.World). v.switches) (loads_state x s program no_text_of empty) ∙ same_switches;
+        };
+        like = λ none. begun_like;
+      }
 
     shares_tame : (text_clicks program.plan == 0) ≡ false → IsTame w (loads x s program)
     shares_tame some =
         let size : ℕ = text_clicks program.plan in
         let row : Comes = logs (line.Bare s) (does (effect.Text s size x) (next (makes_text x s program.ino size) true)) in
+        let never : (came w.procs row).stop ≡ None → ⊥ = λ none.
+        (let some_ = sym none ∙ ap (λ (l : Logged its.World). l.stop) (logged_text (board w.procs) s size x (next (makes_text x s program.ino size) true).effects) in cc some_) in
         subst (IsTame w) (sym (loads_shares some))
-        (tame_halted w row x (ap (λ (v : its.World). v.switches) is.0)
-        (text_moved (board w.procs) s (image_clicks program.plan) x (text_none w s ready) size (next (makes_text x s program.ino size) true).effects)
-        (λ none. absurd (text_stops (board w.procs) s size x (next (makes_text x s program.ino size) true).effects none)))
+        (record { still = record { effects = (mild_bare s, same_switches); switches = λ none. absurd (never none) }; like = λ none. absurd (never none) })
 
     loads_tame : IsTame w (loads x s program)
     loads_tame = by (text_clicks program.plan == 0) refl
@@ -223,7 +226,7 @@ module _ (w : World) (s : ℕ) (ready : IsReady w s) where
 
   done_tame : (x : its.World) (r : Result Program Errno) → Leaves (given w) x r → IsTame w (done_by x s r)
   done_tame x (Ok program) leaves = loads_tame x program leaves
-  done_tame x (Err e) leaves = tame_comes w x (Fail e) (out_like x leaves)
+  done_tame x (Err e) leaves = tame_comes w x (Fail e) (ap (λ (v : its.World). v.switches) leaves.0) (out_like x leaves)
 
   pub exec_tame : (name list : ℕ) → IsTame w (exec_file (given w) s name list)
   unfolding exec_file

@@ -1,28 +1,30 @@
 -- A process's u area is another one, with the same sizes, numbers of files and directory: what belongs together still does.
-use Rattle.std.proofs.Common.{◌≡◌, ◌+◌, ◌==◌, if◌then◌else◌, cond, ℕ, true, false, length, get_or, set, min, count_by, Some, None, refl, sym, ap, ◌∙◌, subst, inl, inr, arith}
-use Rattle.std.proofs.lemmas.Bool.{cases_eq}
+use Rattle.std.proofs.Common.{◌≡◌, ◌≢◌, ◌<◌, cond, ℕ, get_or, set, min, Some, None, refl, sym, ap, ◌∙◌, subst}
 use Rattle.u_area.specs.declared.area.UArea.{UArea}
-use Rattle.pick_rules.specs.Table.{row_at, is_in_core}
-use Rattle.proc_tab.specs.Processes.{member_at}
-use Rattle.image_keep.specs.Kept.{Held, Keeping, Nothing, Alive, Grave, Kept, Has, keeping, with_area, area_in, clicks_of}
-use Rattle.image_keep.proofs.Frames.{alive_low, image_alive, with_area_has}
-use Rattle.open_files.specs.Files.{times}
-use Rattle.sys_files.specs.Sound.{is_of}
-use Rattle.sys_procs.specs.Process.{Process, process_in}
+use Rattle.pick_rules.specs.Table.{row_at}
+use Rattle.v6_base.specs.declared.entry.Place.{Place}
+use Rattle.proc_tab.specs.declared.member.Member.{Member}
+use Rattle.proc_tab.specs.declared.row.Row.{Row}
+use Rattle.proc_tab.specs.Processes.{Processes, member_at}
+use Rattle.image_keep.specs.Kept.{Held, Alive, Kept, Has, keeping, with_area, area_in, clicks_of}
+use Rattle.image_keep.proofs.Frames.{alive_low, image_alive}
+use Rattle.sys_procs.specs.Process.{Process, process_by, process_in}
+use Rattle.sys_procs.specs.World.{processes_in}
 use Rattle.sys_procs.specs.Agree.{Agrees, Agree}
-use Rattle.sys_procs.specs.Handed.{IsAlive}
-use Rattle.sys_procs.proofs.Slots.{process_in_slot, area_changed}
+use Rattle.sys_procs.specs.Handed.{AreProcs, IsAlive}
+use Rattle.sys_procs.proofs.Slots.{process_in_slot, one_changed, area_changed}
 use Rattle.sys_procs.proofs.Agreement.{agree_but}
-use Rattle.sys_procs.proofs.Alive.{SameSizes, is_here}
+use Rattle.sys_procs.proofs.Alive.{IsHere, is_here}
 use Rattle.unix_core.specs.declared.world.World.{World}
 use Rattle.abstract_unix.specs.Unix.{no_texts, process_of, with_process}
-use Rattle.abstract_unix.specs.References.{is_in, is_text_of, referrers}
-use Rattle.unix_core.specs.Parts.{unix_of, named, numbers_in, IsGood}
-use Rattle.unix_core.proofs.ReferenceLemmas.{slot_within, numbers_living, one_in, in_living, named_set, in_set}
+use Rattle.unix_core.specs.Parts.{unix_of, board_in, IsGood}
+use Rattle.abstract_unix.specs.Whole.{told_in, Owes}
+use Rattle.abstract_unix.proofs.Owing.{told_change}
+use Rattle.unix_core.proofs.GoodLemmas.{runs_low, core_same, runs_same}
 use Rattle.unix_core.proofs.LoanLemmas.{area_now, area_other, area_core}
 
 pub record IsLikeArea (u v : UArea) : Type 0 where
-  pub sizes : SameSizes u v
+  pub clicks : clicks_of u ≡ clicks_of v
   pub files : u.files ≡ v.files
   pub dir : u.dir ≡ v.dir
 
@@ -38,14 +40,46 @@ alive_slot w s alive =
     ∙ (ap (λ x. process_in (Some here.member) x) here.image_is
     ∙ ap (λ (p : Process). Some p) (sym here.process_is)))
 
-pub alive_living : (w : World) (s : ℕ) → IsAlive w.procs s → (process_of (unix_of w) s).is_zombie ≡ false
-alive_living w s alive =
-    let here = is_here w.procs s alive in ap (λ (p : Process). p.is_zombie) here.process_is ∙ here.is_living
+-- who runs lives
+pub good_alive : (w : World) (s : ℕ) → IsGood w → w.procs.table.running ≡ Some s → 0 < s → IsAlive w.procs s
+good_alive w s good runs user = record { agree = good.agree; above = user; below = runs_low w s good.agree runs; image = good.running s runs user }
 
-abbrev held_in : Held → Keeping → Held
-held_in other Nothing = other
-held_in other (Alive held) = held
-held_in other (Grave u block) = other
+-- A slot has another row, and another u area or another memory in the same place and of the same size.
+module _ (w : World) (s : ℕ) (alive : IsAlive w.procs s) (v : Processes) (k : Kept) (row : Member → Row) (new : Held → Held)
+    (clicks : (held : Held) → (process_of (unix_of w) s).u ≡ held.u → clicks_of (new held).u ≡ clicks_of held.u) (place : (held : Held) → (new held).place ≡ held.place)
+    (member : (m : Member) → member_at w.procs.rows.slots s ≡ Some m → member_at v.slots s ≡ Some (record m { row = row m }))
+    (members : (r : ℕ) → r ≢ s → member_at v.slots r ≡ member_at w.procs.rows.slots r)
+    (memory : (held : Held) → Has w.procs.images s held → Has k s (new held)) (others : (r : ℕ) → r ≢ s → keeping k r ≡ keeping w.procs.images r) where
+  abbrev here : IsHere w.procs s
+  here = is_here w.procs s alive
+
+  abbrev its : Member
+  its = record here.member { row = row here.member }
+
+  pub slot_put : (q : Process) → process_by its (Alive (new here.held)) ≡ q → processes_in v.slots k ≡ set (unix_of w).processes s (Some q)
+  slot_put q is =
+      one_changed w.procs.rows.slots v.slots w.procs.images k s (Some q) alive.below
+      (ap (λ o. process_in o (keeping k s)) (member here.member here.member_is)
+      ∙ ap (λ x. process_in (Some its) x) (memory here.held here.image_is) ∙ ap (λ (x : Process). Some x) is)
+      (λ r below other. ap (λ o. process_in o (keeping k r)) (members r other) ∙ ap (λ x. process_in (member_at w.procs.rows.slots r) x) (others r other))
+
+  pub agree_put : Agree v w.procs.table k
+  agree_put =
+      let old : Agrees (Some here.member) (row_at w.procs.table s) (Alive here.held) =
+      subst (λ m. Agrees m (row_at w.procs.table s) (Alive here.held)) here.member_is
+      (subst (λ x. Agrees (member_at w.procs.rows.slots s) (row_at w.procs.table s) x) here.image_is (alive.agree.each s alive.above alive.below)) in
+      let now : Agrees (Some its) (row_at w.procs.table s) (Alive (new here.held)) = record {
+        stat = old.stat;
+        image = old.image;
+        place = old.place ∙ ap (λ (p : Place). Some p) (sym (place here.held));
+        size = λ other is. old.size here.held refl ∙ (sym (clicks here.held (ap (λ (x : Process). x.u) here.process_is)) ∙ ap (λ x. clicks_of (area_in x)) is);
+        text = old.text;
+        quiet = old.quiet;
+      } in
+      agree_but w.procs.rows v w.procs.table w.procs.table w.procs.images k s alive.agree alive.above alive.agree.table refl
+      (subst (λ m. Agrees m (row_at w.procs.table s) (keeping k s)) (sym (member here.member here.member_is))
+      (subst (λ x. Agrees (Some its) (row_at w.procs.table s) x) (sym (memory here.held here.image_is)) now))
+      members (λ r other. refl) others
 
 module _ (w : World) (s : ℕ) (u : UArea) (alive : IsAlive w.procs s) where
   abbrev p : Process
@@ -72,81 +106,27 @@ module _ (w : World) (s : ℕ) (u : UArea) (alive : IsAlive w.procs s) where
     limit = min (area_core k s u i) 2048;
   }
 
+  pub board_put : board_in w' ≡ board_in w
+  board_put = λ i. record (board_in w) { core = area_core k s u i }
+
   module _ (like : IsLikeArea u p.u) where
-    named_put : (entry : ℕ) → named (set (unix_of w).processes s (Some q)) entry ≡ named (unix_of w).processes entry
-    named_put entry =
-        let slot = alive_slot w s alive in
-        let lives = alive_living w s alive in
-        let change = named_set (unix_of w).processes s (Some p) (Some q) entry (slot_within (unix_of w).processes s p slot) slot in
-        let old = numbers_living entry p lives in
-        let new : numbers_in entry (Some q) ≡ times u.files entry = numbers_living entry q lives in
-        let same : times u.files entry ≡ times p.u.files entry = ap (λ l. times l entry) like.files in
-        omega (arith, change, old, new, same)
+    told_put : told_in (unix_of w').processes ≡ told_in (unix_of w).processes
+    told_put =
+        ap told_in processes_put
+        ∙ told_change (unix_of w).processes s p q (alive_slot w s alive) (λ i. cond p.is_zombie None (Some (record { files = like.files i; dir = like.dir i })))
 
-    in_put : (ino : ℕ) → count_by (is_in ino) (set (unix_of w).processes s (Some q)) ≡ count_by (is_in ino) (unix_of w).processes
-    in_put ino =
-        let slot = alive_slot w s alive in
-        let lives = alive_living w s alive in
-        let change = in_set (unix_of w).processes s (Some p) (Some q) ino (slot_within (unix_of w).processes s p slot) slot in
-        let old = in_living ino p lives in
-        let new : one_in ino (Some q) ≡ (if u.dir == ino then 1 else 0) = in_living ino q lives in
-        let same : cond {A = ℕ} (u.dir == ino) 1 0 ≡ cond {A = ℕ} (p.u.dir == ino) 1 0 = ap (λ d. cond {A = ℕ} (d == ino) 1 0) like.dir in
-        omega (arith, change, old, new, same)
-
-    referrers_put : (ino : ℕ) → referrers (unix_of w') ino ≡ referrers (unix_of w) ino
-    referrers_put ino =
-        ap (λ ps. count_by (is_of ino) w.files.table + count_by (is_in ino) ps + count_by (is_text_of ino) no_texts + (if ino == 1 then 1 else 0)) processes_put
-        ∙ ap (λ n. count_by (is_of ino) w.files.table + n + count_by (is_text_of ino) no_texts + (if ino == 1 then 1 else 0)) (in_put ino)
-
-    -- a fact of each image
-    each_put : (P : Held → Type 0) → ((r : ℕ) (held : Held) → Has k r held → P held)
-        → ((held : Held) → Has k s held → P (record held { u = u }))
-        → (r : ℕ) (held : Held) → Has (with_area k s u) r held → P held
-    each_put P old new r held has = elim (cases_eq r s) [
-      | inl same ↦
-          let here = is_here w.procs s alive in
-          let is : Alive (record here.held { u = u }) ≡ Alive held = sym (area_now k s u here.held here.image_is) ∙ (ap (keeping (with_area k s u)) (sym same) ∙ has) in
-          subst P (ap (held_in (record here.held { u = u })) is) (new here.held here.image_is)
-      | inr other ↦ old r held (sym (area_other k s u r other) ∙ has)
-    ]
-
-    clicks_put : (held : Held) → Has k s held → clicks_of u ≡ clicks_of held.u
-    clicks_put held has =
-        let here = is_here w.procs s alive in
-        let own : p.u ≡ held.u = ap (λ (x : Process). x.u) here.process_is ∙ ap area_in (sym here.image_is ∙ has) in
-        ap (λ n. 16 + n + u.stack_size) like.sizes.data ∙ ap (λ n. 16 + p.u.data_size + n) like.sizes.stack ∙ ap clicks_of own
-
-    pub agree_put : Agree w.procs.rows w.procs.table (with_area k s u)
-    agree_put =
-        let here = is_here w.procs s alive in
-        let old : Agrees (member_at w.procs.rows.slots s) (row_at w.procs.table s) (Alive here.held) =
-        subst (λ x. Agrees (member_at w.procs.rows.slots s) (row_at w.procs.table s) x) here.image_is (alive.agree.each s alive.above alive.below) in
-        let new : Agrees (member_at w.procs.rows.slots s) (row_at w.procs.table s) (Alive (record here.held { u = u })) = record {
-          stat = old.stat;
-          image = old.image;
-          place = old.place;
-          size = λ other is. old.size here.held refl ∙ (sym (clicks_put here.held here.image_is) ∙ ap (λ x. clicks_of (area_in x)) is);
-          text = old.text;
-          quiet = old.quiet;
-        } in
-        agree_but w.procs.rows w.procs.rows w.procs.table w.procs.table k (with_area k s u) s alive.agree alive.above alive.agree.table refl
-        (subst (λ x. Agrees (member_at w.procs.rows.slots s) (row_at w.procs.table s) x) (sym (area_now k s u here.held here.image_is)) new)
-        (λ r other. refl) (λ r other. refl) (area_other k s u)
+    agree_area : AreProcs w'.procs
+    agree_area =
+        agree_put w s alive w.procs.rows (with_area k s u) (λ m. m.row) (λ held. record held { u = u }) (λ held own. like.clicks ∙ ap clicks_of own) (λ held. refl)
+        (λ m is. is) (λ r other. refl) (area_now k s u) (area_other k s u)
 
     pub good_put : IsGood w → IsGood w'
     good_put good = record {
-      agree = agree_put;
-      in_core = each_put (λ held. is_in_core (Some held.place) ≡ true) good.in_core (λ held has. good.in_core s held has);
-      fifteen = each_put (λ held. length held.u.files ≡ 15) good.fifteen (λ held has.
-          let here = is_here w.procs s alive in
-          let own : p.u ≡ held.u = ap (λ (x : Process). x.u) here.process_is ∙ ap area_in (sym here.image_is ∙ has) in
-          ap length (like.files ∙ ap (λ (v : UArea). v.files) own) ∙ good.fifteen s held has);
-      numbers = λ entry. good.numbers entry ∙ sym (ap (λ ps. named ps entry) processes_put ∙ named_put entry);
-      no_pipe = good.no_pipe;
+      agree = agree_area;
+      in_core = core_same w w' good agree_area refl;
+      running = runs_same w w' good agree_area refl;
+      owed = subst (Owes w.files.tree.nodes.references w.files.table no_texts) (sym told_put) good.owed;
       marks = good.marks;
-      referred = λ ino. good.referred ino ∙ sym (referrers_put ino);
-      running = λ r runs above. with_area_has k s r u (good.running r runs above);
-      entries = good.entries;
-      bytes = good.bytes;
+      rooms = good.rooms;
       core = good.core ∙ sym (area_core k s u);
     }

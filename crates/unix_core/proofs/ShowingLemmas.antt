@@ -102,14 +102,10 @@ module _ (w : World) (entries : List Entry) where
         good = record {
           agree = agree_like w.procs.rows w.procs.table (all_woken w.procs.table entries) w.procs.images ready.good.agree good (woken_like w.procs.table entries);
           in_core = ready.good.in_core;
-          fifteen = ready.good.fifteen;
-          numbers = ready.good.numbers;
-          no_pipe = ready.good.no_pipe;
-          referred = ready.good.referred;
           running = λ r is above. ready.good.running r (sym kept.running ∙ is) above;
+          owed = ready.good.owed;
           marks = ready.good.marks;
-          entries = ready.good.entries;
-          bytes = ready.good.bytes;
+          rooms = ready.good.rooms;
           core = ready.good.core;
         };
         runs = kept.running ∙ ready.runs;

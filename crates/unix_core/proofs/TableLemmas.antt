@@ -30,14 +30,10 @@ module _ (w : World) (t : Table) (agree : Agree w.procs.rows t w.procs.images) (
   good_table good = record {
     agree = agree;
     in_core = good.in_core;
-    fifteen = good.fifteen;
-    numbers = good.numbers;
-    no_pipe = good.no_pipe;
+    owed = good.owed;
     marks = good.marks;
-    referred = good.referred;
     running = runs;
-    entries = good.entries;
-    bytes = good.bytes;
+    rooms = good.rooms;
     core = good.core;
   }
 

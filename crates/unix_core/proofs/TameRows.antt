@@ -7,9 +7,8 @@ use Rattle.abstract_unix.specs.declared.calls.ProcessCall.TheVariants as process
 use Rattle.abstract_unix.specs.Calls.{process_row}
 use Rattle.abstract_unix.proofs.ProcessRows.{plain_row}
 use Rattle.unix_core.specs.Parts.{IsReady}
-use Rattle.unix_core.proofs.MildRows.{mild_plain}
-use Rattle.unix_core.proofs.CameLemmas.{IsTame, mild_tame, near_here}
-use Rattle.unix_core.proofs.ForkSlots.{given}
+use Rattle.abstract_unix.proofs.Mild.{mild_plain}
+use Rattle.unix_core.proofs.CameLemmas.{given, IsTame, mild_tame, near_here}
 use Rattle.unix_core.proofs.GrowthLemmas.{break_tame}
 use Rattle.unix_core.proofs.ProgramLemmas.{exec_tame}
 

@@ -1,7 +1,6 @@
 -- An instruction of the process that runs: its memory is another one, what belongs together still does, and the process has
 -- stepped.
-use Rattle.std.proofs.Common.{◌≡◌, ◌<◌, ◌∙◌, ◌==◌, if◌then◌else◌, ℕ, zero, suc, false, List, [], length, set, min, Option, Some, None, refl, sym, ap, subst, inl, inr, arith}
-use Rattle.std.proofs.lemmas.Bool.{cases_eq}
+use Rattle.std.proofs.Common.{◌≡◌, ◌<◌, ◌∙◌, if◌then◌else◌, ℕ, zero, suc, false, List, [], min, Option, Some, None, refl, sym, ap, subst, arith}
 use Rattle.std.proofs.lemmas.List.{set-set}
 use Rattle.v6_base.specs.Image.{Image}
 use Rattle.u_area.specs.declared.area.UArea.{UArea}
@@ -11,56 +10,29 @@ use Rattle.pdp_step.specs.declared.regs.Regs.{Regs}
 use Rattle.pdp_step.specs.Machine as pdp
 use Rattle.pdp_step.specs.Machine.{Machine}
 use Rattle.pdp_step.specs.Instruction.{Stepped, stepped, instr}
-use Rattle.pick_rules.specs.declared.row.TableRow.{TableRow}
-use Rattle.pick_rules.specs.Table.{row_at, is_in_core}
 use Rattle.pick_rules.specs.Choice.{settle}
-use Rattle.proc_tab.specs.declared.member.Member.{Member}
-use Rattle.proc_tab.specs.Processes.{member_at}
-use Rattle.image_keep.specs.Kept.{Held, Alive, Kept, Has, keeping, with_image, image_in, image_of, area_in, clicks_of}
-use Rattle.open_files.specs.Files.{times}
+use Rattle.image_keep.specs.Kept.{Alive, Kept, with_image, image_in, image_of}
 use Rattle.sys_procs.specs.Process as one
-use Rattle.sys_procs.specs.Process.{Process, process_by, process_in, register}
-use Rattle.sys_procs.specs.Agree.{Agrees}
-use Rattle.sys_procs.proofs.Slots.{one_changed}
-use Rattle.sys_procs.proofs.Agreement.{agree_but}
+use Rattle.sys_procs.specs.Process.{Process, process_by}
 use Rattle.sys_procs.proofs.Alive.{is_here, put_here}
 use Rattle.abstract_unix.specs.declared.turned.Turned.TheVariants.{Ran}
 use Rattle.unix_core.specs.declared.machine.Stage.TheVariants as stage
 use Rattle.unix_core.specs.declared.world.World.{World}
-use Rattle.abstract_unix.specs.Unix.{Unix, System, process_of, with_process}
-use Rattle.abstract_unix.specs.References.{referrers}
+use Rattle.abstract_unix.specs.Unix.{Unix, System, no_texts, process_of, with_process}
 use Rattle.abstract_unix.specs.Steps.{steps}
 use Rattle.abstract_unix.specs.Calls.{resumed}
 use Rattle.abstract_unix.specs.Turn.{Turn, machine_of, with_machine, is_user, comes_to, instruction, turn, turn_of, slot_by, slot_of, settled_as, settled_after, turned}
 use Rattle.abstract_unix.specs.Runs.{Slot, event_of}
-use Rattle.unix_core.specs.Parts.{unix_of, board_in, holding, with_regs, system_at, named, numbers_in, IsReady, IsUser, HasStepped}
-use Rattle.unix_core.proofs.ReferenceLemmas.{numbers_living, one_in, in_living, named_set, in_set, slot_within}
-use Rattle.unix_core.proofs.WorldLemmas.{ready_alive, slot_is, is_living}
+use Rattle.unix_core.specs.Parts.{unix_of, board_in, holding, with_regs, system_at, IsReady, IsUser, HasStepped}
+use Rattle.abstract_unix.specs.Whole.{told_in, Owes}
+use Rattle.abstract_unix.proofs.Owing.{told_change, some_within}
+use Rattle.unix_core.proofs.GoodLemmas.{core_same, runs_same}
+use Rattle.sys_procs.specs.Handed.{AreProcs}
+use Rattle.unix_core.proofs.WorldLemmas.{ready_alive, slot_is}
 use Rattle.unix_core.proofs.LoanLemmas.{image_now, image_other, image_core}
-use Rattle.unix_core.proofs.PutLemmas.{with_images}
+use Rattle.unix_core.proofs.PutLemmas.{with_images, slot_put, agree_put}
 use Rattle.unix_core.proofs.BoardLemmas.{settle_same}
 use Rattle.unix_core.proofs.AreaLemmas.{state_is}
-
--- whoever has an image then had one before, with the same place and the same area
-image_had : (k : Kept) (s : ℕ) (image : Image) (held : Held) → Has k s held → (r : ℕ) (now : Held) → Has (with_image k s image) r now
-    → (old : Held) × (Has k r old × ((now.place ≡ old.place) × (now.u ≡ old.u)))
-image_had k s image held has r now is = elim (cases_eq r s) [
-  | inl here ↦
-      let same : Alive now ≡ Alive (record held { image = image }) = sym is ∙ ap (keeping (with_image k s image)) here ∙ image_now k s image held has in
-      let now_is : now ≡ record held { image = image } = cc (same) in
-      (held, (ap (keeping k) here ∙ has, (ap (λ (h : Held). h.place) now_is, ap (λ (h : Held). h.u) now_is)))
-  | inr other ↦ (now, (sym (image_other k s image r other) ∙ is, (refl, refl)))
-]
-
-image_agrees : (m : Option Member) (row : TableRow) (held : Held) (image : Image) → Agrees m row (Alive held) → Agrees m row (Alive (record held { image = image }))
-image_agrees m row held image a = record {
-  stat = a.stat;
-  image = a.image;
-  place = a.place;
-  size = λ other is. a.size held refl ∙ ap (λ x. clicks_of (area_in x)) is;
-  text = a.text;
-  quiet = a.quiet;
-}
 
 -- The memory of the process is another one.
 module _ (w : World) (s : ℕ) (ready : IsReady w s) (image : Image) where
@@ -75,15 +47,11 @@ module _ (w : World) (s : ℕ) (ready : IsReady w s) (image : Image) where
 
   pub memory_unix : unix_of with_memory ≡ with_process (unix_of w) s q
   memory_unix =
-      let alive = ready_alive w s ready in
-      let here = is_here w.procs s alive in
       let k : Kept = w.procs.images in
-      let now : Process → Process = λ x. record x { «data» = image.data; stack = image.stack } in
-      let changed = one_changed w.procs.rows.slots w.procs.rows.slots k (with_image k s image) s (Some q) alive.below
-      (ap (λ o. process_in o (keeping (with_image k s image) s)) here.member_is
-      ∙ (ap (λ x. process_in (Some here.member) x) (image_now k s image here.held here.image_is)
-      ∙ ap (λ (x : Process). Some (now x)) (sym here.process_is)))
-      (λ r below other. ap (λ x. process_in (member_at w.procs.rows.slots r) x) (image_other k s image r other)) in
+      let here = is_here w.procs s (ready_alive w s ready) in
+      let changed = slot_put w s (ready_alive w s ready) w.procs.rows (with_image k s image) (λ m. m.row) (λ held. record held { image = image }) (λ held own. refl) (λ held. refl)
+      (λ m is. is) (λ r other. refl) (image_now k s image) (image_other k s image) q
+      (ap (λ (x : Process). record x { «data» = image.data; stack = image.stack }) (sym here.process_is)) in
       λ i. record (unix_of w) { processes = changed i; limit = min (image_core k s image i) 2048 }
 
   pub memory_board : board_in with_memory ≡ board_in w
@@ -92,60 +60,29 @@ module _ (w : World) (s : ℕ) (ready : IsReady w s) (image : Image) where
   pub memory_process : process_of (unix_of with_memory) s ≡ q
   memory_process =
       let ps : List (Option Process) = (unix_of w).processes in
-      ap (λ (x : Unix). process_of x s) memory_unix ∙ put_here ps s q (slot_within ps s p (slot_is w s ready))
+      ap (λ (x : Unix). process_of x s) memory_unix ∙ put_here ps s q (some_within ps s p (slot_is w s ready))
+
+  memory_agree : AreProcs with_memory.procs
+  memory_agree =
+      let k : Kept = w.procs.images in
+      agree_put w s (ready_alive w s ready) w.procs.rows (with_image k s image) (λ m. m.row) (λ held. record held { image = image }) (λ held own. refl) (λ held. refl)
+      (λ m is. is) (λ r other. refl) (image_now k s image) (image_other k s image)
 
   pub memory_ready : IsReady with_memory s
-  memory_ready =
-      let alive = ready_alive w s ready in
-      let here = is_here w.procs s alive in
-      let k : Kept = w.procs.images in
-      let now = image_now k s image here.held here.image_is in
-      let old : Agrees (member_at w.procs.rows.slots s) (row_at w.procs.table s) (Alive here.held) =
-      subst (λ x. Agrees (member_at w.procs.rows.slots s) (row_at w.procs.table s) x) here.image_is (alive.agree.each s alive.above alive.below) in
-      let slot = slot_is w s ready in
-      let lives = is_living w s ready in
-      let ps : List (Option Process) = (unix_of w).processes in
-      let within = slot_within ps s p slot in
-      let unix = memory_unix in
-      record {
-        good = record {
-          agree = agree_but w.procs.rows w.procs.rows w.procs.table w.procs.table k (with_image k s image) s alive.agree alive.above alive.agree.table refl
-              (subst (λ x. Agrees (member_at w.procs.rows.slots s) (row_at w.procs.table s) x) (sym now)
-              (image_agrees (member_at w.procs.rows.slots s) (row_at w.procs.table s) here.held image old))
-              (λ r other. refl) (λ r other. refl) (image_other k s image);
-          in_core = λ r held has.
-              let had = image_had k s image here.held here.image_is r held has in
-              ap (λ place. is_in_core (Some place)) had.1.1.0 ∙ ready.good.in_core r had.0 had.1.0;
-          fifteen = λ r held has.
-              let had = image_had k s image here.held here.image_is r held has in
-              ap (λ (u : UArea). length u.files) had.1.1.1 ∙ ready.good.fifteen r had.0 had.1.0;
-          numbers = λ entry.
-              let before = ready.good.numbers entry in
-              let was = numbers_living entry p lives in
-              let new : numbers_in entry (Some q) ≡ times p.u.files entry = numbers_living entry q lives in
-              let change = named_set ps s (Some p) (Some q) entry within slot in
-              let after : named (unix_of with_memory).processes entry ≡ named (set ps s (Some q)) entry = ap (λ (x : Unix). named x.processes entry) unix in
-              omega (arith, before, was, new, change, after);
-          no_pipe = ready.good.no_pipe;
-          marks = ready.good.marks;
-          referred = λ ino.
-              let before = ready.good.referred ino in
-              let was = in_living ino p lives in
-              let new : one_in ino (Some q) ≡ (if p.u.dir == ino then 1 else 0) = in_living ino q lives in
-              let change = in_set ps s (Some p) (Some q) ino within slot in
-              let after : referrers (unix_of with_memory) ino ≡ referrers (with_process (unix_of w) s q) ino = ap (λ (x : Unix). referrers x ino) unix in
-              omega (arith, before, was, new, change, after);
-          running = λ r is above. elim (cases_eq r s) [
-            | inl there ↦ (record here.held { image = image }, ap (keeping (with_image k s image)) there ∙ now)
-            | inr other ↦ let had = ready.good.running r is above in (had.0, image_other k s image r other ∙ had.1)
-          ];
-          entries = ready.good.entries;
-          bytes = ready.good.bytes;
-          core = ready.good.core ∙ sym (image_core k s image);
-        };
-        runs = ready.runs;
-        user = ready.user;
-      }
+  memory_ready = record {
+    good = record {
+      agree = memory_agree;
+      in_core = core_same w with_memory ready.good memory_agree refl;
+      running = runs_same w with_memory ready.good memory_agree refl;
+      owed = subst (Owes w.files.tree.nodes.references w.files.table no_texts)
+          (sym (ap (λ (x : Unix). told_in x.processes) memory_unix ∙ told_change (unix_of w).processes s p q (slot_is w s ready) refl)) ready.good.owed;
+      marks = ready.good.marks;
+      rooms = ready.good.rooms;
+      core = ready.good.core ∙ sym (image_core w.procs.images s image);
+    };
+    runs = ready.runs;
+    user = ready.user;
+  }
 
   pub memory_user : IsUser s w → IsUser s with_memory
   memory_user user = record {
@@ -160,7 +97,7 @@ pub apart_process : (w : World) (s : ℕ) (regs : Regs) → IsReady w s
 apart_process w s regs ready =
     let ps : List (Option Process) = (unix_of w).processes in
     let p : Process = process_of (unix_of w) s in
-    put_here ps s (holding regs p) (slot_within ps s p (slot_is w s ready))
+    put_here ps s (holding regs p) (some_within ps s p (slot_is w s ready))
 
 -- what an instruction works on
 machine_is : (w : World) (s : ℕ) (regs : Regs) → IsReady w s → (image_of w.procs.images s).text ≡ []

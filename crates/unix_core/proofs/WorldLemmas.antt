@@ -8,85 +8,48 @@ use Rattle.v6_base.specs.Image.{Image}
 use Rattle.v6_base.specs.Trace.{Item, Log, sent}
 use Rattle.u_area.specs.declared.area.UArea.{UArea}
 use Rattle.pick_rules.specs.declared.table.Table.{Table}
-use Rattle.pick_rules.specs.Table.{row_at, is_in_core}
+use Rattle.pick_rules.specs.Table.{row_at}
 use Rattle.proc_tab.specs.declared.row.Row.{Row}
 use Rattle.proc_tab.specs.declared.member.Member.{Member}
 use Rattle.proc_tab.specs.Processes as proc
 use Rattle.proc_tab.specs.Processes.{member_at}
-use Rattle.image_keep.specs.Kept.{Held, Keeping, Nothing, Alive, Grave, Kept, Has, HasImage, keeping, clicks_of, area_in, area_of, image_in, image_of}
+use Rattle.image_keep.specs.Kept.{Held, Alive, Has, keeping, clicks_of, area_of, image_in, image_of}
 use Rattle.open_files.specs.declared.file.OpenFile.{OpenFile}
-use Rattle.open_files.specs.Files.{AreOpen, file_at, times}
 use Rattle.fs_nodes.specs.FileSystem.{IsFileSystem}
 use Rattle.fs_tree.specs.Marks.{no_marks}
 use Rattle.fs_tree.specs.declared.marks.TheConstants.{INODE_NUMBERS}
 use Rattle.sys_files.specs.Handed.{Handed, handed}
-use Rattle.sys_files.specs.Sound.{is_of, numbers_of, HasNoPipe, IsSound, IsKept}
+use Rattle.sys_files.specs.Sound.{IsSound, IsKept}
 use Rattle.sys_files.proofs.Bounds.{Fits, HasAll}
 use Rattle.sys_procs.specs.Process as one
-use Rattle.sys_procs.specs.Process.{Process, no_process, process_by, process_in}
-use Rattle.sys_procs.specs.Agree.{Lives, Died, Agrees, Agree, kind_by, kind_of_member, kind_of_keeping, board_of}
+use Rattle.sys_procs.specs.Process.{Process, process_by}
+use Rattle.sys_procs.specs.Agree.{Agree, board_of}
 use Rattle.sys_procs.specs.Handed.{IsAlive}
-use Rattle.sys_procs.proofs.Slots.{process_in_slot, fifty_processes, one_changed, own_row}
-use Rattle.sys_procs.proofs.Agreement.{agree_but}
+use Rattle.sys_procs.proofs.Slots.{own_row}
 use Rattle.sys_procs.proofs.Alive.{is_here, area_here}
 use Rattle.unix_core.specs.declared.world.World.{World}
-use Rattle.abstract_unix.specs.Unix.{Text, Unix, no_texts, process_of}
-use Rattle.abstract_unix.specs.References.{is_in, is_text_of, referrers, references_of}
+use Rattle.abstract_unix.specs.Unix.{Text, no_texts, process_of}
+use Rattle.abstract_unix.specs.References.{referrers, references_of}
 use Rattle.abstract_unix.specs.Calls.{marks_of, handed_of, with_handed}
 use Rattle.unix_core.specs.Passing.{all_woken}
-use Rattle.unix_core.specs.Parts.{unix_of, named, IsGood, IsReady, IsReadyToShow}
-use Rattle.unix_core.proofs.ReferenceLemmas.{slot_within, numbers_within, in_within, open_by_numbers, references_are, few_named, few_referrers, numbers_kept, referred_kept}
+use Rattle.unix_core.specs.Parts.{unix_of, IsGood, IsReady, IsReadyToShow}
+use Rattle.unix_core.proofs.PutLemmas.{good_alive, alive_slot, slot_put, agree_put}
+use Rattle.unix_core.proofs.GoodLemmas.{told_of_slot, fifty_told, core_same, runs_same}
+use Rattle.std.proofs.lemmas.List.FromFn.{fill_by_all}
+use Rattle.abstract_unix.specs.Whole.{Told, told_of, told_in, Owes, Owed}
+use Rattle.abstract_unix.proofs.Owing.{told_at, refer_told, sound_by, file_owes}
 use Rattle.unix_core.proofs.FileLemmas.{shown_woken}
 
 -- who runs lives
 pub ready_alive : (w : World) (s : ℕ) → IsReady w s → IsAlive w.procs s
-ready_alive w s ready = record {
-  agree = ready.good.agree;
-  above = ready.user;
-  below = subst (λ o. MatchOption o ⊤ (λ r. r < 50)) ready.runs ready.good.agree.table.running;
-  image = ready.good.running s ready.runs ready.user;
-}
+ready_alive w s ready = good_alive w s ready.good ready.runs ready.user
 
 pub slot_is : (w : World) (s : ℕ) → IsReady w s → get_or (unix_of w).processes s None ≡ Some (process_of (unix_of w) s)
-slot_is w s ready =
-    let alive = ready_alive w s ready in
-    let here = is_here w.procs s alive in
-    process_in_slot w.procs.rows.slots w.procs.images s alive.below
-    ∙ (ap (λ o. process_in o (keeping w.procs.images s)) here.member_is
-    ∙ (ap (λ x. process_in (Some here.member) x) here.image_is
-    ∙ ap (λ (p : Process). Some p) (sym here.process_is)))
+slot_is w s ready = alive_slot w s (ready_alive w s ready)
 
 pub is_living : (w : World) (s : ℕ) → IsReady w s → (process_of (unix_of w) s).is_zombie ≡ false
 is_living w s ready =
     let here = is_here w.procs s (ready_alive w s ready) in ap (λ (p : Process). p.is_zombie) here.process_is ∙ here.is_living
-
-pub files_open : (w : World) (s : ℕ) → IsReady w s → AreOpen w.files.table (process_of (unix_of w) s).u.files
-files_open w s ready =
-    open_by_numbers w.files.table (unix_of w).processes ready.good.numbers s (process_of (unix_of w) s) (slot_is w s ready) (is_living w s ready)
-
--- each process that lives has fifteen numbers
-fifteen_by : (m : Option Member) (x : Keeping) (p : Process) → process_in m x ≡ Some p → p.is_zombie ≡ false
-    → ((held : Held) → x ≡ Alive held → length held.u.files ≡ 15) → (x ≡ Nothing) ⊎ (kind_of_keeping x ≡ kind_of_member m) → length p.u.files ≡ 15
-fifteen_by None x p is lives each kind = absurd (cc)
-fifteen_by (Some m) Nothing p is lives each kind = ap (λ o. length (unwrap_or o no_process).u.files) (sym is)
-fifteen_by (Some m) (Alive held) p is lives each kind = ap (λ o. length (unwrap_or o no_process).u.files) (sym is) ∙ each held refl
-fifteen_by (Some m) (Grave u block) p is lives each (inl none) = absurd (cc)
-fifteen_by (Some m) (Grave u block) p is lives each (inr kind) =
-    let dead : m.is_dead ≡ false = ap (λ o. (unwrap_or o no_process).is_zombie) is ∙ lives in
-    let never : Died ≡ Lives = kind ∙ ap kind_by dead in
-    absurd (cc never)
-
-pub fifteen_each : (w : World) → IsGood w → (s : ℕ) (p : Process) → get_or (unix_of w).processes s None ≡ Some p → p.is_zombie ≡ false → length p.u.files ≡ 15
-fifteen_each w good s p is lives =
-    let slots = w.procs.rows.slots in
-    let k : Kept = w.procs.images in
-    let within = slot_within (unix_of w).processes s p is in
-    let low : s < 50 = omega (arith, within, fifty_processes slots k) in
-    fifteen_by (member_at slots s) (keeping k s) p (sym (process_in_slot slots k s low) ∙ is) lives (good.fifteen s)
-    (elim (cases_lt 0 s) [
-      | inl above ↦ inr (good.agree.each s above low).image
-      | inr below ↦ inl (let zero : s ≡ 0 = omega (arith, below) in ap (keeping k) zero ∙ good.agree.images)
-    ])
 
 pub forty : length no_texts ≡ 40
 unfolding no_texts
@@ -105,52 +68,26 @@ unfolding marks_of no_marks no_texts
 none_marked = all_false (λ ino. list_any (is_text_of ino) (replicate 40 None)) 0 INODE_NUMBERS (λ ino. none_shared ino 40)
 
 -- The parts that a call of the process is handed are sound.
+pub told_here : (w : World) (s : ℕ) → IsReady w s → told_of_slot w s ≡ Some (told_of (process_of (unix_of w) s))
+told_here w s ready = told_at (unix_of w).processes s (process_of (unix_of w) s) (slot_is w s ready) (is_living w s ready)
+
 pub sound_parts : (w : World) (s : ℕ) (h : Handed) → IsReady w s → length w.files.table ≡ 100
-    → h.files ≡ w.files.table → h.u.files ≡ (process_of (unix_of w) s).u.files → h.u.dir ≡ (process_of (unix_of w) s).u.dir
-    → h.inodes.references ≡ w.files.tree.nodes.references → IsSound h
-sound_parts w s h ready long files mine dir references =
-    let p : Process = process_of (unix_of w) s in
-    let ps : List (Option Process) = (unix_of w).processes in
-    let table : List (Option OpenFile) = w.files.table in
-    let slot = slot_is w s ready in
-    let lives = is_living w s ready in
-    let fifty : length ps ≡ 50 = fifty_processes w.procs.rows.slots w.procs.images in
-    let counted : (entry : ℕ) (file : OpenFile) → file_at h.files entry ≡ Some file → file.count ≡ named ps entry =
-    λ entry file is. ap numbers_of (sym (ap (λ l. file_at l entry) (sym files) ∙ is)) ∙ ready.good.numbers entry in
-    let referred : (ino : ℕ) → slice_index h.inodes.references ino ≡ referrers (unix_of w) ino =
-    λ ino. ap (λ l. slice_index l ino) references ∙ ready.good.referred ino in
-    record {
-      is_open = subst (λ (l : List (Option OpenFile)). AreOpen l h.u.files) (sym files) (subst (λ (m : List ℕ). AreOpen table m) (sym mine) (files_open w s ready));
-      counted = λ entry file is.
-          let count = counted entry file is in
-          let most = numbers_within ps s p entry slot lives in
-          let same : times h.u.files entry ≡ times p.u.files entry = ap (λ l. times l entry) mine in
-          omega (arith, count, most, same);
-      room = λ entry file is.
-          let count = counted entry file is in
-          let few = few_named ps entry fifty (fifteen_each w ready.good) in
-          omega (arith, count, few);
-      referred = λ ino.
-          let same = referred ino in
-          let here : count_by (is_of ino) h.files ≡ count_by (is_of ino) table = ap (count_by (is_of ino)) files in
-          let there : cond {A = ℕ} (h.u.dir == ino) 1 0 ≡ cond {A = ℕ} (p.u.dir == ino) 1 0 = ap (λ d. cond {A = ℕ} (d == ino) 1 0) dir in
-          let least = in_within ps s p ino slot lives in
-          let total : referrers (unix_of w) ino ≡ count_by (is_of ino) table + count_by (is_in ino) ps + count_by (is_text_of ino) no_texts + (if ino == 1 then 1 else 0) = refl in
-          omega (arith, same, here, there, least, total);
-      few = λ ino.
-          let same = referred ino in
-          let most = few_referrers (unix_of w) ino long fifty forty in
-          omega (arith, same, most);
-      no_pipe = subst (λ (l : List (Option OpenFile)). HasNoPipe l) (sym files) ready.good.no_pipe;
-    }
+    → h.files ≡ w.files.table → h.u ≡ (process_of (unix_of w) s).u → h.inodes.references ≡ w.files.tree.nodes.references → IsSound h
+sound_parts w s h ready long files area references =
+    let ts : List (Option Told) = told_in (unix_of w).processes in
+    let P : List ℕ → List (Option OpenFile) → Type 0 = λ refs table. Owes refs table no_texts ts in
+    sound_by h no_texts ts s (subst (λ refs. P refs h.files) (sym references) (subst (P w.files.tree.nodes.references) (sym files) ready.good.owed))
+    (told_here w s ready ∙ ap (λ (u : UArea). Some (record { files = u.files; dir = u.dir })) (sym area)) (ap length files ∙ long) (fifty_told w) forty
 
 without_text : (m : Image) → m.text ≡ [] → m ≡ record { text = []; «data» = m.data; stack = m.stack }
 without_text m none = ap (λ t. record m { text = t }) none
 
 -- the references of the file system are those that the Unix says
 pub references_in : (w : World) (s : ℕ) → IsReady w s → IsFileSystem w.files.tree.nodes → w.files.tree.nodes.references ≡ references_of (unix_of w)
+unfolding references_of
 references_in w s ready form =
-    references_are (unix_of w) w.files.tree.nodes form refl (λ ino. let same = ready.good.referred ino in omega (arith, same))
+    fill_by_all (referrers (unix_of w)) w.files.tree.nodes.references (w.files.tree.nodes.store.count + 1) 0 form.references
+    (λ k low. ready.good.owed.referred k ∙ refer_told (unix_of w) k)
 
 -- What the kernel hands to a call of the process is what the Unix says.
 pub handed_is : (w : World) (s : ℕ) → IsReady w s → IsFileSystem w.files.tree.nodes → (image_of w.procs.images s).text ≡ []
@@ -196,11 +133,6 @@ pub record IsAfter (w w' : World) (s : ℕ) (u : UArea) (row : Row) (image : Ima
   pub byte_room : w'.tape.byte_room ≡ w.tape.byte_room
   pub world_core : w'.core ≡ w.core
 
-abbrev held_in : Held → Keeping → Held
-held_in other Nothing = other
-held_in other (Alive held) = held
-held_in other (Grave u block) = other
-
 module _ (w w' : World) (s : ℕ) (ready : IsReady w s) (u : UArea) (row : Row) (image : Image) (after : IsAfter w w' s u row image) where
   abbrev h : Handed
   h = handed w'.files u row image
@@ -211,18 +143,17 @@ module _ (w w' : World) (s : ℕ) (ready : IsReady w s) (u : UArea) (row : Row) 
   abbrev q : Process
   q = record p { u = u; row = row; «data» = image.data; stack = image.stack }
 
+  abbrev now : Held → Held
+  now held = record held { u = u; image = image }
+
+  clicks : (held : Held) → p.u ≡ held.u → clicks_of u ≡ clicks_of held.u
+  clicks held own = after.clicks ∙ ap clicks_of own
+
   processes_after : (unix_of w').processes ≡ set (unix_of w).processes s (Some q)
   processes_after =
-      let alive = ready_alive w s ready in
-      let here = is_here w.procs s alive in
-      let now : Process → Process = λ x. record x { u = u; row = row; «data» = image.data; stack = image.stack } in
-      one_changed w.procs.rows.slots w'.procs.rows.slots w.procs.images w'.procs.images s (Some q) alive.below
-      (ap (λ o. process_in o (keeping w'.procs.images s)) (after.member here.member here.member_is)
-      ∙ (ap (λ x. process_in (Some (record here.member { row = row })) x) (after.memory here.held here.image_is)
-      ∙ ap (λ (x : Process). Some (now x)) (sym here.process_is)))
-      (λ r below other.
-      ap (λ o. process_in o (keeping w'.procs.images r)) (after.members r other)
-      ∙ ap (λ x. process_in (member_at w.procs.rows.slots r) x) (after.others r other))
+      slot_put w s (ready_alive w s ready) w'.procs.rows w'.procs.images (λ m. row) now clicks (λ held. refl) after.member after.members after.memory after.others q
+      (let here = is_here w.procs s (ready_alive w s ready) in
+      ap (λ (x : Process). record x { u = u; row = row; «data» = image.data; stack = image.stack }) (sym here.process_is))
 
   -- the Unix then
   pub unix_after : unix_of w' ≡ with_handed (unix_of w) s h
@@ -235,69 +166,22 @@ module _ (w w' : World) (s : ℕ) (ready : IsReady w s) (u : UArea) (row : Row) 
   }
 
   agrees : Agree w'.procs.rows w.procs.table w'.procs.images
-  agrees =
-      let alive = ready_alive w s ready in
-      let here = is_here w.procs s alive in
-      let old : Agrees (Some here.member) (row_at w.procs.table s) (Alive here.held) =
-      subst (λ m. Agrees m (row_at w.procs.table s) (Alive here.held)) here.member_is
-      (subst (λ x. Agrees (member_at w.procs.rows.slots s) (row_at w.procs.table s) x) here.image_is (alive.agree.each s alive.above alive.below)) in
-      let clicks : clicks_of u ≡ clicks_of here.held.u = after.clicks ∙ ap (λ (x : Process). clicks_of x.u) here.process_is in
-      let new : Agrees (Some (record here.member { row = row })) (row_at w.procs.table s) (Alive (record here.held { u = u; image = image })) = record {
-        stat = old.stat;
-        image = old.image;
-        place = old.place;
-        size = λ other is. old.size here.held refl ∙ (sym clicks ∙ ap (λ x. clicks_of (area_in x)) is);
-        text = old.text;
-        quiet = old.quiet;
-      } in
-      agree_but w.procs.rows w'.procs.rows w.procs.table w.procs.table w.procs.images w'.procs.images s alive.agree alive.above alive.agree.table refl
-      (subst (λ m. Agrees m (row_at w.procs.table s) (keeping w'.procs.images s)) (sym (after.member here.member here.member_is))
-      (subst (λ x. Agrees (Some (record here.member { row = row })) (row_at w.procs.table s) x) (sym (after.memory here.held here.image_is)) new))
-      after.members (λ r other. refl) after.others
-
-  -- a fact of each image
-  each_after : (P : Held → Type 0) → ((r : ℕ) (held : Held) → Has w.procs.images r held → P held)
-      → ((held : Held) → Has w.procs.images s held → P (record held { u = u; image = image }))
-      → (r : ℕ) (held : Held) → Has w'.procs.images r held → P held
-  each_after P old new r held has = elim (cases_eq r s) [
-    | inl same ↦
-        let here = is_here w.procs s (ready_alive w s ready) in
-        let now : Held = record here.held { u = u; image = image } in
-        let is : Alive now ≡ Alive held = sym (after.memory here.held here.image_is) ∙ (ap (keeping w'.procs.images) (sym same) ∙ has) in
-        subst P (ap (held_in now) is) (new here.held here.image_is)
-    | inr other ↦ old r held (sym (after.others r other) ∙ has)
-  ]
+  agrees = agree_put w s (ready_alive w s ready) w'.procs.rows w'.procs.images (λ m. row) now clicks (λ held. refl) after.member after.members after.memory after.others
 
   running_after : w'.procs.table.running ≡ Some s
   running_after = ap (λ (t : Table). t.running) after.table ∙ ready.runs
 
-  image_after : HasImage w'.procs.images s
-  image_after =
-      let here = is_here w.procs s (ready_alive w s ready) in (record here.held { u = u; image = image }, after.memory here.held here.image_is)
-
   pub good_after : IsFileSystem w.files.tree.nodes → IsGood w'
   good_after form =
-      let slot = slot_is w s ready in
-      let lives = is_living w s ready in
-      let before : (ino : ℕ) → slice_index (references_of (unix_of w)) ino ≡ referrers (unix_of w) ino =
-      λ ino. let same = ready.good.referred ino in ap (λ l. slice_index l ino) (sym (references_in w s ready form)) ∙ omega (arith, same) in
+      let agree : Agree w'.procs.rows w'.procs.table w'.procs.images = subst (λ (t : Table). Agree w'.procs.rows t w'.procs.images) (sym after.table) agrees in
       record {
-        agree = subst (λ (t : Table). Agree w'.procs.rows t w'.procs.images) (sym after.table) agrees;
-        in_core = each_after (λ held. is_in_core (Some held.place) ≡ true) ready.good.in_core (λ held has. ready.good.in_core s held has);
-        fifteen = each_after (λ held. length held.u.files ≡ 15) ready.good.fifteen (λ held has. after.fifteen);
-        numbers = λ entry.
-            numbers_kept (unix_of w) s h slot lives after.kept ready.good.numbers entry ∙ ap (λ (x : Unix). named x.processes entry) (sym unix_after);
-        no_pipe = after.kept.no_pipe;
-        referred = λ ino.
-            let same : slice_index w'.files.tree.nodes.references ino ≡ referrers (unix_of w') ino =
-            referred_kept (unix_of w) s h slot lives after.kept before ino ∙ ap (λ (x : Unix). referrers x ino) (sym unix_after) in
-            omega (arith, same);
+        agree = agree;
+        in_core = core_same w w' ready.good agree after.table;
+        running = runs_same w w' ready.good agree after.table;
+        owed = subst (Owed w'.files.tree.nodes.references) (sym unix_after)
+            (file_owes w.files.tree.nodes.references (unix_of w) s h ready.good.owed (slot_is w s ready) (is_living w s ready) (references_in w s ready form) after.kept after.fifteen);
         marks = after.marks;
-        running = λ r runs above.
-            let same : s ≡ r = ap (λ o. unwrap_or o 0) (sym running_after ∙ runs) in
-            subst (HasImage w'.procs.images) same image_after;
-        entries = after.entry_room ∙ ready.good.entries;
-        bytes = after.byte_room ∙ ready.good.bytes;
+        rooms = (after.entry_room ∙ ready.good.rooms.0, after.byte_room ∙ ready.good.rooms.1);
         core = after.world_core ∙ (ready.good.core ∙ sym after.core);
       }
 

@@ -1,10 +1,7 @@
 -- How the parts of a kernel are the Unix and the board: the world of files and processes, and the registers of the process
 -- that executes instructions.
-use Rattle.std.specs.Prelude.{◌≡◌, ◌<◌, ℕ, min, Bool, true, false, List, [], map, length, Option, Some, None, if◌then◌else◌, slice_index}
-use Rattle.std.specs.List.{sum_by}
-use Rattle.open_files.specs.Files.{file_at, times}
+use Rattle.std.specs.Prelude.{◌≡◌, ◌<◌, ℕ, min, Bool, true, false, List, [], map, Option, Some, None}
 use Rattle.fs_tree.specs.Marks.{no_marks}
-use Rattle.sys_files.specs.Sound.{numbers_of, HasNoPipe}
 use Rattle.pdp_step.specs.declared.outcome.Outcome.{Outcome}
 use Rattle.pdp_step.specs.declared.regs.Regs.{Regs}
 use Rattle.pdp_step.specs.Instruction.{instr}
@@ -36,8 +33,8 @@ use Rattle.abstract_unix.specs.declared.turned.Unbuilt.TheVariants.{At, Room}
 use Rattle.unix_core.specs.declared.machine.Stage.{Stage}
 use Rattle.unix_core.specs.declared.machine.Stage.TheVariants as stage
 use Rattle.abstract_unix.specs.Unix.{Unix, System, Phase, New, Started, Stopped, Finished, phase_after, no_texts, process_of, with_process}
-use Rattle.abstract_unix.specs.References.{referrers}
 use Rattle.abstract_unix.specs.Init.{init_data}
+use Rattle.abstract_unix.specs.Whole.{Owed}
 use Rattle.abstract_unix.specs.Steps.{Steps}
 use Rattle.unix_core.specs.Passing.{shown_by, all_woken}
 use Rattle.abstract_unix.specs.Turn.{Turn, machine_of, with_machine, is_user, end_effects, ending_at, settled_after, slot_of}
@@ -101,31 +98,14 @@ first_held = record {
   place = Core 1;
 }
 
--- how often an inode is referred to in a world
-abbrev pub refs : parts.World → ℕ → ℕ
-refs w ino = slice_index w.files.tree.nodes.references ino
-
--- how often the numbers of a process name an entry; one that has ended has closed its files
-abbrev pub numbers_in : ℕ → Option Process → ℕ
-numbers_in entry None = 0
-numbers_in entry (Some p) = if p.is_zombie then 0 else times p.u.files entry
-
--- how often the numbers of all processes name an entry
-unfoldable pub named : List (Option Process) → ℕ → ℕ
-named processes entry = sum_by (numbers_in entry) processes
-
 -- What is so of a world between two things that the kernel does.
 pub record IsGood (w : parts.World) : Type 0 where
   pub agree : AreProcs w.procs
-  pub in_core : (s : ℕ) (held : Held) → Has w.procs.images s held → is_in_core (Some held.place) ≡ true
-  pub fifteen : (s : ℕ) (held : Held) → Has w.procs.images s held → length held.u.files ≡ 15
-  pub numbers : (entry : ℕ) → numbers_of (file_at w.files.table entry) ≡ named (unix_of w).processes entry
-  pub no_pipe : HasNoPipe w.files.table
-  pub marks : w.files.tree.marks ≡ no_marks
-  pub referred : (ino : ℕ) → refs w ino ≡ referrers (unix_of w) ino
+  pub in_core : (s : ℕ) → 0 < s → s < 50 → (held : Held) → Has w.procs.images s held → is_in_core (Some held.place) ≡ true
   pub running : (s : ℕ) → w.procs.table.running ≡ Some s → 0 < s → HasImage w.procs.images s
-  pub entries : w.tape.entry_room ≡ 64
-  pub bytes : w.tape.byte_room ≡ 524288
+  pub owed : Owed w.files.tree.nodes.references (unix_of w)
+  pub marks : w.files.tree.marks ≡ no_marks
+  pub rooms : (w.tape.entry_room ≡ 64) × (w.tape.byte_room ≡ 524288)
   pub core : w.core ≡ w.procs.images.core
 
 -- a process that isn't the swapper runs

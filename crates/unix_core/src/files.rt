@@ -27,13 +27,6 @@ pub(crate) fn see_table(table: &OpenTable)
     let _used = table.in_use(0);
 }
 
-/// Sees how many slots have images.
-pub(crate) fn see_images(images: &Images)
-    ensures { length images.now.slots ≡ 50 }
-{
-    let _place = images.place(0);
-}
-
 /// Sees what holds of all images that are kept.
 pub(crate) fn see_kept(images: &Images)
     ensures { IsKept images.now }

@@ -14,7 +14,7 @@ ghost use Rattle.abstract_unix.specs.Turn.{faults, comes_to};
 ghost use Rattle.unix_core.specs.Parts.{unix_of, board_in, IsGood, IsReady, HasCome, unmet_as, is_over};
 
 use crate::asked::ask;
-use crate::files::{see_images, see_nodes, see_table};
+use crate::files::{see_nodes, see_table};
 use crate::onfiles::{close_files, do_on_files, read_on};
 use crate::passing::pass_on;
 use crate::world::World;
@@ -161,10 +161,7 @@ fn call_processes<T: Trace>(
         args,
         trace,
     ) {
-        Ok(answer) => {
-            see_images(&world.procs.images);
-            conclude(world, s, answer)
-        }
+        Ok(answer) => conclude(world, s, answer),
         Err(kind) => unmet_as(kind),
     }
 }
@@ -195,7 +192,6 @@ fn fork<T: Trace>(world: &mut World, s: Slot, trace: &mut T) -> Ending
     see_table(&world.files.table);
     match fork_one(&mut world.procs, &mut world.files.tree, s, [0; 4], trace) {
         Ok(answer) => {
-            see_images(&world.procs.images);
             share_files(&mut world.files.table, &u.files, answer);
             conclude(world, s, answer)
         }
@@ -219,10 +215,7 @@ fn exit<T: Trace>(world: &mut World, s: Slot, trace: &mut T) -> Ending
     see_nodes(&world.files.tree.nodes);
     see_table(&world.files.table);
     match exit_now(&mut world.procs, &mut world.files.tree, s, [0; 4], trace) {
-        Ok(_) => {
-            see_images(&world.procs.images);
-            Ending::Ended
-        }
+        Ok(_) => Ending::Ended,
         Err(kind) => unmet_as(kind),
     }
 }
@@ -241,7 +234,6 @@ fn grow_stack<T: Trace>(world: &mut World, s: Slot, sp: u16, trace: &mut T) -> E
     see_nodes(&world.files.tree.nodes);
     see_table(&world.files.table);
     let grown = grow(&mut world.procs, &mut world.files.tree, s, sp, trace);
-    see_images(&world.procs.images);
     match grown {
         Ok(true) => Ending::Trapped,
         Ok(false) => Ending::NotBuilt,
@@ -391,10 +383,7 @@ fn go_on_waiting<T: Trace>(world: &mut World, s: Slot, trace: &mut T) -> Ending
     see_nodes(&world.files.tree.nodes);
     see_table(&world.files.table);
     match resume_proc(&mut world.procs, &mut world.files.tree, s, trace) {
-        Ok(answer) => {
-            see_images(&world.procs.images);
-            conclude(world, s, answer)
-        }
+        Ok(answer) => conclude(world, s, answer),
         Err(kind) => unmet_as(kind),
     }
 }

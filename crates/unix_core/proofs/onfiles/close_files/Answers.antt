@@ -1,7 +1,6 @@
-use Rattle.std.proofs.Common.{rules, ◌∙◌, refl, sym, ap}
+use Rattle.std.proofs.Common.{rules, ◌∙◌, refl, sym}
 use Rattle.v6_base.specs.Image.{Image}
 use Rattle.v6_base.specs.declared.answer.Answer.TheVariants.{Ret}
-use Rattle.u_area.specs.declared.area.UArea.{UArea}
 use Rattle.proc_tab.specs.declared.row.Row.{Row}
 use Rattle.proc_tab.specs.Processes.{row_at}
 use Rattle.image_keep.specs.Kept.{image_of}
@@ -23,7 +22,7 @@ close_all-requires c =
     record {
       sound = λ row image.
           sound_parts w c.args.s (handed w.files c.area-u.result row image) c.requires c.see_table.ensures
-          refl (ap (λ (u : UArea). u.files) area) (ap (λ (u : UArea). u.dir) area) refl;
+          refl area refl;
     }
 
 pub set_area-requires : goal.set_area-requires

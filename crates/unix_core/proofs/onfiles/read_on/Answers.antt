@@ -1,5 +1,4 @@
 use Rattle.std.proofs.Common.{rules, ◌∙◌, refl, ap}
-use Rattle.u_area.specs.declared.area.UArea.{UArea}
 use Rattle.image_keep.specs.Kept.{Kept, image_of, with_area}
 use Rattle.sys_files.specs.Handed.{Handed, handed}
 use Rattle.sys_files.specs.Moving.{resume_read}
@@ -22,7 +21,7 @@ resume_file-answer-requires-clause-sound c =
     let w : World = c.args.world.now in
     let parts : Handed = handed w.files c.area-u.result c.row.result.now (image_of c.space-space.result.images.now c.space-space.result.slot) in
     let area = area_is w c.args.s c.area-u.result c.requires.ready c.area-u.ensures.u in
-    sound_parts w c.args.s parts c.requires.ready c.see_table.ensures refl (ap (λ (u : UArea). u.files) area) (ap (λ (u : UArea). u.dir) area) refl
+    sound_parts w c.args.s parts c.requires.ready c.see_table.ensures refl area refl
 
 -- These follow from the images alone, whatever the loan says of itself.
 pub set_area-requires : goal.set_area-requires

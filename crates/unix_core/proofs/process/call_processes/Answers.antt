@@ -10,8 +10,7 @@ use Rattle.unix_core.specs.declared.world.World.{World}
 use Rattle.abstract_unix.specs.declared.calls.ProcessCall.{ProcessCall}
 use Rattle.abstract_unix.specs.Calls.{came_by, process_row}
 use Rattle.unix_core.specs.Parts.{unix_of, board_in, HasCome, IsReady}
-use Rattle.unix_core.proofs.CameLemmas.{IsTame, after, beside, world_is, ready_calls, over_then, call_took, call_stops, call_ready, call_come}
-use Rattle.unix_core.proofs.ForkSlots.{given}
+use Rattle.unix_core.proofs.CameLemmas.{given, IsTame, after, beside, world_is, ready_calls, over_then, call_took, call_stops, call_ready, call_come}
 use Rattle.unix_core.proofs.TameRows.{tame_row}
 use Rattle.unix_core.proofs.process.call_processes.Goals as goal
 
@@ -31,7 +30,7 @@ conclude-requires g c =
     call_ready w (after w c.do_process_call.new.tree c.do_process_call.new.p) c.args.s (row w c.args.call c.args.s c.args.args)
     (tame w c.args.call c.args.s c.args.args c.requires) (beside w c.do_process_call.new.tree c.do_process_call.new.p e.marks) e.does
     c.in-Ok.answer c.in-Ok.is c.requires
-    (IfOk-at_ok (λ (a : Answer). AreProcs c.do_process_call.new.p) c.in-Ok.is e.agree) c.see_images.ensures
+    (IfOk-at_ok (λ (a : Answer). AreProcs c.do_process_call.new.p) c.in-Ok.is e.agree)
 
 pub returns-in-Ok-clause-come : goal.returns-in-Ok-clause-come
 returns-in-Ok-clause-come g c =

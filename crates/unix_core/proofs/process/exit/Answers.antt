@@ -8,8 +8,9 @@ use Rattle.sys_procs.specs.Process.{Process}
 use Rattle.abstract_unix.specs.Unix.{Unix, process_of}
 use Rattle.abstract_unix.specs.Calls.{closes_all, with_handed}
 use Rattle.unix_core.specs.Parts.{unix_of, board_in, IsReady}
-use Rattle.unix_core.proofs.ReferenceLemmas.{slot_within}
-use Rattle.unix_core.proofs.WorldLemmas.{slot_is, is_living, fifteen_each}
+use Rattle.abstract_unix.specs.Whole.{told_of}
+use Rattle.abstract_unix.proofs.Owing.{some_within}
+use Rattle.unix_core.proofs.WorldLemmas.{slot_is, told_here}
 use Rattle.unix_core.proofs.ShowingLemmas.{with_woken, woken_ready, woken_unix, shown_board}
 use Rattle.unix_core.proofs.CameLemmas.{ready_calls}
 use Rattle.unix_core.proofs.ExitLemmas.{end_answer, end_state, exit_took, exit_come}
@@ -32,9 +33,9 @@ closed_then : (w w1 : World) (s : ℕ) → IsReady w s → IsReady w1 s → unix
     → (entry : ℕ) → times (process_of (unix_of w1) s).u.files entry ≡ 0
 closed_then w w1 s ready then unix entry =
     let p : Process = process_of (unix_of w) s in
-    let low = slot_within (unix_of w).processes s p (slot_is w s ready) in
+    let low = some_within (unix_of w).processes s p (slot_is w s ready) in
     let long : length (process_of (unix_of w1) s).u.files ≡ 15 =
-    fifteen_each w1 then.good s (process_of (unix_of w1) s) (slot_is w1 s then) (is_living w1 s then) in
+    then.good.owed.fifteen s (told_of (process_of (unix_of w1) s)) (told_here w1 s then) in
     ap (λ (u : Unix). times (process_of u s).u.files entry) unix
     ∙ all_closed (unix_of w) s entry low (sym (ap (λ (u : Unix). length (process_of u s).u.files) unix) ∙ long)
 
@@ -57,7 +58,7 @@ returns-in-Ok-clause-come g c =
     let state = end_state w1 s ready _ c.exit_now.ensures.does.state in
     exit_come w w1 now s ready c.see_nodes.ensures unix
     (ap (λ t. board_in (with_table new t)) c.pass_on.ensures.table ∙ shown_board w new s _ c.close_files.ensures.shown)
-    (ended_unix w1 now s ready closed c.exit_now.ensures.agree state c.exit_now.ensures.does.shown c.see_images.ensures refl c.exit_now.ensures.marks refl refl refl)
+    (ended_unix w1 now s ready closed c.exit_now.ensures.agree state c.exit_now.ensures.does.shown refl (record { marks = c.exit_now.ensures.marks; line = refl; tape = refl; core = refl }))
     c.exit_now.ensures.does.shown
 
 pub returns-in-Ok-clause-good : goal.returns-in-Ok-clause-good
@@ -71,7 +72,7 @@ returns-in-Ok-clause-good g c =
     let unix = unix_then w new s c.pass_on.new.table c.close_files.ensures.unix c.pass_on.ensures.table in
     let closed = closed_then w w1 s c.requires ready unix in
     let state = end_state w1 s ready _ c.exit_now.ensures.does.state in
-    ended_good w1 now s ready closed c.exit_now.ensures.agree state c.exit_now.ensures.does.shown c.see_images.ensures refl c.exit_now.ensures.marks refl refl refl
+    ended_good w1 now s ready closed c.exit_now.ensures.agree state c.exit_now.ensures.does.shown refl (record { marks = c.exit_now.ensures.marks; line = refl; tape = refl; core = refl })
 
 pub returns-in-Ok-clause-items : goal.returns-in-Ok-clause-items
 returns-in-Ok-clause-items g c =

@@ -4,30 +4,27 @@ use Rattle.fs_laws.specs.Rest.{SameRest}
 use Rattle.image_keep.specs.Kept.{area_of}
 use Rattle.open_files.specs.declared.file.OpenFile.{OpenFile}
 use Rattle.open_files.specs.Files.{AreOpen, HaveRoom}
-use Rattle.sys_files.specs.Sound.{numbers_of}
-use Rattle.sys_procs.specs.Process.{Process}
-use Rattle.sys_procs.proofs.Slots.{fifty_processes}
 use Rattle.u_area.specs.declared.area.UArea.{UArea}
 use Rattle.unix_core.specs.declared.world.World.{World}
 use Rattle.fs_tree.specs.declared.tree.Tree.{Tree}
 use Rattle.sys_procs.specs.declared.procs.Procs.{Procs}
-use Rattle.abstract_unix.specs.Unix.{process_of}
+use Rattle.abstract_unix.specs.Unix.{no_texts, process_of}
 use Rattle.abstract_unix.specs.Calls.{shares}
-use Rattle.unix_core.specs.Parts.{unix_of, named, IsReady}
-use Rattle.unix_core.proofs.ReferenceLemmas.{few_named}
-use Rattle.unix_core.proofs.WorldLemmas.{files_open, fifteen_each}
+use Rattle.unix_core.specs.Parts.{unix_of, IsReady}
+use Rattle.abstract_unix.specs.Whole.{told_in}
+use Rattle.abstract_unix.proofs.Owing.{names_open, few_numbers}
+use Rattle.unix_core.proofs.GoodLemmas.{fifty_told}
+use Rattle.unix_core.proofs.WorldLemmas.{told_here}
 use Rattle.unix_core.proofs.AreaLemmas.{own_area}
 use Rattle.unix_core.proofs.CameLemmas.{ready_calls, after, beside, over_then}
-use Rattle.unix_core.proofs.ForkingLemmas.{fork_took, fork_stops, fork_ready, fork_come}
+use Rattle.unix_core.proofs.ForkLemmas.{fork_took, fork_stops, fork_ready, fork_come}
 use Rattle.unix_core.proofs.process.fork.Goals as goal
 
 -- no file has so many numbers that fifteen more can't be counted
 room_for : (w : World) (s : ℕ) → IsReady w s → HaveRoom w.files.table
 room_for w s ready entry file is =
-    let ps : List (Option Process) = (unix_of w).processes in
-    let count : file.count ≡ named ps entry = ap numbers_of (sym is) ∙ ready.good.numbers entry in
-    let few = few_named ps entry (fifty_processes w.procs.rows.slots w.procs.images) (fifteen_each w ready.good) in
-    omega (arith, count, few)
+    let few = few_numbers w.files.tree.nodes.references w.files.table no_texts (told_in (unix_of w).processes) ready.good.owed (fifty_told w) entry file is in
+    omega (arith, few)
 
 pub area-u-requires : goal.area-u-requires
 area-u-requires g c = c.requires.good.running c.args.s c.requires.runs c.requires.user
@@ -39,7 +36,7 @@ pub share_files-requires-clause-open : goal.share_files-requires-clause-open
 share_files-requires-clause-open g c =
     let w : World = c.args.world.now in
     subst (λ (mine : List ℕ). AreOpen w.files.table mine) (sym (ap (λ (u : UArea). u.files) (c.area-u.ensures.u ∙ own_area w c.args.s c.requires)))
-    (files_open w c.args.s c.requires)
+    (names_open w.files.tree.nodes.references w.files.table no_texts (told_in (unix_of w).processes) c.requires.good.owed c.args.s _ (told_here w c.args.s c.requires))
 
 pub share_files-requires-clause-few : goal.share_files-requires-clause-few
 share_files-requires-clause-few g c = room_for c.args.world.now c.args.s c.requires
@@ -60,7 +57,7 @@ conclude-requires g c =
     (beside w c.fork_one.new.tree c.fork_one.new.p e.marks) e.does
     c.in-Ok.answer c.in-Ok.is (shared w c.fork_one.new.tree c.share_files.new.table c.fork_one.new.p) refl refl
     (its_table w c.args.s c.area-u.result _ c.in-Ok.answer c.requires c.area-u.ensures.u c.share_files.ensures) refl refl refl
-    e.agree c.see_images.ensures
+    e.agree
 
 pub returns-in-Ok-clause-come : goal.returns-in-Ok-clause-come
 returns-in-Ok-clause-come g c =
@@ -70,7 +67,7 @@ returns-in-Ok-clause-come g c =
     (beside w c.fork_one.new.tree c.fork_one.new.p e.marks) e.does
     c.in-Ok.answer c.in-Ok.is (shared w c.fork_one.new.tree c.share_files.new.table c.fork_one.new.p) refl refl
     (its_table w c.args.s c.area-u.result _ c.in-Ok.answer c.requires c.area-u.ensures.u c.share_files.ensures) refl refl refl
-    e.agree c.see_images.ensures
+    e.agree
     c.conclude.new.world c.conclude.result c.conclude.ensures.ending c.conclude.ensures.unix c.conclude.ensures.board
 
 pub returns-in-Ok-clause-items : goal.returns-in-Ok-clause-items

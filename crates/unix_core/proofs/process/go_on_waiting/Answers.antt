@@ -1,4 +1,4 @@
-use Rattle.std.proofs.Common.{◌≡◌, ◌∙◌, ℕ, Some, None, refl, sym, subst}
+use Rattle.std.proofs.Common.{◌≡◌, ℕ, refl, sym, subst}
 use Rattle.std.specs.Prelude.{Result, Err}
 use Rattle.v6_base.specs.Trace.{Took}
 use Rattle.v6_base.specs.declared.answer.Answer.{Answer}
@@ -13,11 +13,9 @@ use Rattle.sys_procs.specs.Resume.{awake, resume_proc}
 use Rattle.unix_core.specs.declared.world.World.{World}
 use Rattle.abstract_unix.specs.Calls.{came_by}
 use Rattle.unix_core.specs.Parts.{unix_of, board_in, HasCome, IsReady}
-use Rattle.unix_core.proofs.MildLemmas.{IsMild, near_change}
 use Rattle.abstract_unix.proofs.ProcessRows.{resume_plain}
-use Rattle.unix_core.proofs.MildRows.{mild_plain}
-use Rattle.unix_core.proofs.CameLemmas.{IsTame, mild_tame, mild_goes, near_here, after, beside, world_is, ready_calls, stops, call_took, call_ready, call_come}
-use Rattle.unix_core.proofs.ForkSlots.{given}
+use Rattle.abstract_unix.proofs.Mild.{IsMild, mild_plain, near_change}
+use Rattle.unix_core.proofs.CameLemmas.{given, IsTame, mild_tame, mild_goes, near_here, after, beside, world_is, ready_calls, stops, call_took, call_ready, call_come}
 use Rattle.unix_core.proofs.process.go_on_waiting.Goals as goal
 
 abbrev row : World → ℕ → Comes
@@ -26,7 +24,7 @@ row w s = resume_proc (given w) s
 mild : (w : World) (s : ℕ) → IsReady w s → IsMild (given w) (row w s)
 mild w s ready =
     mild_plain (given w) s (change (given w) s awake) (row w s) (resume_plain s (given w))
-    (near_change (given w) (given w) s awake (near_here w s ready) (refl, (refl, refl)))
+    (near_change (given w) s (given w) awake (near_here w s ready) (record { dead = refl; size = refl; text = refl; files = refl; dir = refl }))
 
 tame : (w : World) (s : ℕ) → IsReady w s → IsTame w (row w s)
 tame w s ready = mild_tame w (row w s) (mild w s ready)
@@ -41,7 +39,7 @@ conclude-requires g c =
     call_ready w (after w c.resume_proc.new.tree c.resume_proc.new.p) c.args.s (row w c.args.s)
     (tame w c.args.s c.requires) (beside w c.resume_proc.new.tree c.resume_proc.new.p e.marks) e.does
     c.in-Ok.answer c.in-Ok.is c.requires
-    e.agree c.see_images.ensures
+    e.agree
 
 pub returns-in-Ok-clause-come : goal.returns-in-Ok-clause-come
 returns-in-Ok-clause-come g c =
@@ -74,8 +72,7 @@ never : (w : World) (s : ℕ) (kind : PanicKind) (r : Result Answer PanicKind) �
     → r ≡ answered (came w.procs (row w s)).stop (row w s).answer → r ≡ Err kind → ⊥
 never w s kind r ready answer err =
     let halt = stops (came w.procs (row w s)).stop (row w s).answer kind r answer err in
-    let both : None ≡ Some halt.0 = sym (mild_goes w (row w s) (mild w s ready)) ∙ halt.1.0 in
-    cc both
+    mild_goes w (row w s) (mild w s ready) halt.0 halt.1.0
 
 pub returns-in-Err-clause-come : goal.returns-in-Err-clause-come
 returns-in-Err-clause-come g c =

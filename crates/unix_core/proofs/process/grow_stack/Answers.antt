@@ -24,7 +24,7 @@ returns-in-Ok-true-clause-ready g c goes =
     let e = c.grow-grown.ensures in
     let is : ◌≡◌ {A = Result Bool PanicKind} c.grow-grown.result (Ok true) = c.in-Ok-true.is ∙ ap (λ (x : Bool). Ok x) c.in-Ok-true.field-0-test in
     grown_ready w (after w c.grow-grown.new.tree c.grow-grown.new.p) c.args.s c.args.sp c.requires c.see_nodes.ensures
-    (beside w c.grow-grown.new.tree c.grow-grown.new.p e.marks) e.does is e.agree c.see_images.ensures
+    (beside w c.grow-grown.new.tree c.grow-grown.new.p e.marks) e.does is e.agree
 
 pub returns-in-Ok-true-clause-items : goal.returns-in-Ok-true-clause-items
 returns-in-Ok-true-clause-items g c =

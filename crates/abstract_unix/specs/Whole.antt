@@ -1,0 +1,55 @@
+-- What belongs together in a system: open files count the numbers that name them, and inodes who refers to them.
+use Rattle.std.specs.Prelude.{◌≡◌, ℕ, ◌+◌, ◌==◌, if◌then◌else◌, List, Option, Some, None, map, count_by, length, slice_index, slice_index_or}
+use Rattle.std.specs.List.{sum_by}
+use Rattle.open_files.specs.declared.file.OpenFile.{OpenFile}
+use Rattle.open_files.specs.Files.{file_at, times}
+use Rattle.sys_files.specs.Sound.{is_of, numbers_of, HasNoPipe}
+use Rattle.sys_procs.specs.Process.{Process}
+use Rattle.abstract_unix.specs.Unix.{Text, Unix}
+use Rattle.abstract_unix.specs.References.{is_text_of}
+
+-- what the counts see of a process that lives: the numbers of its files, and its directory
+pub record Told : Type 0 where
+  pub files : List ℕ
+  pub dir : ℕ
+
+abbrev pub told_of : Process → Told
+told_of p = record { files = p.u.files; dir = p.u.dir }
+
+-- one that has ended has closed its files and left its directory
+abbrev pub told_by : Option Process → Option Told
+told_by None = None
+told_by (Some p) = if p.is_zombie then None else Some (told_of p)
+
+abbrev pub told_in : List (Option Process) → List (Option Told)
+told_in processes = map told_by processes
+
+-- how often the numbers of a process name an entry, and whether it stands in a directory
+abbrev pub names : ℕ → Option Told → ℕ
+names entry None = 0
+names entry (Some t) = times t.files entry
+
+abbrev pub stands : ℕ → Option Told → ℕ
+stands ino None = 0
+stands ino (Some t) = if t.dir == ino then 1 else 0
+
+unfoldable pub all_names : List (Option Told) → ℕ → ℕ
+all_names ts entry = sum_by (names entry) ts
+
+unfoldable pub all_stand : List (Option Told) → ℕ → ℕ
+all_stand ts ino = sum_by (stands ino) ts
+
+-- Open files, directories and texts refer to an inode, and the kernel to inode 1 as the root.
+abbrev pub refer : List (Option OpenFile) → List (Option Text) → List (Option Told) → ℕ → ℕ
+refer files texts ts ino =
+    count_by (is_of ino) files + all_stand ts ino + count_by (is_text_of ino) texts + (if ino == 1 then 1 else 0)
+
+-- The counts of open files and these references are what they have to be. There are no pipes yet.
+pub record Owes (refs : List ℕ) (files : List (Option OpenFile)) (texts : List (Option Text)) (ts : List (Option Told)) : Type 0 where
+  pub numbers : (entry : ℕ) → numbers_of (file_at files entry) ≡ all_names ts entry
+  pub referred : (ino : ℕ) → slice_index refs ino ≡ refer files texts ts ino
+  pub no_pipe : HasNoPipe files
+  pub fifteen : (s : ℕ) (t : Told) → slice_index_or ts s None ≡ Some t → length t.files ≡ 15
+
+abbrev pub Owed : List ℕ → Unix → Type 0
+Owed refs u = Owes refs u.files u.texts (told_in u.processes)
