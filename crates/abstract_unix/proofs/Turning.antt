@@ -12,7 +12,7 @@ use Rattle.log_laws.proofs.Lines.{seat_stays}
 use Rattle.u_area.specs.declared.area.UArea.{UArea}
 use Rattle.sys_files.specs.Handed.{Handed}
 use Rattle.sys_procs.specs.Process.{Process, register, image_of}
-use Rattle.sys_procs.specs.Texts.{Text}
+use Rattle.sys_procs.specs.TextTable.{Text}
 use Rattle.sys_procs.specs.World.{Clock, World, change}
 use Rattle.sys_procs.specs.World as world
 use Rattle.sys_procs.specs.Fork.{fork_one}
@@ -141,17 +141,17 @@ module _ (s : ℕ) (seen : Seen) where
       (λ c e. found_one IsFine (λ (c : ProcessCall). c.number == number) process_calls c each_fine e) i)))
 
   built_apt : (u : Unix) (count : Option ℕ) (number : ℕ) → Calling s (world_of u) seen
-      → AptSteps s seen (does_if_built u s (asked (image_of (process_of u s)) (register (process_of u s) 7) number) count)
+      → AptSteps s seen (does_if_built u s (asked (image_of u.texts (process_of u s)) (register (process_of u s) 7) number) count)
   built_apt u None number i = unbuilt_apt s seen u []
   built_apt u (Some count) number i =
-      let a = asked (image_of (process_of u s)) (register (process_of u s) 7) number in
+      let a = asked (image_of u.texts (process_of u s)) (register (process_of u s) 7) number in
       call_apt (with_area u s (entered_area (words_passed a count))) a.number a.args
       (kept_in u.processes u.clock u.texts s false seen (record (process_of u s) { u = entered_area (words_passed a count) (process_of u s).u }) i refl refl refl refl)
 
   called_apt : (u : Unix) (number : ℕ) → Calling s (world_of u) seen
       → AptSteps s seen (system_call number u s)
   called_apt u number i =
-      built_apt u (count_of (asked (image_of (process_of u s)) (register (process_of u s) 7) number).number) number i
+      built_apt u (count_of (asked (image_of u.texts (process_of u s)) (register (process_of u s) 7) number).number) number i
 
   -- its turn begins
   begins : (u : Unix) → Paused (seats_of u) seen → (t : InTurn s (seats_of u) seen.board)
@@ -198,7 +198,7 @@ module _ (s : ℕ) (seen : Seen) where
   instruction_apt u p t user = by step.outcome
     where
       step : Stepped
-      step = instr (machine_of (process_of u s))
+      step = instr (machine_of u.texts (process_of u s))
 
       now : Unix
       now = with_process u s (with_machine (process_of u s) step.machine)

@@ -1,5 +1,5 @@
 -- The u area of the process that runs is another one, which names the same files and the same directory.
-use Rattle.std.proofs.Common.{◌≡◌, ◌≢◌, ◌<◌, ◌%◌, ◌∙◌, ℕ, ◌==◌, if◌then◌else◌, List, length, set, Option, Some, min, refl, sym, ap, subst, inl, inr, arith}
+use Rattle.std.proofs.Common.{◌≡◌, ◌≢◌, ◌<◌, ◌%◌, ◌∙◌, ℕ, ◌==◌, if◌then◌else◌, List, length, map, set, Option, Some, min, refl, sym, ap, subst, inl, inr, arith}
 use Rattle.std.proofs.lemmas.Bool.{cases_lt, cases_eq}
 use Rattle.std.proofs.lemmas.List.{get_or_past, get_or-set_same, get_or-set_other}
 use Rattle.u_area.specs.declared.area.UArea.{UArea}
@@ -11,7 +11,9 @@ use Rattle.proc_tab.specs.Processes.{member_at}
 use Rattle.image_keep.specs.Kept.{Held, Nothing, Alive, Kept, Has, keeping, with_area, described, area_in, area_of, clicks_of}
 use Rattle.open_files.specs.Files.{times}
 use Rattle.sys_procs.specs.Process.{Process, with_state}
-use Rattle.sys_procs.specs.Agree.{Agrees}
+use Rattle.image_keep.proofs.Frames.{with_area_texts}
+use Rattle.sys_procs.specs.World.{text_in}
+use Rattle.sys_procs.specs.Agree.{Agrees, text_place}
 use Rattle.sys_procs.proofs.Slots.{area_changed}
 use Rattle.sys_procs.proofs.Agreement.{agree_but}
 use Rattle.sys_procs.proofs.Alive.{is_here, area_here}
@@ -74,7 +76,6 @@ area_agrees m row held u same a = record {
   image = a.image;
   place = a.place;
   size = λ other is. a.size held refl ∙ (sym same ∙ ap (λ x. clicks_of (area_in x)) is);
-  text = a.text;
   quiet = a.quiet;
 }
 
@@ -96,10 +97,10 @@ module _ (w : World) (s : ℕ) (ready : IsReady w s) (u : UArea) where
       let changed = area_changed w.procs.rows.slots w.procs.images s here.member here.held alive.below here.member_is here.image_is u
       (held_within w.procs.images s here.held here.image_is) in
       let core = area_core w.procs.images s u in
-      λ i. record (unix_of w) { processes = changed i; limit = min (core i) 2048 }
+      λ i. record (unix_of w) { processes = changed i; texts = map text_in ((with_area_texts w.procs.images s u).texts i); limit = min (core i) 2048 }
 
   pub area_board : board_in with_its_area ≡ board_in w
-  area_board = λ i. record (board_in w) { core = area_core w.procs.images s u i }
+  area_board = λ i. record (board_in w) { texts = map text_place ((with_area_texts w.procs.images s u).texts i); core = area_core w.procs.images s u i }
 
   pub area_ready : IsSameBut u p.u → IsReady with_its_area s
   area_ready same =
@@ -122,6 +123,7 @@ module _ (w : World) (s : ℕ) (ready : IsReady w s) (u : UArea) where
           agree = agree_but w.procs.rows w.procs.rows w.procs.table w.procs.table k (with_area k s u) s alive.agree alive.above alive.agree.table refl
               (subst (λ x. Agrees (member_at w.procs.rows.slots s) (row_at w.procs.table s) x) (sym now)
               (area_agrees (member_at w.procs.rows.slots s) (row_at w.procs.table s) here.held u (same.clicks ∙ ap clicks_of its) old))
+              (alive.agree.text s alive.above alive.below) (with_area_texts k s u)
               (λ r other. refl) (λ r other. refl) (area_other k s u);
           in_core = λ r held has.
               let had = area_had k s u here.held here.image_is r held has in

@@ -13,7 +13,7 @@ use Rattle.pick_rules.specs.Effects.{kind_of, lifted}
 use Rattle.pick_rules.specs.Logged.{Logged, Stop, logged, left_by, board_after}
 use Rattle.proc_tab.specs.declared.member.Member.{Member}
 use Rattle.proc_tab.specs.Processes.{member_at}
-use Rattle.image_keep.specs.Kept.{Held, Keeping, Nothing, Alive, Grave, Has, HasImage, keeping, place_in}
+use Rattle.image_keep.specs.Kept.{Held, Keeping, Nothing, Alive, Grave, Has, HasImage, keeping, place_in, text_of}
 use Rattle.open_files.specs.Files.{file_at}
 use Rattle.open_files.specs.declared.file.OpenFile.{OpenFile}
 use Rattle.sys_files.specs.Sound.{is_of, numbers_of, HasNoPipe}
@@ -36,7 +36,7 @@ use Rattle.abstract_unix.specs.References.{is_in, is_text_of, referrers}
 use Rattle.abstract_unix.specs.Steps.{Steps}
 use Rattle.abstract_unix.specs.Calls.{answers, came_by, with_world, world_of}
 use Rattle.unix_core.specs.Parts.{unix_of, board_in, refs, IsReady, HasCome, unmet_as, ended_as, is_over}
-use Rattle.unix_core.proofs.ReferenceLemmas.{in_within, few_referrers}
+use Rattle.unix_core.proofs.ReferenceLemmas.{in_within, few_referrers, texts_count}
 use Rattle.unix_core.proofs.WorldLemmas.{ready_alive, slot_is, is_living, fifteen_each, forty, references_in}
 use Rattle.unix_core.proofs.AreaLemmas.{held_within}
 use Rattle.unix_core.proofs.LoggedLemmas.{over, stop_of, only_shown, logged_over, logged_shown}
@@ -63,7 +63,7 @@ ready_calls w s ready long =
           let dir = held.u.dir in
           let p : Process = process_of u s in
           let its : p.u.dir ≡ dir =
-          ap (λ (q : Process). q.u.dir) here.process_is ∙ ap (λ x. (process_by here.member x).u.dir) (sym here.image_is ∙ has) in
+          ap (λ (q : Process). q.u.dir) here.process_is ∙ ap (λ x. (process_by here.member x (text_of w.procs.images s)).u.dir) (sym here.image_is ∙ has) in
           let one : ◌≡◌ {A = ℕ} (if p.u.dir == dir then 1 else 0) 1 = ap (λ b. cond b 1 0) (eq-eqb p.u.dir dir its) in
           let least = in_within u.processes s p dir (slot_is w s ready) (is_living w s ready) in
           let total : referrers u dir ≡ count_by (is_of dir) u.files + count_by (is_in dir) u.processes + count_by (is_text_of dir) u.texts + (if dir == 1 then 1 else 0) = refl in
@@ -71,7 +71,7 @@ ready_calls w s ready long =
           omega (arith, one, least, total, referred);
       few = λ ino.
           let referred = ready.good.referred ino in
-          let most = few_referrers u ino long fifty forty in
+          let most = few_referrers u ino long fifty (forty w.procs.images ready.good.agree.no_text) in
           omega (arith, referred, most);
     }
 
@@ -91,14 +91,14 @@ world_is w s ready form =
     λ i. record (handed w.procs w.files.tree.nodes) { inodes = record { store = w.files.tree.nodes.store; references = references i } }
 
 -- who lives has an image
-pub held_by : (m : Option Member) (x : Keeping) (q : Process) → process_in m x ≡ Some q → q.is_zombie ≡ false → kind_of_keeping x ≡ kind_of_member m
+pub held_by : (m : Option Member) (x : Keeping) (t : Option ℕ) (q : Process) → process_in m x t ≡ Some q → q.is_zombie ≡ false → kind_of_keeping x ≡ kind_of_member m
     → (held : Held) × (x ≡ Alive held)
-held_by None x q is lives kind = absurd (cc is)
-held_by (Some m) Nothing q is lives kind =
+held_by None x t q is lives kind = absurd (cc is)
+held_by (Some m) Nothing t q is lives kind =
     let dead : m.is_dead ≡ false = ap (λ o. (unwrap_or o no_process).is_zombie) is ∙ lives in
     absurd (let never : Free ≡ Lives = kind ∙ ap kind_by dead in cc never)
-held_by (Some m) (Alive held) q is lives kind = (held, refl)
-held_by (Some m) (Grave u block) q is lives kind =
+held_by (Some m) (Alive held) t q is lives kind = (held, refl)
+held_by (Some m) (Grave u block) t q is lives kind =
     let dead : m.is_dead ≡ false = ap (λ o. (unwrap_or o no_process).is_zombie) is ∙ lives in
     absurd (let never : Died ≡ Lives = kind ∙ ap kind_by dead in cc never)
 
@@ -165,17 +165,17 @@ module _ (w now : World) (s : ℕ) (ready : IsReady w s) (x : its.World) (agree 
             cc never)
       ] in
       let there = is_there (member_at now.procs.rows.slots r) (row_at now.procs.table r) (keeping now.procs.images r) held (agree.each r above low) has in
-      let living : get_or (unix_of now).processes r None ≡ Some (process_by there.0 (Alive held)) =
+      let living : get_or (unix_of now).processes r None ≡ Some (process_by there.0 (Alive held) (text_of now.procs.images r)) =
       process_in_slot now.procs.rows.slots now.procs.images r low
-      ∙ (ap (λ o. process_in o (keeping now.procs.images r)) there.1 ∙ ap (λ x. process_in (Some there.0) x) has) in
-      let before = counts.files r (process_by there.0 (Alive held)) living there.2 in
+      ∙ (ap (λ o. process_in o (keeping now.procs.images r) (text_of now.procs.images r)) there.1 ∙ ap (λ x. process_in (Some there.0) x (text_of now.procs.images r)) has) in
+      let before = counts.files r (process_by there.0 (Alive held) (text_of now.procs.images r)) living there.2 in
       (above, (low, (before.0, (before.1.0, (before.1.1.0, before.1.1.1)))))
 
   in_core : (r : ℕ) (held : Held) → Has now.procs.images r held → is_in_core (Some held.place) ≡ true
   in_core r held has =
       let was = had r held has in
       let old = ready.good.agree.each r was.0 was.1.0 in
-      let image = held_by (member_at w.procs.rows.slots r) (keeping w.procs.images r) was.1.1.0
+      let image = held_by (member_at w.procs.rows.slots r) (keeping w.procs.images r) (text_of w.procs.images r) was.1.1.0
       (sym (process_in_slot w.procs.rows.slots w.procs.images r was.1.0) ∙ was.1.1.1.0) was.1.1.1.1.0 old.image in
       let place : (row_at now.procs.table r).place ≡ Some held.place = (agree.each r was.0 was.1.0).place ∙ ap place_in has in
       elim (after.places r) [
@@ -202,15 +202,17 @@ module _ (w now : World) (s : ℕ) (ready : IsReady w s) (x : its.World) (agree 
           let before = ready.good.referred ino in
           let files : count_by (is_of ino) now.files.table ≡ count_by (is_of ino) w.files.table = ap (count_by (is_of ino)) stays.table in
           let inside = counts.inside ino in
-          let old : referrers (unix_of w) ino ≡ count_by (is_of ino) w.files.table + count_by (is_in ino) (unix_of w).processes + count_by (is_text_of ino) no_texts + (if ino == 1 then 1 else 0) = refl in
-          let new : referrers (unix_of now) ino ≡ count_by (is_of ino) now.files.table + count_by (is_in ino) (unix_of now).processes + count_by (is_text_of ino) no_texts + (if ino == 1 then 1 else 0) = refl in
-          omega (arith, same, before, files, inside, old, new);
+          let old : referrers (unix_of w) ino ≡ count_by (is_of ino) w.files.table + count_by (is_in ino) (unix_of w).processes + count_by (is_text_of ino) (unix_of w).texts + (if ino == 1 then 1 else 0) = refl in
+          let new : referrers (unix_of now) ino ≡ count_by (is_of ino) now.files.table + count_by (is_in ino) (unix_of now).processes + count_by (is_text_of ino) (unix_of now).texts + (if ino == 1 then 1 else 0) = refl in
+          let was = texts_count w.procs.images ino ready.good.agree.no_text in
+          let now_none = texts_count now.procs.images ino agree.no_text in
+          omega (arith, same, before, files, inside, old, new, was, now_none);
       running = λ r is above.
           let runs : w.procs.table.running ≡ Some r = sym after.running ∙ is in
           let same : r ≡ s = ap (λ o. unwrap_or o 0) (sym runs ∙ ready.runs) in
           let alive = ready_alive w s ready in
           let living = counts.living s (process_of (unix_of w) s) (slot_is w s ready) (is_living w s ready) in
-          let image = held_by (member_at now.procs.rows.slots s) (keeping now.procs.images s) living.0
+          let image = held_by (member_at now.procs.rows.slots s) (keeping now.procs.images s) (text_of now.procs.images s) living.0
           (sym (process_in_slot now.procs.rows.slots now.procs.images s alive.below) ∙ living.1.0) living.1.1 (agree.each s alive.above alive.below).image in
           subst (λ n. HasImage now.procs.images n) (sym same) image;
       marks = stays.marks ∙ ready.good.marks;

@@ -8,10 +8,10 @@ use Rattle.pick_rules.specs.declared.row.Stat.{Stat}
 use Rattle.pick_rules.specs.declared.row.Stat.TheVariants.{Empty, Sleeping, Waiting, Ready, Zombie}
 use Rattle.pick_rules.specs.declared.row.TableRow.{TableRow}
 use Rattle.pick_rules.specs.Table.{row_at, empty_row, is_in_core, is_zombie}
-use Rattle.pick_rules.specs.Board.{blocks, swap_range, swap_of_row, swap_fit}
+use Rattle.pick_rules.specs.Board.{blocks, swap_range, swap_of_row, swap_fit, swap_of_text}
 use Rattle.proc_tab.specs.declared.member.Member.{Member}
 use Rattle.proc_tab.specs.Processes.{member_at}
-use Rattle.image_keep.specs.Kept.{Held, Keeping, Nothing, Alive, Grave, keeping}
+use Rattle.image_keep.specs.Kept.{Held, Keeping, Nothing, Alive, Grave, keeping, no_texts}
 use Rattle.open_files.specs.Files.{times}
 use Rattle.open_files.specs.declared.file.Closed.{Closed}
 use Rattle.open_files.specs.declared.file.Closed.TheVariants.{Still, Last}
@@ -20,7 +20,8 @@ use Rattle.sys_files.specs.Descriptors.{Closing, released, told_by, dropped, clo
 use Rattle.sys_files.proofs.ClosingLemmas.{closed_below, below_more, below_all}
 use Rattle.sys_procs.specs.Process.{Process}
 use Rattle.sys_procs.specs.Exit.{adopted}
-use Rattle.sys_procs.specs.Agree.{Died, kind_of_stat, Agrees}
+use Rattle.sys_procs.specs.Agree.{Died, kind_of_stat, Agrees, text_place}
+use Rattle.map_fit.specs.Fit.{Range}
 use Rattle.unix_core.specs.declared.world.World.{World}
 use Rattle.abstract_unix.specs.References.{is_in}
 use Rattle.unix_core.specs.Parts.{board_in, numbers_in, named, IsGood}
@@ -56,6 +57,11 @@ row_taken m row (Grave u block) a core =
     let one : taken_by (swap_range (Some (Swap block)) 1) ≡ 1 = refl in
     omega (arith, same, one)
 
+-- no text takes a block
+no_ranges : flat_map swap_of_text (map text_place no_texts) ≡ []
+unfolding no_texts
+no_ranges = refl
+
 -- A block of the swap area is free.
 pub swap_free : (w : World) → IsGood w → IsSome (swap_fit (board_in w) 1)
 swap_free w good =
@@ -74,8 +80,11 @@ swap_free w good =
     ] in
     let few = taken_each swap_of_row empty_row rows each in
     let long = good.agree.rows in
-    let whole : taken_by (flat_map swap_of_row rows ++ []) ≡ taken_by (flat_map swap_of_row rows) = ap taken_by (append-nil (flat_map swap_of_row rows)) in
-    one_fits (flat_map swap_of_row rows ++ []) (omega (arith, few, long, whole))
+    let texts : List Range = flat_map swap_of_text (map text_place w.procs.images.texts) in
+    let none : texts ≡ [] = ap (λ l. flat_map swap_of_text (map text_place l)) good.agree.no_text.texts ∙ no_ranges in
+    let whole : taken_by (flat_map swap_of_row rows ++ texts) ≡ taken_by (flat_map swap_of_row rows) =
+    ap (λ l. taken_by (flat_map swap_of_row rows ++ l)) none ∙ ap taken_by (append-nil (flat_map swap_of_row rows)) in
+    one_fits (flat_map swap_of_row rows ++ texts) (omega (arith, few, long, whole))
 
 -- A process that has closed all its files names none.
 released_files : (h : Handed) (told : Closed) → (released h told).state.u.files ≡ h.u.files

@@ -18,6 +18,7 @@ use Rattle.sys_procs.specs.Fork.{fork_into, fork_one}
 use Rattle.sys_procs.specs.Agree.{board_of}
 use Rattle.sys_procs.specs.Handed.{came}
 use Rattle.sys_procs.proofs.Forks.{logged_fork, logged_no_fork, row_of_child, board_forked}
+use Rattle.sys_procs.proofs.Alive.{no_text_row}
 use Rattle.unix_core.specs.declared.world.World.{World}
 use Rattle.unix_core.specs.Parts.{board_in, IsReady}
 use Rattle.unix_core.proofs.WorldLemmas.{ready_alive}
@@ -54,7 +55,7 @@ module _ (w : World) (s : ℕ) (ready : IsReady w s) (f : IsFork w s) where
       let alive = ready_alive w s ready in
       let rows = ready.good.agree.rows in
       let low = f.low in
-      sym (board_forked w.procs.table w.procs.images s f.child (Core f.click) (omega (arith, rows, low)) (alive.agree.each s alive.above alive.below).text)
+      sym (board_forked w.procs.table w.procs.images s f.child (Core f.click) (omega (arith, rows, low)) (no_text_row w.procs s alive))
 
   pub fork_board : (b : Board) → b ≡ (came w.procs (fork_one (given w) s)).board → b ≡ board_of seat w.procs.images
   fork_board b e = e ∙ ap (λ (l : Logged its.World). l.board) whole ∙ fork_applied

@@ -6,7 +6,7 @@ use Rattle.std.proofs.lemmas.List.{get_or-set_same, get_or-set_other}
 use Rattle.pick_rules.specs.Table.{row_at, is_in_core}
 use Rattle.pick_rules.specs.Board.{Board}
 use Rattle.proc_tab.specs.Processes.{member_at}
-use Rattle.image_keep.specs.Kept.{Held, Nothing, Alive, Has, HasImage, keeping, place_in}
+use Rattle.image_keep.specs.Kept.{Held, Nothing, Alive, Has, HasImage, keeping, place_in, text_of}
 use Rattle.open_files.specs.Files.{file_at, times, shared}
 use Rattle.open_files.specs.declared.file.OpenFile.{OpenFile}
 use Rattle.sys_files.specs.Sound.{is_of, numbers_of, HasNoPipe}
@@ -22,7 +22,7 @@ use Rattle.abstract_unix.specs.Unix.{no_texts, process_of}
 use Rattle.abstract_unix.specs.References.{is_in, is_text_of, referrers}
 use Rattle.abstract_unix.specs.Calls.{with_world}
 use Rattle.unix_core.specs.Parts.{unix_of, numbers_in, named, refs, IsReady}
-use Rattle.unix_core.proofs.ReferenceLemmas.{slot_within, in_within, numbers_living, in_living, named_set, in_set}
+use Rattle.unix_core.proofs.ReferenceLemmas.{slot_within, in_within, numbers_living, in_living, named_set, in_set, texts_count}
 use Rattle.unix_core.proofs.WorldLemmas.{ready_alive, slot_is, is_living, files_open, fifteen_each}
 use Rattle.unix_core.proofs.AreaLemmas.{held_within}
 use Rattle.unix_core.proofs.CameLemmas.{held_by}
@@ -123,7 +123,7 @@ module _ (w now : World) (s : ℕ) (ready : IsReady w s) (f : IsFork w s) (agree
       let least = in_within ps s p p.u.dir (slot_is w s ready) (is_living w s ready) in
       let one : ◌≡◌ {A = ℕ} (if p.u.dir == p.u.dir then 1 else 0) 1 = ap (λ b. cond {A = ℕ} b 1 0) (eq-eqb p.u.dir p.u.dir refl) in
       let all = ready.good.referred p.u.dir in
-      let total : referrers (unix_of w) p.u.dir ≡ count_by (is_of p.u.dir) w.files.table + count_by (is_in p.u.dir) ps + count_by (is_text_of p.u.dir) no_texts + (if p.u.dir == 1 then 1 else 0) = refl in
+      let total : referrers (unix_of w) p.u.dir ≡ count_by (is_of p.u.dir) w.files.table + count_by (is_in p.u.dir) ps + count_by (is_text_of p.u.dir) (unix_of w).texts + (if p.u.dir == 1 then 1 else 0) = refl in
       omega (arith, least, one, all, total)
 
   taken : (ino : ℕ) → refs now ino ≡ refs w ino + (if p.u.dir == ino then 1 else 0)
@@ -172,10 +172,10 @@ module _ (w now : World) (s : ℕ) (ready : IsReady w s) (f : IsFork w s) (agree
   had r held has =
       let low = below r held has in
       let there = is_there (member_at now.procs.rows.slots r) (row_at now.procs.table r) (keeping now.procs.images r) held (agree.each r (above r held has) low) has in
-      let living : get_or (unix_of now).processes r None ≡ Some (process_by there.0 (Alive held)) =
+      let living : get_or (unix_of now).processes r None ≡ Some (process_by there.0 (Alive held) (text_of now.procs.images r)) =
       process_in_slot now.procs.rows.slots now.procs.images r low
-      ∙ (ap (λ o. process_in o (keeping now.procs.images r)) there.1 ∙ ap (λ x. process_in (Some there.0) x) has) in
-      (process_by there.0 (Alive held), (ap (λ l. get_or l r None) (sym processes) ∙ living, (there.2, refl)))
+      ∙ (ap (λ o. process_in o (keeping now.procs.images r) (text_of now.procs.images r)) there.1 ∙ ap (λ x. process_in (Some there.0) x (text_of now.procs.images r)) has) in
+      (process_by there.0 (Alive held) (text_of now.procs.images r), (ap (λ l. get_or l r None) (sym processes) ∙ living, (there.2, refl)))
 
   in_core : (r : ℕ) (held : Held) → Has now.procs.images r held → is_in_core (Some held.place) ≡ true
   in_core r held has =
@@ -190,7 +190,7 @@ module _ (w now : World) (s : ℕ) (ready : IsReady w s) (f : IsFork w s) (agree
             let was = had r held has in
             let old = ready.good.agree.each r up low in
             let lives = lived r was.0 was.1.0 was.1.1.0 not_child in
-            let image = held_by (member_at w.procs.rows.slots r) (keeping w.procs.images r) lives.0
+            let image = held_by (member_at w.procs.rows.slots r) (keeping w.procs.images r) (text_of w.procs.images r) lives.0
             (sym (process_in_slot w.procs.rows.slots w.procs.images r low) ∙ lives.1.0) lives.1.1 old.image in
             ap is_in_core (sym place ∙ is ∙ ap (λ row. row.place) (seat_other w s ready f r not_child) ∙ old.place ∙ ap place_in image.1)
             ∙ ready.good.in_core r image.0 image.1
@@ -200,7 +200,7 @@ module _ (w now : World) (s : ℕ) (ready : IsReady w s) (f : IsFork w s) (agree
   running r is =
       let same : r ≡ s = ap (λ o. unwrap_or o 0) (sym is ∙ same_running ∙ ready.runs) in
       let alive = ready_alive w s ready in
-      let image = held_by (member_at now.procs.rows.slots s) (keeping now.procs.images s) (past_word p)
+      let image = held_by (member_at now.procs.rows.slots s) (keeping now.procs.images s) (text_of now.procs.images s) (past_word p)
       (sym (process_in_slot now.procs.rows.slots now.procs.images s alive.below) ∙ ap (λ l. get_or l s None) processes ∙ parent_after)
       (is_living w s ready) (agree.each s alive.above alive.below).image in
       subst (λ n. HasImage now.procs.images n) (sym same) image
@@ -223,9 +223,11 @@ module _ (w now : World) (s : ℕ) (ready : IsReady w s) (f : IsFork w s) (agree
           let before = ready.good.referred ino in
           let files : count_by (is_of ino) now.files.table ≡ count_by (is_of ino) w.files.table = ap (count_by (is_of ino)) table ∙ shared_inodes w.files.table p.u.files ino in
           let dirs = inside ino in
-          let old : referrers (unix_of w) ino ≡ count_by (is_of ino) w.files.table + count_by (is_in ino) ps + count_by (is_text_of ino) no_texts + (if ino == 1 then 1 else 0) = refl in
-          let new : referrers (unix_of now) ino ≡ count_by (is_of ino) now.files.table + count_by (is_in ino) (unix_of now).processes + count_by (is_text_of ino) no_texts + (if ino == 1 then 1 else 0) = refl in
-          omega (arith, refs_are, before, files, dirs, old, new);
+          let old : referrers (unix_of w) ino ≡ count_by (is_of ino) w.files.table + count_by (is_in ino) ps + count_by (is_text_of ino) (unix_of w).texts + (if ino == 1 then 1 else 0) = refl in
+          let new : referrers (unix_of now) ino ≡ count_by (is_of ino) now.files.table + count_by (is_in ino) (unix_of now).processes + count_by (is_text_of ino) (unix_of now).texts + (if ino == 1 then 1 else 0) = refl in
+          let was = texts_count w.procs.images ino ready.good.agree.no_text in
+          let now_none = texts_count now.procs.images ino agree.no_text in
+          omega (arith, refs_are, before, files, dirs, old, new, was, now_none);
       running = λ r is up. running r is;
       marks = marks ∙ ready.good.marks;
       entries = ap (λ t. t.entry_room) tape ∙ ready.good.entries;

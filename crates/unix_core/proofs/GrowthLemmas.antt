@@ -16,6 +16,7 @@ use Rattle.sys_procs.specs.Comes.{Comes, fails}
 use Rattle.sys_procs.specs.Break.{sized, expands, clicks_up_to, break_at, grown_stack, grow, grown_or_not, grown_by}
 use Rattle.sys_procs.specs.Handed.{AreProcs, board, came}
 use Rattle.sys_procs.specs.Done.{HasGrown, HasLeft}
+use Rattle.sys_procs.proofs.Alive.{no_text_row}
 use Rattle.unix_core.specs.declared.world.World.{World}
 use Rattle.abstract_unix.specs.Unix.{process_of}
 use Rattle.abstract_unix.specs.declared.ending.Ending.{Ending}
@@ -34,7 +35,7 @@ given_like w = record { switches = refl; refs = λ ino. refl; counts = counts_sa
 
 -- no process has a text
 pub text_none : (w : World) (s : ℕ) → IsReady w s → (row_at w.procs.table s).text ≡ None
-text_none w s ready = let alive = ready_alive w s ready in (alive.agree.each s alive.above alive.below).text
+text_none w s ready = no_text_row w.procs s (ready_alive w s ready)
 
 module _ (w : World) (s : ℕ) (ready : IsReady w s) where
   abbrev p : Process

@@ -157,7 +157,7 @@ pub mild_times_to : (w : World) (s at : ℕ) → IsNear w w s → IsMild w (time
 unfolding times_to
 mild_times_to w s at near =
     let p : Process = process_of w s in
-    mild_stored w w s near (if at % 2 == 1 then None else store_bytes (image_of p) at (bytes_of (times p.u)))
+    mild_stored w w s near (if at % 2 == 1 then None else store_bytes (image_of w.texts p) at (bytes_of (times p.u)))
 
 pub mild_sleep_for : (w : World) (s : ℕ) → IsNear w w s → IsMild w (sleep_for w s)
 unfolding sleep_for

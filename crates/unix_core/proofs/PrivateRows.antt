@@ -1,6 +1,6 @@
 -- The calls on processes but for exec and break: each leaves the processes of other slots alone.
 use Rattle.std.proofs.Common.{◌≡◌, ◌≢◌, ◌∙◌, ℕ, Bool, true, false, ◌&&◌, ◌||◌, ◌==◌, nat_lt, nat_le, ◌+◌, ◌*◌, ◌%◌, ◌^◌, if◌then◌else◌, List, [], get_or, set, Option, Some, None, is_none, sym, ap}
-use Rattle.std.specs.Prelude.{pos}
+use Rattle.std.specs.Prelude.{pos, slice_set}
 use Rattle.std.specs.Int.{int_min}
 use Rattle.std.proofs.lemmas.List.{get_or-map}
 use Rattle.v6_base.specs.Image.{Image}
@@ -8,7 +8,7 @@ use Rattle.v6_base.specs.Copy.{store_bytes}
 use Rattle.v6_base.specs.declared.answer.Answer.{Answer}
 use Rattle.v6_base.specs.declared.entry.Entry.{Entry}
 use Rattle.v6_base.specs.declared.entry.Chan.TheVariants.{Tout}
-use Rattle.v6_base.specs.declared.entry.Entry.TheVariants.{Nice, Time, Wake, Reap}
+use Rattle.v6_base.specs.declared.entry.Entry.TheVariants.{Nice, Time, Wake, Reap, Leave}
 use Rattle.fs_codec.specs.Bytes.{bytes_of}
 use Rattle.u_area.specs.Area.{times}
 use Rattle.proc_tab.specs.declared.child.Child.{Child}
@@ -17,14 +17,16 @@ use Rattle.proc_tab.specs.Processes.{IsLowest, Finds, passes, lowest}
 use Rattle.proc_tab.specs.Children.{Tells, child, is_dead_child_of}
 use Rattle.proc_tab.proofs.SearchLemmas.{tells, lowest_finds}
 use Rattle.sys_procs.specs.Process.{Process, member_of, register, image_of, is_super}
-use Rattle.sys_procs.specs.World.{World, process_of, change, without_process, members}
+use Rattle.sys_procs.specs.World.{World, process_of, change, without_process, members, let_go}
 use Rattle.sys_procs.specs.Comes.{Comes, comes, logs}
 use Rattle.sys_procs.specs.Ids.{pid_of, set_uid, get_uid, set_gid, get_gid, switches, no_op, nice_to, as_user, as_group, id_given, kept_nice}
 use Rattle.sys_procs.specs.Times.{time_now, set_time, with_time, times_to, stored, sleep_for, sleep_until, sleeping_until, tout_with, until_of, pending_sleep}
 use Rattle.sys_procs.specs.Wait.{wait_child, waits_for, waiting, with_times_of}
 use Rattle.sys_procs.specs.Fork.{fork_one, fork_into, past_word, next_pid, with_child}
-use Rattle.sys_procs.specs.Exit.{exit_now, end_proc, leaves, dead, ended}
+use Rattle.sys_procs.specs.Exit.{exit_now, end_proc, leaves, dies, dead, ended}
 use Rattle.sys_procs.specs.Resume.{resume_proc, awake}
+use Rattle.sys_procs.specs.TextTable.{text_of}
+use Rattle.sys_procs.specs.Texts.{goes, remaining, without_text, leaves_text, is_sticky, xfree}
 use Rattle.unix_core.proofs.ReferenceLemmas.{slot_within}
 use Rattle.unix_core.proofs.PrivateSlots.{Spared, AllCarry, spared_then, spared_other, spared_unless, spared_adopted}
 
@@ -74,6 +76,20 @@ module _ (ps : List (Option Process)) (r s : ℕ) (other : r ≢ s) where
   pub sparing_if : (b : Bool) (x y : Comes) → IsSparing ps r x → IsSparing ps r y → IsSparing ps r (if b then x else y)
   sparing_if true x y h k = h
   sparing_if false x y h k = k
+
+  -- A text is left.
+  spared_gone : (b : Bool) (w : World) (ino : ℕ) → Spared ps w.processes r → Spared ps (if b then let_go w ino else w).processes r
+  spared_gone true w ino h = h
+  spared_gone false w ino h = h
+
+  pub sparing_xfree : (w : World) (o : Option ℕ) (next : World → Comes) → Spared ps w.processes r
+      → ((v : World) → Spared ps v.processes r → IsSparing ps r (next v)) → IsSparing ps r (xfree w s o next)
+  sparing_xfree w None next h rest = rest w h
+  sparing_xfree w (Some k) next h rest =
+      let sticky = is_sticky w k in
+      let entry = record w { texts = slice_set w.texts k (remaining (text_of w.texts k) sticky) } in
+      sparing_logs (Leave s k sticky) _
+      (rest (leaves_text w s k sticky) (spared_gone (goes (text_of w.texts k) sticky) (change entry s without_text) (text_of w.texts k).ino (spared_change entry without_text h)))
 
   module _ (w : World) (h : Spared ps w.processes r) where
     sparing_changed : (rule : Process → Process) (a : Answer) → IsSparing ps r (comes (change w s rule) a)
@@ -167,7 +183,7 @@ module _ (ps : List (Option Process)) (r s : ℕ) (other : r ≢ s) where
     unfolding times_to
     sparing_times_to at =
         let p : Process = process_of w s in
-        sparing_stored (if at % 2 == 1 then None else store_bytes (image_of p) at (bytes_of (times p.u)))
+        sparing_stored (if at % 2 == 1 then None else store_bytes (image_of w.texts p) at (bytes_of (times p.u)))
 
     pub sparing_sleep_for : IsSparing ps r (sleep_for w s)
     unfolding sleep_for
@@ -196,12 +212,14 @@ module _ (ps : List (Option Process)) (r s : ℕ) (other : r ≢ s) where
         (spared_then ps w.processes ended r h (spared_other w.processes s r (Some zombie) other))
         (spared_adopted ended p.row.pid r)
 
+  sparing_dies : (w : World) → Spared ps w.processes r → IsSparing ps r (dies w s)
+  sparing_dies w h = record { effects = (h, (tt, (tt, tt))); state = spared_dead w h }
+
   sparing_end : (w : World) (status : ℕ) → Spared ps w.processes r → IsSparing ps r (end_proc w s status)
   unfolding end_proc
   sparing_end w status h =
       let left : World = leaves w s status in
-      let spared : Spared ps left.processes r = spared_change w (ended status) h in
-      record { effects = (spared, (tt, (tt, tt))); state = spared_dead left spared }
+      sparing_xfree left (process_of w s).text (λ x. dies x s) (spared_change w (ended status) h) sparing_dies
 
   pub sparing_exit : (w : World) → Spared ps w.processes r → IsSparing ps r (exit_now w s)
   unfolding exit_now

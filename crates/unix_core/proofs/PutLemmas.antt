@@ -1,11 +1,11 @@
 -- A process's u area is another one, with the same sizes, numbers of files and directory: what belongs together still does.
-use Rattle.std.proofs.Common.{◌≡◌, ◌+◌, ◌==◌, if◌then◌else◌, cond, ℕ, true, false, length, get_or, set, min, count_by, Some, None, refl, sym, ap, ◌∙◌, subst, inl, inr, arith}
+use Rattle.std.proofs.Common.{◌≡◌, ◌+◌, ◌==◌, if◌then◌else◌, cond, ℕ, true, false, length, get_or, set, min, count_by, Some, None, refl, sym, ap, ◌∙◌, subst, inl, inr, arith, map}
 use Rattle.std.proofs.lemmas.Bool.{cases_eq}
 use Rattle.u_area.specs.declared.area.UArea.{UArea}
 use Rattle.pick_rules.specs.Table.{row_at, is_in_core}
 use Rattle.proc_tab.specs.Processes.{member_at}
-use Rattle.image_keep.specs.Kept.{Held, Keeping, Nothing, Alive, Grave, Kept, Has, keeping, with_area, area_in, clicks_of}
-use Rattle.image_keep.proofs.Frames.{alive_low, image_alive, with_area_has}
+use Rattle.image_keep.specs.Kept.{Held, Keeping, Nothing, Alive, Grave, Kept, Has, keeping, with_area, area_in, clicks_of, text_of}
+use Rattle.image_keep.proofs.Frames.{alive_low, image_alive, with_area_has, with_area_texts}
 use Rattle.open_files.specs.Files.{times}
 use Rattle.sys_files.specs.Sound.{is_of}
 use Rattle.sys_procs.specs.Process.{Process, process_in}
@@ -14,8 +14,9 @@ use Rattle.sys_procs.specs.Handed.{IsAlive}
 use Rattle.sys_procs.proofs.Slots.{process_in_slot, area_changed}
 use Rattle.sys_procs.proofs.Agreement.{agree_but}
 use Rattle.sys_procs.proofs.Alive.{SameSizes, is_here}
+use Rattle.sys_procs.specs.World.{text_in}
 use Rattle.unix_core.specs.declared.world.World.{World}
-use Rattle.abstract_unix.specs.Unix.{no_texts, process_of, with_process}
+use Rattle.abstract_unix.specs.Unix.{no_texts, process_of, with_process, Unix}
 use Rattle.abstract_unix.specs.References.{is_in, is_text_of, referrers}
 use Rattle.unix_core.specs.Parts.{unix_of, named, numbers_in, IsGood}
 use Rattle.unix_core.proofs.ReferenceLemmas.{slot_within, numbers_living, one_in, in_living, named_set, in_set}
@@ -34,8 +35,8 @@ pub alive_slot : (w : World) (s : ℕ) → IsAlive w.procs s → get_or (unix_of
 alive_slot w s alive =
     let here = is_here w.procs s alive in
     process_in_slot w.procs.rows.slots w.procs.images s alive.below
-    ∙ (ap (λ o. process_in o (keeping w.procs.images s)) here.member_is
-    ∙ (ap (λ x. process_in (Some here.member) x) here.image_is
+    ∙ (ap (λ o. process_in o (keeping w.procs.images s) (text_of w.procs.images s)) here.member_is
+    ∙ (ap (λ x. process_in (Some here.member) x (text_of w.procs.images s)) here.image_is
     ∙ ap (λ (p : Process). Some p) (sym here.process_is)))
 
 pub alive_living : (w : World) (s : ℕ) → IsAlive w.procs s → (process_of (unix_of w) s).is_zombie ≡ false
@@ -69,6 +70,7 @@ module _ (w : World) (s : ℕ) (u : UArea) (alive : IsAlive w.procs s) where
   pub unix_put : unix_of w' ≡ with_process (unix_of w) s q
   unix_put = λ i. record (unix_of w) {
     processes = processes_put i;
+    texts = map text_in ((with_area_texts k s u).texts i);
     limit = min (area_core k s u i) 2048;
   }
 
@@ -95,8 +97,8 @@ module _ (w : World) (s : ℕ) (u : UArea) (alive : IsAlive w.procs s) where
 
     referrers_put : (ino : ℕ) → referrers (unix_of w') ino ≡ referrers (unix_of w) ino
     referrers_put ino =
-        ap (λ ps. count_by (is_of ino) w.files.table + count_by (is_in ino) ps + count_by (is_text_of ino) no_texts + (if ino == 1 then 1 else 0)) processes_put
-        ∙ ap (λ n. count_by (is_of ino) w.files.table + n + count_by (is_text_of ino) no_texts + (if ino == 1 then 1 else 0)) (in_put ino)
+        ap (λ (x : Unix). referrers x ino) unix_put
+        ∙ ap (λ n. count_by (is_of ino) w.files.table + n + count_by (is_text_of ino) (unix_of w).texts + (if ino == 1 then 1 else 0)) (in_put ino)
 
     -- a fact of each image
     each_put : (P : Held → Type 0) → ((r : ℕ) (held : Held) → Has k r held → P held)
@@ -126,11 +128,11 @@ module _ (w : World) (s : ℕ) (u : UArea) (alive : IsAlive w.procs s) where
           image = old.image;
           place = old.place;
           size = λ other is. old.size here.held refl ∙ (sym (clicks_put here.held here.image_is) ∙ ap (λ x. clicks_of (area_in x)) is);
-          text = old.text;
           quiet = old.quiet;
         } in
         agree_but w.procs.rows w.procs.rows w.procs.table w.procs.table k (with_area k s u) s alive.agree alive.above alive.agree.table refl
         (subst (λ x. Agrees (member_at w.procs.rows.slots s) (row_at w.procs.table s) x) (sym (area_now k s u here.held here.image_is)) new)
+        (alive.agree.text s alive.above alive.below) (with_area_texts k s u)
         (λ r other. refl) (λ r other. refl) (area_other k s u)
 
     pub good_put : IsGood w → IsGood w'

@@ -1,6 +1,6 @@
 -- How often inodes are referred to, and how often open files are named, by fifty processes; and what a call of one of them is
 -- handed.
-use Rattle.std.proofs.Common.{◌≡◌, ◌<◌, ◌≤◌, ◌+◌, ◌*◌, ℕ, Bool, true, false, not, ◌&&◌, ◌==◌, eqb, if◌then◌else◌, cond, List, length, get_or, set, count_by, sum_by, Option, Some, None, IsSome, slice_index, refl, sym, ap, ◌∙◌, inl, inr, arith}
+use Rattle.std.proofs.Common.{◌≡◌, ◌<◌, ◌≤◌, ◌+◌, ◌*◌, ℕ, Bool, true, false, not, ◌&&◌, ◌==◌, eqb, if◌then◌else◌, cond, List, length, get_or, map, set, count_by, sum_by, Option, Some, None, IsSome, slice_index, refl, sym, ap, ◌∙◌, inl, inr, arith}
 use Rattle.std.proofs.lemmas.Bool.{cases_lt, eq-eqb}
 use Rattle.std.proofs.lemmas.List.{get_or_past}
 use Rattle.std.proofs.lemmas.List.Elements.{All-from_get_or}
@@ -12,7 +12,11 @@ use Rattle.fs_nodes.specs.FileSystem.{FileSystem, IsFileSystem}
 use Rattle.sys_files.specs.Handed.{Handed}
 use Rattle.sys_files.specs.Sound.{is_of, numbers_of, IsKept}
 use Rattle.sys_procs.specs.Process.{Process}
-use Rattle.abstract_unix.specs.Unix.{Unix, process_of}
+use Rattle.image_keep.specs.Kept.{Kept}
+use Rattle.image_keep.specs.Kept as kept
+use Rattle.sys_procs.specs.World.{text_in, texts_in}
+use Rattle.sys_procs.specs.Agree.{HasNoText}
+use Rattle.abstract_unix.specs.Unix.{Unix, no_texts, process_of}
 use Rattle.abstract_unix.specs.References.{is_in, is_text_of, referrers, references_of}
 use Rattle.abstract_unix.specs.Calls.{handed_of, with_handed}
 use Rattle.unix_core.specs.Parts.{numbers_in, named}
@@ -127,6 +131,14 @@ few_referrers u ino files processes texts =
     let c = count_by-le-length (is_text_of ino) u.texts in
     let d = at_most_one (ino == 1) in
     omega (arith, a, b, c, d, files, processes, texts)
+
+-- no text is made yet
+pub texts_none : (k : Kept) → HasNoText k → texts_in k ≡ no_texts
+unfolding no_texts kept.no_texts
+texts_none k none = ap (λ texts. map text_in texts) none.texts
+
+pub texts_count : (k : Kept) (ino : ℕ) → HasNoText k → count_by (is_text_of ino) (texts_in k) ≡ count_by (is_text_of ino) no_texts
+texts_count k ino none = ap (count_by (is_text_of ino)) (texts_none k none)
 
 -- A call of the process in a slot has left its parts, and kept what they owe.
 module _ (u : Unix) (s : ℕ) (h : Handed) (is : get_or u.processes s None ≡ Some (process_of u s)) (lives : (process_of u s).is_zombie ≡ false)

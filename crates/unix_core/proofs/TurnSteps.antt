@@ -1,6 +1,6 @@
 -- An instruction of the process that runs: its memory is another one, what belongs together still does, and the process has
 -- stepped.
-use Rattle.std.proofs.Common.{◌≡◌, ◌<◌, ◌∙◌, ◌==◌, if◌then◌else◌, ℕ, zero, suc, false, List, [], length, set, min, Option, Some, None, refl, sym, ap, subst, inl, inr, arith}
+use Rattle.std.proofs.Common.{◌≡◌, ◌<◌, ◌∙◌, ◌==◌, if◌then◌else◌, ℕ, zero, suc, false, List, [], length, set, min, Option, Some, None, refl, sym, ap, subst, inl, inr, arith, map}
 use Rattle.std.proofs.lemmas.Bool.{cases_eq}
 use Rattle.std.proofs.lemmas.List.{set-set}
 use Rattle.v6_base.specs.Image.{Image}
@@ -16,15 +16,19 @@ use Rattle.pick_rules.specs.Table.{row_at, is_in_core}
 use Rattle.pick_rules.specs.Choice.{settle}
 use Rattle.proc_tab.specs.declared.member.Member.{Member}
 use Rattle.proc_tab.specs.Processes.{member_at}
-use Rattle.image_keep.specs.Kept.{Held, Alive, Kept, Has, keeping, with_image, image_in, image_of, area_in, clicks_of}
+use Rattle.image_keep.specs.Kept.{Held, Alive, Kept, Has, keeping, with_image, image_in, image_of, area_in, clicks_of, IsKept}
 use Rattle.open_files.specs.Files.{times}
 use Rattle.sys_procs.specs.Process as one
 use Rattle.sys_procs.specs.Process.{Process, process_by, process_in, register}
 use Rattle.sys_procs.specs.Agree.{Agrees}
-use Rattle.sys_procs.proofs.Slots.{one_changed}
+use Rattle.sys_procs.proofs.Slots.{one_changed, image_changed}
 use Rattle.sys_procs.proofs.Agreement.{agree_but}
 use Rattle.sys_procs.proofs.Alive.{is_here, put_here}
 use Rattle.abstract_unix.specs.declared.turned.Turned.TheVariants.{Ran}
+use Rattle.image_keep.proofs.Frames.{with_image_texts}
+use Rattle.sys_procs.specs.World.{text_in}
+use Rattle.sys_procs.specs.Agree.{text_place}
+use Rattle.sys_procs.proofs.MemoryLemmas.{image_here}
 use Rattle.unix_core.specs.declared.machine.Stage.TheVariants as stage
 use Rattle.unix_core.specs.declared.world.World.{World}
 use Rattle.abstract_unix.specs.Unix.{Unix, System, process_of, with_process}
@@ -39,7 +43,7 @@ use Rattle.unix_core.proofs.WorldLemmas.{ready_alive, slot_is, is_living}
 use Rattle.unix_core.proofs.LoanLemmas.{image_now, image_other, image_core}
 use Rattle.unix_core.proofs.PutLemmas.{with_images}
 use Rattle.unix_core.proofs.BoardLemmas.{settle_same}
-use Rattle.unix_core.proofs.AreaLemmas.{state_is}
+use Rattle.unix_core.proofs.AreaLemmas.{state_is, held_within}
 
 -- whoever has an image then had one before, with the same place and the same area
 image_had : (k : Kept) (s : ℕ) (image : Image) (held : Held) → Has k s held → (r : ℕ) (now : Held) → Has (with_image k s image) r now
@@ -58,7 +62,6 @@ image_agrees m row held image a = record {
   image = a.image;
   place = a.place;
   size = λ other is. a.size held refl ∙ ap (λ x. clicks_of (area_in x)) is;
-  text = a.text;
   quiet = a.quiet;
 }
 
@@ -78,16 +81,16 @@ module _ (w : World) (s : ℕ) (ready : IsReady w s) (image : Image) where
       let alive = ready_alive w s ready in
       let here = is_here w.procs s alive in
       let k : Kept = w.procs.images in
-      let now : Process → Process = λ x. record x { «data» = image.data; stack = image.stack } in
-      let changed = one_changed w.procs.rows.slots w.procs.rows.slots k (with_image k s image) s (Some q) alive.below
-      (ap (λ o. process_in o (keeping (with_image k s image) s)) here.member_is
-      ∙ (ap (λ x. process_in (Some here.member) x) (image_now k s image here.held here.image_is)
-      ∙ ap (λ (x : Process). Some (now x)) (sym here.process_is)))
-      (λ r below other. ap (λ x. process_in (member_at w.procs.rows.slots r) x) (image_other k s image r other)) in
-      λ i. record (unix_of w) { processes = changed i; limit = min (image_core k s image i) 2048 }
+      let changed = image_changed w.procs.rows.slots k s here.member here.held alive.below here.member_is here.image_is image
+      (held_within k s here.held here.image_is) in
+      λ i. record (unix_of w) {
+        processes = changed i;
+        texts = map text_in ((with_image_texts k s image).texts i);
+        limit = min (image_core k s image i) 2048;
+      }
 
   pub memory_board : board_in with_memory ≡ board_in w
-  memory_board = λ i. record (board_in w) { core = image_core w.procs.images s image i }
+  memory_board = λ i. record (board_in w) { texts = map text_place ((with_image_texts w.procs.images s image).texts i); core = image_core w.procs.images s image i }
 
   pub memory_process : process_of (unix_of with_memory) s ≡ q
   memory_process =
@@ -112,6 +115,7 @@ module _ (w : World) (s : ℕ) (ready : IsReady w s) (image : Image) where
           agree = agree_but w.procs.rows w.procs.rows w.procs.table w.procs.table k (with_image k s image) s alive.agree alive.above alive.agree.table refl
               (subst (λ x. Agrees (member_at w.procs.rows.slots s) (row_at w.procs.table s) x) (sym now)
               (image_agrees (member_at w.procs.rows.slots s) (row_at w.procs.table s) here.held image old))
+              (alive.agree.text s alive.above alive.below) (with_image_texts k s image)
               (λ r other. refl) (λ r other. refl) (image_other k s image);
           in_core = λ r held has.
               let had = image_had k s image here.held here.image_is r held has in
@@ -163,19 +167,14 @@ apart_process w s regs ready =
     put_here ps s (holding regs p) (slot_within ps s p (slot_is w s ready))
 
 -- what an instruction works on
-machine_is : (w : World) (s : ℕ) (regs : Regs) → IsReady w s → (image_of w.procs.images s).text ≡ []
-    → machine_of (process_of (with_regs (stage.Running s) regs (unix_of w)) s) ≡ pdp.machine_of regs (image_of w.procs.images s)
-machine_is w s regs ready text =
-    let here = is_here w.procs s (ready_alive w s ready) in
-    let image : Image = image_of w.procs.images s in
-    let own : one.image_of (process_of (unix_of w) s) ≡ record { text = []; «data» = image.data; stack = image.stack } =
-    ap one.image_of here.process_is ∙ ap (λ x. one.image_of (process_by here.member (Alive (record here.held { image = image_in x })))) (sym here.image_is) in
-    ap machine_of (apart_process w s regs ready)
-    ∙ (λ i. record { r = regs.r; cc = regs.cc; image = own i })
-    ∙ (λ i. record { r = regs.r; cc = regs.cc; image = record image { text = sym text i } })
+machine_is : (w : World) (s : ℕ) (regs : Regs) → IsReady w s → IsKept w.procs.images
+    → machine_of (unix_of w).texts (process_of (with_regs (stage.Running s) regs (unix_of w)) s) ≡ pdp.machine_of regs (image_of w.procs.images s)
+machine_is w s regs ready holds =
+    ap (machine_of (unix_of w).texts) (apart_process w s regs ready)
+    ∙ (λ i. record { r = regs.r; cc = regs.cc; image = image_here w.procs s (ready_alive w s ready) holds i })
 
 -- The process has stepped, and left these registers and this memory.
-module _ (w : World) (s : ℕ) (user : IsUser s w) (text : (image_of w.procs.images s).text ≡ []) (regs regs' : Regs) (o : Outcome) (image : Image)
+module _ (w : World) (s : ℕ) (user : IsUser s w) (holds : IsKept w.procs.images) (regs regs' : Regs) (o : Outcome) (image : Image)
     (step : stepped o (pdp.machine_of regs' image) ≡ instr (pdp.machine_of regs (image_of w.procs.images s))) where
   abbrev before : System
   before = system_at (stage.Running s) regs w
@@ -184,10 +183,10 @@ module _ (w : World) (s : ℕ) (user : IsUser s w) (text : (image_of w.procs.ima
   old = process_of (unix_of w) s
 
   abbrev its : Machine
-  its = machine_of (process_of before.unix s)
+  its = machine_of before.unix.texts (process_of before.unix s)
 
   comes : instr its ≡ stepped o (pdp.machine_of regs' image)
-  comes = ap instr (machine_is w s regs user.ready text) ∙ sym step
+  comes = ap instr (machine_is w s regs user.ready holds) ∙ sym step
 
   process_is : with_machine (holding regs old) (pdp.machine_of regs' image) ≡ holding regs' (record old { «data» = image.data; stack = image.stack })
   process_is =
@@ -224,7 +223,7 @@ user_slot m s runs above = ap settled_after (ap (slot_of m) runs ∙ by s above)
 -- An instruction has been done, and the kernel needn't settle.
 module _ (m : System) (s : ℕ) (above : 0 < s) (regs' : Regs) (w' : World) (done : HasStepped m regs' w' s came.Next) (quiet : settle m.board.table ≡ None) where
   abbrev u : Unix
-  u = with_process m.unix s (with_machine (process_of m.unix s) (instr (machine_of (process_of m.unix s))).machine)
+  u = with_process m.unix s (with_machine (process_of m.unix s) (instr (machine_of m.unix.texts (process_of m.unix s))).machine)
 
   turn_is : turn m s ≡ steps u
   turn_is =
@@ -264,13 +263,13 @@ pub quiet_system : (w : World) (s : ℕ) (regs : Regs) → IsUser s w → settle
 quiet_system w s regs user = settle_same w.procs.table ∙ user.settled
 
 -- The same where the memory has been lent, and has come back.
-module _ (w : World) (s : ℕ) (user : IsUser s w) (text : (image_of w.procs.images s).text ≡ []) (regs regs' : Regs) (o : Outcome) (image lent : Image)
+module _ (w : World) (s : ℕ) (user : IsUser s w) (holds : IsKept w.procs.images) (regs regs' : Regs) (o : Outcome) (image lent : Image)
     (lent_is : lent ≡ image_of w.procs.images s) (step : stepped o (pdp.machine_of regs' image) ≡ instr (pdp.machine_of regs lent))
     (k : Kept) (back : k ≡ with_image w.procs.images s image) where
   pub lent_stepped : HasStepped (system_at (stage.Running s) regs w) regs' (with_images w k) s o
   lent_stepped =
       subst (λ l. HasStepped (system_at (stage.Running s) regs w) regs' (with_images w l) s o) (sym back)
-      (has_stepped w s user text regs regs' o image (step ∙ ap (λ m. instr (pdp.machine_of regs m)) lent_is))
+      (has_stepped w s user holds regs regs' o image (step ∙ ap (λ m. instr (pdp.machine_of regs m)) lent_is))
 
   pub lent_user : IsUser s (with_images w k)
   lent_user = subst (λ l. IsUser s (with_images w l)) (sym back) (memory_user w s user.ready image user)

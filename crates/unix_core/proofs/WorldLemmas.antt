@@ -12,7 +12,9 @@ use Rattle.proc_tab.specs.declared.row.Row.{Row}
 use Rattle.proc_tab.specs.declared.member.Member.{Member}
 use Rattle.proc_tab.specs.Processes as proc
 use Rattle.proc_tab.specs.Processes.{member_at}
-use Rattle.image_keep.specs.Kept.{Held, Keeping, Nothing, Alive, Grave, Kept, Has, HasImage, keeping, clicks_of, area_in, area_of, image_in, image_of}
+use Rattle.image_keep.specs.Kept.{Held, Keeping, Nothing, Alive, Grave, Kept, Has, HasImage, keeping, text_of, clicks_of, area_in, area_of, image_in, image_of}
+use Rattle.image_keep.specs.Kept as kept
+use Rattle.image_keep.proofs.Frames.{SameTexts}
 use Rattle.open_files.specs.declared.file.OpenFile.{OpenFile}
 use Rattle.open_files.specs.Files.{AreOpen, file_at, times}
 use Rattle.fs_nodes.specs.FileSystem.{IsFileSystem}
@@ -21,18 +23,20 @@ use Rattle.sys_files.specs.Sound.{is_of, numbers_of, HasNoPipe, IsSound, IsKept}
 use Rattle.sys_files.proofs.Bounds.{Fits, HasAll}
 use Rattle.sys_procs.specs.Process as one
 use Rattle.sys_procs.specs.Process.{Process, no_process, process_by, process_in}
-use Rattle.sys_procs.specs.Agree.{Lives, Died, Agrees, Agree, kind_by, kind_of_member, kind_of_keeping, board_of}
+use Rattle.sys_procs.specs.Agree.{Lives, Died, Agrees, Agree, HasNoText, kind_by, kind_of_member, kind_of_keeping, board_of}
 use Rattle.sys_procs.specs.Handed.{IsAlive}
 use Rattle.sys_procs.proofs.Slots.{process_in_slot, fifty_processes, one_changed, own_row}
 use Rattle.sys_procs.proofs.Agreement.{agree_but}
+use Rattle.sys_procs.specs.World.{text_in, texts_in}
 use Rattle.sys_procs.proofs.Alive.{is_here, area_here}
+use Rattle.sys_procs.proofs.MemoryLemmas.{image_here}
 use Rattle.unix_core.specs.declared.world.World.{World}
 use Rattle.abstract_unix.specs.Unix.{Text, Unix, no_texts, process_of}
 use Rattle.abstract_unix.specs.References.{is_in, is_text_of, referrers, references_of}
 use Rattle.abstract_unix.specs.Calls.{marks_of, handed_of, with_handed}
 use Rattle.unix_core.specs.Passing.{all_woken}
 use Rattle.unix_core.specs.Parts.{unix_of, named, IsGood, IsReady, IsReadyToShow}
-use Rattle.unix_core.proofs.ReferenceLemmas.{slot_within, numbers_within, in_within, open_by_numbers, references_are, few_named, few_referrers, numbers_kept, referred_kept}
+use Rattle.unix_core.proofs.ReferenceLemmas.{texts_none, slot_within, numbers_within, in_within, open_by_numbers, references_are, few_named, few_referrers, numbers_kept, referred_kept}
 use Rattle.unix_core.proofs.FileLemmas.{shown_woken}
 
 -- who runs lives
@@ -49,8 +53,8 @@ slot_is w s ready =
     let alive = ready_alive w s ready in
     let here = is_here w.procs s alive in
     process_in_slot w.procs.rows.slots w.procs.images s alive.below
-    ∙ (ap (λ o. process_in o (keeping w.procs.images s)) here.member_is
-    ∙ (ap (λ x. process_in (Some here.member) x) here.image_is
+    ∙ (ap (λ o. process_in o (keeping w.procs.images s) (text_of w.procs.images s)) here.member_is
+    ∙ (ap (λ x. process_in (Some here.member) x (text_of w.procs.images s)) here.image_is
     ∙ ap (λ (p : Process). Some p) (sym here.process_is)))
 
 pub is_living : (w : World) (s : ℕ) → IsReady w s → (process_of (unix_of w) s).is_zombie ≡ false
@@ -62,13 +66,13 @@ files_open w s ready =
     open_by_numbers w.files.table (unix_of w).processes ready.good.numbers s (process_of (unix_of w) s) (slot_is w s ready) (is_living w s ready)
 
 -- each process that lives has fifteen numbers
-fifteen_by : (m : Option Member) (x : Keeping) (p : Process) → process_in m x ≡ Some p → p.is_zombie ≡ false
+fifteen_by : (m : Option Member) (x : Keeping) (t : Option ℕ) (p : Process) → process_in m x t ≡ Some p → p.is_zombie ≡ false
     → ((held : Held) → x ≡ Alive held → length held.u.files ≡ 15) → (x ≡ Nothing) ⊎ (kind_of_keeping x ≡ kind_of_member m) → length p.u.files ≡ 15
-fifteen_by None x p is lives each kind = absurd (cc)
-fifteen_by (Some m) Nothing p is lives each kind = ap (λ o. length (unwrap_or o no_process).u.files) (sym is)
-fifteen_by (Some m) (Alive held) p is lives each kind = ap (λ o. length (unwrap_or o no_process).u.files) (sym is) ∙ each held refl
-fifteen_by (Some m) (Grave u block) p is lives each (inl none) = absurd (cc)
-fifteen_by (Some m) (Grave u block) p is lives each (inr kind) =
+fifteen_by None x t p is lives each kind = absurd (cc)
+fifteen_by (Some m) Nothing t p is lives each kind = ap (λ o. length (unwrap_or o no_process).u.files) (sym is)
+fifteen_by (Some m) (Alive held) t p is lives each kind = ap (λ o. length (unwrap_or o no_process).u.files) (sym is) ∙ each held refl
+fifteen_by (Some m) (Grave u block) t p is lives each (inl none) = absurd (cc)
+fifteen_by (Some m) (Grave u block) t p is lives each (inr kind) =
     let dead : m.is_dead ≡ false = ap (λ o. (unwrap_or o no_process).is_zombie) is ∙ lives in
     let never : Died ≡ Lives = kind ∙ ap kind_by dead in
     absurd (cc never)
@@ -79,23 +83,29 @@ fifteen_each w good s p is lives =
     let k : Kept = w.procs.images in
     let within = slot_within (unix_of w).processes s p is in
     let low : s < 50 = omega (arith, within, fifty_processes slots k) in
-    fifteen_by (member_at slots s) (keeping k s) p (sym (process_in_slot slots k s low) ∙ is) lives (good.fifteen s)
+    fifteen_by (member_at slots s) (keeping k s) (text_of k s) p (sym (process_in_slot slots k s low) ∙ is) lives (good.fifteen s)
     (elim (cases_lt 0 s) [
       | inl above ↦ inr (good.agree.each s above low).image
       | inr below ↦ inl (let zero : s ≡ 0 = omega (arith, below) in ap (keeping k) zero ∙ good.agree.images)
     ])
 
-pub forty : length no_texts ≡ 40
+none_forty : length no_texts ≡ 40
 unfolding no_texts
-forty = let none : Option Text = None in length-replicate 40 none
+none_forty = let none : Option Text = None in length-replicate 40 none
+
+pub forty : (k : Kept) → HasNoText k → length (texts_in k) ≡ 40
+forty k none = ap length (texts_none k none) ∙ none_forty
 
 none_marked : (n : ℕ) → marks_of (replicate n None) ≡ []
 none_marked zero = refl
 none_marked (suc n) = none_marked n
 
-pub no_marks : marks_of no_texts ≡ []
+marks_none : marks_of no_texts ≡ []
 unfolding no_texts
-no_marks = none_marked 40
+marks_none = none_marked 40
+
+pub no_marks : (k : Kept) → HasNoText k → marks_of (texts_in k) ≡ []
+no_marks k none = ap marks_of (texts_none k none) ∙ marks_none
 
 -- The parts that a call of the process is handed are sound.
 pub sound_parts : (w : World) (s : ℕ) (h : Handed) → IsReady w s → length w.files.table ≡ 100
@@ -128,17 +138,14 @@ sound_parts w s h ready long files mine dir references =
           let here : count_by (is_of ino) h.files ≡ count_by (is_of ino) table = ap (count_by (is_of ino)) files in
           let there : cond {A = ℕ} (h.u.dir == ino) 1 0 ≡ cond {A = ℕ} (p.u.dir == ino) 1 0 = ap (λ d. cond {A = ℕ} (d == ino) 1 0) dir in
           let least = in_within ps s p ino slot lives in
-          let total : referrers (unix_of w) ino ≡ count_by (is_of ino) table + count_by (is_in ino) ps + count_by (is_text_of ino) no_texts + (if ino == 1 then 1 else 0) = refl in
+          let total : referrers (unix_of w) ino ≡ count_by (is_of ino) table + count_by (is_in ino) ps + count_by (is_text_of ino) (unix_of w).texts + (if ino == 1 then 1 else 0) = refl in
           omega (arith, same, here, there, least, total);
       few = λ ino.
           let same = referred ino in
-          let most = few_referrers (unix_of w) ino long fifty forty in
+          let most = few_referrers (unix_of w) ino long fifty (forty w.procs.images ready.good.agree.no_text) in
           omega (arith, same, most);
       no_pipe = subst (λ (l : List (Option OpenFile)). HasNoPipe l) (sym files) ready.good.no_pipe;
     }
-
-without_text : (m : Image) → m.text ≡ [] → m ≡ record { text = []; «data» = m.data; stack = m.stack }
-without_text m none = ap (λ t. record m { text = t }) none
 
 -- the references of the file system are those that the Unix says
 pub references_in : (w : World) (s : ℕ) → IsReady w s → IsFileSystem w.files.tree.nodes → w.files.tree.nodes.references ≡ references_of (unix_of w)
@@ -146,20 +153,16 @@ references_in w s ready form =
     references_are (unix_of w) w.files.tree.nodes form refl (λ ino. let same = ready.good.referred ino in omega (arith, same))
 
 -- What the kernel hands to a call of the process is what the Unix says.
-pub handed_is : (w : World) (s : ℕ) → IsReady w s → IsFileSystem w.files.tree.nodes → (image_of w.procs.images s).text ≡ []
+pub handed_is : (w : World) (s : ℕ) → IsReady w s → IsFileSystem w.files.tree.nodes → kept.IsKept w.procs.images
     → handed w.files (area_of w.procs.images s) (proc.row_at w.procs.rows s) (image_of w.procs.images s) ≡ handed_of (unix_of w) (process_of (unix_of w) s)
-handed_is w s ready form none =
+handed_is w s ready form holds =
     let alive = ready_alive w s ready in
-    let here = is_here w.procs s alive in
     let p : Process = process_of (unix_of w) s in
     let references = references_in w s ready form in
-    let marks : w.files.tree.marks ≡ marks_of no_texts = ready.good.marks ∙ sym no_marks in
+    let marks : w.files.tree.marks ≡ marks_of (unix_of w).texts = ready.good.marks ∙ sym (no_marks w.procs.images ready.good.agree.no_text) in
     let area : area_of w.procs.images s ≡ p.u = area_here w.procs s alive in
     let row : proc.row_at w.procs.rows s ≡ p.row = sym (own_row w.procs.rows.slots w.procs.images s alive.below) in
-    let image : image_of w.procs.images s ≡ one.image_of p =
-    without_text (image_of w.procs.images s) none
-    ∙ (ap (λ x. one.image_of (process_by here.member (Alive (record here.held { image = image_in x })))) here.image_is
-    ∙ ap one.image_of (sym here.process_is)) in
+    let image : image_of w.procs.images s ≡ one.image_of (unix_of w).texts p = sym (image_here w.procs s alive holds) in
     λ i. record {
       inodes = record { store = w.files.tree.nodes.store; references = references i };
       marks = marks i;
@@ -181,6 +184,7 @@ pub record IsAfter (w w' : World) (s : ℕ) (u : UArea) (row : Row) (image : Ima
   pub memory : (held : Held) → Has w.procs.images s held → Has w'.procs.images s (record held { u = u; image = image })
   pub others : (r : ℕ) → r ≢ s → keeping w'.procs.images r ≡ keeping w.procs.images r
   pub table : w'.procs.table ≡ w.procs.table
+  pub texts : SameTexts w.procs.images w'.procs.images
   pub core : w'.procs.images.core ≡ w.procs.images.core
   pub last_pid : w'.procs.rows.last_pid ≡ w.procs.rows.last_pid
   pub switches : w'.procs.switches ≡ w.procs.switches
@@ -204,24 +208,25 @@ module _ (w w' : World) (s : ℕ) (ready : IsReady w s) (u : UArea) (row : Row) 
   abbrev q : Process
   q = record p { u = u; row = row; «data» = image.data; stack = image.stack }
 
+  text_after : (r : ℕ) → text_of w'.procs.images r ≡ text_of w.procs.images r
+  text_after r = ap (λ users. get_or users r None) after.texts.users
+
   processes_after : (unix_of w').processes ≡ set (unix_of w).processes s (Some q)
   processes_after =
       let alive = ready_alive w s ready in
       let here = is_here w.procs s alive in
       let now : Process → Process = λ x. record x { u = u; row = row; «data» = image.data; stack = image.stack } in
       one_changed w.procs.rows.slots w'.procs.rows.slots w.procs.images w'.procs.images s (Some q) alive.below
-      (ap (λ o. process_in o (keeping w'.procs.images s)) (after.member here.member here.member_is)
-      ∙ (ap (λ x. process_in (Some (record here.member { row = row })) x) (after.memory here.held here.image_is)
-      ∙ ap (λ (x : Process). Some (now x)) (sym here.process_is)))
-      (λ r below other.
-      ap (λ o. process_in o (keeping w'.procs.images r)) (after.members r other)
-      ∙ ap (λ x. process_in (member_at w.procs.rows.slots r) x) (after.others r other))
+      ((λ i. process_in (after.member here.member here.member_is i) (after.memory here.held here.image_is i) (text_after s i))
+      ∙ ap (λ (x : Process). Some (now x)) (sym here.process_is))
+      (λ r below other. λ i. process_in (after.members r other i) (after.others r other i) (text_after r i))
 
   -- the Unix then
   pub unix_after : unix_of w' ≡ with_handed (unix_of w) s h
   unix_after = λ i. record (unix_of w') {
     processes = processes_after i;
     clock = record { time = (after.table i).now; ticks = (after.table i).ticks; tout = (after.table i).tout };
+    texts = map text_in (after.texts.texts i);
     switches = after.switches i;
     last_pid = after.last_pid i;
     limit = (unix_of (record w { procs = record w.procs { images = record w.procs.images { core = after.core i } } })).limit;
@@ -240,12 +245,12 @@ module _ (w w' : World) (s : ℕ) (ready : IsReady w s) (u : UArea) (row : Row) 
         image = old.image;
         place = old.place;
         size = λ other is. old.size here.held refl ∙ (sym clicks ∙ ap (λ x. clicks_of (area_in x)) is);
-        text = old.text;
         quiet = old.quiet;
       } in
       agree_but w.procs.rows w'.procs.rows w.procs.table w.procs.table w.procs.images w'.procs.images s alive.agree alive.above alive.agree.table refl
       (subst (λ m. Agrees m (row_at w.procs.table s) (keeping w'.procs.images s)) (sym (after.member here.member here.member_is))
       (subst (λ x. Agrees (Some (record here.member { row = row })) (row_at w.procs.table s) x) (sym (after.memory here.held here.image_is)) new))
+      (alive.agree.text s alive.above alive.below) after.texts
       after.members (λ r other. refl) after.others
 
   -- a fact of each image
@@ -303,6 +308,7 @@ module _ (w w' : World) (s : ℕ) (ready : IsReady w s) (u : UArea) (row : Row) 
     ready = ready_after form;
     table = after.table;
     core = after.core;
+    texts = after.texts.texts;
     shown = (λ i. sent 0 (all.bytes i) ++ map Log (all.entries i)) ∙ sym fits.in_order;
     wakes = λ t k. shown_woken items fits t k ∙ ap (λ l. board_of (all_woken t l) k) (sym all.entries);
   }

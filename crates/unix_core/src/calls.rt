@@ -99,7 +99,7 @@ pub(crate) fn error_number(error: Errno) -> u16
 }
 
 /// Whether a call is one on files that is built.
-#[tactic(auto, unfolding(crate::specs::Calls::file_call))]
+#[tactic(auto, unfolding(abstract_unix::specs::Calls::file_call))]
 pub(crate) fn is_file_call(number: u8) -> bool
     ensures { result ≡ is_some (file_call number) }
 {
@@ -126,7 +126,7 @@ pub(crate) fn is_file_call(number: u8) -> bool
 }
 
 /// How many arguments a call has, or `None` where it isn't built.
-#[tactic(auto, unfolding(crate::specs::Calls::file_call, crate::specs::Calls::process_call))]
+#[tactic(auto, unfolding(abstract_unix::specs::Calls::file_call, abstract_unix::specs::Calls::process_call))]
 pub(crate) fn count_of(number: u8) -> Option<u8>
     ensures { result ≡ count_of number }
 {
@@ -146,7 +146,7 @@ pub(crate) fn count_of(number: u8) -> Option<u8>
 }
 
 /// Does a call on files. One that isn't built does nothing.
-#[tactic(auto, unfolding(crate::specs::Calls::file_call))]
+#[tactic(auto, unfolding(abstract_unix::specs::Calls::file_call))]
 pub(crate) fn do_file_call<S: Space, T: Trace>(
     number: u8,
     files: &mut Files,
@@ -193,7 +193,7 @@ pub(crate) fn do_file_call<S: Space, T: Trace>(
 }
 
 /// Does a call on processes. One that isn't built does nothing.
-#[tactic(auto, unfolding(crate::specs::Calls::process_call))]
+#[tactic(auto, unfolding(abstract_unix::specs::Calls::process_call))]
 pub(crate) fn do_process_call<T: Trace>(
     number: u8,
     p: &mut Procs,
