@@ -4,15 +4,18 @@ use Rattle.std.proofs.Math.ListN.{get_or-map}
 use Rattle.std.specs.List.{range_with_len}
 use Rattle.v6_base.specs.declared.errno.Errno.TheVariants.{EAGAIN}
 use Rattle.proc_tab.specs.Processes.{member_at, lowest}
+use Rattle.pick_rules.specs.Effects.{Fork}
 use Rattle.pick_rules.specs.Lawful.{Seen}
 use Rattle.log_laws.proofs.Fitting.{Apt}
-use Rattle.log_laws.proofs.Seats.{Seats, with_seat, InCall}
+use Rattle.log_laws.proofs.Seats.{Seats, with_seat, InCall, own}
 use Rattle.log_laws.proofs.Births.{free_seat, fork_apt}
 use Rattle.sys_procs.specs.Process.{Process, member_of}
-use Rattle.sys_procs.specs.Texts.{Text}
+use Rattle.sys_procs.specs.TextTable.{Text}
 use Rattle.sys_procs.specs.World.{Clock, World, process_of, change, members}
-use Rattle.sys_procs.specs.Fork.{copied, past_word, next_pid, fork_into, fork_one}
-use Rattle.abstract_unix.proofs.Sitting.{seat_of, seats_in, seats_here, seat_in, runner_seat, put_in, kept_in}
+use Rattle.sys_procs.specs.Texts.{joined_by_child}
+use Rattle.sys_procs.specs.Comes.{Comes, gives, does}
+use Rattle.sys_procs.specs.Fork.{copied, past_word, next_pid, with_child, fork_into, fork_one}
+use Rattle.abstract_unix.proofs.Sitting.{seat_of, seats_in, seats_here, seat_in, runner_seat, runner_text, put_in, kept_in}
 use Rattle.abstract_unix.proofs.Rows.{FineComes, Calling, fails_fine}
 
 -- who is in a slot, by its process
@@ -42,11 +45,20 @@ module _ (s : ℕ) (seen : Seen) where
   unfolding Apt
   into_fine w None i e =
       fails_fine s seen (change w s past_word) EAGAIN (kept_in w.processes w.clock w.texts s false seen _ i refl refl refl refl)
-  into_fine w (Some c) i e = record {
+  into_fine w (Some c) i e = subst (λ text. FineComes s seen (forks_by text)) (sym alone) (record {
     fine = fork_apt _ s v seen c w [] i (sym (free_is w.processes w.clock w.texts) ∙ e) (λ click. refl)
         (λ now j. kept_in (set w.processes c (Some (copied (process_of w s) (next_pid w)))) w.clock w.texts s false now _ (grown now j) refl refl refl refl);
-  }
+  })
     where
+      -- by the text that the child shares
+      forks_by : Option ℕ → Comes
+      forks_by text =
+          let child : World = with_child w s c (next_pid w) in
+          does (Fork s c w) (gives (change (record child { texts = joined_by_child w.texts text }) s past_word) s (next_pid w))
+
+      alone : (process_of w s).text ≡ None
+      alone = runner_text w.processes w.clock w.texts s seen.board i.turn ∙ (own s s (seats_here w) seen.board i.agrees i.turn).bare
+
       v : Seats
       v = seats_here w
 

@@ -35,11 +35,12 @@ use Rattle.log_laws.proofs.Deaths.{with_own}
 use Rattle.log_laws.proofs.Images.{sized, size_apt, exec_apt, text_apt, bare_fits}
 use Rattle.seg_regs.specs.Sizes.{is_refused}
 use Rattle.sys_procs.specs.declared.program.Program.{Program}
-use Rattle.sys_procs.specs.Process.{Process}
-use Rattle.sys_procs.specs.Texts.{entry_of}
-use Rattle.sys_procs.specs.World.{World, process_of}
+use Rattle.sys_procs.specs.Process.{Process, image_of}
+use Rattle.sys_procs.specs.TextTable.{entry_of}
+use Rattle.sys_procs.specs.Texts.{xfree, xalloc, xalloc_by, makes_text}
+use Rattle.sys_procs.specs.World.{World, process_of, with_inodes, let_go}
 use Rattle.sys_procs.specs.Comes.{Comes, fails, does, logs}
-use Rattle.sys_procs.specs.Tests.{must, user_of}
+use Rattle.sys_procs.specs.Tests.{must, user_of, node_at}
 use Rattle.sys_procs.specs.Stack.{arguments, first_stack, stack_clicks}
 use Rattle.sys_procs.specs.Break as break
 use Rattle.sys_procs.specs.ExecFile as exec
@@ -206,15 +207,15 @@ module _ (w : World) where
   checked now (Err e) next k h = refused now e k
 
   fitting : (now : World) (ino : ℕ) (args : List (List ℕ)) (plan : Plan) → seats_here now ≡ seats_here w
-      → AreTests w (exec.check (exec.let_go now ino)
+      → AreTests w (exec.check (let_go now ino)
       (must ENOMEM (not (is_refused (exec.text_clicks plan) (exec.data_clicks plan) stack_clicks now.limit)))
       (λ fits. record { answer = Ok (record { ino = ino; plan = plan; arguments = args }); world = now }))
   fitting now ino args plan k = by (is_refused (exec.text_clicks plan) (exec.data_clicks plan) stack_clicks now.limit) refl
     where
       by : (x : Bool) → is_refused (exec.text_clicks plan) (exec.data_clicks plan) stack_clicks now.limit ≡ x
-          → AreTests w (exec.check (exec.let_go now ino) (must ENOMEM (not x))
+          → AreTests w (exec.check (let_go now ino) (must ENOMEM (not x))
           (λ fits. record { answer = Ok (record { ino = ino; plan = plan; arguments = args }); world = now }))
-      by true e = refused (exec.let_go now ino) ENOMEM k
+      by true e = refused (let_go now ino) ENOMEM k
       by false e = record {
         same = k;
         sizes = λ program f. subst (λ (plan : Plan). is_refused (exec.text_clicks plan) (exec.data_clicks plan) 20 now.limit ≡ false) (plan_is program f) e;
@@ -236,7 +237,7 @@ module _ (w : World) where
       → AreTests w (exec.tests_header now ino args head)
   header_tests now ino args head k =
       let h : Header = header_of head.memory in
-      let out : World = exec.let_go now ino in
+      let out : World = let_go now ino in
       let last : Plan → exec.Tested = λ plan. exec.check out (must ENOMEM (not (is_refused (exec.text_clicks plan) (exec.data_clicks plan) stack_clicks now.limit)))
       (λ fits. record { answer = Ok (record { ino = ino; plan = plan; arguments = args }); world = now }) in
       let planned : Unit {0} → exec.Tested = λ free. exec.check out (exec.or_no_memory (plan_of h)) last in
@@ -251,23 +252,23 @@ module _ (w : World) where
       → AreTests w (exec.tests_file now s ino list)
   file_tests now s ino list k =
       let q : Process = process_of now s in
-      let node : Node = exec.node_at now ino in
-      let out : World = exec.let_go now ino in
+      let node : Node = node_at now ino in
+      let out : World = let_go now ino in
       let head : Moving (List ℕ) = exec.header_read now ino in
       let read : List (List ℕ) → exec.Tested = λ args. exec.tests_header (exec.with_moved now ino head) ino args head in
-      let named : Unit {0} → exec.Tested = λ plain. exec.check out (arguments (exec.memory_of now q) list) read in
+      let named : Unit {0} → exec.Tested = λ plain. exec.check out (arguments (image_of now.texts q) list) read in
       let allowed : Unit {0} → exec.Tested = λ may. exec.check out (must EACCES (file_type node.mode == 0)) named in
       checked {A = Unit {0}} out (permission node (user_of q) Execute) allowed k (λ a e.
       checked {A = Unit {0}} out (must EACCES (file_type node.mode == 0)) named k (λ b f.
-      checked {A = List (List ℕ)} out (arguments (exec.memory_of now q) list) read k (λ args g.
+      checked {A = List (List ℕ)} out (arguments (image_of now.texts q) list) read k (λ args g.
       header_tests (exec.with_moved now ino head) ino args head k)))
 
   all_tests : (s name list : ℕ) → AreTests w (exec.tests w s name list)
   all_tests s name list =
       let q : Process = process_of w s in
-      let found : Finding ℕ = find_in w.inodes (user_of q) q.u.dir (name_at (exec.memory_of w q) name) in
-      checked {A = ℕ} (exec.with_inodes w found.inodes) found.answer (λ ino. exec.tests_file (exec.with_inodes w found.inodes) s ino list) refl
-      (λ ino e. file_tests (exec.with_inodes w found.inodes) s ino list refl)
+      let found : Finding ℕ = find_in w.inodes (user_of q) q.u.dir (name_at (image_of w.texts q) name) in
+      checked {A = ℕ} (with_inodes w found.inodes) found.answer (λ ino. exec.tests_file (with_inodes w found.inodes) s ino list) refl
+      (λ ino e. file_tests (with_inodes w found.inodes) s ino list refl)
 
 nil_apt : (W : Type 0) (Q : Seen → Type 0) (seen : Seen) → Q seen → Apt {W = W} Q seen []
 unfolding Apt
@@ -328,22 +329,22 @@ module _ (s : ℕ) (seen : Seen) (w : World) (program : Program) (i : Calling s 
 
   abbrev sharing : Comes
   sharing =
-      logs (line.Bare s) (does (effect.Text s (exec.text_clicks plan) w) (next (exec.makes_text w s program.ino (exec.text_clicks plan)) true))
+      logs (line.Bare s) (does (effect.Text s (exec.text_clicks plan) w) (next (makes_text w s program.ino (exec.text_clicks plan)) true))
 
   loads_is : exec.loads w s program
-      ≡ logs (line.Bare s) (exec.xalloc w s program.ino (exec.text_clicks plan) next)
-  loads_is = ap (λ text. exec.xfree w s text (λ left. logs (line.Bare s) (exec.xalloc left s program.ino (exec.text_clicks plan) next))) alone
+      ≡ logs (line.Bare s) (xalloc w s program.ino (exec.text_clicks plan) next)
+  loads_is = ap (λ text. xfree w s text (λ left. logs (line.Bare s) (xalloc left s program.ino (exec.text_clicks plan) next))) alone
 
   loads_plain : (exec.text_clicks plan == 0) ≡ true → exec.loads w s program ≡ plain
   loads_plain none =
       loads_is
-      ∙ ap (λ x. logs (line.Bare s) (cond x (next w false) (exec.xalloc_by w s program.ino (exec.text_clicks plan) (entry_of w.texts program.ino) next))) none
+      ∙ ap (λ x. logs (line.Bare s) (cond x (next w false) (xalloc_by w s program.ino (exec.text_clicks plan) (entry_of w.texts program.ino) next))) none
 
   loads_shares : (exec.text_clicks plan == 0) ≡ false → exec.loads w s program ≡ sharing
   loads_shares some =
       loads_is
-      ∙ ap (λ x. logs (line.Bare s) (cond x (next w false) (exec.xalloc_by w s program.ino (exec.text_clicks plan) (entry_of w.texts program.ino) next))) some
-      ∙ ap (λ o. logs (line.Bare s) (exec.xalloc_by w s program.ino (exec.text_clicks plan) o next)) (no_entry program.ino w.texts i.agrees.texts)
+      ∙ ap (λ x. logs (line.Bare s) (cond x (next w false) (xalloc_by w s program.ino (exec.text_clicks plan) (entry_of w.texts program.ino) next))) some
+      ∙ ap (λ o. logs (line.Bare s) (xalloc_by w s program.ino (exec.text_clicks plan) o next)) (no_entry program.ino w.texts i.agrees.texts)
 
   abbrev begun_by : Process → List ℕ → Process
   begun_by p read = record p {
@@ -372,7 +373,7 @@ module _ (s : ℕ) (seen : Seen) (w : World) (program : Program) (i : Calling s 
       m = exec.data_read w s program
 
       q : Process
-      q = exec.begins old (exec.node_at w program.ino) program m.memory.data
+      q = exec.begins old (node_at w program.ino) program m.memory.data
 
       Last : Seen → Type 0
       Last now = InCall s false (seats_in (set w.processes s (Some q)) w.clock w.texts) now
@@ -391,7 +392,7 @@ module _ (s : ℕ) (seen : Seen) (w : World) (program : Program) (i : Calling s 
       by : (o : Option ℕ) → core_fit bare clicks ≡ o → FineComes s seen plain
       by (Some c) e = record {
         fine = exec_apt Last s seats seen clicks w [] i no_text (fits (ap is_some e)) (λ c. refl)
-            (λ now j. nil_apt World Last now (resized s seen w i q clicks (seat_begins (exec.node_at w program.ino) m.memory.data) now j));
+            (λ now j. nil_apt World Last now (resized s seen w i q clicks (seat_begins (node_at w program.ino) m.memory.data) now j));
       }
       by None e = record {
         fine = (
@@ -403,7 +404,7 @@ module _ (s : ℕ) (seen : Seen) (w : World) (program : Program) (i : Calling s 
   sharing_fine : FineComes s seen sharing
   sharing_fine = record {
     fine = text_apt (InCall s false (seats_here sharing.state)) s seats seen (exec.text_clicks plan) w
-        (next (exec.makes_text w s program.ino (exec.text_clicks plan)) true).effects i no_text;
+        (next (makes_text w s program.ino (exec.text_clicks plan)) true).effects i no_text;
   }
 
   pub loads_fine : is_refused (exec.text_clicks plan) (exec.data_clicks plan) 20 w.limit ≡ false → FineComes s seen (exec.loads w s program)

@@ -26,6 +26,7 @@ use Rattle.sys_files.specs.Descriptors.{Closing}
 use Rattle.sys_procs.specs.Process.{Process, register}
 use Rattle.sys_procs.specs.World.{World, process_of, members}
 use Rattle.sys_procs.specs.Comes.{Comes}
+use Rattle.sys_procs.proofs.Ends.{end_alone}
 use Rattle.sys_procs.specs.Exit.{leaves, parent_slot, adopted, dead, dies, end_proc, exit_now}
 use Rattle.abstract_unix.specs.declared.ending.Ending.TheVariants.{Ended}
 use Rattle.abstract_unix.specs.Unix as unix
@@ -158,9 +159,11 @@ module _ (s : ℕ) where
 
   pub ends_apt : (w : World) (seen : Seen) (status : ℕ) → Calling s w seen
       → Apt (Paused (seats_here (end_proc w s status).state)) seen (end_proc w s status).effects
-  unfolding end_proc
   ends_apt w seen status i =
-      dies_apt (leaves w s status) seen (kept_in w.processes w.clock w.texts s false seen _ i refl refl refl refl)
+      let alone : (process_of w s).text ≡ None =
+      runner_text w.processes w.clock w.texts s seen.board i.turn ∙ (own s s (seats_here w) seen.board i.agrees i.turn).bare in
+      subst (λ (c : Comes). Apt (Paused (seats_here c.state)) seen c.effects) (sym (end_alone w s status alone))
+      (dies_apt (leaves w s status) seen (kept_in w.processes w.clock w.texts s false seen _ i refl refl refl refl))
 
   pub exits_apt : (u : Unix) (seen : Seen) → Calling s (world_of u) seen → AptSteps s seen (exits u s)
   unfolding exit_now

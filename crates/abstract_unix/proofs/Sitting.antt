@@ -12,7 +12,7 @@ use Rattle.image_keep.specs.Kept.{clicks_of}
 use Rattle.log_laws.proofs.Seats.{Seat, Seats, seat_at, with_seat, InTurn, InCall}
 use Rattle.log_laws.proofs.Deaths.{change_in}
 use Rattle.sys_procs.specs.Process.{Process, no_process}
-use Rattle.sys_procs.specs.Texts.{Text, is_of, entry_of}
+use Rattle.sys_procs.specs.TextTable.{Text, is_of, entry_of}
 use Rattle.sys_procs.specs.World.{Clock, World}
 use Rattle.abstract_unix.specs.Unix.{Unix}
 use Rattle.abstract_unix.specs.Turn.{is_user}

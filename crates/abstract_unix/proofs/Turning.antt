@@ -12,7 +12,7 @@ use Rattle.log_laws.proofs.Lines.{seat_stays}
 use Rattle.u_area.specs.declared.area.UArea.{UArea}
 use Rattle.sys_files.specs.Handed.{Handed}
 use Rattle.sys_procs.specs.Process.{Process, register, image_of}
-use Rattle.sys_procs.specs.Texts.{Text}
+use Rattle.sys_procs.specs.TextTable.{Text}
 use Rattle.sys_procs.specs.World.{Clock, World, change}
 use Rattle.sys_procs.specs.Fork.{fork_one}
 use Rattle.sys_procs.specs.Resume.{awake, resume_proc}
@@ -75,7 +75,7 @@ module _ (s : ℕ) (seen : Seen) where
   called_apt : (u : Unix) (number : ℕ) → Calling s (world_of u) seen
       → AptSteps s seen (system_call number u s)
   called_apt u number i =
-      let a : Asked = asked (image_of (process_of u s)) (register (process_of u s) 7) number in built_apt u a (sysent_of a.number) i
+      let a : Asked = asked (image_of u.texts (process_of u s)) (register (process_of u s) 7) number in built_apt u a (sysent_of a.number) i
 
   -- its turn begins
   begins : (u : Unix) → Paused (seats_of u) seen → (t : InTurn s (seats_of u) seen.board)
@@ -115,7 +115,7 @@ module _ (s : ℕ) (seen : Seen) where
   instruction_apt u p t user = by step.outcome
     where
       step : Stepped
-      step = instr (machine_of (process_of u s))
+      step = instr (machine_of u.texts (process_of u s))
 
       now : Unix
       now = with_process u s (with_machine (process_of u s) step.machine)

@@ -59,7 +59,7 @@ handed_of u p = record {
   line = u.line;
   u = p.u;
   row = p.row;
-  image = image_of p;
+  image = image_of u.texts p;
 }
 
 -- the Unix with the parts as a call of the process of a slot has left them
@@ -306,7 +306,7 @@ does_if_built u slot a (Some entry) =
 abbrev pub system_call : ℕ → Unix → ℕ → Steps
 system_call number u slot =
     let p : Process = process_of u slot in
-    let a : Asked = asked (image_of p) (register p 7) number in
+    let a : Asked = asked (image_of u.texts p) (register p 7) number in
     does_if_built u slot a (sysent_of a.number)
 
 -- A process that slept in a call goes on with it: 1 is a read of the console, 5 a sleep, 6 a wait. The others aren't built.

@@ -27,14 +27,14 @@ use Rattle.abstract_unix.specs.declared.turned.Unbuilt.{Unbuilt}
 use Rattle.abstract_unix.specs.declared.turned.Unbuilt.TheVariants.{At, Room}
 use Rattle.abstract_unix.specs.declared.turned.Turned.{Turned}
 use Rattle.abstract_unix.specs.declared.turned.Turned.TheVariants.{Ran, Idle, NotBuilt}
-use Rattle.abstract_unix.specs.Unix.{Unix, System, process_of, with_process}
+use Rattle.abstract_unix.specs.Unix.{Text, Unix, System, process_of, with_process}
 use Rattle.abstract_unix.specs.Steps as to
 use Rattle.abstract_unix.specs.Steps.{Steps, not_built}
 use Rattle.abstract_unix.specs.Calls.{system_call, grows_to, resumed}
 
 -- what an instruction of a process works on, and the process after it
-abbrev pub machine_of : Process → Machine
-machine_of p = record { r = p.u.r; cc = p.u.cc; image = image_of p }
+abbrev pub machine_of : List (Option Text) → Process → Machine
+machine_of texts p = record { r = p.u.r; cc = p.u.cc; image = image_of texts p }
 
 abbrev pub with_machine : Process → Machine → Process
 with_machine p m = record p { u = with_state p.u m.r m.cc; «data» = m.image.data; stack = m.image.stack }
@@ -56,7 +56,7 @@ comes_to u slot (Fault kind) = faults u slot kind
 abbrev pub instruction : Unix → ℕ → Steps
 instruction u slot =
     let p : Process = process_of u slot in
-    let s : Stepped = instr (machine_of p) in
+    let s : Stepped = instr (machine_of u.texts p) in
     comes_to (with_process u slot (with_machine p s.machine)) slot s.outcome
 
 -- a process is in user mode, where it executes instructions, while it has no call to go on with

@@ -8,8 +8,8 @@ use Rattle.pick_rules.specs.Board.{Board}
 use Rattle.sys_procs.specs.Process.{Process, no_process}
 use Rattle.sys_procs.specs.World.{Clock}
 use Rattle.abstract_unix.specs.declared.turned.Unbuilt.{Unbuilt}
-pub use Rattle.sys_procs.specs.Texts.{Text}
-unfoldable pub use Rattle.sys_procs.specs.Texts.{no_texts}
+pub use Rattle.sys_procs.specs.TextTable.{Text}
+unfoldable pub use Rattle.sys_procs.specs.TextTable.{no_texts}
 
 -- which ends of a pipe wait
 pub record PipeMarks : Type 0 where

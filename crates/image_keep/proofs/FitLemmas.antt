@@ -5,11 +5,24 @@ use Rattle.std.proofs.lemmas.List.{take_more, take_all}
 use Rattle.std.proofs.lemmas.List.Folds.{list_any-append, flat_map-map}
 use Rattle.std.proofs.lemmas.Grind.{flat_map-append}
 use Rattle.std.specs.List.{list_any}
-use Rattle.map_fit.specs.Fit.{Range, meets, is_clear}
+use Rattle.std.specs.Prelude.{Option}
+use Rattle.std.proofs.lemmas.List.{append-nil}
+use Rattle.map_fit.specs.Fit.{Range, meets, is_clear, first_fit}
 use Rattle.image_keep.specs.declared.row.ImageRow.{ImageRow}
 use Rattle.image_keep.specs.declared.row.Map.{Map}
-use Rattle.image_keep.specs.Places.{range}
-use Rattle.image_keep.specs.Rows.{keeping_in, taken_by, ranges}
+use Rattle.image_keep.specs.declared.row.Map.TheVariants as map_of
+use Rattle.image_keep.specs.Kept.{no_texts}
+use Rattle.image_keep.specs.Places.{range, core_fit, swap_fit}
+use Rattle.image_keep.specs.Rows.{keeping_in, taken_by, ranges, kept_by}
+
+-- No text takes anything yet.
+pub core_fit_is : (rows : List ImageRow) (core n : ℕ) → core_fit (kept_by rows core) n ≡ first_fit (ranges map_of.Core rows) 1 core n
+unfolding core_fit no_texts
+core_fit_is rows core n = ap (λ taken. first_fit taken 1 core n) (append-nil (ranges map_of.Core rows))
+
+pub swap_fit_is : (rows : List ImageRow) (core n : ℕ) → swap_fit (kept_by rows core) n ≡ first_fit (ranges map_of.Swap rows) 4000 4871 n
+unfolding swap_fit no_texts
+swap_fit_is rows core n = ap (λ taken. first_fit taken 4000 4871 n) (append-nil (ranges map_of.Swap rows))
 
 module _ {X : Type 0} (p : Range → Bool) (f : X → List Range) where
   none_more : (xs : List X) (i : ℕ) (d : X) → i < length xs → list_any p (flat_map f (take i xs)) ≡ false → list_any p (f (get_or xs i d)) ≡ false → list_any p (flat_map f (take (i + 1) xs)) ≡ false

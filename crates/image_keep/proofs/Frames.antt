@@ -140,6 +140,19 @@ pub with_image_long : (k : Kept) (s : ℕ) (m : Image) → length (with_image k 
 unfolding with_image
 with_image_long k s m = keeping_long k s (imaged m (keeping k s))
 
+-- the texts, and who has which, are the same
+pub record SameTexts (old new : Kept) : Type 0 where
+  pub texts : new.texts ≡ old.texts
+  pub users : new.users ≡ old.users
+
+pub with_image_texts : (k : Kept) (s : ℕ) (m : Image) → SameTexts k (with_image k s m)
+unfolding with_image
+with_image_texts k s m = record { texts = refl; users = refl }
+
+pub with_area_texts : (k : Kept) (s : ℕ) (u : UArea) → SameTexts k (with_area k s u)
+unfolding with_area
+with_area_texts k s u = record { texts = refl; users = refl }
+
 pub with_image_core : (k : Kept) (s : ℕ) (m : Image) → (with_image k s m).core ≡ k.core
 unfolding with_image
 with_image_core k s m = refl

@@ -1,11 +1,11 @@
 -- An image that grew or was cut: its sizes, and its slot.
-use Rattle.std.proofs.Common.{◌≡◌, ◌-◌, ◌*◌, ◌<◌, ℕ, List, length, get_or, set, take, drop, replicate, Option, Some, length-append, length-take, length-drop, sym, ap, subst, ◌∙◌, arith}
+use Rattle.std.proofs.Common.{◌≡◌, ◌-◌, ◌*◌, ◌<◌, ℕ, List, [], length, get_or, set, take, drop, replicate, Option, Some, length-append, length-take, length-drop, sym, ap, subst, ◌∙◌, arith}
 use Rattle.std.proofs.Math.Bridge.{le_prop}
 use Rattle.std.proofs.lemmas.List.{length-replicate}
 use Rattle.v6_base.specs.declared.entry.Place.{Place}
 use Rattle.v6_base.specs.Image.{Image}
 use Rattle.v6_base.specs.Whole.{whole_image}
-use Rattle.v6_base.specs.Sizes.{cut_back, cut_front}
+use Rattle.v6_base.specs.Sizes.{cut_back, cut_front, resized}
 use Rattle.u_area.specs.declared.area.UArea.{UArea}
 use Rattle.image_keep.specs.declared.row.ImageRow.{ImageRow}
 use Rattle.image_keep.specs.Kept.{Alive, Kept, keeping, is_alive, image_of, area_of, HasSizes, HasImage}
@@ -26,9 +26,12 @@ long_front n bytes =
     length-append (replicate (n - length bytes) 0) (drop (length bytes - n) bytes)
     ∙ omega (arith, length-drop (length bytes - n) bytes, length-replicate {A = ℕ} (n - length bytes) 0)
 
+-- an image without a text, whose sizes have been set
+pub bare_resized : (m : Image) (d stack : ℕ) → m.text ≡ [] → resized m 0 d stack ≡ image_resized m d stack
+bare_resized m d stack none = ap (λ t. record (image_resized m d stack) { text = t }) (none_left m.text ∙ sym none)
+
 pub sizes_resized : (u : UArea) (m n : Image) (d stack : ℕ) (codes : u.cc < 16) → HasSizes u m → n ≡ image_resized m d stack → HasSizes (record (area_resized u d stack) { codes = codes }) n
 sizes_resized u m n d stack codes sizes is = subst (HasSizes (record (area_resized u d stack) { codes = codes })) (sym is) (record {
-  text = none_left m.text;
   text_size = sizes.text_size;
   data_size = long_back (64 * d) m.data;
   stack_size = long_front (64 * stack) m.stack;

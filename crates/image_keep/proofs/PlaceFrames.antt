@@ -1,12 +1,12 @@
 -- Which places are found does not hang on what the images hold, nor on u areas beside their sizes.
-use Rattle.std.proofs.Common.{◌≡◌, ◌+◌, ℕ, zero, suc, List, [], ◌∷◌, ◌++◌, get_or, set, flat_map, Option, Some, None, refl, sym, ap, ◌∙◌}
+use Rattle.std.proofs.Common.{◌≡◌, ◌+◌, ℕ, zero, suc, cond, List, [], ◌∷◌, ◌++◌, get_or, set, flat_map, Option, Some, None, refl, sym, ap, ◌∙◌}
 use Rattle.std.specs.Option.{option_map, option_or}
 use Rattle.v6_base.specs.declared.entry.Place.TheVariants.{Core, Swap}
 use Rattle.v6_base.specs.Image.{Image}
 use Rattle.u_area.specs.declared.area.UArea.{UArea}
 use Rattle.map_fit.specs.Fit.{Range, first_fit}
-use Rattle.image_keep.specs.Kept.{Keeping, Nothing, Alive, Grave, Kept, keeping, with_keeping, imaged, described, with_image, with_area, clicks_of, area_in, area_of}
-use Rattle.image_keep.specs.Places.{core_of, swap_of, core_of_place, swap_of_place, core_fit, swap_fit, placed, blocks}
+use Rattle.image_keep.specs.Kept.{Keeping, Nothing, Alive, Grave, Kept, keeping, with_keeping, imaged, described, with_image, with_area, text_of, clicks_of, area_in, area_of}
+use Rattle.image_keep.specs.Places.{core_of, swap_of, core_of_place, swap_of_place, core_of_text, swap_of_text, core_fit, swap_fit, may_load, placed, blocks}
 
 flat_map_set_same : (f : Keeping → List Range) (xs : List Keeping) (s : ℕ) (y : Keeping) → f y ≡ f (get_or xs s Nothing) → flat_map f (set xs s y) ≡ flat_map f xs
 flat_map_set_same f [] s y same = refl
@@ -16,15 +16,18 @@ flat_map_set_same f (x ∷ xs) (suc s) y same = ap (λ (l : List Range). f x ++ 
 -- Where a slot takes what it took, the same places are found.
 pub core_fit_same : (k : Kept) (s n : ℕ) (x : Keeping) → core_of x ≡ core_of (keeping k s) → core_fit (with_keeping k s x) n ≡ core_fit k n
 unfolding core_fit
-core_fit_same k s n x same = ap (λ taken. first_fit taken 1 k.core n) (flat_map_set_same core_of k.slots s x same)
+core_fit_same k s n x same = ap (λ taken. first_fit (taken ++ flat_map core_of_text k.texts) 1 k.core n) (flat_map_set_same core_of k.slots s x same)
 
 pub swap_fit_same : (k : Kept) (s n : ℕ) (x : Keeping) → swap_of x ≡ swap_of (keeping k s) → swap_fit (with_keeping k s x) n ≡ swap_fit k n
 unfolding swap_fit
-swap_fit_same k s n x same = ap (λ taken. first_fit taken 4000 4871 n) (flat_map_set_same swap_of k.slots s x same)
+swap_fit_same k s n x same = ap (λ taken. first_fit (taken ++ flat_map swap_of_text k.texts) 4000 4871 n) (flat_map_set_same swap_of k.slots s x same)
 
-placed_by : (k l : Kept) (n : ℕ) → core_fit k n ≡ core_fit l n → swap_fit k (blocks n) ≡ swap_fit l (blocks n) → placed k n ≡ placed l n
+placed_by : (k l : Kept) (t n : ℕ) → may_load k (text_of k t) ≡ may_load l (text_of l t) → core_fit k n ≡ core_fit l n → swap_fit k (blocks n) ≡ swap_fit l (blocks n) → placed k t n ≡ placed l t n
 unfolding placed
-placed_by k l n core swap = ap (λ o. option_or (option_map Core o) (option_map Swap (swap_fit k (blocks n)))) core ∙ ap (λ o. option_or (option_map Core (core_fit l n)) (option_map Swap o)) swap
+placed_by k l t n may core swap =
+    ap (λ b. option_or (cond b (option_map Core (core_fit k n)) None) (option_map Swap (swap_fit k (blocks n)))) may
+    ∙ ap (λ o. option_or (cond (may_load l (text_of l t)) (option_map Core o) None) (option_map Swap (swap_fit k (blocks n)))) core
+    ∙ ap (λ o. option_or (cond (may_load l (text_of l t)) (option_map Core (core_fit l n)) None) (option_map Swap o)) swap
 
 core_imaged : (m : Image) (x : Keeping) → core_of (imaged m x) ≡ core_of x
 core_imaged m Nothing = refl
@@ -44,8 +47,9 @@ pub with_image_swap_fit : (k : Kept) (s n : ℕ) (m : Image) → swap_fit (with_
 unfolding with_image
 with_image_swap_fit k s n m = swap_fit_same k s n (imaged m (keeping k s)) (swap_imaged m (keeping k s))
 
-pub with_image_placed : (k : Kept) (s n : ℕ) (m : Image) → placed (with_image k s m) n ≡ placed k n
-with_image_placed k s n m = placed_by (with_image k s m) k n (with_image_core_fit k s n m) (with_image_swap_fit k s (blocks n) m)
+pub with_image_placed : (k : Kept) (s t n : ℕ) (m : Image) → placed (with_image k s m) t n ≡ placed k t n
+unfolding with_image
+with_image_placed k s t n m = placed_by (with_image k s m) k t n refl (with_image_core_fit k s n m) (with_image_swap_fit k s (blocks n) m)
 
 core_described : (u : UArea) (x : Keeping) → clicks_of u ≡ clicks_of (area_in x) → core_of (described u x) ≡ core_of x
 core_described u Nothing same = refl
@@ -65,5 +69,11 @@ pub with_area_swap_fit : (k : Kept) (s n : ℕ) (u : UArea) → clicks_of u ≡ 
 unfolding with_area
 with_area_swap_fit k s n u same = swap_fit_same k s n (described u (keeping k s)) (swap_described u (keeping k s) same)
 
-pub with_area_placed : (k : Kept) (s n : ℕ) (u : UArea) → clicks_of u ≡ clicks_of (area_of k s) → placed (with_area k s u) n ≡ placed k n
-with_area_placed k s n u same = placed_by (with_area k s u) k n (with_area_core_fit k s n u same) (with_area_swap_fit k s (blocks n) u same)
+pub with_area_placed : (k : Kept) (s t n : ℕ) (u : UArea) → clicks_of u ≡ clicks_of (area_of k s) → placed (with_area k s u) t n ≡ placed k t n
+unfolding with_area
+with_area_placed k s t n u same = placed_by (with_area k s u) k t n refl (with_area_core_fit k s n u same) (with_area_swap_fit k s (blocks n) u same)
+
+-- the place of an image that has no text
+pub bare_placed : (k : Kept) (s n : ℕ) → text_of k s ≡ None → placed k s n ≡ option_or (option_map Core (core_fit k n)) (option_map Swap (swap_fit k (blocks n)))
+unfolding placed
+bare_placed k s n none = ap (λ t. option_or (cond (may_load k t) (option_map Core (core_fit k n)) None) (option_map Swap (swap_fit k (blocks n)))) none

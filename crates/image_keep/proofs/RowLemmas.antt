@@ -1,5 +1,5 @@
 -- Rows, and what they keep.
-use Rattle.std.proofs.Common.{◌≡◌, ◌<◌, ◌≤◌, ℕ, zero, suc, true, List, [], ◌∷◌, length, get_or, set, Result, refl, sym, ap, ◌∙◌, subst, inl, inr}
+use Rattle.std.proofs.Common.{◌≡◌, ◌<◌, ◌≤◌, ℕ, zero, suc, true, List, [], ◌∷◌, length, replicate, get_or, set, Option, None, Result, refl, sym, ap, ◌∙◌, subst, inl, inr}
 use Rattle.std.proofs.lemmas.Bool.{false≢true, cases_lt}
 use Rattle.std.proofs.lemmas.List.{map-set, get_or-map, get_or_past, length-map}
 use Rattle.v6_base.specs.declared.entry.Place.{Place}
@@ -12,7 +12,7 @@ use Rattle.u_area.specs.declared.area.UArea.{UArea}
 use Rattle.image_keep.specs.declared.row.State.{State}
 use Rattle.image_keep.specs.declared.row.State.TheVariants as state
 use Rattle.image_keep.specs.declared.row.ImageRow.{ImageRow}
-use Rattle.image_keep.specs.Kept.{Held, Keeping, Nothing, Alive, Grave, Kept, keeping, with_keeping, with_image, imaged, place_in, is_alive, image_in, area_in, image_of, area_of, described, with_area, HasSizes, HasImage, HasGrave, IsKept}
+use Rattle.image_keep.specs.Kept.{Held, Keeping, Nothing, Alive, Grave, Kept, keeping, with_keeping, with_image, imaged, place_in, is_alive, image_in, area_in, image_of, area_of, described, with_area, no_texts, no_users, text_of, text_bytes, HasSizes, HasImage, HasGrave, IsKept}
 use Rattle.image_keep.specs.Rows.{keeping_by, keeping_in, keepings, kept_by}
 use Rattle.image_keep.specs.declared.images.Images.TheInside.{Inside}
 use Rattle.image_keep.specs.Inside.{kept_in, AreImages}
@@ -43,7 +43,7 @@ imaged_by (state.Grave block) u m n = refl
 -- a row is another one
 pub row_set : (rows : List ImageRow) (core s : ℕ) (new : ImageRow) (x : Keeping) → keeping_in new ≡ x → kept_by (set rows s new) core ≡ with_keeping (kept_by rows core) s x
 row_set rows core s new x is =
-    ap (λ (l : List Keeping). record { slots = l; core = core }) (map-set keeping_in rows s new ∙ ap (set (keepings rows) s) is)
+    ap (λ (l : List Keeping). record { slots = l; texts = no_texts; users = no_users; core = core }) (map-set keeping_in rows s new ∙ ap (set (keepings rows) s) is)
 
 -- a row has another image
 pub row_imaged : (rows : List ImageRow) (core s : ℕ) (row new : ImageRow) → s < length rows → row ≡ get_or rows s row → new.state ≡ row.state → new.u ≡ row.u
@@ -87,11 +87,45 @@ each_formed [] s = formed_empty
 each_formed (row ∷ rows) zero = form_of row.state row.u (whole_image row.memory) row.memory.formed
 each_formed (row ∷ rows) (suc s) = each_formed rows s
 
+text_in : (st : State) (u : UArea) (m : Image) → m.text ≡ [] → (image_in (keeping_by st u m)).text ≡ []
+text_in state.Nothing u m none = refl
+text_in (state.Alive place) u m none = none
+text_in (state.Grave block) u m none = refl
+
+each_textless : (rows : List ImageRow) (s : ℕ) → (image_in (get_or (keepings rows) s Nothing)).text ≡ []
+each_textless [] s = refl
+each_textless (row ∷ rows) zero = text_in row.state row.u (whole_image row.memory) row.no_text
+each_textless (row ∷ rows) (suc s) = each_textless rows s
+
+none_at : (n s : ℕ) → get_or {A = Option ℕ} (replicate n None) s None ≡ None
+none_at zero s = refl
+none_at (suc n) zero = refl
+none_at (suc n) (suc s) = none_at n s
+
+-- no slot has a text
+no_text_of : (rows : List ImageRow) (core s : ℕ) → text_of (kept_by rows core) s ≡ None
+unfolding no_users
+no_text_of rows core s = none_at 50 s
+
+pub no_text_here : (rows : List ImageRow) (core s : ℕ) (k : Kept) → kept_by rows core ≡ k → text_of k s ≡ None
+no_text_here rows core s k view = ap (λ l. text_of l s) (sym view) ∙ no_text_of rows core s
+
+texts_long : length no_texts ≡ 40
+unfolding no_texts
+texts_long = refl
+
+users_long : length no_users ≡ 50
+unfolding no_users
+users_long = refl
+
 pub rows_kept : (images : Inside) → AreImages images → IsKept (kept_in images)
 rows_kept images are = record {
   slots = length-map images.rows.items keeping_in ∙ are.slots;
   least = are.least;
   most = are.most;
+  table = texts_long;
+  seats = users_long;
+  text = λ s has. each_textless images.rows.items s ∙ ap (text_bytes (kept_in images)) (sym (no_text_of images.rows.items images.core s));
   sizes = λ s has. each_sized images.rows.items s has.0 has.1;
   formed = λ s. each_formed images.rows.items s;
 }

@@ -31,10 +31,18 @@ none_by_length : (xs : List ℕ) → length xs ≡ 0 → xs ≡ []
 none_by_length [] is = refl
 none_by_length (x ∷ xs) is = absurd (omega (arith, is))
 
+text_by : (m n : Image) → SameLengths m n → m.text ≡ [] → n.text ≡ []
+text_by m n same none = none_by_length n.text (same.text ∙ ap length none)
+
+pub text_after_byte : (m : Image) (v b : ℕ) → m.text ≡ [] → (image_after m (store_byte m v b)).text ≡ []
+text_after_byte m v b none = text_by m (image_after m (store_byte m v b)) (store_lengths m v b) none
+
+pub text_after_word : (m : Image) (v w : ℕ) → m.text ≡ [] → (image_after m (store_word m v w)).text ≡ []
+text_after_word m v w none = text_by m (image_after m (store_word m v w)) (word_lengths m v w) none
+
 sizes_by : (u : UArea) (m n : Image) → SameLengths m n → HasSizes u m → HasSizes u n
 sizes_by u m n same is = record {
-  text = none_by_length n.text (same.text ∙ ap length is.text);
-  text_size = is.text_size;
+  text_size = same.text ∙ is.text_size;
   data_size = same.data ∙ is.data_size;
   stack_size = same.stack ∙ is.stack_size;
 }

@@ -1,4 +1,4 @@
--- What is kept of each process's image: `proc.h` and `user.h` in Lions' Commentary. An image is the u area of sixteen
+-- What is kept of each process's image: `proc.h`, `user.h` and `text.h` in Lions' Commentary. An image is the u area of sixteen
 -- clicks, the data and the stack; it stands in core or in the swap area. A click is 64 bytes, a block 512.
 use Rattle.std.specs.Prelude.{◌≡◌, ℕ, ◌+◌, ◌*◌, ◌≤◌, Bool, true, false, List, [], replicate, slice_set, slice_index_or, length, Option, Some, None, take}
 use Rattle.v6_base.specs.declared.entry.Place.{Place}
@@ -6,6 +6,7 @@ use Rattle.v6_base.specs.declared.entry.Place.TheVariants.{Swap}
 use Rattle.v6_base.specs.Image.{Image, IsImage}
 use Rattle.u_area.specs.declared.area.UArea.{UArea}
 use Rattle.u_area.specs.Area.{area_bytes}
+use Rattle.text_tab.specs.declared.row.TextRow.{TextRow}
 use Rattle.image_keep.specs.Area.{no_area}
 
 -- an image that can run
@@ -20,18 +21,47 @@ pub data Keeping : Type 0 where
   Alive : Held → Keeping
   Grave : UArea → ℕ → Keeping  -- of a process that has ended: half of its u area, in this block of the swap area
 
+-- a text that is shared: what the table of texts knows of it, and its bytes
+pub record Shared : Type 0 where
+  pub row : TextRow
+  pub bytes : List ℕ
+
 pub record Kept : Type 0 where
   pub slots : List Keeping  -- fifty
+  pub texts : List (Option Shared)  -- forty
+  pub users : List (Option ℕ)  -- the text of each slot
   pub core : ℕ  -- clicks
 
+-- no text is shared, and no slot has one
+unfoldable pub no_texts : List (Option Shared)
+no_texts = replicate 40 None
+
+unfoldable pub no_users : List (Option ℕ)
+no_users = replicate 50 None
+
 abbrev pub first_kept : ℕ → Kept
-first_kept core = record { slots = replicate 50 Nothing; core = core }
+first_kept core = record { slots = replicate 50 Nothing; texts = no_texts; users = no_users; core = core }
 
 abbrev pub keeping : Kept → ℕ → Keeping
 keeping k s = slice_index_or k.slots s Nothing
 
 abbrev pub with_keeping : Kept → ℕ → Keeping → Kept
 with_keeping k s x = record k { slots = slice_set k.slots s x }
+
+-- the text of an entry, and the entry of a slot's text
+abbrev pub shared : Kept → ℕ → Option Shared
+shared k t = slice_index_or k.texts t None
+
+abbrev pub text_of : Kept → ℕ → Option ℕ
+text_of k s = slice_index_or k.users s None
+
+abbrev pub bytes_in : Option Shared → List ℕ
+bytes_in None = []
+bytes_in (Some x) = x.bytes
+
+abbrev pub text_bytes : Kept → Option ℕ → List ℕ
+text_bytes k None = []
+text_bytes k (Some t) = bytes_in (shared k t)
 
 -- the clicks of an image
 abbrev pub clicks_of : UArea → ℕ
@@ -45,10 +75,9 @@ place_in (Grave u block) = Some (Swap block)
 abbrev pub place_of : Kept → ℕ → Option Place
 place_of k s = place_in (keeping k s)
 
--- the sizes in a u area are those of the lists; no text is shared yet
+-- the sizes in a u area are those of the lists
 pub record HasSizes (u : UArea) (image : Image) : Type 0 where
-  pub text : image.text ≡ []
-  pub text_size : u.text_size ≡ 0
+  pub text_size : length image.text ≡ 64 * u.text_size
   pub data_size : length image.data ≡ 64 * u.data_size
   pub stack_size : length image.stack ≡ 64 * u.stack_size
 
@@ -106,11 +135,15 @@ with_image k s image = with_keeping k s (imaged image (keeping k s))
 unfoldable pub with_area : Kept → ℕ → UArea → Kept
 with_area k s u = with_keeping k s (described u (keeping k s))
 
--- what holds of all that is kept: fifty slots, a core that the kernel can begin with, and images in their form and their sizes
+-- What holds of all that is kept: fifty slots and forty texts, a core that the kernel can begin with, and images in their
+-- form and their sizes, each with the bytes of its slot's text.
 pub record IsKept (k : Kept) : Type 0 where
   pub slots : length k.slots ≡ 50
+  pub table : length k.texts ≡ 40
+  pub seats : length k.users ≡ 50
   pub least : 64 ≤ k.core
   pub most : k.core ≤ 3968
+  pub text : (s : ℕ) → HasImage k s → (image_of k s).text ≡ text_bytes k (text_of k s)
   pub sizes : (s : ℕ) → HasImage k s → HasSizes (area_of k s) (image_of k s)
   pub formed : (s : ℕ) → IsImage (image_of k s)
 

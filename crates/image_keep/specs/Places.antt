@@ -1,12 +1,12 @@
 -- Where images are placed: first fit, core before the swap area. `malloc` and `xalloc` in Lions' Commentary.
-use Rattle.std.specs.Prelude.{ℕ, ◌+◌, ◌/◌, List, [], ◌∷◌, replicate, flat_map, Option, Some, None, ◌*◌}
+use Rattle.std.specs.Prelude.{ℕ, ◌+◌, ◌/◌, ◌*◌, ◌==◌, Bool, true, false, not, if◌then◌else◌, List, [], ◌∷◌, ◌++◌, replicate, flat_map, Option, Some, None}
 use Rattle.std.specs.Option.{option_map, option_or}
 use Rattle.v6_base.specs.declared.entry.Place.{Place}
 use Rattle.v6_base.specs.declared.entry.Place.TheVariants.{Core, Swap}
 use Rattle.v6_base.specs.Image.{Image}
 use Rattle.u_area.specs.declared.area.UArea.{UArea}
 use Rattle.map_fit.specs.Fit.{Range, first_fit}
-use Rattle.image_keep.specs.Kept.{Keeping, Nothing, Alive, Grave, Kept, clicks_of, with_keeping}
+use Rattle.image_keep.specs.Kept.{Keeping, Nothing, Alive, Grave, Shared, Kept, shared, text_of, clicks_of, with_keeping}
 
 -- a block of the swap area holds eight clicks
 abbrev pub blocks : ℕ → ℕ
@@ -34,16 +34,42 @@ swap_of Nothing = []
 swap_of (Alive held) = swap_of_place held.place (clicks_of held.u)
 swap_of (Grave u block) = range block 1
 
+-- what a text takes: core while a user is in core, and always its blocks
+abbrev pub core_of_text : Option Shared → List Range
+core_of_text None = []
+core_of_text (Some x) = if x.row.loaded == 0 then [] else range x.row.at x.row.clicks
+
+abbrev pub swap_of_text : Option Shared → List Range
+swap_of_text None = []
+swap_of_text (Some x) = range x.row.block (blocks x.row.clicks)
+
+abbrev pub core_taken : Kept → List Range
+core_taken k = flat_map core_of k.slots ++ flat_map core_of_text k.texts
+
+abbrev pub swap_taken : Kept → List Range
+swap_taken k = flat_map swap_of k.slots ++ flat_map swap_of_text k.texts
+
 -- the first clicks of core that are free, and the first blocks of the swap area, which is blocks 4000 to 4871
 unfoldable pub core_fit : Kept → ℕ → Option ℕ
-core_fit k clicks = first_fit (flat_map core_of k.slots) 1 k.core clicks
+core_fit k clicks = first_fit (core_taken k) 1 k.core clicks
 
 unfoldable pub swap_fit : Kept → ℕ → Option ℕ
-swap_fit k count = first_fit (flat_map swap_of k.slots) 4000 4871 count
+swap_fit k count = first_fit (swap_taken k) 4000 4871 count
 
--- the place of so many clicks: core where a start is found, else the swap area
-unfoldable pub placed : Kept → ℕ → Option Place
-placed k clicks = option_or (option_map Core (core_fit k clicks)) (option_map Swap (swap_fit k (blocks clicks)))
+abbrev pub is_text_loaded : Option Shared → Bool
+is_text_loaded None = false
+is_text_loaded (Some x) = not (x.row.loaded == 0)
+
+-- an image may stand in core where it has no text, or one that is there
+abbrev pub may_load : Kept → Option ℕ → Bool
+may_load k None = true
+may_load k (Some t) = is_text_loaded (shared k t)
+
+-- the place of so many clicks for a slot: core where it may stand there and a start is found, else the swap area
+unfoldable pub placed : Kept → ℕ → ℕ → Option Place
+placed k s clicks =
+    option_or (if may_load k (text_of k s) then option_map Core (core_fit k clicks) else None)
+    (option_map Swap (swap_fit k (blocks clicks)))
 
 -- the slot has this image at a place that was found, or nothing changes
 abbrev pub with_image_at : Kept → ℕ → UArea → Image → Option Place → Kept

@@ -10,7 +10,7 @@ use Rattle.image_keep.specs.declared.row.ImageRow.{ImageRow}
 use Rattle.image_keep.specs.declared.row.Map.{Map}
 use Rattle.image_keep.specs.declared.row.Map.TheVariants as map_of
 use Rattle.image_keep.specs.declared.row.Taken.{Taken}
-use Rattle.image_keep.specs.Kept.{Keeping, Nothing, Alive, Grave, Kept}
+use Rattle.image_keep.specs.Kept.{Keeping, Nothing, Alive, Grave, Kept, no_texts, no_users}
 use Rattle.image_keep.specs.Places.{core_of, swap_of, range}
 
 abbrev pub keeping_by : State → UArea → Image → Keeping
@@ -24,9 +24,9 @@ keeping_in row = keeping_by row.state row.u (whole_image row.memory)
 abbrev pub keepings : List ImageRow → List Keeping
 keepings rows = map keeping_in rows
 
--- what rows keep, beside a core of so many clicks
+-- What rows keep, beside a core of so many clicks. No text is made yet.
 abbrev pub kept_by : List ImageRow → ℕ → Kept
-kept_by rows core = record { slots = keepings rows; core = core }
+kept_by rows core = record { slots = keepings rows; texts = no_texts; users = no_users; core = core }
 
 -- what is taken, as a list of ranges
 abbrev pub taken_by : Map → Keeping → List Range

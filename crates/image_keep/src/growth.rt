@@ -9,7 +9,7 @@ ghost use Rattle.image_keep.specs.Rows.{keeping_in};
 use crate::row::{ImageRow, State};
 use v6_base::Place;
 
-/// Gives a row's image these clicks of data and of stack, and this place. No text is shared yet.
+/// Gives a row's image these clicks of data and of stack, and this place.
 pub(crate) fn expand_row(row: &mut ImageRow, d: u16, stack: u16, place: Place)
     requires { nseg d + nseg stack ≤ 8 }
     ensures { keeping_in row.new ≡ Alive (record { u = area_resized row.old.u d stack; image = image_resized (whole_image row.old.memory) d stack; place = place }) }

@@ -162,7 +162,7 @@ impl Images {
     }
 
     /// The first click of core from which so many are free.
-    #[tactic(auto, unfolding(crate::specs::Places::core_fit))]
+    #[tactic(auto, using(crate::proofs::FitLemmas::core_fit_is))]
     fn core_fit(&self, clicks: u32) -> Option<u16>
         requires { clicks ≤ 200000 }
         ensures { result ≡ core_fit self.now clicks }
@@ -174,7 +174,7 @@ impl Images {
     }
 
     /// The first block of the swap area from which so many are free.
-    #[tactic(auto, unfolding(crate::specs::Places::swap_fit))]
+    #[tactic(auto, using(crate::proofs::FitLemmas::swap_fit_is))]
     fn swap_fit(&self, count: u32) -> Option<u16>
         requires { count ≤ 200000 }
         ensures { result ≡ swap_fit self.now count }
@@ -185,12 +185,12 @@ impl Images {
         }
     }
 
-    /// The place of so many clicks.
-    #[tactic(auto, unfolding(crate::specs::Places::placed))]
-    fn placed(&self, clicks: u32) -> Option<Place>
+    /// The place of so many clicks for a slot.
+    fn placed(&self, s: Slot, clicks: u32) -> Option<Place>
         requires { clicks ≤ 200000 }
-        ensures { result ≡ placed self.now clicks }
+        ensures { result ≡ placed self.now s clicks }
     {
+        let _ = &self.rows;
         if let Some(click) = self.core_fit(clicks) {
             return Some(Place::Core(click));
         }
@@ -239,7 +239,7 @@ impl Images {
         if clicks <= clicks_of(&self.area(s)) {
             return self.place(s);
         }
-        self.placed(clicks)
+        self.placed(s, clicks)
     }
 
     /// Gives a slot with an image another u area, with the sizes of that image.
@@ -305,11 +305,11 @@ impl Images {
         requires slot { to < 50 }
         requires nothing { keeping self.old to ≡ Nothing }
         ensures place { MatchResult result
-            (λ place. placed self.old (clicks_of (area_of self.old from)) ≡ Some place)
-            (λ _. placed self.old (clicks_of (area_of self.old from)) ≡ None) }
-        ensures kept { self.new ≡ with_image_at self.old to (area_of self.old from) (image_of self.old from) (placed self.old (clicks_of (area_of self.old from))) }
+            (λ place. placed self.old from (clicks_of (area_of self.old from)) ≡ Some place)
+            (λ _. placed self.old from (clicks_of (area_of self.old from)) ≡ None) }
+        ensures kept { self.new ≡ with_image_at self.old to (area_of self.old from) (image_of self.old from) (placed self.old from (clicks_of (area_of self.old from))) }
     {
-        let place = match self.placed(clicks_of(&self.area(from))) {
+        let place = match self.placed(from, clicks_of(&self.area(from))) {
             Some(place) => place,
             None => return Err(NoSwap),
         };
@@ -329,13 +329,13 @@ impl Images {
         requires no_text { text ≡ None }
         requires no_text_size { p.text_size ≡ 0 }
         ensures place { MatchResult result
-            (λ place. placed self.old (16 + p.data_size + p.stack_size) ≡ Some place)
-            (λ _. placed self.old (16 + p.data_size + p.stack_size) ≡ None) }
-        ensures kept { self.new ≡ with_image_at self.old s (sized_area p.data_size p.stack_size) (cleared p.data_size p.stack_size) (placed self.old (16 + p.data_size + p.stack_size)) }
+            (λ place. placed self.old s (16 + p.data_size + p.stack_size) ≡ Some place)
+            (λ _. placed self.old s (16 + p.data_size + p.stack_size) ≡ None) }
+        ensures kept { self.new ≡ with_image_at self.old s (sized_area p.data_size p.stack_size) (cleared p.data_size p.stack_size) (placed self.old s (16 + p.data_size + p.stack_size)) }
     {
         let _ = text;
         let u = new_area(p.data_size, p.stack_size);
-        let place = match self.placed(clicks_of(&u)) {
+        let place = match self.placed(s, clicks_of(&u)) {
             Some(place) => place,
             None => return Err(NoSwap),
         };
@@ -346,10 +346,10 @@ impl Images {
         Ok(place)
     }
 
-    /// Gives a slot's image other sizes of data and of stack, in clicks of 64 bytes, which `Proto::make` allows without
-    /// a text: `expand` in Lions' Commentary, `slp.c`. Data grow with zeros at their end, and are cut there. The stack
-    /// grows with zeros at its low end, and is cut there, so that its bytes keep their addresses. No text is shared
-    /// yet. The answer is where the image stands: one that doesn't grow keeps its place.
+    /// Gives a slot's image other sizes of data and of stack, in clicks of 64 bytes, which `Proto::make` allows beside
+    /// its text: `expand` in Lions' Commentary, `slp.c`. Data grow with zeros at their end, and are cut there. The stack
+    /// grows with zeros at its low end, and is cut there, so that its bytes keep their addresses. The answer is where
+    /// the image stands: one that doesn't grow keeps its place.
     ///
     /// # Errors
     ///
@@ -357,7 +357,7 @@ impl Images {
     /// has. Nothing has changed then.
     pub fn resize(&mut self, s: Slot, d: u16, stack: u16) -> Result<Place, NoSwap>
         requires image { HasImage self.old s }
-        requires segments { nseg d + nseg stack ≤ 8 }
+        requires segments { nseg (area_of self.old s).text_size + nseg d + nseg stack ≤ 8 }
         ensures place { MatchResult result
             (λ place. expanded self.old s (16 + d + stack) ≡ Some place)
             (λ _. expanded self.old s (16 + d + stack) ≡ None) }

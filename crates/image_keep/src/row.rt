@@ -1,5 +1,5 @@
 //! What is kept for one slot.
-ghost use Rattle.std.specs.Prelude.{◌≡◌, ◌+◌, ◌/◌, ◌≤◌, take};
+ghost use Rattle.std.specs.Prelude.{◌≡◌, ◌+◌, ◌/◌, ◌≤◌, [], take};
 ghost use Rattle.v6_base.specs.Whole.{whole_image};
 ghost use Rattle.u_area.specs.Area.{IsSized};
 ghost use Rattle.image_keep.specs.Area.{sized_area};
@@ -20,13 +20,14 @@ pub(crate) enum State {
 }
 
 /// A slot's state, u area and memory. The memory takes its room once, and what it holds counts for a slot with an image
-/// alone.
+/// alone. It has no text yet.
 #[derive(Drop)]
 pub(crate) struct ImageRow {
     pub state: State,
     pub u: UArea,
     pub memory: Whole,
     ghost sized: { HasSizes u (whole_image memory) },
+    ghost no_text: { (whole_image memory).text ≡ [] },
 }
 
 /// A map of what is free, `coremap` or `swapmap`: `systm.h` in Lions' Commentary.

@@ -1,5 +1,5 @@
 -- What keeps rows, slots and images in agreement.
-use Rattle.std.proofs.Common.{◌≡◌, ◌≢◌, ◌∙◌, ℕ, ◌<◌, Bool, true, false, length, get_or, Option, Some, None, refl, sym, ap, subst, inl, inr, arith}
+use Rattle.std.proofs.Common.{◌≡◌, ◌≢◌, ◌∙◌, ℕ, zero, suc, ◌<◌, Bool, true, false, length, replicate, get_or, Option, Some, None, refl, sym, ap, subst, inl, inr, arith}
 use Rattle.std.proofs.lemmas.Bool.{cases_eq}
 use Rattle.std.proofs.lemmas.List.{length-set}
 use Rattle.v6_base.specs.declared.entry.Chan.{Chan}
@@ -11,8 +11,9 @@ use Rattle.pick_rules.specs.Sleepers.{made_ready, sleeps_on, runout_told, wakeup
 use Rattle.pick_rules.proofs.Laws.{Stays, runout_stays, wakeup_stays, set_each}
 use Rattle.proc_tab.specs.declared.member.Member.{Member}
 use Rattle.proc_tab.specs.Processes.{Processes, member_at}
-use Rattle.image_keep.specs.Kept.{Held, Keeping, Alive, Kept, keeping}
-use Rattle.sys_procs.specs.Agree.{Kind, Free, Lives, Died, kind_of_stat, kind_of_member, kind_of_keeping, kind_by, Agrees, Agree}
+use Rattle.image_keep.specs.Kept.{Held, Keeping, Alive, Kept, no_users, keeping, with_keeping, text_of}
+use Rattle.image_keep.proofs.Frames.{SameTexts}
+use Rattle.sys_procs.specs.Agree.{Kind, Free, Lives, Died, kind_of_stat, kind_of_member, kind_of_keeping, kind_by, Agrees, HasNoText, Agree}
 
 -- A row that agrees with what the old one agrees with: a sleeper may have been woken.
 pub record IsLike (old new : TableRow) : Type 0 where
@@ -46,7 +47,6 @@ like_agrees m old new x a l = by old.channel refl
       image = a.image;
       place = l.place ∙ a.place;
       size = λ held is. l.size ∙ a.size held is;
-      text = l.text ∙ a.text;
       quiet = λ f. same.1;
     }
     by (Some w) e = let alive : kind_of_member m ≡ Lives = lives m old x w a e in record {
@@ -54,7 +54,6 @@ like_agrees m old new x a l = by old.channel refl
       image = a.image;
       place = l.place ∙ a.place;
       size = λ held is. l.size ∙ a.size held is;
-      text = l.text ∙ a.text;
       quiet = λ f. absurd (f alive);
     }
 
@@ -76,6 +75,8 @@ agree_like v t u k a good l = record {
   kernel = (l.each 0).place ∙ a.kernel;
   images = a.images;
   each = λ s above below. like_agrees (member_at v.slots s) (row_at t s) (row_at u s) (keeping k s) (a.each s above below) (l.each s);
+  text = λ s above below. (l.each s).text ∙ a.text s above below;
+  no_text = a.no_text;
 }
 
 pub row_like : (t : Table) (s : ℕ) (row : TableRow) → IsLike (row_at t s) row → AreLike t (with_row t s row)
@@ -118,14 +119,25 @@ wakeup_like t w = wakeup_stays (AreLike t) (woken_like t) t w (tables_same t t r
 pub runout_like : (t : Table) → AreLike t (runout_told t)
 runout_like t = runout_stays (AreLike t) (woken_like t) t (tables_same t t refl)
 
+-- Where the texts are the same, and who has which.
+same_text : (k l : Kept) (s : ℕ) → SameTexts k l → text_of k s ≡ text_of l s
+same_text k l s same = ap (λ users. get_or users s None) (sym same.users)
+
+pub same_none : (k l : Kept) → SameTexts k l → HasNoText k → HasNoText l
+same_none k l same none = record { texts = same.texts ∙ none.texts; users = same.users ∙ none.users }
+
+-- a change of what a slot keeps leaves them
+pub same_texts : (k : Kept) (s : ℕ) (x : Keeping) → SameTexts k (with_keeping k s x)
+same_texts k s x = record { texts = refl; users = refl }
+
 -- One slot has changed, in all three.
 pub agree_but : (v w : Processes) (t u : Table) (k l : Kept) (s : ℕ) → Agree v t k → 0 < s → IsTable u → length u.rows ≡ length t.rows
-    → Agrees (member_at w.slots s) (row_at u s) (keeping l s)
+    → Agrees (member_at w.slots s) (row_at u s) (keeping l s) → (row_at u s).text ≡ text_of k s → SameTexts k l
     → ((r : ℕ) → r ≢ s → member_at w.slots r ≡ member_at v.slots r)
     → ((r : ℕ) → r ≢ s → row_at u r ≡ row_at t r)
     → ((r : ℕ) → r ≢ s → keeping l r ≡ keeping k r)
     → Agree w u l
-agree_but v w t u k l s a above good long new members rows images = record {
+agree_but v w t u k l s a above good long new text same members rows images = record {
   table = good;
   rows = long ∙ a.rows;
   kernel = ap (λ row. row.place) (rows 0 (λ e. omega (arith, e, above))) ∙ a.kernel;
@@ -137,6 +149,11 @@ agree_but v w t u k l s a above good long new members rows images = record {
         (subst (λ (row : TableRow). Agrees (member_at v.slots r) row (keeping l r)) (sym (rows r other))
         (subst (λ x. Agrees (member_at v.slots r) (row_at t r) x) (sym (images r other)) (a.each r up low)))
   ];
+  text = λ r up low. elim (cases_eq r s) [
+    | inl here ↦ subst (λ q. (row_at u q).text ≡ text_of l q) (sym here) (text ∙ same_text k l s same)
+    | inr other ↦ ap (λ (row : TableRow). row.text) (rows r other) ∙ (a.text r up low ∙ same_text k l r same)
+  ];
+  no_text = same_none k l same a.no_text;
 }
 
 -- Who has an image is there, and hasn't ended.
@@ -153,3 +170,13 @@ is_there m row x held a e = by m refl
     by : (o : Option Member) → m ≡ o → (it : Member) × (o ≡ Some it) × (it.is_dead ≡ false)
     by None f = absurd (let g : Free ≡ Lives = ap kind_of_member (sym f) ∙ kind in cc g)
     by (Some it) f = (it, refl, alive it.is_dead (ap kind_of_member (sym f) ∙ kind))
+
+-- no text is made yet
+none_at : (n s : ℕ) → get_or {A = Option ℕ} (replicate n None) s None ≡ None
+none_at zero s = refl
+none_at (suc n) zero = refl
+none_at (suc n) (suc s) = none_at n s
+
+pub no_text_of : (k : Kept) (s : ℕ) → HasNoText k → text_of k s ≡ None
+unfolding no_users
+no_text_of k s none = ap (λ users. get_or users s None) none.users ∙ none_at 50 s

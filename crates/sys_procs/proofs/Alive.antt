@@ -13,16 +13,17 @@ use Rattle.pick_rules.specs.Table.{row_at, IsTable}
 use Rattle.proc_tab.specs.declared.member.Member.{Member}
 use Rattle.proc_tab.specs.declared.row.Row.{Row}
 use Rattle.proc_tab.specs.Processes.{member_at, changed, with_change, with_row}
-use Rattle.image_keep.specs.Kept.{Held, Keeping, Nothing, Alive, Kept, keeping, described, with_area, area_in, clicks_of, HasSizes}
+use Rattle.image_keep.specs.Kept.{Held, Keeping, Nothing, Alive, Kept, keeping, described, with_area, text_of, area_in, clicks_of, HasSizes}
+use Rattle.image_keep.proofs.Frames.{with_area_texts}
 use Rattle.fs_laws.proofs.RestLemmas.{rest_stays}
 use Rattle.fs_nodes.specs.FileSystem.{FileSystem}
 use Rattle.sys_procs.specs.declared.procs.Procs.{Procs}
 use Rattle.sys_procs.specs.Process.{Process, no_process, process_by}
 use Rattle.sys_procs.specs.World.{processes_in}
 use Rattle.sys_procs.specs.Agree.{Agrees}
-use Rattle.sys_procs.specs.Handed.{Calls, IsAlive, process_here}
+use Rattle.sys_procs.specs.Handed.{Calls, IsAlive, process_here, handed, board}
 use Rattle.sys_procs.proofs.Slots.{own_alive, row_changed, area_changed}
-use Rattle.sys_procs.proofs.Agreement.{is_there, agree_but, agree_like, AreLike}
+use Rattle.sys_procs.proofs.Agreement.{is_there, agree_but, agree_like, AreLike, no_text_of}
 
 runs_below : (t : Table) (s : ℕ) → IsTable t → t.running ≡ Some s → s < 50
 runs_below t s good e = subst (λ o. MatchOption o ⊤ (λ r. r < 50)) e good.running
@@ -43,7 +44,7 @@ pub record IsHere (p : Procs) (s : ℕ) : Type 0 where
   pub member_is : member_at p.rows.slots s ≡ Some member
   pub image_is : keeping p.images s ≡ Alive held
   pub is_living : member.is_dead ≡ false
-  pub process_is : process_here p s ≡ process_by member (Alive held)
+  pub process_is : process_here p s ≡ process_by member (Alive held) (text_of p.images s)
 
 pub is_here : (p : Procs) (s : ℕ) → IsAlive p s → IsHere p s
 is_here p s alive =
@@ -73,8 +74,7 @@ pub record SameSizes (u v : UArea) : Type 0 where
 
 pub sizes_stay : (u v : UArea) (image : Image) → SameSizes u v → HasSizes v image → HasSizes u image
 sizes_stay u v image same h = record {
-  text = h.text;
-  text_size = same.text ∙ h.text_size;
+  text_size = h.text_size ∙ sym (ap (λ n. 64 * n) same.text);
   data_size = h.data_size ∙ sym (ap (λ n. 64 * n) same.data);
   stack_size = h.stack_size ∙ sym (ap (λ n. 64 * n) same.stack);
 }
@@ -88,9 +88,15 @@ area_put p s u alive long =
     let here = is_here p s alive in
     area_changed p.rows.slots p.images s here.member here.held alive.below here.member_is here.image_is u (omega (arith, alive.below, long))
 
-pub area_core : (k : Kept) (s : ℕ) (u : UArea) → (with_area k s u).core ≡ k.core
+-- nothing else changes in what the call is handed, and nothing on the board
+pub area_state : (p : Procs) (s : ℕ) (u : UArea) (fs : FileSystem)
+    → handed (record p { images = with_area p.images s u }) fs ≡ record (handed p fs) { processes = processes_in p.rows.slots (with_area p.images s u) }
 unfolding with_area
-area_core k s u = refl
+area_state p s u fs = refl
+
+pub area_board : (p : Procs) (s : ℕ) (u : UArea) → board (record p { images = with_area p.images s u }) ≡ board p
+unfolding with_area
+area_board p s u = refl
 
 area_kept : (k : Kept) (s : ℕ) (u : UArea) (held : Held) → s < length k.slots → keeping k s ≡ Alive held → keeping (with_area k s u) s ≡ Alive (record held { u = u })
 unfolding with_area
@@ -106,7 +112,6 @@ area_agrees m row held u same a = record {
   image = a.image;
   place = a.place;
   size = λ other is. a.size held refl ∙ (sym same ∙ ap (λ x. clicks_of (area_in x)) is);
-  text = a.text;
   quiet = a.quiet;
 }
 
@@ -120,6 +125,7 @@ area_alive p s u alive long same =
     record {
       agree = agree_but p.rows p.rows p.table p.table p.images (with_area p.images s u) s alive.agree alive.above alive.agree.table refl
           (subst (λ x. Agrees (member_at p.rows.slots s) (row_at p.table s) x) (sym now) (area_agrees (member_at p.rows.slots s) (row_at p.table s) here.held u clicks old))
+          (alive.agree.text s alive.above alive.below) (with_area_texts p.images s u)
           (λ r other. refl) (λ r other. refl) (area_others p.images s u);
       above = alive.above;
       below = alive.below;
@@ -140,7 +146,7 @@ row_put p s row alive =
     row_changed p.rows.slots p.images s here.member here.held alive.below here.member_is here.image_is row (is_within p.rows.slots s here.member here.member_is)
 
 row_agrees : (m : Member) (new : Row) (row : TableRow) (x : Keeping) → Agrees (Some m) row x → Agrees (Some (with_row new m)) row x
-row_agrees m new row x a = record { stat = a.stat; image = a.image; place = a.place; size = a.size; text = a.text; quiet = a.quiet }
+row_agrees m new row x a = record { stat = a.stat; image = a.image; place = a.place; size = a.size; quiet = a.quiet }
 
 pub row_alive : (p : Procs) (s : ℕ) (row : Row) → IsAlive p s → IsAlive (record p { rows = with_change p.rows s (with_row row) }) s
 row_alive p s row alive =
@@ -153,6 +159,7 @@ row_alive p s row alive =
     record {
       agree = agree_but p.rows (with_change p.rows s (with_row row)) p.table p.table p.images p.images s alive.agree alive.above alive.agree.table refl
           (subst (λ m. Agrees m (row_at p.table s) (keeping p.images s)) (sym now) (row_agrees here.member row (row_at p.table s) (keeping p.images s) old))
+          (alive.agree.text s alive.above alive.below) (record { texts = refl; users = refl })
           (λ r other. get_or-set_other p.rows.slots s r new None other) (λ r other. refl) (λ r other. refl);
       above = alive.above;
       below = alive.below;
@@ -167,6 +174,13 @@ table_alive p t s alive good like = record {
   below = alive.below;
   image = alive.image;
 }
+
+-- no text is made yet
+pub no_text_here : (p : Procs) (s : ℕ) → IsAlive p s → (process_here p s).text ≡ None
+no_text_here p s alive = ap (λ (q : Process). q.text) (is_here p s alive).process_is ∙ no_text_of p.images s alive.agree.no_text
+
+pub no_text_row : (p : Procs) (s : ℕ) → IsAlive p s → (row_at p.table s).text ≡ None
+no_text_row p s alive = alive.agree.text s alive.above alive.below ∙ no_text_of p.images s alive.agree.no_text
 
 -- what most calls need beside their own row
 pub ruleset calls = (took_none, took_more, rest_stays, calls_alive)

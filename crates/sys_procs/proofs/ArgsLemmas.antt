@@ -9,7 +9,7 @@ use Rattle.v6_base.specs.declared.errno.Errno.{Errno}
 use Rattle.v6_base.specs.declared.errno.Errno.TheVariants.{E2BIG}
 use Rattle.sys_procs.specs.declared.arguments.Reading.{Reading}
 use Rattle.sys_procs.specs.declared.arguments.Arguments.TheInside.{Inside}
-use Rattle.sys_procs.specs.Packed.{split, ArePacked}
+use Rattle.sys_procs.specs.inside.Packed.{split, ArePacked}
 use Rattle.sys_procs.specs.Stack.{fubyte, next_argument, next_reading, in_front, in_first, packed, arguments}
 
 -- the bytes that are still to be read

@@ -29,7 +29,7 @@ use Rattle.proc_tab.specs.Pids.{has_pid}
 use Rattle.proc_tab.specs.Processes as rows
 use Rattle.proc_tab.specs.Children.{is_child_of, orphans_adopted}
 use Rattle.proc_tab.specs.Children as rows_of
-use Rattle.image_keep.specs.Kept.{Held, Keeping, Nothing, Alive, Grave, Kept, keeping, with_keeping, area_in, area_of}
+use Rattle.image_keep.specs.Kept.{Held, Keeping, Nothing, Alive, Grave, Kept, keeping, with_keeping, text_of, area_in, area_of}
 use Rattle.image_keep.specs.Places.{with_grave_at}
 use Rattle.image_keep.specs.Places as images_of
 use Rattle.fs_nodes.specs.FileSystem.{FileSystem}
@@ -39,12 +39,14 @@ use Rattle.sys_procs.specs.Process.{Process, no_process, process_by, process_in}
 use Rattle.sys_procs.specs.World.{World, Clock, clock_of, process_of, processes_in, world_in}
 use Rattle.sys_procs.specs.Exit.{adopted}
 use Rattle.sys_procs.specs.Exit as exit
+use Rattle.sys_procs.specs.Texts.{xfree}
+use Rattle.sys_procs.specs.Comes.{Comes}
 use Rattle.sys_procs.specs.Agree.{kind_of_member, Agrees, Agree, board_of}
 use Rattle.sys_procs.specs.Handed.{IsAlive, AreProcs, handed, board, came, process_here}
 use Rattle.sys_procs.proofs.Slots.{process_in_slot, fifty_processes, are_processes, one_changed, own, own_alive, own_row, members_are}
 use Rattle.sys_procs.proofs.Tables.{board_woken}
-use Rattle.sys_procs.proofs.Agreement.{agree_but, agree_like, wakeup_like}
-use Rattle.sys_procs.proofs.Alive.{IsHere, is_here}
+use Rattle.sys_procs.proofs.Agreement.{agree_but, agree_like, wakeup_like, same_texts}
+use Rattle.sys_procs.proofs.Alive.{IsHere, is_here, no_text_here}
 use Rattle.sys_procs.proofs.Places.{same_swap_fit}
 
 -- What the log says of an end.
@@ -68,32 +70,32 @@ logged_panic b s w e f fit = rw fit refl
 
 -- Adoption, of members and of processes.
 -- who is adopted, or not, is the same in the rows and among the processes
-adopted_by : (b : Bool) (m : Member) (x : Keeping) → process_in (Some (cond b (record m { row = record m.row { ppid = 1 } }) m)) x
-    ≡ Some (cond b (record (process_by m x) { row = record (process_by m x).row { ppid = 1 } }) (process_by m x))
-adopted_by true m Nothing = refl
-adopted_by false m Nothing = refl
-adopted_by true m (Alive held) = refl
-adopted_by false m (Alive held) = refl
-adopted_by true m (Grave u block) = refl
-adopted_by false m (Grave u block) = refl
+adopted_by : (b : Bool) (m : Member) (x : Keeping) (t : Option ℕ) → process_in (Some (cond b (record m { row = record m.row { ppid = 1 } }) m)) x t
+    ≡ Some (cond b (record (process_by m x t) { row = record (process_by m x t).row { ppid = 1 } }) (process_by m x t))
+adopted_by true m Nothing t = refl
+adopted_by false m Nothing t = refl
+adopted_by true m (Alive held) t = refl
+adopted_by false m (Alive held) t = refl
+adopted_by true m (Grave u block) t = refl
+adopted_by false m (Grave u block) t = refl
 
-pub adopted_in : (pid : ℕ) (o : Option Member) (x : Keeping) → process_in (rows_of.adopted pid o) x ≡ adopted pid (process_in o x)
-adopted_in pid None x = refl
-adopted_in pid (Some m) Nothing = adopted_by (is_child_of pid m) m Nothing
-adopted_in pid (Some m) (Alive held) = adopted_by (is_child_of pid m) m (Alive held)
-adopted_in pid (Some m) (Grave u block) = adopted_by (is_child_of pid m) m (Grave u block)
+pub adopted_in : (pid : ℕ) (o : Option Member) (x : Keeping) (t : Option ℕ) → process_in (rows_of.adopted pid o) x t ≡ adopted pid (process_in o x t)
+adopted_in pid None x t = refl
+adopted_in pid (Some m) Nothing t = adopted_by (is_child_of pid m) m Nothing t
+adopted_in pid (Some m) (Alive held) t = adopted_by (is_child_of pid m) m (Alive held) t
+adopted_in pid (Some m) (Grave u block) t = adopted_by (is_child_of pid m) m (Grave u block) t
 
 pub adopted_processes : (slots : List (Option Member)) (k : Kept) (pid : ℕ) → length slots ≡ 50
     → processes_in (map (rows_of.adopted pid) slots) k ≡ map (adopted pid) (processes_in slots k)
 adopted_processes slots k pid long = are_processes (map (rows_of.adopted pid) slots) k (map (adopted pid) (processes_in slots k))
     (length-map (processes_in slots k) (adopted pid) ∙ fifty_processes slots k) each
   where
-    each : (r : ℕ) → r < 50 → get_or (map (adopted pid) (processes_in slots k)) r None ≡ process_in (member_at (map (rows_of.adopted pid) slots) r) (keeping k r)
+    each : (r : ℕ) → r < 50 → get_or (map (adopted pid) (processes_in slots k)) r None ≡ process_in (member_at (map (rows_of.adopted pid) slots) r) (keeping k r) (text_of k r)
     each r low =
         get_or-map (adopted pid) (processes_in slots k) r None None (omega (arith, low, fifty_processes slots k))
         ∙ (ap (adopted pid) (process_in_slot slots k r low)
-        ∙ (sym (adopted_in pid (member_at slots r) (keeping k r))
-        ∙ ap (λ o. process_in o (keeping k r)) (sym (get_or-map (rows_of.adopted pid) slots r None None (omega (arith, low, long))))))
+        ∙ (sym (adopted_in pid (member_at slots r) (keeping k r) (text_of k r))
+        ∙ ap (λ o. process_in o (keeping k r) (text_of k r)) (sym (get_or-map (rows_of.adopted pid) slots r None None (omega (arith, low, long))))))
 
 kind_adopted : (pid : ℕ) (o : Option Member) → kind_of_member (rows_of.adopted pid o) ≡ kind_of_member o
 kind_adopted pid None = refl
@@ -109,7 +111,6 @@ same_kind m n row x e a = record {
   image = a.image ∙ sym e;
   place = a.place;
   size = a.size;
-  text = a.text;
   quiet = λ f. a.quiet (λ l. f (e ∙ l));
 }
 
@@ -122,6 +123,8 @@ agree_adopted v t k pid long a = record {
   each = λ s above low. same_kind (member_at v.slots s) (member_at (map (rows_of.adopted pid) v.slots) s) (row_at t s) (keeping k s)
       (ap kind_of_member (get_or-map (rows_of.adopted pid) v.slots s None None (omega (arith, low, long))) ∙ kind_adopted pid (member_at v.slots s))
       (a.each s above low);
+  text = a.text;
+  no_text = a.no_text;
 }
 
 -- Waking.
@@ -186,12 +189,12 @@ module _ (v : Processes) (t : Table) (k : Kept) (s : ℕ) (m : Member) (held : H
 
   process_ended : processes_in ended_rows.slots ended_images ≡ set (processes_in v.slots k) s (Some zombie)
   process_ended = one_changed v.slots ended_rows.slots k ended_images s (Some zombie) low
-      (ap (λ o. process_in o (keeping ended_images s)) member_ended
-      ∙ (ap (process_in (Some (dead m))) image_ended
+      (ap (λ o. process_in o (keeping ended_images s) (text_of k s)) member_ended
+      ∙ (ap (λ x. process_in (Some (dead m)) x (text_of k s)) image_ended
       ∙ ap (λ (p : Process). Some (record p { is_zombie = true; «data» = []; stack = [] })) (sym (own_alive v.slots k s m held low here has))))
       (λ r below other.
-      ap (λ o. process_in o (keeping ended_images r)) (get_or-set_other v.slots s r (changed dead (member_at v.slots s)) None other)
-      ∙ ap (process_in (member_at v.slots r)) (get_or-set_other k.slots s r (Grave held.u block) Nothing other))
+      ap (λ o. process_in o (keeping ended_images r) (text_of k r)) (get_or-set_other v.slots s r (changed dead (member_at v.slots s)) None other)
+      ∙ ap (λ x. process_in (member_at v.slots r) x (text_of k r)) (get_or-set_other k.slots s r (Grave held.u block) Nothing other))
 
   ended_long : length ended_rows.slots ≡ 50
   ended_long = length-set v.slots s (changed dead (member_at v.slots s)) ∙ slots
@@ -215,7 +218,6 @@ module _ (v : Processes) (t : Table) (k : Kept) (s : ℕ) (m : Member) (held : H
     image = refl;
     place = refl;
     size = λ other is. absurd (cc is);
-    text = a.text;
     quiet = λ f. refl;
   }
 
@@ -229,6 +231,7 @@ module _ (v : Processes) (t : Table) (k : Kept) (s : ℕ) (m : Member) (held : H
       (subst (λ o. Agrees o (row_at (ending t s block) s) (keeping ended_images s)) (sym member_ended)
       (subst (λ (r : TableRow). Agrees (Some (dead m)) r (keeping ended_images s)) (sym row)
       (subst (λ x. Agrees (Some (dead m)) (ending_row (row_at t s) block) x) (sym image_ended) (slot_ended old))))
+      (ap (λ (r : TableRow). r.text) row ∙ a.text s above low) (same_texts k s (Grave held.u block))
       (λ r other. get_or-set_other v.slots s r (changed dead (member_at v.slots s)) None other)
       (λ r other. get_or-set_other t.rows s r (ending_row (row_at t s) block) empty_row other)
       (λ r other. get_or-set_other k.slots s r (Grave held.u block) Nothing other)
@@ -340,11 +343,18 @@ pub exit_row : (p : Procs) (fs : FileSystem) (s : ℕ) (u : UArea) → u ≡ (pr
 unfolding exit.exit_now
 exit_row p fs s u e = ap (λ (v : UArea). exit.end_proc (handed p fs) s (256 * (get_or v.r 0 0 % 256))) e
 
-pub exit_answer : (p : Procs) (fs : FileSystem) (s : ℕ) (u : UArea) → s < 50 → u ≡ (process_here p s).u
+-- the end of a process that has no text
+pub end_alone : (w : World) (s status : ℕ) → (process_of w s).text ≡ None → exit.end_proc w s status ≡ exit.dies (exit.leaves w s status) s
+unfolding exit.end_proc
+end_alone w s status alone = ap (λ text. xfree (exit.leaves w s status) s text (λ left. exit.dies left s)) alone
+
+pub exit_answer : (p : Procs) (fs : FileSystem) (s : ℕ) (u : UArea) → IsAlive p s → u ≡ (process_here p s).u
     → Ret (get_or u.r 0 0) (get_or u.r 1 0) ≡ (exit.exit_now (handed p fs) s).answer
-unfolding exit.exit_now exit.end_proc
-exit_answer p fs s u low e =
+unfolding exit.exit_now
+exit_answer p fs s u alive e =
+    let low = alive.below in
     let status : ℕ = 256 * (get_or (process_here p s).u.r 0 0 % 256) in
     let left : u.r ≡ (process_of (exit.dead (exit.leaves (handed p fs) s status) s) s).u.r =
     ap (λ (v : UArea). v.r) e ∙ sym (registers_left (handed p fs) s status (omega (arith, low, fifty_processes p.rows.slots p.images))) in
     ap (λ (r : List ℕ). Ret (get_or r 0 0) (get_or r 1 0)) left
+    ∙ ap (λ (c : Comes). c.answer) (sym (end_alone (handed p fs) s status (no_text_here p s alive)))

@@ -11,6 +11,8 @@ use Rattle.image_keep.specs.Places as images_of
 use Rattle.sys_procs.specs.declared.procs.Procs.{Procs}
 use Rattle.sys_procs.specs.Handed.{IsAlive, board}
 use Rattle.sys_procs.proofs.Places.{same_core}
+use Rattle.image_keep.proofs.PlaceFrames.{bare_placed}
+use Rattle.sys_procs.proofs.Agreement.{no_text_of}
 use Rattle.sys_procs.proofs.PlacingRows.{size_is}
 
 core_first : (core : Option ℕ) (swap : Option Place) (place : Place) → is_some core ≡ true
@@ -31,20 +33,19 @@ module _ (p : Procs) (s : ℕ) (alive : IsAlive p s) (long : length p.images.slo
   abbrev n : ℕ
   n = (row_at p.table s).size
 
-  placed_is : images_of.placed p.images (clicks_of (area_of p.images s))
+  placed_is : images_of.placed p.images s (clicks_of (area_of p.images s))
       ≡ option_or (option_map Core (images_of.core_fit p.images n)) (option_map Swap (images_of.swap_fit p.images (images_of.blocks n)))
-  unfolding images_of.placed
-  placed_is = ap (images_of.placed p.images) (sym (size_is p s alive))
+  placed_is = ap (images_of.placed p.images s) (sym (size_is p s alive)) ∙ bare_placed p.images s n (no_text_of p.images s alive.agree.no_text)
 
   fit_is : in_core (placed (board p) s n) ≡ option_map Core (images_of.core_fit p.images n)
   fit_is = same_core p.rows p.table p.images alive.agree long s n alive.above alive.below
 
   pub fork_fits : (place : Place) → is_some (images_of.core_fit p.images n) ≡ true
-      → images_of.placed p.images (clicks_of (area_of p.images s)) ≡ Some place → in_core (placed (board p) s n) ≡ Some place
+      → images_of.placed p.images s (clicks_of (area_of p.images s)) ≡ Some place → in_core (placed (board p) s n) ≡ Some place
   fork_fits place room is = fit_is ∙ core_first _ _ place room (sym placed_is ∙ is)
 
   pub fork_finds : is_some (images_of.core_fit p.images n) ≡ true
-      → is_some (images_of.placed p.images (clicks_of (area_of p.images s))) ≡ true
+      → is_some (images_of.placed p.images s (clicks_of (area_of p.images s))) ≡ true
   fork_finds room = ap (λ (o : Option Place). is_some o) placed_is ∙ some_place _ _ room
 
   pub fork_stops : is_some (images_of.core_fit p.images n) ≡ false → in_core (placed (board p) s n) ≡ None

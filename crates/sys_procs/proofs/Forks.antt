@@ -24,21 +24,22 @@ use Rattle.proc_tab.specs.Processes.{Processes, member_at, lowest, IsLowest, Fin
 use Rattle.proc_tab.specs.Processes as rows
 use Rattle.proc_tab.specs.Pids.{fresh_pid, child_of, forked}
 use Rattle.proc_tab.proofs.SearchLemmas.{lowest_finds}
-use Rattle.image_keep.specs.Kept.{Held, Keeping, Nothing, Alive, Grave, Kept, keeping, with_keeping, with_area, described, area_in, image_in, area_of, image_of, clicks_of, HasImage}
+use Rattle.image_keep.specs.Kept.{Held, Keeping, Nothing, Alive, Grave, Kept, keeping, with_keeping, text_of, with_area, described, area_in, image_in, area_of, image_of, clicks_of, HasImage}
 use Rattle.image_keep.specs.Places as images_of
 use Rattle.fs_nodes.specs.FileSystem.{FileSystem}
 use Rattle.fs_tree.specs.Finding.{with_reference}
 use Rattle.sys_procs.specs.declared.procs.Procs.{Procs}
 use Rattle.sys_procs.specs.Process.{Process, no_process, process_by, process_in, register, with_register}
 use Rattle.sys_procs.specs.World.{World, Clock, clock_of, process_of, with_process, change, processes_in}
+use Rattle.sys_procs.specs.Texts.{joined_by_child}
 use Rattle.sys_procs.specs.Fork.{copied, past_word, next_pid, with_child, fork_into, fork_one}
 use Rattle.sys_procs.specs.Seats.{with_image_row}
 use Rattle.sys_procs.specs.Agree.{Free, kind_of_member, kind_of_keeping, Agrees, Agree, board_of, untimed}
 use Rattle.sys_procs.specs.Handed.{AreProcs, IsAlive, handed, board, process_here}
 use Rattle.sys_procs.proofs.Slots.{fifty_processes, one_changed, members_are}
 use Rattle.sys_procs.proofs.Tables.{untimed_runout}
-use Rattle.sys_procs.proofs.Agreement.{agree_but, agree_like, runout_like}
-use Rattle.sys_procs.proofs.Alive.{IsHere, is_here}
+use Rattle.sys_procs.proofs.Agreement.{agree_but, agree_like, runout_like, same_texts, no_text_of}
+use Rattle.sys_procs.proofs.Alive.{IsHere, is_here, no_text_row}
 
 -- What the log says of a fork.
 pub logged_fork : (b : Board) (s child : ℕ) (w : World) (place : Place)
@@ -173,21 +174,23 @@ module _ (p : Procs) (s child : ℕ) (place : Place) (alive : IsAlive p s) (slot
   held_is : child_held p s place ≡ record { u = here.held.u; image = here.held.image; place = place }
   held_is = ap (λ (x : Keeping). record { u = area_in x; image = image_in x; place = place }) here.image_is
 
-  is_copy : process_by new_member (Alive (child_held p s place)) ≡ copy_of p s
+  is_copy : process_by new_member (Alive (child_held p s place)) (text_of p.images child) ≡ copy_of p s
   is_copy =
       let row : rows.row_at p.rows s ≡ here.member.row = ap rows.row_of here.member_is in
-      ap (λ (h : Held). process_by new_member (Alive h)) held_is
-      ∙ (ap (λ (r : Row). process_by (child_of r (child_pid p)) (Alive (record { u = here.held.u; image = here.held.image; place = place }))) row
-      ∙ (ap (λ (dead : Bool). record (process_by here.member (Alive here.held)) { row = (child_of here.member.row (child_pid p)).row; is_zombie = dead }) (sym here.is_living)
-      ∙ ap (λ (q : Process). record q { row = (child_of q.row (child_pid p)).row }) (sym here.process_is)))
+      ap (process_by new_member (Alive (child_held p s place)))
+      (no_text_of p.images child alive.agree.no_text ∙ sym (no_text_of p.images s alive.agree.no_text))
+      ∙ (ap (λ (h : Held). process_by new_member (Alive h) (text_of p.images s)) held_is
+      ∙ (ap (λ (r : Row). process_by (child_of r (child_pid p)) (Alive (record { u = here.held.u; image = here.held.image; place = place })) (text_of p.images s)) row
+      ∙ (ap (λ (dead : Bool). record (process_by here.member (Alive here.held) (text_of p.images s)) { row = (child_of here.member.row (child_pid p)).row; is_zombie = dead }) (sym here.is_living)
+      ∙ ap (λ (q : Process). record q { row = (child_of q.row (child_pid p)).row }) (sym here.process_is))))
 
   processes_seated : processes_in (set p.rows.slots child (Some new_member)) new_images ≡ set (processes_in p.rows.slots p.images) child (Some (copy_of p s))
   processes_seated = one_changed p.rows.slots (set p.rows.slots child (Some new_member)) p.images new_images child (Some (copy_of p s)) free.low
-      (ap (λ o. process_in o (keeping new_images child)) member_new
-      ∙ (ap (process_in (Some new_member)) image_new ∙ ap (λ (q : Process). Some q) is_copy))
+      (ap (λ o. process_in o (keeping new_images child) (text_of p.images child)) member_new
+      ∙ (ap (λ x. process_in (Some new_member) x (text_of p.images child)) image_new ∙ ap (λ (q : Process). Some q) is_copy))
       (λ r below other.
-      ap (λ o. process_in o (keeping new_images r)) (get_or-set_other p.rows.slots child r (Some new_member) None other)
-      ∙ ap (process_in (member_at p.rows.slots r)) (get_or-set_other p.images.slots child r (Alive (child_held p s place)) Nothing other))
+      ap (λ o. process_in o (keeping new_images r) (text_of p.images r)) (get_or-set_other p.rows.slots child r (Some new_member) None other)
+      ∙ ap (λ x. process_in (member_at p.rows.slots r) x (text_of p.images r)) (get_or-set_other p.images.slots child r (Alive (child_held p s place)) Nothing other))
 
   pub state_seated : (fs : FileSystem) → handed (seated p s child place) fs ≡ record (with_process (handed p fs) child (copy_of p s)) { last_pid = child_pid p }
   state_seated fs =
@@ -196,7 +199,7 @@ module _ (p : Procs) (s child : ℕ) (place : Place) (alive : IsAlive p s) (slot
       ∙ ap (λ (ps : List (Option Process)). record (handed p fs) { processes = ps; last_pid = child_pid p }) processes_seated
 
   pub board_seated : board (seated p s child place) ≡ applied (board p) (line.Fork s child place)
-  board_seated = board_forked p.table p.images s child place (omega (arith, free.low, alive.agree.rows)) (alive.agree.each s alive.above alive.below).text
+  board_seated = board_forked p.table p.images s child place (omega (arith, free.low, alive.agree.rows)) (no_text_row p s alive)
 
   size_is : (row_at p.table s).size ≡ clicks_of (area_of p.images s)
   size_is = (alive.agree.each s alive.above alive.below).size here.held here.image_is ∙ ap (λ (x : Keeping). clicks_of (area_in x)) (sym here.image_is)
@@ -207,7 +210,6 @@ module _ (p : Procs) (s child : ℕ) (place : Place) (alive : IsAlive p s) (slot
     image = refl;
     place = refl;
     size = λ held is. size_is ∙ ap (λ (x : Keeping). clicks_of (area_in x)) is;
-    text = (alive.agree.each s alive.above alive.below).text;
     quiet = λ f. refl;
   }
 
@@ -222,6 +224,9 @@ module _ (p : Procs) (s child : ℕ) (place : Place) (alive : IsAlive p s) (slot
       (subst (λ o. Agrees o (row_at (with_row p.table child row) child) (keeping new_images child)) (sym member_new)
       (subst (λ (r : TableRow). Agrees (Some new_member) r (keeping new_images child)) (sym (get_or-set_same p.table.rows child row empty_row (omega (arith, free.low, a.rows))))
       (subst (λ x. Agrees (Some new_member) row x) (sym image_new) child_agrees)))
+      (ap (λ (r : TableRow). r.text) (get_or-set_same p.table.rows child row empty_row (omega (arith, free.low, a.rows)))
+      ∙ (no_text_row p s alive ∙ sym (no_text_of p.images child a.no_text)))
+      (same_texts p.images child (Alive (child_held p s place)))
       (λ r other. get_or-set_other p.rows.slots child r (Some new_member) None other)
       (λ r other. get_or-set_other p.table.rows child r row empty_row other)
       (λ r other. get_or-set_other p.images.slots child r (Alive (child_held p s place)) Nothing other))
@@ -258,7 +263,8 @@ abbrev pub gone_on : World → ℕ → ℕ → World
 gone_on w s child =
     record (change (change w child (begun_by (process_of w s).row.pid)) s past_word) { inodes = with_reference w.inodes (process_of w s).u.dir }
 
-module _ (w : World) (s child pid : ℕ) (apart : s ≢ child) (low : child < length w.processes) (below : s < length w.processes) where
+module _ (w : World) (s child pid : ℕ) (apart : s ≢ child) (low : child < length w.processes) (below : s < length w.processes)
+    (alone : (process_of w s).text ≡ None) where
   abbrev copy : Process
   copy = record (process_of w s) { row = (child_of (process_of w s).row pid).row }
 
@@ -277,7 +283,12 @@ module _ (w : World) (s child pid : ℕ) (apart : s ≢ child) (low : child < le
       ap (λ (q : Process). record (change (change begins child (begun_by q.row.pid)) s past_word) { inodes = with_reference w.inodes q.u.dir }) parent_of_child
       ∙ (ap (λ (q : Process). record (change (with_process begins child (begun_by own.row.pid q)) s past_word) { inodes = with_reference w.inodes own.u.dir }) child_begins
       ∙ ap (λ (ps : List (Option Process)). record (change (record w { processes = ps; last_pid = pid }) s past_word) { inodes = with_reference w.inodes own.u.dir })
-      (set-set w.processes child (Some copy) (Some (begun_by own.row.pid copy))))
+      (set-set w.processes child (Some copy) (Some (begun_by own.row.pid copy)))
+      ∙ ap (λ text. change (record (with_process w child (copied own pid)) {
+        last_pid = pid;
+        inodes = with_reference w.inodes own.u.dir;
+        texts = joined_by_child w.texts text;
+      }) s past_word) (sym alone))
 
   pub register_forked : register (process_of w s) 1 ≡ register (process_of (change (with_child w s child pid) s past_word) s) 1
   register_forked =

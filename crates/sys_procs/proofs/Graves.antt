@@ -18,7 +18,7 @@ use Rattle.proc_tab.specs.declared.member.Member.{Member}
 use Rattle.proc_tab.specs.declared.child.Child.{Child}
 use Rattle.proc_tab.specs.Processes.{Processes, member_at, without, passes}
 use Rattle.proc_tab.specs.Children.{child, is_child_of, is_dead_child_of}
-use Rattle.image_keep.specs.Kept.{Held, Keeping, Nothing, Alive, Grave, Kept, keeping, with_keeping, area_in, half_of, HasImage, HasGrave}
+use Rattle.image_keep.specs.Kept.{Held, Keeping, Nothing, Alive, Grave, Kept, keeping, with_keeping, text_of, area_in, half_of, HasImage, HasGrave}
 use Rattle.fs_nodes.specs.FileSystem.{FileSystem}
 use Rattle.sys_procs.specs.declared.procs.Procs.{Procs}
 use Rattle.sys_procs.specs.Process.{Process, no_process, process_by, process_in}
@@ -27,7 +27,7 @@ use Rattle.sys_procs.specs.Wait.{waits_for, wait_child}
 use Rattle.sys_procs.specs.Agree.{Free, Died, kind_by, kind_of_member, kind_of_keeping, Agrees, Agree}
 use Rattle.sys_procs.specs.Handed.{AreProcs, IsAlive, handed, board, process_here}
 use Rattle.sys_procs.proofs.Slots.{one_changed, own_is, members_are}
-use Rattle.sys_procs.proofs.Agreement.{agree_but}
+use Rattle.sys_procs.proofs.Agreement.{agree_but, same_texts, no_text_of}
 
 -- The words of half a u area.
 word_of_half : (b : List ℕ) (at : ℕ) → at + 1 < 512 → word (take 512 b) at ≡ word b at
@@ -112,16 +112,16 @@ used v t k s a above low grave =
     let it = is_buried (member_at v.slots s) (row_at t s) (keeping k s) grave.0 grave.1 (a.each s above low) grave.2 in
     subst (λ (o : Option Member). IsSome o) (sym it.1) refl
 
-buried : (o : Option Member) (x : Keeping) (it : Member) (u : UArea) (block : ℕ) → o ≡ Some it → x ≡ Grave u block → (unwrap_or (process_in o x) no_process).u ≡ area_in x
-buried o x it u block e f =
-    ap (λ (p : Option Member). (unwrap_or (process_in p x) no_process).u) e
-    ∙ (ap (λ (y : Keeping). (process_by it y).u) f ∙ sym (ap area_in f))
+buried : (o : Option Member) (x : Keeping) (t : Option ℕ) (it : Member) (u : UArea) (block : ℕ) → o ≡ Some it → x ≡ Grave u block → (unwrap_or (process_in o x t) no_process).u ≡ area_in x
+buried o x t it u block e f =
+    ap (λ (p : Option Member). (unwrap_or (process_in p x t) no_process).u) e
+    ∙ (ap (λ (y : Keeping). (process_by it y t).u) f ∙ sym (ap area_in f))
 
 pub area_buried : (p : Procs) (s : ℕ) → AreProcs p → 0 < s → s < 50 → HasGrave p.images s → area_in (keeping p.images s) ≡ (process_here p s).u
 area_buried p s a above low grave =
     let it = is_buried (member_at p.rows.slots s) (row_at p.table s) (keeping p.images s) grave.0 grave.1 (a.each s above low) grave.2 in
     sym (ap (λ (q : Process). q.u) (own_is p.rows.slots p.images s low)
-    ∙ buried (member_at p.rows.slots s) (keeping p.images s) it.0 grave.0 grave.1 it.1 grave.2)
+    ∙ buried (member_at p.rows.slots s) (keeping p.images s) (text_of p.images s) it.0 grave.0 grave.1 it.1 grave.2)
 
 -- A slot that becomes free.
 abbrev pub cleared : Procs → ℕ → Procs
@@ -130,10 +130,10 @@ cleared p s = record p { rows = without p.rows s; table = with_row p.table s emp
 module _ (p : Procs) (s : ℕ) (low : s < 50) (slots : length p.rows.slots ≡ 50) (images : length p.images.slots ≡ 50) where
   processes_cleared : processes_in (set p.rows.slots s None) (with_keeping p.images s Nothing) ≡ set (processes_in p.rows.slots p.images) s None
   processes_cleared = one_changed p.rows.slots (set p.rows.slots s None) p.images (with_keeping p.images s Nothing) s None low
-      (ap (λ o. process_in o (keeping (with_keeping p.images s Nothing) s)) (get_or-set_same p.rows.slots s None None (omega (arith, low, slots))))
+      (ap (λ o. process_in o (keeping (with_keeping p.images s Nothing) s) (text_of p.images s)) (get_or-set_same p.rows.slots s None None (omega (arith, low, slots))))
       (λ r below other.
-      ap (λ o. process_in o (keeping (with_keeping p.images s Nothing) r)) (get_or-set_other p.rows.slots s r None None other)
-      ∙ ap (process_in (member_at p.rows.slots r)) (get_or-set_other p.images.slots s r Nothing Nothing other))
+      ap (λ o. process_in o (keeping (with_keeping p.images s Nothing) r) (text_of p.images r)) (get_or-set_other p.rows.slots s r None None other)
+      ∙ ap (λ x. process_in (member_at p.rows.slots r) x (text_of p.images r)) (get_or-set_other p.images.slots s r Nothing Nothing other))
 
   pub state_cleared : (fs : FileSystem) → handed (cleared p s) fs ≡ without_process (handed p fs) s
   state_cleared fs = ap (λ (ps : List (Option Process)). record (handed p fs) { processes = ps }) processes_cleared
@@ -149,7 +149,6 @@ module _ (p : Procs) (s : ℕ) (low : s < 50) (slots : length p.rows.slots ≡ 5
         image = refl;
         place = refl;
         size = λ held is. absurd (cc is);
-        text = refl;
         quiet = λ f. refl;
       } in
       agree_but p.rows (without p.rows s) p.table (with_row p.table s empty_row) p.images (with_keeping p.images s Nothing) s a above
@@ -160,6 +159,9 @@ module _ (p : Procs) (s : ℕ) (low : s < 50) (slots : length p.rows.slots ≡ 5
       (subst (λ (row : TableRow). Agrees None row (keeping (with_keeping p.images s Nothing) s))
       (sym (get_or-set_same p.table.rows s empty_row empty_row (omega (arith, low, a.rows))))
       (subst (λ x. Agrees None empty_row x) (sym (get_or-set_same p.images.slots s Nothing Nothing (omega (arith, low, images)))) free)))
+      (ap (λ (r : TableRow). r.text) (get_or-set_same p.table.rows s empty_row empty_row (omega (arith, low, a.rows)))
+      ∙ sym (no_text_of p.images s a.no_text))
+      (same_texts p.images s Nothing)
       (λ r other. get_or-set_other p.rows.slots s r None None other)
       (λ r other. get_or-set_other p.table.rows s r empty_row empty_row other)
       (λ r other. get_or-set_other p.images.slots s r Nothing Nothing other)

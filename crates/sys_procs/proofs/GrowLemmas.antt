@@ -14,7 +14,7 @@ use Rattle.v6_base.specs.declared.entry.PanicKind.TheVariants as panic
 use Rattle.pick_rules.specs.Effects.{Unbuilt, Size}
 use Rattle.pick_rules.specs.Effects as effects
 use Rattle.pick_rules.specs.Logged.{logged, log_one}
-use Rattle.image_keep.specs.Kept.{Held, Keeping, Alive, Kept, area_in, image_in, area_of, image_of, place_in, place_of, clicks_of}
+use Rattle.image_keep.specs.Kept.{Held, Keeping, Alive, Kept, text_of, area_in, image_in, area_of, image_of, place_in, place_of, clicks_of}
 use Rattle.image_keep.specs.Growth.{area_resized, image_resized, expanded}
 use Rattle.image_keep.specs.Places.{core_fit, swap_fit, placed, blocks}
 use Rattle.fs_nodes.specs.FileSystem.{FileSystem}
@@ -24,6 +24,8 @@ use Rattle.sys_procs.specs.Process.{Process, process_by}
 use Rattle.sys_procs.specs.World.{World, processes_in, change}
 use Rattle.sys_procs.specs.Handed.{IsAlive, handed, board, came, process_here}
 use Rattle.sys_procs.proofs.Alive.{IsHere, is_here}
+use Rattle.image_keep.proofs.PlaceFrames.{bare_placed}
+use Rattle.sys_procs.proofs.Agreement.{no_text_of}
 use Rattle.sys_procs.proofs.Places.{same_core}
 use Rattle.sys_procs.proofs.PlacingRows.{seated, row_low, no_text, size_is, place_is, processes_seated, seated_alive, board_grown, board_kept}
 
@@ -101,8 +103,10 @@ module _ (p : Procs) (s : ℕ) (alive : IsAlive p s) (long : length p.images.slo
   expanded_is : (n : ℕ) → expanded p.images s n
       ≡ place_by (nat_le n (clicks_of (area_of p.images s))) (place_of p.images s) (core_fit p.images n)
       (option_map Swap (swap_fit p.images (blocks n)))
-  unfolding expanded placed place_by
-  expanded_is n = refl
+  unfolding expanded place_by
+  expanded_is n =
+      ap (λ o. cond (nat_le n (clicks_of (area_of p.images s))) (place_of p.images s) o)
+      (bare_placed p.images s n (no_text_of p.images s alive.agree.no_text))
 
   stands : is_some (place_of p.images s) ≡ true
   stands = let here : IsHere p s = is_here p s alive in ap (λ x. is_some (place_in x)) here.image_is
@@ -147,7 +151,7 @@ module _ (p : Procs) (s : ℕ) (alive : IsAlive p s) (long : length p.images.slo
     log_kept keeps =
         let old : (row_at p.table s).place ≡ Some place =
         place_is p s alive
-        ∙ (sym (ap (λ b. cond b (place_of p.images s) (placed p.images n))
+        ∙ (sym (ap (λ b. cond b (place_of p.images s) (placed p.images s n))
         (sym (ap (nat_le n) (size_is p s alive)) ∙ keeps)) ∙ found) in
         logged_kept (board p) s n (handed p fs) keeps
         ∙ ap (λ (b : Board). record { items = Log (line.SizeKeep s n) ∷ []; board = b; stop = None })
@@ -202,12 +206,12 @@ module _ (p : Procs) (s : ℕ) (alive : IsAlive p s) (long : length p.images.slo
       ≡ change (handed p fs) s (sized d stack)
   grown_state d stack place fs =
       let here : IsHere p s = is_here p s alive in
-      let is : process_by here.member (Alive (grown p.images s d stack place)) ≡ sized d stack (process_here p s) =
+      let is : process_by here.member (Alive (grown p.images s d stack place)) (text_of p.images s) ≡ sized d stack (process_here p s) =
       ap (λ (x : Keeping). process_by here.member (Alive (record {
         u = area_resized (area_in x) d stack;
         image = image_resized (image_in x) d stack;
         place = place;
-      }))) here.image_is
+      })) (text_of p.images s)) here.image_is
       ∙ ap (sized d stack) (sym here.process_is) in
       ap (λ (ps : List (Option Process)). record (handed p fs) { processes = ps })
       (processes_seated p s alive long (16 + d + stack) (grown p.images s d stack place) here.member here.member_is

@@ -16,7 +16,7 @@ use Rattle.image_keep.specs.Places.{cleared}
 use Rattle.sys_procs.specs.declared.program.Program.{Program}
 use Rattle.sys_procs.specs.Tests.{node_in}
 use Rattle.sys_procs.specs.ExecFile.{data_clicks}
-use Rattle.sys_procs.specs.Begun.{data_of}
+use Rattle.sys_procs.specs.inside.Begun.{data_of}
 
 -- an image without a text, with so many bytes of data, and this stack
 pub record HasData (n : ℕ) (stack : List ℕ) (m : Image) : Type 0 where

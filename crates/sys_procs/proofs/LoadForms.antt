@@ -1,5 +1,5 @@
 -- What exec(II) comes to for a program without a text of its own, and for one that finds no place.
-use Rattle.std.proofs.Common.{◌≡◌, ◌∙◌, ℕ, ◌+◌, ◌*◌, ◌==◌, ◌&&◌, ◌<◌, Bool, true, false, not, cond, List, [], ◌∷◌, length, set, Option, Some, None, is_some, Result, Ok, Err, refl, ap, arith}
+use Rattle.std.proofs.Common.{◌≡◌, ◌∙◌, ℕ, ◌+◌, ◌*◌, ◌==◌, ◌&&◌, ◌<◌, Bool, true, false, not, cond, List, [], ◌∷◌, length, map, set, Option, Some, None, is_some, Result, Ok, Err, refl, ap, arith}
 use Rattle.std.specs.Option.{unwrap_or}
 use Rattle.std.specs.Prelude.{bit_and}
 use Rattle.std.proofs.lemmas.Bool.{eqb-true}
@@ -25,15 +25,19 @@ use Rattle.fs_nodes.specs.FileSystem.{FileSystem}
 use Rattle.sys_procs.specs.declared.procs.Procs.{Procs}
 use Rattle.sys_procs.specs.declared.program.Program.{Program}
 use Rattle.sys_procs.specs.Process.{Process, no_process, register}
-use Rattle.sys_procs.specs.World.{World, process_of, with_process}
-use Rattle.sys_procs.specs.Texts.{no_texts, text_bytes, entry_of}
+use Rattle.sys_procs.specs.World.{World, process_of, with_process, text_in, texts_in, let_go}
+use Rattle.image_keep.specs.Kept.{Kept, no_texts}
+use Rattle.sys_procs.specs.TextTable.{text_bytes, entry_of}
+use Rattle.sys_procs.specs.Texts.{xfree, xalloc, xalloc_by, makes_text}
+use Rattle.sys_procs.specs.Tests.{node_at}
+use Rattle.sys_procs.specs.Agree.{HasNoText}
 use Rattle.sys_procs.specs.Comes.{Comes, does, logs, fails}
 use Rattle.sys_procs.specs.Stack.{first_stack}
-use Rattle.sys_procs.specs.ExecFile.{text_clicks, image_clicks, xfree, xalloc, xalloc_by, makes_text, let_go, with_moved, node_at, data_read, cleared_image, begins, reads_text, executes, loads, begun_area, Tested, tests, done_by, exec_file, bare_board}
-use Rattle.sys_procs.specs.Begun.{unplaced, data_of, store_after, filled_image, row_in, area_in}
+use Rattle.sys_procs.specs.ExecFile.{text_clicks, image_clicks, with_moved, data_read, cleared_image, begins, reads_text, executes, loads, begun_area, Tested, tests, done_by, exec_file, bare_board}
+use Rattle.sys_procs.specs.inside.Begun.{unplaced, data_of, store_after, filled_image, row_in, area_in}
 use Rattle.sys_procs.specs.Handed.{IsAlive, board, came, handed}
 use Rattle.sys_procs.proofs.PlacingLemmas.{left_bare, logged_text, log_unplaced}
-use Rattle.sys_procs.proofs.LoadLemmas.{no_text_here}
+use Rattle.sys_procs.proofs.Alive.{no_text_here}
 
 -- a text of no clicks has no bytes
 pub no_bytes : (plan : Plan) → text_clicks plan ≡ 0 → 16 + plan.text ≡ 16
@@ -168,9 +172,9 @@ has_room_then b s program none =
     room_by (text_clicks program.plan == 0) (core_fit (bare_board b s) (image_clicks program.plan)) none
 
 -- no text is in an entry
-no_entry : (ino : ℕ) → entry_of no_texts ino ≡ None
+pub no_entry : (k : Kept) (ino : ℕ) → HasNoText k → entry_of (texts_in k) ino ≡ None
 unfolding no_texts
-no_entry ino = refl
+no_entry k ino none = ap (λ texts. entry_of (map text_in texts) ino) none.texts
 
 -- Where a demand finds no place, this is what the log says.
 module _ (p : Procs) (s : ℕ) (alive : IsAlive p s) (long : length p.images.slots ≡ 50) (program : Program) (fs : FileSystem) where
@@ -183,7 +187,7 @@ module _ (p : Procs) (s : ℕ) (alive : IsAlive p s) (long : length p.images.slo
   stops_by kind false core text room is =
       let same : panic.Text ≡ kind = cc is in
       let later : Comes = next w s program (no_text_here p s alive) (makes_text w s program.ino (text_clicks program.plan)) true in
-      ap (λ (c : Comes). came p c) (loads_shares w s program (no_text_here p s alive) text (no_entry program.ino))
+      ap (λ (c : Comes). came p c) (loads_shares w s program (no_text_here p s alive) text (no_entry p.images program.ino alive.agree.no_text))
       ∙ (logged_text (board p) s (text_clicks program.plan) w later.effects ∙ ap (λ k. left_bare (board p) s k w) same)
   stops_by kind true (Some c) text room is = absurd (cc is)
   stops_by kind true None text room is =

@@ -8,17 +8,17 @@ use Rattle.v6_base.specs.declared.entry.Place.{Place}
 use Rattle.u_area.specs.declared.area.UArea.{UArea}
 use Rattle.proc_tab.specs.declared.row.Row.{Row}
 use Rattle.proc_tab.specs.Processes.{member_at}
-use Rattle.image_keep.specs.Kept.{Held, Nothing, Alive, Kept, keeping, with_keeping, image_in, image_of}
+use Rattle.image_keep.specs.Kept.{Held, Nothing, Alive, Kept, keeping, with_keeping, text_of, image_in, image_of}
 use Rattle.image_keep.specs.Area.{sized_area}
 use Rattle.image_keep.specs.Places.{cleared}
 use Rattle.fs_codec.specs.Store.{Node, Store, node_numbered}
 use Rattle.fs_nodes.specs.FileSystem.{FileSystem}
 use Rattle.sys_procs.specs.declared.procs.Procs.{Procs}
 use Rattle.sys_procs.specs.Process.{Process, no_process, process_by, process_in}
-use Rattle.sys_procs.specs.World.{World, clock_of, processes_in, process_of, with_process}
+use Rattle.sys_procs.specs.World.{World, clock_of, processes_in, texts_in, process_of, with_process}
 use Rattle.sys_procs.specs.Tests.{no_node, node_in}
 use Rattle.sys_procs.specs.ExecFile.{kept_handler}
-use Rattle.sys_procs.specs.Begun.{sized, filled}
+use Rattle.sys_procs.specs.inside.Begun.{sized, filled}
 use Rattle.sys_procs.specs.Handed.{handed, process_here, IsAlive}
 use Rattle.sys_procs.proofs.Slots.{one_changed, fifty_processes}
 use Rattle.sys_procs.proofs.Alive.{IsHere, is_here}
@@ -59,17 +59,17 @@ module _ (p : Procs) (s d : ℕ) (place : Place) (alive : IsAlive p s) (long : l
   kept_now : keeping now_kept s ≡ Alive (new_held d place)
   kept_now = get_or-set_same p.images.slots s (Alive (new_held d place)) Nothing (omega (arith, alive.below, long))
 
-  is_sized : process_by here.member (Alive (new_held d place)) ≡ sized (process_here p s) d
+  is_sized : process_by here.member (Alive (new_held d place)) (text_of p.images s) ≡ sized (process_here p s) d
   is_sized = ap (λ (q : Process). sized q d) (sym here.process_is)
 
   processes_placed : processes_in p.rows.slots now_kept
       ≡ set (processes_in p.rows.slots p.images) s (Some (sized (process_here p s) d))
   processes_placed =
       one_changed p.rows.slots p.rows.slots p.images now_kept s (Some (sized (process_here p s) d)) alive.below
-      (ap (λ o. process_in o (keeping now_kept s)) here.member_is
-      ∙ (ap (process_in (Some here.member)) kept_now ∙ ap (λ (q : Process). Some q) is_sized))
+      (ap (λ o. process_in o (keeping now_kept s) (text_of p.images s)) here.member_is
+      ∙ (ap (λ x. process_in (Some here.member) x (text_of p.images s)) kept_now ∙ ap (λ (q : Process). Some q) is_sized))
       (λ r below other.
-      ap (process_in (member_at p.rows.slots r))
+      ap (λ x. process_in (member_at p.rows.slots r) x (text_of p.images r))
       (get_or-set_other p.images.slots s r (Alive (new_held d place)) Nothing other))
 
   -- the world when the image stands
@@ -82,6 +82,7 @@ module _ (p : Procs) (s d : ℕ) (place : Place) (alive : IsAlive p s) (long : l
         last_pid = (rows i).last_pid;
         clock = clock i;
         switches = switches i;
+        texts = texts_in (images i);
         limit = min (images i).core 2048;
       })
       ∙ ap (λ (ps : List (Option Process)). record (handed p fs) { processes = ps }) processes_placed
@@ -135,7 +136,3 @@ module _ (p placed full : Procs) (fs : FileSystem) (s d : ℕ) (image : Image) (
       three fs
       ∙ (λ i. with_process (full_state fs i) s (record (full_here i) { row = row; u = u }))
       ∙ put_twice (handed p fs) s whole (record whole { row = row; u = u })
-
--- no process has a text
-pub no_text_here : (p : Procs) (s : ℕ) → IsAlive p s → (process_here p s).text ≡ None
-no_text_here p s alive = ap (λ (q : Process). q.text) (is_here p s alive).process_is

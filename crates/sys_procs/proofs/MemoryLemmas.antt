@@ -1,30 +1,44 @@
 -- The memory of a process: what a loan of it leaves.
-use Rattle.std.proofs.Common.{◌≡◌, ◌∙◌, ℕ, List, [], length, set, Option, Some, refl, sym, ap, subst, arith}
+use Rattle.std.specs.Option.{unwrap_or}
+use Rattle.std.proofs.Common.{◌≡◌, ◌∙◌, ℕ, zero, suc, List, [], ◌∷◌, length, get_or, map, set, Option, Some, None, refl, sym, ap, subst, arith}
 use Rattle.v6_base.specs.Image.{Image}
 use Rattle.pick_rules.specs.declared.row.TableRow.{TableRow}
 use Rattle.pick_rules.specs.Table.{row_at}
 use Rattle.proc_tab.specs.declared.member.Member.{Member}
 use Rattle.proc_tab.specs.Processes.{member_at}
-use Rattle.image_keep.specs.Kept.{Held, Alive, Kept, keeping, image_in, imaged, with_image}
+use Rattle.image_keep.specs.Kept.{Held, Alive, Shared, Kept, IsKept, keeping, text_of, image_in, imaged, with_image}
 use Rattle.image_keep.specs.Kept as kept
 use Rattle.image_keep.specs.Lent.{left_of}
-use Rattle.image_keep.proofs.Frames.{after, image_back, keeping_same, with_image_other, with_image_core}
+use Rattle.image_keep.proofs.Frames.{after, image_back, keeping_same, with_image_other, with_image_texts}
 use Rattle.fs_nodes.specs.FileSystem.{FileSystem}
 use Rattle.sys_procs.specs.declared.procs.Procs.{Procs}
 use Rattle.sys_procs.specs.Process.{Process, image_of}
-use Rattle.sys_procs.specs.World.{processes_in, with_process}
+use Rattle.sys_procs.specs.TextTable.{no_text, text_bytes}
+use Rattle.sys_procs.specs.World.{processes_in, text_in, texts_in, with_process}
 use Rattle.sys_procs.specs.Agree.{Agrees, board_of}
-use Rattle.sys_procs.specs.Handed.{board, handed, process_here, IsAlive}
+use Rattle.sys_procs.specs.Handed.{board, handed, process_here, memory_here, IsAlive}
 use Rattle.sys_procs.proofs.Slots.{image_changed}
 use Rattle.sys_procs.proofs.Agreement.{agree_but}
 use Rattle.sys_procs.proofs.Alive.{is_here}
 
--- the image of a process, which has no text
-pub image_here : (p : Procs) (s : ℕ) → IsAlive p s → (kept.image_of p.images s).text ≡ [] → image_of (process_here p s) ≡ kept.image_of p.images s
-image_here p s alive none =
+-- the bytes of a slot's text
+bytes_at : (texts : List (Option Shared)) (t : ℕ) → (unwrap_or (get_or (map text_in texts) t None) no_text).bytes ≡ kept.bytes_in (get_or texts t None)
+bytes_at [] t = refl
+bytes_at (None ∷ texts) zero = refl
+bytes_at (Some x ∷ texts) zero = refl
+bytes_at (x ∷ texts) (suc t) = bytes_at texts t
+
+bytes_same : (k : Kept) (t : Option ℕ) → text_bytes (texts_in k) t ≡ kept.text_bytes k t
+bytes_same k None = refl
+bytes_same k (Some t) = bytes_at k.texts t
+
+-- the image of a process has the bytes of its text
+pub image_here : (p : Procs) (s : ℕ) → IsAlive p s → IsKept p.images → memory_here p s ≡ kept.image_of p.images s
+image_here p s alive holds =
     let here = is_here p s alive in
-    ap image_of here.process_is
-    ∙ (ap (λ (text : List ℕ). record here.held.image { text = text }) (sym (sym (ap (λ x. (image_in x).text) here.image_is) ∙ none))
+    ap (image_of (texts_in p.images)) here.process_is
+    ∙ (ap (λ (text : List ℕ). record here.held.image { text = text })
+    (bytes_same p.images (text_of p.images s) ∙ (sym (holds.text s alive.image) ∙ ap (λ x. (image_in x).text) here.image_is))
     ∙ sym (ap image_in here.image_is))
 
 -- The slot has this image after the loan.
@@ -44,7 +58,6 @@ module _ (p : Procs) (s : ℕ) (alive : IsAlive p s) (long : length p.images.slo
     image = a.image;
     place = a.place;
     size = λ other is. a.size held refl ∙ ap (λ x. kept.clicks_of (kept.area_in x)) is;
-    text = a.text;
     quiet = a.quiet;
   }
 
@@ -60,6 +73,7 @@ module _ (p : Procs) (s : ℕ) (alive : IsAlive p s) (long : length p.images.slo
       record {
         agree = agree_but p.rows p.rows p.table p.table p.images (with_image p.images s m) s alive.agree alive.above alive.agree.table refl
             (subst (λ x. Agrees (member_at p.rows.slots s) (row_at p.table s) x) (sym now) (image_agrees (member_at p.rows.slots s) (row_at p.table s) here.held old))
+            (alive.agree.text s alive.above alive.below) (with_image_texts p.images s m)
             (λ r other. refl) (λ r other. refl) (λ r other. with_image_other p.images s r m other);
         above = alive.above;
         below = alive.below;
@@ -73,9 +87,8 @@ module _ (p : Procs) (s : ℕ) (alive : IsAlive p s) (long : length p.images.slo
   loan_state fs = ap (λ (k : Kept). handed (record p { images = k }) fs) (after p.images w s left) ∙ state_with p s alive long (kept.image_of w s) fs
 
   pub loan_board : board_of p.table w ≡ board p
-  loan_board =
-      ap (λ (k : Kept). board_of p.table k) (after p.images w s left)
-      ∙ ap (λ (core : ℕ). record (board p) { core = core }) (with_image_core p.images s (kept.image_of w s))
+  unfolding with_image
+  loan_board = ap (λ (k : Kept). board_of p.table k) (after p.images w s left)
 
   pub loan_alive : IsAlive (record p { images = w }) s
   loan_alive = subst (λ (k : Kept). IsAlive (record p { images = k }) s) (sym (after p.images w s left)) (alive_with p s alive long (kept.image_of w s))

@@ -1,7 +1,6 @@
 -- Where a new image can stand, by the board and by the images that are kept: the same, where they agree.
-use Rattle.std.proofs.Common.{◌≡◌, ◌∙◌, ℕ, zero, suc, ◌<◌, true, false, cond, List, [], ◌∷◌, ◌++◌, length, get_or, flat_map, Option, Some, None, refl, sym, ap, arith}
+use Rattle.std.proofs.Common.{◌≡◌, ◌∙◌, ℕ, zero, suc, ◌<◌, true, false, cond, List, [], ◌∷◌, ◌++◌, length, get_or, map, flat_map, Option, Some, None, refl, sym, ap, arith}
 use Rattle.std.specs.Option.{option_map, option_or}
-use Rattle.std.proofs.lemmas.List.{append-nil}
 use Rattle.v6_base.specs.declared.entry.Place.{Place}
 use Rattle.v6_base.specs.declared.entry.Place.TheVariants.{Core, Swap}
 use Rattle.map_fit.specs.Fit.{first_fit}
@@ -16,9 +15,10 @@ use Rattle.pick_rules.specs.Effects.{in_core}
 use Rattle.pick_rules.proofs.Stopping.{placed_in_core}
 use Rattle.proc_tab.specs.declared.member.Member.{Member}
 use Rattle.proc_tab.specs.Processes.{Processes, member_at}
-use Rattle.image_keep.specs.Kept.{Keeping, Nothing, Alive, Grave, Kept, keeping, clicks_of}
-use Rattle.image_keep.specs.Places.{core_of_place, swap_of_place, core_of, swap_of, core_fit, swap_fit, placed, blocks}
-use Rattle.sys_procs.specs.Agree.{Lives, Died, kind_of_stat, Agrees, Agree, board_of}
+use Rattle.image_keep.specs.Kept.{Keeping, Nothing, Alive, Grave, Shared, Kept, keeping, text_of, clicks_of}
+use Rattle.image_keep.specs.Places.{core_of_place, swap_of_place, core_of, swap_of, core_of_text, swap_of_text, is_text_loaded, may_load, core_fit, swap_fit, placed, blocks}
+use Rattle.sys_procs.specs.Agree.{Lives, Died, kind_of_stat, Agrees, Agree, text_place, board_of}
+use Rattle.sys_procs.proofs.Agreement.{no_text_of}
 
 -- what two lists give, element by element
 pub same_ranges : {A B C : Type 0} (f : A → List C) (g : B → List C) (a : A) (b : B) (xs : List A) (ys : List B) → length xs ≡ length ys
@@ -72,6 +72,27 @@ swap_same m row (Grave u block) a =
     ap (λ p. swap_range p (cond (is_zombie row.stat) 1 (blocks row.size))) a.place
     ∙ ap (λ b. swap_range (Some (Swap block)) (cond b 1 (blocks row.size))) (a_zombie row.stat died)
 
+-- Of the texts.
+pub core_texts : (texts : List (Option Shared)) → flat_map board.core_of_text (map text_place texts) ≡ flat_map core_of_text texts
+core_texts [] = refl
+core_texts (None ∷ texts) = core_texts texts
+core_texts (Some x ∷ texts) = ap (λ l. core_of_text (Some x) ++ l) (core_texts texts)
+
+swap_texts : (texts : List (Option Shared)) → flat_map board.swap_of_text (map text_place texts) ≡ flat_map swap_of_text texts
+swap_texts [] = refl
+swap_texts (None ∷ texts) = swap_texts texts
+swap_texts (Some x ∷ texts) = ap (λ l. swap_of_text (Some x) ++ l) (swap_texts texts)
+
+loaded_at : (texts : List (Option Shared)) (t : ℕ) → board.is_text_loaded (get_or (map text_place texts) t None) ≡ is_text_loaded (get_or texts t None)
+loaded_at [] t = refl
+loaded_at (None ∷ texts) zero = refl
+loaded_at (Some x ∷ texts) zero = refl
+loaded_at (x ∷ texts) (suc t) = loaded_at texts t
+
+may_same : (t : Table) (k : Kept) (text : Option ℕ) → board.may_load (board_of t k) text ≡ may_load k text
+may_same t k None = refl
+may_same t k (Some x) = loaded_at k.texts x
+
 -- Of all slots.
 module _ (v : Processes) (t : Table) (k : Kept) (a : Agree v t k) (long : length k.slots ≡ 50) where
   pub core_at : (i : ℕ) → i < length t.rows → core_of_row (row_at t i) ≡ core_of (keeping k i)
@@ -90,24 +111,21 @@ module _ (v : Processes) (t : Table) (k : Kept) (a : Agree v t k) (long : length
 
   pub same_core_fit : (clicks : ℕ) → board.core_fit (board_of t k) clicks ≡ core_fit k clicks
   unfolding core_fit
-  same_core_fit clicks = ap (λ taken. first_fit taken 1 k.core clicks) (append-nil (flat_map core_of_row t.rows) ∙ core_ranges)
+  same_core_fit clicks = ap (λ taken. first_fit taken 1 k.core clicks) (λ i. core_ranges i ++ core_texts k.texts i)
 
   pub same_swap_fit : (count : ℕ) → board.swap_fit (board_of t k) count ≡ swap_fit k count
   unfolding swap_fit
-  same_swap_fit count = ap (λ taken. first_fit taken 4000 4871 count) (append-nil (flat_map swap_of_row t.rows) ∙ swap_ranges)
+  same_swap_fit count = ap (λ taken. first_fit taken 4000 4871 count) (λ i. swap_ranges i ++ swap_texts k.texts i)
 
-  -- no process has a text
-  pub same_placed : (s clicks : ℕ) → 0 < s → s < 50 → board.placed (board_of t k) s clicks ≡ placed k clicks
+  pub same_placed : (s clicks : ℕ) → 0 < s → s < 50 → board.placed (board_of t k) s clicks ≡ placed k s clicks
   unfolding board.placed placed
   same_placed s clicks l h =
-      let none : (row_at t s).text ≡ None = (a.each s l h).text in
-      ap (λ x. option_or (cond (board.may_load (board_of t k) x) (option_map Core (board.core_fit (board_of t k) clicks)) None)
-      (option_map Swap (board.swap_fit (board_of t k) (blocks clicks)))) none
-      ∙ (ap (λ o. option_or (option_map Core o) (option_map Swap (board.swap_fit (board_of t k) (blocks clicks)))) (same_core_fit clicks)
-      ∙ ap (λ o. option_or (option_map Core (core_fit k clicks)) (option_map Swap o)) (same_swap_fit (blocks clicks)))
+      let may : board.may_load (board_of t k) (row_at t s).text ≡ may_load k (text_of k s) =
+      ap (board.may_load (board_of t k)) (a.text s l h) ∙ may_same t k (text_of k s) in
+      λ i. option_or (cond (may i) (option_map Core (same_core_fit clicks i)) None) (option_map Swap (same_swap_fit (blocks clicks) i))
 
   -- an image of a slot above 0 finds a place exactly where core has room
   pub same_core : (s clicks : ℕ) → 0 < s → s < 50
       → in_core (board.placed (board_of t k) s clicks) ≡ option_map Core (core_fit k clicks)
   same_core s clicks l h =
-      placed_in_core (board_of t k) s clicks (a.each s l h).text ∙ ap (option_map Core) (same_core_fit clicks)
+      placed_in_core (board_of t k) s clicks (a.text s l h ∙ no_text_of k s a.no_text) ∙ ap (option_map Core) (same_core_fit clicks)

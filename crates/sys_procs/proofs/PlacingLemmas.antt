@@ -1,9 +1,9 @@
 -- A process's image is given back, and a new one is placed: where that stands, and what the log says.
-use Rattle.std.proofs.Common.{◌≡◌, ◌∙◌, ℕ, ◌+◌, ◌<◌, ◌≤◌, ◌||◌, nat_lt, min, Bool, true, false, List, [], ◌∷◌, length, flat_map, Option, Some, None, is_some, refl, sym, ap, inl, inr, arith}
+use Rattle.std.proofs.Common.{◌≡◌, ◌∙◌, ℕ, ◌+◌, ◌<◌, ◌≤◌, ◌||◌, nat_lt, min, Bool, true, false, List, [], ◌∷◌, ◌++◌, length, Option, Some, None, is_some, refl, sym, ap, inl, inr, arith}
 use Rattle.std.specs.Option.{option_map, option_or, unwrap_or}
 use Rattle.std.proofs.Math.Nat.{min-le_right}
 use Rattle.std.proofs.lemmas.Bool.{cases_eq, ltb-false}
-use Rattle.std.proofs.lemmas.List.{append-nil, get_or-set_same, get_or-set_other, length-set}
+use Rattle.std.proofs.lemmas.List.{get_or-set_same, get_or-set_other, length-set}
 use Rattle.v6_base.specs.Trace.{Log}
 use Rattle.v6_base.specs.declared.entry.Place.TheVariants.{Core, Swap}
 use Rattle.v6_base.specs.declared.entry.Entry.TheVariants as line
@@ -21,7 +21,8 @@ use Rattle.pick_rules.specs.Effects as effects
 use Rattle.pick_rules.specs.Effects.{Show}
 use Rattle.pick_rules.specs.Logged.{Logged, logged, log_one}
 use Rattle.pick_rules.proofs.Stopping.{stays_stopped, placed_in_core}
-use Rattle.image_keep.specs.Kept.{Nothing, Held, Kept, keeping, with_keeping}
+use Rattle.image_keep.specs.Kept.{Nothing, Held, Kept, keeping, with_keeping, text_of}
+use Rattle.image_keep.proofs.PlaceFrames.{bare_placed}
 use Rattle.image_keep.specs.Places.{core_of, core_fit, swap_fit, placed, blocks}
 use Rattle.image_keep.proofs.Frames.{keeping_same, keeping_other}
 use Rattle.seg_regs.specs.Sizes.{is_refused}
@@ -30,14 +31,13 @@ use Rattle.sys_procs.specs.declared.procs.Procs.{Procs}
 use Rattle.sys_procs.specs.World.{World}
 use Rattle.sys_procs.specs.ExecFile.{bare_board}
 use Rattle.sys_procs.specs.Handed.{IsAlive, board}
-use Rattle.sys_procs.proofs.Places.{same_ranges, core_at}
+use Rattle.sys_procs.proofs.Places.{same_ranges, core_at, core_texts}
 use Rattle.sys_procs.proofs.PlacingRows.{bared_row, seat, seated, row_low, no_text, board_bared, board_placed}
 
 -- The place of an image that core has room for.
-pub place_in_core : (k : Kept) (n : ℕ) → is_some (core_fit k n) ≡ true
-    → placed k n ≡ Some (Core (unwrap_or (core_fit k n) 0))
-unfolding placed
-place_in_core k n room = by (core_fit k n) room
+pub place_in_core : (k : Kept) (s n : ℕ) → text_of k s ≡ None → is_some (core_fit k n) ≡ true
+    → placed k s n ≡ Some (Core (unwrap_or (core_fit k n) 0))
+place_in_core k s n none room = bare_placed k s n none ∙ by (core_fit k n) room
   where
     by : (fit : Option ℕ) → is_some fit ≡ true
         → option_or (option_map Core fit) (option_map Swap (swap_fit k (blocks n))) ≡ Some (Core (unwrap_or fit 0))
@@ -114,8 +114,7 @@ module _ (p : Procs) (s : ℕ) (alive : IsAlive p s) (long : length p.images.slo
       length-set p.table.rows s (bared_row (row_at p.table s))
       ∙ (alive.agree.rows ∙ sym (length-set p.images.slots s Nothing ∙ long)) in
       ap (λ taken. first_fit taken 1 p.images.core n)
-      (append-nil (flat_map core_of_row t.rows)
-      ∙ same_ranges core_of_row core_of empty_row Nothing t.rows bared.slots longs ranges)
+      (λ i. same_ranges core_of_row core_of empty_row Nothing t.rows bared.slots longs ranges i ++ core_texts p.images.texts i)
 
   -- the room that the log's board has is that of the images
   pub room_is : (n : ℕ) → board_of_log.core_fit (bare_board (board p) s) n ≡ core_fit bared n
@@ -174,6 +173,15 @@ few_clicks t d stack core e =
     ltb-false most (t + d + stack + 16)
     (second (nat_lt 8 (nseg t + nseg d + nseg stack)) (nat_lt most (t + d + stack + 16)) e) in
     omega (arith, low, min-le_right core 2048)
+
+neither : (a b : Bool) → (a || b) ≡ false → a ≡ false
+neither false b e = refl
+neither true b e = absurd (cc e)
+
+pub few_segments : (t d stack most : ℕ) → is_refused t d stack most ≡ false → nseg t + nseg d + nseg stack ≤ 8
+few_segments t d stack most e =
+    ltb-false 8 (nseg t + nseg d + nseg stack)
+    (neither (nat_lt 8 (nseg t + nseg d + nseg stack)) (nat_lt most (t + d + stack + 16)) e)
 
 -- what holds for each file system holds for this one
 pub no_files : FileSystem

@@ -11,15 +11,15 @@ use Rattle.pick_rules.specs.Board.{Board}
 use Rattle.pick_rules.specs.Apply.{applied, in_table, change_row, at_place, without_place, leaves_core, enters_core}
 use Rattle.proc_tab.specs.declared.member.Member.{Member}
 use Rattle.proc_tab.specs.Processes.{member_at}
-use Rattle.image_keep.specs.Kept.{Held, Alive, Kept, keeping, with_keeping, clicks_of, area_in, place_of, area_of}
+use Rattle.image_keep.specs.Kept.{Held, Alive, Kept, keeping, with_keeping, text_of, clicks_of, area_in, place_of, area_of}
 use Rattle.image_keep.proofs.Frames.{keeping_same, keeping_other}
 use Rattle.sys_procs.specs.declared.procs.Procs.{Procs}
 use Rattle.sys_procs.specs.Process.{process_by, process_in}
 use Rattle.sys_procs.specs.World.{processes_in}
 use Rattle.sys_procs.specs.Agree.{Agrees}
 use Rattle.sys_procs.specs.Handed.{IsAlive}
-use Rattle.sys_procs.proofs.Agreement.{agree_but}
-use Rattle.sys_procs.proofs.Alive.{IsHere, is_here}
+use Rattle.sys_procs.proofs.Agreement.{agree_but, same_texts}
+use Rattle.sys_procs.proofs.Alive.{IsHere, is_here, no_text_row}
 use Rattle.sys_procs.proofs.Slots.{one_changed}
 
 -- A row without a place, and one with a size and a place.
@@ -101,7 +101,7 @@ module _ (p : Procs) (s : ℕ) (alive : IsAlive p s) where
   row_low = omega (arith, alive.below, alive.agree.rows)
 
   pub no_text : (row_at p.table s).text ≡ None
-  no_text = (alive.agree.each s alive.above alive.below).text
+  no_text = no_text_row p s alive
 
   pub size_is : (row_at p.table s).size ≡ clicks_of (area_of p.images s)
   size_is =
@@ -121,12 +121,12 @@ module _ (p : Procs) (s : ℕ) (alive : IsAlive p s) where
 
     pub processes_seated : (m : Member) → member_at p.rows.slots s ≡ Some m
         → processes_in p.rows.slots (with_keeping p.images s (Alive held))
-        ≡ set (processes_in p.rows.slots p.images) s (Some (process_by m (Alive held)))
+        ≡ set (processes_in p.rows.slots p.images) s (Some (process_by m (Alive held) (text_of p.images s)))
     processes_seated m is =
         let k : Kept = with_keeping p.images s (Alive held) in
-        one_changed p.rows.slots p.rows.slots p.images k s (Some (process_by m (Alive held))) alive.below
-        (ap (λ x. process_in (member_at p.rows.slots s) x) now ∙ ap (λ o. process_in o (Alive held)) is)
-        (λ r below other. ap (process_in (member_at p.rows.slots r)) (keeping_other p.images s r (Alive held) other))
+        one_changed p.rows.slots p.rows.slots p.images k s (Some (process_by m (Alive held) (text_of p.images s))) alive.below
+        (ap (λ x. process_in (member_at p.rows.slots s) x (text_of p.images s)) now ∙ ap (λ o. process_in o (Alive held) (text_of p.images s)) is)
+        (λ r below other. ap (λ x. process_in (member_at p.rows.slots r) x (text_of p.images r)) (keeping_other p.images s r (Alive held) other))
 
     pub seated_alive : clicks_of held.u ≡ n → IsAlive (seated p s n held) s
     seated_alive size =
@@ -140,7 +140,6 @@ module _ (p : Procs) (s : ℕ) (alive : IsAlive p s) where
           image = old.image;
           place = refl;
           size = λ other is. sym size ∙ ap (λ x. clicks_of (area_in x)) is;
-          text = old.text;
           quiet = old.quiet;
         } in
         record {
@@ -156,6 +155,9 @@ module _ (p : Procs) (s : ℕ) (alive : IsAlive p s) where
               Agrees (member_at p.rows.slots s) r (keeping (with_keeping p.images s (Alive held)) s))
               (sym (get_or-set_same p.table.rows s row empty_row row_low))
               (subst (λ x. Agrees (member_at p.rows.slots s) row x) (sym now) new))
+              (ap (λ (r : TableRow). r.text) (get_or-set_same p.table.rows s row empty_row row_low)
+              ∙ alive.agree.text s alive.above alive.below)
+              (same_texts p.images s (Alive held))
               (λ r other. refl)
               (λ r other. get_or-set_other p.table.rows s r row empty_row other)
               (λ r other. keeping_other p.images s r (Alive held) other);

@@ -14,7 +14,7 @@ use Rattle.v6_base.specs.Sizes.{cut_front}
 use Rattle.v6_base.proofs.Cuts.{store_word_by}
 use Rattle.fs_codec.specs.Bytes.{bytes_of}
 use Rattle.fs_codec.proofs.BytesLemmas.{length-bytes_of}
-use Rattle.sys_procs.specs.Packed.{split, begins_at}
+use Rattle.sys_procs.specs.inside.Packed.{split, begins_at}
 use Rattle.sys_procs.specs.Stack.{in_first, made_even, addresses, nc, na, first_sp, first_stack}
 
 -- zeros, and bytes after them

@@ -12,11 +12,11 @@ use Rattle.fs_tree.specs.Name.{name_at}
 use Rattle.fs_tree.specs.Finding.{Finding, find_in}
 use Rattle.aout_head.specs.Header.{Header, header_of, plan_of}
 use Rattle.seg_regs.specs.Sizes.{is_refused}
-use Rattle.sys_procs.specs.Process.{Process}
-use Rattle.sys_procs.specs.World.{World, process_of}
-use Rattle.sys_procs.specs.Tests.{must, user_of}
+use Rattle.sys_procs.specs.Process.{Process, image_of}
+use Rattle.sys_procs.specs.World.{World, process_of, with_inodes, let_go}
+use Rattle.sys_procs.specs.Tests.{must, user_of, node_at}
 use Rattle.sys_procs.specs.Stack.{arguments, stack_clicks}
-use Rattle.sys_procs.specs.ExecFile.{Tested, text_clicks, data_clicks, check, with_inodes, let_go, with_moved, node_at, header_read, unless_error, is_magic, or_no_memory, is_busy, tests_header, memory_of, tests_file, tests}
+use Rattle.sys_procs.specs.ExecFile.{Tested, text_clicks, data_clicks, check, with_moved, header_read, unless_error, is_magic, or_no_memory, is_busy, tests_header, tests_file, tests}
 
 abbrev Keeps : World → Tested → Type 0
 Keeps w t = t.world.processes ≡ w.processes
@@ -45,11 +45,11 @@ keeps_file w v s ino list same =
     let head : Moving (List ℕ) = header_read v ino in
     keeps_check w out (permission node (user_of p) Execute) _ same (λ may.
     keeps_check w out (must EACCES (file_type node.mode == 0)) _ same (λ plain.
-    keeps_check w out (arguments (memory_of v p) list) _ same (λ args.
+    keeps_check w out (arguments (image_of v.texts p) list) _ same (λ args.
     keeps_header w (with_moved v ino head) ino args head same)))
 
 pub tests_processes : (w : World) (s name list : ℕ) → (tests w s name list).world.processes ≡ w.processes
 tests_processes w s name list =
     let p : Process = process_of w s in
-    let found : Finding ℕ = find_in w.inodes (user_of p) p.u.dir (name_at (memory_of w p) name) in
+    let found : Finding ℕ = find_in w.inodes (user_of p) p.u.dir (name_at (image_of w.texts p) name) in
     keeps_check w (with_inodes w found.inodes) found.answer _ refl (λ ino. keeps_file w (with_inodes w found.inodes) s ino list refl)

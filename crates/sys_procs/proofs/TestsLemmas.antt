@@ -1,10 +1,9 @@
 -- The tests of exec(II): those that leave the same world are one, which leaves that world where one of them refuses.
-use Rattle.std.proofs.Common.{◌≡◌, ◌∙◌, ◌==◌, ◌&&◌, ℕ, Bool, true, false, not, nat_lt, List, Option, Some, None}
+use Rattle.std.proofs.Common.{◌≡◌, ◌∙◌, ◌==◌, ◌&&◌, ℕ, Bool, true, false, not, nat_lt, List, map, Option, Some, None}
 use Rattle.std.proofs.Common.{Result, Ok, Err, IsSome, slice_index, refl, sym, ap}
 use Rattle.std.specs.Prelude.{is_none}
 use Rattle.std.specs.Option.{unwrap_or}
 use Rattle.v6_base.specs.Access.{then_do}
-use Rattle.v6_base.specs.Image.{Image}
 use Rattle.v6_base.specs.declared.errno.Errno.{Errno}
 use Rattle.v6_base.specs.declared.errno.Errno.TheVariants.{ENOEXEC, ENOMEM, EACCES, ETXTBSY}
 use Rattle.fs_codec.specs.Modes.{file_type}
@@ -14,38 +13,39 @@ use Rattle.fs_nodes.specs.FileSystem.{FileSystem}
 use Rattle.fs_tree.specs.declared.user.Want.TheVariants.{Execute}
 use Rattle.fs_tree.specs.Permission.{permission}
 use Rattle.fs_tree.specs.Name.{name_at}
-use Rattle.fs_tree.specs.Finding.{Inodes, Finding, inodes_of, find_in}
+use Rattle.fs_tree.specs.Finding.{Inodes, inodes_of, find_in}
 use Rattle.aout_head.specs.Header.{Header, header_of, plan_of}
 use Rattle.aout_head.specs.declared.parts.Plan.{Plan}
 use Rattle.seg_regs.specs.Sizes.{is_refused}
 use Rattle.sys_procs.specs.declared.procs.Procs.{Procs}
-use Rattle.sys_procs.specs.Process.{Process, image_of}
-use Rattle.sys_procs.specs.Texts.{no_texts, entry_of, text_bytes}
-use Rattle.sys_procs.specs.World.{World}
+use Rattle.image_keep.specs.Kept.{Kept, no_texts}
+use Rattle.sys_procs.specs.Process.{Process}
+use Rattle.sys_procs.specs.TextTable.{entry_of}
+use Rattle.sys_procs.specs.Agree.{HasNoText}
+use Rattle.sys_procs.specs.World.{World, text_in, texts_in, with_inodes, let_go}
 use Rattle.sys_procs.specs.Stack.{arguments, stack_clicks}
 use Rattle.sys_procs.specs.Tests.{must, user_of, no_node, node_in}
-use Rattle.sys_procs.specs.Handed.{handed, process_here, IsAlive}
-use Rattle.sys_procs.specs.ExecFile.{Tested, check, let_go, with_inodes, with_moved, text_clicks, data_clicks}
-use Rattle.sys_procs.specs.ExecFile.{unless_error, is_magic, or_no_memory, is_busy, memory_of, header_read}
+use Rattle.sys_procs.specs.Handed.{handed, process_here, memory_here}
+use Rattle.sys_procs.specs.ExecFile.{Tested, check, with_moved, text_clicks, data_clicks}
+use Rattle.sys_procs.specs.ExecFile.{unless_error, is_magic, or_no_memory, is_busy, header_read}
 use Rattle.sys_procs.specs.ExecFile.{tests_header, tests_file, tests}
-use Rattle.sys_procs.proofs.Alive.{is_here}
 
 -- no text is in an entry
-none_entered : (ino : ℕ) → is_none (entry_of no_texts ino) ≡ true
+none_entered : (k : Kept) (ino : ℕ) → HasNoText k → is_none (entry_of (texts_in k) ino) ≡ true
 unfolding no_texts
-none_entered ino = refl
+none_entered k ino none = ap (λ texts. is_none (entry_of (map text_in texts) ino)) none.texts
 
 and_true : (b : Bool) → b ≡ b && true
 and_true true = refl
 and_true false = refl
 
-pub busy_is : (p : Procs) (fs : FileSystem) (ino : ℕ) (h : Header)
+pub busy_is : (p : Procs) (fs : FileSystem) (ino : ℕ) (h : Header) → HasNoText p.images
     → (not (h.magic == 0o407) && not (h.text_size == 0) && nat_lt 1 (slice_index fs.references ino))
     ≡ is_busy (handed p fs) ino h
-busy_is p fs ino h =
+busy_is p fs ino h none =
     let shared : Bool =
     not (h.magic == 0o407) && not (h.text_size == 0) && nat_lt 1 (slice_index fs.references ino) in
-    and_true shared ∙ ap (λ none. shared && none) (sym (none_entered ino))
+    and_true shared ∙ ap (λ none. shared && none) (sym (none_entered p.images ino none))
 
 -- what the header comes to, where none of the refusals before it comes
 pub none_refuses : (error : Option Errno) (is_program is_busy : Bool) (rest : Result Plan Errno)
@@ -120,14 +120,6 @@ pub node_there : (store : Store) (ino : ℕ) → IsSome (node_numbered store ino
     → node_numbered store ino ≡ Some (node_in store ino)
 node_there store ino used = node_by (node_numbered store ino) used
 
--- A process has no text, so that its memory is its image.
-pub memory_here : (p : Procs) (fs : FileSystem) (s : ℕ) → IsAlive p s
-    → image_of (process_here p s) ≡ memory_of (handed p fs) (process_here p s)
-memory_here p fs s alive =
-    let q : Process = process_here p s in
-    ap (λ (text : Option ℕ). record (image_of q) { text = text_bytes no_texts text })
-    (sym (ap (λ (r : Process). r.text) (is_here p s alive).process_is))
-
 -- The tests of a file, by those in front of the header.
 three_checks : {A B C : Type 0} (out : World) (first : Result A Errno) (second : Result B Errno)
     (third : Result C Errno) (next : C → Tested)
@@ -140,36 +132,30 @@ three_checks out (Ok a) (Ok b) third next = refl
 abbrev pub reads_header : World → ℕ → List (List ℕ) → Tested
 reads_header w ino args = tests_header (with_moved w ino (header_read w ino)) ino args (header_read w ino)
 
-pub file_tested : (p : Procs) (fs : FileSystem) (s ino list : ℕ) (r : Result (List (List ℕ)) Errno) → IsAlive p s
+pub file_tested : (p : Procs) (fs : FileSystem) (s ino list : ℕ) (r : Result (List (List ℕ)) Errno)
     → r ≡ then_do (permission (node_in fs.store ino) (user_of (process_here p s)) Execute) (λ may.
     then_do (must EACCES (file_type (node_in fs.store ino).mode == 0)) (λ plain.
-    arguments (image_of (process_here p s)) list))
+    arguments (memory_here p s) list))
     → check (let_go (handed p fs) ino) r (reads_header (handed p fs) ino) ≡ tests_file (handed p fs) s ino list
-file_tested p fs s ino list r alive is =
+file_tested p fs s ino list r is =
     let w : World = handed p fs in
     let q : Process = process_here p s in
     let may = permission (node_in fs.store ino) (user_of q) Execute in
     let plain = must EACCES (file_type (node_in fs.store ino).mode == 0) in
-    ap (λ r. check (let_go w ino) r (reads_header w ino))
-    (is ∙ ap (λ (m : Image). then_do may (λ _. then_do plain (λ _. arguments m list))) (memory_here p fs s alive))
-    ∙ sym (three_checks (let_go w ino) may plain (arguments (memory_of w q) list) (reads_header w ino))
+    ap (λ r. check (let_go w ino) r (reads_header w ino)) is
+    ∙ sym (three_checks (let_go w ino) may plain (arguments (memory_here p s) list) (reads_header w ino))
 
 -- All tests, by what the search of the name comes to.
-pub program_tested : (p : Procs) (fs : FileSystem) (s name list : ℕ) → IsAlive p s → (r : Result ℕ Errno) (n : Inodes)
+pub program_tested : (p : Procs) (fs : FileSystem) (s name list : ℕ) (r : Result ℕ Errno) (n : Inodes)
     → r ≡ (find_in (inodes_of fs) (user_of (process_here p s)) (process_here p s).u.dir
-    (name_at (image_of (process_here p s)) name)).answer
+    (name_at (memory_here p s) name)).answer
     → n ≡ (find_in (inodes_of fs) (user_of (process_here p s)) (process_here p s).u.dir
-    (name_at (image_of (process_here p s)) name)).inodes
+    (name_at (memory_here p s) name)).inodes
     → check (with_inodes (handed p fs) n) r (λ ino. tests_file (with_inodes (handed p fs) n) s ino list)
     ≡ tests (handed p fs) s name list
-program_tested p fs s name list alive r n answer inodes =
+program_tested p fs s name list r n answer inodes =
     let w : World = handed p fs in
-    let q : Process = process_here p s in
-    (λ i. check (with_inodes w (inodes i)) (answer i) (λ ino. tests_file (with_inodes w (inodes i)) s ino list))
-    ∙ ap (λ (m : Image).
-    let found : Finding ℕ = find_in (inodes_of fs) (user_of q) q.u.dir (name_at m name) in
-    check (with_inodes w found.inodes) found.answer (λ ino. tests_file (with_inodes w found.inodes) s ino list))
-    (memory_here p fs s alive)
+    λ i. check (with_inodes w (inodes i)) (answer i) (λ ino. tests_file (with_inodes w (inodes i)) s ino list)
 
 -- what goes on, where no test before it refuses
 pub both_hold : {A : Type 0} (may : Result (Unit {0}) Errno) (plain : Bool) (rest : Result A Errno)

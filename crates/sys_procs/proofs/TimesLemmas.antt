@@ -1,6 +1,6 @@
 -- stime and sleep by the tests that they make, and what waking leaves of the clock.
-use Rattle.std.proofs.Common.{◌≡◌, ◌∙◌, ℕ, ◌+◌, ◌*◌, ◌%◌, ◌^◌, ◌<◌, ◌≤◌, ◌==◌, Bool, true, false, cond, nat_le, get_or, [], refl, sym, ap}
-use Rattle.std.proofs.lemmas.Bool.{lt-leb, le-leb, eq-eqb}
+use Rattle.std.proofs.Common.{◌≡◌, ◌≢◌, ◌∙◌, ℕ, ◌+◌, ◌*◌, ◌%◌, ◌^◌, ◌<◌, ◌≤◌, ◌==◌, Bool, true, false, cond, nat_le, get_or, [], refl, sym, ap}
+use Rattle.std.proofs.lemmas.Bool.{lt-leb, le-leb, eq-eqb, ne_eqb}
 use Rattle.v6_base.specs.declared.entry.Chan.{Chan}
 use Rattle.v6_base.specs.declared.entry.Chan.TheVariants.{Tout}
 use Rattle.v6_base.specs.declared.entry.Entry.TheVariants as line
@@ -22,15 +22,21 @@ clock_woken t w =
     ∙ (ap (λ n. record { time = t.now; ticks = n; tout = (wakeup t w).tout }) k.ticks
     ∙ ap (λ n. record { time = t.now; ticks = t.ticks; tout = n }) k.tout)
 
--- the super-user sets the time
+-- by whether the super-user sets the time
+abbrev set_by : World → ℕ → UArea → Bool → Comes
+set_by w s u is_super =
+    cond is_super (logs (line.Time ((65536 * get_or u.r 0 0 + get_or u.r 1 0) % 2 ^ 32)) (logs (line.Wake Tout) (returns (with_time w ((65536 * get_or u.r 0 0 + get_or u.r 1 0) % 2 ^ 32)) s)))
+    (fails w EPERM)
+
+pub time_refused : (w : World) (s : ℕ) (u : UArea) → u ≡ (process_of w s).u → u.uid ≢ 0 → fails w EPERM ≡ set_time w s
+unfolding set_time
+time_refused w s u is other = sym (ap (λ (v : UArea). set_by w s v (v.uid == 0)) (sym is) ∙ ap (set_by w s u) (ne_eqb u.uid 0 other))
+
 pub time_set : (w : World) (s : ℕ) (u : UArea) → u ≡ (process_of w s).u → u.uid ≡ 0
     → set_time w s ≡ logs (line.Time ((65536 * get_or u.r 0 0 + get_or u.r 1 0) % 2 ^ 32)) (logs (line.Wake Tout) (returns (with_time w ((65536 * get_or u.r 0 0 + get_or u.r 1 0) % 2 ^ 32)) s))
 unfolding set_time
 time_set w s u is super =
-    ap (λ (v : UArea). by v (v.uid == 0)) (sym is) ∙ ap (by u) (eq-eqb u.uid 0 super)
-  where
-    by : UArea → Bool → Comes
-    by v b = cond b (logs (line.Time ((65536 * get_or v.r 0 0 + get_or v.r 1 0) % 2 ^ 32)) (logs (line.Wake Tout) (returns (with_time w ((65536 * get_or v.r 0 0 + get_or v.r 1 0) % 2 ^ 32)) s))) (fails w EPERM)
+    ap (λ (v : UArea). set_by w s v (v.uid == 0)) (sym is) ∙ ap (set_by w s u) (eq-eqb u.uid 0 super)
 
 -- a sleep by whether its time has come
 abbrev pub sleeps_on : World → ℕ → ℕ → Comes

@@ -22,12 +22,12 @@ use Rattle.sys_procs.proofs.Dones.{answer_stays, done_none}
 
 -- at an even address
 pub times_row : (w : World) (s at : ℕ) (u : UArea) (bytes : List ℕ) → u ≡ (process_of w s).u → at % 2 ≢ 1 → bytes ≡ bytes_of (times u)
-    → stored w s (store_bytes (image_of (process_of w s)) at bytes) ≡ times_to w s at
+    → stored w s (store_bytes (image_of w.texts (process_of w s)) at bytes) ≡ times_to w s at
 unfolding times_to
 times_row w s at u bytes is even e =
     let p : Process = process_of w s in
-    ap (λ (b : List ℕ). stored w s (store_bytes (image_of p) at b)) (e ∙ ap (λ (v : UArea). bytes_of (times v)) is)
-    ∙ sym (ap (λ odd. stored w s (cond odd None (store_bytes (image_of p) at (bytes_of (times p.u))))) (ne_eqb (at % 2) 1 even))
+    ap (λ (b : List ℕ). stored w s (store_bytes (image_of w.texts p) at b)) (e ∙ ap (λ (v : UArea). bytes_of (times v)) is)
+    ∙ sym (ap (λ odd. stored w s (cond odd None (store_bytes (image_of w.texts p) at (bytes_of (times p.u))))) (ne_eqb (at % 2) 1 even))
 
 -- nothing is written, or all is
 module _ (p new : Procs) (fs : FileSystem) (s : ℕ) (t : Taken) (same : board new ≡ board p) where

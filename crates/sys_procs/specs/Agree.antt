@@ -1,5 +1,5 @@
 -- How the table of processes, the table of slots and what is kept of images belong together.
-use Rattle.std.specs.Prelude.{◌≡◌, ◌≢◌, ℕ, ◌<◌, ◌≤◌, Bool, true, false, length, replicate, Option, Some, None, Result, Ok, Err}
+use Rattle.std.specs.Prelude.{◌≡◌, ◌≢◌, ℕ, ◌<◌, ◌≤◌, Bool, true, false, map, length, Option, Some, None, Result, Ok, Err}
 use Rattle.v6_base.specs.declared.entry.PanicKind.{PanicKind}
 use Rattle.v6_base.specs.declared.answer.Answer.{Answer}
 use Rattle.pick_rules.specs.declared.row.Stat.{Stat}
@@ -7,12 +7,12 @@ use Rattle.pick_rules.specs.declared.row.Stat.TheVariants.{Empty, Sleeping, Wait
 use Rattle.pick_rules.specs.declared.row.TableRow.{TableRow}
 use Rattle.pick_rules.specs.declared.table.Table.{Table}
 use Rattle.pick_rules.specs.Table.{row_at, is_loaded, IsTable}
-use Rattle.pick_rules.specs.Board.{Board}
+use Rattle.pick_rules.specs.Board.{Board, TextPlace}
 use Rattle.pick_rules.specs.Effects.{kind_of}
 use Rattle.pick_rules.specs.Logged.{Logged, Stop, logged}
 use Rattle.proc_tab.specs.declared.member.Member.{Member}
 use Rattle.proc_tab.specs.Processes.{Processes, member_at}
-use Rattle.image_keep.specs.Kept.{Held, Keeping, Nothing, Alive, Grave, Kept, Has, HasImage, keeping, place_in, clicks_of}
+use Rattle.image_keep.specs.Kept.{Held, Keeping, Nothing, Alive, Grave, Shared, Kept, no_texts, no_users, text_of, Has, HasImage, keeping, place_in, clicks_of}
 use Rattle.sys_procs.specs.World.{World}
 use Rattle.sys_procs.specs.Comes.{Comes}
 
@@ -20,8 +20,18 @@ use Rattle.sys_procs.specs.Comes.{Comes}
 abbrev pub untimed : Table → Table
 untimed t = record t { tout = 0 }
 
+abbrev pub text_place : Option Shared → Option TextPlace
+text_place None = None
+text_place (Some x) = Some (record {
+  clicks = x.row.clicks;
+  users = x.row.users;
+  loaded = x.row.loaded;
+  click = x.row.at;
+  block = x.row.block;
+})
+
 abbrev pub board_of : Table → Kept → Board
-board_of t k = record { table = untimed t; texts = replicate 40 None; core = k.core }
+board_of t k = record { table = untimed t; texts = map text_place k.texts; core = k.core }
 
 -- whether a slot is free, has a process, or one that has ended
 pub data Kind : Type 0 where
@@ -55,8 +65,12 @@ pub record Agrees (m : Option Member) (row : TableRow) (x : Keeping) : Type 0 wh
   pub image : kind_of_keeping x ≡ kind_of_member m
   pub place : row.place ≡ place_in x
   pub size : (held : Held) → x ≡ Alive held → row.size ≡ clicks_of held.u
-  pub text : row.text ≡ None
   pub quiet : kind_of_member m ≢ Lives → row.channel ≡ None
+
+-- no text is made yet
+pub record HasNoText (k : Kept) : Type 0 where
+  pub texts : k.texts ≡ no_texts
+  pub users : k.users ≡ no_users
 
 pub record Agree (v : Processes) (t : Table) (k : Kept) : Type 0 where
   pub table : IsTable t
@@ -64,6 +78,8 @@ pub record Agree (v : Processes) (t : Table) (k : Kept) : Type 0 where
   pub kernel : (row_at t 0).place ≡ None
   pub images : keeping k 0 ≡ Nothing
   pub each : (s : ℕ) → 0 < s → s < 50 → Agrees (member_at v.slots s) (row_at t s) (keeping k s)
+  pub text : (s : ℕ) → 0 < s → s < 50 → (row_at t s).text ≡ text_of k s
+  pub no_text : HasNoText k
 
 -- A process calls: it runs, and its image is in core.
 pub record IsCalling (v : Processes) (t : Table) (k : Kept) (references : ℕ → ℕ) (s : ℕ) : Type 0 where

@@ -1,20 +1,20 @@
--- exec(II) of the UNIX Programmer's Manual; Lions' Commentary, `exec` in `sys1.c`, `xalloc` and `xfree` in `text.c`.
-use Rattle.std.specs.Prelude.{◌≡◌, ◌<◌, ◌≤◌, IsSome, ℕ, ◌+◌, ◌*◌, ◌/◌, ◌%◌, ◌==◌, ◌&&◌, nat_lt, Bool, true, false, not, if◌then◌else◌, List, [], ◌∷◌, map, replicate, slice_index, slice_set, Option, Some, None, is_none, Result, Ok, Err, bit_and}
+-- exec(II) of the UNIX Programmer's Manual; Lions' Commentary, `exec` in `sys1.c`.
+use Rattle.std.specs.Prelude.{◌≡◌, ◌<◌, ◌≤◌, IsSome, ℕ, ◌+◌, ◌*◌, ◌/◌, ◌%◌, ◌==◌, ◌&&◌, nat_lt, Bool, true, false, not, if◌then◌else◌, List, [], ◌∷◌, map, replicate, slice_index, Option, Some, None, is_none, Result, Ok, Err, bit_and}
 use Rattle.std.specs.Option.{unwrap_or}
 use Rattle.v6_base.specs.Image.{Image, nseg}
-use Rattle.v6_base.specs.declared.entry.Entry.TheVariants.{Leave, Bare, Share}
+use Rattle.v6_base.specs.declared.entry.Entry.TheVariants.{Bare}
 use Rattle.v6_base.specs.declared.errno.Errno.{Errno}
 use Rattle.v6_base.specs.declared.errno.Errno.TheVariants.{ENOEXEC, ENOMEM, EACCES, ETXTBSY}
 use Rattle.fs_codec.specs.Modes.{file_type}
 use Rattle.fs_codec.specs.Store.{Node, node_numbered}
-use Rattle.fs_codec.specs.declared.modes.TheConstants.{ISUID, ISGID, ISVTX}
+use Rattle.fs_codec.specs.declared.modes.TheConstants.{ISUID, ISGID}
 use Rattle.fs_laws.specs.Numbers.{with_node}
 use Rattle.fs_laws.specs.Pieces.{Moving, read_file}
 use Rattle.fs_nodes.specs.Copy.{put_into, put_kernel}
 use Rattle.fs_tree.specs.declared.user.Want.TheVariants.{Execute}
 use Rattle.fs_tree.specs.Permission.{permission}
 use Rattle.fs_tree.specs.Name.{name_at}
-use Rattle.fs_tree.specs.Finding.{Inodes, Finding, find_in, with_reference, put_back}
+use Rattle.fs_tree.specs.Finding.{Finding, find_in}
 use Rattle.aout_head.specs.Header.{Header, header_of, plan_of}
 use Rattle.aout_head.specs.declared.parts.Plan.{Plan}
 use Rattle.aout_head.specs.declared.parts.ExecFault.{ExecFault}
@@ -26,10 +26,11 @@ use Rattle.pick_rules.specs.Apply.{applied}
 use Rattle.pick_rules.specs.Effects as effect
 use Rattle.sys_procs.specs.declared.program.Program.{Program}
 use Rattle.sys_procs.specs.Process.{Process, with_state, image_of}
-use Rattle.sys_procs.specs.Texts.{Text, text_of, with_text, text_bytes, entry_of, free_entry, new_text, joined, goes, remaining}
-use Rattle.sys_procs.specs.World.{World, process_of, change}
+use Rattle.sys_procs.specs.TextTable.{text_of, with_text, text_bytes, entry_of}
+use Rattle.sys_procs.specs.Texts.{xfree, xalloc}
+use Rattle.sys_procs.specs.World.{World, process_of, change, with_inodes, let_go}
 use Rattle.sys_procs.specs.Comes.{Comes, returns, fails, does, logs}
-use Rattle.sys_procs.specs.Tests.{must, user_of, node_in}
+use Rattle.sys_procs.specs.Tests.{must, user_of, node_at}
 use Rattle.sys_procs.specs.Stack.{arguments, first_sp, first_stack, stack_clicks}
 
 -- The tests.
@@ -54,19 +55,9 @@ abbrev pub check : {A : Type 0} → World → Result A Errno → (A → Tested) 
 check w (Ok a) next = next a
 check w (Err e) next = record { answer = Err e; world = w }
 
-abbrev pub with_inodes : World → Inodes → World
-with_inodes w inodes = record w { inodes = inodes }
-
--- the call's reference to an inode goes
-abbrev pub let_go : World → ℕ → World
-let_go w ino = with_inodes w (put_back w.inodes ino)
-
 -- the world when a read of a file has come to this
 abbrev pub with_moved : {Memory : Type 0} → World → ℕ → Moving Memory → World
 with_moved w ino m = with_inodes w (record w.inodes { store = with_node w.inodes.store ino m.node m.room })
-
-abbrev pub node_at : World → ℕ → Node
-node_at w ino = node_in w.inodes.store ino
 
 -- sixteen bytes of a file go into the kernel: that sets the time of access, and may touch a hole
 abbrev pub header_read : World → ℕ → Moving (List ℕ)
@@ -104,10 +95,6 @@ tests_header w ino args head =
     check out (must ENOMEM (not (is_refused (text_clicks plan) (data_clicks plan) stack_clicks w.limit))) (λ fits.
     record { answer = Ok (record { ino = ino; plan = plan; arguments = args }); world = w })))))
 
--- the old program's memory, with the text that it shares
-abbrev pub memory_of : World → Process → Image
-memory_of w p = record (image_of p) { text = text_bytes w.texts p.text }
-
 -- the file, and then the arguments
 abbrev pub tests_file : World → ℕ → ℕ → ℕ → Tested
 tests_file w s ino list =
@@ -116,7 +103,7 @@ tests_file w s ino list =
     let out : World = let_go w ino in
     check out (permission node (user_of p) Execute) (λ may.
     check out (must EACCES (file_type node.mode == 0)) (λ plain.
-    check out (arguments (memory_of w p) list) (λ args.
+    check out (arguments (image_of w.texts p) list) (λ args.
     let head : Moving (List ℕ) = header_read w ino in tests_header (with_moved w ino head) ino args head)))
 
 -- All tests of a name and of a list of arguments, in order. Nothing changes but what the reading of the header sets and
@@ -124,7 +111,7 @@ tests_file w s ino list =
 abbrev pub tests : World → ℕ → ℕ → ℕ → Tested
 tests w s name list =
     let p : Process = process_of w s in
-    let found : Finding ℕ = find_in w.inodes (user_of p) p.u.dir (name_at (memory_of w p) name) in
+    let found : Finding ℕ = find_in w.inodes (user_of p) p.u.dir (name_at (image_of w.texts p) name) in
     check (with_inodes w found.inodes) found.answer (λ ino. tests_file (with_inodes w found.inodes) s ino list)
 
 -- the clicks of its image
@@ -136,44 +123,6 @@ abbrev pub bare_board : Board → ℕ → Board
 bare_board b s = applied b (Bare s)
 
 -- The old program goes, and the new one comes.
-
--- A process leaves its text, which may go with it; then its inode is referred to once less.
-abbrev pub without_text : Process → Process
-without_text p = record p { u = record p.u { text_size = 0 }; text = None }
-
-abbrev pub leaves_text : World → ℕ → ℕ → Bool → World
-leaves_text w s k is_sticky =
-    let text : Text = text_of w.texts k in
-    let left : World = change (record w { texts = slice_set w.texts k (remaining text is_sticky) }) s without_text in
-    if goes text is_sticky then let_go left text.ino else left
-
-abbrev pub is_sticky : World → ℕ → Bool
-is_sticky w k = not (bit_and (node_at w (text_of w.texts k).ino).mode ISVTX == 0)
-
--- `xfree`
-abbrev pub xfree : World → ℕ → Option ℕ → (World → Comes) → Comes
-xfree w s None next = next w
-xfree w s (Some k) next = logs (Leave s k (is_sticky w k)) (next (leaves_text w s k (is_sticky w k)))
-
--- It shares a text that is there, or makes one, which refers to the inode.
-abbrev pub with_entry : ℕ → Process → Process
-with_entry k p = record p { text = Some k }
-
-abbrev pub shares_text : World → ℕ → ℕ → World
-shares_text w s k = change (record w { texts = with_text w.texts k (joined (text_of w.texts k)) }) s (with_entry k)
-
-abbrev pub makes_text : World → ℕ → ℕ → ℕ → World
-makes_text w s ino size =
-    let k = free_entry w.texts in
-    change (record w { texts = with_text w.texts k (new_text ino size); inodes = with_reference w.inodes ino }) s (with_entry k)
-
--- `xalloc`, for a text of so many clicks: the rest is told whether the text is to be read
-abbrev pub xalloc_by : World → ℕ → ℕ → ℕ → Option ℕ → (World → Bool → Comes) → Comes
-xalloc_by w s ino size (Some k) next = logs (Share s k) (next (shares_text w s k) false)
-xalloc_by w s ino size None next = does (effect.Text s size w) (next (makes_text w s ino size) true)
-
-abbrev pub xalloc : World → ℕ → ℕ → ℕ → (World → Bool → Comes) → Comes
-xalloc w s ino size next = if size == 0 then next w false else xalloc_by w s ino size (entry_of w.texts ino) next
 
 -- Text and data stand after the header, in this order. Each is read by one read, which its first error ends: the rest of
 -- it stays zeros.

@@ -9,6 +9,7 @@ use Rattle.proc_tab.specs.Pids.{has_pid}
 use Rattle.fs_tree.specs.Finding.{put_back}
 use Rattle.pick_rules.specs.Effects.{Exit}
 use Rattle.sys_procs.specs.Process.{Process, register}
+use Rattle.sys_procs.specs.Texts.{xfree}
 use Rattle.sys_procs.specs.World.{World, process_of, with_process, change, members}
 use Rattle.sys_procs.specs.Comes.{Comes, returns, does, logs}
 
@@ -41,9 +42,9 @@ dies w s =
     logs (Wake (Wait (parent_slot w (process_of w s).row.ppid))) (
     returns (dead w s) s)))
 
--- the end with a status
+-- the end with a status: the text is left last
 unfoldable pub end_proc : World → ℕ → ℕ → Comes
-end_proc w s status = dies (leaves w s status) s
+end_proc w s status = xfree (leaves w s status) s (process_of w s).text (λ left. dies left s)
 
 -- 1, exit: the low byte of R0 is the high byte of the status
 unfoldable pub exit_now : World → ℕ → Comes

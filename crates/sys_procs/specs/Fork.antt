@@ -5,6 +5,7 @@ use Rattle.proc_tab.specs.Processes.{lowest}
 use Rattle.proc_tab.specs.Pids.{fresh_pid, child_of}
 use Rattle.fs_tree.specs.Finding.{with_reference}
 use Rattle.pick_rules.specs.Effects.{Fork}
+use Rattle.sys_procs.specs.Texts.{joined_by_child}
 use Rattle.sys_procs.specs.Process.{Process, register, with_register}
 use Rattle.sys_procs.specs.World.{World, process_of, with_process, change, members}
 use Rattle.sys_procs.specs.Comes.{Comes, gives, fails, does}
@@ -23,11 +24,15 @@ past_word p = with_register p 7 ((register p 7 + 2) % 65536)
 abbrev pub next_pid : World → ℕ
 next_pid w = fresh_pid (members w) w.last_pid
 
--- the child is in its slot, and refers to the directory in which it is
+-- the child is in its slot, refers to the directory in which it is, and shares its parent's text
 abbrev pub with_child : World → ℕ → ℕ → ℕ → World
 with_child w s child pid =
     let p : Process = process_of w s in
-    record (with_process w child (copied p pid)) { last_pid = pid; inodes = with_reference w.inodes p.u.dir }
+    record (with_process w child (copied p pid)) {
+      last_pid = pid;
+      inodes = with_reference w.inodes p.u.dir;
+      texts = joined_by_child w.texts p.text;
+    }
 
 -- 2, fork: R0 the child's pid; EAGAIN where all slots are used
 abbrev pub fork_into : World → ℕ → Option ℕ → Comes

@@ -7,8 +7,9 @@ use Rattle.fs_nodes.specs.FileSystem.{FileSystem}
 use Rattle.fs_tree.specs.Finding.{inodes_of}
 use Rattle.sys_procs.specs.declared.procs.Procs.{Procs}
 use Rattle.image_keep.specs.Kept.{HasImage}
-use Rattle.sys_procs.specs.Process.{Process, no_process}
-use Rattle.sys_procs.specs.World.{World, processes_in, world_in}
+use Rattle.v6_base.specs.Image.{Image}
+use Rattle.sys_procs.specs.Process.{Process, no_process, image_of}
+use Rattle.sys_procs.specs.World.{World, processes_in, texts_in, world_in}
 use Rattle.sys_procs.specs.Comes.{Comes}
 use Rattle.sys_procs.specs.Agree.{board_of, Agree, IsCalling}
 
@@ -31,6 +32,9 @@ came p c = logged (board p) c.effects
 -- The process in a slot; the inodes don't tell of it.
 abbrev pub process_here : Procs → ℕ → Process
 process_here p s = unwrap_or (slice_index_or (processes_in p.rows.slots p.images) s None) no_process
+
+abbrev pub memory_here : Procs → ℕ → Image
+memory_here p s = image_of (texts_in p.images) (process_here p s)
 
 -- a process that has an image
 pub record IsAlive (p : Procs) (s : ℕ) : Type 0 where

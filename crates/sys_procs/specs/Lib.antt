@@ -1,4 +1,5 @@
 pub mod Process
+pub mod TextTable
 pub mod Texts
 pub mod World
 pub mod Comes
@@ -14,7 +15,6 @@ pub mod Done
 pub mod Seats
 pub mod Tests
 pub mod Stack
-pub mod Packed
 pub mod ExecFile
 pub mod Break
-pub mod Begun
+pub mod inside

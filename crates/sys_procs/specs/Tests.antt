@@ -5,6 +5,7 @@ use Rattle.v6_base.specs.declared.errno.Errno.{Errno}
 use Rattle.fs_codec.specs.Store.{Node, Store, node_numbered}
 use Rattle.fs_tree.specs.declared.user.User.{User}
 use Rattle.sys_procs.specs.Process.{Process}
+use Rattle.sys_procs.specs.World.{World}
 
 -- a truth that must hold, and else an error
 abbrev pub must : Errno → Bool → Result (Unit {0}) Errno
@@ -20,3 +21,6 @@ no_node = record { mode = 0; nlink = 0; uid = 0; gid = 0; size = 0; device = 0; 
 
 abbrev pub node_in : Store → ℕ → Node
 node_in store ino = unwrap_or (node_numbered store ino) no_node
+
+abbrev pub node_at : World → ℕ → Node
+node_at w ino = node_in w.inodes.store ino

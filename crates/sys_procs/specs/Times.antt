@@ -39,7 +39,7 @@ stored w s (Some image) = returns (change w s (λ p. record p { «data» = image
 unfoldable pub times_to : World → ℕ → ℕ → Comes
 times_to w s at =
     let p : Process = process_of w s in
-    stored w s (if at % 2 == 1 then None else store_bytes (image_of p) at (bytes_of (times p.u)))
+    stored w s (if at % 2 == 1 then None else store_bytes (image_of w.texts p) at (bytes_of (times p.u)))
 
 -- the pending call is a sleep until this time, of which the words keep the two halves
 abbrev pub pending_sleep : ℕ

@@ -6,10 +6,10 @@ use Rattle.std.specs.List.{range_with_len}
 use Rattle.pick_rules.specs.declared.table.Table.{Table}
 use Rattle.proc_tab.specs.declared.member.Member.{Member}
 use Rattle.proc_tab.specs.Processes.{Processes, member_at}
-use Rattle.image_keep.specs.Kept.{Kept, keeping}
-use Rattle.fs_tree.specs.Finding.{Inodes}
+use Rattle.image_keep.specs.Kept.{Kept, Shared, keeping, text_of}
+use Rattle.fs_tree.specs.Finding.{Inodes, put_back}
 use Rattle.sys_procs.specs.Process.{Process, no_process, process_in, member_of}
-use Rattle.sys_procs.specs.Texts.{Text, no_texts}
+use Rattle.sys_procs.specs.TextTable.{Text}
 
 pub record Clock : Type 0 where
   pub time : ℕ  -- in seconds, from the beginning of 1970 in Greenwich
@@ -37,6 +37,13 @@ with_process w s p = record w { processes = slice_set w.processes s (Some p) }
 abbrev pub change : World → ℕ → (Process → Process) → World
 change w s rule = with_process w s (rule (process_of w s))
 
+abbrev pub with_inodes : World → Inodes → World
+with_inodes w inodes = record w { inodes = inodes }
+
+-- the call's reference to an inode goes
+abbrev pub let_go : World → ℕ → World
+let_go w ino = with_inodes w (put_back w.inodes ino)
+
 -- a slot is empty
 abbrev pub without_process : World → ℕ → World
 without_process w s = record w { processes = slice_set w.processes s None }
@@ -47,7 +54,15 @@ members w = map member_of w.processes
 
 -- the processes as the table of processes and what is kept of their images make them
 unfoldable pub processes_in : List (Option Member) → Kept → List (Option Process)
-processes_in slots k = map (λ s. process_in (member_at slots s) (keeping k s)) (range_with_len 0 50)
+processes_in slots k = map (λ s. process_in (member_at slots s) (keeping k s) (text_of k s)) (range_with_len 0 50)
+
+-- and the texts
+abbrev pub text_in : Option Shared → Option Text
+text_in None = None
+text_in (Some x) = Some (record { ino = x.row.ino; bytes = x.bytes; users = x.row.users })
+
+abbrev pub texts_in : Kept → List (Option Text)
+texts_in k = map text_in k.texts
 
 -- the clock is the table's
 abbrev pub clock_of : Table → Clock
@@ -60,6 +75,6 @@ world_in v t k switches inodes = record {
   clock = clock_of t;
   switches = switches;
   inodes = inodes;
-  texts = no_texts;
+  texts = texts_in k;
   limit = min k.core 2048;
 }

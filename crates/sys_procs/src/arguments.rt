@@ -2,7 +2,7 @@
 ghost use Rattle.std.specs.Prelude.{◌≡◌, ◌≤◌, ◌-◌, length};
 ghost use Rattle.std.specs.List.{concat};
 ghost use Rattle.image_keep.specs.Kept.{HasImage, image_of};
-ghost use Rattle.sys_procs.specs.Packed.{split};
+ghost use Rattle.sys_procs.specs.inside.Packed.{split};
 ghost use Rattle.sys_procs.specs.Stack.{fubyte, fuword, next_argument, next_reading, arguments, na, nc, first_sp};
 
 use image_keep::Images;
@@ -32,7 +32,7 @@ impl Model for Arguments {
 
     ghost Value = { List (List ℕ) };
 
-    ghost use Rattle.sys_procs.specs.Packed.{arguments_in, ArePacked};
+    ghost use Rattle.sys_procs.specs.inside.Packed.{arguments_in, ArePacked};
 
     ghost view = { arguments_in };
 

@@ -10,7 +10,7 @@ ghost use Rattle.image_keep.specs.Places.{cleared};
 ghost use Rattle.sys_procs.specs.World.{World, with_process};
 ghost use Rattle.sys_procs.specs.Tests.{node_in};
 ghost use Rattle.sys_procs.specs.ExecFile.{exec_file, loads, text_clicks, data_clicks, image_clicks, bare_board, kept_handler, begun_area, IsTested};
-ghost use Rattle.sys_procs.specs.Begun.{unplaced, placing, sized, store_after, filled_image, filled, user_in, group_in, row_in, area_in};
+ghost use Rattle.sys_procs.specs.inside.Begun.{unplaced, placing, sized, store_after, filled_image, filled, user_in, group_in, row_in, area_in};
 ghost use Rattle.sys_procs.specs.Handed.{AreProcs, Calls, IsAlive, board, handed, process_here};
 ghost use Rattle.sys_procs.specs.Done.{HasDone};
 

@@ -151,8 +151,8 @@ fn copy_image(images: &mut Images, from: Slot, to: Slot) -> Place
     requires image { HasImage images.old from }
     requires slot { to < 50 }
     requires nothing { keeping images.old to ≡ Nothing }
-    requires place { is_some (placed images.old (clicks_of (area_of images.old from))) ≡ true }
-    ensures place { placed images.old (clicks_of (area_of images.old from)) ≡ Some result }
+    requires place { is_some (placed images.old from (clicks_of (area_of images.old from))) ≡ true }
+    ensures place { placed images.old from (clicks_of (area_of images.old from)) ≡ Some result }
     ensures images { images.new
         ≡ with_image_at images.old to (area_of images.old from) (image_of images.old from) (Some result) }
 {

@@ -31,7 +31,7 @@ const CLICK: u32 = 64;
 /// Gives an image other sizes of data and stack, where it keeps its place or there is another. The answer is its place.
 fn resize(images: &mut Images, s: Slot, d: u16, stack: u16) -> Place
     requires image { HasImage images.old s }
-    requires segments { nseg d + nseg stack ≤ 8 }
+    requires segments { nseg (area_of images.old s).text_size + nseg d + nseg stack ≤ 8 }
     requires place { is_some (expanded images.old s (16 + d + stack)) ≡ true }
     ensures place { expanded images.old s (16 + d + stack) ≡ Some result }
     ensures images { images.new ≡ with_keeping images.old s (Alive (record {

@@ -10,7 +10,7 @@ ghost use Rattle.pick_rules.specs.Effects.{Show};
 ghost use Rattle.pick_rules.specs.Logged.{logged};
 ghost use Rattle.image_keep.specs.Area.{sized_area};
 ghost use Rattle.image_keep.specs.Growth.{most_clicks};
-ghost use Rattle.image_keep.specs.Kept.{Nothing, Alive, keeping, with_keeping};
+ghost use Rattle.image_keep.specs.Kept.{Nothing, Alive, keeping, with_keeping, text_of};
 ghost use Rattle.image_keep.specs.Places as images_of;
 ghost use Rattle.image_keep.specs.Places.{cleared};
 ghost use Rattle.seg_regs.specs.Sizes.{is_refused};
@@ -69,6 +69,7 @@ pub(crate) fn leave_place<T: Trace>(p: &mut Procs, s: Slot, trace: &mut T)
 fn new_image(images: &mut Images, s: Slot, d: u16) -> Place
     requires slot { s < 50 }
     requires nothing { keeping images.old s ≡ Nothing }
+    requires no_text { text_of images.old s ≡ None }
     requires sizes { is_refused 0 d 20 (most_clicks images.old) ≡ false }
     requires room { is_some (images_of.core_fit images.old (16 + d + 20)) ≡ true }
     ensures place { result ≡ Place.Core (unwrap_or (images_of.core_fit images.old (16 + d + 20)) 0) }

@@ -3,7 +3,7 @@ ghost use Rattle.std.specs.Prelude.{◌≡◌, ◌+◌, ◌-◌, ◌%◌, ◌≤
 ghost use Rattle.std.specs.List.{concat};
 ghost use Rattle.fs_codec.specs.Bytes.{bytes_of};
 ghost use Rattle.v6_base.specs.Sizes.{cut_front};
-ghost use Rattle.sys_procs.specs.Packed.{split, begins_at};
+ghost use Rattle.sys_procs.specs.inside.Packed.{split, begins_at};
 ghost use Rattle.sys_procs.specs.Stack.{addresses, first_stack, made_even};
 
 use crate::arguments::Arguments;

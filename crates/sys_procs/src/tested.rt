@@ -11,10 +11,10 @@ ghost use Rattle.fs_tree.specs.Name.{name_at};
 ghost use Rattle.fs_tree.specs.Finding.{inodes_of, find_in};
 ghost use Rattle.aout_head.specs.Header.{header_of, plan_of};
 ghost use Rattle.seg_regs.specs.Sizes.{is_refused};
-ghost use Rattle.sys_procs.specs.Process.{image_of};
 ghost use Rattle.sys_procs.specs.Stack.{arguments, stack_clicks};
 ghost use Rattle.sys_procs.specs.Tests.{must, user_of, node_in};
-ghost use Rattle.sys_procs.specs.Handed.{Calls, IsAlive, handed, process_here};
+ghost use Rattle.sys_procs.specs.Agree.{HasNoText};
+ghost use Rattle.sys_procs.specs.Handed.{Calls, IsAlive, handed, process_here, memory_here};
 ghost use Rattle.sys_procs.specs.ExecFile.{clicks, text_clicks, data_clicks, unless_error, is_magic, or_no_memory};
 ghost use Rattle.sys_procs.specs.ExecFile.{is_busy, with_moved, header_read, tests_header, tests_file, tests, IsTested};
 
@@ -80,10 +80,10 @@ fn find_program(p: &mut Procs, tree: &mut Tree, s: Slot, name: u16) -> Result<u1
     requires { Calls p.old tree.old.nodes s }
     ensures answer { result
         ≡ (find_in (inodes_of tree.old.nodes) (user_of (process_here p.old s)) (process_here p.old s).u.dir
-        (name_at (image_of (process_here p.old s)) name)).answer }
+        (name_at (memory_here p.old s) name)).answer }
     ensures inodes { inodes_of tree.new.nodes
         ≡ (find_in (inodes_of tree.old.nodes) (user_of (process_here p.old s)) (process_here p.old s).u.dir
-        (name_at (image_of (process_here p.old s)) name)).inodes }
+        (name_at (memory_here p.old s) name)).inodes }
     ensures referenced { IfOk result (λ ino. 0 < slice_index tree.new.nodes.references ino) }
     ensures procs { p.new ≡ p.old }
     ensures marks { tree.new.marks ≡ tree.old.marks }
@@ -126,7 +126,7 @@ fn test_call(p: &mut Procs, tree: &Tree, s: Slot, ino: u16, list: u16) -> Result
     ensures answer { result
         ≡ then_do (permission (node_in tree.now.nodes.store ino) (user_of (process_here p.old s)) Execute) (λ may.
         then_do (must EACCES (file_type (node_in tree.now.nodes.store ino).mode == 0)) (λ plain.
-        arguments (image_of (process_here p.old s)) list)) }
+        arguments (memory_here p.old s) list)) }
     ensures procs { p.new ≡ p.old }
 {
     let u = p.area(s);
@@ -154,7 +154,7 @@ fn is_shared(magic: u16, text: u16, references: u16) -> bool
 
 /// Whether the text of a program is busy: it would be shared, and others use its file. No text is in an entry yet.
 fn is_busy(nodes: &Nodes, ino: u16, head: &[u8; 16]) -> bool
-    ensures { (p : Procs) → result ≡ is_busy (handed p nodes.now) ino (header_of head.now) }
+    ensures { (p : Procs) → HasNoText p.images → result ≡ is_busy (handed p nodes.now) ino (header_of head.now) }
 {
     is_shared(word_at(head, 0), word_at(head, 2), nodes.refs(ino))
 }
@@ -213,7 +213,7 @@ fn judge_header(
     read: Moved,
     limit: u16,
 ) -> Result<Plan, Errno>
-    ensures answer { (p : Procs) → result ≡ then_do (unless_error read.error) (λ whole.
+    ensures answer { (p : Procs) → HasNoText p.images → result ≡ then_do (unless_error read.error) (λ whole.
         then_do (must ENOEXEC ((read.done == 16) && is_magic (plan_of (header_of head.now)))) (λ program.
         then_do (must ETXTBSY (not (is_busy (handed p nodes.now) ino (header_of head.now)))) (λ free.
         then_do (or_no_memory (plan_of (header_of head.now))) (λ plan.
@@ -250,6 +250,7 @@ fn test_header(
     read: Moved,
 ) -> Result<Program, Errno>
     requires referenced { 0 < slice_index tree.old.nodes.references ino }
+    requires no_text { HasNoText p.now.images }
     ensures answer { (m : Moving (List ℕ)) → m.memory ≡ head.now → m.done ≡ read.done → m.error ≡ read.error
         → result ≡ (tests_header (handed p.now tree.old.nodes) ino args m).answer }
     ensures state { (m : Moving (List ℕ)) → m.memory ≡ head.now → m.done ≡ read.done → m.error ≡ read.error
@@ -279,6 +280,7 @@ fn test_header(
 /// Those of the header. The inode is referred to once less then.
 fn read_header(p: &Procs, tree: &mut Tree, ino: u16, args: Arguments) -> Result<Program, Errno>
     requires referenced { 0 < slice_index tree.old.nodes.references ino }
+    requires no_text { HasNoText p.now.images }
     ensures answer { result ≡ (tests_header
         (with_moved (handed p.now tree.old.nodes) ino (header_read (handed p.now tree.old.nodes) ino)) ino args
         (header_read (handed p.now tree.old.nodes) ino)).answer }

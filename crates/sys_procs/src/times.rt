@@ -4,12 +4,11 @@ ghost use Rattle.v6_base.specs.Trace.{Took, Log};
 ghost use Rattle.v6_base.specs.Copy.{store_bytes};
 ghost use Rattle.fs_codec.specs.Bytes.{bytes_of};
 ghost use Rattle.u_area.specs.Area.{times};
-ghost use Rattle.sys_procs.specs.Process.{image_of};
 ghost use Rattle.fs_laws.specs.Rest.{SameRest};
 ghost use Rattle.fs_nodes.specs.FileSystem.{FileSystem};
 ghost use Rattle.pick_rules.specs.Apply.{applied};
 ghost use Rattle.sys_procs.specs.World.{change};
-ghost use Rattle.sys_procs.specs.Handed.{Calls, AreProcs, IsAlive, handed, board, process_here};
+ghost use Rattle.sys_procs.specs.Handed.{Calls, AreProcs, IsAlive, handed, board, process_here, memory_here};
 ghost use Rattle.sys_procs.specs.Times.{time_now, set_time, pending_sleep, sleep_until, sleep_for, sleeping_until, tout_with, with_time, stored, times_to};
 ghost use Rattle.sys_procs.specs.Done.{HasDone};
 
@@ -223,9 +222,9 @@ fn see_bytes(bytes: &[u8])
 /// Puts bytes into the memory of a process, from an address on: all of them, or none where one can't be written.
 fn put_bytes(p: &mut Procs, s: Slot, at: u16, bytes: &[u8; 12]) -> bool
     requires { IsAlive p.old s }
-    ensures done { result ≡ is_some (store_bytes (image_of (process_here p.old s)) at bytes.now) }
+    ensures done { result ≡ is_some (store_bytes (memory_here p.old s) at bytes.now) }
     ensures state { (fs : FileSystem) → handed p.new fs
-        ≡ (stored (handed p.old fs) s (store_bytes (image_of (process_here p.old s)) at bytes.now)).state }
+        ≡ (stored (handed p.old fs) s (store_bytes (memory_here p.old s) at bytes.now)).state }
     ensures board { board p.new ≡ board p.old }
     ensures alive { IsAlive p.new s }
 {

@@ -1,5 +1,5 @@
 -- A kernel that is about to execute `/etc/init`: nothing but process 1 is there yet.
-use Rattle.std.proofs.Common.{◌≡◌, ◌≢◌, ◌<◌, ◌≤◌, ◌+◌, ◌*◌, ◌==◌, if◌then◌else◌, cond, ℕ, zero, suc, Bool, true, false, List, [], ◌∷◌, length, replicate, get_or, min, count_by, sum_by, Option, Some, None, slice_index, refl, sym, ap, ◌∙◌, subst, arith, inl, inr}
+use Rattle.std.proofs.Common.{◌≡◌, ◌≢◌, ◌<◌, ◌≤◌, ◌+◌, ◌*◌, ◌==◌, if◌then◌else◌, cond, ℕ, zero, suc, Bool, true, false, List, [], ◌∷◌, length, replicate, get_or, min, count_by, sum_by, Option, Some, None, slice_index, refl, sym, ap, ◌∙◌, subst, arith, inl, inr, map}
 use Rattle.std.proofs.lemmas.Bool.{eq-eqb, ne_eqb, cases_lt, cases_eq}
 use Rattle.std.proofs.lemmas.Bool.Decides.{eqb_tells}
 use Rattle.std.proofs.lemmas.List.{get_or-replicate, get_or_past, length-replicate}
@@ -14,12 +14,16 @@ use Rattle.fs_nodes.specs.FileSystem.{FileSystem}
 use Rattle.fs_tree.specs.Marks.{no_marks}
 use Rattle.sys_files.specs.Sound.{is_of, numbers_of}
 use Rattle.proc_tab.specs.Processes.{first_processes, member_at}
-use Rattle.image_keep.specs.Kept.{Held, Keeping, Nothing, Alive, Grave, Kept, Has, keeping, first_kept, with_keeping, area_in, clicks_of}
+use Rattle.image_keep.specs.Kept.{Held, Keeping, Nothing, Alive, Grave, Kept, Has, keeping, first_kept, with_keeping, area_in, clicks_of, text_of}
 use Rattle.image_keep.proofs.Frames.{keeping_same, keeping_other}
 use Rattle.sys_procs.specs.Process.{Process, process_in}
-use Rattle.sys_procs.specs.World.{processes_in, clock_of}
-use Rattle.sys_procs.specs.Agree.{Agrees, Agree, board_of}
+use Rattle.sys_procs.specs.World.{processes_in, clock_of, texts_in}
+use Rattle.sys_procs.specs.Agree.{Agrees, Agree, board_of, text_place}
 use Rattle.sys_procs.proofs.Slots.{are_processes}
+use Rattle.image_keep.specs.Kept as kept
+use Rattle.sys_procs.proofs.Agreement.{no_text_of}
+use Rattle.pick_rules.specs.declared.row.TableRow.{TableRow}
+use Rattle.pick_rules.specs.Board.{first_board}
 use Rattle.unix_core.specs.declared.world.World.{World}
 use Rattle.unix_core.specs.declared.machine.Stage.TheVariants as stage
 use Rattle.abstract_unix.specs.Unix.{no_texts}
@@ -27,6 +31,7 @@ use Rattle.abstract_unix.specs.References.{is_text_of}
 use Rattle.abstract_unix.specs.Runs.{first_process, first_unix, system_with}
 use Rattle.pdp_step.specs.declared.regs.Regs.{Regs}
 use Rattle.unix_core.specs.Parts.{unix_of, system_at, first_held, IsGood, IsKernel}
+use Rattle.unix_core.proofs.GoodLemmas.{texts_none, owed_so}
 use Rattle.abstract_unix.specs.Whole.{Told, told_of, told_in, names, stands, all_names, all_stand, refer, Owes}
 
 abbrev no_files : List (Option OpenFile)
@@ -135,7 +140,7 @@ no_member (suc zero) high = absurd (omega (arith, high))
 no_member (suc (suc s)) high = everywhere 48 None s
 
 free_agrees : Agrees None empty_row Nothing
-free_agrees = record { stat = refl; image = refl; place = refl; size = λ held is. absurd (cc is); text = refl; quiet = λ f. refl }
+free_agrees = record { stat = refl; image = refl; place = refl; size = λ held is. absurd (cc is); quiet = λ f. refl }
 
 own_agrees : (time : ℕ) → Agrees (member_at first_processes.slots 1) (row_at (first_table time) 1) (Alive first_held)
 own_agrees time = record {
@@ -143,9 +148,14 @@ own_agrees time = record {
   image = refl;
   place = refl;
   size = λ held is. ap (λ x. clicks_of (area_in x)) is;
-  text = refl;
   quiet = λ f. absurd (f refl);
 }
+
+first_textless : (time s : ℕ) → 0 < s → (row_at (first_table time) s).text ≡ None
+first_textless time s above = elim (cases_eq s 1) [
+  | inl here ↦ ap (λ r. (row_at (first_table time) r).text) here
+  | inr other ↦ ap (λ (row : TableRow). row.text) (first_free time s (omega (arith, above, other)))
+]
 
 first_agree : (core time : ℕ) → IsTable (first_table time) → Agree first_processes (first_table time) (first_images core)
 first_agree core time table = record {
@@ -162,6 +172,8 @@ first_agree core time table = record {
         (subst (λ row. Agrees None row (keeping (first_images core) s)) (sym (first_free time s high))
         (subst (λ x. Agrees None empty_row x) (sym (first_alone core s other)) free_agrees))
   ];
+  text = λ s above below. first_textless time s above ∙ sym (no_text_of (first_images core) s (record { texts = refl; users = refl }));
+  no_text = record { texts = refl; users = refl };
 }
 
 nobody : (s : ℕ) → 2 ≤ s → get_or first_slots s None ≡ None
@@ -173,18 +185,23 @@ first_processes_are : (core : ℕ) → processes_in first_processes.slots (first
 first_processes_are core = are_processes first_processes.slots (first_images core) first_slots
     (let none : Option Process = None in let long = length-replicate 48 none in omega (arith, long)) each
   where
-    own : (s : ℕ) → s ≢ 1 → get_or first_slots s None ≡ process_in (member_at first_processes.slots s) (keeping (first_images core) s)
+    own : (s : ℕ) → s ≢ 1 → get_or first_slots s None ≡ process_in (member_at first_processes.slots s) (keeping (first_images core) s) (text_of (first_images core) s)
     own zero other = refl
     own (suc s) other =
         let high : 2 ≤ suc s = omega (arith, other) in
-        nobody (suc s) high ∙ ap (λ m. process_in m (keeping (first_images core) (suc s))) (sym (no_member (suc s) high))
+        nobody (suc s) high ∙ ap (λ m. process_in m (keeping (first_images core) (suc s)) (text_of (first_images core) (suc s))) (sym (no_member (suc s) high))
 
-    each : (s : ℕ) → s < 50 → get_or first_slots s None ≡ process_in (member_at first_processes.slots s) (keeping (first_images core) s)
+    each : (s : ℕ) → s < 50 → get_or first_slots s None ≡ process_in (member_at first_processes.slots s) (keeping (first_images core) s) (text_of (first_images core) s)
     each s low = elim (cases_eq s 1) [
-      | inl here ↦ subst (λ r. get_or first_slots r None ≡ process_in (member_at first_processes.slots r) (keeping (first_images core) r)) (sym here)
-          (ap (process_in (member_at first_processes.slots 1)) (sym (first_image core)))
+      | inl here ↦ subst (λ r. get_or first_slots r None ≡ process_in (member_at first_processes.slots r) (keeping (first_images core) r) (text_of (first_images core) r)) (sym here)
+          ((λ i. process_in (member_at first_processes.slots 1) (sym (first_image core) i)
+          (sym (no_text_of (first_images core) 1 (record { texts = refl; users = refl })) i)))
       | inr other ↦ own s other
     ]
+
+no_places : map text_place kept.no_texts ≡ replicate 40 None
+unfolding kept.no_texts
+no_places = refl
 
 -- The world that a kernel begins with.
 module _ (fs : FileSystem) (core : ℕ) (referred : (ino : ℕ) → slice_index fs.references ino ≡ (if ino == 1 then 2 else 0))
@@ -195,13 +212,16 @@ module _ (fs : FileSystem) (core : ℕ) (referred : (ino : ℕ) → slice_index 
   processes_are : (unix_of w).processes ≡ first_slots
   processes_are = (λ i. processes_in (rows i).slots (images i)) ∙ first_processes_are core
 
+  texts_are : (unix_of w).texts ≡ no_texts
+  texts_are = ap texts_in images ∙ texts_none (first_images core) (record { texts = refl; users = refl })
+
   unix_is : unix_of w ≡ first_unix fs.store core
   unix_is = λ i. record {
     store = (nodes i).store;
     processes = processes_are i;
     files = table i;
     pipes = [];
-    texts = no_texts;
+    texts = texts_are i;
     line = line i;
     clock = clock_of (slots i);
     switches = switches i;
@@ -209,19 +229,23 @@ module _ (fs : FileSystem) (core : ℕ) (referred : (ino : ℕ) → slice_index 
     limit = min (images i).core 2048;
   }
 
+  begun_agree : Agree w.procs.rows w.procs.table w.procs.images
+  begun_agree =
+      let begun : Agree first_processes (first_table fs.store.stamp) (first_images core) = first_agree core fs.store.stamp (subst IsTable slots good) in
+      subst (λ v. Agree v w.procs.table w.procs.images) (sym rows)
+      (subst (λ t. Agree first_processes t w.procs.images) (sym slots) (subst (λ k. Agree first_processes (first_table fs.store.stamp) k) (sym images) begun))
+
   first_good : IsGood w
   first_good = record {
-    agree = let begun : Agree first_processes (first_table fs.store.stamp) (first_images core) = first_agree core fs.store.stamp (subst IsTable slots good) in
-        subst (λ v. Agree v w.procs.table w.procs.images) (sym rows)
-        (subst (λ t. Agree first_processes t w.procs.images) (sym slots) (subst (λ k. Agree first_processes (first_table fs.store.stamp) k) (sym images) begun));
+    agree = begun_agree;
     in_core = λ s above low held has. first_each core (λ h. is_in_core (Some h.place) ≡ true) refl s held (ap (λ k. keeping k s) (sym images) ∙ has);
-    owed = subst (λ (files : List (Option OpenFile)). Owes w.files.tree.nodes.references files no_texts (told_in (unix_of w).processes)) (sym table)
+    owed = owed_so w begun_agree (subst (λ (files : List (Option OpenFile)). Owes w.files.tree.nodes.references files no_texts (told_in (unix_of w).processes)) (sym table)
         (subst (Owes w.files.tree.nodes.references no_files no_texts) (sym (ap told_in processes_are ∙ told_is)) (record {
           numbers = λ entry. ap numbers_of (none_open entry) ∙ sym (none_named entry);
           referred = λ ino. ap (λ (f : FileSystem). slice_index f.references ino) nodes ∙ referred ino ∙ sym (first_referred ino);
           no_pipe = λ entry file is. (let none = none_open entry in absurd (cc (none, is)));
           fifteen = first_fifteen;
-        }));
+        })));
     marks = marks;
     running = λ s runs above. absurd (let zero_ : Some 0 ≡ Some s = sym (ap (λ (t : Table). t.running) slots) ∙ runs in
         let same : 0 ≡ s = cc zero_ in omega (arith, same, above));
@@ -237,4 +261,6 @@ module _ (fs : FileSystem) (core : ℕ) (referred : (ino : ℕ) → slice_index 
   }
 
   pub first_system : (regs : Regs) → system_at stage.New regs w ≡ system_with fs.store core
-  first_system regs = λ i. record { unix = unix_is i; board = board_of (slots i) (images i) }
+  first_system regs =
+      (λ i. record { unix = unix_is i; board = board_of (slots i) (images i) })
+      ∙ ap (λ texts. record { unix = first_unix fs.store core; board = record (first_board core fs.store.stamp) { texts = texts } }) no_places

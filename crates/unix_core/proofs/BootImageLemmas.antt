@@ -1,5 +1,5 @@
 -- The first image of process 1 stands at the front of a core in which nothing stands.
-use Rattle.std.proofs.Common.{◌≡◌, ◌<◌, ◌≤◌, ◌+◌, ℕ, length, replicate, get_or, Some, refl, ap, ◌∙◌, inl, inr, arith}
+use Rattle.std.proofs.Common.{◌≡◌, ◌<◌, ◌≤◌, ◌+◌, ℕ, length, replicate, get_or, Some, refl, ap, ◌∙◌, inl, inr, arith, []}
 use Rattle.std.proofs.lemmas.Bool.{cases_lt}
 use Rattle.std.proofs.lemmas.List.{get_or-replicate, get_or_past, length-replicate}
 use Rattle.v6_base.specs.declared.entry.Place.TheVariants.{Core}
@@ -11,6 +11,7 @@ use Rattle.image_keep.specs.Kept.{Held, Nothing, Alive, Kept, HasImage, keeping,
 use Rattle.image_keep.specs.Places.{placed, with_image_at, cleared}
 use Rattle.image_keep.proofs.Frames.{keeping_same, keeping_twice}
 use Rattle.abstract_unix.specs.Init.{init_data}
+use Rattle.sys_procs.specs.Agree.{HasNoText}
 use Rattle.unix_core.specs.Parts.{first_held}
 use Rattle.unix_core.proofs.PlaceLemmas.{placed_first}
 
@@ -32,15 +33,18 @@ module _ (k : Kept) (empty : k ≡ first_kept k.core) (least : 64 ≤ k.core) wh
   pub keeps_nothing : (s : ℕ) → keeping k s ≡ Nothing
   keeps_nothing s = ap (λ l. keeping l s) empty ∙ empty_slots s
 
+  no_text : HasNoText k
+  no_text = record { texts = ap (λ (l : Kept). l.texts) empty; users = ap (λ (l : Kept). l.users) empty }
+
   slot_within : 1 < length k.slots
   slot_within = let long = ap (λ (l : Kept). length l.slots) empty in let fifty = length-replicate 50 Nothing in omega (arith, long, fifty)
 
-  pub first_place : (d stack : ℕ) → d ≡ 1 → stack ≡ 0 → placed k (16 + d + stack) ≡ Some (Core 1)
+  pub first_place : (d stack : ℕ) → d ≡ 1 → stack ≡ 0 → placed k 1 (16 + d + stack) ≡ Some (Core 1)
   first_place d stack one none =
-      (λ i. placed k (16 + one i + none i)) ∙ placed_first k 17 keeps_nothing (omega arith) (omega (arith, least))
+      (λ i. placed k 1 (16 + one i + none i)) ∙ placed_first k 1 17 no_text keeps_nothing (omega arith) (omega (arith, least))
 
   module _ (made : Kept) (d stack : ℕ) (one : d ≡ 1) (none : stack ≡ 0)
-      (is : made ≡ with_image_at k 1 (sized_area d stack) (cleared d stack) (placed k (16 + d + stack))) where
+      (is : made ≡ with_image_at k 1 (sized_area d stack) (cleared d stack) (placed k 1 (16 + d + stack))) where
     made_is : made ≡ with_keeping k 1 (Alive made_held)
     made_is =
         is ∙ ap (with_image_at k 1 (sized_area d stack) (cleared d stack)) (first_place d stack one none)
@@ -58,6 +62,9 @@ module _ (k : Kept) (empty : k ≡ first_kept k.core) (least : 64 ≤ k.core) wh
     -- the data are cleared
     pub made_cleared : (image_of made 1).data ≡ replicate 64 0
     made_cleared = ap (λ (m : Image). m.data) made_memory
+
+    pub made_bare : (image_of made 1).text ≡ []
+    made_bare = ap (λ (m : Image). m.text) made_memory
 
     -- The program is put there.
     module _ (filled : Kept) (put : filled ≡ with_image made 1 (record (image_of made 1) { «data» = init_data })) where

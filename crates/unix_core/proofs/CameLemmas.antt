@@ -29,7 +29,7 @@ use Rattle.abstract_unix.specs.Calls.{answers, came_by, with_world, world_of}
 use Rattle.unix_core.specs.Parts.{unix_of, board_in, IsReady, HasCome, unmet_as, ended_as, is_over}
 use Rattle.abstract_unix.specs.Whole.{told_in, Owes}
 use Rattle.abstract_unix.proofs.Owing.{dir_referred, few_references, owes_refs}
-use Rattle.unix_core.proofs.GoodLemmas.{told_of_slot, fifty_told, told_of_image, core_moved, still_runs, Rests, moved_unix, good_then}
+use Rattle.unix_core.proofs.GoodLemmas.{told_of_slot, owed_none, owed_so, fifty_told, told_of_image, core_moved, still_runs, Rests, moved_unix, good_then}
 use Rattle.unix_core.proofs.WorldLemmas.{ready_alive, slot_is, is_living, forty, references_in}
 use Rattle.unix_core.proofs.LoggedLemmas.{over, stop_of, logged_over}
 use Rattle.abstract_unix.proofs.Moved.{MovedBoard, AreTamed, Moves, tamed_moves, tamed_mild}
@@ -51,10 +51,10 @@ ready_calls w s ready long =
           ap (λ b. b || is_in_core (row_at w.procs.table s).place) (ne_eqb s 0 (λ zero. omega (arith, zero, ready.user)))
           ∙ ap is_in_core place ∙ ready.good.in_core s alive.above alive.below here.held here.image_is;
       directory = λ held has.
-          dir_referred w.files.tree.nodes.references w.files.table no_texts (told_in u.processes) ready.good.owed s (record { files = held.u.files; dir = held.u.dir })
+          dir_referred w.files.tree.nodes.references w.files.table u.texts (told_in u.processes) ready.good.owed s (record { files = held.u.files; dir = held.u.dir })
           (told_of_image w alive.agree s alive.above alive.below held has);
       few = λ ino.
-          let most = few_references w.files.tree.nodes.references w.files.table no_texts (told_in u.processes) ready.good.owed (fifty_told w) ino long forty in
+          let most = few_references w.files.tree.nodes.references w.files.table no_texts (told_in u.processes) (owed_none w ready.good) (fifty_told w) ino long forty in
           omega (arith, most);
     }
 
@@ -105,10 +105,10 @@ module _ (w now : World) (s : ℕ) (ready : IsReady w s) (x : its.World) (agree 
     good = good_then w now stays.rests after.core ready.good agree (core_moved w now ready.good agree after (λ r t is. inl (sym (told r) ∙ is)))
         (still_runs w now ready.good agree (λ r is. sym after.running ∙ is) (λ r t was is. told r ∙ is))
         (let refs : List ℕ = now.files.tree.nodes.references in
-        subst (λ (files : List (Option OpenFile)). Owes refs files no_texts (told_in (unix_of now).processes)) (sym stays.table)
+        owed_so now agree (subst (λ (files : List (Option OpenFile)). Owes refs files no_texts (told_in (unix_of now).processes)) (sym stays.table)
         (subst (Owes refs w.files.table no_texts) (sym (ap (λ (v : its.World). told_in v.processes) state ∙ like.told))
         (owes_refs w.files.tree.nodes.references refs w.files.table no_texts (told_in (unix_of w).processes)
-        (λ ino. ap (λ (v : its.World). slice_index v.inodes.references ino) state ∙ like.refs ino) ready.good.owed)));
+        (λ ino. ap (λ (v : its.World). slice_index v.inodes.references ino) state ∙ like.refs ino) (owed_none w ready.good)))));
     runs = after.running ∙ ready.runs;
     user = ready.user;
   }

@@ -1,5 +1,5 @@
 -- The end of a process: a block of the swap area is there for it.
-use Rattle.std.proofs.Common.{◌≡◌, ◌<◌, ◌≤◌, ◌∙◌, ℕ, true, cond, List, [], ◌++◌, length, get_or, flat_map, Option, Some, IsSome, refl, sym, ap, inl, inr, arith}
+use Rattle.std.proofs.Common.{◌≡◌, ◌<◌, ◌≤◌, ◌∙◌, ℕ, true, cond, List, [], ◌++◌, length, get_or, map, flat_map, Option, Some, IsSome, refl, sym, ap, inl, inr, arith}
 use Rattle.std.proofs.lemmas.Bool.{cases_lt}
 use Rattle.std.proofs.lemmas.List.{append-nil}
 use Rattle.v6_base.specs.declared.entry.Place.{Place}
@@ -8,11 +8,12 @@ use Rattle.pick_rules.specs.declared.row.Stat.{Stat}
 use Rattle.pick_rules.specs.declared.row.Stat.TheVariants.{Empty, Sleeping, Waiting, Ready, Zombie}
 use Rattle.pick_rules.specs.declared.row.TableRow.{TableRow}
 use Rattle.pick_rules.specs.Table.{row_at, empty_row, is_in_core, is_zombie}
-use Rattle.pick_rules.specs.Board.{blocks, swap_range, swap_of_row, swap_fit}
+use Rattle.pick_rules.specs.Board.{blocks, swap_range, swap_of_row, swap_of_text, swap_fit}
 use Rattle.proc_tab.specs.declared.member.Member.{Member}
 use Rattle.proc_tab.specs.Processes.{member_at}
-use Rattle.image_keep.specs.Kept.{Held, Keeping, Nothing, Alive, Grave, keeping}
-use Rattle.sys_procs.specs.Agree.{Died, kind_of_stat, Agrees}
+use Rattle.image_keep.specs.Kept.{Held, Keeping, Nothing, Alive, Grave, keeping, no_texts}
+use Rattle.map_fit.specs.Fit.{Range}
+use Rattle.sys_procs.specs.Agree.{Died, kind_of_stat, Agrees, text_place}
 use Rattle.unix_core.specs.declared.world.World.{World}
 use Rattle.unix_core.specs.Parts.{board_in, IsGood}
 use Rattle.unix_core.proofs.RoomLemmas.{taken_by, taken_each, one_fits}
@@ -47,6 +48,11 @@ row_taken m row (Grave u block) a core =
     let one : taken_by (swap_range (Some (Swap block)) 1) ≡ 1 = refl in
     omega (arith, same, one)
 
+-- no text takes a block
+no_ranges : flat_map swap_of_text (map text_place no_texts) ≡ []
+unfolding no_texts
+no_ranges = refl
+
 -- A block of the swap area is free.
 pub swap_free : (w : World) → IsGood w → IsSome (swap_fit (board_in w) 1)
 swap_free w good =
@@ -66,5 +72,8 @@ swap_free w good =
     ] in
     let few = taken_each swap_of_row empty_row rows each in
     let long = good.agree.rows in
-    let whole : taken_by (flat_map swap_of_row rows ++ []) ≡ taken_by (flat_map swap_of_row rows) = ap taken_by (append-nil (flat_map swap_of_row rows)) in
-    one_fits (flat_map swap_of_row rows ++ []) (omega (arith, few, long, whole))
+    let texts : List Range = flat_map swap_of_text (map text_place w.procs.images.texts) in
+    let none : texts ≡ [] = ap (λ l. flat_map swap_of_text (map text_place l)) good.agree.no_text.texts ∙ no_ranges in
+    let whole : taken_by (flat_map swap_of_row rows ++ texts) ≡ taken_by (flat_map swap_of_row rows) =
+    ap (λ l. taken_by (flat_map swap_of_row rows ++ l)) none ∙ ap taken_by (append-nil (flat_map swap_of_row rows)) in
+    one_fits (flat_map swap_of_row rows ++ texts) (omega (arith, few, long, whole))

@@ -75,7 +75,6 @@ module _ (v : Processes) (k : Kept) (t : Table) (s : ℕ) (agree : Agree v t k) 
         image = old.image;
         place = old.place;
         size = old.size;
-        text = old.text;
         quiet = λ f. absurd (f kind);
       } in
       let here : row_at (asleep t s pri w) s ≡ lain_row t s pri w =
@@ -84,6 +83,7 @@ module _ (v : Processes) (k : Kept) (t : Table) (s : ℕ) (agree : Agree v t k) 
       (record { last = agree.table.last; running = tt; ticks = agree.table.ticks })
       (length-set t.rows s (lain_row t s pri w))
       (subst (λ row. Agrees (member_at v.slots s) row (keeping k s)) (sym here) new)
+      (ap (λ (row : TableRow). row.text) here ∙ agree.text s above low) (record { texts = refl; users = refl })
       (λ r other. refl) (λ r other. get_or-set_other t.rows s r (lain_row t s pri w) empty_row other) (λ r other. refl)
 
   pub ended_agree : (u : Table) (e : Ending) → u ≡ ended_table t s e → IsTable u → (e ≢ ending.Ended → HasImage k s) → Agree v u k

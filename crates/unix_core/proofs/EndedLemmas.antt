@@ -17,18 +17,19 @@ use Rattle.open_files.specs.Files.{times}
 use Rattle.open_files.specs.declared.file.OpenFile.{OpenFile}
 use Rattle.sys_files.specs.Handed.{Handed}
 use Rattle.sys_procs.proofs.Agreement.{wakeup_like}
-use Rattle.sys_procs.specs.Exit.{exit_now, end_proc}
+use Rattle.sys_procs.specs.Comes.{Comes}
+use Rattle.sys_procs.specs.Exit.{leaves, dies}
 use Rattle.sys_procs.specs.Handed.{AreProcs, handed, board, came}
 use Rattle.sys_procs.specs.Process.{Process, no_process, register}
 use Rattle.sys_procs.specs.World as its
 use Rattle.abstract_unix.proofs.Dying.{closed_none, told_ended, end_owes}
 use Rattle.abstract_unix.proofs.Owing.{some_within}
 use Rattle.abstract_unix.specs.Calls.{closes_all, handed_of, with_handed, with_world}
-use Rattle.abstract_unix.specs.Unix.{Unix, no_texts, process_of}
+use Rattle.abstract_unix.specs.Unix.{Unix, process_of}
 use Rattle.abstract_unix.specs.Whole.{Told, told_in, Owes, Owed}
 use Rattle.unix_core.specs.Parts.{unix_of, board_in, IsGood, IsReady}
 use Rattle.unix_core.specs.declared.world.World.{World}
-use Rattle.unix_core.proofs.ExitLemmas.{of_end, ends, end_log}
+use Rattle.unix_core.proofs.ExitLemmas.{of_end, ends, ends_is, end_log}
 use Rattle.unix_core.proofs.GoodLemmas.{told_of_slot, core_stays, Rests, moved_unix, good_then}
 use Rattle.unix_core.proofs.WorldLemmas.{slot_is, is_living, told_here}
 
@@ -81,17 +82,21 @@ module _ (w1 now : World) (s : ℕ) (ready : IsReady w1 s) (closed : (entry : �
   clicks : now.procs.images.core ≡ w1.procs.images.core
   clicks = let b = its_board in ap (λ (x : Board). x.core) b.1.1 ∙ end_core (board_in w1) s b.0 b.1.0
 
+  abbrev gone : Comes
+  gone = dies (leaves x s status) s
+
+  gone_state : handed now.procs now.files.tree.nodes ≡ gone.state
+  gone_state = state ∙ ap (λ (c : Comes). c.state) (ends_is w1 s ready)
+
   same_switches : (ends w1 s ready).state.switches ≡ w1.procs.switches
-  unfolding exit_now end_proc
-  same_switches = refl
+  same_switches = ap (λ (c : Comes). c.state.switches) (ends_is w1 s ready)
 
   pub ended_unix : unix_of now ≡ with_world (unix_of w1) (ends w1 s ready).state
   ended_unix = moved_unix w1 now rests clicks (ends w1 s ready).state w1.files.table state same_switches table
 
   -- who is told of then
   told : told_in (unix_of now).processes ≡ set (told_in (unix_of w1).processes) s None
-  unfolding exit_now end_proc
-  told = ap (λ (v : its.World). told_in v.processes) state ∙ told_ended x s status
+  told = ap (λ (v : its.World). told_in v.processes) gone_state ∙ told_ended x s status
 
   in_core : (r : ℕ) (t : Told) → told_of_slot now r ≡ Some t → ((row_at now.procs.table r).place ≡ None)
       ⊎ ((((row_at now.procs.table r).place ≡ (row_at w1.procs.table r).place) × (told_of_slot w1 r ≡ Some t)) ⊎ (is_in_core (row_at now.procs.table r).place ≡ true))
@@ -109,11 +114,10 @@ module _ (w1 now : World) (s : ℕ) (ready : IsReady w1 s) (closed : (entry : �
       ]
 
   owed : Owed now.files.tree.nodes.references (unix_of now)
-  unfolding exit_now end_proc
   owed =
-      let P : its.World → Type 0 = λ v. Owes v.inodes.references w1.files.table no_texts (told_in v.processes) in
-      subst (λ (files : List (Option OpenFile)). Owes now.files.tree.nodes.references files no_texts (told_in (unix_of now).processes)) (sym table)
-      (subst P (sym state) (end_owes x s status w1.files.table (slot_is w1 s ready) (is_living w1 s ready) closed ready.good.owed))
+      let P : its.World → Type 0 = λ v. Owes v.inodes.references w1.files.table v.texts (told_in v.processes) in
+      subst (λ (files : List (Option OpenFile)). Owes now.files.tree.nodes.references files (unix_of now).texts (told_in (unix_of now).processes)) (sym table)
+      (subst P (sym gone_state) (end_owes x s status w1.files.table (slot_is w1 s ready) (is_living w1 s ready) closed ready.good.owed))
 
   pub ended_good : IsGood now
   ended_good = good_then w1 now rests clicks ready.good agree (core_stays w1 now ready.good agree in_core) (λ r is up. absurd (

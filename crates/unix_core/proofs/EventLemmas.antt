@@ -81,9 +81,12 @@ pass_agree v k t u is good a =
             image = old.image;
             place = ap (λ (row : TableRow). row.place) same ∙ old.place;
             size = λ held e. ap (λ (row : TableRow). row.size) same ∙ old.size held e;
-            text = ap (λ (row : TableRow). row.text) same ∙ old.text;
             quiet = λ f. ap (λ (row : TableRow). row.channel) same ∙ old.quiet f;
           };
+      text = λ s above below.
+          let same : row_at u s ≡ row_at t s = ap (λ l. get_or l s empty_row) all ∙ get_or-set_other t.rows 0 s rows.0 empty_row (λ e. omega (arith, e, above)) in
+          ap (λ (row : TableRow). row.text) same ∙ a.text s above below;
+      no_text = a.no_text;
     }
 
 -- Sleepers are woken.

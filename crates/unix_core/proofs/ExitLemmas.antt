@@ -1,5 +1,5 @@
 -- exit(II): what its log is, and what the Unix is then.
-use Rattle.std.proofs.Common.{◌≡◌, ◌∙◌, ℕ, List, [], ◌∷◌, map, Option, Some, None, IsSome, refl, sym, ap, subst}
+use Rattle.std.proofs.Common.{◌≡◌, ◌∙◌, ◌*◌, ◌%◌, ℕ, List, [], ◌∷◌, map, Option, Some, None, IsSome, refl, sym, ap, subst}
 use Rattle.std.specs.Prelude.{Result, Ok}
 use Rattle.v6_base.specs.Trace.{Item, Log, Taken, Took}
 use Rattle.v6_base.proofs.Took.{took_more}
@@ -14,13 +14,17 @@ use Rattle.pick_rules.specs.Effects as effects
 use Rattle.pick_rules.specs.Logged.{Logged, logged, log_one, left_by}
 use Rattle.sys_procs.specs.World as its
 use Rattle.sys_procs.specs.Comes.{Comes}
-use Rattle.sys_procs.specs.Exit.{exit_now, end_proc}
+use Rattle.sys_procs.specs.Exit.{parent_slot, leaves, dies, exit_now}
 use Rattle.sys_procs.specs.Agree.{answered}
 use Rattle.sys_procs.specs.Handed.{handed, board, came}
 use Rattle.fs_nodes.specs.FileSystem.{IsFileSystem}
 use Rattle.unix_core.specs.declared.world.World.{World}
 use Rattle.abstract_unix.specs.declared.ending.Ending.TheVariants.{Ended}
-use Rattle.abstract_unix.specs.Unix.{Unix}
+use Rattle.abstract_unix.specs.Unix.{Unix, process_of}
+use Rattle.sys_procs.specs.Process.{register}
+use Rattle.sys_procs.proofs.Ends.{end_alone}
+use Rattle.sys_procs.proofs.Alive.{no_text_here}
+use Rattle.unix_core.proofs.WorldLemmas.{ready_alive}
 use Rattle.abstract_unix.specs.Calls.{exits, closes_all, with_handed, with_world, world_of}
 use Rattle.unix_core.specs.Parts.{unix_of, board_in, IsReady, HasCome, ended_as}
 use Rattle.unix_core.proofs.LoggedLemmas.{over, after_items, logged_both}
@@ -48,12 +52,16 @@ module _ (w1 : World) (s : ℕ) (ready : IsReady w1 s) where
   abbrev pub ends : Comes
   ends = exit_now (handed w1.procs w1.files.tree.nodes) s
 
+  -- the process has no text to leave
+  pub ends_is : ends ≡ dies (leaves (handed w1.procs w1.files.tree.nodes) s (256 * (register (process_of (unix_of w1) s) 0 % 256))) s
+  unfolding exit_now
+  ends_is = end_alone (handed w1.procs w1.files.tree.nodes) s (256 * (register (process_of (unix_of w1) s) 0 % 256)) (no_text_here w1.procs s (ready_alive w1 s ready))
+
   -- an end never panics
   pub end_log : (block : ℕ) × ((parent : ℕ) × (came w1.procs ends ≡ of_end (board_in w1) s block parent))
-  unfolding exit_now end_proc
   end_log =
       let fit = found (swap_fit (board_in w1) 1) (swap_free w1 ready.good) in
-      (fit.0, (_, logged_exit (board_in w1) s fit.0 _ _ fit.1))
+      (fit.0, (_, ap (λ (c : Comes). came w1.procs c) ends_is ∙ logged_exit (board_in w1) s fit.0 _ _ fit.1))
 
   pub end_answer : (r : Result Answer PanicKind) → r ≡ answered (came w1.procs ends).stop ends.answer → r ≡ Ok ends.answer
   end_answer r e = e ∙ ap (λ (l : Logged its.World). answered l.stop ends.answer) end_log.1.1

@@ -13,7 +13,7 @@ use Rattle.pick_rules.specs.Logged.{logged, left_by}
 use Rattle.proc_tab.specs.declared.member.Member.{Member}
 use Rattle.proc_tab.specs.Processes.{Finds, IsLowest, lowest, member_at}
 use Rattle.proc_tab.proofs.SearchLemmas.{lowest_finds}
-use Rattle.image_keep.specs.Kept.{Keeping, Nothing, Alive, Grave, keeping, place_in}
+use Rattle.image_keep.specs.Kept.{Keeping, Nothing, Alive, Grave, keeping, place_in, text_of}
 use Rattle.open_files.specs.declared.file.OpenFile.{OpenFile}
 use Rattle.fs_nodes.specs.FileSystem.{IsFileSystem}
 use Rattle.sys_procs.specs.Process.{Process, no_process, process_in, member_of}
@@ -36,7 +36,7 @@ use Rattle.abstract_unix.proofs.Sharing.{child_owes}
 use Rattle.abstract_unix.proofs.Moved.{MovedBoard}
 use Rattle.unix_core.specs.declared.world.World.{World}
 use Rattle.unix_core.specs.Parts.{unix_of, board_in, IsReady, HasCome, unmet_as}
-use Rattle.unix_core.proofs.GoodLemmas.{told_of_slot, fifty_told, core_moved, still_runs, Rests, moved_unix, good_then}
+use Rattle.unix_core.proofs.GoodLemmas.{told_of_slot, owed_none, owed_so, fifty_told, core_moved, still_runs, Rests, moved_unix, good_then}
 use Rattle.unix_core.proofs.WorldLemmas.{slot_is, is_living, told_here}
 use Rattle.unix_core.proofs.CameLemmas.{IsStill, StaysBeside, given, world_is, goes_on, stops, gone_moved, left_took, gone_come, stopped_come}
 
@@ -57,13 +57,13 @@ nobody : (o : Option Process) → is_none (member_of o) ≡ true → o ≡ None
 nobody None e = refl
 nobody (Some p) e = absurd (cc e)
 
-no_place : (m : Option Member) (x : Keeping) → process_in m x ≡ None → kind_of_keeping x ≡ kind_of_member m → place_in x ≡ None
-no_place None Nothing is kind = refl
-no_place None (Alive held) is kind = absurd (cc kind)
-no_place None (Grave u block) is kind = absurd (cc kind)
-no_place (Some m) Nothing is kind = absurd (cc is)
-no_place (Some m) (Alive held) is kind = absurd (cc is)
-no_place (Some m) (Grave u block) is kind = absurd (cc is)
+no_place : (m : Option Member) (x : Keeping) (text : Option ℕ) → process_in m x text ≡ None → kind_of_keeping x ≡ kind_of_member m → place_in x ≡ None
+no_place None Nothing text is kind = refl
+no_place None (Alive held) text is kind = absurd (cc kind)
+no_place None (Grave u block) text is kind = absurd (cc kind)
+no_place (Some m) Nothing text is kind = absurd (cc is)
+no_place (Some m) (Alive held) text is kind = absurd (cc is)
+no_place (Some m) (Grave u block) text is kind = absurd (cc is)
 
 record IsFree (w : World) (child : ℕ) : Type 0 where
   low : child < 50
@@ -79,7 +79,7 @@ free_slot w child agree free =
     record {
       low = found.low;
       empty = none;
-      place = at.place ∙ no_place (member_at w.procs.rows.slots child) (keeping w.procs.images child)
+      place = at.place ∙ no_place (member_at w.procs.rows.slots child) (keeping w.procs.images child) (text_of w.procs.images child)
           (sym (process_in_slot w.procs.rows.slots w.procs.images child found.low) ∙ none) at.image;
     }
 
@@ -108,7 +108,7 @@ module _ (w : World) (s : ℕ) (ready : IsReady w s) where
       record {
         new = λ r t is. inl (ap (λ l. get_or l r None) (sym same) ∙ is);
         stays = λ t is. ap (λ l. get_or l s None) same ∙ is;
-        owed = subst (Owes refs w.files.table no_texts) (sym same) ready.good.owed;
+        owed = subst (Owes refs w.files.table no_texts) (sym same) (owed_none w ready.good);
       }
   fork_by (Some child) found =
       let free = free_slot w child ready.good.agree found in
@@ -129,7 +129,7 @@ module _ (w : World) (s : ℕ) (ready : IsReady w s) where
         ]);
         stays = subst Q put (λ t is. get_or-set_other ts child s (Some (told_of p)) None apart ∙ is);
         owed = subst (Owes (set refs p.u.dir (slice_index refs p.u.dir + 1)) (shares w.files.table p.u.files (fork_into (given w) s (Some child)).answer) no_texts) put
-            (child_owes refs w.files.table no_texts ts s child (told_of p) ready.good.owed (told_here w s ready) (told_none ps child free.empty)
+            (child_owes refs w.files.table no_texts ts s child (told_of p) (owed_none w ready.good) (told_here w s ready) (told_none ps child free.empty)
             (let low = free.low in let long = fifty_told w in omega (arith, low, long)));
       }
 
@@ -156,7 +156,7 @@ module _ (w now : World) (s : ℕ) (ready : IsReady w s) (agree : AreProcs now.p
             (still_runs w now ready.good agree (λ r is. sym moved.running ∙ is) (λ r t was is.
             let same : s ≡ r = ap (λ o. unwrap_or o 0) (sym ready.runs ∙ was) in
             subst (λ n. told_of_slot now n ≡ Some t) same (told s ∙ owes.stays t (subst (λ n. told_of_slot w n ≡ Some t) (sym same) is))))
-            (subst (λ (l : List (Option OpenFile)). Owes now.files.tree.nodes.references l no_texts (told_in (unix_of now).processes)) (sym table) (subst P (sym state) owes.owed));
+            (owed_so now agree (subst (λ (l : List (Option OpenFile)). Owes now.files.tree.nodes.references l no_texts (told_in (unix_of now).processes)) (sym table) (subst P (sym state) owes.owed)));
         runs = moved.running ∙ ready.runs;
         user = ready.user;
       }

@@ -1,5 +1,5 @@
 -- What is so of a good world: who has an image is told by the counts, and who is told has an image.
-use Rattle.std.proofs.Common.{◌≡◌, ◌<◌, ◌∙◌, ◌⊎◌, ℕ, true, false, List, [], min, get_or, length, Option, Some, None, refl, sym, ap, subst, inl, inr}
+use Rattle.std.proofs.Common.{◌≡◌, ◌<◌, ◌∙◌, ◌⊎◌, ℕ, true, false, List, [], map, min, get_or, length, Option, Some, None, refl, sym, ap, subst, inl, inr}
 use Rattle.std.specs.Prelude.{⊤, MatchOption, unwrap_or}
 use Rattle.std.proofs.lemmas.List.{length-map}
 use Rattle.v6_base.specs.declared.entry.Place.{Place}
@@ -7,17 +7,20 @@ use Rattle.pick_rules.specs.declared.table.Table.{Table}
 use Rattle.pick_rules.specs.Table.{row_at, is_in_core}
 use Rattle.proc_tab.specs.declared.member.Member.{Member}
 use Rattle.proc_tab.specs.Processes.{member_at}
-use Rattle.image_keep.specs.Kept.{Held, Keeping, Nothing, Alive, Grave, Has, HasImage, keeping, place_in}
+use Rattle.image_keep.specs.Kept.{Held, Keeping, Nothing, Alive, Grave, Kept, Has, HasImage, keeping, place_in, text_of}
+use Rattle.image_keep.specs.Kept as kept
 use Rattle.sys_procs.specs.Process.{Process, no_process, process_by, process_in}
-use Rattle.sys_procs.specs.Agree.{Lives, kind_by, kind_of_stat, kind_of_member, kind_of_keeping}
+use Rattle.sys_procs.specs.Agree.{Lives, HasNoText, kind_by, kind_of_stat, kind_of_member, kind_of_keeping}
 use Rattle.sys_procs.specs.World as its
+use Rattle.sys_procs.specs.World.{text_in, texts_in}
 use Rattle.sys_procs.specs.Handed.{AreProcs, handed, board}
 use Rattle.open_files.specs.declared.file.OpenFile.{OpenFile}
+use Rattle.abstract_unix.specs.Unix.{no_texts}
 use Rattle.abstract_unix.specs.Calls.{with_world}
 use Rattle.sys_procs.proofs.Slots.{process_in_slot, fifty_processes}
 use Rattle.sys_procs.proofs.Agreement.{is_there}
 use Rattle.unix_core.specs.declared.world.World.{World}
-use Rattle.abstract_unix.specs.Whole.{Told, told_by, told_in, Owed}
+use Rattle.abstract_unix.specs.Whole.{Told, told_by, told_in, Owes, Owed}
 use Rattle.abstract_unix.proofs.Moved.{MovedBoard}
 use Rattle.abstract_unix.proofs.Owing.{told_at, living}
 use Rattle.unix_core.specs.Parts.{unix_of, IsGood}
@@ -32,18 +35,32 @@ held_alive (Alive held) kind = (held, refl)
 held_alive (Grave u block) kind = absurd (cc kind)
 
 -- a process that lives has an image
-held_by : (m : Option Member) (x : Keeping) (q : Process) → process_in m x ≡ Some q → q.is_zombie ≡ false → kind_of_keeping x ≡ kind_of_member m
-    → (held : Held) × (x ≡ Alive held)
-held_by None x q is lives kind = absurd (cc is)
-held_by (Some m) x q is lives kind = held_alive x (kind ∙ ap kind_by (dead x is))
+held_by : (m : Option Member) (x : Keeping) (text : Option ℕ) (q : Process) → process_in m x text ≡ Some q → q.is_zombie ≡ false
+    → kind_of_keeping x ≡ kind_of_member m → (held : Held) × (x ≡ Alive held)
+held_by None x text q is lives kind = absurd (cc is)
+held_by (Some m) x text q is lives kind = held_alive x (kind ∙ ap kind_by (dead x is))
   where
-    dead : (x : Keeping) → process_in (Some m) x ≡ Some q → m.is_dead ≡ false
+    dead : (x : Keeping) → process_in (Some m) x text ≡ Some q → m.is_dead ≡ false
     dead Nothing is = ap (λ o. (unwrap_or o no_process).is_zombie) is ∙ lives
     dead (Alive held) is = ap (λ o. (unwrap_or o no_process).is_zombie) is ∙ lives
     dead (Grave u block) is = ap (λ o. (unwrap_or o no_process).is_zombie) is ∙ lives
 
 pub runs_low : (w : World) (s : ℕ) → AreProcs w.procs → w.procs.table.running ≡ Some s → s < 50
 runs_low w s agree runs = subst (λ o. MatchOption o ⊤ (λ r. r < 50)) runs agree.table.running
+
+-- no text is made yet
+pub texts_none : (k : Kept) → HasNoText k → texts_in k ≡ no_texts
+unfolding no_texts kept.no_texts
+texts_none k none = ap (λ texts. map text_in texts) none.texts
+
+pub owed_none : (w : World) → IsGood w → Owes w.files.tree.nodes.references w.files.table no_texts (told_in (unix_of w).processes)
+owed_none w good =
+    subst (λ texts. Owes w.files.tree.nodes.references w.files.table texts (told_in (unix_of w).processes)) (texts_none w.procs.images good.agree.no_text) good.owed
+
+pub owed_so : (w : World) → AreProcs w.procs → Owes w.files.tree.nodes.references w.files.table no_texts (told_in (unix_of w).processes)
+    → Owed w.files.tree.nodes.references (unix_of w)
+owed_so w agree owed =
+    subst (λ texts. Owes w.files.tree.nodes.references w.files.table texts (told_in (unix_of w).processes)) (sym (texts_none w.procs.images agree.no_text)) owed
 
 pub fifty_told : (w : World) → length (told_in (unix_of w).processes) ≡ 50
 fifty_told w = length-map (unix_of w).processes told_by ∙ fifty_processes w.procs.rows.slots w.procs.images
@@ -52,15 +69,16 @@ module _ (w : World) (agree : AreProcs w.procs) (s : ℕ) (above : 0 < s) (low :
   pub image_of_told : (t : Told) → told_of_slot w s ≡ Some t → HasImage w.procs.images s
   image_of_told t is =
       let here = living (unix_of w).processes s t is in
-      held_by (member_at w.procs.rows.slots s) (keeping w.procs.images s) here.process
+      held_by (member_at w.procs.rows.slots s) (keeping w.procs.images s) (text_of w.procs.images s) here.process
       (sym (process_in_slot w.procs.rows.slots w.procs.images s low) ∙ here.there) here.lives (agree.each s above low).image
 
   pub told_of_image : (held : Held) → Has w.procs.images s held → told_of_slot w s ≡ Some (record { files = held.u.files; dir = held.u.dir })
   told_of_image held has =
       let there = is_there (member_at w.procs.rows.slots s) (row_at w.procs.table s) (keeping w.procs.images s) held (agree.each s above low) has in
-      told_at (unix_of w).processes s (process_by there.0 (Alive held))
+      let text : Option ℕ = text_of w.procs.images s in
+      told_at (unix_of w).processes s (process_by there.0 (Alive held) text)
       (process_in_slot w.procs.rows.slots w.procs.images s low
-      ∙ (ap (λ o. process_in o (keeping w.procs.images s)) there.1 ∙ ap (λ x. process_in (Some there.0) x) has)) there.2
+      ∙ (ap (λ o. process_in o (keeping w.procs.images s) text) there.1 ∙ ap (λ x. process_in (Some there.0) x text) has)) there.2
 
 -- A world after a good one. What its board says of each process that lives tells that all images are in core, and who runs.
 module _ (w now : World) (good : IsGood w) (agree : AreProcs now.procs) where

@@ -19,6 +19,8 @@ use Rattle.sys_files.specs.Did.{Did}
 use Rattle.sys_files.specs.Descriptors.{close_all}
 use Rattle.sys_files.specs.declared.files.Files.{Files}
 use Rattle.sys_procs.proofs.Alive.{area_here}
+use Rattle.image_keep.specs.Kept as kept
+use Rattle.image_keep.proofs.Frames.{with_image_texts, with_area_texts}
 use Rattle.unix_core.specs.declared.world.World.{World}
 use Rattle.abstract_unix.specs.Unix.{process_of}
 use Rattle.abstract_unix.specs.Calls.{handed_of, with_handed}
@@ -35,10 +37,10 @@ pub area_is : (w : World) (s : ℕ) (u : UArea) → IsReady w s → u ≡ area_o
 area_is w s u ready is = is ∙ area_here w.procs s (ready_alive w s ready)
 
 -- what is lent is what is given
-pub lent_is : (w : World) (s : ℕ) (u : UArea) → IsReady w s → IsFileSystem w.files.tree.nodes → (image_of w.procs.images s).text ≡ [] → u ≡ area_of w.procs.images s
+pub lent_is : (w : World) (s : ℕ) (u : UArea) → IsReady w s → IsFileSystem w.files.tree.nodes → kept.IsKept w.procs.images → u ≡ area_of w.procs.images s
     → handed w.files u (row_at w.procs.rows s) (image_of w.procs.images s) ≡ given w s
-lent_is w s u ready form none is =
-    ap (λ (v : UArea). handed w.files v (row_at w.procs.rows s) (image_of w.procs.images s)) is ∙ handed_is w s ready form none
+lent_is w s u ready form holds is =
+    ap (λ (v : UArea). handed w.files v (row_at w.procs.rows s) (image_of w.procs.images s)) is ∙ handed_is w s ready form holds
 
 -- A call on files has left the parts in this state, and has shown these items.
 pub record Leaves (w w' : World) (s : ℕ) (u : UArea) (row : Row) (image : Image) (state : Handed) (items : List Item) : Type 0 where
@@ -75,10 +77,14 @@ module _ (w w' : World) (s : ℕ) (u : UArea) (row : Row) (image : Image) (state
         others = λ r other.
             ap (λ x. keeping x r) leaves.images ∙ (area_other (with_image k s image) s u r other ∙ image_other k s image r other);
         table = leaves.table;
+        texts = record {
+          texts = ap (λ (x : Kept). x.texts) leaves.images ∙ ((with_area_texts (with_image k s image) s u).texts ∙ (with_image_texts k s image).texts);
+          users = ap (λ (x : Kept). x.users) leaves.images ∙ ((with_area_texts (with_image k s image) s u).users ∙ (with_image_texts k s image).users);
+        };
         core = ap (λ (x : Kept). x.core) leaves.images ∙ (area_core (with_image k s image) s u ∙ image_core k s image);
         last_pid = ap (λ (x : Processes). x.last_pid) leaves.rows;
         switches = leaves.switches;
-        marks = ap (λ (h : Handed). h.marks) leaves.is ∙ leaves.steady.marks ∙ none_marked;
+        marks = ap (λ (h : Handed). h.marks) leaves.is ∙ leaves.steady.marks ∙ none_marked k ready.good.agree.no_text;
         entry_room = leaves.rooms.0;
         byte_room = leaves.rooms.1;
         world_core = leaves.core;
@@ -103,17 +109,19 @@ pub record IsLent (w : World) (s : ℕ) (u : UArea) (r : Row) (m : Image) : Type
   pub ready : IsReady w s
   pub form : IsFileSystem w.files.tree.nodes
   pub sizes : HasSizes u (image_of w.procs.images s)
+  pub holds : kept.IsKept w.procs.images
   pub area : u ≡ area_of w.procs.images s
   pub row : r ≡ row_at w.procs.rows s
   pub image : m ≡ image_of w.procs.images s
 
 pub lends : (w : World) (s : ℕ) {u : UArea} {r : Row} (before : Kept) (was : ℕ) → IsReady w s → IsFileSystem w.files.tree.nodes
-    → HasSizes u (image_of w.procs.images s) → u ≡ area_of w.procs.images s → r ≡ row_at w.procs.rows s → before ≡ w.procs.images → was ≡ s
+    → HasSizes u (image_of w.procs.images s) → kept.IsKept w.procs.images → u ≡ area_of w.procs.images s → r ≡ row_at w.procs.rows s → before ≡ w.procs.images → was ≡ s
     → IsLent w s u r (image_of before was)
-lends w s {u} {r} before was ready form sizes area row images slot = record {
+lends w s {u} {r} before was ready form sizes holds area row images slot = record {
   ready = ready;
   form = form;
   sizes = sizes;
+  holds = holds;
   area = area;
   row = row;
   image = ap (λ (k : Kept). image_of k was) images ∙ ap (image_of w.procs.images) slot;
@@ -122,7 +130,7 @@ lends w s {u} {r} before was ready form sizes area row images slot = record {
 pub lent_parts : (w : World) (s : ℕ) {u : UArea} {r : Row} {m : Image} → IsLent w s u r m → handed w.files u r m ≡ given w s
 lent_parts w s {u} {r} {m} lent =
     ap (λ (x : Row). handed w.files u x m) lent.row
-    ∙ (ap (λ (x : Image). handed w.files u (row_at w.procs.rows s) x) lent.image ∙ lent_is w s u lent.ready lent.form lent.sizes.text lent.area)
+    ∙ (ap (λ (x : Image). handed w.files u (row_at w.procs.rows s) x) lent.image ∙ lent_is w s u lent.ready lent.form lent.holds lent.area)
 
 -- A call on files of a process has done what its row says: the Unix is the row's, and what it shows stands on the tape.
 pub record HasDone (w w' : World) (s : ℕ) (a : Answer) (row : Did) : Type 0 where

@@ -19,14 +19,9 @@ use Rattle.unix_core.specs.declared.world.World.{World}
 use Rattle.abstract_unix.specs.Outside.{timed_area}
 use Rattle.unix_core.proofs.LeavingLemmas.{given, IsLent, lent_parts}
 
-none_in : (xs : List ℕ) → length xs ≡ 0 → xs ≡ []
-none_in [] none = refl
-none_in (x ∷ xs) none = absurd (omega (arith, none))
-
 pub sizes_kept : (u v : UArea) (m n : Image) → HasSizes u m → SameSizes v u → SameLengths m n → HasSizes v n
 sizes_kept u v m n has same long = record {
-  text = none_in n.text (long.text ∙ ap (λ (l : List ℕ). length l) has.text);
-  text_size = same.text ∙ has.text_size;
+  text_size = long.text ∙ (has.text_size ∙ sym (ap (λ k. 64 * k) same.text));
   data_size = long.data ∙ (has.data_size ∙ sym (ap (λ k. 64 * k) same.data));
   stack_size = long.stack ∙ (has.stack_size ∙ sym (ap (λ k. 64 * k) same.stack));
 }

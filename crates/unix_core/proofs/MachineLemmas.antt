@@ -1,6 +1,6 @@
 -- What the parts of a kernel are while the registers of the process that executes instructions stand apart, and when they have
 -- been put back into its u area.
-use Rattle.std.proofs.Common.{◌≡◌, ◌<◌, ◌==◌, if◌then◌else◌, ℕ, Bool, false, set, Option, Some, None, refl, sym, ap, ◌∙◌, subst, arith}
+use Rattle.std.proofs.Common.{◌≡◌, ◌<◌, ◌==◌, if◌then◌else◌, ℕ, Bool, false, map, set, Option, Some, None, refl, sym, ap, ◌∙◌, subst, arith}
 use Rattle.std.proofs.lemmas.Bool.{ne_eqb}
 use Rattle.std.proofs.lemmas.List.{set-get_or}
 use Rattle.u_area.specs.declared.area.UArea.{UArea}
@@ -13,6 +13,8 @@ use Rattle.image_keep.specs.Kept.{Kept, with_area, area_of, clicks_of}
 use Rattle.sys_procs.specs.Process.{Process}
 use Rattle.sys_procs.specs.Handed.{IsAlive}
 use Rattle.sys_procs.proofs.Alive.{area_here}
+use Rattle.image_keep.proofs.Frames.{with_area_texts}
+use Rattle.sys_procs.specs.Agree.{text_place}
 use Rattle.unix_core.specs.declared.world.World.{World}
 use Rattle.unix_core.specs.declared.machine.Stage.{Stage}
 use Rattle.unix_core.specs.declared.machine.Stage.TheVariants as stage
@@ -61,7 +63,7 @@ module _ (w : World) (s : ℕ) (regs : Regs) (ready : IsReady w s) (u : UArea) (
       let unix : unix_of (with_images w (with_area w.procs.images s u)) ≡ with_process (unix_of w) s (holding regs p) =
       unix_put w s u alive ∙ ap (λ (v : UArea). with_process (unix_of w) s (record p { u = v })) is in
       ap (λ l. system_at stage.Resting regs (with_images w l)) kept
-      ∙ (λ i. record { unix = unix i; board = record (board_in w) { core = area_core w.procs.images s u i } })
+      ∙ (λ i. record { unix = unix i; board = record (board_in w) { texts = map text_place ((with_area_texts w.procs.images s u).texts i); core = area_core w.procs.images s u i } })
 
   pub back_rested : IsRested stage.Resting (with_images w k)
   back_rested = record {
@@ -162,7 +164,7 @@ module _ (mode : Mode) (at : Stage) (w : World) (s : ℕ) (rested : IsRested at 
       ∙ ap (λ c. if c then unix_of w else with_process (unix_of w) s (timed mode who)) (ne_eqb s 0 (λ e. omega (arith, e, above))))
 
   pub charge_board : board_in (with_images w k) ≡ board_in w
-  charge_board = ap (λ l. board_in (with_images w l)) kept ∙ (λ i. record (board_in w) { core = area_core w.procs.images s u i })
+  charge_board = ap (λ l. board_in (with_images w l)) kept ∙ (λ i. record (board_in w) { texts = map text_place ((with_area_texts w.procs.images s u).texts i); core = area_core w.procs.images s u i })
 
   pub charge_rested : IsRested at (with_images w k)
   charge_rested = record {

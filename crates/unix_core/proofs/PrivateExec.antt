@@ -8,36 +8,24 @@ use Rattle.seg_regs.specs.Sizes.{is_refused}
 use Rattle.fs_tree.specs.Finding.{with_reference}
 use Rattle.pick_rules.specs.Effects as effect
 use Rattle.sys_procs.specs.Process.{Process}
-use Rattle.sys_procs.specs.World.{World, process_of, change}
+use Rattle.sys_procs.specs.World.{World, process_of, change, let_go}
 use Rattle.sys_procs.specs.Comes.{Comes, does, logs}
-use Rattle.sys_procs.specs.Texts.{entry_of, free_entry, new_text, goes, text_of, with_text, joined, remaining}
+use Rattle.sys_procs.specs.TextTable.{entry_of, text_of, with_text}
+use Rattle.sys_procs.specs.Texts.{free_entry, new_text, goes, joined, remaining, without_text, leaves_text, is_sticky, xfree, with_entry, shares_text, makes_text, xalloc_by, xalloc}
+use Rattle.sys_procs.specs.Tests.{node_at}
 use Rattle.sys_procs.specs.Break.{break_at, grow, grown_stack, clicks_up_to, sized, expands}
-use Rattle.sys_procs.specs.ExecFile.{Tested, let_go, tests, node_at, with_moved, text_clicks, without_text, leaves_text, is_sticky, xfree, with_entry, shares_text, makes_text, xalloc_by, xalloc, data_read, reads_text, image_clicks, begins, executes, loads, done_by, exec_file}
+use Rattle.sys_procs.specs.ExecFile.{Tested, tests, with_moved, text_clicks, data_read, reads_text, image_clicks, begins, executes, loads, done_by, exec_file}
 use Rattle.sys_procs.proofs.TestedSlots.{tests_processes}
 use Rattle.abstract_unix.specs.declared.calls.ProcessCall.{ProcessCall}
 use Rattle.abstract_unix.specs.declared.calls.ProcessCall.TheVariants as process
 use Rattle.abstract_unix.specs.Calls.{process_row}
 use Rattle.abstract_unix.proofs.ProcessRows.{plain_row}
 use Rattle.unix_core.proofs.PrivateSlots.{Spared}
-use Rattle.unix_core.proofs.PrivateRows.{IsSparing, spared_change, sparing_comes, sparing_logs, sparing_if, sparing_plain}
+use Rattle.unix_core.proofs.PrivateRows.{IsSparing, spared_change, sparing_comes, sparing_logs, sparing_if, sparing_xfree, sparing_plain}
 
 module _ (ps : List (Option Process)) (r s : ℕ) (other : r ≢ s) where
   abbrev SparedIn : World → Type 0
   SparedIn w = Spared ps w.processes r
-
-  -- The old program goes.
-  spared_gone : (b : Bool) (w : World) (ino : ℕ) → SparedIn w → SparedIn (if b then let_go w ino else w)
-  spared_gone true w ino h = h
-  spared_gone false w ino h = h
-
-  sparing_xfree : (w : World) (o : Option ℕ) (next : World → Comes) → SparedIn w
-      → ((v : World) → SparedIn v → IsSparing ps r (next v)) → IsSparing ps r (xfree w s o next)
-  sparing_xfree w None next h rest = rest w h
-  sparing_xfree w (Some k) next h rest =
-      let sticky = is_sticky w k in
-      let entry = record w { texts = slice_set w.texts k (remaining (text_of w.texts k) sticky) } in
-      sparing_logs ps r s other (Leave s k sticky) _
-      (rest (leaves_text w s k sticky) (spared_gone (goes (text_of w.texts k) sticky) (change entry s without_text) (text_of w.texts k).ino (spared_change ps r s other entry without_text h)))
 
   -- A text that would be shared.
   sparing_xalloc_by : (w : World) (ino size : ℕ) (o : Option ℕ) (next : World → Bool → Comes) → SparedIn w
@@ -80,7 +68,7 @@ module _ (ps : List (Option Process)) (r s : ℕ) (other : r ≢ s) where
       let fills : World → Comes = λ left. logs (Bare s) (xalloc left s program.ino size places) in
       let filled : (v : World) → SparedIn v → IsSparing ps r (fills v) = λ v k.
       sparing_logs ps r s other (Bare s) (xalloc v s program.ino size places) (sparing_xalloc v program.ino size places k placed) in
-      sparing_xfree w (process_of w s).text fills h filled
+      sparing_xfree ps r s other w (process_of w s).text fills h filled
 
   sparing_done : (w : World) (a : Result _ Errno) → SparedIn w → IsSparing ps r (done_by w s a)
   sparing_done w (Ok program) h = sparing_loads w program h

@@ -145,7 +145,7 @@ module _ (ps : List (Option Process)) (r s : ℕ) (other : r ≢ s) where
     sparing_outcome Next = sparing_quiet u ending.Next h
     sparing_outcome (Call number) =
         let p : Process = process_of u s in
-        let a : Asked = asked (image_of p) (register p 7) number in
+        let a : Asked = asked (image_of u.texts p) (register p 7) number in
         sparing_built a (sysent_of a.number)
     sparing_outcome (Fault k) = sparing_faults k
 
@@ -154,7 +154,7 @@ module _ (ps : List (Option Process)) (r s : ℕ) (other : r ≢ s) where
     sparing_instruction : AreSparing ps r (instruction u s)
     sparing_instruction =
         let p : Process = process_of u s in
-        let stepped : Stepped = instr (machine_of p) in
+        let stepped : Stepped = instr (machine_of u.texts p) in
         sparing_outcome (with_process u s (with_machine p stepped.machine)) (spared_put u _ h) stepped.outcome
 
     sparing_resumed : AreSparing ps r (resumed u s)

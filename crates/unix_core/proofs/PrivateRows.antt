@@ -1,6 +1,6 @@
 -- The calls on processes but for exec and break: each leaves the processes of other slots alone.
 use Rattle.std.proofs.Common.{◌≡◌, ◌≢◌, ◌∙◌, ◌*◌, ◌%◌, ℕ, Bool, true, false, if◌then◌else◌, List, [], get_or, set, Option, Some, None, is_none, sym, ap}
-use Rattle.std.specs.Prelude.{unwrap_or}
+use Rattle.std.specs.Prelude.{unwrap_or, slice_set}
 use Rattle.std.proofs.lemmas.List.{get_or-map}
 use Rattle.v6_base.specs.declared.answer.Answer.{Answer}
 use Rattle.v6_base.specs.declared.entry.Entry.{Entry}
@@ -8,12 +8,14 @@ use Rattle.v6_base.specs.declared.entry.Entry.TheVariants as line
 use Rattle.proc_tab.specs.Processes.{IsLowest, Finds, lowest}
 use Rattle.proc_tab.proofs.SearchLemmas.{lowest_finds}
 use Rattle.sys_procs.specs.Process.{Process, no_process, member_of, register}
-use Rattle.sys_procs.specs.World.{World, process_of, change, without_process, members}
+use Rattle.sys_procs.specs.World.{World, process_of, change, without_process, members, let_go}
 use Rattle.sys_procs.specs.Comes.{Comes, comes, logs}
 use Rattle.sys_procs.specs.Times.{with_time}
 use Rattle.sys_procs.specs.Fork.{fork_one, fork_into, past_word, next_pid, with_child}
-use Rattle.sys_procs.specs.Exit.{exit_now, end_proc, leaves, dead, ended}
+use Rattle.sys_procs.specs.Exit.{exit_now, end_proc, leaves, dies, dead, ended}
 use Rattle.sys_procs.specs.Resume.{resume_proc, awake}
+use Rattle.sys_procs.specs.TextTable.{text_of}
+use Rattle.sys_procs.specs.Texts.{goes, remaining, without_text, leaves_text, is_sticky, xfree}
 use Rattle.abstract_unix.proofs.ProcessRows.{Plain, gives, refuses, waits, changes, due, nice, wakes, dated, buries, resume_plain}
 use Rattle.abstract_unix.proofs.Owing.{some_within}
 use Rattle.unix_core.proofs.PrivateSlots.{Spared, AllCarry, spared_then, spared_other, spared_unless, spared_adopted}
@@ -69,6 +71,20 @@ module _ (ps : List (Option Process)) (r s : ℕ) (other : r ≢ s) where
       (spared_then ps w.processes (without_process w k).processes r h
       (spared_unless w.processes k r None (λ q is. ap (λ o. (unwrap_or o no_process).is_zombie) (sym is ∙ grave.at) ∙ grave.dead))))
 
+  -- A text is left.
+  spared_gone : (b : Bool) (w : World) (ino : ℕ) → Spared ps w.processes r → Spared ps (if b then let_go w ino else w).processes r
+  spared_gone true w ino h = h
+  spared_gone false w ino h = h
+
+  pub sparing_xfree : (w : World) (o : Option ℕ) (next : World → Comes) → Spared ps w.processes r
+      → ((v : World) → Spared ps v.processes r → IsSparing ps r (next v)) → IsSparing ps r (xfree w s o next)
+  sparing_xfree w None next h rest = rest w h
+  sparing_xfree w (Some k) next h rest =
+      let sticky = is_sticky w k in
+      let entry = record w { texts = slice_set w.texts k (remaining (text_of w.texts k) sticky) } in
+      sparing_logs (line.Leave s k sticky) _
+      (rest (leaves_text w s k sticky) (spared_gone (goes (text_of w.texts k) sticky) (change entry s without_text) (text_of w.texts k).ino (spared_change entry without_text h)))
+
   module _ (w : World) (h : Spared ps w.processes r) where
     sparing_into : (o : Option ℕ) → Finds is_none (members w) o → IsSparing ps r (fork_into w s o)
     sparing_into None found = sparing_comes (change w s past_word) _ (spared_change w past_word h)
@@ -93,12 +109,14 @@ module _ (ps : List (Option Process)) (r s : ℕ) (other : r ≢ s) where
         (spared_then ps w.processes ended r h (spared_other w.processes s r (Some zombie) other))
         (spared_adopted ended p.row.pid r)
 
+  sparing_dies : (w : World) → Spared ps w.processes r → IsSparing ps r (dies w s)
+  sparing_dies w h = record { effects = (h, (tt, (tt, tt))); state = spared_dead w h }
+
   sparing_end : (w : World) (status : ℕ) → Spared ps w.processes r → IsSparing ps r (end_proc w s status)
   unfolding end_proc
   sparing_end w status h =
       let left : World = leaves w s status in
-      let spared : Spared ps left.processes r = spared_change w (ended status) h in
-      record { effects = (spared, (tt, (tt, tt))); state = spared_dead left spared }
+      sparing_xfree left (process_of w s).text (λ x. dies x s) (spared_change w (ended status) h) sparing_dies
 
   pub sparing_exit : (w : World) → Spared ps w.processes r → IsSparing ps r (exit_now w s)
   unfolding exit_now

@@ -20,15 +20,18 @@ use Rattle.v6_base.specs.Access.{then_do}
 use Rattle.aout_head.specs.Header.{Header, header_of, plan_of}
 use Rattle.seg_regs.specs.Sizes.{is_refused}
 use Rattle.sys_procs.specs.declared.program.Program.{Program}
-use Rattle.sys_procs.specs.Process.{Process, no_process}
+use Rattle.sys_procs.specs.Process.{Process, no_process, image_of}
 use Rattle.sys_procs.specs.World as its
-use Rattle.sys_procs.specs.Texts.{no_texts, entry_of}
+use Rattle.sys_procs.specs.World.{with_inodes, let_go}
+use Rattle.sys_procs.specs.TextTable.{entry_of}
+use Rattle.sys_procs.specs.Texts.{xfree, xalloc, xalloc_by, makes_text}
 use Rattle.sys_procs.specs.Comes.{Comes, logs, does}
-use Rattle.sys_procs.specs.Tests.{must, user_of}
+use Rattle.sys_procs.specs.Tests.{must, user_of, node_at}
 use Rattle.sys_procs.specs.Stack.{arguments, stack_clicks}
-use Rattle.sys_procs.specs.ExecFile.{Tested, check, with_inodes, let_go, with_moved, node_at, header_read, unless_error, is_magic, or_no_memory, is_busy, tests_header, memory_of, tests_file, tests, text_clicks, data_clicks, image_clicks, xfree, xalloc, xalloc_by, makes_text, reads_text, executes, loads, done_by, exec_file}
+use Rattle.sys_procs.specs.ExecFile.{Tested, check, with_moved, header_read, unless_error, is_magic, or_no_memory, is_busy, tests_header, tests_file, tests, text_clicks, data_clicks, image_clicks, reads_text, executes, loads, done_by, exec_file}
 use Rattle.sys_procs.specs.Handed.{board}
-use Rattle.sys_procs.proofs.Alive.{is_here}
+use Rattle.sys_procs.proofs.Alive.{no_text_here}
+use Rattle.sys_procs.proofs.LoadForms as loads_of
 use Rattle.sys_procs.proofs.LoadForms.{begun, image, loads_effects, loads_state}
 use Rattle.unix_core.specs.declared.world.World.{World}
 use Rattle.abstract_unix.specs.Unix.{process_of}
@@ -113,7 +116,7 @@ module _ (base : its.World) (s : ℕ) where
       let gone = out_again base w d is in
       leaves_check base out (permission node (user_of p) Execute) _ gone (λ may.
       leaves_check base out (must EACCES (file_type node.mode == 0)) _ gone (λ plain.
-      leaves_check base out (arguments (memory_of w p) list) _ gone (λ args.
+      leaves_check base out (arguments (image_of w.texts p) list) _ gone (λ args.
       let head : Moving (List ℕ) = header_read w d in
       let x : its.World = with_moved w d head in
       leaves_header x d args head (ap (λ (v : its.World). with_inodes v x.inodes) is.0, is.1))))
@@ -137,7 +140,7 @@ module _ (base : its.World) (s : ℕ) where
   leaves_tests : (name list : ℕ) → Leaves base (tests base s name list).world (tests base s name list).answer
   leaves_tests name list =
       let p : Process = its.process_of base s in
-      leaves_found list (then_do (way base.inodes.store (user_of p) p.u.dir (name_at (memory_of base p) name)) (found base.inodes.store))
+      leaves_found list (then_do (way base.inodes.store (user_of p) p.u.dir (name_at (image_of base.texts p) name)) (found base.inodes.store))
 
 -- What the call comes to when the tests have let a program through.
 module _ (w : World) (s : ℕ) (ready : IsReady w s) where
@@ -159,16 +162,14 @@ module _ (w : World) (s : ℕ) (ready : IsReady w s) where
 
     no_text_of : (its.process_of x s).text ≡ None
     no_text_of =
-        let here = is_here w.procs s (ready_alive w s ready) in
-        ap (λ (q : Process). q.text) own ∙ ap (λ (q : Process). q.text) here.process_is
+        ap (λ (q : Process). q.text) own ∙ no_text_here w.procs s (ready_alive w s ready)
 
     same_switches : x.switches ≡ w.procs.switches
     same_switches = ap (λ (v : its.World). v.switches) is.0
 
     -- no text is in an entry
     no_entry : entry_of x.texts program.ino ≡ None
-    unfolding no_texts
-    no_entry = ap (λ (v : its.World). entry_of v.texts program.ino) is.0
+    no_entry = ap (λ (v : its.World). entry_of v.texts program.ino) is.0 ∙ loads_of.no_entry w.procs.images program.ino ready.good.agree.no_text
 
     -- what comes after the text
     abbrev next : its.World → Bool → Comes

@@ -1,16 +1,16 @@
 -- A process's u area is another one, with the same sizes, numbers of files and directory: what belongs together still does.
-use Rattle.std.proofs.Common.{◌≡◌, ◌≢◌, ◌<◌, cond, ℕ, get_or, set, min, Some, None, refl, sym, ap, ◌∙◌, subst}
+use Rattle.std.proofs.Common.{◌≡◌, ◌≢◌, ◌<◌, cond, ℕ, get_or, map, set, min, Some, None, refl, sym, ap, ◌∙◌, subst}
 use Rattle.u_area.specs.declared.area.UArea.{UArea}
 use Rattle.pick_rules.specs.Table.{row_at}
 use Rattle.v6_base.specs.declared.entry.Place.{Place}
 use Rattle.proc_tab.specs.declared.member.Member.{Member}
 use Rattle.proc_tab.specs.declared.row.Row.{Row}
 use Rattle.proc_tab.specs.Processes.{Processes, member_at}
-use Rattle.image_keep.specs.Kept.{Held, Alive, Kept, Has, keeping, with_area, area_in, clicks_of}
-use Rattle.image_keep.proofs.Frames.{alive_low, image_alive}
+use Rattle.image_keep.specs.Kept.{Held, Alive, Kept, Has, keeping, with_area, area_in, clicks_of, text_of}
+use Rattle.image_keep.proofs.Frames.{SameTexts, alive_low, image_alive, with_area_texts}
 use Rattle.sys_procs.specs.Process.{Process, process_by, process_in}
-use Rattle.sys_procs.specs.World.{processes_in}
-use Rattle.sys_procs.specs.Agree.{Agrees, Agree}
+use Rattle.sys_procs.specs.World.{processes_in, text_in}
+use Rattle.sys_procs.specs.Agree.{Agrees, Agree, text_place}
 use Rattle.sys_procs.specs.Handed.{AreProcs, IsAlive}
 use Rattle.sys_procs.proofs.Slots.{process_in_slot, one_changed, area_changed}
 use Rattle.sys_procs.proofs.Agreement.{agree_but}
@@ -20,7 +20,7 @@ use Rattle.abstract_unix.specs.Unix.{no_texts, process_of, with_process}
 use Rattle.unix_core.specs.Parts.{unix_of, board_in, IsGood}
 use Rattle.abstract_unix.specs.Whole.{told_in, Owes}
 use Rattle.abstract_unix.proofs.Owing.{told_change}
-use Rattle.unix_core.proofs.GoodLemmas.{runs_low, core_same, runs_same}
+use Rattle.unix_core.proofs.GoodLemmas.{runs_low, owed_none, owed_so, core_same, runs_same}
 use Rattle.unix_core.proofs.LoanLemmas.{area_now, area_other, area_core}
 
 pub record IsLikeArea (u v : UArea) : Type 0 where
@@ -36,8 +36,8 @@ pub alive_slot : (w : World) (s : ℕ) → IsAlive w.procs s → get_or (unix_of
 alive_slot w s alive =
     let here = is_here w.procs s alive in
     process_in_slot w.procs.rows.slots w.procs.images s alive.below
-    ∙ (ap (λ o. process_in o (keeping w.procs.images s)) here.member_is
-    ∙ (ap (λ x. process_in (Some here.member) x) here.image_is
+    ∙ (ap (λ o. process_in o (keeping w.procs.images s) (text_of w.procs.images s)) here.member_is
+    ∙ (ap (λ x. process_in (Some here.member) x (text_of w.procs.images s)) here.image_is
     ∙ ap (λ (p : Process). Some p) (sym here.process_is)))
 
 -- who runs lives
@@ -49,19 +49,21 @@ module _ (w : World) (s : ℕ) (alive : IsAlive w.procs s) (v : Processes) (k : 
     (clicks : (held : Held) → (process_of (unix_of w) s).u ≡ held.u → clicks_of (new held).u ≡ clicks_of held.u) (place : (held : Held) → (new held).place ≡ held.place)
     (member : (m : Member) → member_at w.procs.rows.slots s ≡ Some m → member_at v.slots s ≡ Some (record m { row = row m }))
     (members : (r : ℕ) → r ≢ s → member_at v.slots r ≡ member_at w.procs.rows.slots r)
-    (memory : (held : Held) → Has w.procs.images s held → Has k s (new held)) (others : (r : ℕ) → r ≢ s → keeping k r ≡ keeping w.procs.images r) where
+    (memory : (held : Held) → Has w.procs.images s held → Has k s (new held)) (others : (r : ℕ) → r ≢ s → keeping k r ≡ keeping w.procs.images r) (texts : SameTexts w.procs.images k) where
   abbrev here : IsHere w.procs s
   here = is_here w.procs s alive
 
   abbrev its : Member
   its = record here.member { row = row here.member }
 
-  pub slot_put : (q : Process) → process_by its (Alive (new here.held)) ≡ q → processes_in v.slots k ≡ set (unix_of w).processes s (Some q)
+  text : (r : ℕ) → text_of k r ≡ text_of w.procs.images r
+  text r = ap (λ users. get_or users r None) texts.users
+
+  pub slot_put : (q : Process) → process_by its (Alive (new here.held)) (text_of w.procs.images s) ≡ q → processes_in v.slots k ≡ set (unix_of w).processes s (Some q)
   slot_put q is =
       one_changed w.procs.rows.slots v.slots w.procs.images k s (Some q) alive.below
-      (ap (λ o. process_in o (keeping k s)) (member here.member here.member_is)
-      ∙ ap (λ x. process_in (Some its) x) (memory here.held here.image_is) ∙ ap (λ (x : Process). Some x) is)
-      (λ r below other. ap (λ o. process_in o (keeping k r)) (members r other) ∙ ap (λ x. process_in (member_at w.procs.rows.slots r) x) (others r other))
+      ((λ i. process_in (member here.member here.member_is i) (memory here.held here.image_is i) (text s i)) ∙ ap (λ (x : Process). Some x) is)
+      (λ r below other. λ i. process_in (members r other i) (others r other i) (text r i))
 
   pub agree_put : Agree v w.procs.table k
   agree_put =
@@ -73,13 +75,12 @@ module _ (w : World) (s : ℕ) (alive : IsAlive w.procs s) (v : Processes) (k : 
         image = old.image;
         place = old.place ∙ ap (λ (p : Place). Some p) (sym (place here.held));
         size = λ other is. old.size here.held refl ∙ (sym (clicks here.held (ap (λ (x : Process). x.u) here.process_is)) ∙ ap (λ x. clicks_of (area_in x)) is);
-        text = old.text;
         quiet = old.quiet;
       } in
       agree_but w.procs.rows v w.procs.table w.procs.table w.procs.images k s alive.agree alive.above alive.agree.table refl
       (subst (λ m. Agrees m (row_at w.procs.table s) (keeping k s)) (sym (member here.member here.member_is))
       (subst (λ x. Agrees (Some its) (row_at w.procs.table s) x) (sym (memory here.held here.image_is)) now))
-      members (λ r other. refl) others
+      (alive.agree.text s alive.above alive.below) texts members (λ r other. refl) others
 
 module _ (w : World) (s : ℕ) (u : UArea) (alive : IsAlive w.procs s) where
   abbrev p : Process
@@ -103,11 +104,12 @@ module _ (w : World) (s : ℕ) (u : UArea) (alive : IsAlive w.procs s) where
   pub unix_put : unix_of w' ≡ with_process (unix_of w) s q
   unix_put = λ i. record (unix_of w) {
     processes = processes_put i;
+    texts = map text_in ((with_area_texts k s u).texts i);
     limit = min (area_core k s u i) 2048;
   }
 
   pub board_put : board_in w' ≡ board_in w
-  board_put = λ i. record (board_in w) { core = area_core k s u i }
+  board_put = λ i. record (board_in w) { texts = map text_place ((with_area_texts k s u).texts i); core = area_core k s u i }
 
   module _ (like : IsLikeArea u p.u) where
     told_put : told_in (unix_of w').processes ≡ told_in (unix_of w).processes
@@ -118,14 +120,14 @@ module _ (w : World) (s : ℕ) (u : UArea) (alive : IsAlive w.procs s) where
     agree_area : AreProcs w'.procs
     agree_area =
         agree_put w s alive w.procs.rows (with_area k s u) (λ m. m.row) (λ held. record held { u = u }) (λ held own. like.clicks ∙ ap clicks_of own) (λ held. refl)
-        (λ m is. is) (λ r other. refl) (area_now k s u) (area_other k s u)
+        (λ m is. is) (λ r other. refl) (area_now k s u) (area_other k s u) (with_area_texts k s u)
 
     pub good_put : IsGood w → IsGood w'
     good_put good = record {
       agree = agree_area;
       in_core = core_same w w' good agree_area refl;
       running = runs_same w w' good agree_area refl;
-      owed = subst (Owes w.files.tree.nodes.references w.files.table no_texts) (sym told_put) good.owed;
+      owed = owed_so w' agree_area (subst (Owes w.files.tree.nodes.references w.files.table no_texts) (sym told_put) (owed_none w good));
       marks = good.marks;
       rooms = good.rooms;
       core = good.core ∙ sym (area_core k s u);

@@ -15,6 +15,7 @@ use Rattle.pick_rules.proofs.Laws as law
 use Rattle.sys_files.specs.Did.{Did}
 use Rattle.sys_procs.specs.Agree.{Lives, kind_of_stat, untimed}
 use Rattle.sys_procs.proofs.Agreement.{IsLike, AreLike, tables_same, wakeup_like, agree_like}
+use Rattle.sys_procs.specs.Agree.{text_place}
 use Rattle.unix_core.specs.declared.world.World.{World}
 use Rattle.abstract_unix.specs.declared.ending.Ending.{Ending}
 use Rattle.abstract_unix.specs.Unix.{Unix}
@@ -118,7 +119,7 @@ pub shown_board : (w new : World) (s : ℕ) (items : List Item) → IsReadyToSho
 shown_board w new s items shown =
     sym (shown.wakes new.procs.table new.procs.images)
     ∙ ap (λ (b : Board). (logged {W = Unix} b (map Show items)).board)
-    (λ i. record { table = untimed (shown.table i); texts = replicate 40 None; core = shown.core i })
+    (λ i. record { table = untimed (shown.table i); texts = map text_place (shown.texts i); core = shown.core i })
 
 -- A call on files has come to its row, when what it shows has been passed on and its answer concluded.
 pub shown_come : (w new now : World) (s : ℕ) (did : Did) (e : Ending) → IsReadyToShow w new s did.items

@@ -7,7 +7,7 @@ use Rattle.v6_base.specs.Trace.{Took, Taken}
 use Rattle.pick_rules.specs.Logged.{logged}
 use Rattle.proc_tab.specs.declared.member.Member.{Member}
 use Rattle.proc_tab.specs.Processes.{member_at}
-use Rattle.image_keep.specs.Kept.{Keeping, Nothing, keeping, area_of}
+use Rattle.image_keep.specs.Kept.{Keeping, Nothing, keeping, area_of, text_of}
 use Rattle.sys_procs.specs.Process.{Process, no_process, process_in, register}
 use Rattle.sys_procs.proofs.Slots.{own_is}
 use Rattle.sys_procs.proofs.Alive.{area_here}
@@ -42,14 +42,14 @@ module _ (at : Stage) (regs : Regs) (w : World) (rested : IsRested at w) where
   pub pc_nobody : w.procs.table.running ≡ None → 0 ≡ pc_at at regs w
   pc_nobody none = ap (pc_by (with_regs at regs (unix_of w))) (sym none)
 
-  no_pc : (m : Option Member) (x : Keeping) → x ≡ Nothing → 0 ≡ register (unwrap_or (process_in m x) no_process) 7
-  no_pc None x none = refl
-  no_pc (Some m) x none = ap (λ y. register (unwrap_or (process_in (Some m) y) no_process) 7) (sym none)
+  no_pc : (m : Option Member) (x : Keeping) (t : Option ℕ) → x ≡ Nothing → 0 ≡ register (unwrap_or (process_in m x t) no_process) 7
+  no_pc None x t none = refl
+  no_pc (Some m) x t none = ap (λ y. register (unwrap_or (process_in (Some m) y t) no_process) 7) (sym none)
 
   -- the swapper has none
   pub pc_swapper : w.procs.table.running ≡ Some 0 → 0 ≡ pc_at at regs w
   pc_swapper runs =
-      no_pc (member_at w.procs.rows.slots 0) (keeping w.procs.images 0) (some_good at w rested).agree.images
+      no_pc (member_at w.procs.rows.slots 0) (keeping w.procs.images 0) (text_of w.procs.images 0) (some_good at w rested).agree.images
       ∙ ap (λ (p : Process). register p 7) (sym (own_is w.procs.rows.slots w.procs.images 0 (omega arith)))
       ∙ ap (pc_by (unix_of w)) (sym runs)
       ∙ ap (λ u. pc_by u w.procs.table.running) (sym (rested_unix at regs w rested))

@@ -11,6 +11,7 @@ use Rattle.sys_procs.specs.Times.{pending_sleep}
 use Rattle.sys_procs.specs.Wait.{pending_wait}
 use Rattle.sys_procs.specs.Resume.{resume_proc}
 use Rattle.sys_procs.proofs.Alive.{is_here}
+use Rattle.sys_procs.proofs.MemoryLemmas.{image_here}
 use Rattle.unix_core.specs.declared.world.World.{World}
 use Rattle.abstract_unix.specs.declared.asked.Asked.{Asked}
 use Rattle.abstract_unix.specs.declared.calls.Sysent.{Sysent}
@@ -22,7 +23,7 @@ use Rattle.unix_core.proofs.WorldLemmas.{ready_alive}
 use Rattle.unix_core.proofs.AreaLemmas.{own_area, area_unix, area_board, area_ready}
 
 -- A call by its number is the one that it asks for, where that is built.
-module _ (number : ℕ) (u : Unix) (s : ℕ) (a : Asked) (is : a ≡ asked (image_of (process_of u s)) (register (process_of u s) 7) number) where
+module _ (number : ℕ) (u : Unix) (s : ℕ) (a : Asked) (is : a ≡ asked (image_of u.texts (process_of u s)) (register (process_of u s) 7) number) where
   system_is : (o : Option Sysent) → sysent_of a.number ≡ o → does_if_built u s a o ≡ system_call number u s
   system_is o built =
       sym (ap (λ (x : Asked). does_if_built u s x (sysent_of x.number)) (sym is) ∙ ap (does_if_built u s a) built)
@@ -30,18 +31,15 @@ module _ (number : ℕ) (u : Unix) (s : ℕ) (a : Asked) (is : a ≡ asked (imag
   pub system_is_not : sysent_of a.number ≡ None → not_built u ≡ system_call number u s
   system_is_not none = system_is None none
 
-without_text : (m : Image) → m.text ≡ [] → m ≡ record { text = []; «data» = m.data; stack = m.stack }
-without_text m none = ap (λ t. record m { text = t }) none
-
 -- what who runs asks for
-pub asked_here : (w : World) (s : ℕ) → IsReady w s → (kept.image_of w.procs.images s).text ≡ [] → (number : ℕ) (a : Asked)
+pub asked_here : (w : World) (s : ℕ) → IsReady w s → kept.IsKept w.procs.images → (number : ℕ) (a : Asked)
     → ((held : Held) → Has w.procs.images s held → a ≡ asked held.image (slice_index held.u.r 7) number)
-    → a ≡ asked (image_of (process_of (unix_of w) s)) (register (process_of (unix_of w) s) 7) number
-asked_here w s ready none number a each =
+    → a ≡ asked (image_of (unix_of w).texts (process_of (unix_of w) s)) (register (process_of (unix_of w) s) 7) number
+asked_here w s ready holds number a each =
     let here = is_here w.procs s (ready_alive w s ready) in
     let area : here.held.u ≡ (process_of (unix_of w) s).u = sym (ap (λ (q : Process). q.u) here.process_is) in
-    let empty : here.held.image.text ≡ [] = sym (ap (λ x. (image_in x).text) here.image_is) ∙ none in
-    let image : here.held.image ≡ image_of (process_of (unix_of w) s) = without_text here.held.image empty ∙ ap image_of (sym here.process_is) in
+    let image : here.held.image ≡ image_of (unix_of w).texts (process_of (unix_of w) s) =
+    sym (ap image_in here.image_is) ∙ sym (image_here w.procs s (ready_alive w s ready) holds) in
     each here.held here.image_is ∙ (λ i. asked (image i) (slice_index (area i).r 7) number)
 
 -- How a call goes on, by what is pending.
@@ -106,7 +104,7 @@ module _ (w : World) (s : ℕ) (ready : IsReady w s) (a : Asked) (entry : Sysent
   entered_unix : unix_of done ≡ with_area (unix_of w) s (entered_area (words_passed a entry.count))
   entered_unix = ap (λ x. unix_of (record w { procs = record w.procs { images = x } })) images ∙ area_unix w s ready area
 
-  pub entered_call : (number : ℕ) → a ≡ asked (image_of (process_of (unix_of w) s)) (register (process_of (unix_of w) s) 7) number → sysent_of a.number ≡ Some entry
+  pub entered_call : (number : ℕ) → a ≡ asked (image_of (unix_of w).texts (process_of (unix_of w) s)) (register (process_of (unix_of w) s) 7) number → sysent_of a.number ≡ Some entry
       → does_call (unix_of done) s entry.call a.args ≡ system_call number (unix_of w) s
   entered_call number is built =
       ap (λ u. does_call u s entry.call a.args) entered_unix ∙ system_is number (unix_of w) s a is (Some entry) built

@@ -170,7 +170,7 @@ module _ (m : System) (s : ℕ) (steps : Steps) (e : Ending) (w : World) (come :
 module _ (m : System) (s : ℕ) (o : Outcome) (regs regs' : Regs) (w w' : World) (stepped : HasStepped m regs w s o)
     (back : system_at stage.Resting regs' w' ≡ system_at (stage.Running s) regs w) where
   abbrev stepped_to : Unix
-  stepped_to = with_process m.unix s (with_machine (process_of m.unix s) (instr (machine_of (process_of m.unix s))).machine)
+  stepped_to = with_process m.unix s (with_machine (process_of m.unix s) (instr (machine_of m.unix.texts (process_of m.unix s))).machine)
 
   unix_back : unix_of w' ≡ stepped_to
   unix_back = ap (λ (x : System). x.unix) back ∙ stepped.unix

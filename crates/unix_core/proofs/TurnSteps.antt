@@ -1,6 +1,6 @@
 -- An instruction of the process that runs: its memory is another one, what belongs together still does, and the process has
 -- stepped.
-use Rattle.std.proofs.Common.{◌≡◌, ◌<◌, ◌∙◌, if◌then◌else◌, ℕ, zero, suc, false, List, [], min, Option, Some, None, refl, sym, ap, subst, arith}
+use Rattle.std.proofs.Common.{◌≡◌, ◌<◌, ◌∙◌, if◌then◌else◌, ℕ, zero, suc, false, List, [], map, min, Option, Some, None, refl, sym, ap, subst, arith}
 use Rattle.std.proofs.lemmas.List.{set-set}
 use Rattle.v6_base.specs.Image.{Image}
 use Rattle.u_area.specs.declared.area.UArea.{UArea}
@@ -11,10 +11,13 @@ use Rattle.pdp_step.specs.Machine as pdp
 use Rattle.pdp_step.specs.Machine.{Machine}
 use Rattle.pdp_step.specs.Instruction.{Stepped, stepped, instr}
 use Rattle.pick_rules.specs.Choice.{settle}
-use Rattle.image_keep.specs.Kept.{Alive, Kept, with_image, image_in, image_of}
-use Rattle.sys_procs.specs.Process as one
-use Rattle.sys_procs.specs.Process.{Process, process_by}
+use Rattle.image_keep.specs.Kept.{Kept, IsKept, with_image, image_of}
+use Rattle.image_keep.proofs.Frames.{with_image_texts}
+use Rattle.sys_procs.specs.Process.{Process}
+use Rattle.sys_procs.specs.World.{text_in}
+use Rattle.sys_procs.specs.Agree.{text_place}
 use Rattle.sys_procs.proofs.Alive.{is_here, put_here}
+use Rattle.sys_procs.proofs.MemoryLemmas.{image_here}
 use Rattle.abstract_unix.specs.declared.turned.Turned.TheVariants.{Ran}
 use Rattle.unix_core.specs.declared.machine.Stage.TheVariants as stage
 use Rattle.unix_core.specs.declared.world.World.{World}
@@ -26,7 +29,7 @@ use Rattle.abstract_unix.specs.Runs.{Slot, event_of}
 use Rattle.unix_core.specs.Parts.{unix_of, board_in, holding, with_regs, system_at, IsReady, IsUser, HasStepped}
 use Rattle.abstract_unix.specs.Whole.{told_in, Owes}
 use Rattle.abstract_unix.proofs.Owing.{told_change, some_within}
-use Rattle.unix_core.proofs.GoodLemmas.{core_same, runs_same}
+use Rattle.unix_core.proofs.GoodLemmas.{owed_none, owed_so, core_same, runs_same}
 use Rattle.sys_procs.specs.Handed.{AreProcs}
 use Rattle.unix_core.proofs.WorldLemmas.{ready_alive, slot_is}
 use Rattle.unix_core.proofs.LoanLemmas.{image_now, image_other, image_core}
@@ -50,12 +53,16 @@ module _ (w : World) (s : ℕ) (ready : IsReady w s) (image : Image) where
       let k : Kept = w.procs.images in
       let here = is_here w.procs s (ready_alive w s ready) in
       let changed = slot_put w s (ready_alive w s ready) w.procs.rows (with_image k s image) (λ m. m.row) (λ held. record held { image = image }) (λ held own. refl) (λ held. refl)
-      (λ m is. is) (λ r other. refl) (image_now k s image) (image_other k s image) q
+      (λ m is. is) (λ r other. refl) (image_now k s image) (image_other k s image) (with_image_texts k s image) q
       (ap (λ (x : Process). record x { «data» = image.data; stack = image.stack }) (sym here.process_is)) in
-      λ i. record (unix_of w) { processes = changed i; limit = min (image_core k s image i) 2048 }
+      λ i. record (unix_of w) {
+        processes = changed i;
+        texts = map text_in ((with_image_texts k s image).texts i);
+        limit = min (image_core k s image i) 2048;
+      }
 
   pub memory_board : board_in with_memory ≡ board_in w
-  memory_board = λ i. record (board_in w) { core = image_core w.procs.images s image i }
+  memory_board = λ i. record (board_in w) { texts = map text_place ((with_image_texts w.procs.images s image).texts i); core = image_core w.procs.images s image i }
 
   pub memory_process : process_of (unix_of with_memory) s ≡ q
   memory_process =
@@ -66,7 +73,7 @@ module _ (w : World) (s : ℕ) (ready : IsReady w s) (image : Image) where
   memory_agree =
       let k : Kept = w.procs.images in
       agree_put w s (ready_alive w s ready) w.procs.rows (with_image k s image) (λ m. m.row) (λ held. record held { image = image }) (λ held own. refl) (λ held. refl)
-      (λ m is. is) (λ r other. refl) (image_now k s image) (image_other k s image)
+      (λ m is. is) (λ r other. refl) (image_now k s image) (image_other k s image) (with_image_texts k s image)
 
   pub memory_ready : IsReady with_memory s
   memory_ready = record {
@@ -74,8 +81,8 @@ module _ (w : World) (s : ℕ) (ready : IsReady w s) (image : Image) where
       agree = memory_agree;
       in_core = core_same w with_memory ready.good memory_agree refl;
       running = runs_same w with_memory ready.good memory_agree refl;
-      owed = subst (Owes w.files.tree.nodes.references w.files.table no_texts)
-          (sym (ap (λ (x : Unix). told_in x.processes) memory_unix ∙ told_change (unix_of w).processes s p q (slot_is w s ready) refl)) ready.good.owed;
+      owed = owed_so with_memory memory_agree (subst (Owes w.files.tree.nodes.references w.files.table no_texts)
+          (sym (ap (λ (x : Unix). told_in x.processes) memory_unix ∙ told_change (unix_of w).processes s p q (slot_is w s ready) refl)) (owed_none w ready.good));
       marks = ready.good.marks;
       rooms = ready.good.rooms;
       core = ready.good.core ∙ sym (image_core w.procs.images s image);
@@ -100,19 +107,14 @@ apart_process w s regs ready =
     put_here ps s (holding regs p) (some_within ps s p (slot_is w s ready))
 
 -- what an instruction works on
-machine_is : (w : World) (s : ℕ) (regs : Regs) → IsReady w s → (image_of w.procs.images s).text ≡ []
-    → machine_of (process_of (with_regs (stage.Running s) regs (unix_of w)) s) ≡ pdp.machine_of regs (image_of w.procs.images s)
-machine_is w s regs ready text =
-    let here = is_here w.procs s (ready_alive w s ready) in
-    let image : Image = image_of w.procs.images s in
-    let own : one.image_of (process_of (unix_of w) s) ≡ record { text = []; «data» = image.data; stack = image.stack } =
-    ap one.image_of here.process_is ∙ ap (λ x. one.image_of (process_by here.member (Alive (record here.held { image = image_in x })))) (sym here.image_is) in
-    ap machine_of (apart_process w s regs ready)
-    ∙ (λ i. record { r = regs.r; cc = regs.cc; image = own i })
-    ∙ (λ i. record { r = regs.r; cc = regs.cc; image = record image { text = sym text i } })
+machine_is : (w : World) (s : ℕ) (regs : Regs) → IsReady w s → IsKept w.procs.images
+    → machine_of (unix_of w).texts (process_of (with_regs (stage.Running s) regs (unix_of w)) s) ≡ pdp.machine_of regs (image_of w.procs.images s)
+machine_is w s regs ready holds =
+    ap (machine_of (unix_of w).texts) (apart_process w s regs ready)
+    ∙ (λ i. record { r = regs.r; cc = regs.cc; image = image_here w.procs s (ready_alive w s ready) holds i })
 
 -- The process has stepped, and left these registers and this memory.
-module _ (w : World) (s : ℕ) (user : IsUser s w) (text : (image_of w.procs.images s).text ≡ []) (regs regs' : Regs) (o : Outcome) (image : Image)
+module _ (w : World) (s : ℕ) (user : IsUser s w) (holds : IsKept w.procs.images) (regs regs' : Regs) (o : Outcome) (image : Image)
     (step : stepped o (pdp.machine_of regs' image) ≡ instr (pdp.machine_of regs (image_of w.procs.images s))) where
   abbrev before : System
   before = system_at (stage.Running s) regs w
@@ -121,10 +123,10 @@ module _ (w : World) (s : ℕ) (user : IsUser s w) (text : (image_of w.procs.ima
   old = process_of (unix_of w) s
 
   abbrev its : Machine
-  its = machine_of (process_of before.unix s)
+  its = machine_of before.unix.texts (process_of before.unix s)
 
   comes : instr its ≡ stepped o (pdp.machine_of regs' image)
-  comes = ap instr (machine_is w s regs user.ready text) ∙ sym step
+  comes = ap instr (machine_is w s regs user.ready holds) ∙ sym step
 
   process_is : with_machine (holding regs old) (pdp.machine_of regs' image) ≡ holding regs' (record old { «data» = image.data; stack = image.stack })
   process_is =
@@ -161,7 +163,7 @@ user_slot m s runs above = ap settled_after (ap (slot_of m) runs ∙ by s above)
 -- An instruction has been done, and the kernel needn't settle.
 module _ (m : System) (s : ℕ) (above : 0 < s) (regs' : Regs) (w' : World) (done : HasStepped m regs' w' s came.Next) (quiet : settle m.board.table ≡ None) where
   abbrev u : Unix
-  u = with_process m.unix s (with_machine (process_of m.unix s) (instr (machine_of (process_of m.unix s))).machine)
+  u = with_process m.unix s (with_machine (process_of m.unix s) (instr (machine_of m.unix.texts (process_of m.unix s))).machine)
 
   turn_is : turn m s ≡ steps u
   turn_is =
@@ -201,13 +203,13 @@ pub quiet_system : (w : World) (s : ℕ) (regs : Regs) → IsUser s w → settle
 quiet_system w s regs user = settle_same w.procs.table ∙ user.settled
 
 -- The same where the memory has been lent, and has come back.
-module _ (w : World) (s : ℕ) (user : IsUser s w) (text : (image_of w.procs.images s).text ≡ []) (regs regs' : Regs) (o : Outcome) (image lent : Image)
+module _ (w : World) (s : ℕ) (user : IsUser s w) (holds : IsKept w.procs.images) (regs regs' : Regs) (o : Outcome) (image lent : Image)
     (lent_is : lent ≡ image_of w.procs.images s) (step : stepped o (pdp.machine_of regs' image) ≡ instr (pdp.machine_of regs lent))
     (k : Kept) (back : k ≡ with_image w.procs.images s image) where
   pub lent_stepped : HasStepped (system_at (stage.Running s) regs w) regs' (with_images w k) s o
   lent_stepped =
       subst (λ l. HasStepped (system_at (stage.Running s) regs w) regs' (with_images w l) s o) (sym back)
-      (has_stepped w s user text regs regs' o image (step ∙ ap (λ m. instr (pdp.machine_of regs m)) lent_is))
+      (has_stepped w s user holds regs regs' o image (step ∙ ap (λ m. instr (pdp.machine_of regs m)) lent_is))
 
   pub lent_user : IsUser s (with_images w k)
   lent_user = subst (λ l. IsUser s (with_images w l)) (sym back) (memory_user w s user.ready image user)

@@ -13,7 +13,9 @@ use Rattle.proc_tab.specs.declared.row.Row.{Row}
 use Rattle.proc_tab.specs.declared.member.Member.{Member}
 use Rattle.proc_tab.specs.Processes as proc
 use Rattle.proc_tab.specs.Processes.{member_at}
-use Rattle.image_keep.specs.Kept.{Held, Alive, Has, keeping, clicks_of, area_of, image_in, image_of}
+use Rattle.image_keep.specs.Kept.{Held, Kept, Has, keeping, clicks_of, area_of, image_of}
+use Rattle.image_keep.specs.Kept as kept
+use Rattle.image_keep.proofs.Frames.{SameTexts}
 use Rattle.open_files.specs.declared.file.OpenFile.{OpenFile}
 use Rattle.fs_nodes.specs.FileSystem.{IsFileSystem}
 use Rattle.fs_tree.specs.Marks.{no_marks}
@@ -22,11 +24,13 @@ use Rattle.sys_files.specs.Handed.{Handed, handed}
 use Rattle.sys_files.specs.Sound.{IsSound, IsKept}
 use Rattle.sys_files.proofs.Bounds.{Fits, HasAll}
 use Rattle.sys_procs.specs.Process as one
-use Rattle.sys_procs.specs.Process.{Process, process_by}
-use Rattle.sys_procs.specs.Agree.{Agree, board_of}
+use Rattle.sys_procs.specs.Process.{Process}
+use Rattle.sys_procs.specs.World.{text_in, texts_in}
+use Rattle.sys_procs.specs.Agree.{Agree, HasNoText, board_of}
 use Rattle.sys_procs.specs.Handed.{IsAlive}
 use Rattle.sys_procs.proofs.Slots.{own_row}
 use Rattle.sys_procs.proofs.Alive.{is_here, area_here}
+use Rattle.sys_procs.proofs.MemoryLemmas.{image_here}
 use Rattle.unix_core.specs.declared.world.World.{World}
 use Rattle.abstract_unix.specs.Unix.{Text, no_texts, process_of}
 use Rattle.abstract_unix.specs.References.{referrers, references_of}
@@ -34,7 +38,7 @@ use Rattle.abstract_unix.specs.Calls.{marks_of, handed_of, with_handed}
 use Rattle.unix_core.specs.Passing.{all_woken}
 use Rattle.unix_core.specs.Parts.{unix_of, IsGood, IsReady, IsReadyToShow}
 use Rattle.unix_core.proofs.PutLemmas.{good_alive, alive_slot, slot_put, agree_put}
-use Rattle.unix_core.proofs.GoodLemmas.{told_of_slot, fifty_told, core_same, runs_same}
+use Rattle.unix_core.proofs.GoodLemmas.{told_of_slot, fifty_told, texts_none, owed_none, core_same, runs_same}
 use Rattle.std.proofs.lemmas.List.FromFn.{fill_by_all}
 use Rattle.abstract_unix.specs.Whole.{Told, told_of, told_in, Owes, Owed}
 use Rattle.abstract_unix.proofs.Owing.{told_at, refer_told, sound_by, file_owes}
@@ -63,9 +67,12 @@ all_false : (f : ℕ → Bool) (a n : ℕ) → ((i : ℕ) → f i ≡ false) →
 all_false f a zero none = refl
 all_false f a (suc n) none = λ i. none a i ∷ all_false f (a + 1) n none i
 
-pub none_marked : marks_of no_texts ≡ no_marks
+marks_none : marks_of no_texts ≡ no_marks
 unfolding marks_of no_marks no_texts
-none_marked = all_false (λ ino. list_any (is_text_of ino) (replicate 40 None)) 0 INODE_NUMBERS (λ ino. none_shared ino 40)
+marks_none = all_false (λ ino. list_any (is_text_of ino) (replicate 40 None)) 0 INODE_NUMBERS (λ ino. none_shared ino 40)
+
+pub none_marked : (k : Kept) → HasNoText k → marks_of (texts_in k) ≡ no_marks
+none_marked k none = ap marks_of (texts_none k none) ∙ marks_none
 
 -- The parts that a call of the process is handed are sound.
 pub told_here : (w : World) (s : ℕ) → IsReady w s → told_of_slot w s ≡ Some (told_of (process_of (unix_of w) s))
@@ -76,11 +83,8 @@ pub sound_parts : (w : World) (s : ℕ) (h : Handed) → IsReady w s → length 
 sound_parts w s h ready long files area references =
     let ts : List (Option Told) = told_in (unix_of w).processes in
     let P : List ℕ → List (Option OpenFile) → Type 0 = λ refs table. Owes refs table no_texts ts in
-    sound_by h no_texts ts s (subst (λ refs. P refs h.files) (sym references) (subst (P w.files.tree.nodes.references) (sym files) ready.good.owed))
+    sound_by h no_texts ts s (subst (λ refs. P refs h.files) (sym references) (subst (P w.files.tree.nodes.references) (sym files) (owed_none w ready.good)))
     (told_here w s ready ∙ ap (λ (u : UArea). Some (record { files = u.files; dir = u.dir })) (sym area)) (ap length files ∙ long) (fifty_told w) forty
-
-without_text : (m : Image) → m.text ≡ [] → m ≡ record { text = []; «data» = m.data; stack = m.stack }
-without_text m none = ap (λ t. record m { text = t }) none
 
 -- the references of the file system are those that the Unix says
 pub references_in : (w : World) (s : ℕ) → IsReady w s → IsFileSystem w.files.tree.nodes → w.files.tree.nodes.references ≡ references_of (unix_of w)
@@ -90,20 +94,16 @@ references_in w s ready form =
     (λ k low. ready.good.owed.referred k ∙ refer_told (unix_of w) k)
 
 -- What the kernel hands to a call of the process is what the Unix says.
-pub handed_is : (w : World) (s : ℕ) → IsReady w s → IsFileSystem w.files.tree.nodes → (image_of w.procs.images s).text ≡ []
+pub handed_is : (w : World) (s : ℕ) → IsReady w s → IsFileSystem w.files.tree.nodes → kept.IsKept w.procs.images
     → handed w.files (area_of w.procs.images s) (proc.row_at w.procs.rows s) (image_of w.procs.images s) ≡ handed_of (unix_of w) (process_of (unix_of w) s)
-handed_is w s ready form none =
+handed_is w s ready form holds =
     let alive = ready_alive w s ready in
-    let here = is_here w.procs s alive in
     let p : Process = process_of (unix_of w) s in
     let references = references_in w s ready form in
-    let marks : w.files.tree.marks ≡ marks_of no_texts = ready.good.marks ∙ sym none_marked in
+    let marks : w.files.tree.marks ≡ marks_of (unix_of w).texts = ready.good.marks ∙ sym (none_marked w.procs.images ready.good.agree.no_text) in
     let area : area_of w.procs.images s ≡ p.u = area_here w.procs s alive in
     let row : proc.row_at w.procs.rows s ≡ p.row = sym (own_row w.procs.rows.slots w.procs.images s alive.below) in
-    let image : image_of w.procs.images s ≡ one.image_of p =
-    without_text (image_of w.procs.images s) none
-    ∙ (ap (λ x. one.image_of (process_by here.member (Alive (record here.held { image = image_in x })))) here.image_is
-    ∙ ap one.image_of (sym here.process_is)) in
+    let image : image_of w.procs.images s ≡ one.image_of (unix_of w).texts p = sym (image_here w.procs s alive holds) in
     λ i. record {
       inodes = record { store = w.files.tree.nodes.store; references = references i };
       marks = marks i;
@@ -125,6 +125,7 @@ pub record IsAfter (w w' : World) (s : ℕ) (u : UArea) (row : Row) (image : Ima
   pub memory : (held : Held) → Has w.procs.images s held → Has w'.procs.images s (record held { u = u; image = image })
   pub others : (r : ℕ) → r ≢ s → keeping w'.procs.images r ≡ keeping w.procs.images r
   pub table : w'.procs.table ≡ w.procs.table
+  pub texts : SameTexts w.procs.images w'.procs.images
   pub core : w'.procs.images.core ≡ w.procs.images.core
   pub last_pid : w'.procs.rows.last_pid ≡ w.procs.rows.last_pid
   pub switches : w'.procs.switches ≡ w.procs.switches
@@ -151,7 +152,7 @@ module _ (w w' : World) (s : ℕ) (ready : IsReady w s) (u : UArea) (row : Row) 
 
   processes_after : (unix_of w').processes ≡ set (unix_of w).processes s (Some q)
   processes_after =
-      slot_put w s (ready_alive w s ready) w'.procs.rows w'.procs.images (λ m. row) now clicks (λ held. refl) after.member after.members after.memory after.others q
+      slot_put w s (ready_alive w s ready) w'.procs.rows w'.procs.images (λ m. row) now clicks (λ held. refl) after.member after.members after.memory after.others after.texts q
       (let here = is_here w.procs s (ready_alive w s ready) in
       ap (λ (x : Process). record x { u = u; row = row; «data» = image.data; stack = image.stack }) (sym here.process_is))
 
@@ -160,13 +161,14 @@ module _ (w w' : World) (s : ℕ) (ready : IsReady w s) (u : UArea) (row : Row) 
   unix_after = λ i. record (unix_of w') {
     processes = processes_after i;
     clock = record { time = (after.table i).now; ticks = (after.table i).ticks; tout = (after.table i).tout };
+    texts = map text_in (after.texts.texts i);
     switches = after.switches i;
     last_pid = after.last_pid i;
     limit = (unix_of (record w { procs = record w.procs { images = record w.procs.images { core = after.core i } } })).limit;
   }
 
   agrees : Agree w'.procs.rows w.procs.table w'.procs.images
-  agrees = agree_put w s (ready_alive w s ready) w'.procs.rows w'.procs.images (λ m. row) now clicks (λ held. refl) after.member after.members after.memory after.others
+  agrees = agree_put w s (ready_alive w s ready) w'.procs.rows w'.procs.images (λ m. row) now clicks (λ held. refl) after.member after.members after.memory after.others after.texts
 
   running_after : w'.procs.table.running ≡ Some s
   running_after = ap (λ (t : Table). t.running) after.table ∙ ready.runs
@@ -194,6 +196,7 @@ module _ (w w' : World) (s : ℕ) (ready : IsReady w s) (u : UArea) (row : Row) 
     ready = ready_after form;
     table = after.table;
     core = after.core;
+    texts = after.texts.texts;
     shown = (λ i. sent 0 (all.bytes i) ++ map Log (all.entries i)) ∙ sym fits.in_order;
     wakes = λ t k. shown_woken items fits t k ∙ ap (λ l. board_of (all_woken t l) k) (sym all.entries);
   }

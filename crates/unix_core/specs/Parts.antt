@@ -19,7 +19,7 @@ use Rattle.image_keep.specs.Area.{sized_area}
 use Rattle.image_keep.specs.Places.{cleared}
 use Rattle.image_keep.specs.Kept.{Held, Kept, Has, HasImage}
 use Rattle.sys_procs.specs.Process.{Process, register}
-use Rattle.sys_procs.specs.World.{clock_of, processes_in}
+use Rattle.sys_procs.specs.World.{clock_of, processes_in, texts_in}
 use Rattle.sys_procs.specs.Agree.{board_of}
 use Rattle.sys_procs.specs.Handed.{AreProcs}
 use Rattle.unix_core.specs.declared.world.World as parts
@@ -32,7 +32,7 @@ use Rattle.abstract_unix.specs.declared.turned.Turned.TheVariants as turned
 use Rattle.abstract_unix.specs.declared.turned.Unbuilt.TheVariants.{At, Room}
 use Rattle.unix_core.specs.declared.machine.Stage.{Stage}
 use Rattle.unix_core.specs.declared.machine.Stage.TheVariants as stage
-use Rattle.abstract_unix.specs.Unix.{Unix, System, Phase, New, Started, Stopped, Finished, phase_after, no_texts, process_of, with_process}
+use Rattle.abstract_unix.specs.Unix.{Unix, System, Phase, New, Started, Stopped, Finished, phase_after, process_of, with_process}
 use Rattle.abstract_unix.specs.Init.{init_data}
 use Rattle.abstract_unix.specs.Whole.{Owed}
 use Rattle.abstract_unix.specs.Steps.{Steps}
@@ -46,7 +46,7 @@ unix_of w = record {
   processes = processes_in w.procs.rows.slots w.procs.images;
   files = w.files.table;
   pipes = [];
-  texts = no_texts;
+  texts = texts_in w.procs.images;
   line = w.files.line;
   clock = clock_of w.procs.table;
   switches = w.procs.switches;
@@ -119,6 +119,7 @@ pub record IsReadyToShow (old new : parts.World) (s : ℕ) (items : List Item) :
   pub ready : IsReady new s
   pub table : new.procs.table ≡ old.procs.table
   pub core : new.procs.images.core ≡ old.procs.images.core
+  pub texts : new.procs.images.texts ≡ old.procs.images.texts
   pub shown : shown_by new.tape ≡ items
   pub wakes : (t : Table) (k : Kept) → (logged {W = Unix} (board_of t k) (map Show items)).board ≡ board_of (all_woken t new.tape.entries) k
 
@@ -179,9 +180,9 @@ pub record IsKernel (at : Stage) (w : parts.World) : Type 0 where
 pub record HasStepped (m : System) (regs : Regs) (w : parts.World) (s : ℕ) (o : Outcome) : Type 0 where
   pub runs : m.board.table.running ≡ Some s
   pub user : is_user (process_of m.unix s) ≡ true
-  pub outcome : o ≡ (instr (machine_of (process_of m.unix s))).outcome
+  pub outcome : o ≡ (instr (machine_of m.unix.texts (process_of m.unix s))).outcome
   pub unix : with_regs (stage.Running s) regs (unix_of w)
-      ≡ with_process m.unix s (with_machine (process_of m.unix s) (instr (machine_of (process_of m.unix s))).machine)
+      ≡ with_process m.unix s (with_machine (process_of m.unix s) (instr (machine_of m.unix.texts (process_of m.unix s))).machine)
   pub board : board_in w ≡ m.board
 
 -- The parts have taken an event that comes to this.

@@ -1,7 +1,7 @@
 //! What a call asks for: its number and its arguments. `trap` in Lions' Commentary, `trap.c`; indirect calls, indir(II)
 //! of the manual.
-ghost use Rattle.std.specs.Prelude.{◌≡◌, ◌%◌, [], slice_index};
-ghost use Rattle.image_keep.specs.Kept.{Held, Has, HasImage, image_of};
+ghost use Rattle.std.specs.Prelude.{◌≡◌, ◌%◌, slice_index};
+ghost use Rattle.image_keep.specs.Kept.{Held, Has, HasImage, IsKept};
 ghost use Rattle.abstract_unix.specs.Calls.{word_at, arguments_at, named_call, asked};
 
 use abstract_unix::Asked;
@@ -62,7 +62,7 @@ pub(crate) fn ask(images: &mut Images, s: Slot, number: u8) -> Asked
     requires { HasImage images.old s }
     ensures asked { (held : Held) → Has images.old s held → result ≡ asked held.image (slice_index held.u.r 7) number }
     ensures same { images.new ≡ images.old }
-    ensures text { (image_of images.old s).text ≡ [] }
+    ensures holds { IsKept images.old }
 {
     let pc = images.area(s).r[7];
     if number != 0 {

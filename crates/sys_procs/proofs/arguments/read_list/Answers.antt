@@ -2,7 +2,7 @@ use Rattle.std.proofs.Common.{rules, ℕ, ◌≡◌, ◌<◌, ◌+◌, ◌-◌, 
 use Rattle.std.proofs.lemmas.Grind.{common_steps}
 use Rattle.std.proofs.lemmas.List.{length-set, take_more_set, length-take}
 use Rattle.v6_base.specs.Image.{Image}
-use Rattle.sys_procs.specs.Packed.{split}
+use Rattle.sys_procs.specs.inside.Packed.{split}
 use Rattle.sys_procs.proofs.ArgsLemmas.{flat, joined, none_read, unread, too_many, lost, one_read, all_read, all_parted, whole_read, count_least, count_more, nul_counts, other_counts, is_none}
 use Rattle.sys_procs.proofs.arguments.read_list.Goals as goal
 use Rattle.sys_procs.proofs.arguments.read_list.Goals.{then-byte-eq0, else-byte-eq0}

@@ -1,5 +1,5 @@
 use Rattle.std.proofs.Common.{◌≡◌, ◌≤◌, ◌-◌, length, take}
-use Rattle.sys_procs.specs.Packed.{split}
+use Rattle.sys_procs.specs.inside.Packed.{split}
 use Rattle.sys_procs.proofs.ArgsLemmas.{flat, joined, all_bytes}
 use Rattle.sys_procs.proofs.arguments.read_list.Given as goal
 

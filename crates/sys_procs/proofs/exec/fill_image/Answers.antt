@@ -4,7 +4,7 @@ use Rattle.image_keep.specs.Kept.{Kept}
 use Rattle.image_keep.specs.Kept as kept
 use Rattle.image_keep.specs.Lent.{Lent, left_of}
 use Rattle.sys_procs.specs.World.{with_process}
-use Rattle.sys_procs.specs.Begun.{filled, filled_image}
+use Rattle.sys_procs.specs.inside.Begun.{filled, filled_image}
 use Rattle.sys_procs.specs.Handed.{handed, process_here}
 use Rattle.sys_procs.proofs.MemoryLemmas.{loan_state, loan_board, loan_alive}
 use Rattle.sys_procs.proofs.exec.fill_image.Goals as goal

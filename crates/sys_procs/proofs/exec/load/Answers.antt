@@ -4,7 +4,7 @@ use Rattle.pick_rules.specs.Apply.{change_row}
 use Rattle.pick_rules.specs.declared.row.TableRow.{TableRow}
 use Rattle.sys_procs.specs.declared.procs.Procs.{Procs}
 use Rattle.sys_procs.specs.ExecFile.{loads, bare_board, IsTested}
-use Rattle.sys_procs.specs.Begun.{unplaced}
+use Rattle.sys_procs.specs.inside.Begun.{unplaced}
 use Rattle.sys_procs.specs.Handed.{board, handed, IsAlive}
 use Rattle.sys_procs.specs.Done.{HasDone}
 use Rattle.sys_procs.proofs.Dones.{done_logged}

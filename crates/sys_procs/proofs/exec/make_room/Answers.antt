@@ -6,7 +6,7 @@ use Rattle.pick_rules.specs.Effects as effect
 use Rattle.pick_rules.specs.Logged.{Logged, logged}
 use Rattle.seg_regs.specs.Sizes.{is_refused}
 use Rattle.sys_procs.specs.World.{World, clock_of, with_process}
-use Rattle.sys_procs.specs.Begun.{sized}
+use Rattle.sys_procs.specs.inside.Begun.{sized}
 use Rattle.sys_procs.specs.Handed.{board, handed, process_here}
 use Rattle.sys_procs.proofs.LoadLemmas.{placed_state}
 use Rattle.sys_procs.proofs.exec.make_room.Goals as goal

@@ -17,11 +17,12 @@ use Rattle.sys_procs.specs.Comes.{Comes}
 use Rattle.sys_procs.specs.Agree.{answered}
 use Rattle.sys_procs.specs.Tests.{node_in}
 use Rattle.sys_procs.specs.ExecFile.{data_clicks, loads}
-use Rattle.sys_procs.specs.Begun.{placing, filled_image, store_after, row_in, area_in}
+use Rattle.sys_procs.specs.inside.Begun.{placing, filled_image, store_after, row_in, area_in}
 use Rattle.sys_procs.specs.Handed.{board, came, handed, process_here}
 use Rattle.sys_procs.proofs.Slots.{fifty_processes}
 use Rattle.sys_procs.proofs.LoadForms.{loads_state, loads_answer, loads_effects}
-use Rattle.sys_procs.proofs.LoadLemmas.{whole, full_here, begun_state, no_text_here}
+use Rattle.sys_procs.proofs.LoadLemmas.{whole, full_here, begun_state}
+use Rattle.sys_procs.proofs.Alive.{no_text_here}
 use Rattle.sys_procs.proofs.exec.replace.Given as given
 use Rattle.sys_procs.proofs.exec.replace.Goals as goal
 use Rattle.sys_procs.proofs.exec.replace.Goals.{After-fill_image, After-new_area-u}

@@ -13,7 +13,7 @@ use Rattle.sys_procs.specs.World.{World, change}
 use Rattle.sys_procs.specs.Fork.{past_word, next_pid, with_child}
 use Rattle.sys_procs.specs.Handed.{IsAlive, board, handed, process_here}
 use Rattle.sys_procs.proofs.Slots.{fifty_processes}
-use Rattle.sys_procs.proofs.Alive.{calls_alive, is_here}
+use Rattle.sys_procs.proofs.Alive.{calls_alive, is_here, no_text_here}
 use Rattle.sys_procs.proofs.Dones.{done_logged}
 use Rattle.sys_procs.proofs.ForkPlaces.{fork_fits, fork_finds, fork_stops}
 use Rattle.sys_procs.proofs.Forks.{IsFreeSlot, free_slot, is_seated, seated, child_pid, gone_on, state_seated, board_seated, parent_alive, child_alive, parent_stays, child_is, world_forked, register_forked, next_is, logged_fork, logged_no_fork}
@@ -109,10 +109,10 @@ returns-clause-does g c =
     (ap done (c.go_on.ensures.answer
     ∙ (ap (λ (q : Procs). Ret (process_here q child).row.pid (register (process_here q s) 1)) now
     ∙ (ap (λ (n : ℕ). Ret n (register (process_here (seated p s child place) s) 1)) pid
-    ∙ ap (λ (n : ℕ). Ret (next_pid w) n) (r1 ∙ register_forked w s child (next_pid w) free.apart child_low low)))))
+    ∙ ap (λ (n : ℕ). Ret (next_pid w) n) (r1 ∙ register_forked w s child (next_pid w) free.apart child_low low (no_text_here p s alive))))))
     (c.go_on.ensures.state
     ∙ (ap (λ (v : World). gone_on v s child) (ap (λ (q : Procs). handed q fs) now ∙ state_seated p s child place alive fifty images free fs)
-    ∙ (world_forked w s child (child_pid p) free.apart child_low low
+    ∙ (world_forked w s child (child_pid p) free.apart child_low low (no_text_here p s alive)
     ∙ ap (λ (n : ℕ). change (with_child w s child n) s past_word) (next_is p fs fifty))))
     (c.go_on.ensures.board ∙ (ap (λ (q : Procs). board q) now ∙ board_seated p s child place alive fifty images free))
     c.entry.ensures.took

@@ -1,4 +1,4 @@
-use Rattle.std.proofs.Common.{◌≡◌, ◌∙◌, ◌+◌, nat_le, [], ◌∷◌, None, refl, sym, ap, subst}
+use Rattle.std.proofs.Common.{◌≡◌, ◌∙◌, ◌+◌, ◌≤◌, nat_le, [], ◌∷◌, None, refl, sym, ap, subst}
 use Rattle.v6_base.specs.Trace.{Took, Log}
 use Rattle.v6_base.specs.declared.entry.Entry.{Entry}
 use Rattle.pick_rules.specs.Table.{row_at}
@@ -6,7 +6,12 @@ use Rattle.v6_base.proofs.Took.{took_none}
 use Rattle.fs_nodes.specs.FileSystem.{FileSystem}
 use Rattle.sys_procs.specs.declared.procs.Procs.{Procs}
 use Rattle.sys_procs.specs.Break.{expands}
-use Rattle.sys_procs.specs.Handed.{IsAlive, board, came, handed}
+use Rattle.sys_procs.specs.Handed.{IsAlive, board, came, handed, process_here}
+use Rattle.v6_base.specs.Image.{nseg}
+use Rattle.u_area.specs.declared.area.UArea.{UArea}
+use Rattle.image_keep.specs.Growth.{most_clicks}
+use Rattle.sys_procs.proofs.Alive.{area_here}
+use Rattle.sys_procs.proofs.PlacingLemmas.{few_segments}
 use Rattle.sys_procs.proofs.Dones.{ended_logged}
 use Rattle.sys_procs.proofs.PlacingRows.{seated}
 use Rattle.sys_procs.proofs.GrowLemmas.{line_by, grown, place_found, log_stopped, log_sized, grown_alive, grown_state}
@@ -20,6 +25,12 @@ returns-then-not-finds_place-clause-does g c = λ fs.
     (sym c.finds_place.ensures ∙ c.if-not-finds_place.true)) refl refl refl (took_none _)
 
 -- It finds one.
+pub resize-place-requires-clause-segments : goal.resize-place-requires-clause-segments
+resize-place-requires-clause-segments g c =
+    let p : Procs = c.args.p.now in
+    subst (λ (u : UArea). nseg u.text_size + nseg c.args.d + nseg c.args.stack ≤ 8) (sym (area_here p c.args.s c.requires.alive))
+    (few_segments (process_here p c.args.s).u.text_size c.args.d c.args.stack (most_clicks p.images) c.requires.sizes)
+
 pub resize-place-requires-clause-place : goal.resize-place-requires-clause-place
 resize-place-requires-clause-place g c =
     place_found c.args.p.now c.args.s c.requires.alive c.see.ensures.images.slots (16 + c.args.d + c.args.stack)

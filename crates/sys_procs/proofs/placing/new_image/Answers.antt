@@ -13,8 +13,8 @@ unreachable-requires-in-Err c =
     let clicks : 16 + c.args.d + 20 ≡ 16 + proto.data_size + proto.stack_size =
     λ i. 16 + sym c.in-Ok.ensures.2 i + sym c.in-Ok.ensures.3 i in
     let none : Some (Core (unwrap_or (core_fit c.args.images.now (16 + c.args.d + 20)) 0)) ≡ None =
-    sym (place_in_core c.args.images.now (16 + c.args.d + 20) c.requires.room)
-    ∙ (ap (placed c.args.images.now) clicks ∙ c.in-Err.ensures.place) in
+    sym (place_in_core c.args.images.now c.args.s (16 + c.args.d + 20) c.requires.no_text c.requires.room)
+    ∙ (ap (placed c.args.images.now c.args.s) clicks ∙ c.in-Err.ensures.place) in
     cc none
 
 pub returns-clause-place : goal.returns-clause-place
@@ -25,7 +25,7 @@ returns-clause-place c =
     let same : Some c.in-Ok-replace.place
     ≡ Some (Core (unwrap_or (core_fit c.args.images.now (16 + c.args.d + 20)) 0)) =
     sym c.in-Ok-replace.ensures.place
-    ∙ (ap (placed c.args.images.now) clicks ∙ place_in_core c.args.images.now (16 + c.args.d + 20) c.requires.room) in
+    ∙ (ap (placed c.args.images.now c.args.s) clicks ∙ place_in_core c.args.images.now c.args.s (16 + c.args.d + 20) c.requires.no_text c.requires.room) in
     cc same
 
 pub returns-clause-images : goal.returns-clause-images

@@ -10,15 +10,20 @@ use Rattle.pick_rules.specs.Apply.{change_row}
 use Rattle.seg_regs.specs.Sizes.{is_refused}
 use Rattle.image_keep.specs.Area.{sized_area}
 use Rattle.image_keep.specs.Growth.{most_clicks}
-use Rattle.image_keep.specs.Kept.{Held, Kept, Nothing, Alive, with_keeping}
+use Rattle.image_keep.specs.Kept.{Held, Kept, Nothing, Alive, with_keeping, text_of}
 use Rattle.image_keep.specs.Places.{core_fit, cleared}
 use Rattle.image_keep.proofs.Frames.{keeping_twice}
 use Rattle.sys_procs.specs.declared.procs.Procs.{Procs}
 use Rattle.sys_procs.specs.Handed.{IsAlive, board}
+use Rattle.sys_procs.proofs.Agreement.{no_text_of}
 use Rattle.sys_procs.proofs.PlacingRows.{bared_row, seat, twice, row_low, seated, seated_alive}
 use Rattle.sys_procs.proofs.PlacingLemmas.{first, room_is, log_placed, few_clicks, no_files}
 use Rattle.sys_procs.proofs.placing.place_image.Given as given
 use Rattle.sys_procs.proofs.placing.place_image.Goals as goal
+
+pub new_image-place-requires-clause-no_text : goal.new_image-place-requires-clause-no_text
+new_image-place-requires-clause-no_text g c =
+    ap (λ (k : Kept). text_of k c.args.s) c.bare.ensures ∙ no_text_of c.args.p.now.images c.args.s c.requires.alive.agree.no_text
 
 pub new_image-place-requires-clause-sizes : goal.new_image-place-requires-clause-sizes
 new_image-place-requires-clause-sizes g c =

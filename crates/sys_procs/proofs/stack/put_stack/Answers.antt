@@ -3,7 +3,7 @@ use Rattle.std.specs.List.{concat}
 use Rattle.v6_base.specs.Image.{Image}
 use Rattle.v6_base.specs.Sizes.{cut_front}
 use Rattle.fs_codec.specs.Bytes.{bytes_of}
-use Rattle.sys_procs.specs.Packed.{split}
+use Rattle.sys_procs.specs.inside.Packed.{split}
 use Rattle.sys_procs.specs.Stack.{made_even, addresses, nc, na}
 use Rattle.sys_procs.proofs.StackBytesLemmas.{size_named, all_put, put_more, even_ones, even_first, first_place}
 use Rattle.sys_procs.proofs.stack.put_stack.Goals as goal

@@ -5,8 +5,7 @@ use Rattle.image_keep.specs.Kept.{Kept}
 use Rattle.image_keep.specs.Kept as kept
 use Rattle.fs_tree.specs.Name.{name_at}
 use Rattle.fs_tree.specs.Finding.{Finding, inodes_of, find_in}
-use Rattle.sys_procs.specs.Process.{image_of}
-use Rattle.sys_procs.specs.Handed.{IsAlive, process_here}
+use Rattle.sys_procs.specs.Handed.{IsAlive, process_here, memory_here}
 use Rattle.sys_procs.proofs.Alive.{calls_alive, area_here}
 use Rattle.sys_procs.proofs.MemoryLemmas.{image_here}
 use Rattle.sys_procs.proofs.tested.find_program.Goals as goal
@@ -19,9 +18,9 @@ area c = c.area-u.ensures.u ∙ area_here c.args.p.now c.args.s (alive c)
 
 image : (c : goal.After-find_name)
     → kept.image_of c.space-space.result.images.now c.space-space.result.slot
-    ≡ image_of (process_here c.args.p.now c.args.s)
+    ≡ memory_here c.args.p.now c.args.s
 image c =
-    sym (image_here c.args.p.now c.args.s (alive c) c.area-u.ensures.sizes.text
+    sym (image_here c.args.p.now c.args.s (alive c) c.area-u.ensures.holds
     ∙ (ap (λ (k : Kept). kept.image_of k c.args.s) (sym c.space-space.ensures.images)
     ∙ ap (λ n. kept.image_of c.space-space.result.images.now n) (sym c.space-space.ensures.slot)))
 

@@ -13,11 +13,11 @@ use Rattle.sys_procs.proofs.TestsLemmas.{none_refuses, busy_refuses}
 use Rattle.sys_procs.proofs.tested.judge_header.Goals as goal
 
 pub returns-then-is_busy-clause-answer : goal.returns-then-is_busy-clause-answer
-returns-then-is_busy-clause-answer c = λ p.
+returns-then-is_busy-clause-answer c = λ p none.
     let magic : is_magic (plan_of (header_of c.args.head.now)) ≡ true =
     ap is_magic (sym c.plan-planned.ensures.plan) ∙ (sym c.is_magic.ensures ∙ c.if-not-is_magic.false) in
     busy_refuses c.args.read.error _ _ _ c.in_default.is (λ i. (c.if-read-ne-HEADER_SIZE.false i == 16) && magic i)
-    (sym (c.is_busy.ensures p) ∙ c.if-is_busy.true)
+    (sym (c.is_busy.ensures p none) ∙ c.if-is_busy.true)
 
 -- whether an image can have the sizes of a plan
 abbrev fits_in : goal.After-fitting → Result Plan ExecFault → Result Plan Errno
@@ -27,10 +27,10 @@ fits_in c planned =
     Ok plan))
 
 pub returns-clause-answer : goal.returns-clause-answer
-returns-clause-answer c = λ p.
+returns-clause-answer c = λ p none.
     let magic : is_magic (plan_of (header_of c.args.head.now)) ≡ true =
     ap is_magic (sym c.plan-planned.ensures.plan) ∙ (sym c.is_magic.ensures ∙ c.if-not-is_magic.false) in
     c.fitting.ensures.answer
     ∙ (ap (fits_in c) c.plan-planned.ensures.plan
     ∙ none_refuses c.args.read.error _ _ _ c.in_default.is (λ i. (c.if-read-ne-HEADER_SIZE.false i == 16) && magic i)
-    (sym (c.is_busy.ensures p) ∙ c.if-is_busy.false))
+    (sym (c.is_busy.ensures p none) ∙ c.if-is_busy.false))

@@ -1,8 +1,9 @@
-use Rattle.std.proofs.Common.{◌∙◌, ap}
+use Rattle.std.proofs.Common.{◌∙◌, sym, ap, subst}
 use Rattle.fs_nodes.specs.FileSystem.{FileSystem}
 use Rattle.fs_tree.specs.Finding.{Inodes}
 use Rattle.sys_procs.specs.declared.procs.Procs.{Procs}
 use Rattle.sys_procs.specs.World.{World}
+use Rattle.sys_procs.specs.Agree.{HasNoText}
 use Rattle.sys_procs.specs.Handed.{handed}
 use Rattle.sys_procs.specs.ExecFile.{Tested}
 use Rattle.sys_procs.proofs.TestsLemmas.{file_tested, reads_header}
@@ -14,7 +15,7 @@ returns-in-Ok-clause-answer c =
     c.read_header.ensures.answer
     ∙ (ap (λ (p : Procs). (reads_header (handed p fs) c.args.ino c.in-Ok.args).answer) c.test_call.ensures.procs
     ∙ ap (λ (t : Tested). t.answer)
-    (file_tested c.args.p.now fs c.args.s c.args.ino c.args.list _ c.requires.alive c.in-Ok.ensures.answer))
+    (file_tested c.args.p.now fs c.args.s c.args.ino c.args.list _ c.in-Ok.ensures.answer))
 
 pub returns-in-Ok-clause-state : goal.returns-in-Ok-clause-state
 returns-in-Ok-clause-state c =
@@ -22,13 +23,13 @@ returns-in-Ok-clause-state c =
     c.read_header.ensures.state
     ∙ (ap (λ (p : Procs). (reads_header (handed p fs) c.args.ino c.in-Ok.args).world) c.test_call.ensures.procs
     ∙ ap (λ (t : Tested). t.world)
-    (file_tested c.args.p.now fs c.args.s c.args.ino c.args.list _ c.requires.alive c.in-Ok.ensures.answer))
+    (file_tested c.args.p.now fs c.args.s c.args.ino c.args.list _ c.in-Ok.ensures.answer))
 
 pub returns-in-Err-clause-answer : goal.returns-in-Err-clause-answer
 returns-in-Err-clause-answer c =
     let fs : FileSystem = c.args.tree.now.nodes in
     ap (λ (t : Tested). t.answer)
-    (file_tested c.args.p.now fs c.args.s c.args.ino c.args.list _ c.requires.alive c.in-Err.ensures.answer)
+    (file_tested c.args.p.now fs c.args.s c.args.ino c.args.list _ c.in-Err.ensures.answer)
 
 pub returns-in-Err-clause-state : goal.returns-in-Err-clause-state
 returns-in-Err-clause-state c =
@@ -37,4 +38,7 @@ returns-in-Err-clause-state c =
     ap (λ (p : Procs). handed p c.let_go.new.nodes) c.test_call.ensures.procs
     ∙ (ap (λ (n : Inodes). record w { inodes = n }) c.let_go.ensures.inodes
     ∙ ap (λ (t : Tested). t.world)
-    (file_tested c.args.p.now fs c.args.s c.args.ino c.args.list _ c.requires.alive c.in-Err.ensures.answer))
+    (file_tested c.args.p.now fs c.args.s c.args.ino c.args.list _ c.in-Err.ensures.answer))
+
+pub read_header-requires-clause-no_text : goal.read_header-requires-clause-no_text
+read_header-requires-clause-no_text c = subst (λ (p : Procs). HasNoText p.images) (sym c.test_call.ensures.procs) c.requires.alive.agree.no_text

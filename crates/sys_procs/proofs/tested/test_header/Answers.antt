@@ -13,14 +13,14 @@ returns-in-Ok-clause-answer c = λ m memory done error.
     let w : World = handed c.args.p.now c.args.tree.now.nodes in
     ap (λ (t : Tested). t.answer)
     (header_tested w c.args.ino c.args.args m c.args.head.now c.args.read.done c.args.read.error c.limit.result _
-    memory done error c.limit.ensures (c.in-Ok.ensures.answer c.args.p.now))
+    memory done error c.limit.ensures (c.in-Ok.ensures.answer c.args.p.now c.requires.no_text))
 
 pub returns-in-Ok-clause-state : goal.returns-in-Ok-clause-state
 returns-in-Ok-clause-state c = λ m memory done error.
     let w : World = handed c.args.p.now c.args.tree.now.nodes in
     ap (λ (t : Tested). t.world)
     (header_tested w c.args.ino c.args.args m c.args.head.now c.args.read.done c.args.read.error c.limit.result _
-    memory done error c.limit.ensures (c.in-Ok.ensures.answer c.args.p.now))
+    memory done error c.limit.ensures (c.in-Ok.ensures.answer c.args.p.now c.requires.no_text))
 
 pub returns-in-Ok-clause-tested : goal.returns-in-Ok-clause-tested
 returns-in-Ok-clause-tested c = record {
@@ -37,7 +37,7 @@ returns-in-Err-clause-answer c = λ m memory done error.
     let w : World = handed c.args.p.now c.args.tree.now.nodes in
     ap (λ (t : Tested). t.answer)
     (header_tested w c.args.ino c.args.args m c.args.head.now c.args.read.done c.args.read.error c.limit.result _
-    memory done error c.limit.ensures (c.in-Err.ensures.answer c.args.p.now))
+    memory done error c.limit.ensures (c.in-Err.ensures.answer c.args.p.now c.requires.no_text))
 
 pub returns-in-Err-clause-state : goal.returns-in-Err-clause-state
 returns-in-Err-clause-state c = λ m memory done error.
@@ -45,4 +45,4 @@ returns-in-Err-clause-state c = λ m memory done error.
     ap (λ (n : Inodes). record w { inodes = n }) c.let_go.ensures.inodes
     ∙ ap (λ (t : Tested). t.world)
     (header_tested w c.args.ino c.args.args m c.args.head.now c.args.read.done c.args.read.error c.limit.result _
-    memory done error c.limit.ensures (c.in-Err.ensures.answer c.args.p.now))
+    memory done error c.limit.ensures (c.in-Err.ensures.answer c.args.p.now c.requires.no_text))

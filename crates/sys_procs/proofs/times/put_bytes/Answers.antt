@@ -6,9 +6,8 @@ use Rattle.image_keep.specs.Kept as kept
 use Rattle.image_keep.specs.Lent.{Lent, left_of}
 use Rattle.fs_nodes.specs.FileSystem.{FileSystem}
 use Rattle.sys_procs.specs.declared.procs.Procs.{Procs}
-use Rattle.sys_procs.specs.Process.{image_of}
 use Rattle.sys_procs.specs.Times.{stored}
-use Rattle.sys_procs.specs.Handed.{handed, process_here}
+use Rattle.sys_procs.specs.Handed.{handed, memory_here}
 use Rattle.sys_procs.proofs.MemoryLemmas.{image_here, loan_state, loan_board, loan_alive, loan_same}
 use Rattle.sys_procs.proofs.times.put_bytes.Goals as goal
 
@@ -27,18 +26,18 @@ left c =
     ∙ ap (λ (k : Kept). left_of k c.args.s) c.space-space.ensures.images))
 
 -- the image before, and the one after
-before : (c : goal.After-copy_out) → image_of (process_here c.args.p.now c.args.s) ≡ kept.image_of c.space-space.result.images.now c.space-space.result.slot
+before : (c : goal.After-copy_out) → memory_here c.args.p.now c.args.s ≡ kept.image_of c.space-space.result.images.now c.space-space.result.slot
 before c =
-    image_here c.args.p.now c.args.s c.requires c.area-area.ensures.sizes.text
+    image_here c.args.p.now c.args.s c.requires c.area-area.ensures.holds
     ∙ (ap (λ (k : Kept). kept.image_of k c.args.s) (sym c.space-space.ensures.images)
     ∙ ap (λ n. kept.image_of c.space-space.result.images.now n) (sym c.space-space.ensures.slot))
 
-whole : (c : goal.After-copy_out) → c.copy_out.result ≡ true → store_bytes (image_of (process_here c.args.p.now c.args.s)) c.args.at c.args.bytes.now ≡ Some (kept.image_of (now c) c.args.s)
+whole : (c : goal.After-copy_out) → c.copy_out.result ≡ true → store_bytes (memory_here c.args.p.now c.args.s) c.args.at c.args.bytes.now ≡ Some (kept.image_of (now c) c.args.s)
 whole c is =
     ap (λ m. store_bytes m c.args.at c.args.bytes.now) (before c)
     ∙ (c.copy_out.ensures.done is ∙ ap (λ n. Some (kept.image_of (now c) n)) (slot_is c))
 
-none : (c : goal.After-copy_out) → c.copy_out.result ≡ false → store_bytes (image_of (process_here c.args.p.now c.args.s)) c.args.at c.args.bytes.now ≡ None
+none : (c : goal.After-copy_out) → c.copy_out.result ≡ false → store_bytes (memory_here c.args.p.now c.args.s) c.args.at c.args.bytes.now ≡ None
 none c is = ap (λ m. store_bytes m c.args.at c.args.bytes.now) (before c) ∙ c.copy_out.ensures.refused is
 
 same : (c : goal.After-copy_out) → c.copy_out.result ≡ false → now c ≡ c.args.p.now.images
@@ -51,7 +50,7 @@ same c is = loan_same c.args.p.now c.args.s c.requires c.area-area.ensures.holds
 pub returns-clause-done : goal.returns-clause-done
 returns-clause-done c = by c.copy_out.result refl
   where
-    by : (b : Bool) → c.copy_out.result ≡ b → b ≡ is_some (store_bytes (image_of (process_here c.args.p.now c.args.s)) c.args.at c.args.bytes.now)
+    by : (b : Bool) → c.copy_out.result ≡ b → b ≡ is_some (store_bytes (memory_here c.args.p.now c.args.s) c.args.at c.args.bytes.now)
     by true is = sym (ap is_some (whole c is))
     by false is = sym (ap is_some (none c is))
 
@@ -62,7 +61,7 @@ returns-clause-state c = λ fs. by fs c.copy_out.result refl
     p = c.args.p.now
 
     by : (fs : FileSystem) (b : Bool) → c.copy_out.result ≡ b
-        → handed (record p { images = now c }) fs ≡ (stored (handed p fs) c.args.s (store_bytes (image_of (process_here p c.args.s)) c.args.at c.args.bytes.now)).state
+        → handed (record p { images = now c }) fs ≡ (stored (handed p fs) c.args.s (store_bytes (memory_here p c.args.s) c.args.at c.args.bytes.now)).state
     by fs true is =
         loan_state p c.args.s c.requires c.area-area.ensures.holds.slots (now c) (left c) fs
         ∙ sym (ap (λ (o : Option Image). (stored (handed p fs) c.args.s o).state) (whole c is))

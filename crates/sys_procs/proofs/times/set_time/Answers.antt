@@ -1,8 +1,9 @@
-use Rattle.std.proofs.Common.{◌≡◌, ◌∙◌, ℕ, [], ◌∷◌, get_or, ap, sym}
+use Rattle.std.proofs.Common.{◌≡◌, ◌∙◌, ℕ, [], ◌∷◌, get_or, ap, sym, refl}
 use Rattle.v6_base.specs.Trace.{Log}
 use Rattle.v6_base.specs.declared.entry.Chan.TheVariants.{Tout}
 use Rattle.v6_base.specs.declared.entry.Entry.TheVariants.{Time, Wake}
-use Rattle.v6_base.specs.declared.answer.Answer.TheVariants.{Ret}
+use Rattle.v6_base.specs.declared.answer.Answer.TheVariants.{Ret, Fail}
+use Rattle.v6_base.specs.declared.errno.Errno.TheVariants.{EPERM}
 use Rattle.u_area.specs.declared.area.UArea.{UArea}
 use Rattle.pick_rules.specs.Apply.{applied}
 use Rattle.sys_procs.specs.World.{World}
@@ -10,9 +11,16 @@ use Rattle.sys_procs.specs.Comes.{comes, returns, logs}
 use Rattle.sys_procs.specs.Handed.{board, handed}
 use Rattle.sys_procs.specs.Times.{with_time, set_time}
 use Rattle.sys_procs.proofs.Shown.{Says, says_lines, its_call}
-use Rattle.sys_procs.proofs.TimesLemmas.{time_set}
+use Rattle.sys_procs.proofs.TimesLemmas.{time_set, time_refused}
+use Rattle.sys_procs.proofs.Dones.{done_none}
 use Rattle.sys_procs.proofs.times.set_time.Given as given
 use Rattle.sys_procs.proofs.times.set_time.Goals as goal
+
+-- another user calls
+pub returns-then-u-ne0-clause-does : goal.returns-then-u-ne0-clause-does
+returns-then-u-ne0-clause-does g c =
+    let w : World = handed c.args.p.now c.args.tree.now.nodes in
+    done_none w (Fail EPERM) (time_refused w c.args.s c.area-u.result c.area-u.ensures c.if-u-ne0.true) refl refl refl
 
 -- the time as the two registers give it
 abbrev told : (g : given.Over) → goal.After-result-2-1 g → ℕ

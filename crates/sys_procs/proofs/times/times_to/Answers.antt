@@ -3,8 +3,7 @@ use Rattle.v6_base.specs.Copy.{store_bytes}
 use Rattle.v6_base.specs.Image.{Image}
 use Rattle.fs_nodes.specs.FileSystem.{FileSystem}
 use Rattle.sys_procs.specs.declared.procs.Procs.{Procs}
-use Rattle.sys_procs.specs.Process.{image_of}
-use Rattle.sys_procs.specs.Handed.{handed, process_here}
+use Rattle.sys_procs.specs.Handed.{handed, memory_here}
 use Rattle.sys_procs.proofs.Alive.{calls_alive}
 use Rattle.sys_procs.proofs.Dones.{done_as}
 use Rattle.sys_procs.proofs.TimesTo.{times_row, times_none, times_some}
@@ -15,7 +14,7 @@ pub returns-then-not-put_bytes-clause-does : goal.returns-then-not-put_bytes-cla
 returns-then-not-put_bytes-clause-does g c =
     let p : Procs = c.args.p.now in
     let fs : FileSystem = c.args.tree.now.nodes in
-    let put : Option Image = store_bytes (image_of (process_here p c.args.s)) (slice_index c.args.args 0) c.times_bytes.result in
+    let put : Option Image = store_bytes (memory_here p c.args.s) (slice_index c.args.args 0) c.times_bytes.result in
     done_as (times_row (handed p fs) c.args.s (slice_index c.args.args 0) c.area-u.result c.times_bytes.result c.area-u.ensures c.if-at-eq1.false c.times_bytes.ensures)
     (times_none p c.put_bytes.new.p fs c.args.s _ c.put_bytes.ensures.board put (sym c.put_bytes.ensures.done ∙ c.if-not-put_bytes.true)
     (c.put_bytes.ensures.state fs))
@@ -24,7 +23,7 @@ pub returns-clause-does : goal.returns-clause-does
 returns-clause-does g c =
     let p : Procs = c.args.p.now in
     let fs : FileSystem = c.args.tree.now.nodes in
-    let put : Option Image = store_bytes (image_of (process_here p c.args.s)) (slice_index c.args.args 0) c.times_bytes.result in
+    let put : Option Image = store_bytes (memory_here p c.args.s) (slice_index c.args.args 0) c.times_bytes.result in
     done_as (times_row (handed p fs) c.args.s (slice_index c.args.args 0) c.area-u.result c.times_bytes.result c.area-u.ensures c.if-at-eq1.false c.times_bytes.ensures)
     (times_some p c.put_bytes.new.p fs c.args.s _ c.put_bytes.ensures.board c.area-u.result (calls_alive p fs c.args.s c.requires) c.area-u.ensures
     put (sym c.put_bytes.ensures.done ∙ c.if-not-put_bytes.false) (c.put_bytes.ensures.state fs))

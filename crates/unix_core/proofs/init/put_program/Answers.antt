@@ -10,7 +10,7 @@ pub store_program-requires-clause-text : goal.store_program-requires-clause-text
 store_program-requires-clause-text c =
     let lent = c.space-space in
     ap (λ (x : Kept). (image_of x lent.result.slot).text) lent.ensures.images
-    ∙ ap (λ s. (image_of c.args.procs.now.images s).text) lent.ensures.slot ∙ (c.see_kept.ensures.sizes c.args.s c.requires.image).text
+    ∙ ap (λ s. (image_of c.args.procs.now.images s).text) lent.ensures.slot ∙ c.requires.no_text
 
 pub returns : goal.returns
 unfolding init_data

@@ -1,7 +1,7 @@
 use Rattle.std.proofs.Common.{◌∙◌, refl, ap, lit<}
 use Rattle.image_keep.specs.Kept.{Kept}
 use Rattle.sys_procs.specs.declared.procs.Procs.{Procs}
-use Rattle.unix_core.proofs.BootImageLemmas.{keeps_nothing, made_image, made_cleared, filled_image, first_made}
+use Rattle.unix_core.proofs.BootImageLemmas.{keeps_nothing, made_image, made_bare, made_cleared, filled_image, first_made}
 use Rattle.unix_core.proofs.kernel.make_first.Goals as goal
 
 pub replace-requires : goal.replace-requires
@@ -15,6 +15,10 @@ replace-requires c = record {
 pub put_program-requires-clause-image : goal.put_program-requires-clause-image
 put_program-requires-clause-image c =
     made_image c.args.procs.now.images c.requires.empty c.requires.least c.replace.new.self 1 0 refl refl c.replace.ensures.kept
+
+pub put_program-requires-clause-no_text : goal.put_program-requires-clause-no_text
+put_program-requires-clause-no_text c =
+    made_bare c.args.procs.now.images c.requires.empty c.requires.least c.replace.new.self 1 0 refl refl c.replace.ensures.kept
 
 pub put_program-requires-clause-cleared : goal.put_program-requires-clause-cleared
 put_program-requires-clause-cleared c =

@@ -30,7 +30,7 @@ set_area-requires c =
     let w : World = c.args.world.now in
     let row : Row = row_at w.procs.rows c.args.s in
     let image : Image = image_of w.procs.images c.args.s in
-    let lent = lends w c.args.s {r = row} w.procs.images c.args.s c.requires c.see_nodes.ensures c.area-u.ensures.sizes c.area-u.ensures.u refl refl refl in
+    let lent = lends w c.args.s {r = row} w.procs.images c.args.s c.requires c.see_nodes.ensures c.area-u.ensures.sizes c.area-u.ensures.holds c.area-u.ensures.u refl refl refl in
     record {
       image = c.requires.good.running c.args.s c.requires.runs c.requires.user;
       sizes = sizes_put w c.args.s lent closing (closing_confined (given w c.args.s)) c.close_all.new.f c.close_all.new.u row image (c.close_all.ensures.state row image);
@@ -41,7 +41,7 @@ returns c =
     let w : World = c.args.world.now in
     let row : Row = row_at w.procs.rows c.args.s in
     let image : Image = image_of w.procs.images c.args.s in
-    let lent = lends w c.args.s {r = row} w.procs.images c.args.s c.requires c.see_nodes.ensures c.area-u.ensures.sizes c.area-u.ensures.u refl refl refl in
+    let lent = lends w c.args.s {r = row} w.procs.images c.args.s c.requires c.see_nodes.ensures c.area-u.ensures.sizes c.area-u.ensures.holds c.area-u.ensures.u refl refl refl in
     let done = call_done w c.args.s lent closing (closing_confined (given w c.args.s)) c.clear.new.self c.close_all.new.trace c.close_all.new.f c.close_all.new.u row image
     {a = Ret 0 0}
     (record {

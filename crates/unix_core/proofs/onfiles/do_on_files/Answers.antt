@@ -28,7 +28,7 @@ pub set_area-requires : goal.set_area-requires
 set_area-requires c =
     let w : World = c.args.world.now in
     let now : Kept = c.do_file_call-answer.new.space.images.now in
-    let lent = lends w c.args.s _ _ c.requires c.see_nodes.ensures c.area-u.ensures.sizes c.area-u.ensures.u c.row.ensures
+    let lent = lends w c.args.s _ _ c.requires c.see_nodes.ensures c.area-u.ensures.sizes c.area-u.ensures.holds c.area-u.ensures.u c.row.ensures
     c.space-space.ensures.images c.space-space.ensures.slot in
     let back = lent_back w.procs.images c.space-space.result.images.now now c.args.s c.space-space.result.slot c.do_file_call-answer.new.space.slot _ _
     c.space-space.ensures.images c.space-space.ensures.slot c.do_file_call-answer.ensures.memory in
@@ -39,7 +39,7 @@ set_area-requires c =
 pub set_row-requires-clause-pid : goal.set_row-requires-clause-pid
 set_row-requires-clause-pid c =
     let w : World = c.args.world.now in
-    let lent = lends w c.args.s _ _ c.requires c.see_nodes.ensures c.area-u.ensures.sizes c.area-u.ensures.u c.row.ensures
+    let lent = lends w c.args.s _ _ c.requires c.see_nodes.ensures c.area-u.ensures.sizes c.area-u.ensures.holds c.area-u.ensures.u c.row.ensures
     c.space-space.ensures.images c.space-space.ensures.slot in
     (row_put w c.args.s lent (λ h. file_row c.args.call h c.args.args w.procs.table.now) (row_confined c.args.call (given w c.args.s) c.args.args w.procs.table.now c.see_count.ensures)
     c.do_file_call-answer.new.files c.do_file_call-answer.new.u c.do_file_call-answer.new.row _ c.do_file_call-answer.ensures.does.state).pid
@@ -47,7 +47,7 @@ set_row-requires-clause-pid c =
 pub set_row-requires-clause-ppid : goal.set_row-requires-clause-ppid
 set_row-requires-clause-ppid c =
     let w : World = c.args.world.now in
-    let lent = lends w c.args.s _ _ c.requires c.see_nodes.ensures c.area-u.ensures.sizes c.area-u.ensures.u c.row.ensures
+    let lent = lends w c.args.s _ _ c.requires c.see_nodes.ensures c.area-u.ensures.sizes c.area-u.ensures.holds c.area-u.ensures.u c.row.ensures
     c.space-space.ensures.images c.space-space.ensures.slot in
     (row_put w c.args.s lent (λ h. file_row c.args.call h c.args.args w.procs.table.now) (row_confined c.args.call (given w c.args.s) c.args.args w.procs.table.now c.see_count.ensures)
     c.do_file_call-answer.new.files c.do_file_call-answer.new.u c.do_file_call-answer.new.row _ c.do_file_call-answer.ensures.does.state).ppid
@@ -56,7 +56,7 @@ pub returns : goal.returns
 returns c =
     let w : World = c.args.world.now in
     let now : Kept = c.do_file_call-answer.new.space.images.now in
-    let lent = lends w c.args.s _ _ c.requires c.see_nodes.ensures c.area-u.ensures.sizes c.area-u.ensures.u c.row.ensures
+    let lent = lends w c.args.s _ _ c.requires c.see_nodes.ensures c.area-u.ensures.sizes c.area-u.ensures.holds c.area-u.ensures.u c.row.ensures
     c.space-space.ensures.images c.space-space.ensures.slot in
     let back = lent_back w.procs.images c.space-space.result.images.now now c.args.s c.space-space.result.slot c.do_file_call-answer.new.space.slot _ _
     c.space-space.ensures.images c.space-space.ensures.slot c.do_file_call-answer.ensures.memory in

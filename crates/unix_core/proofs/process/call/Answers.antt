@@ -30,7 +30,7 @@ returns-in-Some-clause-come g c =
     let w : World = c.args.world.now in
     let s = c.args.s in
     let a : Asked = c.ask-asked.result in
-    let asks = asked_here w s c.requires c.ask-asked.ensures.text c.args.number a c.ask-asked.ensures.asked in
+    let asks = asked_here w s c.requires c.ask-asked.ensures.holds c.args.number a c.ask-asked.ensures.asked in
     let same = entered_board w s c.requires a c.in-Some.entry _ _ _ c.ask-asked.ensures.same c.words_passed.ensures
     c.enter.ensures in
     let steps = entered_call w s c.requires a c.in-Some.entry _ _ _ c.ask-asked.ensures.same c.words_passed.ensures
@@ -46,7 +46,7 @@ returns-in-Some-clause-items g c =
     let w : World = c.args.world.now in
     let s = c.args.s in
     let a : Asked = c.ask-asked.result in
-    let asks = asked_here w s c.requires c.ask-asked.ensures.text c.args.number a c.ask-asked.ensures.asked in
+    let asks = asked_here w s c.requires c.ask-asked.ensures.holds c.args.number a c.ask-asked.ensures.asked in
     let same = entered_board w s c.requires a c.in-Some.entry _ _ _ c.ask-asked.ensures.same c.words_passed.ensures
     c.enter.ensures in
     let steps = entered_call w s c.requires a c.in-Some.entry _ _ _ c.ask-asked.ensures.same c.words_passed.ensures
@@ -68,7 +68,7 @@ returns-in-None-clause-come g c =
     let w : World = c.args.world.now in
     let s = c.args.s in
     let a : Asked = c.ask-asked.result in
-    let asks = asked_here w s c.requires c.ask-asked.ensures.text c.args.number a c.ask-asked.ensures.asked in
+    let asks = asked_here w s c.requires c.ask-asked.ensures.holds c.args.number a c.ask-asked.ensures.asked in
     let steps = system_is_not c.args.number (unix_of w) s a asks
     (sym c.sysent_of.ensures ∙ c.in-None.is) in
     subst (λ (k : Kept). HasCome (board_in w)
@@ -85,7 +85,7 @@ returns-in-None-clause-items g c =
     let w : World = c.args.world.now in
     let s = c.args.s in
     let a : Asked = c.ask-asked.result in
-    let asks = asked_here w s c.requires c.ask-asked.ensures.text c.args.number a c.ask-asked.ensures.asked in
+    let asks = asked_here w s c.requires c.ask-asked.ensures.holds c.args.number a c.ask-asked.ensures.asked in
     let steps = system_is_not c.args.number (unix_of w) s a asks
     (sym c.sysent_of.ensures ∙ c.in-None.is) in
     took_nothing _ _ (ap (λ (x : Steps). (logged (board_in w) x.effects).items) (sym steps))

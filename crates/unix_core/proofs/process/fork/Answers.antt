@@ -8,7 +8,7 @@ use Rattle.u_area.specs.declared.area.UArea.{UArea}
 use Rattle.unix_core.specs.declared.world.World.{World}
 use Rattle.fs_tree.specs.declared.tree.Tree.{Tree}
 use Rattle.sys_procs.specs.declared.procs.Procs.{Procs}
-use Rattle.abstract_unix.specs.Unix.{no_texts, process_of}
+use Rattle.abstract_unix.specs.Unix.{process_of}
 use Rattle.abstract_unix.specs.Calls.{shares}
 use Rattle.unix_core.specs.Parts.{unix_of, IsReady}
 use Rattle.abstract_unix.specs.Whole.{told_in}
@@ -23,7 +23,7 @@ use Rattle.unix_core.proofs.process.fork.Goals as goal
 -- no file has so many numbers that fifteen more can't be counted
 room_for : (w : World) (s : ℕ) → IsReady w s → HaveRoom w.files.table
 room_for w s ready entry file is =
-    let few = few_numbers w.files.tree.nodes.references w.files.table no_texts (told_in (unix_of w).processes) ready.good.owed (fifty_told w) entry file is in
+    let few = few_numbers w.files.tree.nodes.references w.files.table (unix_of w).texts (told_in (unix_of w).processes) ready.good.owed (fifty_told w) entry file is in
     omega (arith, few)
 
 pub area-u-requires : goal.area-u-requires
@@ -36,7 +36,7 @@ pub share_files-requires-clause-open : goal.share_files-requires-clause-open
 share_files-requires-clause-open g c =
     let w : World = c.args.world.now in
     subst (λ (mine : List ℕ). AreOpen w.files.table mine) (sym (ap (λ (u : UArea). u.files) (c.area-u.ensures.u ∙ own_area w c.args.s c.requires)))
-    (names_open w.files.tree.nodes.references w.files.table no_texts (told_in (unix_of w).processes) c.requires.good.owed c.args.s _ (told_here w c.args.s c.requires))
+    (names_open w.files.tree.nodes.references w.files.table (unix_of w).texts (told_in (unix_of w).processes) c.requires.good.owed c.args.s _ (told_here w c.args.s c.requires))
 
 pub share_files-requires-clause-few : goal.share_files-requires-clause-few
 share_files-requires-clause-few g c = room_for c.args.world.now c.args.s c.requires

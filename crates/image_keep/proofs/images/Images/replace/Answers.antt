@@ -17,4 +17,4 @@ returns-clause-kept c =
     (ap (λ (u : UArea). Alive (record { u = u; image = whole_image c.clear_memory.new.memory; place = place })) c.new_area-u.ensures
     ∙ ap (λ (m : Image). Alive (record { u = sized_area d stack; image = m; place = place })) c.clear_memory.ensures)
     ∙ ap (with_image_at c.args.self.now c.args.s (sized_area d stack) (cleared d stack))
-    (sym c.in-Some.is ∙ (c.placed.ensures ∙ ap (placed c.args.self.now) (c.clicks_of.ensures ∙ ap (λ (u : UArea). 16 + u.data_size + u.stack_size) c.new_area-u.ensures)))
+    (sym c.in-Some.is ∙ (c.placed.ensures ∙ ap (placed c.args.self.now c.args.s) (c.clicks_of.ensures ∙ ap (λ (u : UArea). 16 + u.data_size + u.stack_size) c.new_area-u.ensures)))

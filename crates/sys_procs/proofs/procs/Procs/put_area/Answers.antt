@@ -1,14 +1,14 @@
-use Rattle.std.proofs.Common.{◌≡◌, ◌∙◌, ℕ, min, List, get_or, Option, None, sym, ap, subst, arith}
+use Rattle.std.proofs.Common.{◌≡◌, ◌∙◌, List, get_or, Option, None, sym, ap, subst, arith}
 use Rattle.std.specs.Option.{unwrap_or}
 use Rattle.u_area.specs.declared.area.UArea.{UArea}
-use Rattle.image_keep.specs.Kept.{Kept, with_area, image_of}
+use Rattle.image_keep.specs.Kept.{Kept, image_of}
 use Rattle.sys_procs.specs.declared.procs.Procs.{Procs}
 use Rattle.sys_procs.specs.Process.{Process, no_process}
 use Rattle.sys_procs.specs.World.{processes_in}
 use Rattle.sys_procs.specs.Agree.{board_of}
 use Rattle.sys_procs.specs.Handed.{handed, process_here, IsAlive}
 use Rattle.sys_procs.proofs.Slots.{fifty_processes}
-use Rattle.sys_procs.proofs.Alive.{area_here, put_here, SameSizes, sizes_stay, area_put, area_core, area_alive}
+use Rattle.sys_procs.proofs.Alive.{area_here, put_here, SameSizes, sizes_stay, area_put, area_state, area_board, area_alive}
 use Rattle.sys_procs.proofs.procs.Procs.put_area.Goals as goal
 
 pub set_area-requires-clause-sizes : goal.set_area-requires-clause-sizes
@@ -26,9 +26,8 @@ set_area-requires-clause-sizes c =
 pub returns-clause-state : goal.returns-clause-state
 returns-clause-state c = λ fs.
     let p : Procs = c.args.self.now in
-    let put : Kept = with_area p.images c.args.s c.args.u.now in
-    ap (λ (k : Kept). record (handed p fs) { processes = processes_in p.rows.slots k; limit = min k.core 2048 }) c.set_area.ensures
-    ∙ ap (λ (core : ℕ). record (handed p fs) { processes = processes_in p.rows.slots put; limit = min core 2048 }) (area_core p.images c.args.s c.args.u.now)
+    ap (λ (k : Kept). handed (record p { images = k }) fs) c.set_area.ensures
+    ∙ area_state p c.args.s c.args.u.now fs
     ∙ ap (λ (ps : List (Option Process)). record (handed p fs) { processes = ps }) (area_put p c.args.s c.args.u.now c.requires.alive c.area-area.ensures.holds.slots)
 
 pub returns-clause-here : goal.returns-clause-here
@@ -43,8 +42,7 @@ returns-clause-here c =
 pub returns-clause-board : goal.returns-clause-board
 returns-clause-board c =
     let p : Procs = c.args.self.now in
-    ap (λ (k : Kept). board_of p.table k) c.set_area.ensures
-    ∙ ap (λ (core : ℕ). record (board_of p.table p.images) { core = core }) (area_core p.images c.args.s c.args.u.now)
+    ap (λ (k : Kept). board_of p.table k) c.set_area.ensures ∙ area_board p c.args.s c.args.u.now
 
 pub returns-clause-alive : goal.returns-clause-alive
 returns-clause-alive c =

@@ -42,9 +42,9 @@ invariant_of-self g c =
     lent_back w.procs.images lent.result.images.now k s lent.result.slot step.new.space.slot _ _ lent.ensures.images lent.ensures.slot step.ensures.rest in
     let was : image_of lent.result.images.now lent.result.slot ≡ image_of w.procs.images s =
     ap (λ (x : Kept). image_of x lent.result.slot) lent.ensures.images ∙ ap (image_of w.procs.images) lent.ensures.slot in
-    let text = (c.see_kept.ensures.sizes s (ready_alive w s user.ready).image).text in
+    let holds = c.see_kept.ensures in
     subst (λ (at : Stage). IsKernel at (with_images w k)) (sym c.in-Running.is)
-    (runs_kernel (with_images w k) s (lent_user w s user text m.regs step.new.regs step.result image _ was step.ensures.step k back))
+    (runs_kernel (with_images w k) s (lent_user w s user holds m.regs step.new.regs step.result image _ was step.ensures.step k back))
 
 pub after_step-requires : goal.after_step-requires
 after_step-requires g c =
@@ -60,10 +60,10 @@ after_step-requires g c =
     lent_back w.procs.images lent.result.images.now k s lent.result.slot step.new.space.slot _ _ lent.ensures.images lent.ensures.slot step.ensures.rest in
     let was : image_of lent.result.images.now lent.result.slot ≡ image_of w.procs.images s =
     ap (λ (x : Kept). image_of x lent.result.slot) lent.ensures.images ∙ ap (image_of w.procs.images) lent.ensures.slot in
-    let text = (c.see_kept.ensures.sizes s (ready_alive w s user.ready).image).text in
+    let holds = c.see_kept.ensures in
     record {
       stage = c.in-Running.is;
-      user = lent_user w s user text m.regs step.new.regs step.result image _ was step.ensures.step k back;
+      user = lent_user w s user holds m.regs step.new.regs step.result image _ was step.ensures.step k back;
     }
 
 pub returns-in-Next-clause-answer : goal.returns-in-Next-clause-answer
@@ -80,10 +80,10 @@ returns-in-Next-clause-answer g c =
     lent_back w.procs.images lent.result.images.now k s lent.result.slot step.new.space.slot _ _ lent.ensures.images lent.ensures.slot step.ensures.rest in
     let was : image_of lent.result.images.now lent.result.slot ≡ image_of w.procs.images s =
     ap (λ (x : Kept). image_of x lent.result.slot) lent.ensures.images ∙ ap (image_of w.procs.images) lent.ensures.slot in
-    let text = (c.see_kept.ensures.sizes s (ready_alive w s user.ready).image).text in
+    let holds = c.see_kept.ensures in
     let sys : System = system_at (stage.Running s) m.regs w in
     let done : HasStepped sys step.new.regs (with_images w k) s step.result =
-    lent_stepped w s user text m.regs step.new.regs step.result image _ was step.ensures.step k back in
+    lent_stepped w s user holds m.regs step.new.regs step.result image _ was step.ensures.step k back in
     let same : sys ≡ c.args.self.now.system =
     ap (λ (at : Stage). system_at at m.regs w) (sym c.in-Running.is) ∙ ap (λ (x : SystemOnDisk). x.system) c.self.view_is in
     let next = subst (λ o. HasStepped sys step.new.regs (with_images w k) s o) c.in-Next.is done in
@@ -104,10 +104,10 @@ returns-in-Next-clause-next g c =
     lent_back w.procs.images lent.result.images.now k s lent.result.slot step.new.space.slot _ _ lent.ensures.images lent.ensures.slot step.ensures.rest in
     let was : image_of lent.result.images.now lent.result.slot ≡ image_of w.procs.images s =
     ap (λ (x : Kept). image_of x lent.result.slot) lent.ensures.images ∙ ap (image_of w.procs.images) lent.ensures.slot in
-    let text = (c.see_kept.ensures.sizes s (ready_alive w s user.ready).image).text in
+    let holds = c.see_kept.ensures in
     let sys : System = system_at (stage.Running s) m.regs w in
     let done : HasStepped sys step.new.regs (with_images w k) s step.result =
-    lent_stepped w s user text m.regs step.new.regs step.result image _ was step.ensures.step k back in
+    lent_stepped w s user holds m.regs step.new.regs step.result image _ was step.ensures.step k back in
     let same : sys ≡ c.args.self.now.system =
     ap (λ (at : Stage). system_at at m.regs w) (sym c.in-Running.is) ∙ ap (λ (x : SystemOnDisk). x.system) c.self.view_is in
     let next = subst (λ o. HasStepped sys step.new.regs (with_images w k) s o) c.in-Next.is done in
@@ -134,10 +134,10 @@ returns-in-Next-clause-items g c =
     lent_back w.procs.images lent.result.images.now k s lent.result.slot step.new.space.slot _ _ lent.ensures.images lent.ensures.slot step.ensures.rest in
     let was : image_of lent.result.images.now lent.result.slot ≡ image_of w.procs.images s =
     ap (λ (x : Kept). image_of x lent.result.slot) lent.ensures.images ∙ ap (image_of w.procs.images) lent.ensures.slot in
-    let text = (c.see_kept.ensures.sizes s (ready_alive w s user.ready).image).text in
+    let holds = c.see_kept.ensures in
     let sys : System = system_at (stage.Running s) m.regs w in
     let done : HasStepped sys step.new.regs (with_images w k) s step.result =
-    lent_stepped w s user text m.regs step.new.regs step.result image _ was step.ensures.step k back in
+    lent_stepped w s user holds m.regs step.new.regs step.result image _ was step.ensures.step k back in
     let same : sys ≡ c.args.self.now.system =
     ap (λ (at : Stage). system_at at m.regs w) (sym c.in-Running.is) ∙ ap (λ (x : SystemOnDisk). x.system) c.self.view_is in
     let next = subst (λ o. HasStepped sys step.new.regs (with_images w k) s o) c.in-Next.is done in
@@ -161,10 +161,10 @@ returns-in-Next-clause-phase g c =
     lent_back w.procs.images lent.result.images.now k s lent.result.slot step.new.space.slot _ _ lent.ensures.images lent.ensures.slot step.ensures.rest in
     let was : image_of lent.result.images.now lent.result.slot ≡ image_of w.procs.images s =
     ap (λ (x : Kept). image_of x lent.result.slot) lent.ensures.images ∙ ap (image_of w.procs.images) lent.ensures.slot in
-    let text = (c.see_kept.ensures.sizes s (ready_alive w s user.ready).image).text in
+    let holds = c.see_kept.ensures in
     let sys : System = system_at (stage.Running s) m.regs w in
     let done : HasStepped sys step.new.regs (with_images w k) s step.result =
-    lent_stepped w s user text m.regs step.new.regs step.result image _ was step.ensures.step k back in
+    lent_stepped w s user holds m.regs step.new.regs step.result image _ was step.ensures.step k back in
     let same : sys ≡ c.args.self.now.system =
     ap (λ (at : Stage). system_at at m.regs w) (sym c.in-Running.is) ∙ ap (λ (x : SystemOnDisk). x.system) c.self.view_is in
     let next = subst (λ o. HasStepped sys step.new.regs (with_images w k) s o) c.in-Next.is done in
@@ -186,10 +186,10 @@ returns-in_default g c =
     lent_back w.procs.images lent.result.images.now k s lent.result.slot step.new.space.slot _ _ lent.ensures.images lent.ensures.slot step.ensures.rest in
     let was : image_of lent.result.images.now lent.result.slot ≡ image_of w.procs.images s =
     ap (λ (x : Kept). image_of x lent.result.slot) lent.ensures.images ∙ ap (image_of w.procs.images) lent.ensures.slot in
-    let text = (c.see_kept.ensures.sizes s (ready_alive w s user.ready).image).text in
+    let holds = c.see_kept.ensures in
     let sys : System = system_at (stage.Running s) m.regs w in
     let done : HasStepped sys step.new.regs (with_images w k) s step.result =
-    lent_stepped w s user text m.regs step.new.regs step.result image _ was step.ensures.step k back in
+    lent_stepped w s user holds m.regs step.new.regs step.result image _ was step.ensures.step k back in
     let same : sys ≡ c.args.self.now.system =
     ap (λ (at : Stage). system_at at m.regs w) (sym c.in-Running.is) ∙ ap (λ (x : SystemOnDisk). x.system) c.self.view_is in
     let after = c.after_step in
