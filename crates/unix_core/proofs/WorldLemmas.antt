@@ -29,7 +29,7 @@ use Rattle.sys_procs.proofs.Slots.{own_row}
 use Rattle.sys_procs.proofs.Alive.{is_here, area_here}
 use Rattle.unix_core.specs.declared.world.World.{World}
 use Rattle.abstract_unix.specs.Unix.{Text, no_texts, process_of}
-use Rattle.abstract_unix.specs.References.{referrers, references_of}
+use Rattle.abstract_unix.specs.References.{is_text_of, referrers, references_of}
 use Rattle.abstract_unix.specs.Calls.{marks_of, handed_of, with_handed}
 use Rattle.unix_core.specs.Passing.{all_woken}
 use Rattle.unix_core.specs.Parts.{unix_of, IsGood, IsReady, IsReadyToShow}
