@@ -260,6 +260,22 @@ class Compiled(Program):
                     "sizeof(int32_t), sizeof(size_t), sizeof(struct stat), offsetof(struct two, l), UINT_MAX);\n"
                     'printf("%d\\n", true + (bool)0x100 + !false); return 0; }\n', "1 1 2 4 2 36 2 65535\n3\n")
 
+    def test_options(self):
+        """A name of the preprocessor, a folder of headers, a table of symbols, and assembly in the place of a program."""
+        os.mkdir(self.path("more"))
+        self.put("more/seven.h", b"#define SEVEN 7\n")
+        source = self.put("it.c", b"#include <seven.h>\nint main(void) { return SEVEN + N; }\n")
+        words = ("-D", "N=4", "-I", self.path("more"), "-o", self.path("it"), source)
+        self.assertEqual(self.call(cc.main, *words), (0, "", ""))
+        self.assertEqual(self.run_it(self.path("it")), (11, "", ""))
+        plain = read(self.path("it"))
+        self.assertEqual(self.call(cc.main, "-s", *words), (0, "", ""))
+        with_symbols = read(self.path("it"))
+        self.assertEqual((with_symbols[:8], with_symbols[16 : len(plain)]), (plain[:8], plain[16:]))
+        self.assertIn(b"_main\0\0\0", with_symbols[len(plain) :])
+        self.assertEqual(self.call(cc.main, "-S", *words), (0, "", ""))
+        self.assertIn(b"\n_main:\n", read(self.path("it")))
+
     def test_wrong(self):
         """What the compiler refuses is told, and no program is written."""
         for source, why in (("int main(void) { return x; }\n", "it.c, line 1: x undefined\n"),

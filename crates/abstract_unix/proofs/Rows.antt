@@ -68,7 +68,7 @@ plain_fine s seen w c (nice v value d range rest) i =
     logged_fine s seen (line.Nice s value) d (nice_fits s false (seats_here w) seen value range i)
     (plain_fine s (seen_after seen (line.Nice s value)) w d rest (nice_in s false (seats_here w) seen value i))
 plain_fine s seen w c (wakes v chan d range rest) i =
-    logged_fine s seen (line.Wake chan) d (going_fits seen.stage seen.board (line.Wake chan) i.going range tt)
+    logged_fine s seen (line.Wake chan) d (going_fits seen (line.Wake chan) i.going range tt)
     (plain_fine s (seen_after seen (line.Wake chan)) w d rest (wake_in s false (seats_here w) seen chan i))
 plain_fine s seen w c (dated v time d range rest) i =
     logged_fine s seen (line.Time time) d (time_fits s false (seats_here w) seen time range i)

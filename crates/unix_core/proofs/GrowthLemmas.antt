@@ -36,12 +36,12 @@ module _ (w : World) (s : ℕ) (ready : IsReady w s) where
 
   expands_tame : (d stack : ℕ) → IsTame w (expands (given w) s d stack)
   expands_tame d stack = record {
-        still = record { effects = (refl, tt); switches = λ none. refl };
-        like = λ none. record {
-          refs = λ ino. refl;
-          told = told_change (unix_of w).processes s (process_of (unix_of w) s) (sized d stack (process_of (unix_of w) s)) (slot_is w s ready) refl;
-        };
-      }
+    still = record { effects = (refl, tt); switches = λ none. refl };
+    like = λ none. record {
+      refs = λ ino. refl;
+      told = told_change (unix_of w).processes s (process_of (unix_of w) s) (sized d stack (process_of (unix_of w) s)) (slot_is w s ready) refl;
+    };
+  }
 
   pub break_tame : (at : ℕ) → IsTame w (break_at (given w) s at)
   unfolding break_at

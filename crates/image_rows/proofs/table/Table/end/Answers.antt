@@ -1,4 +1,0 @@
-use Rattle.image_rows.proofs.table.Table.end.Goals as goal
-
-pub end-requires : goal.end-requires
-end-requires c = (c.has_image.ensures c.if-not-has_image.false).1

@@ -1,4 +1,0 @@
-use Rattle.image_rows.proofs.table.Table.load.Goals as goal
-
-pub space-space-requires : goal.space-space-requires
-space-space-requires c = (c.has_image.ensures c.if-not-has_image.false).1

@@ -1,9 +1,0 @@
-//! What a slot has.
-
-/// What a slot has.
-#[derive(Clone, Copy, Debug, PartialEq, Eq)]
-pub enum Kind {
-    Nothing,
-    Image,
-    Grave,
-}

@@ -1,0 +1,335 @@
+//! What scripts ask for, and which lines are none: docs/manual/scripts.md, line by line.
+use script_text::Event::{Byte, Clock, Run, Switch, Tick};
+use script_text::ScriptFault::{BadLine, TooLong, TooManySlots};
+use script_text::{Event, ScriptFault, read, signal_line};
+use std::alloc::{AllocError, Global};
+use std::process::Abort;
+use std::test::Fail;
+
+/// A script and its events.
+static EVENTS: [(&[u8], &[Event]); 38] = [
+    // The last line may lack its line feed, and a carriage return right before one is dropped.
+    (b"", &[]),
+    (b"tick", &[Tick]),
+    (b"tick\n", &[Tick]),
+    (b"tick\r\ntick\r\n", &[Tick, Tick]),
+    // An empty line and a comment ask for nothing.
+    (b"\n", &[]),
+    (b"\r\n", &[]),
+    (b"tick\n\n\ntick", &[Tick, Tick]),
+    (b";", &[]),
+    (b"; tick\ntick\n", &[Tick]),
+    (b";\0\x07\t\r\x7f\x80\xff\n;run 1", &[]),
+    // A text is typed with the return key after it.
+    (b"type", &[Byte(13)]),
+    (b"type ", &[Byte(13)]),
+    (b"type\n", &[Byte(13)]),
+    (b"type \r\n", &[Byte(13)]),
+    (b"type  x", &[Byte(32), Byte(120), Byte(13)]),
+    (b"type x ", &[Byte(120), Byte(32), Byte(13)]),
+    (b"type a;b\r\n", &[Byte(97), Byte(59), Byte(98), Byte(13)]),
+    (b"type ~", &[Byte(126), Byte(13)]),
+    // Decimal numbers have up to nine digits.
+    (b"clock 0", &[Clock(0)]),
+    (b"clock 000000060\r\n", &[Clock(60)]),
+    (b"clock 999999999", &[Clock(999_999_999)]),
+    (b"run 0", &[Run(0)]),
+    (b"run 000000005", &[Run(5)]),
+    (b"run 123456789\n", &[Run(123_456_789)]),
+    // Octal numbers have all their digits.
+    (b"byte 000", &[Byte(0)]),
+    (b"byte 101\n", &[Byte(65)]),
+    (b"byte 177", &[Byte(127)]),
+    (b"byte 377", &[Byte(255)]),
+    (b"switch 000000", &[Switch(0)]),
+    (b"switch 012345", &[Switch(5_349)]),
+    (b"switch 100000\n", &[Switch(32_768)]),
+    (b"switch 177777", &[Switch(65_535)]),
+    // The slots are at most 200,000,000, and what comes after so many is read too.
+    (b"run 200000000", &[Run(200_000_000)]),
+    (b"run 200000000\nrun 0\n", &[Run(200_000_000), Run(0)]),
+    (
+        b"run 100000000\nrun 100000000\ntick",
+        &[Run(100_000_000), Run(100_000_000), Tick],
+    ),
+    (
+        b"clock 999999999\nrun 200000000\nclock 1",
+        &[Clock(999_999_999), Run(200_000_000), Clock(1)],
+    ),
+    // The events stand in the order of their lines.
+    (
+        b"clock 60\nrun 5\ntick\ntype hi\nbyte 004\nswitch 000001\n",
+        &[
+            Clock(60),
+            Run(5),
+            Tick,
+            Byte(104),
+            Byte(105),
+            Byte(13),
+            Byte(4),
+            Switch(1),
+        ],
+    ),
+    (b"run 1\n;\nrun 2\n\nrun 3", &[Run(1), Run(2), Run(3)]),
+];
+
+/// Scripts whose first line is none.
+static BAD_LINES: &[u8] = b"\
+# A carriage return stands elsewhere than before a line feed.
+\r
+tick\r
+type x\r
+run 5\r
+# Other words, or a word without its rest.
+walk
+tick\x20
+ tick
+ticks
+tic
+Tick
+tick 1
+tick\0
+\0
+\x20
+ ;
+types
+ type x
+type\tx
+Type x
+clock
+clock\x20
+run
+run\x20
+byte
+byte\x20
+switch
+switch\x20
+# Words are parted by one space, and no space follows the last.
+clock  1
+clock 1\x20
+clock\t1
+run  5
+run 5\x20
+run 5 5
+byte  12
+byte 12\x20
+byte 012\x20
+switch  12345
+switch 12345\x20
+# No sign, no other byte than a digit, and at most nine of those.
+clock +1
+clock -1
+clock 1x
+clock 0x1
+clock 0000000001
+clock 1000000000
+run +5
+run -5
+run 5\0
+run 5;
+run 0000000005
+run 1000000000
+# Octal digits alone, in their number, and no more than fits.
+byte 12
+byte 0012
+byte 0400
+byte 400
+byte 777
+byte 008
+byte 180
+byte 900
+byte +12
+byte 0o1
+switch 17777
+switch 0177777
+switch 200000
+switch 777777
+switch 000008
+switch -00001
+# No text has these bytes.
+type \x7f
+type \t
+type \x1f
+type x\0
+type \x80
+";
+
+/// The same, with more lines or an end.
+static BAD_FIRST_LINES: [&[u8]; 6] = [
+    b"tick\r\r\n",
+    b"\rtick\n",
+    b"type x\ry\n",
+    b"TICK\n",
+    b" \n",
+    b"type \xff\n",
+];
+
+/// A script and its first fault.
+static FAULTS: [(&[u8], ScriptFault); 13] = [
+    (b"run 200000001", TooManySlots(1)),
+    (b"run 999999999", TooManySlots(1)),
+    (b"run 200000000\nrun 1", TooManySlots(2)),
+    (b"run 200000000\nrun 0\nrun 1\n", TooManySlots(3)),
+    (b"run 199999999\n\nrun 2\nrun 0", TooManySlots(3)),
+    (b"run 100000000\nrun 999999999", TooManySlots(2)),
+    (b"run 5\nwalk\n", BadLine(2)),
+    (b"tick\r\n\r", BadLine(2)),
+    (b"\n;\ntick \ntick", BadLine(3)),
+    (b"walk\nrun\n", BadLine(1)),
+    // A fault in an earlier line comes first.
+    (b"walk\nrun 200000001\n", BadLine(1)),
+    (b"run 200000001\nwalk\n", TooManySlots(1)),
+    (b"run 5\nrun 200000000\nwalk", TooManySlots(2)),
+];
+
+fn has_events(alloc: Global, script: &[u8], events: &[Event]) -> bool {
+    match read(alloc, script) {
+        Ok(found) => found.events.as_slice() == events,
+        Err(_) => false,
+    }
+}
+
+fn has_fault(alloc: Global, script: &[u8], fault: ScriptFault) -> bool {
+    match read(alloc, script) {
+        Ok(_) => false,
+        Err(found) => found == fault,
+    }
+}
+
+#[test]
+fn scripts_have_their_events(rt: HostRuntime) {
+    for (i, (script, events)) in EVENTS.iter().enumerate() {
+        assert!(rt; has_events(rt.alloc(), script, events), "row {i}");
+    }
+}
+
+fn is_bad(alloc: Global, row: &[u8]) -> bool {
+    row.is_empty() || row.starts_with(b"#") || has_fault(alloc, row, BadLine(1))
+}
+
+/// Tells the first row of a text that is a good script. A row that begins with `#` says something of those below it.
+fn judge_lines(rt: &impl Abort, alloc: Global, rows: &[u8]) {
+    for (k, row) in rows.split(|byte| *byte == b'\n').enumerate() {
+        assert!(rt; is_bad(alloc, row), "row {k}");
+    }
+}
+
+#[test]
+fn other_lines_are_bad(rt: HostRuntime) {
+    judge_lines(&rt, rt.alloc(), BAD_LINES);
+}
+
+#[test]
+fn other_first_lines_are_bad(rt: HostRuntime) {
+    for (i, script) in BAD_FIRST_LINES.iter().enumerate() {
+        assert!(rt; has_fault(rt.alloc(), script, BadLine(1)), "row {i}");
+    }
+}
+
+#[test]
+fn first_fault_counts(rt: HostRuntime) {
+    for (i, (script, fault)) in FAULTS.iter().enumerate() {
+        assert!(rt; has_fault(rt.alloc(), script, *fault), "row {i}");
+    }
+}
+
+/// The parts of a long script, of which the second stands so often, and the number of its events or its fault.
+type Long = (
+    &'static [u8],
+    &'static [u8],
+    usize,
+    &'static [u8],
+    Result<usize, ScriptFault>,
+);
+
+/// Five lines of five bytes: 41,943 of these and one byte more are the 1,048,576 bytes that a script may have.
+const TICKS: &[u8] = b"tick\ntick\ntick\ntick\ntick\n";
+
+/// A line has at most 300 bytes, without its end. All bytes of a script count.
+static LONG: [Long; 21] = [
+    (b"type ", b"x", 295, b"", Ok(296)),
+    (b"type ", b"x", 296, b"", Err(BadLine(1))),
+    (b"type ", b"x", 295, b"\n", Ok(296)),
+    (b"type ", b"x", 295, b"\r\ntick", Ok(297)),
+    (b"type ", b"x", 296, b"\ntick", Err(BadLine(1))),
+    (b"type ", b"x", 296, b"\r\n", Err(BadLine(1))),
+    (b";", b"\xff", 299, b"", Ok(0)),
+    (b";", b"\xff", 299, b"\r\n", Ok(0)),
+    (b";", b"\xff", 299, b"\r", Err(BadLine(1))),
+    (b";", b"\xff", 300, b"", Err(BadLine(1))),
+    (b"tick\n;", b" ", 300, b"\ntick", Err(BadLine(2))),
+    (b"", b"\r", 301, b"\n", Err(BadLine(1))),
+    (b"run 200000001\n;", b" ", 300, b"", Err(TooManySlots(1))),
+    (b";", b" ", 300, b"\nrun 200000001", Err(BadLine(1))),
+    (b"", TICKS, 41_943, b"\n", Ok(209_715)),
+    (b"", TICKS, 41_943, b";", Ok(209_715)),
+    (b"", TICKS, 41_943, b"\r\n", Err(TooLong)),
+    (b"", TICKS, 41_943, b"x", Err(BadLine(209_716))),
+    (
+        b"walk\n",
+        TICKS,
+        41_942,
+        b"tick\ntick\ntick\ntick\n\n",
+        Err(BadLine(1)),
+    ),
+    (
+        b"walk\n",
+        TICKS,
+        41_942,
+        b"tick\ntick\ntick\ntick\n\r\n",
+        Err(TooLong),
+    ),
+    (b"run 200000001\n", TICKS, 41_943, b"", Err(TooLong)),
+];
+
+fn script_of(alloc: Global, row: &Long) -> Result<Vec<u8>, AllocError> {
+    let mut script = Vec::new(alloc);
+    script.extend_from_slice(row.0)?;
+    for _ in 0..row.2 {
+        script.extend_from_slice(row.1)?;
+    }
+    script.extend_from_slice(row.3)?;
+    Ok(script)
+}
+
+fn ends(alloc: Global, row: &Long) -> Result<bool, AllocError> {
+    let script = script_of(alloc, row)?;
+    Ok(match (read(alloc, &script), row.4) {
+        (Ok(found), Ok(count)) => found.events.len() == count,
+        (Err(found), Err(fault)) => found == fault,
+        _ => false,
+    })
+}
+
+#[test]
+fn lines_and_scripts_have_their_limits(rt: HostRuntime) -> Result<(), Fail> {
+    for (i, row) in LONG.iter().enumerate() {
+        assert!(rt; ends(rt.alloc(), row)?, "row {i}");
+    }
+    Ok(())
+}
+
+/// A script, and the first line that types 177 or 034, whatever its eighth bit.
+static SIGNALS: [(&[u8], Option<u32>); 14] = [
+    (b"", None),
+    (b"byte 177", Some(1)),
+    (b"byte 034\n", Some(1)),
+    (b"byte 377", Some(1)),
+    (b"byte 234", Some(1)),
+    (b"byte 077", None),
+    (b"byte 134\nbyte 004\nbyte 000", None),
+    (b"run 1\r\n\nbyte 177\r\nbyte 034\n", Some(3)),
+    (b"byte 177\r", None),
+    (b"byte 0177\nbyte 34\ntype \x7f\ntype \x1c", None),
+    (b"; byte 177\ntype ~\ntype byte 177\ntick", None),
+    (b"clock 127\nrun 28\nswitch 000177", None),
+    (b"byte 135\nbyte 035\nbyte 033\nbyte 176", None),
+    (b"walk\nbyte 034", Some(2)),
+];
+
+#[test]
+fn first_line_with_a_signal_is_found(rt: HostRuntime) {
+    for (i, (script, line)) in SIGNALS.iter().enumerate() {
+        assert!(rt; signal_line(script) == *line, "row {i}");
+    }
+}
