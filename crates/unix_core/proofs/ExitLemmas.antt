@@ -14,7 +14,7 @@ use Rattle.pick_rules.specs.Effects as effects
 use Rattle.pick_rules.specs.Logged.{Logged, logged, log_one, left_by}
 use Rattle.sys_procs.specs.World as its
 use Rattle.sys_procs.specs.Comes.{Comes}
-use Rattle.sys_procs.specs.Exit.{parent_slot, leaves, dies, exit_now}
+use Rattle.sys_procs.specs.Exit.{leaves, dies, exit_now}
 use Rattle.sys_procs.specs.Agree.{answered}
 use Rattle.sys_procs.specs.Handed.{handed, board, came}
 use Rattle.fs_nodes.specs.FileSystem.{IsFileSystem}

@@ -1,6 +1,6 @@
 -- What comes back from a call on files: the memory and the u area with their sizes, and the row with its pid and its
 -- parent.
-use Rattle.std.proofs.Common.{◌≡◌, ◌∙◌, ◌*◌, ℕ, List, [], ◌∷◌, length, refl, sym, ap, subst, arith}
+use Rattle.std.proofs.Common.{◌≡◌, ◌∙◌, ◌*◌, ℕ, refl, sym, ap, subst}
 use Rattle.v6_base.specs.Image.{Image}
 use Rattle.v6_base.proofs.Copies.{SameLengths}
 use Rattle.u_area.specs.declared.area.UArea.{UArea}

@@ -1,17 +1,17 @@
 -- exec, break and the growth of a stack leave the processes of other slots alone, and so does each row.
-use Rattle.std.proofs.Common.{◌≢◌, ℕ, Bool, true, false, ◌==◌, if◌then◌else◌, List, Option, Some, None, slice_index, sym, subst}
-use Rattle.std.specs.Prelude.{⊤, MatchOption, Result, Ok, Err, slice_set}
+use Rattle.std.proofs.Common.{◌≢◌, ℕ, Bool, true, false, ◌==◌, List, Option, Some, None, slice_index, sym, subst}
+use Rattle.std.specs.Prelude.{⊤, MatchOption, Result, Ok, Err}
 use Rattle.std.specs.Option.{option_map}
-use Rattle.v6_base.specs.declared.entry.Entry.TheVariants.{Leave, Bare, Share}
+use Rattle.v6_base.specs.declared.entry.Entry.TheVariants.{Bare, Share}
 use Rattle.v6_base.specs.declared.errno.Errno.{Errno}
 use Rattle.seg_regs.specs.Sizes.{is_refused}
 use Rattle.fs_tree.specs.Finding.{with_reference}
 use Rattle.pick_rules.specs.Effects as effect
 use Rattle.sys_procs.specs.Process.{Process}
-use Rattle.sys_procs.specs.World.{World, process_of, change, let_go}
+use Rattle.sys_procs.specs.World.{World, process_of}
 use Rattle.sys_procs.specs.Comes.{Comes, does, logs}
 use Rattle.sys_procs.specs.TextTable.{entry_of, text_of, with_text}
-use Rattle.sys_procs.specs.Texts.{free_entry, new_text, goes, joined, remaining, without_text, leaves_text, is_sticky, xfree, with_entry, shares_text, makes_text, xalloc_by, xalloc}
+use Rattle.sys_procs.specs.Texts.{free_entry, new_text, joined, with_entry, shares_text, makes_text, xalloc_by, xalloc}
 use Rattle.sys_procs.specs.Tests.{node_at}
 use Rattle.sys_procs.specs.Break.{break_at, grow, grown_stack, clicks_up_to, sized, expands}
 use Rattle.sys_procs.specs.ExecFile.{Tested, tests, with_moved, text_clicks, data_read, reads_text, image_clicks, begins, executes, loads, done_by, exec_file}

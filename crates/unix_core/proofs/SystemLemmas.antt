@@ -1,7 +1,6 @@
 -- What a call asks for, and how it goes on.
-use Rattle.std.proofs.Common.{◌≡◌, ◌≢◌, ◌∙◌, ℕ, ◌||◌, ◌==◌, if◌then◌else◌, [], Option, Some, None, slice_index, refl, sym, ap, subst, arith}
+use Rattle.std.proofs.Common.{◌≡◌, ◌≢◌, ◌∙◌, ℕ, ◌||◌, ◌==◌, if◌then◌else◌, Option, Some, None, slice_index, refl, sym, ap, subst, arith}
 use Rattle.std.proofs.lemmas.Bool.{eq-eqb, ne_eqb}
-use Rattle.v6_base.specs.Image.{Image}
 use Rattle.u_area.specs.declared.area.UArea.{UArea}
 use Rattle.image_keep.specs.Kept.{Held, Has, Kept, image_in}
 use Rattle.image_keep.specs.Kept as kept
