@@ -183,7 +183,7 @@ module _ (s : ℕ) (seen : Seen) where
       p = process_of (world_of u) s
 
       by : (o : Option ℕ) → break.grown_stack p.u.text_size p.u.data_size p.u.stack_size u.limit sp ≡ o
-          → AptSteps s seen (grown_by u (option_map (break.expands (world_of u) s p.u.data_size) o))
+          → AptSteps s seen (grown_by u s (option_map (break.expands (world_of u) s p.u.data_size) o))
       by None e = nothing_built s seen u
       by (Some new) e =
           grows_apt u (break.expands (world_of u) s p.u.data_size new)

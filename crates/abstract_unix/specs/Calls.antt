@@ -44,7 +44,7 @@ use Rattle.abstract_unix.specs.declared.ending.Ending.TheVariants.{Ended, Trappe
 use Rattle.abstract_unix.specs.Unix.{Text, Unix, process_of, with_process}
 use Rattle.abstract_unix.specs.References.{is_text_of, references_of}
 use Rattle.abstract_unix.specs.Errors.{error_number}
-use Rattle.abstract_unix.specs.Steps.{Steps, returns, sleeps, not_built}
+use Rattle.abstract_unix.specs.Steps.{Steps, returns, sleeps, not_built, signals, sigsegv, sigsys}
 
 -- which inodes have a text that is shared, by their numbers
 unfoldable pub marks_of : List (Option Text) → List Bool
@@ -138,10 +138,10 @@ abbrev pub with_area : Unix → ℕ → (UArea → UArea) → Unix
 with_area u slot rule =
     let p : Process = process_of u slot in with_process u slot (record p { u = rule p.u })
 
--- A call of the process of a slot is refused. An error that makes a signal isn't built.
+-- A call of the process of a slot is refused. An error of 100 or more makes a signal.
 abbrev pub refuses : Unix → ℕ → ℕ → Steps
 refuses u slot number =
-    if nat_lt number 100 then returns (with_area u slot (refused_area number)) else not_built u
+    if nat_lt number 100 then returns (with_area u slot (refused_area number)) else signals u slot sigsys
 
 -- What a call answers.
 abbrev pub answers : Unix → ℕ → Answer → Steps
@@ -210,16 +210,16 @@ forks u slot =
     record s { unix = record s.unix { files = shares u.files (process_of u slot).u.files c.answer } }
 
 -- An instruction wanted an address below the stack. Where the stack grows the instruction is done again, with the registers
--- that it had; else there is a signal, which isn't built.
+-- that it had; else there is a signal.
 abbrev pub grows : Unix → Comes → Steps
 grows u c = record { effects = map (lifted (with_world u)) c.effects; unix = with_world u c.state; ending = Trapped }
 
-abbrev pub grown_by : Unix → Option Comes → Steps
-grown_by u None = not_built u
-grown_by u (Some c) = grows u c
+abbrev pub grown_by : Unix → ℕ → Option Comes → Steps
+grown_by u slot None = signals u slot sigsegv
+grown_by u slot (Some c) = grows u c
 
 abbrev pub grows_to : Unix → ℕ → ℕ → Steps
-grows_to u slot sp = grown_by u (grow (world_of u) slot sp)
+grows_to u slot sp = grown_by u slot (grow (world_of u) slot sp)
 
 -- exit(II): the files of the process are closed, and it has ended.
 abbrev pub closes_all : Unix → ℕ → Closing

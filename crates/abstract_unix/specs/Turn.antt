@@ -29,7 +29,7 @@ use Rattle.abstract_unix.specs.declared.turned.Turned.{Turned}
 use Rattle.abstract_unix.specs.declared.turned.Turned.TheVariants.{Ran, Idle, NotBuilt}
 use Rattle.abstract_unix.specs.Unix.{Text, Unix, System, process_of, with_process}
 use Rattle.abstract_unix.specs.Steps as to
-use Rattle.abstract_unix.specs.Steps.{Steps, not_built}
+use Rattle.abstract_unix.specs.Steps.{Steps, signals, sigill, sigtrap, sigiot, sigemt, sigbus}
 use Rattle.abstract_unix.specs.Calls.{system_call, grows_to, resumed}
 
 -- what an instruction of a process works on, and the process after it
@@ -39,14 +39,14 @@ machine_of texts p = record { r = p.u.r; cc = p.u.cc; image = image_of texts p }
 abbrev pub with_machine : Process → Machine → Process
 with_machine p m = record p { u = with_state p.u m.r m.cc; «data» = m.image.data; stack = m.image.stack }
 
--- A fault for which the stack may grow. All others make signals, which aren't built.
+-- A fault: the stack may grow for one; all others make signals.
 abbrev pub faults : Unix → ℕ → Kind → Steps
-faults u slot kind.Odd = not_built u
+faults u slot kind.Odd = signals u slot sigbus
 faults u slot (kind.Segment sp) = grows_to u slot sp
-faults u slot (kind.Illegal word) = not_built u
-faults u slot kind.Bpt = not_built u
-faults u slot kind.Iot = not_built u
-faults u slot kind.Emt = not_built u
+faults u slot (kind.Illegal word) = signals u slot sigill
+faults u slot kind.Bpt = signals u slot sigtrap
+faults u slot kind.Iot = signals u slot sigiot
+faults u slot kind.Emt = signals u slot sigemt
 
 abbrev pub comes_to : Unix → ℕ → Outcome → Steps
 comes_to u slot Next = to.steps u

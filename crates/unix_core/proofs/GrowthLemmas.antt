@@ -95,11 +95,11 @@ module _ (w now : World) (s sp : ℕ) (ready : IsReady w s) (form : IsFileSystem
     {r : Result Bool PanicKind} {start end : Taken}
     (does : HasGrown w.procs now.procs now.files.tree.nodes (given w) s r start end (growth w s sp)) where
   -- by what the growth is
-  whole_come : (o : Option Comes) (e : Ending) → growth w s sp ≡ o → HasCome (board_in w) (unix.grown_by (unix_of w) o) e now
+  whole_come : (o : Option Comes) (e : Ending) → growth w s sp ≡ o → HasCome (board_in w) (unix.grown_by (unix_of w) s o) e now
       → HasCome (board_in w) (grows_to (unix_of w) s sp) e now
   whole_come o e is come =
-      subst (λ x. HasCome (board_in w) (unix.grown_by (unix_of w) (grow x s sp)) e now) (world_is w s ready form)
-      (subst (λ x. HasCome (board_in w) (unix.grown_by (unix_of w) x) e now) (sym is) come)
+      subst (λ x. HasCome (board_in w) (unix.grown_by (unix_of w) s (grow x s sp)) e now) (world_is w s ready form)
+      (subst (λ x. HasCome (board_in w) (unix.grown_by (unix_of w) s x) e now) (sym is) come)
 
   module _ (c : Comes) (is : growth w s sp ≡ Some c) where
     tame : IsTame w c
@@ -143,7 +143,7 @@ module _ (w now : World) (s sp : ℕ) (ready : IsReady w s) (form : IsFileSystem
       let left : HasLeft w.procs now.procs now.files.tree.nodes start end c =
       subst (λ o. HasLeft w.procs now.procs now.files.tree.nodes start end (row w s o)) none does.left in
       whole_come None NotBuilt none
-      (gone_come w now c t.still stays left (unix.grown_by (unix_of w) None) refl now NotBuilt refl refl
+      (gone_come w now c t.still stays left (unix.grown_by (unix_of w) s None) refl now NotBuilt refl refl
       (gone_unix w now c t.still stays left refl) refl)
 
   pub growth_stops : (kind : PanicKind) (e : Ending) → r ≡ Err kind → e ≡ unmet_as kind → HasCome (board_in w) (grows_to (unix_of w) s sp) e now
@@ -162,10 +162,10 @@ module _ (w now : World) (s sp : ℕ) (ready : IsReady w s) (form : IsFileSystem
 
   pub grown_took : Took start (logged (board_in w) (grows_to (unix_of w) s sp).effects).items end
   grown_took =
-      subst (λ x. Took start (logged (board_in w) (unix.grown_by (unix_of w) (grow x s sp)).effects).items end) (world_is w s ready form)
+      subst (λ x. Took start (logged (board_in w) (unix.grown_by (unix_of w) s (grow x s sp)).effects).items end) (world_is w s ready form)
       (by (growth w s sp) refl does.left)
     where
       by : (o : Option Comes) → growth w s sp ≡ o → HasLeft w.procs now.procs now.files.tree.nodes start end (row w s o)
-          → Took start (logged (board_in w) (unix.grown_by (unix_of w) o).effects).items end
+          → Took start (logged (board_in w) (unix.grown_by (unix_of w) s o).effects).items end
       by None is left = left.items
       by (Some c) is left = let t = tame c is in left_took w now c t.still stays left (grows (unix_of w) c) refl

@@ -115,7 +115,7 @@ module _ (ps : List (Option Process)) (r s : ℕ) (other : r ≢ s) where
       unix = sparing.state;
     }
 
-    sparing_grown : (o : Option Comes) → MatchOption o ⊤ (IsSparingCall ps r s other) → AreSparing ps r (grown_by u o)
+    sparing_grown : (o : Option Comes) → MatchOption o ⊤ (IsSparingCall ps r s other) → AreSparing ps r (grown_by u s o)
     sparing_grown None sparing = sparing_quiet u ending.NotBuilt h
     sparing_grown (Some c) sparing = sparing_grows c sparing
 
