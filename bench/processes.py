@@ -102,22 +102,14 @@ def reference_run(case):
             self.pc = self.u.procs[running].r[7] if running else 0
             super().slot()
 
-        bare = None
-
         def entry(self, e):
-            """A new image is sought before the old one is given back: nothing is done where there is none."""
-            bare, self.bare = self.bare, None
-            if e[0] == "bare":
-                self.bare = e
-                return
+            """What isn't built is met at the line that it would log; what comes before it in the turn stands."""
             if e[0] in ("signal", "text", "share"):
                 self.report = b"not built: pc %d\n" % self.pc
             elif e[0] in ("fork", "size", "image") and e[3] and e[3][0] == "swap":
                 self.report = b"not built: room\n"
             if self.report:
                 raise Stop
-            if bare:
-                super().entry(bare)
             super().entry(e)
 
     run = Run.__new__(Run)
