@@ -94,10 +94,11 @@ impl Table {
 
     /// Other sizes for a slot's image.
     pub fn resize(&mut self, s: Slot, d: u16, stack: u16) -> Option<Result<Place, NoSwap>> {
-        let proto = Proto::make(0, d, stack, self.limit()).ok()?;
         if !self.has_image(s) {
             return None;
         }
+        let text_size = self.images.area(s).text_size;
+        let proto = Proto::make(text_size, d, stack, self.limit()).ok()?;
         Some(self.images.resize(s, proto.data_size, proto.stack_size))
     }
 
