@@ -1,1 +1,3 @@
 pub mod Fit
+pub mod Free
+pub mod Lists

@@ -4,4 +4,4 @@
 
 mod proto;
 
-pub use proto::{Proto, TooBig};
+pub use proto::{Proto, Spot, TooBig};

@@ -1,5 +1,5 @@
 //! The table of texts.
-ghost use Rattle.std.specs.Prelude.{◌≡◌, ◌<◌, ◌↔◌, Some, None, IfSome, IfOk, OnErr, MatchResult, IsTrue};
+ghost use Rattle.std.specs.Prelude.{◌≡◌, ◌<◌, ◌↔◌, Some, None, is_none, IfSome, IfOk, OnErr, MatchResult, IsTrue};
 ghost use Rattle.text_tab.specs.Table.{AreTexts, IsUsed, IsFree, IsFull, IsLeft, Finds, no_texts, is_of, found, free_entry, row_at, new_text, with_text, with_change, joined, loaded_at, unloaded, left, remaining, detached};
 
 use crate::TextId;
@@ -108,6 +108,13 @@ impl Texts {
     {
         let t = found(&self.rows, ino)?;
         Some(t as TextId)
+    }
+
+    /// Whether forty texts are there, so that none can be made.
+    pub fn is_full(&self) -> bool
+        ensures { result ≡ is_none (free_entry self.now) }
+    {
+        free_entry(&self.rows).is_none()
     }
 
     /// Makes an entry for the text of an inode, of so many clicks, whose copy is in the swap area from a block on. It
