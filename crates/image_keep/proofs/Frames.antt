@@ -1,11 +1,10 @@
 -- What a change of one slot comes to, and what it leaves.
-use Rattle.std.proofs.Common.{◌≡◌, ◌≢◌, ◌<◌, ◌≤◌, ℕ, Bool, true, false, List, length, get_or, set, Option, refl, sym, ap, subst, ◌∙◌, inl, inr, arith}
+use Rattle.std.proofs.Common.{◌≡◌, ◌≢◌, ◌<◌, ℕ, true, List, length, get_or, refl, sym, ap, ◌∙◌, inl, inr}
 use Rattle.std.proofs.lemmas.Bool.{cases_lt, cases_eq, false≢true}
 use Rattle.std.proofs.lemmas.List.{get_or-set_same, get_or-set_other, get_or_past, set-get_or, length-set, set-set, set_past}
-use Rattle.v6_base.specs.declared.entry.Place.{Place}
 use Rattle.v6_base.specs.Image.{Image}
 use Rattle.u_area.specs.declared.area.UArea.{UArea}
-use Rattle.image_keep.specs.Kept.{Held, Keeping, Nothing, Alive, Grave, Kept, keeping, with_keeping, place_in, place_of, is_alive, image_in, area_in, image_of, area_of, imaged, described, with_image, with_area, no_image, HasImage, HasGrave}
+use Rattle.image_keep.specs.Kept.{Held, Keeping, Nothing, Alive, Grave, Kept, keeping, with_keeping, place_in, place_of, is_alive, image_in, area_in, image_of, area_of, imaged, described, with_image, with_area, no_image, HasImage}
 use Rattle.image_keep.specs.Lent.{left_of}
 
 -- a slot after a change of it, and of another one

@@ -1,5 +1,5 @@
 -- What is known when the loan of a slot's image has ended: the set `loans` is for those who keep images.
-use Rattle.std.proofs.Common.{◌≡◌, ◌≢◌, ℕ, length, refl, sym, ap, subst, ◌∙◌}
+use Rattle.std.proofs.Common.{◌≡◌, ◌≢◌, ℕ, length, sym, ap, subst, ◌∙◌}
 use Rattle.image_keep.specs.Kept.{Kept, Nothing, keeping, image_of, area_of, place_of, HasImage}
 use Rattle.image_keep.specs.Lent.{left_of}
 use Rattle.image_keep.specs.Places.{core_fit, swap_fit, placed}

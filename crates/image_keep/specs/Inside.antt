@@ -1,13 +1,25 @@
--- How rows are what is kept.
-use Rattle.std.specs.Prelude.{◌≡◌, ◌≤◌, length}
+-- How the fields are what is kept, and what holds of them.
+use Rattle.std.specs.Prelude.{◌≡◌, ◌*◌, length}
 use Rattle.image_keep.specs.declared.images.Images.TheInside.{Inside}
+use Rattle.image_keep.specs.Line.{line_of}
 use Rattle.image_keep.specs.Kept.{Kept}
-use Rattle.image_keep.specs.Rows.{kept_by}
+use Rattle.image_keep.specs.Memory.{Stock, IsSound, kept_of}
+use Rattle.image_keep.specs.Maps.{AreMaps}
+use Rattle.image_keep.specs.Counts.{IsCounted}
+use Rattle.image_keep.specs.Told.{AreTold}
+use Rattle.image_keep.specs.Areas.{AreAreas}
+
+abbrev pub stock_in : Inside → Stock
+stock_in a = record { line = line_of a.memory; core = a.core; rows = a.rows.items; texts = a.texts }
 
 abbrev pub kept_in : Inside → Kept
-kept_in images = kept_by images.rows.items images.core
+kept_in a = kept_of (stock_in a)
 
-pub record AreImages (images : Inside) : Type 0 where
-  pub slots : length images.rows.items ≡ 50
-  pub least : 64 ≤ images.core
-  pub most : images.core ≤ 3968
+pub record AreImages (a : Inside) : Type 0 where
+  pub sound : IsSound (stock_in a)
+  pub maps : AreMaps (stock_in a) a.core_map a.swap_map
+  pub table : length a.texts ≡ 40
+  pub cut : length a.memory.core ≡ 64 * a.core
+  pub counted : IsCounted a.rows.items a.texts
+  pub told : AreTold (kept_in a)
+  pub areas : AreAreas a.areas.items (kept_in a).slots

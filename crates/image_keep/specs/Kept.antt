@@ -2,7 +2,7 @@
 -- clicks, the data and the stack; it stands in core or in the swap area. A click is 64 bytes, a block 512.
 use Rattle.std.specs.Prelude.{◌≡◌, ℕ, ◌+◌, ◌*◌, ◌≤◌, Bool, true, false, List, [], replicate, slice_set, slice_index_or, length, Option, Some, None, take}
 use Rattle.v6_base.specs.declared.entry.Place.{Place}
-use Rattle.v6_base.specs.declared.entry.Place.TheVariants.{Swap}
+use Rattle.v6_base.specs.declared.entry.Place.TheVariants.{Core, Swap}
 use Rattle.v6_base.specs.Image.{Image, IsImage}
 use Rattle.u_area.specs.declared.area.UArea.{UArea}
 use Rattle.u_area.specs.Area.{area_bytes}
@@ -55,9 +55,29 @@ shared k t = slice_index_or k.texts t None
 abbrev pub text_of : Kept → ℕ → Option ℕ
 text_of k s = slice_index_or k.users s None
 
+abbrev pub with_shared : Kept → ℕ → Option Shared → Kept
+with_shared k t x = record k { texts = slice_set k.texts t x }
+
+abbrev pub with_text_of : Kept → ℕ → Option ℕ → Kept
+with_text_of k s t = record k { users = slice_set k.users s t }
+
+-- what the table knows of a text is another thing
+abbrev pub changed : (TextRow → TextRow) → Option Shared → Option Shared
+changed rule None = None
+changed rule (Some x) = Some (record x { row = rule x.row })
+
 abbrev pub bytes_in : Option Shared → List ℕ
 bytes_in None = []
 bytes_in (Some x) = x.bytes
+
+abbrev pub shared_clicks : Option Shared → ℕ
+shared_clicks None = 0
+shared_clicks (Some x) = x.row.clicks
+
+-- the clicks of a text, and its bytes
+abbrev pub text_clicks : Kept → Option ℕ → ℕ
+text_clicks k None = 0
+text_clicks k (Some t) = shared_clicks (shared k t)
 
 abbrev pub text_bytes : Kept → Option ℕ → List ℕ
 text_bytes k None = []
@@ -93,6 +113,13 @@ HasImage k s = (held : Held) × Has k s held
 abbrev pub HasGrave : Kept → ℕ → Type 0
 HasGrave k s = (u : UArea) × (block : ℕ) × (keeping k s ≡ Grave u block)
 
+-- a slot's image is in the swap area, from this block on, or in core
+abbrev pub IsOut : Kept → ℕ → Type 0
+IsOut k s = (block : ℕ) × (place_of k s ≡ Some (Swap block)) × HasImage k s
+
+abbrev pub IsLoaded : Kept → ℕ → Type 0
+IsLoaded k s = (click : ℕ) × (place_of k s ≡ Some (Core click)) × HasImage k s
+
 abbrev pub is_alive : Keeping → Bool
 is_alive Nothing = false
 is_alive (Alive held) = true
@@ -118,7 +145,12 @@ image_of k s = image_in (keeping k s)
 abbrev pub area_of : Kept → ℕ → UArea
 area_of k s = area_in (keeping k s)
 
--- the slot's image is another one, or its u area
+-- the slot's place is another one, its image, or its u area
+abbrev pub at_place : Place → Keeping → Keeping
+at_place place Nothing = Nothing
+at_place place (Alive held) = Alive (record held { place = place })
+at_place place (Grave u block) = Grave u block
+
 abbrev pub imaged : Image → Keeping → Keeping
 imaged image Nothing = Nothing
 imaged image (Alive held) = Alive (record held { image = image })

@@ -83,3 +83,7 @@ with_grave_at k s u (Some block) = with_keeping k s (Grave u block)
 -- an image that is cleared
 abbrev pub cleared : ℕ → ℕ → Image
 cleared d stack = record { text = []; «data» = replicate (64 * d) 0; stack = replicate (64 * stack) 0 }
+
+-- the same beside a text
+abbrev pub made_image : List ℕ → ℕ → ℕ → Image
+made_image text d stack = record { text = text; «data» = replicate (64 * d) 0; stack = replicate (64 * stack) 0 }

@@ -1,15 +1,28 @@
 //! The images of processes, with their u areas: what `proc.h` calls the swappable part of a process, and where in core or
-//! in the swap area it stands. Lions' Commentary, `proc.h`, `user.h`, `malloc.c` and `slp.c`.
+//! in the swap area it stands. Lions' Commentary, `proc.h`, `user.h`, `text.h`, `malloc.c`, `slp.c` and `text.c`.
 //!
 //! An image is a u area of sixteen clicks, then data, then a stack. A click is 64 bytes, a block of the swap area 512.
 #![tactic(auto)]
 
-mod copying;
-mod fit;
+mod access;
+mod areas;
+mod bytes;
+mod finding;
+mod fork;
 mod growth;
 mod images;
 mod loan;
+mod making;
+mod memory;
+mod parts;
+mod rooms;
 mod row;
+mod runs;
+mod starts;
+mod swapping;
+mod texts;
 
 pub use images::{Images, NoSwap};
 pub use loan::SpaceOf;
+pub use swapping::NoCore;
+pub use texts::TextRefusal;

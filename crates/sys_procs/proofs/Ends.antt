@@ -1,5 +1,5 @@
 -- The end of a process: what becomes of its slot in the table, the rows and the images, and what the log says.
-use Rattle.std.proofs.Common.{◌≡◌, ◌∙◌, ℕ, ◌*◌, ◌%◌, ◌<◌, Bool, true, false, cond, nat_eq, List, [], ◌∷◌, length, get_or, map, set, Option, Some, None, refl, sym, ap, subst, arith}
+use Rattle.std.proofs.Common.{◌≡◌, ◌∙◌, ℕ, ◌*◌, ◌%◌, ◌<◌, Bool, true, false, cond, nat_eq, is_none, List, [], ◌∷◌, length, get_or, map, set, Option, Some, None, refl, sym, ap, subst, arith}
 use Rattle.std.specs.Option.{unwrap_or}
 use Rattle.std.proofs.lemmas.List.{length-set, length-map, get_or-map, get_or-set_same, get_or-set_other}
 use Rattle.v6_base.specs.Trace.{Log}
@@ -97,6 +97,23 @@ adopted_processes slots k pid long = are_processes (map (rows_of.adopted pid) sl
         ∙ (sym (adopted_in pid (member_at slots r) (keeping k r) (text_of k r))
         ∙ ap (λ o. process_in o (keeping k r) (text_of k r)) (sym (get_or-map (rows_of.adopted pid) slots r None None (omega (arith, low, long))))))
 
+-- and so are those whose parent's pid no slot has
+abbrev pub strays : Bool → ℕ → Processes → Processes
+strays b ppid v = cond b (orphans_adopted v ppid) v
+
+strays_long : (b : Bool) (ppid : ℕ) (v : Processes) → length v.slots ≡ 50 → length (strays b ppid v).slots ≡ 50
+strays_long true ppid v long = length-map v.slots (rows_of.adopted ppid) ∙ long
+strays_long false ppid v long = long
+
+strays_pid : (b : Bool) (ppid : ℕ) (v : Processes) → (strays b ppid v).last_pid ≡ v.last_pid
+strays_pid true ppid v = refl
+strays_pid false ppid v = refl
+
+stray_processes : (b : Bool) (ppid : ℕ) (v : Processes) (k : Kept) → length v.slots ≡ 50
+    → processes_in (strays b ppid v).slots k ≡ cond b (map (adopted ppid) (processes_in v.slots k)) (processes_in v.slots k)
+stray_processes true ppid v k long = adopted_processes v.slots k ppid long
+stray_processes false ppid v k long = refl
+
 kind_adopted : (pid : ℕ) (o : Option Member) → kind_of_member (rows_of.adopted pid o) ≡ kind_of_member o
 kind_adopted pid None = refl
 kind_adopted pid (Some m) = by (is_child_of pid m)
@@ -126,6 +143,10 @@ agree_adopted v t k pid long a = record {
   text = a.text;
   no_text = a.no_text;
 }
+
+agree_strays : (b : Bool) (v : Processes) (t : Table) (k : Kept) (ppid : ℕ) → length v.slots ≡ 50 → Agree v t k → Agree (strays b ppid v) t k
+agree_strays true v t k ppid long a = agree_adopted v t k ppid long a
+agree_strays false v t k ppid long a = a
 
 -- Waking.
 table_woken : (t : Table) (w : Chan) → IsTable t → IsTable (wakeup t w)
@@ -199,18 +220,34 @@ module _ (v : Processes) (t : Table) (k : Kept) (s : ℕ) (m : Member) (held : H
   ended_long : length ended_rows.slots ≡ 50
   ended_long = length-set v.slots s (changed dead (member_at v.slots s)) ∙ slots
 
-  all_ended : (pid : ℕ) → pid ≡ (own v.slots k s).row.pid
-      → processes_in (orphans_adopted ended_rows pid).slots ended_images ≡ map (adopted (own v.slots k s).row.pid) (set (processes_in v.slots k) s (Some zombie))
-  all_ended pid is =
-      adopted_processes ended_rows.slots ended_images pid ended_long
-      ∙ (ap (λ q. map (adopted q) (processes_in ended_rows.slots ended_images)) is ∙ ap (map (adopted (own v.slots k s).row.pid)) process_ended)
+  -- the rows when the children, and those who have no parent, are process 1's
+  abbrev adopted_rows : Bool → Row → Processes
+  adopted_rows b row = orphans_adopted (strays b row.ppid ended_rows) row.pid
 
-  world_ended : (pid parent switches : ℕ) (n : Inodes) → pid ≡ (own v.slots k s).row.pid
-      → world_in (orphans_adopted ended_rows pid) (ended_table t s block parent) ended_images switches n ≡ exit.dead (world_in v t k switches n) s
-  world_ended pid parent switches n is =
+  all_ended : (b : Bool) (row : Row) → row ≡ (own v.slots k s).row
+      → processes_in (adopted_rows b row).slots ended_images
+      ≡ map (adopted (own v.slots k s).row.pid) (cond b (map (adopted (own v.slots k s).row.ppid) (set (processes_in v.slots k) s (Some zombie))) (set (processes_in v.slots k) s (Some zombie)))
+  all_ended b row is =
+      let dead_slots : List (Option Process) = set (processes_in v.slots k) s (Some zombie) in
+      adopted_processes (strays b row.ppid ended_rows).slots ended_images row.pid (strays_long b row.ppid ended_rows ended_long)
+      ∙ (ap (map (adopted row.pid)) (stray_processes b row.ppid ended_rows ended_images ended_long ∙ ap (λ (l : List (Option Process)). cond b (map (adopted row.ppid) l) l) process_ended)
+      ∙ ap (λ (r : Row). map (adopted r.pid) (cond b (map (adopted r.ppid) dead_slots) dead_slots)) is)
+
+  world_ended : (parent : Option ℕ) (row : Row) (switches : ℕ) (n : Inodes) → row ≡ (own v.slots k s).row
+      → parent ≡ exit.slot_of (world_in v t k switches n) (own v.slots k s).row.ppid
+      → world_in (adopted_rows (is_none parent) row) (ended_table t s block (unwrap_or parent 1)) ended_images switches n
+      ≡ exit.dead (world_in v t k switches n) s
+  world_ended parent row switches n is found =
       let w : World = world_in v t k switches n in
-      ap (λ (c : Clock). record w { processes = processes_in (orphans_adopted ended_rows pid).slots ended_images; clock = c }) (clock_ended t s block parent)
-      ∙ ap (λ (ps : List (Option Process)). record w { processes = ps }) (all_ended pid is)
+      let dead_slots : List (Option Process) = set (processes_in v.slots k) s (Some zombie) in
+      (λ i. record w {
+        processes = all_ended (is_none parent) row is i;
+        last_pid = strays_pid (is_none parent) row.ppid ended_rows i;
+        clock = clock_ended t s block (unwrap_or parent 1) i;
+      })
+      ∙ ap (λ (o : Option ℕ). record w {
+        processes = map (adopted (own v.slots k s).row.pid) (exit.strays_adopted o (own v.slots k s).row.ppid dead_slots);
+      }) found
 
   slot_ended : Agrees (Some m) (row_at t s) (Alive held) → Agrees (Some (dead m)) (ending_row (row_at t s) block) (Grave held.u block)
   slot_ended a = record {
@@ -236,23 +273,29 @@ module _ (v : Processes) (t : Table) (k : Kept) (s : ℕ) (m : Member) (held : H
       (λ r other. get_or-set_other t.rows s r (ending_row (row_at t s) block) empty_row other)
       (λ r other. get_or-set_other k.slots s r (Grave held.u block) Nothing other)
 
-  agree_ended : (pid parent : ℕ) → 0 < s → Agree v t k → Agree (orphans_adopted ended_rows pid) (ended_table t s block parent) ended_images
-  agree_ended pid parent above a =
-      agree_adopted ended_rows (ended_table t s block parent) ended_images pid ended_long
+  agree_ended : (b : Bool) (row : Row) (parent : ℕ) → 0 < s → Agree v t k → Agree (adopted_rows b row) (ended_table t s block parent) ended_images
+  agree_ended b row parent above a =
+      agree_adopted (strays b row.ppid ended_rows) (ended_table t s block parent) ended_images row.pid (strays_long b row.ppid ended_rows ended_long)
+      (agree_strays b ended_rows (ended_table t s block parent) ended_images row.ppid ended_long
       (agree_woken ended_rows (wakeup (ending t s block) (Wait 1)) ended_images (Wait parent)
-      (agree_woken ended_rows (ending t s block) ended_images (Wait 1) (agree_ending above a)))
+      (agree_woken ended_rows (ending t s block) ended_images (Wait 1) (agree_ending above a))))
 
 -- Of all that a call is handed.
-pub record DidEnd (old new : Procs) (s block parent : ℕ) : Type 0 where
-  pub table : new.table ≡ ended_table old.table s block parent
-  pub rows : new.rows ≡ orphans_adopted (with_change old.rows s dead) (rows.row_at old.rows s).pid
+-- the rows of those who are left
+abbrev pub rows_left : Procs → ℕ → Option ℕ → Processes
+rows_left p s parent =
+    orphans_adopted (strays (is_none parent) (rows.row_at p.rows s).ppid (with_change p.rows s dead)) (rows.row_at p.rows s).pid
+
+pub record DidEnd (old new : Procs) (s block : ℕ) (parent : Option ℕ) : Type 0 where
+  pub table : new.table ≡ ended_table old.table s block (unwrap_or parent 1)
+  pub rows : new.rows ≡ rows_left old s parent
   pub images : new.images ≡ with_grave_at old.images s (area_of old.images s) (Some block)
   pub switches : new.switches ≡ old.switches
 
 pub world_same : (v w : Processes) (t u : Table) (k l : Kept) (a b : ℕ) (n : Inodes) → v ≡ w → t ≡ u → k ≡ l → a ≡ b → world_in v t k a n ≡ world_in w u l b n
 world_same v w t u k l a b n e f g h = λ i. world_in (e i) (f i) (g i) (h i) n
 
-module _ (old new : Procs) (s block parent : ℕ) (alive : IsAlive old s) (slots : length old.rows.slots ≡ 50) (images : length old.images.slots ≡ 50)
+module _ (old new : Procs) (s block : ℕ) (parent : Option ℕ) (alive : IsAlive old s) (slots : length old.rows.slots ≡ 50) (images : length old.images.slots ≡ 50)
     (did : DidEnd old new s block parent) where
   here : IsHere old s
   here = is_here old s alive
@@ -260,50 +303,51 @@ module _ (old new : Procs) (s block parent : ℕ) (alive : IsAlive old s) (slots
   images_are : new.images ≡ with_keeping old.images s (Grave here.held.u block)
   images_are = did.images ∙ ap (λ x. with_keeping old.images s (Grave (area_in x) block)) here.image_is
 
-  pub end_state : (fs : FileSystem) → handed new fs ≡ exit.dead (handed old fs) s
-  end_state fs =
-      world_same new.rows (orphans_adopted (with_change old.rows s dead) (rows.row_at old.rows s).pid)
-      new.table (ended_table old.table s block parent) new.images (with_keeping old.images s (Grave here.held.u block))
+  pub end_state : (fs : FileSystem) → parent ≡ exit.slot_of (handed old fs) (process_here old s).row.ppid
+      → handed new fs ≡ exit.dead (handed old fs) s
+  end_state fs found =
+      world_same new.rows (rows_left old s parent)
+      new.table (ended_table old.table s block (unwrap_or parent 1)) new.images (with_keeping old.images s (Grave here.held.u block))
       new.switches old.switches (inodes_of fs) did.rows did.table images_are did.switches
       ∙ world_ended old.rows old.table old.images s here.member here.held block alive.below slots images here.member_is here.image_is
-      (rows.row_at old.rows s).pid parent old.switches (inodes_of fs) (sym (ap (λ r. r.pid) (own_row old.rows.slots old.images s alive.below)))
+      parent (rows.row_at old.rows s) old.switches (inodes_of fs) (sym (own_row old.rows.slots old.images s alive.below)) found
 
-  pub end_board : board new ≡ applied (applied (applied (board old) (line.Exit s block)) (line.Wake (Wait 1))) (line.Wake (Wait parent))
+  pub end_board : board new ≡ applied (applied (applied (board old) (line.Exit s block)) (line.Wake (Wait 1))) (line.Wake (Wait (unwrap_or parent 1)))
   end_board =
       ap (λ t. board_of t new.images) did.table
-      ∙ (ap (λ k. board_of (ended_table old.table s block parent) k) images_are ∙ board_ended old.table old.images s block parent)
+      ∙ (ap (λ k. board_of (ended_table old.table s block (unwrap_or parent 1)) k) images_are ∙ board_ended old.table old.images s block (unwrap_or parent 1))
 
   pub end_agree : AreProcs new
   end_agree =
       subst (λ v. Agree v new.table new.images) (sym did.rows)
-      (subst (λ t. Agree (orphans_adopted (with_change old.rows s dead) (rows.row_at old.rows s).pid) t new.images) (sym did.table)
-      (subst (λ k. Agree (orphans_adopted (with_change old.rows s dead) (rows.row_at old.rows s).pid) (ended_table old.table s block parent) k) (sym images_are)
+      (subst (λ t. Agree (rows_left old s parent) t new.images) (sym did.table)
+      (subst (λ k. Agree (rows_left old s parent) (ended_table old.table s block (unwrap_or parent 1)) k) (sym images_are)
       (agree_ended old.rows old.table old.images s here.member here.held block alive.below slots images here.member_is here.image_is
-      (rows.row_at old.rows s).pid parent alive.above alive.agree)))
+      (is_none parent) (rows.row_at old.rows s) (unwrap_or parent 1) alive.above alive.agree)))
 
 -- the parent's slot, by the rows
-pub parent_is : (p : Procs) (s parent : ℕ) (row : Row) (fs : FileSystem) → length p.rows.slots ≡ 50 → row ≡ (process_here p s).row
-    → parent ≡ cond (nat_eq row.ppid 0) 0 (unwrap_or (lowest (passes (has_pid row.ppid)) p.rows.slots) 1)
-    → parent ≡ exit.parent_slot (handed p fs) (process_here p s).row.ppid
+pub parent_is : (p : Procs) (s : ℕ) (parent : Option ℕ) (row : Row) (fs : FileSystem) → length p.rows.slots ≡ 50 → row ≡ (process_here p s).row
+    → parent ≡ cond (nat_eq row.ppid 0) (Some 0) (lowest (passes (has_pid row.ppid)) p.rows.slots)
+    → parent ≡ exit.slot_of (handed p fs) (process_here p s).row.ppid
 parent_is p s parent row fs long is e =
-    e ∙ (ap (λ (r : Row). cond (nat_eq r.ppid 0) 0 (unwrap_or (lowest (passes (has_pid r.ppid)) p.rows.slots) 1)) is
-    ∙ ap (λ (slots : List (Option Member)). cond (nat_eq (process_here p s).row.ppid 0) 0 (unwrap_or (lowest (passes (has_pid (process_here p s).row.ppid)) slots) 1))
+    e ∙ (ap (λ (r : Row). cond (nat_eq r.ppid 0) (Some 0) (lowest (passes (has_pid r.ppid)) p.rows.slots)) is
+    ∙ ap (λ (slots : List (Option Member)). cond (nat_eq (process_here p s).row.ppid 0) (Some 0) (lowest (passes (has_pid (process_here p s).row.ppid)) slots))
     (sym (members_are p.rows.slots p.images long)))
 
 abbrev lines_of_end : Board → ℕ → World → ℕ → Logged World
 lines_of_end b s w parent = logged b (Exit s w ∷ Show (Log (line.Wake (Wait 1))) ∷ Show (Log (line.Wake (Wait parent))) ∷ [])
 
-module _ (p : Procs) (s parent : ℕ) (fs : FileSystem) (a : AreProcs p) (images : length p.images.slots ≡ 50)
-    (is : parent ≡ exit.parent_slot (handed p fs) (process_here p s).row.ppid) where
+module _ (p : Procs) (s : ℕ) (parent : Option ℕ) (fs : FileSystem) (a : AreProcs p) (images : length p.images.slots ≡ 50)
+    (is : parent ≡ exit.slot_of (handed p fs) (process_here p s).row.ppid) where
   pub logged_end : (block : ℕ) → images_of.swap_fit p.images 1 ≡ Some block
       → came p (exit.dies (handed p fs) s) ≡ record {
-        items = Log (line.Exit s block) ∷ Log (line.Wake (Wait 1)) ∷ Log (line.Wake (Wait parent)) ∷ [];
-        board = applied (applied (applied (board p) (line.Exit s block)) (line.Wake (Wait 1))) (line.Wake (Wait parent));
+        items = Log (line.Exit s block) ∷ Log (line.Wake (Wait 1)) ∷ Log (line.Wake (Wait (unwrap_or parent 1))) ∷ [];
+        board = applied (applied (applied (board p) (line.Exit s block)) (line.Wake (Wait 1))) (line.Wake (Wait (unwrap_or parent 1)));
         stop = None;
       }
   logged_end block fit =
-      ap (lines_of_end (board p) s (handed p fs)) (sym is)
-      ∙ logged_exit (board p) s block (handed p fs) (line.Wake (Wait 1)) (line.Wake (Wait parent)) (same_swap_fit p.rows p.table p.images a images 1 ∙ fit)
+      ap (λ (o : Option ℕ). lines_of_end (board p) s (handed p fs) (unwrap_or o 1)) (sym is)
+      ∙ logged_exit (board p) s block (handed p fs) (line.Wake (Wait 1)) (line.Wake (Wait (unwrap_or parent 1))) (same_swap_fit p.rows p.table p.images a images 1 ∙ fit)
 
   pub logged_no_end : images_of.swap_fit p.images 1 ≡ None
       → came p (exit.dies (handed p fs) s) ≡ record {
@@ -312,25 +356,35 @@ module _ (p : Procs) (s parent : ℕ) (fs : FileSystem) (a : AreProcs p) (images
         stop = Some (record { why = Panicked panic.Zombie; before = handed p fs });
       }
   logged_no_end fit =
-      ap (lines_of_end (board p) s (handed p fs)) (sym is)
-      ∙ logged_panic (board p) s (handed p fs) (line.Wake (Wait 1)) (line.Wake (Wait parent)) (same_swap_fit p.rows p.table p.images a images 1 ∙ fit)
+      ap (λ (o : Option ℕ). lines_of_end (board p) s (handed p fs) (unwrap_or o 1)) (sym is)
+      ∙ logged_panic (board p) s (handed p fs) (line.Wake (Wait 1)) (line.Wake (Wait (unwrap_or parent 1))) (same_swap_fit p.rows p.table p.images a images 1 ∙ fit)
 
 -- What exit(II) answers, and its row.
-area_adopted : (pid : ℕ) (q : Process) → (unwrap_or (adopted pid (Some q)) no_process).u ≡ q.u
-area_adopted pid q = by (nat_eq q.row.ppid pid)
+area_adopted : (pid : ℕ) (o : Option Process) → (unwrap_or (adopted pid o) no_process).u ≡ (unwrap_or o no_process).u
+area_adopted pid None = refl
+area_adopted pid (Some q) = by (nat_eq q.row.ppid pid)
   where
     by : (b : Bool) → (cond b (record q { row = record q.row { ppid = 1 } }) q).u ≡ q.u
     by true = refl
     by false = refl
 
+area_among : (pid : ℕ) (ps : List (Option Process)) (s : ℕ) → s < length ps
+    → (unwrap_or (get_or (map (adopted pid) ps) s None) no_process).u ≡ (unwrap_or (get_or ps s None) no_process).u
+area_among pid ps s low =
+    ap (λ (o : Option Process). (unwrap_or o no_process).u) (get_or-map (adopted pid) ps s None None low) ∙ area_adopted pid (get_or ps s None)
+
+area_strays : (b : Bool) (ppid pid : ℕ) (ps : List (Option Process)) (s : ℕ) → s < length ps
+    → (unwrap_or (get_or (map (adopted pid) (cond b (map (adopted ppid) ps) ps)) s None) no_process).u ≡ (unwrap_or (get_or ps s None) no_process).u
+area_strays true ppid pid ps s low =
+    area_among pid (map (adopted ppid) ps) s (omega (arith, low, length-map ps (adopted ppid))) ∙ area_among ppid ps s low
+area_strays false ppid pid ps s low = area_among pid ps s low
+
 area_dead : (w : World) (s : ℕ) → s < length w.processes → (process_of (exit.dead w s) s).u ≡ (process_of w s).u
 area_dead w s low =
     let q : Process = process_of w s in
     let zombie : Process = record q { is_zombie = true; «data» = []; stack = [] } in
-    ap (λ (o : Option Process). (unwrap_or o no_process).u)
-    (get_or-map (adopted q.row.pid) (set w.processes s (Some zombie)) s None None (omega (arith, low, length-set w.processes s (Some zombie)))
-    ∙ ap (adopted q.row.pid) (get_or-set_same w.processes s (Some zombie) None low))
-    ∙ area_adopted q.row.pid zombie
+    area_strays (is_none (exit.slot_of w q.row.ppid)) q.row.ppid q.row.pid (set w.processes s (Some zombie)) s (omega (arith, low, length-set w.processes s (Some zombie)))
+    ∙ ap (λ (o : Option Process). (unwrap_or o no_process).u) (get_or-set_same w.processes s (Some zombie) None low)
 
 registers_left : (w : World) (s status : ℕ) → s < length w.processes → (process_of (exit.dead (exit.leaves w s status) s) s).u.r ≡ (process_of w s).u.r
 registers_left w s status low =

@@ -75,11 +75,6 @@ times_added own a b x y codes e f =
     ap (λ (p : own.cc < 16). record own { child_user = a; child_system = b; codes = p }) (le_prop codes own.codes)
     ∙ (λ i. record own { child_user = e i; child_system = f i })
 
--- Who has ended: half of its u area is kept.
-is_dead : (b : Bool) → kind_by b ≡ Died → b ≡ true
-is_dead true e = refl
-is_dead false e = absurd (cc e)
-
 pub is_buried : (m : Option Member) (row : TableRow) (x : Keeping) (u : UArea) (block : ℕ) → Agrees m row x → x ≡ Grave u block → (it : Member) × (m ≡ Some it)
 is_buried m row x u block a e = by m refl
   where

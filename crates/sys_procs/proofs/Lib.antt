@@ -24,7 +24,6 @@ pub mod PlacingLemmas
 pub mod GrowCalls
 pub mod ArgsLemmas
 pub mod StackBytesLemmas
-pub mod TestsNaming
 pub mod TestsLemmas
 pub mod LoadData
 pub mod LoadLemmas

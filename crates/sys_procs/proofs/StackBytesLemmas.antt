@@ -1,16 +1,20 @@
 -- What is stored at the end of a stack of 1,280 bytes, from its last byte down.
-use Rattle.std.proofs.Common.{◌≡◌, ◌≤◌, ◌<◌, ◌≢◌, ℕ, zero, suc, ◌+◌, ◌-◌, ◌*◌, ◌/◌, ◌%◌, ◌==◌, ◌∙◌, if◌then◌else◌, cond, Bool, true, false, List, [], ◌∷◌, ◌++◌, length, drop, get_or, set, replicate, refl, sym, ap, arith}
+use Rattle.std.proofs.Common.{◌≡◌, ◌≤◌, ◌<◌, ◌≢◌, ℕ, zero, suc, ◌+◌, ◌-◌, ◌*◌, ◌/◌, ◌%◌, ◌==◌, ◌∙◌, if◌then◌else◌, cond, Bool, true, false, List, [], ◌∷◌, ◌++◌, length, drop, get_or, set, replicate, Some, subst, refl, sym, ap, arith}
 use Rattle.std.specs.Prelude.{◌&&◌}
 use Rattle.std.specs.List.{concat}
 use Rattle.std.proofs.Math.Dec.{leb}
 use Rattle.std.proofs.Math.Seq.{drop-cons}
 use Rattle.std.proofs.lemmas.Bool.{eqb-true, eq-eqb, le-ltb, le-leb}
-use Rattle.std.proofs.lemmas.List.{append_assoc, append-nil, length-append, length-replicate, length-drop, set_at, replicate-append-replicate, drop_all}
+use Rattle.std.proofs.lemmas.List.{append_assoc, append-nil, length-append, length-replicate, length-drop, take-replicate, drop-replicate, set_at, replicate-append-replicate, drop_all}
 use Rattle.v6_base.specs.declared.named.Named.{Named}
 use Rattle.v6_base.specs.declared.named.Named.TheVariants.{InText, InData, InStack, Nothing}
 use Rattle.v6_base.specs.Image.{Image, IsImage, named, named_by, nseg, data_base}
-use Rattle.v6_base.specs.Access.{store_byte, store_word, with_byte, image_after}
+use Rattle.v6_base.specs.Access.{store_word, image_after}
 use Rattle.v6_base.specs.Sizes.{cut_front}
+use Rattle.v6_base.specs.Copy.{store_bytes}
+use Rattle.v6_base.specs.Words.{IsStorable}
+use Rattle.v6_base.specs.Runs.{room, run_set, with_run}
+use Rattle.v6_base.proofs.RunLemmas.{image_fits, all_stored}
 use Rattle.v6_base.proofs.Cuts.{store_word_by}
 use Rattle.fs_codec.specs.Bytes.{bytes_of}
 use Rattle.fs_codec.proofs.BytesLemmas.{length-bytes_of}
@@ -33,13 +37,6 @@ pub length-cut : (n : ℕ) (bytes : List ℕ) → length (cut_front n bytes) ≡
 unfolding cut_front
 length-cut n bytes = length-append (replicate (n - length bytes) 0) (drop (length bytes - n) bytes)
     ∙ omega (arith, length-drop (length bytes - n) bytes, length-replicate {A = ℕ} (n - length bytes) 0)
-
--- a byte before them
-cut_byte : (n k b : ℕ) (above : List ℕ) → k + length above + 1 ≡ n → set (cut_front n above) k b ≡ cut_front n (b ∷ above)
-cut_byte n k b above whole =
-    ap (λ l. set l k b) (filled n (k + 1) above (omega arith) ∙ one_zero k above)
-    ∙ set_at (replicate k 0) 0 above b k (length-replicate {A = ℕ} k 0)
-    ∙ sym (filled n k (b ∷ above) (omega arith))
 
 -- two bytes before them
 cut_word : (n k a b : ℕ) (above : List ℕ) → k + length above + 2 ≡ n → set (set (cut_front n above) k a) (k + 1) b ≡ cut_front n (a ∷ b ∷ above)
@@ -85,15 +82,7 @@ in_stack m v is size high =
     (le-ltb v t (omega (arith, text, high))) (le-ltb v (data_base t + d) past) (le-leb (65536 - s) v (omega (arith, size, high)))
     ∙ ap (λ z. InStack (v - (65536 - z))) size
 
--- a byte is stored before those at the end
-pub byte_stored : (m : Image) (v b : ℕ) (above : List ℕ) → IsImage m → m.stack ≡ cut_front 1280 above → 64256 ≤ v → v + length above + 1 ≡ 65536
-    → image_after m (store_byte m v b) ≡ record m { stack = cut_front 1280 (b ∷ above) }
-unfolding store_byte
-byte_stored m v b above is stack high whole =
-    let size : length m.stack ≡ 1280 = ap length stack ∙ length-cut 1280 above in
-    ap (λ n. image_after m (with_byte m n b)) (in_stack m v is size high)
-    ∙ ap (λ l. record m { stack = l }) (ap (λ l. set l (v - 64256) b) stack ∙ cut_byte 1280 (v - 64256) b above (omega arith))
-
+-- a word is stored before those at the end
 pub word_stored : (m : Image) (v w : ℕ) (above : List ℕ) → IsImage m → m.stack ≡ cut_front 1280 above → 64256 ≤ v → v % 2 ≡ 0 → v + length above + 2 ≡ 65536
     → image_after m (store_word m v w) ≡ record m { stack = cut_front 1280 (bytes_of (w ∷ []) ++ above) }
 unfolding bytes_of
@@ -136,16 +125,37 @@ length-padding bytes = padding_by (length bytes % 2 == 1) (length bytes % 2) (λ
 pub length-even : (bytes : List ℕ) → length (made_even bytes) ≡ length bytes + length bytes % 2
 length-even bytes = ap length (even_padded bytes) ∙ length-append bytes (padding bytes) ∙ ap (λ n. length bytes + n) (length-padding bytes)
 
-zeros_by : (odd : Bool) (n : ℕ) → 1 ≤ n → cut_front n (if odd then 0 ∷ [] else []) ≡ replicate n 0
-zeros_by true n some =
-    filled n (n - 1) (0 ∷ []) (omega arith) ∙ sym (one_zero (n - 1) []) ∙ append-nil (replicate (n - 1 + 1) 0)
-    ∙ ap (λ k. replicate k 0) (let e : n - 1 + 1 ≡ n = omega arith in e)
-zeros_by false n some = filled n n [] (omega arith) ∙ append-nil (replicate n 0)
+padded_by : (odd : Bool) (n : ℕ) → (odd ≡ true → n ≡ 1) → (odd ≡ false → n ≡ 0) → ◌≡◌ {A = List ℕ} (if odd then 0 ∷ [] else []) (replicate n 0)
+padded_by true n one none = ap (λ k. replicate k 0) (sym (one refl))
+padded_by false n one none = ap (λ k. replicate k 0) (sym (none refl))
 
--- before a string is put
-pub none_put : (bytes : List ℕ) → replicate 1280 0 ≡ cut_front 1280 (drop (length bytes) bytes ++ padding bytes)
-none_put bytes =
-    sym (zeros_by (length bytes % 2 == 1) 1280 (omega arith)) ∙ ap (λ l. cut_front 1280 (l ++ padding bytes)) (sym (drop_all (length bytes) bytes (omega arith)))
+zeros_behind : (bytes : List ℕ) → padding bytes ≡ replicate (length bytes % 2) 0
+zeros_behind bytes = padded_by (length bytes % 2 == 1) (length bytes % 2) (λ h. eqb-true (length bytes % 2) 1 h)
+    (λ h. let other : length bytes % 2 ≢ 1 = λ is. absurd (let t = eq-eqb (length bytes % 2) 1 is in cc) in omega arith)
+
+-- a cleared stack with the strings at its end
+run_filled : (i : ℕ) (bytes : List ℕ) → i + length bytes + length bytes % 2 ≡ 1280 → run_set (replicate 1280 0) i bytes ≡ cut_front 1280 (made_even bytes)
+unfolding run_set
+run_filled i bytes whole =
+    let behind : 1280 - (i + length bytes) ≡ length bytes % 2 = omega arith in
+    ap (λ l. l ++ bytes ++ drop (i + length bytes) (replicate 1280 0)) (take-replicate i 1280 0 (omega arith))
+    ∙ ap (λ l. replicate i 0 ++ bytes ++ l) (drop-replicate (i + length bytes) 1280 0 ∙ ap (λ k. replicate k 0) behind ∙ sym (zeros_behind bytes))
+    ∙ append_assoc (replicate i 0) bytes (padding bytes)
+    ∙ ap (λ l. replicate i 0 ++ l) (sym (even_padded bytes))
+    ∙ sym (filled 1280 i (made_even bytes) (omega (arith, length-even bytes)))
+
+pub strings_put : (m : Image) (v : ℕ) (bytes : List ℕ) → IsImage m → m.stack ≡ replicate 1280 0 → length bytes ≤ 510 → v ≡ (65536 - length bytes - length bytes % 2) % 65536
+    → store_bytes m v bytes ≡ Some (record m { stack = cut_front 1280 (made_even bytes) })
+strings_put m v [] is stack few at = ap (λ (l : List ℕ). Some (record m { stack = l })) (stack ∙ sym (filled 1280 1280 [] (omega arith) ∙ append-nil (replicate 1280 0)))
+strings_put m v (b ∷ rest) is stack few at =
+    let bytes : List ℕ = b ∷ rest in
+    let size : length m.stack ≡ 1280 = ap length stack ∙ length-replicate {A = ℕ} 1280 0 in
+    let here : named m v ≡ InStack (v - 64256) = in_stack m v is size (omega arith) in
+    let storable : IsStorable (named m v) = subst IsStorable (sym here) tt in
+    let enough : length bytes ≤ room m (named m v) = subst (λ p. length bytes ≤ room m p) (sym here) (omega arith) in
+    all_stored m v bytes (image_fits m is) (omega arith) storable (omega arith) enough
+    ∙ ap (λ p. Some (with_run m p bytes)) here
+    ∙ ap (λ (l : List ℕ). Some (record m { stack = l })) (ap (λ z. run_set z (v - 64256) bytes) stack ∙ run_filled (v - 64256) bytes (omega arith))
 
 pub one_more : (bytes : List ℕ) (i : ℕ) → 0 < i → i ≤ length bytes → drop (i - 1) bytes ≡ get_or bytes (i - 1) 0 ∷ drop i bytes
 one_more bytes i some within =

@@ -42,10 +42,6 @@ time_set w s u is super =
 abbrev pub sleeps_on : World → ℕ → ℕ → Comes
 sleeps_on w s until = sleeps (change (record w { clock = record w.clock { tout = tout_with w.clock until } }) s (sleeping_until until)) pslep Tout
 
-pub sleep_over : (w : World) (s until : ℕ) → until ≤ w.clock.time → sleep_until w s until ≡ returns w s
-unfolding sleep_until
-sleep_over w s until past = ap (λ b. cond b (returns w s) (sleeps_on w s until)) (le-leb until w.clock.time past)
-
 pub sleep_goes_on : (w : World) (s until : ℕ) → w.clock.time < until → sleep_until w s until ≡ sleeps_on w s until
 unfolding sleep_until
 sleep_goes_on w s until ahead = ap (λ b. cond b (returns w s) (sleeps_on w s until)) (lt-leb until w.clock.time ahead)

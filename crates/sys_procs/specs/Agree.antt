@@ -9,12 +9,11 @@ use Rattle.pick_rules.specs.declared.table.Table.{Table}
 use Rattle.pick_rules.specs.Table.{row_at, is_loaded, IsTable}
 use Rattle.pick_rules.specs.Board.{Board, TextPlace}
 use Rattle.pick_rules.specs.Effects.{kind_of}
-use Rattle.pick_rules.specs.Logged.{Logged, Stop, logged}
+use Rattle.pick_rules.specs.Logged.{Stop}
 use Rattle.proc_tab.specs.declared.member.Member.{Member}
 use Rattle.proc_tab.specs.Processes.{Processes, member_at}
 use Rattle.image_keep.specs.Kept.{Held, Keeping, Nothing, Alive, Grave, Shared, Kept, no_texts, no_users, text_of, Has, HasImage, keeping, place_in, clicks_of}
 use Rattle.sys_procs.specs.World.{World}
-use Rattle.sys_procs.specs.Comes.{Comes}
 
 -- The board of the log: it doesn't tell the time at which sleepers are woken.
 abbrev pub untimed : Table → Table
@@ -100,6 +99,3 @@ answered (Some stop) answer = Err (kind_of stop.why)
 abbrev pub ended_by : Option (Stop World) → Result (Unit {0}) PanicKind
 ended_by None = Ok tt
 ended_by (Some stop) = Err (kind_of stop.why)
-
-abbrev pub logged_of : Board → Comes → Logged World
-logged_of b c = logged b c.effects

@@ -13,7 +13,7 @@ use v6_base::{Errno, Slot, Space};
 const MOST_BYTES: u16 = 510;
 
 /// Where the reading of arguments stands: at a byte of one of them, with the rest of the list at an address.
-#[derive(Clone, Copy, Debug, PartialEq, Eq)]
+#[derive(Clone, Copy)]
 pub(crate) struct Reading {
     list: u16,
     at: u16,

@@ -1,5 +1,5 @@
 //! exit(II).
-ghost use Rattle.std.specs.Prelude.{◌≡◌, ◌*◌, ◌%◌, ◌<◌, ◌∷◌, [], ◌==◌, if◌then◌else◌, replicate, Some, None};
+ghost use Rattle.std.specs.Prelude.{◌≡◌, ◌*◌, ◌%◌, ◌<◌, ◌∷◌, [], ◌==◌, is_none, if◌then◌else◌, replicate, Some, None};
 ghost use Rattle.std.specs.Option.{unwrap_or};
 ghost use Rattle.v6_base.specs.Trace.{Took, Log};
 ghost use Rattle.fs_nodes.specs.FileSystem.{FileSystem, SameRest};
@@ -53,14 +53,23 @@ fn leave(p: &mut Procs, tree: &mut Tree, s: Slot, status: u16)
     p.put_area(s, &ended(u, status));
 }
 
-/// The slot of a process by its pid: process 0 has the pid 0, and where no slot has the pid it is that of process 1.
-fn parent_slot(rows: &Rows, pid: Pid) -> Slot
-    ensures { result ≡ (if pid == 0 then 0 else unwrap_or (lowest (passes (has_pid pid)) rows.now.slots) 1) }
+/// The slot of a process by its pid, where one has it. Process 0 has the pid 0.
+fn slot_of(rows: &Rows, pid: Pid) -> Option<Slot>
+    ensures { result ≡ (if pid == 0 then Some 0 else lowest (passes (has_pid pid)) rows.now.slots) }
 {
     if pid == 0 {
-        return 0;
+        return Some(0);
     }
-    rows.slot_of(pid).unwrap_or(INIT)
+    rows.slot_of(pid)
+}
+
+/// Makes the pid of a parent 1, where no slot has it.
+fn adopt_strays(rows: &mut Rows, ppid: Pid, parent: Option<Slot>)
+    ensures { rows.new ≡ (if is_none parent then orphans_adopted rows.old ppid else rows.old) }
+{
+    if parent.is_none() {
+        rows.adopt(ppid);
+    }
 }
 
 /// Makes the row of a slot that of a process that has ended, of which a block of the swap area is kept. Nobody runs then.
@@ -94,9 +103,9 @@ fn wake<T: Trace>(table: &mut Table, chan: Chan, trace: &mut T)
 }
 
 /// Makes the process in a slot one that has ended, of which a block of the swap area is kept; wakes process 1 and the
-/// parent, where they wait for a child; and gives its children to process 1.
+/// parent, where they wait for a child; and gives its children to process 1, which is the parent where no slot is.
 #[tactic(auto, using(v6_base::proofs::Took::takes))]
-fn end_row<T: Trace>(p: &mut Procs, s: Slot, block: u16, parent: Slot, trace: &mut T)
+fn end_row<T: Trace>(p: &mut Procs, s: Slot, block: u16, parent: Option<Slot>, trace: &mut T)
     requires table { IsTable p.old.table }
     requires used { IsUsed p.old.rows s }
     requires slot { s < 50 }
@@ -105,21 +114,24 @@ fn end_row<T: Trace>(p: &mut Procs, s: Slot, block: u16, parent: Slot, trace: &m
       channel = None;
       place = Some (Place.Swap block);
     })) { running = None })
-        (Chan.Wait 1)) (Chan.Wait parent) }
-    ensures rows { p.new.rows ≡ orphans_adopted (with_change p.old.rows s dead) (row_at p.old.rows s).pid }
+        (Chan.Wait 1)) (Chan.Wait (unwrap_or parent 1)) }
+    ensures rows { p.new.rows ≡ orphans_adopted
+        (if is_none parent then orphans_adopted (with_change p.old.rows s dead) (row_at p.old.rows s).ppid
+        else with_change p.old.rows s dead) (row_at p.old.rows s).pid }
     ensures images { p.new.images ≡ p.old.images }
     ensures switches { p.new.switches ≡ p.old.switches }
     ensures items { Took (T.taken trace.old) (Log (Entry.Exit s block) ∷ Log (Entry.Wake (Chan.Wait 1))
-        ∷ Log (Entry.Wake (Chan.Wait parent)) ∷ []) (T.taken trace.new) }
+        ∷ Log (Entry.Wake (Chan.Wait (unwrap_or parent 1))) ∷ []) (T.taken trace.new) }
     ensures frame { T.leads_to trace.old trace.new }
 {
-    let pid = p.rows.row(s).pid;
+    let row = *p.rows.row(s);
     end_slot(&mut p.table, s, block);
     p.rows.end_row(s);
     trace.entry(Entry::Exit { slot: s, block });
     wake(&mut p.table, Chan::Wait(INIT), trace);
-    wake(&mut p.table, Chan::Wait(parent), trace);
-    p.rows.adopt(pid);
+    wake(&mut p.table, Chan::Wait(parent.unwrap_or(INIT)), trace);
+    adopt_strays(&mut p.rows, row.ppid, parent);
+    p.rows.adopt(row.pid);
 }
 
 /// Makes the process in a slot a zombie: its image is given back, and half of its u area is kept in a block of the swap
@@ -134,7 +146,7 @@ fn die<T: Trace>(p: &mut Procs, s: Slot, trace: &mut T) -> Result<(), PanicKind>
 {
     see(p, s);
     let row = p.row(s);
-    let parent = parent_slot(&p.rows, row.ppid);
+    let parent = slot_of(&p.rows, row.ppid);
     match p.images.end(s) {
         Ok(block) => {
             end_row(p, s, block, parent, trace);

@@ -5,7 +5,7 @@ ghost use Rattle.fs_nodes.specs.FileSystem.{SameRest};
 ghost use Rattle.fs_tree.specs.Finding.{inodes_of, with_reference};
 ghost use Rattle.pick_rules.specs.Table.{IsTable, row_at, child_row, is_on};
 ghost use Rattle.pick_rules.specs.Sleepers.{runout_told};
-ghost use Rattle.image_keep.specs.Kept.{HasImage, Nothing, keeping, area_of, image_of, clicks_of};
+ghost use Rattle.image_keep.specs.Kept.{HasImage, Nothing, keeping, area_of, image_of, clicks_of, text_of};
 ghost use Rattle.image_keep.specs.Places.{placed, with_image_at};
 ghost use Rattle.proc_tab.specs.Processes.{lowest};
 ghost use Rattle.proc_tab.specs.Pids.{forked};
@@ -147,8 +147,11 @@ fn go_on(p: &mut Procs, tree: &mut Tree, s: Slot, child: Slot) -> Answer
 }
 
 /// Copies the image of a process into the slot of its child, where there is a place for it. The answer is that place.
+#[tactic(auto, using(image_keep::proofs::PlaceFrames::bare_forked))]
 fn copy_image(images: &mut Images, from: Slot, to: Slot) -> Place
     requires image { HasImage images.old from }
+    requires no_text { text_of images.old from ≡ None }
+    requires no_text_there { text_of images.old to ≡ None }
     requires slot { to < 50 }
     requires nothing { keeping images.old to ≡ Nothing }
     requires place { is_some (placed images.old from (clicks_of (area_of images.old from))) ≡ true }

@@ -2,7 +2,7 @@
 ghost use Rattle.std.specs.Prelude.{◌≡◌, ◌+◌, ◌<◌, ◌≤◌, ◌||◌, nat_le, is_some, true, false, None, Some, if◌then◌else◌, slice_index};
 ghost use Rattle.v6_base.specs.Image.{nseg};
 ghost use Rattle.fs_nodes.specs.FileSystem.{FileSystem, SameRest};
-ghost use Rattle.image_keep.specs.Kept.{HasImage, Alive, with_keeping, area_of, image_of};
+ghost use Rattle.image_keep.specs.Kept.{HasImage, Alive, with_keeping, text_of, area_of, image_of};
 ghost use Rattle.image_keep.specs.Growth.{most_clicks, area_resized, image_resized, expanded};
 ghost use Rattle.image_keep.specs.Places.{core_fit};
 ghost use Rattle.pick_rules.specs.Table.{row_at};
@@ -29,8 +29,10 @@ const SEGMENTS: u32 = 65536;
 const CLICK: u32 = 64;
 
 /// Gives an image other sizes of data and stack, where it keeps its place or there is another. The answer is its place.
+#[tactic(auto, using(image_keep::proofs::PlaceFrames::bare_moved))]
 fn resize(images: &mut Images, s: Slot, d: u16, stack: u16) -> Place
     requires image { HasImage images.old s }
+    requires no_text { text_of images.old s ≡ None }
     requires segments { nseg (area_of images.old s).text_size + nseg d + nseg stack ≤ 8 }
     requires place { is_some (expanded images.old s (16 + d + stack)) ≡ true }
     ensures place { expanded images.old s (16 + d + stack) ≡ Some result }

@@ -15,16 +15,6 @@ const LOWEST: u16 = 0o175400;
 /// The word after the addresses of the arguments.
 const ONES: u16 = 0o177777;
 
-/// Puts a byte in front of those with which the stack ends.
-fn put_byte<S: Space>(space: &mut S, at: u16, byte: u8)
-    requires within { 64256 ≤ at }
-    ensures image { (above : List ℕ) → (S.image space.old).stack ≡ cut_front 1280 above → at + length above + 1 ≡ 65536
-        → S.image space.new ≡ record (S.image space.old) { stack = cut_front 1280 (byte ∷ above) } }
-    ensures rest { S.rest space.new ≡ S.rest space.old }
-{
-    let _ = space.store_byte(at, byte);
-}
-
 /// Puts a word in front of the bytes with which the stack ends. It is left out where it would lie below the stack.
 fn put_word<S: Space>(space: &mut S, at: u16, word: u16)
     requires even { at % 2 ≡ 0 }
@@ -45,11 +35,7 @@ fn put_strings<S: Space>(space: &mut S, bytes: &[u8])
     ensures rest { S.rest space.new ≡ S.rest space.old }
 {
     let base = 65536 - bytes.len() - bytes.len() % 2;
-    let mut i = bytes.len();
-    while i > 0 {
-        i -= 1;
-        put_byte(space, (base + i) as u16, bytes[i]);
-    }
+    let _ = space.copy_out((base % 65536) as u16, bytes);
 }
 
 /// Whether an argument begins at a place of the bytes.

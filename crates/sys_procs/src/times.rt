@@ -16,7 +16,7 @@ use crate::procs::Procs;
 use fs_codec::put_words;
 use fs_tree::Tree;
 use u_area::UArea;
-use v6_base::{Answer, Chan, Entry, Errno, PanicKind, Slot, Trace, copy_out};
+use v6_base::{Answer, Chan, Entry, Errno, PanicKind, Slot, Space, Trace};
 
 /// Among the calls that can be pending this is sleep(II).
 pub(crate) const SLEEP: u8 = 5;
@@ -230,7 +230,7 @@ fn put_bytes(p: &mut Procs, s: Slot, at: u16, bytes: &[u8; 12]) -> bool
 {
     let _area = p.images.area(s);
     let mut space = p.images.space(s);
-    copy_out(&mut space, at, bytes)
+    space.copy_out(at, bytes)
 }
 
 /// times(II): the ticks of the process and of its children, in user mode and in the kernel, go to an address, `args[0]`,

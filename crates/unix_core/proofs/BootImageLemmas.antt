@@ -1,17 +1,21 @@
 -- The first image of process 1 stands at the front of a core in which nothing stands.
-use Rattle.std.proofs.Common.{◌≡◌, ◌<◌, ◌≤◌, ◌+◌, ℕ, length, replicate, get_or, Some, refl, ap, ◌∙◌, inl, inr, arith, []}
+use Rattle.std.proofs.Common.{◌≡◌, ◌<◌, ◌≤◌, ◌+◌, ℕ, length, replicate, get_or, Some, None, refl, sym, ap, ◌∙◌, inl, inr, arith, []}
 use Rattle.std.proofs.lemmas.Bool.{cases_lt}
 use Rattle.std.proofs.lemmas.List.{get_or-replicate, get_or_past, length-replicate}
 use Rattle.v6_base.specs.declared.entry.Place.TheVariants.{Core}
 use Rattle.v6_base.specs.Image.{Image}
 use Rattle.u_area.specs.declared.area.UArea.{UArea}
 use Rattle.u_area.proofs.AreaLemmas.{one_area}
-use Rattle.image_keep.specs.Area.{sized_area}
-use Rattle.image_keep.specs.Kept.{Held, Nothing, Alive, Kept, HasImage, keeping, first_kept, with_keeping, with_area, with_image, described, imaged, area_in, area_of, image_in, image_of}
+use Rattle.image_keep.specs.Area.{sized_area, made_area}
+use Rattle.image_keep.specs.Kept.{Held, Nothing, Alive, Kept, HasImage, keeping, first_kept, with_keeping, with_area, with_image, described, imaged, area_in, area_of, image_in, image_of, text_of}
+use Rattle.image_keep.specs.Moves.{with_image_moved}
 use Rattle.image_keep.specs.Places.{placed, with_image_at, cleared}
+use Rattle.image_keep.specs.Places as places
 use Rattle.image_keep.proofs.Frames.{keeping_same, keeping_twice}
+use Rattle.image_keep.proofs.PlaceFrames.{bare_moved}
 use Rattle.abstract_unix.specs.Init.{init_data}
 use Rattle.sys_procs.specs.Agree.{HasNoText}
+use Rattle.sys_procs.proofs.Agreement.{no_text_of}
 use Rattle.unix_core.specs.Parts.{first_held}
 use Rattle.unix_core.proofs.PlaceLemmas.{placed_first}
 
@@ -42,6 +46,14 @@ module _ (k : Kept) (empty : k ≡ first_kept k.core) (least : 64 ≤ k.core) wh
   pub first_place : (d stack : ℕ) → d ≡ 1 → stack ≡ 0 → placed k 1 (16 + d + stack) ≡ Some (Core 1)
   first_place d stack one none =
       (λ i. placed k 1 (16 + one i + none i)) ∙ placed_first k 1 17 no_text keeps_nothing (omega arith) (omega (arith, least))
+
+  -- the slot has no text, and none moves with its image
+  pub made_at : (made : Kept) → made ≡ with_image_moved k 1 (made_area 0 1 0) (places.made_image [] 1 0) (placed k 1 17)
+      → made ≡ with_image_at k 1 (sized_area 1 0) (cleared 1 0) (placed k 1 17)
+  made_at made is = is ∙ bare_moved k 1 (made_area 0 1 0) (places.made_image [] 1 0) (placed k 1 17) (no_text_of k 1 no_text)
+
+  pub text_at : None ≡ text_of k 1
+  text_at = sym (no_text_of k 1 no_text)
 
   module _ (made : Kept) (d stack : ℕ) (one : d ≡ 1) (none : stack ≡ 0)
       (is : made ≡ with_image_at k 1 (sized_area d stack) (cleared d stack) (placed k 1 (16 + d + stack))) where

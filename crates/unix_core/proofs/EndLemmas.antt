@@ -1,5 +1,5 @@
 -- A turn ends: what belongs together still does, whether the process goes on, sleeps or has exited.
-use Rattle.std.proofs.Common.{◌≡◌, ◌≢◌, ◌<◌, ◌==◌, ◌++◌, cond, ℕ, Bool, true, false, ℤ, int_lt, pos, [], Option, Some, None, is_some, refl, sym, ap, ◌∙◌, subst, arith}
+use Rattle.std.proofs.Common.{◌≡◌, ◌≢◌, ◌<◌, ◌==◌, ◌++◌, cond, ℕ, Bool, true, false, ℤ, int_lt, pos, [], Option, Some, None, refl, sym, ap, ◌∙◌, subst, arith}
 use Rattle.std.proofs.lemmas.List.{get_or-set_same, get_or-set_other, length-set}
 use Rattle.v6_base.specs.Trace.{Took, Taken}
 use Rattle.v6_base.proofs.Took.{took_then}
@@ -25,9 +25,12 @@ use Rattle.unix_core.specs.declared.machine.Stage.{Stage}
 use Rattle.unix_core.specs.declared.machine.Stage.TheVariants as stage
 use Rattle.abstract_unix.specs.declared.ending.Ending.{Ending}
 use Rattle.abstract_unix.specs.declared.ending.Ending.TheVariants as ending
-use Rattle.abstract_unix.specs.declared.turned.Unbuilt.{Unbuilt}
+use Rattle.abstract_unix.specs.declared.ends.Ends.{Ends}
+use Rattle.abstract_unix.specs.declared.ends.Ends.TheVariants as ends
+use Rattle.abstract_unix.specs.declared.ends.Ends.TheVariants.{AtEnd}
 use Rattle.abstract_unix.specs.Unix.{Unix, System, Started}
 use Rattle.unix_core.specs.Passing.{trapped, ended_table}
+use Rattle.abstract_unix.specs.Endings.{is_early}
 use Rattle.abstract_unix.specs.Turn.{Turn, end_effects, ending_at, settled, settled_after, turned_by, turned}
 use Rattle.unix_core.specs.Parts.{unix_of, board_in, system_at, turn_end, phase_of, is_over, IsGood, IsRested, IsKernel, Takes}
 use Rattle.unix_core.proofs.TableLemmas.{RunsImage, with_table, good_table}
@@ -96,7 +99,7 @@ module _ (v : Processes) (k : Kept) (t : Table) (s : ℕ) (agree : Agree v t k) 
   ended_agree u ending.NotBuilt is good has = subst (λ x. Agree v x k) (sym is) agree
 
 -- a turn with which the run doesn't end
-pub not_over : (e : Ending) (pc : ℕ) → ending_at pc e ≡ None → is_over e ≡ false
+pub not_over : (e : Ending) (pc : ℕ) → ending_at pc e ≡ AtEnd → is_over e ≡ false
 not_over ending.Next pc goes = refl
 not_over ending.Trapped pc goes = refl
 not_over (ending.Slept pri chan) pc goes = refl
@@ -150,8 +153,8 @@ module _ (w : World) (good : IsGood w) (s : ℕ) (above : 0 < s) (low : s < 50) 
       final ∙ (λ i. record { unix = record (unix_of w) { clock = clock i }; board = (settled (board i)).board })
 
   -- the run goes on
-  module _ (pc : ℕ) (goes : ending_at pc e ≡ None) where
-    ended_is : settled_after (record { unix = unix_of w; log = logged (board_in w) (end_effects s e); is_idle = false; ending = None })
+  module _ (pc : ℕ) (goes : ending_at pc e ≡ AtEnd) where
+    ended_is : settled_after (record { unix = unix_of w; log = logged (board_in w) (end_effects s e); is_idle = false; ending = AtEnd })
         ≡ turn_end w s pc e
     ended_is = ap (λ o. settled_after (record { unix = unix_of w; log = logged (board_in w) (end_effects s e); is_idle = false; ending = o })) (sym goes)
 
@@ -175,7 +178,7 @@ pub stopped_kernel : (w : World) → IsKernel stage.Stopped w
 stopped_kernel w = record { new = λ f. absurd (cc f); running = λ s f. absurd (cc f); resting = λ f. absurd (cc f) }
 
 module _ (w : World) (s pc : ℕ) where
-  pub stopped_takes : (e : Ending) → is_some (ending_at pc e) ≡ true → (regs : Regs) → Takes (turn_end w s pc e) stage.Stopped regs w
+  pub stopped_takes : (e : Ending) → is_early (ending_at pc e) ≡ true → (regs : Regs) → Takes (turn_end w s pc e) stage.Stopped regs w
   stopped_takes ending.Next f regs = absurd (cc f)
   stopped_takes ending.Trapped f regs = absurd (cc f)
   stopped_takes (ending.Slept pri chan) f regs = absurd (cc f)
@@ -183,7 +186,7 @@ module _ (w : World) (s pc : ℕ) where
   stopped_takes ending.NoRoom f regs = record { kernel = stopped_kernel w; system = refl; phase = refl }
   stopped_takes ending.NotBuilt f regs = record { kernel = stopped_kernel w; system = refl; phase = refl }
 
-  pub stopped_items : (e : Ending) → is_some (ending_at pc e) ≡ true → (turn_end w s pc e).items ≡ []
+  pub stopped_items : (e : Ending) → is_early (ending_at pc e) ≡ true → (turn_end w s pc e).items ≡ []
   stopped_items ending.Next f = absurd (cc f)
   stopped_items ending.Trapped f = absurd (cc f)
   stopped_items (ending.Slept pri chan) f = absurd (cc f)
@@ -195,7 +198,7 @@ module _ (w : World) (s pc : ℕ) where
   pub end_answer : (e : Ending) → turned_by (ending_at pc e) false ≡ turned (turn_end w s pc e)
   end_answer e = by (ending_at pc e)
     where
-      by : (o : Option Unbuilt) → turned_by o false
+      by : (o : Ends) → turned_by o false
           ≡ turned (settled_after (record { unix = unix_of w; log = logged (board_in w) (end_effects s e); is_idle = false; ending = o }))
-      by None = refl
-      by (Some place) = refl
+      by AtEnd = refl
+      by (ends.NotBuilt place) = refl

@@ -10,7 +10,9 @@ use Rattle.pick_rules.proofs.Chosen.{chosen_is_choice}
 use Rattle.pdp_step.specs.declared.regs.Regs.{Regs}
 use Rattle.unix_core.specs.declared.world.World.{World}
 use Rattle.unix_core.specs.declared.machine.Stage.{Stage}
-use Rattle.abstract_unix.specs.declared.turned.Unbuilt.{Unbuilt}
+use Rattle.abstract_unix.specs.declared.ends.Ends.{Ends}
+use Rattle.abstract_unix.specs.declared.ends.Ends.TheVariants as ends
+use Rattle.abstract_unix.specs.declared.ends.Ends.TheVariants.{AtEnd}
 use Rattle.abstract_unix.specs.declared.turned.Turned.{Turned}
 use Rattle.abstract_unix.specs.declared.turned.Turned.TheVariants.{Idle}
 use Rattle.unix_core.specs.declared.machine.Stage.TheVariants as stage
@@ -35,9 +37,9 @@ nobody_can t last rows none s loaded = by (nat_lt s 50) refl
         ap (λ (row : TableRow). is_ready row.stat) (get_or_past t.rows s empty_row past)
 
 -- A slot answers that nobody is there to run where nobody runs.
-never_idle : (o : Option Unbuilt) → turned_by o false ≡ Idle → ⊥
-never_idle None idle = cc idle
-never_idle (Some place) idle = cc idle
+never_idle : (o : Ends) → turned_by o false ≡ Idle → ⊥
+never_idle AtEnd idle = cc idle
+never_idle (ends.NotBuilt place) idle = cc idle
 
 settled_answer : (h : Happened) → turned (settled_after h) ≡ turned_by h.ending h.is_idle
 settled_answer h = by (calls_for_settling h)

@@ -23,7 +23,7 @@ use Rattle.sys_procs.specs.Comes.{Comes}
 use Rattle.sys_procs.specs.Break.{grow}
 use Rattle.sys_procs.specs.Times.{pending_sleep}
 use Rattle.sys_procs.specs.Wait.{pending_wait}
-use Rattle.sys_procs.specs.Exit.{exit_now}
+use Rattle.sys_procs.specs.Exit.{exit_status, end_proc}
 use Rattle.sys_procs.specs.Fork.{fork_one}
 use Rattle.sys_procs.specs.Resume.{resume_proc}
 use Rattle.abstract_unix.specs.declared.asked.Asked.{Asked}
@@ -35,14 +35,14 @@ use Rattle.abstract_unix.specs.declared.ending.Ending.TheVariants as ending
 use Rattle.abstract_unix.specs.Unix.{Unix, System, process_of, with_process}
 use Rattle.abstract_unix.specs.Steps.{Steps, quietly, returns, not_built}
 use Rattle.abstract_unix.specs.Errors.{error_number}
-use Rattle.abstract_unix.specs.Calls.{handed_of, with_handed, world_of, with_world, with_area, entered_area, words_passed, asked, given_area, refused_area, answers, file_row, process_row, did_by, came_by, forks, closes_all, exits, grows, grown_by, does_call, sysent_of, does_if_built, pending_read, resumed}
+use Rattle.abstract_unix.specs.Calls.{handed_of, with_handed, world_of, with_world, with_area, entered_area, words_passed, asked, given_area, refused_area, answers, file_row, process_row, did_by, came_by, forks, closes_all, exits_with, grows, grown_by, does_call, sysent_of, does_if_built, pending_read, resumed}
 use Rattle.abstract_unix.specs.Turn.{Happened, stays, settles, calls_for_settling, settled_after, machine_of, with_machine, faults, comes_to, instruction, is_user, turn, end_effects, turn_of, pass_effects, pass_of, slot_of}
 use Rattle.abstract_unix.specs.Outside.{mode_of, timed, charged, ticked, is_due, wakes, tick_entry, tick_of, calls, typed_of}
 use Rattle.abstract_unix.specs.Runs.{Slot, Tick, Byte, Switch, event_of, start_of}
 use Rattle.abstract_unix.specs.Private.{IsUndisturbed, AllUndisturbed, OthersUndisturbed}
 use Rattle.unix_core.proofs.PrivateSlots.{Spared, AllCarry, spared_same, spared_then, spared_other, spared_timed, left_carried, carry_shown, carry_both, carry_lifted}
 use Rattle.unix_core.proofs.PrivateExec.{IsSparingCall, sparing_row, sparing_grow}
-use Rattle.unix_core.proofs.PrivateRows.{IsSparing, sparing_fork, sparing_exit, sparing_resume}
+use Rattle.unix_core.proofs.PrivateRows.{IsSparing, sparing_fork, sparing_end, sparing_resume}
 
 -- a Unix in which the process of a slot lives on
 abbrev HasSpared : List (Option Process) → ℕ → Unix → Type 0
@@ -93,12 +93,12 @@ module _ (ps : List (Option Process)) (r s : ℕ) (other : r ≢ s) where
         let came : AreSparing ps r (came_by u s c) = sparing_came c (sparing_fork ps r s other (world_of u) h) in
         record { effects = came.effects; unix = came.unix }
 
-    sparing_exits : AreSparing ps r (exits u s)
-    sparing_exits =
+    sparing_exits : (status : ℕ) → AreSparing ps r (exits_with u s status)
+    sparing_exits status =
         let closed : Closing = closes_all u s in
         let now : Unix = with_handed u s closed.state in
-        let c : Comes = exit_now (world_of now) s in
-        let came : IsSparing ps r c = sparing_exit ps r s other (world_of now) (spared_put u _ h) in
+        let c : Comes = end_proc (world_of now) s status in
+        let came : IsSparing ps r c = sparing_end ps r s other (world_of now) status (spared_put u _ h) in
         record {
           effects = carry_both (HasSpared ps r) (map Show closed.items) _ (carry_shown (HasSpared ps r) closed.items)
               (carry_lifted (with_world now) (HasSpared ps r) c.effects came.effects);
@@ -121,7 +121,7 @@ module _ (ps : List (Option Process)) (r s : ℕ) (other : r ≢ s) where
 
     sparing_does : (call : SystemCall) (args : List ℕ) → AreSparing ps r (does_call u s call args)
     sparing_does Indirect args = sparing_quiet u ending.Trapped h
-    sparing_does Exit args = sparing_exits
+    sparing_does Exit args = sparing_exits (exit_status (process_of u s))
     sparing_does Fork args = sparing_forks
     sparing_does (OnFiles call) args = sparing_did (file_row call (handed_of u (process_of u s)) args u.clock.time)
     sparing_does (OnProcesses call) args = sparing_came (process_row call (world_of u) s args) (sparing_row ps r s other call (world_of u) args h)

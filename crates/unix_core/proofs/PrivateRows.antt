@@ -1,5 +1,5 @@
 -- The calls on processes but for exec and break: each leaves the processes of other slots alone.
-use Rattle.std.proofs.Common.{◌≡◌, ◌≢◌, ◌∙◌, ◌*◌, ◌%◌, ℕ, Bool, true, false, if◌then◌else◌, List, [], get_or, set, Option, Some, None, is_none, sym, ap}
+use Rattle.std.proofs.Common.{◌≡◌, ◌≢◌, ◌∙◌, ℕ, Bool, true, false, if◌then◌else◌, List, [], get_or, set, Option, Some, None, is_none, sym, ap}
 use Rattle.std.specs.Prelude.{unwrap_or, slice_set}
 use Rattle.std.proofs.lemmas.List.{get_or-map}
 use Rattle.v6_base.specs.declared.answer.Answer.{Answer}
@@ -7,18 +7,18 @@ use Rattle.v6_base.specs.declared.entry.Entry.{Entry}
 use Rattle.v6_base.specs.declared.entry.Entry.TheVariants as line
 use Rattle.proc_tab.specs.Processes.{IsLowest, Finds, lowest}
 use Rattle.proc_tab.proofs.SearchLemmas.{lowest_finds}
-use Rattle.sys_procs.specs.Process.{Process, no_process, member_of, register}
+use Rattle.sys_procs.specs.Process.{Process, no_process, member_of}
 use Rattle.sys_procs.specs.World.{World, process_of, change, without_process, members, let_go}
 use Rattle.sys_procs.specs.Comes.{Comes, comes, logs}
 use Rattle.sys_procs.specs.Times.{with_time}
 use Rattle.sys_procs.specs.Fork.{fork_one, fork_into, past_word, next_pid, with_child}
-use Rattle.sys_procs.specs.Exit.{exit_now, end_proc, leaves, dies, dead, ended}
+use Rattle.sys_procs.specs.Exit.{slot_of, strays_adopted, end_proc, leaves, dies, dead, ended}
 use Rattle.sys_procs.specs.Resume.{resume_proc, awake}
 use Rattle.sys_procs.specs.TextTable.{text_of}
 use Rattle.sys_procs.specs.Texts.{goes, remaining, without_text, leaves_text, is_sticky, xfree}
 use Rattle.abstract_unix.proofs.ProcessRows.{Plain, gives, refuses, waits, changes, due, nice, wakes, dated, buries, resume_plain}
 use Rattle.abstract_unix.proofs.Owing.{some_within}
-use Rattle.unix_core.proofs.PrivateSlots.{Spared, AllCarry, spared_then, spared_other, spared_unless, spared_adopted}
+use Rattle.unix_core.proofs.PrivateSlots.{Spared, AllCarry, spared_then, spared_other, spared_unless, spared_adopted, spared_strays}
 
 -- A call of another process has left a slot alone, and so had its parts before each effect.
 pub record IsSparing (ps : List (Option Process)) (r : ℕ) (c : Comes) : Type 0 where
@@ -105,22 +105,22 @@ module _ (ps : List (Option Process)) (r s : ℕ) (other : r ≢ s) where
         let p : Process = process_of w s in
         let zombie : Process = record p { is_zombie = true; «data» = []; stack = [] } in
         let ended : List (Option Process) = set w.processes s (Some zombie) in
-        spared_then ps ended (dead w s).processes r
+        let parent : Option ℕ = slot_of w p.row.ppid in
+        let left : List (Option Process) = strays_adopted parent p.row.ppid ended in
+        spared_then ps left (dead w s).processes r
+        (spared_then ps ended left r
         (spared_then ps w.processes ended r h (spared_other w.processes s r (Some zombie) other))
-        (spared_adopted ended p.row.pid r)
+        (spared_strays ended (is_none parent) p.row.ppid r))
+        (spared_adopted left p.row.pid r)
 
   sparing_dies : (w : World) → Spared ps w.processes r → IsSparing ps r (dies w s)
   sparing_dies w h = record { effects = (h, (tt, (tt, tt))); state = spared_dead w h }
 
-  sparing_end : (w : World) (status : ℕ) → Spared ps w.processes r → IsSparing ps r (end_proc w s status)
+  pub sparing_end : (w : World) (status : ℕ) → Spared ps w.processes r → IsSparing ps r (end_proc w s status)
   unfolding end_proc
   sparing_end w status h =
       let left : World = leaves w s status in
       sparing_xfree left (process_of w s).text (λ x. dies x s) (spared_change w (ended status) h) sparing_dies
-
-  pub sparing_exit : (w : World) → Spared ps w.processes r → IsSparing ps r (exit_now w s)
-  unfolding exit_now
-  sparing_exit w h = sparing_end w (256 * (register (process_of w s) 0 % 256)) h
 
   pub sparing_resume : (w : World) → Spared ps w.processes r → IsSparing ps r (resume_proc w s)
   sparing_resume w h = sparing_plain (change w s awake) _ (resume_plain s w) (spared_change w awake h)

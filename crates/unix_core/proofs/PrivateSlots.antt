@@ -1,5 +1,5 @@
 -- What a change of one slot leaves of the others, and what is so of every Unix that effects leave, stopped or not.
-use Rattle.std.proofs.Common.{◌≡◌, ◌≢◌, ◌∙◌, ℕ, Bool, true, false, cond, nat_le, List, [], ◌∷◌, ◌++◌, get_or, set, map, fold, Option, Some, None, refl, sym, ap, inl, inr}
+use Rattle.std.proofs.Common.{◌≡◌, ◌≢◌, ◌∙◌, ℕ, Bool, true, false, cond, nat_le, List, [], ◌∷◌, ◌++◌, get_or, set, map, fold, Option, Some, None, is_none, refl, sym, ap, inl, inr}
 use Rattle.std.specs.Prelude.{⊤, ◌==◌, unwrap_or}
 use Rattle.std.proofs.lemmas.Bool.{cases_eq}
 use Rattle.std.proofs.lemmas.List.{get_or-map, get_or-set_same, get_or-set_other}
@@ -111,6 +111,10 @@ spared_adopted ps pid r p is lives =
       memory = record { registers = refl; codes = refl; «data» = refl; stack = refl };
     }
     by false got = record { now = p; there = got; lives = lives; pid = refl; memory = memory_same p }
+
+pub spared_strays : (ps : List (Option Process)) (b : Bool) (ppid r : ℕ) → Spared ps (cond b (map (adopted ppid) ps) ps) r
+spared_strays ps true ppid r = spared_adopted ps ppid r
+spared_strays ps false ppid r = spared_same ps r
 
 -- A fact of each state that effects carry is one of the state that they leave.
 module _ {W : Type 0} (P : W → Type 0) where

@@ -20,9 +20,12 @@ use Rattle.abstract_unix.specs.declared.ending.Ending.{Ending}
 use Rattle.abstract_unix.specs.declared.ending.Ending.TheVariants as ending
 use Rattle.unix_core.specs.declared.machine.Stage.{Stage}
 use Rattle.unix_core.specs.declared.machine.Stage.TheVariants as stage
-use Rattle.abstract_unix.specs.declared.turned.Unbuilt.{Unbuilt}
+use Rattle.abstract_unix.specs.declared.ends.Ends.{Ends}
+use Rattle.abstract_unix.specs.declared.ends.Ends.TheVariants as ends
+use Rattle.abstract_unix.specs.declared.ends.Ends.TheVariants.{AtEnd}
 use Rattle.unix_core.specs.declared.world.World.{World}
-use Rattle.abstract_unix.specs.Unix.{Unix, System, process_of, with_process, phase_after}
+use Rattle.abstract_unix.specs.Unix.{Unix, System, process_of, with_process}
+use Rattle.abstract_unix.specs.Endings.{phase_after}
 use Rattle.abstract_unix.specs.Steps.{Steps}
 use Rattle.abstract_unix.specs.Calls.{resumed}
 use Rattle.abstract_unix.specs.Turn.{Happened, Turn, machine_of, with_machine, comes_to, instruction, turn, end_effects, settled, settled_after, ending_at, unmet, ending_by, turn_of}
@@ -87,7 +90,7 @@ turn_log b es s own e is =
         ∙ ap (ended_log l s) (sym (is ∙ ap (λ o. ended_as o own) some))
 
 -- how a turn ends, stopped or not
-unmet_same : (pc : ℕ) (kind : PanicKind) → ending_at pc (unmet_as kind) ≡ Some (unmet pc kind)
+unmet_same : (pc : ℕ) (kind : PanicKind) → ending_at pc (unmet_as kind) ≡ unmet pc kind
 unmet_same pc panic.Swap = refl
 unmet_same pc panic.Zombie = refl
 unmet_same pc panic.Text = refl
@@ -132,7 +135,7 @@ module _ (m : System) (s : ℕ) (steps : Steps) (e : Ending) (w : World) (come :
   abbrev last : Board → Logged Unix
   last b = logged b (end_effects s e)
 
-  abbrev with_last : Option Unbuilt → Board → Happened
+  abbrev with_last : Ends → Board → Happened
   with_last o b = record {
     unix = unix_of w;
     log = record { items = taken.items ++ (last b).items; board = (last b).board; stop = taken.stop };
@@ -140,17 +143,17 @@ module _ (m : System) (s : ℕ) (steps : Steps) (e : Ending) (w : World) (come :
     ending = o;
   }
 
-  ended_is : (o : Option Unbuilt) → settled_after (with_last o taken.board)
+  ended_is : (o : Ends) → settled_after (with_last o taken.board)
       ≡ shown_before taken.items (settled_after (record { unix = unix_of w; log = last (board_in w); is_idle = false; ending = o }))
-  ended_is None =
-      ap (λ b. settled_after (with_last None b)) (sym come.board)
+  ended_is AtEnd =
+      ap (λ b. settled_after (with_last AtEnd b)) (sym come.board)
       ∙ (λ i. record {
         items = append_assoc taken.items (last (board_in w)).items (settled (last (board_in w)).board).items i;
         next = record { unix = unix_of w; board = (settled (last (board_in w)).board).board };
         is_idle = false;
-        ending = None;
+        ending = AtEnd;
       })
-  ended_is (Some place) = ap (λ b. settled_after (with_last (Some place) b)) (sym come.board)
+  ended_is (ends.NotBuilt place) = ap (λ b. settled_after (with_last (ends.NotBuilt place) b)) (sym come.board)
 
   pub turn_is : settled_after (turn_of m s steps) ≡ shown_before taken.items (turn_end w s pc e)
   turn_is = ap settled_after left_is ∙ ended_is (ending_at pc e)

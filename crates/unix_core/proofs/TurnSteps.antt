@@ -21,6 +21,7 @@ use Rattle.sys_procs.proofs.MemoryLemmas.{image_here}
 use Rattle.abstract_unix.specs.declared.turned.Turned.TheVariants.{Ran}
 use Rattle.unix_core.specs.declared.machine.Stage.TheVariants as stage
 use Rattle.unix_core.specs.declared.world.World.{World}
+use Rattle.abstract_unix.specs.declared.ends.Ends.TheVariants.{AtEnd}
 use Rattle.abstract_unix.specs.Unix.{Unix, System, no_texts, process_of, with_process}
 use Rattle.abstract_unix.specs.Steps.{steps}
 use Rattle.abstract_unix.specs.Calls.{resumed}
@@ -171,7 +172,7 @@ module _ (m : System) (s : ℕ) (above : 0 < s) (regs' : Regs) (w' : World) (don
       ∙ ap (comes_to u s) (sym done.outcome)
 
   abbrev plain : Turn
-  plain = record { items = []; next = record m { unix = u }; is_idle = false; ending = None }
+  plain = record { items = []; next = record m { unix = u }; is_idle = false; ending = AtEnd }
 
   plain_is : event_of Slot m ≡ plain
   plain_is =
@@ -181,13 +182,13 @@ module _ (m : System) (s : ℕ) (above : 0 < s) (regs' : Regs) (w' : World) (don
         items = (settled_as o m.board).items;
         next = record m { unix = u; board = (settled_as o m.board).board };
         is_idle = false;
-        ending = None;
+        ending = AtEnd;
       }) quiet
 
   pub plain_answer : Ran ≡ turned (event_of Slot m)
   plain_answer = ap turned (sym plain_is)
 
-  pub plain_goes : (event_of Slot m).ending ≡ None
+  pub plain_goes : (event_of Slot m).ending ≡ AtEnd
   plain_goes = ap (λ (t : Turn). t.ending) plain_is
 
   pub plain_next : system_at (stage.Running s) regs' w' ≡ (event_of Slot m).next

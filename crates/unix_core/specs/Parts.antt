@@ -32,7 +32,8 @@ use Rattle.abstract_unix.specs.declared.turned.Turned.TheVariants as turned
 use Rattle.abstract_unix.specs.declared.turned.Unbuilt.TheVariants.{At, Room}
 use Rattle.unix_core.specs.declared.machine.Stage.{Stage}
 use Rattle.unix_core.specs.declared.machine.Stage.TheVariants as stage
-use Rattle.abstract_unix.specs.Unix.{Unix, System, Phase, New, Started, Stopped, Finished, phase_after, process_of, with_process}
+use Rattle.abstract_unix.specs.Unix.{Unix, System, Phase, New, Started, Stopped, Finished, process_of, with_process}
+use Rattle.abstract_unix.specs.Endings.{phase_after}
 use Rattle.abstract_unix.specs.Init.{init_data}
 use Rattle.abstract_unix.specs.Whole.{Owed}
 use Rattle.abstract_unix.specs.Steps.{Steps}

@@ -1,5 +1,5 @@
 //! What a kernel begins with.
-ghost use Rattle.std.specs.Prelude.{◌≡◌, ℕ, ◌≤◌, ◌+◌, IfOk, IfErr, Some, None, replicate};
+ghost use Rattle.std.specs.Prelude.{◌≡◌, ℕ, ◌≤◌, ◌+◌, IfOk, IfErr, Some, None, replicate, length};
 ghost use Rattle.fs_codec.specs.Disk.{disk_of};
 ghost use Rattle.fs_codec.specs.Faults.{image_fault};
 ghost use Rattle.fs_codec.specs.Stands.{store_of};
@@ -19,6 +19,11 @@ use v6_base::Tape;
 const TAPE_ENTRIES: usize = 64;
 
 const TAPE_BYTES: usize = 524288;
+
+/// Where the swap area begins on the disk, and its size, in bytes.
+const SWAP_AT: usize = 2_048_000;
+
+const SWAP_BYTES: usize = 446_464;
 
 /// Why there is no kernel for an image.
 #[derive(Clone, Copy, Debug, PartialEq, Eq)]
@@ -44,6 +49,28 @@ fn file_system_of(alloc: Global, image: &[u8]) -> Result<(Nodes, u32), AllocErro
     Ok((Nodes::new(volume), time))
 }
 
+/// Puts what an image has of the swap area there.
+fn fill_swap(swap: &mut [u8], image: &[u8])
+    ensures { length swap.new ≡ length swap.old }
+{
+    match image.get(SWAP_AT..) {
+        Some(rest) => {
+            let count = rest.len().min(swap.len());
+            swap[..count].copy_from_slice(&rest[..count]);
+        }
+        None => {}
+    }
+}
+
+/// The swap area of a disk with an image: its blocks as the image has them, and zeros where the image ends before.
+fn swap_area(alloc: Global, image: &[u8]) -> Result<Vec<u8>, AllocError>
+    ensures { IfOk result (λ swap. length swap.items ≡ SWAP_BYTES) }
+{
+    let mut swap = vec![in alloc; 0u8; SWAP_BYTES]?;
+    fill_swap(&mut swap, image);
+    Ok(swap)
+}
+
 impl Kernel {
     ghost use Rattle.unix_core.specs.Boots.{RefusesBoot};
     ghost use Rattle.abstract_unix.specs.Unix.{New};
@@ -67,7 +94,10 @@ impl Kernel {
             return Err(BootFault::NoMemory);
         };
         take_root(&mut nodes);
-        let Ok(images) = Images::new(alloc, core) else {
+        let Ok(swap) = swap_area(alloc, image) else {
+            return Err(BootFault::NoMemory);
+        };
+        let Ok(images) = Images::new(alloc, core, &swap) else {
             return Err(BootFault::NoMemory);
         };
         let Ok(tape) = Tape::new(alloc, TAPE_ENTRIES, TAPE_BYTES) else {

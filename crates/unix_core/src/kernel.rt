@@ -10,7 +10,7 @@ ghost use Rattle.image_keep.specs.Kept.{Alive, first_kept, with_keeping};
 ghost use Rattle.unix_core.specs.Parts.{first_held};
 ghost use Rattle.abstract_unix.specs.Turn.{turned, NobodyCanRun};
 ghost use Rattle.abstract_unix.specs.Outside.{is_signal_key};
-ghost use Rattle.abstract_unix.specs.Private.{AllUndisturbed, OthersUndisturbed};
+ghost use Rattle.abstract_unix.specs.Private.{AllUndisturbed, TickUndisturbed, OthersUndisturbed};
 
 use crate::files::{ROOT, see_kept, see_nodes};
 use crate::init::put_program;
@@ -78,7 +78,8 @@ impl Model for Kernel {
 }
 
 impl Kernel {
-    ghost use Rattle.abstract_unix.specs.Unix.{New, Started, Stopped, Finished, phase_after};
+    ghost use Rattle.abstract_unix.specs.Unix.{New, Started, Stopped, Finished};
+    ghost use Rattle.abstract_unix.specs.Endings.{phase_after};
     ghost use Rattle.abstract_unix.specs.Runs.{Slot, Tick, Byte, Switch, start_of, event_of, system_with, finished};
 
     /// A kernel with a file system, whose process 1 is about to execute `/etc/init`, with images and a tape of which nothing
@@ -182,7 +183,7 @@ impl Kernel {
         ensures phase { self.new.phase ≡ Started }
         ensures answer { result ≡ Ok tt }
         ensures next { self.new.system ≡ (event_of Tick self.old.system).next }
-        ensures private { AllUndisturbed self.old.system self.new.system }
+        ensures private { TickUndisturbed self.old.system self.new.system }
         ensures rest { SameRest self.old.blocks self.new.blocks }
         ensures items { Took (T.taken trace.old) (event_of Tick self.old.system).items (T.taken trace.new) }
         ensures frame { T.leads_to trace.old trace.new }

@@ -13,6 +13,6 @@ mod process;
 mod settling;
 mod world;
 
-pub use abstract_unix::{Turned, Unbuilt};
+pub use abstract_unix::{Ends, Turned, Unbuilt};
 pub use boot::BootFault;
 pub use kernel::Kernel;

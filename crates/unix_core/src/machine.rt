@@ -1,11 +1,13 @@
 //! The parts of a kernel, and what each event does to them.
-ghost use Rattle.std.specs.Prelude.{◌≡◌, ◌≢◌, ◌<◌, ℕ, Bool, true, false, is_some, None, Some};
+ghost use Rattle.std.specs.Prelude.{◌≡◌, ◌≢◌, ◌<◌, ℕ, Bool, true, false, None, Some};
 ghost use Rattle.v6_base.specs.Trace.{Took};
 ghost use Rattle.fs_laws.specs.Rest.{SameRest};
 ghost use Rattle.pick_rules.specs.Choice.{chosen, settle};
 ghost use Rattle.pick_rules.specs.Logged.{logged};
 ghost use Rattle.sys_procs.specs.Process.{register};
+ghost use Rattle.abstract_unix.specs.declared.ends.Ends.TheVariants.{AtEnd};
 ghost use Rattle.abstract_unix.specs.Unix.{Unix, System, Started, process_of};
+ghost use Rattle.abstract_unix.specs.Endings.{is_early};
 ghost use Rattle.abstract_unix.specs.Turn.{turned, turned_by, ending_at, turn, turn_of, settled, settled_after, pass_of};
 ghost use Rattle.abstract_unix.specs.Outside.{calls, charged, mode_of, tick_entry, timed_area, tick_of, typed_of};
 ghost use Rattle.unix_core.specs.Parts.{unix_of, board_in, system_at, turn_at, turned_at, turn_end, pc_at, phase_of, is_over, IsGood, IsReady, IsUser, IsRested, IsKernel, HasCome, HasStepped, Takes};
@@ -21,7 +23,7 @@ use u_area::UArea;
 use v6_base::{Chan, Entry, Slot, Trace};
 
 /// How far a run has come, and what the next slot finds.
-#[derive(Clone, Copy, Debug, PartialEq, Eq)]
+#[derive(Clone, Copy)]
 pub enum Stage {
     /// The run hasn't been started.
     New,
@@ -36,7 +38,7 @@ pub enum Stage {
 }
 
 /// How a slot went. It is one byte, so that a slot's answer stays in a register.
-#[derive(Clone, Copy, Debug, PartialEq, Eq)]
+#[derive(Clone, Copy)]
 pub(crate) enum Went {
     Ran,
     /// Nobody ran.
@@ -109,8 +111,8 @@ fn calls(keyed: Keyed) -> bool
 /// How a turn went that ended so.
 fn went_by(ending: Ending) -> Went
     ensures went { (pc : ℕ) → turned_at pc result ≡ turned_by (ending_at pc ending) false }
-    ensures goes { result ≡ Went.Ran → (pc : ℕ) → ending_at pc ending ≡ None }
-    ensures stops { result ≢ Went.Ran → (pc : ℕ) → is_some (ending_at pc ending) ≡ true }
+    ensures goes { result ≡ Went.Ran → (pc : ℕ) → ending_at pc ending ≡ AtEnd }
+    ensures stops { result ≢ Went.Ran → (pc : ℕ) → is_early (ending_at pc ending) ≡ true }
 {
     match ending {
         Ending::NoRoom => Went::NoRoom,

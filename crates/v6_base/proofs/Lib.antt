@@ -4,3 +4,4 @@ pub mod Formed
 pub mod LogRows
 mod Tapes
 pub mod Copies
+pub mod RunLemmas

@@ -3,6 +3,7 @@ pub mod Trace
 pub mod Image
 pub mod Access
 pub mod Words
+pub mod Runs
 pub mod Sizes
 pub mod Vectors
 pub mod Whole

@@ -2,7 +2,6 @@
 #![tactic(auto)]
 
 mod answer;
-mod copy;
 mod entry;
 mod errno;
 mod fixed;
@@ -14,10 +13,10 @@ mod vectors;
 mod whole;
 
 pub use answer::Answer;
-pub use copy::{copy_in, copy_out};
 pub use entry::{Chan, Entry, PanicKind, Pid, Place, Slot};
 pub use errno::Errno;
 pub use fixed::Fixed;
+pub use named::Named;
 pub use space::{Space, Trap};
 pub use tape::Tape;
 pub use trace::Trace;

@@ -1,4 +1,5 @@
-use Rattle.std.proofs.Common.{◌≡◌, ◌∙◌, [], ◌∷◌, Some, None, refl, ap}
+use Rattle.std.proofs.Common.{◌≡◌, ◌∙◌, [], ◌∷◌, Option, Some, None, ℕ, refl, ap}
+use Rattle.std.specs.Option.{unwrap_or}
 use Rattle.v6_base.specs.Trace.{Log}
 use Rattle.v6_base.specs.declared.entry.Chan.TheVariants.{Wait}
 use Rattle.v6_base.specs.declared.entry.Entry.TheVariants as line
@@ -9,14 +10,18 @@ use Rattle.pick_rules.specs.Effects.{Panicked}
 use Rattle.image_keep.specs.Kept.{area_of}
 use Rattle.image_keep.specs.Places.{with_grave_at}
 use Rattle.sys_procs.specs.declared.procs.Procs.{Procs}
-use Rattle.sys_procs.specs.Exit.{dies}
-use Rattle.sys_procs.specs.Handed.{came, board, handed}
+use Rattle.sys_procs.specs.Exit.{dies, slot_of}
+use Rattle.sys_procs.specs.Handed.{came, board, handed, process_here}
+use Rattle.sys_procs.proofs.Agreement.{no_text_of}
 use Rattle.sys_procs.proofs.Dones.{ended_logged}
 use Rattle.sys_procs.proofs.Ends.{DidEnd, end_state, end_board, end_agree, parent_is, logged_end, logged_no_end}
 use Rattle.sys_procs.proofs.exit.die.Given as given
 use Rattle.sys_procs.proofs.exit.die.Goals as goal
 
-did : (g : given.Over) (c : goal.After-end_row g) → DidEnd c.args.p.now c.end_row.new.p c.args.s c.in-Ok.block c.parent_slot-parent.result
+pub end-requires-clause-no_text : goal.end-requires-clause-no_text
+end-requires-clause-no_text g c = no_text_of c.args.p.now.images c.args.s c.requires.agree.no_text
+
+did : (g : given.Over) (c : goal.After-end_row g) → DidEnd c.args.p.now c.end_row.new.p c.args.s c.in-Ok.block c.slot_of-parent.result
 did g c = record {
   table = c.end_row.ensures.table;
   rows = c.end_row.ensures.rows;
@@ -25,28 +30,31 @@ did g c = record {
   switches = c.end_row.ensures.switches;
 }
 
+found : (g : given.Over) (c : goal.After-end_row g) (fs : FileSystem)
+    → c.slot_of-parent.result ≡ slot_of (handed c.args.p.now fs) (process_here c.args.p.now c.args.s).row.ppid
+found g c fs = parent_is c.args.p.now c.args.s c.slot_of-parent.result c.row-row.result fs c.see.ensures.rows.long c.row-row.ensures c.slot_of-parent.ensures
+
 ends : (g : given.Over) (c : goal.After-end_row g) (fs : FileSystem) → came c.args.p.now (dies (handed c.args.p.now fs) c.args.s) ≡ record {
-  items = Log (line.Exit c.args.s c.in-Ok.block) ∷ Log (line.Wake (Wait 1)) ∷ Log (line.Wake (Wait c.parent_slot-parent.result)) ∷ [];
-  board = applied (applied (applied (board c.args.p.now) (line.Exit c.args.s c.in-Ok.block)) (line.Wake (Wait 1))) (line.Wake (Wait c.parent_slot-parent.result));
+  items = Log (line.Exit c.args.s c.in-Ok.block) ∷ Log (line.Wake (Wait 1)) ∷ Log (line.Wake (Wait (unwrap_or c.slot_of-parent.result 1))) ∷ [];
+  board = applied (applied (applied (board c.args.p.now) (line.Exit c.args.s c.in-Ok.block)) (line.Wake (Wait 1))) (line.Wake (Wait (unwrap_or c.slot_of-parent.result 1)));
   stop = None;
 }
 ends g c fs =
-    logged_end c.args.p.now c.args.s c.parent_slot-parent.result fs c.requires.agree c.see.ensures.images.slots
-    (parent_is c.args.p.now c.args.s c.parent_slot-parent.result c.row-row.result fs c.see.ensures.rows.long c.row-row.ensures c.parent_slot-parent.ensures)
-    c.in-Ok.block c.in-Ok.ensures.block
+    logged_end c.args.p.now c.args.s c.slot_of-parent.result fs c.requires.agree c.see.ensures.images.slots
+    (found g c fs) c.in-Ok.block c.in-Ok.ensures.block
 
 pub returns-in-Ok-clause-does : goal.returns-in-Ok-clause-does
 returns-in-Ok-clause-does g c = λ fs.
     let p : Procs = c.args.p.now in
-    let parent = c.parent_slot-parent.result in
+    let parent = c.slot_of-parent.result in
     ended_logged (ends g c fs) refl
-    (end_state p c.end_row.new.p c.args.s c.in-Ok.block parent c.requires c.see.ensures.rows.long c.see.ensures.images.slots (did g c) fs)
+    (end_state p c.end_row.new.p c.args.s c.in-Ok.block parent c.requires c.see.ensures.rows.long c.see.ensures.images.slots (did g c) fs (found g c fs))
     (end_board p c.end_row.new.p c.args.s c.in-Ok.block parent c.requires c.see.ensures.rows.long c.see.ensures.images.slots (did g c))
     c.end_row.ensures.items
 
 pub returns-in-Ok-clause-agree : goal.returns-in-Ok-clause-agree
 returns-in-Ok-clause-agree g c =
-    end_agree c.args.p.now c.end_row.new.p c.args.s c.in-Ok.block c.parent_slot-parent.result c.requires c.see.ensures.rows.long c.see.ensures.images.slots (did g c)
+    end_agree c.args.p.now c.end_row.new.p c.args.s c.in-Ok.block c.slot_of-parent.result c.requires c.see.ensures.rows.long c.see.ensures.images.slots (did g c)
 
 -- No block is left.
 no_end : (g : given.Over) (c : goal.After-entry g) (fs : FileSystem) → came c.args.p.now (dies (handed c.args.p.now fs) c.args.s) ≡ record {
@@ -55,8 +63,8 @@ no_end : (g : given.Over) (c : goal.After-entry g) (fs : FileSystem) → came c.
   stop = Some (record { why = Panicked panic.Zombie; before = handed c.args.p.now fs });
 }
 no_end g c fs =
-    logged_no_end c.args.p.now c.args.s c.parent_slot-parent.result fs c.requires.agree c.see.ensures.images.slots
-    (parent_is c.args.p.now c.args.s c.parent_slot-parent.result c.row-row.result fs c.see.ensures.rows.long c.row-row.ensures c.parent_slot-parent.ensures)
+    logged_no_end c.args.p.now c.args.s c.slot_of-parent.result fs c.requires.agree c.see.ensures.images.slots
+    (parent_is c.args.p.now c.args.s c.slot_of-parent.result c.row-row.result fs c.see.ensures.rows.long c.row-row.ensures c.slot_of-parent.ensures)
     c.in-Err.ensures.block
 
 images_stay : (g : given.Over) (c : goal.After-entry g) → c.end.new.self ≡ c.args.p.now.images

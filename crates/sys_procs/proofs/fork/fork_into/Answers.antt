@@ -12,6 +12,7 @@ use Rattle.sys_procs.specs.Process.{Process, register}
 use Rattle.sys_procs.specs.World.{World, change}
 use Rattle.sys_procs.specs.Fork.{past_word, next_pid, with_child}
 use Rattle.sys_procs.specs.Handed.{IsAlive, board, handed, process_here}
+use Rattle.sys_procs.proofs.Agreement.{no_text_of}
 use Rattle.sys_procs.proofs.Slots.{fifty_processes}
 use Rattle.sys_procs.proofs.Alive.{calls_alive, is_here, no_text_here}
 use Rattle.sys_procs.proofs.Dones.{done_logged}
@@ -36,6 +37,14 @@ copy_image-place-requires-clause-slot g c =
 pub copy_image-place-requires-clause-nothing : goal.copy_image-place-requires-clause-nothing
 copy_image-place-requires-clause-nothing g c =
     (free_slot c.args.p.now c.args.s c.args.child (calls_alive c.args.p.now c.args.tree.now.nodes c.args.s c.requires.calls) c.requires.free).image
+
+pub copy_image-place-requires-clause-no_text : goal.copy_image-place-requires-clause-no_text
+copy_image-place-requires-clause-no_text g c =
+    no_text_of c.args.p.now.images c.args.s (calls_alive c.args.p.now c.args.tree.now.nodes c.args.s c.requires.calls).agree.no_text
+
+pub copy_image-place-requires-clause-no_text_there : goal.copy_image-place-requires-clause-no_text_there
+copy_image-place-requires-clause-no_text_there g c =
+    no_text_of c.args.p.now.images c.args.child (calls_alive c.args.p.now c.args.tree.now.nodes c.args.s c.requires.calls).agree.no_text
 
 pub copy_image-place-requires-clause-place : goal.copy_image-place-requires-clause-place
 copy_image-place-requires-clause-place g c =

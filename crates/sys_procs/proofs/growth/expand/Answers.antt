@@ -10,6 +10,7 @@ use Rattle.sys_procs.specs.Handed.{IsAlive, board, came, handed, process_here}
 use Rattle.v6_base.specs.Image.{nseg}
 use Rattle.u_area.specs.declared.area.UArea.{UArea}
 use Rattle.image_keep.specs.Growth.{most_clicks}
+use Rattle.sys_procs.proofs.Agreement.{no_text_of}
 use Rattle.sys_procs.proofs.Alive.{area_here}
 use Rattle.sys_procs.proofs.PlacingLemmas.{few_segments}
 use Rattle.sys_procs.proofs.Dones.{ended_logged}
@@ -30,6 +31,9 @@ resize-place-requires-clause-segments g c =
     let p : Procs = c.args.p.now in
     subst (λ (u : UArea). nseg u.text_size + nseg c.args.d + nseg c.args.stack ≤ 8) (sym (area_here p c.args.s c.requires.alive))
     (few_segments (process_here p c.args.s).u.text_size c.args.d c.args.stack (most_clicks p.images) c.requires.sizes)
+
+pub resize-place-requires-clause-no_text : goal.resize-place-requires-clause-no_text
+resize-place-requires-clause-no_text g c = no_text_of c.args.p.now.images c.args.s c.requires.alive.agree.no_text
 
 pub resize-place-requires-clause-place : goal.resize-place-requires-clause-place
 resize-place-requires-clause-place g c =

@@ -1,9 +1,10 @@
-use Rattle.std.proofs.Common.{◌≡◌, ◌+◌, Some, None, sym, ap, ◌∙◌}
+use Rattle.std.proofs.Common.{◌≡◌, ◌+◌, [], Some, None, sym, ap, ◌∙◌}
 use Rattle.std.specs.Option.{unwrap_or}
 use Rattle.v6_base.specs.declared.entry.Place.TheVariants.{Core}
 use Rattle.image_keep.specs.Kept.{Alive, with_keeping}
-use Rattle.image_keep.specs.Area.{sized_area}
-use Rattle.image_keep.specs.Places.{core_fit, placed, cleared, with_image_at}
+use Rattle.image_keep.specs.Area.{made_area}
+use Rattle.image_keep.specs.Places.{core_fit, placed, made_image, with_image_at}
+use Rattle.image_keep.proofs.PlaceFrames.{bare_moved}
 use Rattle.sys_procs.proofs.PlacingLemmas.{place_in_core}
 use Rattle.sys_procs.proofs.placing.new_image.Goals as goal
 
@@ -28,15 +29,23 @@ returns-clause-place c =
     ∙ (ap (placed c.args.images.now c.args.s) clicks ∙ place_in_core c.args.images.now c.args.s (16 + c.args.d + 20) c.requires.no_text c.requires.room) in
     cc same
 
+pub replace-requires-clause-text : goal.replace-requires-clause-text
+replace-requires-clause-text c = sym c.requires.no_text
+
+pub replace-requires-clause-text_size : goal.replace-requires-clause-text_size
+replace-requires-clause-text_size c = c.in-Ok.ensures.1
+
 pub returns-clause-images : goal.returns-clause-images
 returns-clause-images c =
     let proto = c.in-Ok.proto in
     c.replace.ensures.kept
-    ∙ (ap (with_image_at c.args.images.now c.args.s (sized_area proto.data_size proto.stack_size)
-    (cleared proto.data_size proto.stack_size))
+    ∙ bare_moved c.args.images.now c.args.s (made_area proto.text_size proto.data_size proto.stack_size) (made_image [] proto.data_size proto.stack_size)
+    (placed c.args.images.now c.args.s (16 + proto.data_size + proto.stack_size)) c.requires.no_text
+    ∙ (ap (with_image_at c.args.images.now c.args.s (made_area proto.text_size proto.data_size proto.stack_size)
+    (made_image [] proto.data_size proto.stack_size))
     c.in-Ok-replace.ensures.place
     ∙ (λ i. with_keeping c.args.images.now c.args.s (Alive (record {
-      u = sized_area (c.in-Ok.ensures.2 i) (c.in-Ok.ensures.3 i);
-      image = cleared (c.in-Ok.ensures.2 i) (c.in-Ok.ensures.3 i);
+      u = made_area (c.in-Ok.ensures.1 i) (c.in-Ok.ensures.2 i) (c.in-Ok.ensures.3 i);
+      image = made_image [] (c.in-Ok.ensures.2 i) (c.in-Ok.ensures.3 i);
       place = c.in-Ok-replace.place;
     }))))

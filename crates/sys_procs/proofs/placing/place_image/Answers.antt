@@ -21,6 +21,9 @@ use Rattle.sys_procs.proofs.PlacingLemmas.{first, room_is, log_placed, few_click
 use Rattle.sys_procs.proofs.placing.place_image.Given as given
 use Rattle.sys_procs.proofs.placing.place_image.Goals as goal
 
+pub bare-requires-clause-no_text : goal.bare-requires-clause-no_text
+bare-requires-clause-no_text g c = no_text_of c.args.p.now.images c.args.s c.requires.alive.agree.no_text
+
 pub new_image-place-requires-clause-no_text : goal.new_image-place-requires-clause-no_text
 new_image-place-requires-clause-no_text g c =
     ap (λ (k : Kept). text_of k c.args.s) c.bare.ensures ∙ no_text_of c.args.p.now.images c.args.s c.requires.alive.agree.no_text

@@ -1,4 +1,4 @@
-use Rattle.sys_procs.proofs.TestsNaming.{ends_referred}
+use Rattle.fs_tree.proofs.NamingLemmas.{ends_referred}
 use Rattle.sys_procs.proofs.tested.find_name.Goals as goal
 
 pub returns-clause-referenced : goal.returns-clause-referenced

@@ -13,9 +13,9 @@ use Rattle.sys_procs.proofs.times.put_bytes.Goals as goal
 
 -- the images after the loan
 abbrev now : goal.After-copy_out → Kept
-now c = c.copy_out.new.space.images.now
+now c = c.copy_out.new.self.images.now
 
-slot_is : (c : goal.After-copy_out) → c.copy_out.new.space.slot ≡ c.args.s
+slot_is : (c : goal.After-copy_out) → c.copy_out.new.self.slot ≡ c.args.s
 slot_is c = ap (λ (l : Lent). l.slot) c.copy_out.ensures.rest ∙ c.space-space.ensures.slot
 
 left : (c : goal.After-copy_out) → left_of (now c) c.args.s ≡ left_of c.args.p.now.images c.args.s

@@ -1,4 +1,4 @@
-use Rattle.std.proofs.Common.{◌≡◌, ◌∙◌, ℕ, [], ◌∷◌, get_or, ap, sym, refl}
+use Rattle.std.proofs.Common.{◌∙◌, ℕ, [], ◌∷◌, get_or, ap, sym, refl}
 use Rattle.v6_base.specs.Trace.{Log}
 use Rattle.v6_base.specs.declared.entry.Chan.TheVariants.{Tout}
 use Rattle.v6_base.specs.declared.entry.Entry.TheVariants.{Time, Wake}

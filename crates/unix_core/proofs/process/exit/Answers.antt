@@ -1,4 +1,4 @@
-use Rattle.std.proofs.Common.{◌≡◌, ◌∙◌, ℕ, length, refl, sym, ap, subst}
+use Rattle.std.proofs.Common.{◌≡◌, ◌∙◌, ◌<◌, ℕ, length, refl, sym, ap, subst}
 use Rattle.v6_base.specs.Trace.{Took}
 use Rattle.pick_rules.specs.declared.table.Table.{Table}
 use Rattle.pick_rules.specs.Table.{IsTable}
@@ -29,11 +29,13 @@ unix_then : (w new : World) (s : ℕ) (t : Table) → unix_of new ≡ with_hande
     → unix_of (with_table new t) ≡ with_handed (unix_of w) s (closes_all (unix_of w) s).state
 unix_then w new s t unix is = ap (λ t. unix_of (with_table new t)) is ∙ woken_unix new new.tape.entries ∙ unix
 
+slot_low : (w : World) (s : ℕ) → IsReady w s → s < length (unix_of w).processes
+slot_low w s ready = some_within (unix_of w).processes s (process_of (unix_of w) s) (slot_is w s ready)
+
 closed_then : (w w1 : World) (s : ℕ) → IsReady w s → IsReady w1 s → unix_of w1 ≡ with_handed (unix_of w) s (closes_all (unix_of w) s).state
     → (entry : ℕ) → times (process_of (unix_of w1) s).u.files entry ≡ 0
 closed_then w w1 s ready then unix entry =
-    let p : Process = process_of (unix_of w) s in
-    let low = some_within (unix_of w).processes s p (slot_is w s ready) in
+    let low = slot_low w s ready in
     let long : length (process_of (unix_of w1) s).u.files ≡ 15 =
     then.good.owed.fifteen s (told_of (process_of (unix_of w1) s)) (told_here w1 s then) in
     ap (λ (u : Unix). times (process_of u s).u.files entry) unix
@@ -56,7 +58,7 @@ returns-in-Ok-clause-come g c =
     let unix = unix_then w new s c.pass_on.new.table c.close_files.ensures.unix c.pass_on.ensures.table in
     let closed = closed_then w w1 s c.requires ready unix in
     let state = end_state w1 s ready _ c.exit_now.ensures.does.state in
-    exit_come w w1 now s ready c.see_nodes.ensures unix
+    exit_come w w1 now s ready (slot_low w s c.requires) c.see_nodes.ensures unix
     (ap (λ t. board_in (with_table new t)) c.pass_on.ensures.table ∙ shown_board w new s _ c.close_files.ensures.shown)
     (ended_unix w1 now s ready closed c.exit_now.ensures.agree state c.exit_now.ensures.does.shown refl (record { marks = c.exit_now.ensures.marks; line = refl; tape = refl; core = refl }))
     c.exit_now.ensures.does.shown
@@ -81,7 +83,7 @@ returns-in-Ok-clause-items g c =
     let w1 : World = with_table new c.pass_on.new.table in
     let s = c.args.s in
     let ready = ready_then new s c.pass_on.new.table c.close_files.ensures.shown.ready c.pass_on.ensures.table c.pass_on.ensures.good in
-    exit_took w w1 w1 s ready c.see_nodes.ensures
+    exit_took w w1 w1 s ready (slot_low w s c.requires) c.see_nodes.ensures
     (ap (λ t. unix_of (with_table new t)) c.pass_on.ensures.table ∙ woken_unix new new.tape.entries ∙ c.close_files.ensures.unix)
     (ap (λ t. board_in (with_table new t)) c.pass_on.ensures.table ∙ shown_board w new s _ c.close_files.ensures.shown)
     _ _ _ (subst (λ l. Took (g.T.Trace.taken c.args.trace.now) l (g.T.Trace.taken c.pass_on.new.trace)) c.close_files.ensures.shown.shown c.pass_on.ensures.items)

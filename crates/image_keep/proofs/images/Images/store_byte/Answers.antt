@@ -1,19 +1,19 @@
-use Rattle.std.proofs.Common.{sym, ap, subst, refl, ◌∙◌}
-use Rattle.v6_base.specs.Image.{Image}
-use Rattle.v6_base.specs.Whole.{whole_image}
-use Rattle.v6_base.specs.Access.{store_byte}
-use Rattle.image_keep.specs.Kept.{HasSizes}
-use Rattle.image_keep.proofs.RowLemmas.{row_stored}
-use Rattle.image_keep.proofs.StoreLemmas.{sizes_after_byte, text_after_byte}
+use Rattle.std.proofs.Common.{◌∙◌, sym, ap}
+use Rattle.std.proofs.lemmas.Bool.{false≢true}
+use Rattle.v6_base.specs.declared.space.Trap.TheVariants.{Segment}
+use Rattle.v6_base.specs.Access.{store_byte, image_after, answer_of}
+use Rattle.image_keep.specs.Kept.{image_of, with_image}
+use Rattle.image_keep.proofs.Words.{refused_kept, byte_is, byte_refused, byte_stored}
 use Rattle.image_keep.proofs.images.Images.store_byte.Goals as goal
 
-pub invariant_of-row : goal.invariant_of-row
-invariant_of-row c = record {
-  sized = subst (HasSizes c.index_mut-row.result.now.u) (sym c.store_byte.ensures.image) (sizes_after_byte c.index_mut-row.result.now.u (whole_image c.index_mut-row.result.now.memory) c.args.at c.args.value c.index_mut-row.result.now.sized);
-  no_text = ap (λ (m : Image). m.text) c.store_byte.ensures.image ∙ text_after_byte (whole_image c.index_mut-row.result.now.memory) c.args.at c.args.value c.index_mut-row.result.now.no_text;
-}
+pub returns-then-not-is_storable-clause-answer : goal.returns-then-not-is_storable-clause-answer
+returns-then-not-is_storable-clause-answer c = sym (ap answer_of (byte_refused (image_of c.args.self.now c.args.s) c.args.at c.args.value c.find-named.result c.find-named.ensures.named (λ s. false≢true (sym c.if-not-is_storable.true ∙ c.is_storable.ensures.1 s))))
+
+pub returns-then-not-is_storable-clause-kept : goal.returns-then-not-is_storable-clause-kept
+returns-then-not-is_storable-clause-kept c = refused_kept c.args.self.now c.args.s (store_byte (image_of c.args.self.now c.args.s) c.args.at c.args.value) Segment (byte_refused (image_of c.args.self.now c.args.s) c.args.at c.args.value c.find-named.result c.find-named.ensures.named (λ s. false≢true (sym c.if-not-is_storable.true ∙ c.is_storable.ensures.1 s)))
+
+pub returns-clause-answer : goal.returns-clause-answer
+returns-clause-answer c = byte_stored (image_of c.args.self.now c.args.s) c.args.at c.args.value c.find-named.result c.find-named.ensures.named (c.is_storable.ensures.0 c.if-not-is_storable.false)
 
 pub returns-clause-kept : goal.returns-clause-kept
-returns-clause-kept c =
-    row_stored c.self.inside.rows.items c.self.inside.core c.args.slot c.index_mut-row.result.now _ c.args.self.now (λ m. store_byte m c.args.at c.args.value)
-    c.index_mut-row.ensures.value refl refl c.self.view_is c.requires c.store_byte.ensures.image
+returns-clause-kept c = c.put_byte.ensures.kept ∙ ap (λ r. with_image c.args.self.now c.args.s (image_after (image_of c.args.self.now c.args.s) r)) (sym (byte_is (image_of c.args.self.now c.args.s) c.args.at c.args.value c.find-named.result c.find-named.ensures.named))

@@ -2,8 +2,8 @@ use Rattle.std.proofs.Common.{◌∙◌, sym, ap, subst, arith}
 use Rattle.v6_base.specs.Image.{IsImage}
 use Rattle.v6_base.specs.Access.{store_word, image_after}
 use Rattle.v6_base.proofs.Formed.{formed_after_word}
-use Rattle.image_keep.specs.Kept.{keeping, is_alive, image_of}
-use Rattle.image_keep.proofs.Frames.{with_image_alive, with_image_same}
+use Rattle.image_keep.specs.Kept.{image_of}
+use Rattle.image_keep.proofs.Frames.{with_image_same}
 use Rattle.image_keep.proofs.loan.SpaceOfSpace.store_word.Goals as goal
 
 pub invariant_of-self : goal.invariant_of-self
@@ -12,8 +12,8 @@ invariant_of-self c =
     let slot = c.args.self.now.slot in
     let m = image_after (image_of old slot) (store_word (image_of old slot) c.args.at c.args.value) in
     record {
-      alive = ap (λ k. is_alive (keeping k slot)) c.store_word.ensures.kept ∙ with_image_alive old slot slot m ∙ c.args.self.now.alive;
+      are = c.store_word.ensures.starts;
       formed =
-          subst IsImage (sym (ap (λ k. image_of k slot) c.store_word.ensures.kept ∙ with_image_same old slot m c.args.self.now.alive))
+          subst IsImage (sym (ap (λ k. image_of k slot) c.store_word.ensures.kept ∙ with_image_same old slot m c.args.self.now.are.alive))
           (formed_after_word (image_of old slot) c.args.at c.args.value (omega arith) c.args.self.now.formed);
     }

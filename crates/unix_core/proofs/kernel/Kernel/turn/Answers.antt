@@ -8,7 +8,8 @@ use Rattle.sys_procs.specs.Process.{Process, register}
 use Rattle.unix_core.specs.declared.world.World.{World}
 use Rattle.unix_core.specs.declared.machine.Stage.{Stage}
 use Rattle.unix_core.specs.declared.machine.Stage.TheVariants as stage
-use Rattle.abstract_unix.specs.Unix.{System, SystemOnDisk, phase_after}
+use Rattle.abstract_unix.specs.Unix.{System, SystemOnDisk}
+use Rattle.abstract_unix.specs.Endings.{phase_after}
 use Rattle.abstract_unix.specs.Turn.{Turn, turned}
 use Rattle.abstract_unix.specs.Runs.{Slot, event_of}
 use Rattle.unix_core.specs.Parts.{turned_at, system_at, phase_of, HasStepped, IsKernel, IsPaused, IsUser}

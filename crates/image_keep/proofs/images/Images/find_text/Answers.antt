@@ -1,0 +1,10 @@
+use Rattle.std.proofs.Common.{◌∙◌}
+use Rattle.image_keep.specs.Inside.{stock_in}
+use Rattle.image_keep.proofs.TextSearch.{found_is, finds_text}
+use Rattle.image_keep.proofs.images.Images.find_text.Goals as goal
+
+pub returns-clause-text : goal.returns-clause-text
+returns-clause-text c = c.find.ensures.text ∙ found_is (stock_in c.self.inside) c.args.self.now c.args.ino c.self.view_is
+
+pub returns-clause-words : goal.returns-clause-words
+returns-clause-words c = finds_text (stock_in c.self.inside) c.args.self.now c.args.ino c.find.result c.self.view_is c.find.ensures.words
