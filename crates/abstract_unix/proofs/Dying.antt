@@ -1,5 +1,5 @@
 -- exit(II): a process that has closed its files names none, and what is owed when it has ended.
-use Rattle.std.proofs.Common.{◌≡◌, ◌<◌, ◌+◌, ◌-◌, ◌∙◌, ℕ, zero, suc, Bool, true, false, cond, ◌==◌, if◌then◌else◌, List, [], ◌∷◌, ◌++◌, length, get_or, set, map, fold, Option, Some, None, slice_index, refl, sym, ap, subst, inl, inr, arith}
+use Rattle.std.proofs.Common.{◌≡◌, ◌<◌, ◌+◌, ◌-◌, ◌∙◌, ℕ, zero, suc, Bool, true, false, cond, is_none, ◌==◌, if◌then◌else◌, List, [], ◌∷◌, ◌++◌, length, get_or, set, map, fold, Option, Some, None, slice_index, refl, sym, ap, subst, inl, inr, arith}
 use Rattle.std.proofs.lemmas.Bool.{cases_lt, cases_eq, ne_eqb, eq-eqb, eqb-true}
 use Rattle.std.proofs.lemmas.List.{get_or_past, get_or-set_same, get_or-set_other, map-set, set-set}
 use Rattle.open_files.specs.declared.file.OpenFile.{OpenFile}
@@ -10,10 +10,11 @@ use Rattle.fs_tree.specs.Finding.{put_back}
 use Rattle.sys_files.specs.Handed.{Handed}
 use Rattle.sys_files.specs.Descriptors.{Closing, released, dropped, closes, then_closes, close_all}
 use Rattle.sys_files.specs.Descriptors as closing
+use Rattle.std.specs.List.{range_with_len}
 use Rattle.sys_files.proofs.ClosingLemmas.{closed_below, below_more, below_all}
 use Rattle.sys_procs.specs.Process.{Process}
 use Rattle.sys_procs.specs.World.{World, process_of}
-use Rattle.sys_procs.specs.Exit.{adopted, ended, leaves, dead}
+use Rattle.sys_procs.specs.Exit.{slot_of, adopted, ended, leaves, dead}
 use Rattle.abstract_unix.specs.Whole.{Told, told_of, told_by, told_in, names, stands, Owes}
 use Rattle.abstract_unix.proofs.Owing.{told_at, some_within, names_set, stand_set, dir_referred, fifteen_set}
 
@@ -85,6 +86,26 @@ put_refs l d ino some =
           omega (arith, same, none)
     ]
 
+-- Closing files changes no register.
+released_registers : (h : Handed) (told : Closed) → (released h told).state.u.r ≡ h.u.r
+released_registers h (Still file) = refl
+released_registers h (Last file) = refl
+
+then_registers : (c : Closing) (fd : ℕ) → (then_closes c fd).state.u.r ≡ c.state.u.r
+then_registers c fd = by (slice_index c.state.u.files fd == 0)
+  where
+    by : (b : Bool) → (cond b c (let next : Closing = closes c.state fd in record { state = next.state; items = c.items ++ next.items })).state.u.r ≡ c.state.u.r
+    by true = refl
+    by false = released_registers (dropped c.state fd) (closing.told_by c.state fd)
+
+all_registers : (c : Closing) (fds : List ℕ) → (fold then_closes c fds).state.u.r ≡ c.state.u.r
+all_registers c [] = refl
+all_registers c (fd ∷ fds) = all_registers (then_closes c fd) fds ∙ then_registers c fd
+
+pub closed_registers : (h : Handed) → (close_all h).state.u.r ≡ h.u.r
+unfolding close_all
+closed_registers h = all_registers (record { state = h; items = [] }) (range_with_len 0 15)
+
 -- Who is adopted is told as before.
 adopted_told : (pid : ℕ) (o : Option Process) → told_by (adopted pid o) ≡ told_by o
 adopted_told pid None = refl
@@ -98,13 +119,19 @@ told_adopted : (pid : ℕ) (ps : List (Option Process)) → told_in (map (adopte
 told_adopted pid [] = refl
 told_adopted pid (o ∷ ps) = rw (adopted_told pid o, told_adopted pid ps) refl
 
+told_strays : (b : Bool) (ppid : ℕ) (ps : List (Option Process)) → told_in (cond b (map (adopted ppid) ps) ps) ≡ told_in ps
+told_strays true ppid ps = told_adopted ppid ps
+told_strays false ppid ps = refl
+
 -- A process that has closed its files ends, in any world.
 module _ (w : World) (s status : ℕ) where
   -- it is told no more
   pub told_ended : told_in (dead (leaves w s status) s).processes ≡ set (told_in w.processes) s None
   told_ended =
       let z : Process = record (process_of (leaves w s status) s) { is_zombie = true; «data» = []; stack = [] } in
+      let ppid = (process_of (leaves w s status) s).row.ppid in
       told_adopted (process_of (leaves w s status) s).row.pid _
+      ∙ told_strays (is_none (slot_of (leaves w s status) ppid)) ppid _
       ∙ map-set told_by _ s (Some z)
       ∙ ap (λ l. set l s None) (map-set told_by w.processes s (Some (ended status (process_of w s))))
       ∙ set-set (told_in w.processes) s _ _

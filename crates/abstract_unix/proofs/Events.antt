@@ -12,7 +12,9 @@ use Rattle.pick_rules.specs.Table.{row_at, is_ready, is_loaded, is_in_core}
 use Rattle.pick_rules.specs.Choice.{settle}
 use Rattle.pick_rules.specs.Board.{Board}
 use Rattle.pick_rules.specs.Apply.{applied}
-use Rattle.pick_rules.specs.Effects.{Effect, Show, Size, Fork, Text, Image, Exit, came}
+use Rattle.v6_base.specs.declared.entry.PanicKind.{PanicKind}
+use Rattle.v6_base.specs.declared.entry.PanicKind.TheVariants as panic
+use Rattle.pick_rules.specs.Effects.{Effect, Show, Size, Fork, Text, Image, Exit, kind_of, came}
 use Rattle.pick_rules.specs.Logged.{Stop, Logged, log_one, logged, left_by}
 use Rattle.pick_rules.specs.Swapper.{Waits, candidate, move_for, swap_move}
 use Rattle.pick_rules.specs.Lawful.{Seen, FitAll, seen_after}
@@ -24,10 +26,12 @@ use Rattle.log_laws.proofs.Seats.{Seat, Seats, seat_at, stands, rule_of, AgreesA
 use Rattle.log_laws.proofs.Settles.{Settled, IsSettled, settling}
 use Rattle.log_laws.proofs.Passes.{Moves, pass_ends}
 use Rattle.sys_procs.specs.Process.{register}
-use Rattle.abstract_unix.specs.declared.turned.Unbuilt.{Unbuilt}
+use Rattle.abstract_unix.specs.declared.ends.Ends as run
+use Rattle.abstract_unix.specs.declared.ends.Ends.TheVariants as ends
+use Rattle.abstract_unix.specs.declared.ends.Ends.TheVariants.{AtEnd}
 use Rattle.abstract_unix.specs.Unix.{Unix, System, process_of}
 use Rattle.abstract_unix.specs.Steps.{Steps}
-use Rattle.abstract_unix.specs.Turn.{Turn, happens, settled_after, end_effects, ending_at, ending_by, settled_as, settled, turn_of, pass_effects, pass_of, slot_of}
+use Rattle.abstract_unix.specs.Turn.{Turn, happens, settled_after, end_effects, ending_at, unmet, ending_by, settled_as, settled, turn_of, pass_effects, pass_of, slot_of}
 use Rattle.abstract_unix.proofs.Sitting.{is_core, seats_of}
 use Rattle.abstract_unix.proofs.Steps.{GoesOn, AptSteps}
 use Rattle.abstract_unix.proofs.Turning.{turn_apt}
@@ -42,9 +46,9 @@ pub record Stands (m : System) (seen : Seen) : Type 0 where
   pub holds : Holds (seats_of m.unix) seen
 
 -- lines that fit, and, where the run goes on after them, the system then
-pub record Fine (seen : Seen) (items : List Item) (m : System) (ending : Option Unbuilt) : Type 0 where
+pub record Fine (seen : Seen) (items : List Item) (m : System) (ending : run.Ends) : Type 0 where
   pub fit : FitAll seen (entries_of items)
-  pub stands : ending ≡ None → Stands m (seen_items seen items)
+  pub stands : ending ≡ AtEnd → Stands m (seen_items seen items)
 
 abbrev pub FineTurn : Seen → Turn → Type 0
 FineTurn seen t = Fine seen t.items t.next t.ending
@@ -58,11 +62,11 @@ module _ (u : Unix) (first : Seen) (l : Logged Unix) (fit : FitAll first (entrie
   abbrev next : Board → System
   next b = record { unix = u; board = b }
 
-  rests_fine : Holds (seats_of u) now → Fine first l.items (next l.board) None
+  rests_fine : Holds (seats_of u) now → Fine first l.items (next l.board) AtEnd
   rests_fine h = record { fit = fit; stands = λ e. record { board = board; holds = h } }
 
   chosen_fine : (e : Entry) → settle now.board.table ≡ Some e → Settled (seats_of u) now e
-      → Fine first (l.items ++ Log e ∷ []) (next (applied l.board e)) None
+      → Fine first (l.items ++ Log e ∷ []) (next (applied l.board e)) AtEnd
   unfolding FitAll
   chosen_fine e f s =
       let after : seen_items first (l.items ++ Log e ∷ []) ≡ seen_after now e = seen_append first l.items (Log e ∷ []) in
@@ -74,17 +78,17 @@ module _ (u : Unix) (first : Seen) (l : Logged Unix) (fit : FitAll first (entrie
         };
       }
 
-  settled_fine : Fine first (l.items ++ (settled l.board).items) (next (settled l.board).board) None
-  settled_fine = subst (λ b. Fine first (l.items ++ (settled_as (settle b.table) l.board).items) (next (settled_as (settle b.table) l.board).board) None) board
+  settled_fine : Fine first (l.items ++ (settled l.board).items) (next (settled l.board).board) AtEnd
+  settled_fine = subst (λ b. Fine first (l.items ++ (settled_as (settle b.table) l.board).items) (next (settled_as (settle b.table) l.board).board) AtEnd) board
       (by (settle now.board.table) refl (settling (seats_of u) now p))
     where
       by : (o : Option Entry) → settle now.board.table ≡ o → IsSettled (seats_of u) now o
-          → Fine first (l.items ++ (settled_as o l.board).items) (next (settled_as o l.board).board) None
+          → Fine first (l.items ++ (settled_as o l.board).items) (next (settled_as o l.board).board) AtEnd
       by None f s = rw (append-nil l.items) (rests_fine s)
       by (Some e) f s = chosen_fine e f s
 
   pub settles_fine : l.stop ≡ None → FineTurn first (settled_after (happens u l))
-  settles_fine stop = subst (λ x. Fine first (l.items ++ (settled l.board).items) (record { unix = x; board = (settled l.board).board }) None)
+  settles_fine stop = subst (λ x. Fine first (l.items ++ (settled l.board).items) (record { unix = x; board = (settled l.board).board }) AtEnd)
       (sym (ap (λ o. left_by o u) stop)) settled_fine
 
 -- effects that name no place don't panic
@@ -126,10 +130,15 @@ event_by u v seen es a stop =
     settles_fine v seen l f.fit f.board (ends_none (Paused (seats_of v)) l.stop (seen_items seen l.items) stop f.ends) stop
 
 -- A turn.
-stops : (pc : ℕ) (o : Option (Stop Unix)) (steps : Steps) → ending_by pc o steps.ending ≡ None
-    → (o ≡ None) × (ending_at pc steps.ending ≡ None)
+stops : (pc : ℕ) (o : Option (Stop Unix)) (steps : Steps) → ending_by pc o steps.ending ≡ AtEnd
+    → (o ≡ None) × (ending_at pc steps.ending ≡ AtEnd)
 stops pc None steps e = (refl, e)
-stops pc (Some stop) steps e = absurd (cc e)
+stops pc (Some stop) steps e = absurd (never (kind_of stop.why) e)
+  where
+    never : (kind : PanicKind) → unmet pc kind ≡ AtEnd → ⊥
+    never panic.Swap e = cc e
+    never panic.Zombie e = cc e
+    never panic.Text e = cc e
 
 turned_fine : (s : ℕ) (u : Unix) (seen : Seen) (steps : Steps) → AptSteps s seen steps
     → FineTurn seen (settled_after (turn_of (system_at u seen) s steps))
@@ -150,12 +159,12 @@ turned_fine s u seen steps a = by (ending_by pc l.stop steps.ending) refl
     f : Fitted Goes seen l
     f = apt_fits Goes seen es a.apt
 
-    by : (o : Option Unbuilt) → ending_by pc l.stop steps.ending ≡ o
+    by : (o : run.Ends) → ending_by pc l.stop steps.ending ≡ o
         → FineTurn seen (settled_after (record (happens steps.unix l) { ending = o }))
-    by None e =
+    by AtEnd e =
         let k = stops pc l.stop steps e in
         settles_fine steps.unix seen l f.fit f.board (ends_none Goes l.stop (seen_items seen l.items) k.0 f.ends pc k.1) k.0
-    by (Some place) e = record { fit = f.fit; stands = λ x. absurd (cc x) }
+    by (ends.NotBuilt place) e = record { fit = f.fit; stands = λ x. absurd (cc x) }
 
 -- The pass of process 0: no image is out of core.
 loaded_by : (v : Seats) (seen : Seen) (s : ℕ) → v.may ≡ is_core → Agrees 0 v seen.board → Lives seen.board.table s

@@ -1,5 +1,5 @@
 -- exit(II): its effects are apt, and so are those of the calls on files.
-use Rattle.std.proofs.Common.{◌≡◌, ◌∙◌, ◌*◌, ◌%◌, ◌==◌, ◌≤◌, ℕ, not, Bool, true, false, cond, List, [], ◌∷◌, ◌++◌, append-nil, map, Option, Some, None, unwrap_or, refl, sym, ap, subst, arith}
+use Rattle.std.proofs.Common.{◌≡◌, ◌∙◌, ◌==◌, ◌≤◌, ℕ, not, Bool, true, false, cond, is_none, List, [], ◌∷◌, ◌++◌, append-nil, map, Option, Some, None, unwrap_or, refl, sym, ap, subst, arith}
 use Rattle.std.proofs.lemmas.Bool.{eqb-true}
 use Rattle.v6_base.specs.Trace.{Item, Byte, Log}
 use Rattle.v6_base.specs.declared.answer.Answer.{Answer}
@@ -23,15 +23,15 @@ use Rattle.log_laws.proofs.Deaths.{with_own, exit_apt}
 use Rattle.sys_files.specs.Handed.{Handed}
 use Rattle.sys_files.specs.Did.{Did}
 use Rattle.sys_files.specs.Descriptors.{Closing}
-use Rattle.sys_procs.specs.Process.{Process, register}
+use Rattle.sys_procs.specs.Process.{Process}
 use Rattle.sys_procs.specs.World.{World, process_of, members}
 use Rattle.sys_procs.specs.Comes.{Comes}
 use Rattle.sys_procs.proofs.Ends.{end_alone}
-use Rattle.sys_procs.specs.Exit.{leaves, parent_slot, adopted, dead, dies, end_proc, exit_now}
+use Rattle.sys_procs.specs.Exit.{leaves, slot_of, parent_slot, adopted, dead, dies, end_proc}
 use Rattle.abstract_unix.specs.declared.ending.Ending.TheVariants.{Ended}
 use Rattle.abstract_unix.specs.Unix as unix
 use Rattle.abstract_unix.specs.Unix.{Unix}
-use Rattle.abstract_unix.specs.Calls.{handed_of, with_handed, world_of, with_world, did_by, closes_all, exits}
+use Rattle.abstract_unix.specs.Calls.{handed_of, with_handed, world_of, with_world, did_by, closes_all, exits_with}
 use Rattle.abstract_unix.proofs.Sitting.{seat_for, seat_of, seats_here, seats_of, runner_seat, runner_alive, runner_text, put_in, changed_in, kept_in}
 use Rattle.abstract_unix.proofs.Steps.{AptSteps, Answered, ends_in, apt_lifted, answers_apt}
 use Rattle.abstract_unix.proofs.Quiet.{AreQuiet, SameSize, SameCall, EndsIn, Calm, CalmClosing, close_all_calm}
@@ -109,6 +109,11 @@ module _ (s : ℕ) where
   adopted_seats pid [] = refl
   adopted_seats pid (o ∷ processes) = rw (adopted_seat pid o, adopted_seats pid processes) refl
 
+  strays_seats : (b : Bool) (ppid : ℕ) (processes : List (Option Process))
+      → map seat_of (cond b (map (adopted ppid) processes) processes) ≡ map seat_of processes
+  strays_seats true ppid processes = adopted_seats ppid processes
+  strays_seats false ppid processes = refl
+
   -- its seat
   abbrev grave : World → Seat
   grave w =
@@ -117,7 +122,9 @@ module _ (s : ℕ) where
   dead_is : (w : World)
       → seats_here (dead w s) ≡ with_own s (seats_here w) (grave w)
   dead_is w =
-      ap (λ slots. record (seats_here w) { slots = slots }) (adopted_seats (process_of w s).row.pid _)
+      let ppid = (process_of w s).row.ppid in
+      ap (λ slots. record (seats_here w) { slots = slots })
+      (adopted_seats (process_of w s).row.pid _ ∙ strays_seats (is_none (slot_of w ppid)) ppid _)
       ∙ put_in w.processes w.clock w.texts s (record (process_of w s) { is_zombie = true; «data» = []; stack = [] })
 
   -- its parent's slot
@@ -125,7 +132,7 @@ module _ (s : ℕ) where
   unfolding lowest
   parent_range w ppid = by (ppid == 0) (lowest (passes (has_pid ppid)) (members w)) refl
     where
-      by : (x : Bool) (o : Option ℕ) → lowest (passes (has_pid ppid)) (members w) ≡ o → cond x 0 (unwrap_or o 1) ≤ 49
+      by : (x : Bool) (o : Option ℕ) → lowest (passes (has_pid ppid)) (members w) ≡ o → unwrap_or (cond x (Some 0) o) 1 ≤ 49
       by true o e = omega arith
       by false None e = omega arith
       by false (Some c) e = let l = (found_in (λ k. passes (has_pid ppid) (member_at (members w) k)) 1 49 c e).below in omega (arith, l)
@@ -165,9 +172,8 @@ module _ (s : ℕ) where
       subst (λ (c : Comes). Apt (Paused (seats_here c.state)) seen c.effects) (sym (end_alone w s status alone))
       (dies_apt (leaves w s status) seen (kept_in w.processes w.clock w.texts s false seen _ i refl refl refl refl))
 
-  pub exits_apt : (u : Unix) (seen : Seen) → Calling s (world_of u) seen → AptSteps s seen (exits u s)
-  unfolding exit_now
-  exits_apt u seen i = ends_in s seen (exits u s).unix (exits u s).effects Ended by
+  pub exits_apt : (u : Unix) (seen : Seen) (status : ℕ) → Calling s (world_of u) seen → AptSteps s seen (exits_with u s status)
+  exits_apt u seen status i = ends_in s seen (exits_with u s status).unix (exits_with u s status).effects Ended by
     where
       closed : Closing
       closed = closes_all u s
@@ -177,9 +183,6 @@ module _ (s : ℕ) where
 
       now : Unix
       now = with_handed u s closed.state
-
-      status : ℕ
-      status = 256 * (register (process_of (world_of now) s) 0 % 256)
 
       c : Comes
       c = end_proc (world_of now) s status

@@ -24,10 +24,13 @@ use Rattle.pick_rules.proofs.Shapes.{shape_at, Sleeps}
 use Rattle.log_laws.proofs.Fitting.{fit_items, fit_item, seen_append, seen_items, Apt}
 use Rattle.log_laws.proofs.Seats.{Seat, seat_at, rule_of, AgreesAt, Agrees, Paused, Holds}
 use Rattle.log_laws.proofs.Settles.{end_fits}
-use Rattle.abstract_unix.specs.declared.turned.Unbuilt.{Unbuilt}
+use Rattle.abstract_unix.specs.declared.ends.Ends as run
+use Rattle.abstract_unix.specs.declared.ends.Ends.TheVariants as ends
+use Rattle.abstract_unix.specs.declared.ends.Ends.TheVariants.{AtEnd}
+use Rattle.abstract_unix.specs.Endings.{last_line}
 use Rattle.abstract_unix.specs.Unix.{Unix, System, no_texts}
 use Rattle.abstract_unix.specs.Turn.{Turn, settled_after, pass_effects, pass_of}
-use Rattle.abstract_unix.specs.Runs.{first_unix, system_with, Event, Slot, Tick, Byte, Switch, event_of, Course, goes_on_by, unless_ended, after_event, end_items, course, started, boots}
+use Rattle.abstract_unix.specs.Runs.{first_unix, system_with, Event, Slot, Tick, Byte, Switch, event_of, Course, goes_on_by, unless_ended, after_event, course, started, boots}
 use Rattle.abstract_unix.specs.Law.{log_of, LogsAreLawful}
 use Rattle.abstract_unix.proofs.Sitting.{seats_of}
 use Rattle.abstract_unix.proofs.Events.{system_at, Stands, Fine, FineTurn, shown_stop, event_by, slot_fine}
@@ -67,9 +70,9 @@ event_goes c e f = by c.ending refl
     at_lines h = subst (λ b. FineTurn now (event_of e (record { unix = c.system.unix; board = b }))) h.board
         (event_fine e c.system.unix now h.holds)
 
-    by : (o : Option Unbuilt) → c.ending ≡ o → FineCourse (unless_ended o c e)
-    by None n = further c (event_of e c.system) f.fit (at_lines (f.stands n))
-    by (Some place) n = f
+    by : (o : run.Ends) → c.ending ≡ o → FineCourse (unless_ended o c e)
+    by AtEnd n = further c (event_of e c.system) f.fit (at_lines (f.stands n))
+    by (ends.NotBuilt place) n = f
 
 course_fine : (events : List Event) (c : Course) → FineCourse c → FineCourse (course c events)
 course_fine [] c f = f
@@ -134,17 +137,17 @@ module _ (c : Course) (f : FineCourse c) where
   unfolding FitAll
   log_fits = by c.ending refl
     where
-      by : (o : Option Unbuilt) → c.ending ≡ o → FitAll nothing_seen (entries_of (c.items ++ end_items o))
-      by None e =
+      by : (o : run.Ends) → c.ending ≡ o → FitAll nothing_seen (entries_of (c.items ++ last_line o))
+      by AtEnd e =
           fit_item nothing_seen c.items (Log line.End) f.fit (end_fits (seats_of c.system.unix) (seen_items nothing_seen c.items) (f.stands e).holds, tt)
-      by (Some place) e = rw (append-nil c.items) f.fit
+      by (ends.NotBuilt place) e = rw (append-nil c.items) f.fit
 
-  log_ends : c.ending ≡ None → (seen_of (log_of c)).stage ≡ Over
+  log_ends : c.ending ≡ AtEnd → (seen_of (log_of c)).stage ≡ Over
   log_ends e =
-      ap (λ o. (seen_of (entries_of (c.items ++ end_items o))).stage) e
+      ap (λ o. (seen_of (entries_of (c.items ++ last_line o))).stage) e
       ∙ ap (λ s. s.stage) (seen_append nothing_seen c.items (Log line.End ∷ []))
 
-  log_lawful : FitAll nothing_seen (log_of c) × (c.ending ≡ None → Lawful (log_of c))
+  log_lawful : FitAll nothing_seen (log_of c) × (c.ending ≡ AtEnd → Lawful (log_of c))
   log_lawful = (log_fits, λ e. record { fit = log_fits; over = log_ends e })
 
 -- the time of an image's super-block is two words of its bytes
@@ -174,12 +177,12 @@ pub logs_are_lawful : LogsAreLawful
 logs_are_lawful image core events c are low high e = by (boots image core) refl e
   where
     by : (o : Option System) → boots image core ≡ o → option_map (λ m. course (started m) events) o ≡ Some c
-        → FitAll nothing_seen (log_of c) × (c.ending ≡ None → Lawful (log_of c))
+        → FitAll nothing_seen (log_of c) × (c.ending ≡ AtEnd → Lawful (log_of c))
     by None f g = absurd (cc g)
     by (Some m) f g =
         let store : Store = store_of (disk_of image) in
         let is : course (started (system_with store core)) events ≡ c =
         ap (λ n. course (started n) events) (boots_is image core m f) ∙ cc g in
         let fine : FineCourse (started (system_with store core)) = started_fine store core low high (stamp_in_range image are) in
-        subst (λ c. FitAll nothing_seen (log_of c) × (c.ending ≡ None → Lawful (log_of c))) is
+        subst (λ c. FitAll nothing_seen (log_of c) × (c.ending ≡ AtEnd → Lawful (log_of c))) is
         (log_lawful (course (started (system_with store core)) events) (course_fine events (started (system_with store core)) fine))

@@ -1,6 +1,6 @@
 -- How a run over a list of events is made of runs over its parts, and what it may end at.
 use Rattle.std.specs.Bool.{⊤}
-use Rattle.std.proofs.Common.{◌≡◌, ℕ, zero, suc, cond, subst, Bool, true, false, List, [], ◌∷◌, ◌++◌, Option, Some, None, refl, sym, ◌∙◌, ap, append_assoc}
+use Rattle.std.proofs.Common.{◌≡◌, ◌≢◌, ℕ, zero, suc, cond, subst, Bool, true, false, List, [], ◌∷◌, ◌++◌, Option, Some, None, refl, sym, ◌∙◌, ap, append_assoc}
 use Rattle.std.proofs.lemmas.List.{append-nil}
 use Rattle.v6_base.specs.Trace.{Item}
 use Rattle.v6_base.specs.declared.entry.PanicKind.{PanicKind}
@@ -10,6 +10,9 @@ use Rattle.pick_rules.specs.Logged.{Stop, logged}
 use Rattle.sys_procs.specs.Process.{register}
 use Rattle.abstract_unix.specs.declared.ending.Ending.{Ending}
 use Rattle.abstract_unix.specs.declared.ending.Ending.TheVariants as came
+use Rattle.abstract_unix.specs.declared.ends.Ends.{Ends}
+use Rattle.abstract_unix.specs.declared.ends.Ends.TheVariants as ends
+use Rattle.abstract_unix.specs.declared.ends.Ends.TheVariants.{AtEnd}
 use Rattle.abstract_unix.specs.declared.turned.Unbuilt.{Unbuilt}
 use Rattle.abstract_unix.specs.declared.turned.Unbuilt.TheVariants as unbuilt
 use Rattle.abstract_unix.specs.declared.turned.Turned.TheVariants.{NotBuilt}
@@ -23,18 +26,18 @@ pub course-append : (c : Course) (xs ys : List Event) → course c (xs ++ ys) �
 course-append c [] ys = refl
 course-append c (x ∷ xs) ys = course-append (after_event c x) xs ys
 
-event_ended : (c : Course) (e : Option Unbuilt) (place : Unbuilt) (x : Event) → e ≡ Some place → unless_ended e c x ≡ c
-event_ended c None place x is = cc
-event_ended c (Some p) place x is = refl
+event_ended : (c : Course) (e : Ends) (x : Event) → e ≢ AtEnd → unless_ended e c x ≡ c
+event_ended c AtEnd x early = absurd (early refl)
+event_ended c (ends.NotBuilt place) x early = refl
 
 -- a run that has ended stays as it is
-pub course_ended : (c : Course) (place : Unbuilt) (xs : List Event) → c.ending ≡ Some place → course c xs ≡ c
-course_ended c place [] is = refl
-course_ended c place (x ∷ xs) is = ap (λ d. course d xs) (event_ended c c.ending place x is) ∙ course_ended c place xs is
+pub course_ended : (c : Course) (xs : List Event) → c.ending ≢ AtEnd → course c xs ≡ c
+course_ended c [] early = refl
+course_ended c (x ∷ xs) early = ap (λ d. course d xs) (event_ended c c.ending x early) ∙ course_ended c xs early
 
-event_after_items : (items : List Item) (c : Course) (e : Option Unbuilt) (x : Event) → unless_ended e (after_items items c) x ≡ after_items items (unless_ended e c x)
-event_after_items items c None x = ap (λ (l : List Item). record (goes_on_by c (event_of x c.system)) { items = l }) (append_assoc items c.items (event_of x c.system).items)
-event_after_items items c (Some place) x = refl
+event_after_items : (items : List Item) (c : Course) (e : Ends) (x : Event) → unless_ended e (after_items items c) x ≡ after_items items (unless_ended e c x)
+event_after_items items c AtEnd x = ap (λ (l : List Item). record (goes_on_by c (event_of x c.system)) { items = l }) (append_assoc items c.items (event_of x c.system).items)
+event_after_items items c (ends.NotBuilt place) x = refl
 
 -- what was shown before stands in front
 pub course-after_items : (items : List Item) (c : Course) (xs : List Event) → course (after_items items c) xs ≡ after_items items (course c xs)
@@ -42,50 +45,50 @@ course-after_items items c [] = refl
 course-after_items items c (x ∷ xs) = ap (λ d. course d xs) (event_after_items items c c.ending x) ∙ course-after_items items (after_event c x) xs
 
 -- a run that goes on begins again at its system, after what it has shown
-goes_as : (c : Course) (e : Option Unbuilt) → c.ending ≡ e → e ≡ None → c ≡ after_items c.items (begun c.system)
+goes_as : (c : Course) (e : Ends) → c.ending ≡ e → e ≡ AtEnd → c ≡ after_items c.items (begun c.system)
 goes_as c e is none =
     ap (λ (l : List Item). record c { items = l }) (sym (append-nil c.items))
-    ∙ ap (λ (o : Option Unbuilt). record { items = c.items ++ []; system = c.system; ending = o }) (is ∙ none)
+    ∙ ap (λ (o : Ends). record { items = c.items ++ []; system = c.system; ending = o }) (is ∙ none)
 
-pub course_goes : (c : Course) (m : System) (ys : List Event) → c.ending ≡ None → m ≡ c.system → course c ys ≡ after_items c.items (course (begun m) ys)
+pub course_goes : (c : Course) (m : System) (ys : List Event) → c.ending ≡ AtEnd → m ≡ c.system → course c ys ≡ after_items c.items (course (begun m) ys)
 course_goes c m ys goes system =
     ap (λ d. course d ys) (goes_as c c.ending refl goes) ∙ course-after_items c.items (begun c.system) ys ∙ ap (λ (n : System). after_items c.items (course (begun n) ys)) (sym system)
 
 -- A loop over pieces of a list of events: m is the system after the pieces xs, and the run goes on.
-module _ (c : Course) (m : System) (xs : List Event) (goes : (course c xs).ending ≡ None) (system : m ≡ (course c xs).system) where
+module _ (c : Course) (m : System) (xs : List Event) (goes : (course c xs).ending ≡ AtEnd) (system : m ≡ (course c xs).system) where
   pub course_joined : (ys all : List Event) → all ≡ xs ++ ys → course c all ≡ after_items (course c xs).items (course (begun m) ys)
   course_joined ys all is = ap (course c) is ∙ course-append c xs ys ∙ course_goes (course c xs) m ys goes system
 
   -- where the next piece ends the run, what follows it changes nothing
-  pub course_last : (ys zs all : List Event) (place : Unbuilt) → all ≡ (xs ++ ys) ++ zs → (course (begun m) ys).ending ≡ Some place
+  pub course_last : (ys zs all : List Event) → all ≡ (xs ++ ys) ++ zs → (course (begun m) ys).ending ≢ AtEnd
       → course c all ≡ after_items (course c xs).items (course (begun m) ys)
-  course_last ys zs all place is ends =
+  course_last ys zs all is early =
       let joined = course_joined ys (xs ++ ys) refl in
       ap (course c) is ∙ course-append c (xs ++ ys) zs
-      ∙ course_ended (course c (xs ++ ys)) place zs (ap (λ (d : Course). d.ending) joined ∙ ends) ∙ joined
+      ∙ course_ended (course c (xs ++ ys)) zs (λ goes. early (sym (ap (λ (d : Course). d.ending) joined) ∙ goes)) ∙ joined
 
 -- what an answer says of the turn's ending
-ends_by : (ending : Option Unbuilt) (is_idle : Bool) (place : Unbuilt) → turned_by ending is_idle ≡ NotBuilt place → ending ≡ Some place
-ends_by None true place is = cc
-ends_by None false place is = cc
-ends_by (Some p) is_idle place is = cc
+ends_by : (ending : Ends) (is_idle : Bool) (place : Unbuilt) → turned_by ending is_idle ≡ NotBuilt place → ending ≡ ends.NotBuilt place
+ends_by AtEnd true place is = cc
+ends_by AtEnd false place is = cc
+ends_by (ends.NotBuilt p) is_idle place is = cc
 
-pub turn_ends : (t : Turn) (place : Unbuilt) → turned t ≡ NotBuilt place → t.ending ≡ Some place
+pub turn_ends : (t : Turn) (place : Unbuilt) → turned t ≡ NotBuilt place → t.ending ≡ ends.NotBuilt place
 turn_ends t place is = ends_by t.ending t.is_idle place is
 
-goes_by : (ending : Option Unbuilt) (is_idle : Bool) → ((place : Unbuilt) → turned_by ending is_idle ≡ NotBuilt place → ⊥) → ending ≡ None
-goes_by None is_idle built = refl
-goes_by (Some place) is_idle built = absurd (built place refl)
+goes_by : (ending : Ends) (is_idle : Bool) → ((place : Unbuilt) → turned_by ending is_idle ≡ NotBuilt place → ⊥) → ending ≡ AtEnd
+goes_by AtEnd is_idle built = refl
+goes_by (ends.NotBuilt place) is_idle built = absurd (built place refl)
 
-pub turn_goes : (t : Turn) → ((place : Unbuilt) → turned t ≡ NotBuilt place → ⊥) → t.ending ≡ None
+pub turn_goes : (t : Turn) → ((place : Unbuilt) → turned t ≡ NotBuilt place → ⊥) → t.ending ≡ AtEnd
 turn_goes t built = goes_by t.ending t.is_idle built
 
 -- what a run may end at before its last event: a place in a program, or want of room in core
-abbrev pub IsMet : Option Unbuilt → Type 0
-IsMet None = ⊤
-IsMet (Some (unbuilt.Line n)) = ⊥
-IsMet (Some (unbuilt.At pc)) = ⊤
-IsMet (Some unbuilt.Room) = ⊤
+abbrev pub IsMet : Ends → Type 0
+IsMet AtEnd = ⊤
+IsMet (ends.NotBuilt (unbuilt.Line n)) = ⊥
+IsMet (ends.NotBuilt (unbuilt.At pc)) = ⊤
+IsMet (ends.NotBuilt unbuilt.Room) = ⊤
 
 ending_is : (pc : ℕ) (e : Ending) → IsMet (ending_at pc e)
 ending_is pc came.Next = tt
@@ -99,7 +102,7 @@ stop_is : (pc : ℕ) (stop : Option (Stop Unix)) (e : Ending) → IsMet (ending_
 stop_is pc None e = ending_is pc e
 stop_is pc (Some stop) e = unmet_is (kind_of stop.why)
   where
-    unmet_is : (kind : PanicKind) → IsMet (Some (unmet pc kind))
+    unmet_is : (kind : PanicKind) → IsMet (unmet pc kind)
     unmet_is panic.Swap = tt
     unmet_is panic.Zombie = tt
     unmet_is panic.Text = tt
@@ -129,23 +132,23 @@ event_is Tick m = tt
 event_is (Byte byte) m = tt
 event_is (Switch word) m = tt
 
-step_is : (c : Course) (ended : Option Unbuilt) (event : Event) → IsMet c.ending
+step_is : (c : Course) (ended : Ends) (event : Event) → IsMet c.ending
     → IsMet (unless_ended ended c event).ending
-step_is c None event met = event_is event c.system
-step_is c (Some place) event met = met
+step_is c AtEnd event met = event_is event c.system
+step_is c (ends.NotBuilt place) event met = met
 
 pub course_is : (c : Course) (events : List Event) → IsMet c.ending → IsMet (course c events).ending
 course_is c [] met = met
 course_is c (event ∷ events) met = course_is (after_event c event) events (step_is c c.ending event met)
 
 -- a tick, a byte and the switches end no run
-pub tick_goes : (m : System) → (event_of Tick m).ending ≡ None
+pub tick_goes : (m : System) → (event_of Tick m).ending ≡ AtEnd
 tick_goes m = refl
 
-pub typed_goes : (m : System) (byte : ℕ) → (event_of (Byte byte) m).ending ≡ None
+pub typed_goes : (m : System) (byte : ℕ) → (event_of (Byte byte) m).ending ≡ AtEnd
 typed_goes m byte = refl
 
-pub switched_goes : (m : System) (word : ℕ) → (event_of (Switch word) m).ending ≡ None
+pub switched_goes : (m : System) (word : ℕ) → (event_of (Switch word) m).ending ≡ AtEnd
 switched_goes m word = refl
 
 -- A run of one event, which begins at a system.
@@ -153,10 +156,10 @@ pub course_one : (m : System) (event : Event) → course (begun m) (event ∷ []
 course_one m event = refl
 
 -- The start of a run shows its items, and the run begins at the system then.
-pub start_goes : (m : System) → (start_of m).ending ≡ None
+pub start_goes : (m : System) → (start_of m).ending ≡ AtEnd
 start_goes m = refl
 
-pub started_goes : (m : System) → (started m).ending ≡ None
+pub started_goes : (m : System) → (started m).ending ≡ AtEnd
 started_goes m = refl
 
 pub course_started : (m : System) (events : List Event) → course (started m) events ≡ after_items (start_of m).items (course (begun (start_of m).next) events)

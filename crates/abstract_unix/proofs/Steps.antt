@@ -17,6 +17,7 @@ use Rattle.log_laws.proofs.Seats.{Seats, InCall, Paused}
 use Rattle.log_laws.proofs.Lines.{trap_apt, sleep_apt}
 use Rattle.sys_procs.specs.Comes.{Comes}
 use Rattle.abstract_unix.specs.declared.ending.Ending.{Ending}
+use Rattle.abstract_unix.specs.declared.ends.Ends.TheVariants.{AtEnd}
 use Rattle.abstract_unix.specs.declared.ending.Ending.TheVariants.{Trapped, Slept, NotBuilt}
 use Rattle.abstract_unix.specs.Unix.{Unix}
 use Rattle.abstract_unix.specs.Errors.{error_number}
@@ -27,7 +28,7 @@ use Rattle.abstract_unix.proofs.Sitting.{seats_here, seats_of, kept_in}
 
 -- after a turn by which the run goes on its process is between two turns
 abbrev pub GoesOn : Unix → Ending → Seen → Type 0
-GoesOn u ending seen = (pc : ℕ) → ending_at pc ending ≡ None → Paused (seats_of u) seen
+GoesOn u ending seen = (pc : ℕ) → ending_at pc ending ≡ AtEnd → Paused (seats_of u) seen
 
 -- a turn whose effects are apt, with the lines with which it ends
 pub record AptSteps (s : ℕ) (seen : Seen) (steps : Steps) : Type 0 where

@@ -34,6 +34,7 @@ use Rattle.abstract_unix.proofs.FileRows.{walk_row}
 use Rattle.abstract_unix.proofs.ProcessRows.{plain_row, resume_plain}
 use Rattle.abstract_unix.proofs.Rows.{FineComes, Calling, plain_fine}
 use Rattle.abstract_unix.proofs.Children.{fork_fine}
+use Rattle.sys_procs.specs.Exit.{exit_status}
 use Rattle.abstract_unix.proofs.Exiting.{did_apt, no_pending, exits_apt}
 use Rattle.abstract_unix.proofs.Executing.{break_fine, grow_apt, exec_fine}
 
@@ -59,7 +60,7 @@ module _ (s : ℕ) (seen : Seen) where
   call_apt : (u : Unix) (call : SystemCall) (args : List ℕ) → Calling s (world_of u) seen
       → AptSteps s seen (does_call u s call args)
   call_apt u Indirect args i = returns_apt s seen u i
-  call_apt u Exit args i = exits_apt s u seen i
+  call_apt u Exit args i = exits_apt s u seen (exit_status (process_of u s)) i
   call_apt u Fork args i = forks_apt u i
   call_apt u (OnFiles call) args i =
       did_apt s u seen false (process_of u s).u (file_row call (handed_of u (process_of u s)) args u.clock.time) i (same_call (process_of u s).u).size (no_pending s u seen i)

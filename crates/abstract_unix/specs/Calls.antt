@@ -30,7 +30,7 @@ use Rattle.sys_procs.specs.Ids.{pid_of, set_uid, get_uid, set_gid, get_gid, swit
 use Rattle.sys_procs.specs.Times.{time_now, set_time, times_to, sleep_for, pending_sleep}
 use Rattle.sys_procs.specs.Fork.{fork_one}
 use Rattle.sys_procs.specs.Wait.{wait_child, pending_wait}
-use Rattle.sys_procs.specs.Exit.{exit_now}
+use Rattle.sys_procs.specs.Exit.{exit_status, end_proc}
 use Rattle.sys_procs.specs.Resume.{resume_proc}
 use Rattle.abstract_unix.specs.declared.asked.Asked.{Asked}
 use Rattle.abstract_unix.specs.declared.calls.FileCall.{FileCall}
@@ -147,7 +147,7 @@ refuses u slot number =
 abbrev pub answers : Unix → ℕ → Answer → Steps
 answers u slot (Ret r0 r1) = returns (with_area u slot (given_area r0 r1))
 answers u slot (Fail e) = refuses u slot (error_number e)
-answers u slot (Sleep pri chan) = sleeps u pri chan
+answers u slot (Sleep pri chan) = sleeps u slot pri chan
 
 -- what a call on files does, by its row, over what it is handed, its arguments and the time
 abbrev pub file_row : FileCall → Handed → List ℕ → ℕ → Did
@@ -221,20 +221,25 @@ grown_by u slot (Some c) = grows u c
 abbrev pub grows_to : Unix → ℕ → ℕ → Steps
 grows_to u slot sp = grown_by u slot (grow (world_of u) slot sp)
 
--- exit(II): the files of the process are closed, and it has ended.
+-- the files of the process of a slot are closed
 abbrev pub closes_all : Unix → ℕ → Closing
 closes_all u slot = close_all (handed_of u (process_of u slot))
 
-abbrev pub exits : Unix → ℕ → Steps
-exits u slot =
+-- and then it ends with a status
+abbrev pub exits_with : Unix → ℕ → ℕ → Steps
+exits_with u slot status =
     let closed : Closing = closes_all u slot in
     let now : Unix = with_handed u slot closed.state in
-    let c : Comes = exit_now (world_of now) slot in
+    let c : Comes = end_proc (world_of now) slot status in
     record {
       effects = map Show closed.items ++ map (lifted (with_world now)) c.effects;
       unix = with_world now c.state;
       ending = Ended;
     }
+
+-- exit(II)
+abbrev pub exits : Unix → ℕ → Steps
+exits u slot = exits_with u slot (exit_status (process_of u slot))
 
 -- A call that has been entered. An indirect call that leads to another does nothing.
 abbrev pub does_call : Unix → ℕ → SystemCall → List ℕ → Steps

@@ -1,9 +1,10 @@
 -- The law of the log.
-use Rattle.std.specs.Prelude.{◌≡◌, ℕ, ◌≤◌, List, Some, None}
+use Rattle.std.specs.Prelude.{◌≡◌, ℕ, ◌≤◌, List, Some}
 use Rattle.v6_base.specs.Image.{AreBytes}
 use Rattle.v6_base.specs.Trace.{entries_of}
 use Rattle.v6_base.specs.declared.entry.Entry.{Entry}
 use Rattle.pick_rules.specs.Lawful.{nothing_seen, FitAll, Lawful}
+use Rattle.abstract_unix.specs.declared.ends.Ends.TheVariants.{AtEnd}
 use Rattle.abstract_unix.specs.Runs.{Event, Course, shown_by, runs}
 
 -- the log of a run
@@ -15,4 +16,4 @@ log_of c = entries_of (shown_by c)
 abbrev pub LogsAreLawful : Type 0
 LogsAreLawful =
     (image : List ℕ) (core : ℕ) (events : List Event) (c : Course) → AreBytes image → 64 ≤ core → core ≤ 3968
-    → runs image core events ≡ Some c → FitAll nothing_seen (log_of c) × (c.ending ≡ None → Lawful (log_of c))
+    → runs image core events ≡ Some c → FitAll nothing_seen (log_of c) × (c.ending ≡ AtEnd → Lawful (log_of c))

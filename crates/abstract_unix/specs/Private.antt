@@ -27,6 +27,10 @@ IsUndisturbed before after s =
 abbrev pub AllUndisturbed : System → System → Type 0
 AllUndisturbed before after = (s : ℕ) → IsUndisturbed before.unix after.unix s
 
+-- also through a tick,
+abbrev pub TickUndisturbed : System → System → Type 0
+TickUndisturbed before after = AllUndisturbed before after
+
 -- or each but the one whose turn it is.
 abbrev pub OthersUndisturbed : System → System → Type 0
 OthersUndisturbed before after =

@@ -3,7 +3,7 @@ use Rattle.std.specs.Prelude.{ℕ, List, [], ◌∷◌, ◌++◌, min, is_some, 
 use Rattle.std.specs.Option.{option_map}
 use Rattle.fs_codec.specs.Faults.{image_fault}
 use Rattle.v6_base.specs.Trace.{Item, Log}
-use Rattle.v6_base.specs.declared.entry.Entry.TheVariants.{Boot, End}
+use Rattle.v6_base.specs.declared.entry.Entry.TheVariants.{Boot}
 use Rattle.fs_codec.specs.Disk.{disk_of}
 use Rattle.fs_codec.specs.Store.{Store}
 use Rattle.fs_codec.specs.Stands.{store_of}
@@ -13,8 +13,10 @@ use Rattle.pick_rules.specs.Board.{first_board}
 use Rattle.proc_tab.specs.Processes.{no_row}
 use Rattle.image_keep.specs.Area.{sized_area}
 use Rattle.sys_procs.specs.Process.{Process, no_process}
-use Rattle.abstract_unix.specs.declared.turned.Unbuilt.{Unbuilt}
+use Rattle.abstract_unix.specs.declared.ends.Ends.{Ends}
+use Rattle.abstract_unix.specs.declared.ends.Ends.TheVariants.{AtEnd, NotBuilt}
 use Rattle.abstract_unix.specs.Unix.{Unix, System, no_texts}
+use Rattle.abstract_unix.specs.Endings.{last_line}
 use Rattle.abstract_unix.specs.Init.{init_data}
 use Rattle.abstract_unix.specs.Turn.{Happened, Turn, stays, settled_after, pass_of, slot_of}
 use Rattle.abstract_unix.specs.Outside.{tick_of, typed_of, switched_of}
@@ -78,14 +80,14 @@ abbrev pub event_of : Event → System → Turn
 event_of (Switch word) m = stays (happened (Switch word) m)
 event_of e m = settled_after (happened e m)
 
--- a run up to some point: what it has shown, the system there, and how it has ended, where it has
+-- a run up to some point: what it has shown, the system there, and how it ends, as far as it has come
 pub record Course : Type 0 where
   pub items : List Item
   pub system : System
-  pub ending : Option Unbuilt
+  pub ending : Ends
 
 abbrev pub begun : System → Course
-begun m = record { items = []; system = m; ending = None }
+begun m = record { items = []; system = m; ending = AtEnd }
 
 -- The log begins with the size of core and the time; the swapper makes a pass before the first event, and then there is a
 -- choice.
@@ -97,9 +99,9 @@ abbrev pub goes_on_by : Course → Turn → Course
 goes_on_by c turn = record { items = c.items ++ turn.items; system = turn.next; ending = turn.ending }
 
 -- a run that has ended stays as it is
-abbrev pub unless_ended : Option Unbuilt → Course → Event → Course
-unless_ended None c event = goes_on_by c (event_of event c.system)
-unless_ended (Some place) c event = c
+abbrev pub unless_ended : Ends → Course → Event → Course
+unless_ended AtEnd c event = goes_on_by c (event_of event c.system)
+unless_ended (NotBuilt place) c event = c
 
 abbrev pub after_event : Course → Event → Course
 after_event c event = unless_ended c.ending c event
@@ -117,14 +119,9 @@ started m = goes_on_by (begun m) (start_of m)
 abbrev pub after_items : List Item → Course → Course
 after_items items c = record c { items = items ++ c.items }
 
--- the last line of the log, where a run has come to its end; one that came to what isn't built shows nothing more
-abbrev pub end_items : Option Unbuilt → List Item
-end_items None = Log End ∷ []
-end_items (Some place) = []
-
 -- all that a run shows
 abbrev pub shown_by : Course → List Item
-shown_by c = c.items ++ end_items c.ending
+shown_by c = c.items ++ last_line c.ending
 
 -- the run of an image without a fault, in so much core, over some events
 abbrev pub run_of : List ℕ → ℕ → List Event → Course

@@ -23,9 +23,9 @@ steps u = quietly u Next
 abbrev pub returns : Unix → Steps
 returns u = quietly u Trapped
 
--- the process sleeps in a call
-abbrev pub sleeps : Unix → ℤ → Chan → Steps
-sleeps u pri chan = quietly u (Slept pri chan)
+-- the process of a slot sleeps in a call
+abbrev pub sleeps : Unix → ℕ → ℤ → Chan → Steps
+sleeps u slot pri chan = quietly u (Slept pri chan)
 
 -- what isn't built shows nothing
 abbrev pub not_built : Unix → Steps

@@ -1,5 +1,5 @@
 -- The turn of a slot, where there is a process: an instruction, or a call that it goes on with, until it exits. `trap` and `swtch` in Lions' Commentary, `trap.c` and `slp.c`.
-use Rattle.std.specs.Prelude.{◌≡◌, ℕ, zero, suc, ◌==◌, ◌&&◌, Bool, true, false, not, is_none, List, [], ◌∷◌, ◌++◌, Option, Some, None, if◌then◌else◌}
+use Rattle.std.specs.Prelude.{◌≡◌, ℕ, zero, suc, ◌==◌, ◌&&◌, Bool, true, false, not, List, [], ◌∷◌, ◌++◌, Option, Some, None, if◌then◌else◌}
 use Rattle.v6_base.specs.Trace.{Item, Log}
 use Rattle.v6_base.specs.declared.entry.Chan.TheVariants.{RunOut}
 use Rattle.v6_base.specs.declared.entry.Entry.{Entry}
@@ -23,11 +23,14 @@ use Rattle.pick_rules.specs.Logged.{Logged, Stop, nothing_logged, logged, left_b
 use Rattle.sys_procs.specs.Process.{Process, with_state, register, image_of}
 use Rattle.abstract_unix.specs.declared.ending.Ending.{Ending}
 use Rattle.abstract_unix.specs.declared.ending.Ending.TheVariants as ending
-use Rattle.abstract_unix.specs.declared.turned.Unbuilt.{Unbuilt}
+use Rattle.abstract_unix.specs.declared.ends.Ends.{Ends}
+use Rattle.abstract_unix.specs.declared.ends.Ends.TheVariants as ends
+use Rattle.abstract_unix.specs.declared.ends.Ends.TheVariants.{AtEnd}
 use Rattle.abstract_unix.specs.declared.turned.Unbuilt.TheVariants.{At, Room}
 use Rattle.abstract_unix.specs.declared.turned.Turned.{Turned}
 use Rattle.abstract_unix.specs.declared.turned.Turned.TheVariants.{Ran, Idle, NotBuilt}
 use Rattle.abstract_unix.specs.Unix.{Text, Unix, System, process_of, with_process}
+use Rattle.abstract_unix.specs.Endings.{is_early}
 use Rattle.abstract_unix.specs.Steps as to
 use Rattle.abstract_unix.specs.Steps.{Steps, signals, sigill, sigtrap, sigiot, sigemt, sigbus}
 use Rattle.abstract_unix.specs.Calls.{system_call, grows_to, resumed}
@@ -89,24 +92,24 @@ abbrev pub settled : Board → Settled
 settled b = settled_as (settle b.table) b
 
 -- What has happened in an event, before the kernel settles: the Unix and the log then, whether nobody was there to run, and
--- how the run ends, where it ends here.
+-- how the run ends, as far as the event tells.
 pub record Happened : Type 0 where
   pub unix : Unix
   pub log : Logged Unix
   pub is_idle : Bool
-  pub ending : Option Unbuilt
+  pub ending : Ends
 
 -- An event leaves this Unix and this log. A panic leaves the Unix that stood before it.
 abbrev pub happens : Unix → Logged Unix → Happened
-happens u l = record { unix = left_by l.stop u; log = l; is_idle = false; ending = None }
+happens u l = record { unix = left_by l.stop u; log = l; is_idle = false; ending = AtEnd }
 
--- what an event comes to: what is shown, the system then, whether nobody was there to run, and how the run ends, where it
--- ends here
+-- what an event comes to: what is shown, the system then, whether nobody was there to run, and how the run ends, as far as
+-- the event tells
 pub record Turn : Type 0 where
   pub items : List Item
   pub next : System
   pub is_idle : Bool
-  pub ending : Option Unbuilt
+  pub ending : Ends
 
 -- nothing follows what has happened
 abbrev pub stays : Happened → Turn
@@ -125,30 +128,30 @@ settles h =
 
 -- Settling comes where somebody ran, or something came from outside, and the run goes on.
 abbrev pub calls_for_settling : Happened → Bool
-calls_for_settling h = is_none h.ending && not h.is_idle
+calls_for_settling h = not (is_early h.ending) && not h.is_idle
 
 abbrev pub settled_after : Happened → Turn
 settled_after h = if calls_for_settling h then settles h else stays h
 
 -- what isn't built stands where the PC was
-abbrev pub ending_at : ℕ → Ending → Option Unbuilt
-ending_at pc ending.Next = None
-ending_at pc ending.Trapped = None
-ending_at pc (ending.Slept pri chan) = None
-ending_at pc ending.Ended = None
-ending_at pc ending.NoRoom = Some Room
-ending_at pc ending.NotBuilt = Some (At pc)
+abbrev pub ending_at : ℕ → Ending → Ends
+ending_at pc ending.Next = AtEnd
+ending_at pc ending.Trapped = AtEnd
+ending_at pc (ending.Slept pri chan) = AtEnd
+ending_at pc ending.Ended = AtEnd
+ending_at pc ending.NoRoom = ends.NotBuilt Room
+ending_at pc ending.NotBuilt = ends.NotBuilt (At pc)
 
 -- A demand that finds no place ends the run: an image's in core, since no image goes to the swap area yet; and what else may
 -- be wanted, a panic too, isn't built where the PC was.
-abbrev pub unmet : ℕ → PanicKind → Unbuilt
-unmet pc panic.Swap = Room
-unmet pc panic.Zombie = At pc
-unmet pc panic.Text = At pc
+abbrev pub unmet : ℕ → PanicKind → Ends
+unmet pc panic.Swap = ends.NotBuilt Room
+unmet pc panic.Zombie = ends.NotBuilt (At pc)
+unmet pc panic.Text = ends.NotBuilt (At pc)
 
-abbrev pub ending_by : ℕ → Option (Stop Unix) → Ending → Option Unbuilt
+abbrev pub ending_by : ℕ → Option (Stop Unix) → Ending → Ends
 ending_by pc None ending = ending_at pc ending
-ending_by pc (Some stop) ending = Some (unmet pc (kind_of stop.why))
+ending_by pc (Some stop) ending = unmet pc (kind_of stop.why)
 
 abbrev pub turn_of : System → ℕ → Steps → Happened
 turn_of m slot steps =
@@ -174,9 +177,9 @@ slot_of m None = record (happens m.unix (nothing_logged m.board)) { is_idle = tr
 slot_of m (Some slot) = slot_by m slot
 
 -- what a kernel answers of a turn
-abbrev pub turned_by : Option Unbuilt → Bool → Turned
-turned_by None is_idle = if is_idle then Idle else Ran
-turned_by (Some place) is_idle = NotBuilt place
+abbrev pub turned_by : Ends → Bool → Turned
+turned_by AtEnd is_idle = if is_idle then Idle else Ran
+turned_by (ends.NotBuilt place) is_idle = NotBuilt place
 
 abbrev pub turned : Turn → Turned
 turned t = turned_by t.ending t.is_idle

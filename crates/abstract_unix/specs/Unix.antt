@@ -7,7 +7,6 @@ use Rattle.tty_line.specs.Terminal.{Terminal}
 use Rattle.pick_rules.specs.Board.{Board}
 use Rattle.sys_procs.specs.Process.{Process, no_process}
 use Rattle.sys_procs.specs.World.{Clock}
-use Rattle.abstract_unix.specs.declared.turned.Unbuilt.{Unbuilt}
 pub use Rattle.sys_procs.specs.TextTable.{Text}
 unfoldable pub use Rattle.sys_procs.specs.TextTable.{no_texts}
 
@@ -61,8 +60,3 @@ with_process u slot p = record u { processes = slice_set u.processes slot (Some 
 -- a slot is empty
 abbrev pub without_process : Unix → ℕ → Unix
 without_process u slot = record u { processes = slice_set u.processes slot None }
-
--- how far the run has come after an event that ends it so, where it does
-abbrev pub phase_after : Option Unbuilt → Phase
-phase_after None = Started
-phase_after (Some place) = Stopped

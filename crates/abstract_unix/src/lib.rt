@@ -5,6 +5,7 @@
 mod asked;
 mod calls;
 mod ending;
+mod ends;
 mod turned;
 
 pub use asked::Asked;
@@ -12,4 +13,5 @@ pub use calls::{
     FileCall, ProcessCall, Sysent, SystemCall, do_file_call, do_process_call, sysent_of,
 };
 pub use ending::Ending;
+pub use ends::Ends;
 pub use turned::{Turned, Unbuilt};

@@ -10,7 +10,7 @@ use Rattle.fs_codec.specs.Held.{addresses, held_blocks, held_by}
 use Rattle.fs_codec.specs.Stands.{node_of, store_of}
 use Rattle.fs_laws.specs.Chain.{SameZone, free, IsSound}
 use Rattle.fs_laws.specs.Whole.{held, IsWhole, IsApart}
-use Rattle.fs_laws.proofs.ChainLemmas.{free_is_data}
+use Rattle.fs_codec.proofs.FreeLemmas.{free_is_data}
 use Rattle.fs_laws.proofs.FreeLemmas.{each_in, free_kept, good_head, data_place, same_data}
 use Rattle.fs_laws.proofs.HeldLemmas.{Kept, addresses_kept, held_kept, node_kept}
 use Rattle.fs_laws.proofs.FileLemmas.{file_apart, same_inodes}
@@ -51,9 +51,6 @@ agree_apart old new node a s apart =
           let y : count_by (nat_eq k) (addresses new node) ≡ count_by (nat_eq k) (addresses old node) = ap (count_by (nat_eq k)) is in
           omega (arith, o, x, y);
     }
-
-pub agree_back : (old new : Disk) → Agree old new → Agree new old
-agree_back old new a = record { super = sym a.super; zone = λ b inside. sym (a.zone b (sym (same_data old new (agree_zone old new a) b) ∙ inside)) }
 
 -- The blocks of the file system are the same: all that stands on a disk is.
 pub record SameFiles (old new : Disk) : Type 0 where

@@ -19,9 +19,6 @@ top_none disk g none = ap (λ n. cond (n == 0) 0 (word (disk g.block) (g.place +
 pub top_some : (disk : Disk) (g : Group) → 0 < g.left → top disk g ≡ word (disk g.block) (g.place + 2 * g.left)
 top_some disk g some = ap (λ t. cond t 0 (word (disk g.block) (g.place + 2 * g.left))) (ne_eqb g.left 0 (omega arith))
 
-one_less : Group → Group
-one_less g = record { left = g.left - 1; block = g.block; place = g.place }
-
 pub after_one : (disk : Disk) (g : Group) → g.left ≡ 1 → after disk g ≡ group_in disk (top disk g)
 after_one disk g one = ap (λ n. cond (n == 1) (group_in disk (top disk g)) (record { left = g.left - 1; block = g.block; place = g.place })) one
 
@@ -127,29 +124,3 @@ chain_step most disk group met rest = by_zero (top disk group == 0) refl where
 pub walk_chain : (most : ℕ) (disk : Disk) (group : Group) (met : List ℕ) → Lists disk group met most (walk most disk group met)
 walk_chain zero disk group met = λ sound once few. absurd (omega arith)
 walk_chain (suc most) disk group met = chain_step most disk group met (walk_chain most disk (after disk group) (top disk group ∷ met))
-
--- each block that is listed is a data block
-listed_is_data : (disk : Disk) (zero_ inside met many : Bool) (block : ℕ) (out count : Option ImageFault) (rest : Walk) → is_data disk block ≡ inside
-    → ((k : ℕ) → 1 ≤ count_by (nat_eq k) rest.blocks → is_data disk k ≡ true) → (k : ℕ)
-    → 1 ≤ count_by (nat_eq k) (cond zero_ (ended None) (cond (not inside) (ended out) (listing block (cond met (ended None) (cond many (ended count) rest))))).blocks → is_data disk k ≡ true
-listed_is_data disk true inside met many block out count rest is each k h = absurd (omega arith)
-listed_is_data disk false false met many block out count rest is each k h = absurd (omega arith)
-listed_is_data disk false true met many block out count rest is each k h = elim (eqb_tells k block) [
-  | inl e ↦ ap (is_data disk) e.1 ∙ is
-  | inr e ↦ in_rest met many (let no : cond {A = ℕ} (nat_eq k block) 1 0 ≡ 0 = ap (λ t. cond t 1 0) e.0 in omega (arith, count-cons k block (cond met (ended None) (cond many (ended count) rest)).blocks))
-] where
-  in_rest : (m c : Bool) → 1 ≤ count_by (nat_eq k) (cond m (ended None) (cond c (ended count) rest)).blocks → is_data disk k ≡ true
-  in_rest true c g = absurd (omega arith)
-  in_rest false true g = absurd (omega arith)
-  in_rest false false g = each k g
-
-walk_is_data : (most : ℕ) (disk : Disk) (group : Group) (met : List ℕ) (k : ℕ) → 1 ≤ count_by (nat_eq k) (walk most disk group met).blocks → is_data disk k ≡ true
-walk_is_data zero disk group met k h = absurd (omega arith)
-walk_is_data (suc most) disk group met k h =
-    listed_is_data disk (top disk group == 0) (is_data disk (top disk group)) (list_any (nat_eq (top disk group)) met) (nat_lt 100 (after disk group).left) (top disk group)
-    (Some (FreeOutside (top disk group))) (Some (FreeCount (top disk group))) (walk most disk (after disk group) (top disk group ∷ met)) refl
-    (walk_is_data most disk (after disk group) (top disk group ∷ met)) k h
-
-pub free_is_data : (disk : Disk) (k : ℕ) → 1 ≤ count_by (nat_eq k) (free_walk disk).blocks → is_data disk k ≡ true
-unfolding free_walk
-free_is_data disk k h = walk_is_data (head disk).f_size disk (record { left = (head disk).nfree; block = 1; place = 4 }) [] k h

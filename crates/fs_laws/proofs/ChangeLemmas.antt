@@ -10,7 +10,7 @@ use Rattle.fs_codec.specs.Stands.{node_of}
 use Rattle.fs_codec.specs.declared.layout.TheConstants.{DISK_BLOCKS}
 use Rattle.fs_laws.specs.Chain.{free, IsSound, SameZone}
 use Rattle.fs_laws.specs.Whole.{IsWhole, IsApart, ChangesFile, Rewrites}
-use Rattle.fs_laws.proofs.ChainLemmas.{free_is_data}
+use Rattle.fs_codec.proofs.FreeLemmas.{free_is_data}
 use Rattle.fs_laws.proofs.FreeLemmas.{each_in, good_head, same_data, data_some, data_place}
 use Rattle.fs_laws.proofs.HeldLemmas.{Kept, held_kept}
 use Rattle.fs_laws.proofs.FileLemmas.{file_apart, whole_changed}

@@ -10,7 +10,8 @@ use Rattle.fs_codec.specs.Faults.{super_fault}
 use Rattle.fs_codec.specs.declared.super_block.SuperBlock.{SuperBlock}
 use Rattle.fs_codec.proofs.CountLemmas.{any_count, count-cons}
 use Rattle.fs_laws.specs.Chain.{IsChain, first_group, SameGroup, free, IsSound, IsGood, SameZone, Takes}
-use Rattle.fs_laws.proofs.ChainLemmas.{chain_same, walk_lists, walk_chain, free_is_data, count_first}
+use Rattle.fs_codec.proofs.FreeLemmas.{free_is_data}
+use Rattle.fs_laws.proofs.ChainLemmas.{chain_same, walk_lists, walk_chain, count_first}
 use Rattle.fs_codec.specs.declared.layout.TheConstants.{DISK_BLOCKS}
 
 pub good_head : (s : SuperBlock) → super_fault DISK_BLOCKS s ≡ None → IsGood s

@@ -61,27 +61,6 @@ pub free_above : (disk : Disk) (i : ℕ) → inode_count disk < i → is_free_nu
 free_above disk i high =
     second_false (nat_le 1 i) (nat_le i (store_of disk).count) (is_none (node_numbered (store_of disk) i)) (ap (nat_le i) (count_of disk) ∙ le_false i (inode_count disk) high)
 
--- a list that is drawn from its end
-back : (xs : List ℕ) (k : ℕ) → k < length xs → reverse (take (k + 1) xs) ≡ slice_index xs k ∷ reverse (take k xs)
-back xs k h = ap reverse (take_more xs k 0 h) ∙ reverse-append (take k xs) (slice_index xs k ∷ [])
-
--- the draw from a list's first numbers, where the next is free, and where it is not
-pub drawn_here : (store : Store) (xs : List ℕ) (k : ℕ) → k < length xs → is_free_number store (slice_index xs k) ≡ true
-    → drawn store (reverse (take (k + 1) xs)) ≡ record { number = Some (slice_index xs k); spare = take k xs }
-drawn_here store xs k h is =
-    ap (drawn store) (back xs k h)
-    ∙ ap (λ t. cond t (record { number = Some (slice_index xs k); spare = reverse (reverse (take k xs)) }) (drawn store (reverse (take k xs)))) is
-    ∙ ap (λ (l : List ℕ). let d : Draw = record { number = Some (slice_index xs k); spare = l } in d) (reverse-reverse (take k xs))
-
-pub drawn_past : (store : Store) (xs : List ℕ) (k : ℕ) → k < length xs → is_free_number store (slice_index xs k) ≡ false
-    → drawn store (reverse (take (k + 1) xs)) ≡ drawn store (reverse (take k xs))
-drawn_past store xs k h is =
-    ap (drawn store) (back xs k h)
-    ∙ ap (λ t. cond t (record { number = Some (slice_index xs k); spare = reverse (reverse (take k xs)) }) (drawn store (reverse (take k xs)))) is
-
-pub drawn_all : (store : Store) (xs : List ℕ) → drawn store (reverse (take (length xs) xs)) ≡ drawn store (reverse xs)
-drawn_all store xs = ap (λ l. drawn store (reverse l)) (take-length xs)
-
 -- the numbers from a on, and more of them
 range_parts : (a n m : ℕ) → range_with_len a (n + m) ≡ range_with_len a n ++ range_with_len (a + n) m
 range_parts a zero m = let e : 0 + m ≡ m = omega arith in let b : a ≡ a + 0 = omega arith in ap (λ k. range_with_len a k) e ∙ ap (λ x. range_with_len x m) b

@@ -1,6 +1,7 @@
 -- The node of an inode of which fields have changed, and no address that counts.
 use Rattle.std.proofs.Common.{◌≡◌, ◌≢◌, ◌-◌, ◌/◌, ◌%◌, ◌==◌, ◌&&◌, ◌||◌, ℕ, Bool, true, false, not, cond, List, map, slice_index, nat_lt, replicate, take, [], ◌++◌, Some, None, refl, sym, ap, ◌∙◌}
-use Rattle.std.proofs.lemmas.Bool.{ne_eqb}
+use Rattle.std.proofs.lemmas.Bool.{ne_eqb, eqb-false}
+use Rattle.std.proofs.lemmas.Option.{none-some, same_Some}
 use Rattle.std.specs.List.{flat_map, range_with_len}
 use Rattle.fs_codec.specs.Fields.{Inode}
 use Rattle.fs_codec.specs.Modes.{file_type, is_device, is_large, holds_blocks}
@@ -10,7 +11,7 @@ use Rattle.bmap_path.specs.declared.BlockName.{BlockName}
 use Rattle.bmap_path.specs.declared.BlockName.TheVariants.{Data, Ind, Dbl}
 use Rattle.fs_codec.specs.Store.{Node}
 use Rattle.fs_codec.specs.Stands.{name_of, is_held, held_of, one_past, data_of, body_of, node_of}
-use Rattle.fs_laws.specs.Shown.{KeepsBlocks, Tells, Renews}
+use Rattle.fs_laws.specs.Shown.{file_of, KeepsBlocks, Tells, Renews}
 use Rattle.fs_codec.specs.declared.modes.TheConstants.{IFCHR, IFBLK}
 
 same_device : (node next : Inode) → KeepsBlocks node next → is_device next.mode ≡ is_device node.mode
@@ -84,65 +85,20 @@ blocks_same disk node next k =
     held_blocks_when disk node next (holds_blocks next.mode) (holds_blocks node.mode) (holds_kept node next k)
     (λ holds. addresses_same disk node next k.large (k.addr (no_device node holds)))
 
--- the node of an inode that is used
-pub shown : Disk → Inode → Node
-shown disk node = record {
-  mode = node.mode;
-  nlink = node.nlink;
-  uid = node.uid;
-  gid = node.gid;
-  size = node.size;
-  device = cond (is_device node.mode) (slice_index node.addr 0) 0;
-  actime = node.actime;
-  modtime = node.modtime;
-  held = held_of disk node;
-  body = body_of disk node;
-}
+-- An inode that is used has a node, and no other inode has one.
+pub node_shown : (disk : Disk) (node : Inode) → node.mode ≢ 0 → node_of disk node ≡ Some (file_of disk node)
+node_shown disk node used = ap (λ t. cond t None (Some (file_of disk node))) (ne_eqb node.mode 0 used)
 
-pub shown_mode : (disk : Disk) (node : Inode) → (shown disk node).mode ≡ node.mode
-unfolding shown
-shown_mode disk node = refl
-
-pub node_shown : (disk : Disk) (node : Inode) → node.mode ≢ 0 → node_of disk node ≡ Some (shown disk node)
-unfolding shown
-node_shown disk node used = ap (λ t. cond t None (Some (shown disk node))) (ne_eqb node.mode 0 used)
-
--- Its node has the fields that have changed, and the blocks and bytes that it had.
-pub node_renewed : (disk : Disk) (node next : Inode) (file : Node) → KeepsBlocks node next → node_of disk node ≡ Some file
-    → node_of disk next ≡ Some (record file {
-      mode = next.mode;
-      nlink = next.nlink;
-      uid = next.uid;
-      gid = next.gid;
-      size = next.size;
-      device = cond (is_device next.mode) (slice_index next.addr 0) 0;
-      actime = next.actime;
-      modtime = next.modtime;
-    })
-unfolding shown
-node_renewed disk node next file k is =
-    let file_is : shown disk node ≡ file = the_same (shown disk node) file (sym (node_shown disk node k.before) ∙ is) in
-    node_shown disk next k.used ∙ ap Some (λ i. record {
-      mode = next.mode;
-      nlink = next.nlink;
-      uid = next.uid;
-      gid = next.gid;
-      size = next.size;
-      device = cond (is_device next.mode) (slice_index next.addr 0) 0;
-      actime = next.actime;
-      modtime = next.modtime;
-      held = (names_same disk node next k ∙ ap (λ (f : Node). f.held) file_is) i;
-      body = (body_same disk node next k ∙ ap (λ (f : Node). f.body) file_is) i;
-    }) where
-      the_same : (a b : Node) → Some a ≡ Some b → a ≡ b
-      the_same a b h = cc
+pub node_some : (disk : Disk) (node : Inode) (file : Node) → node_of disk node ≡ Some file → (node.mode ≢ 0) × (file ≡ file_of disk node)
+node_some disk node file is = by (node.mode == 0) refl is where
+  by : (t : Bool) → (node.mode == 0) ≡ t → cond t None (Some (file_of disk node)) ≡ Some file → (node.mode ≢ 0) × (file ≡ file_of disk node)
+  by true e none = absurd (none-some file none)
+  by false e some = (eqb-false node.mode 0 e, sym (same_Some (file_of disk node) file some))
 
 -- The fields of an inode are those of its node.
 pub node_tells : (disk : Disk) (node : Inode) (file : Node) → node.mode ≢ 0 → node_of disk node ≡ Some file → Tells node file
-unfolding shown
 node_tells disk node file used is =
-    let e : Some (shown disk node) ≡ Some file = sym (node_shown disk node used) ∙ is in
-    let f : shown disk node ≡ file = the_same (shown disk node) file e in
+    let f : file_of disk node ≡ file = sym (node_some disk node file is).1 in
     record {
       mode = ap (λ (x : Node). x.mode) f;
       nlink = ap (λ (x : Node). x.nlink) f;
@@ -152,26 +108,24 @@ node_tells disk node file used is =
       device = ap (λ (x : Node). x.device) f;
       actime = ap (λ (x : Node). x.actime) f;
       modtime = ap (λ (x : Node). x.modtime) f;
-    } where
-      the_same : (a b : Node) → Some a ≡ Some b → a ≡ b
-      the_same a b h = cc
+    }
 
+-- Its node has the fields that have changed, and the blocks and bytes that it had.
 pub node_renews : (disk : Disk) (node next : Inode) (file renewed : Node) → KeepsBlocks node next → node_of disk node ≡ Some file → Renews next file renewed → node_of disk next ≡ Some renewed
-node_renews disk node next file renewed k is r = node_renewed disk node next file k is ∙ ap Some (λ i. record {
-  mode = r.fields.mode i;
-  nlink = r.fields.nlink i;
-  uid = r.fields.uid i;
-  gid = r.fields.gid i;
-  size = r.fields.size i;
-  device = r.fields.device i;
-  actime = r.fields.actime i;
-  modtime = r.fields.modtime i;
-  held = sym r.held i;
-  body = sym r.body i;
-})
+node_renews disk node next file renewed k is r =
+    let f : file_of disk node ≡ file = sym (node_some disk node file is).1 in
+    node_shown disk next k.used ∙ ap Some (λ i. record {
+      mode = r.fields.mode i;
+      nlink = r.fields.nlink i;
+      uid = r.fields.uid i;
+      gid = r.fields.gid i;
+      size = r.fields.size i;
+      device = r.fields.device i;
+      actime = r.fields.actime i;
+      modtime = r.fields.modtime i;
+      held = (names_same disk node next k ∙ ap (λ (x : Node). x.held) f ∙ sym r.held) i;
+      body = (body_same disk node next k ∙ ap (λ (x : Node). x.body) f ∙ sym r.body) i;
+    })
 
-pub node_body : (disk : Disk) (node : Inode) (file : Node) → node.mode ≢ 0 → node_of disk node ≡ Some file → file.body ≡ body_of disk node
-unfolding shown
-node_body disk node file used is = ap (λ (x : Node). x.body) (the_same file (shown disk node) (sym is ∙ node_shown disk node used)) where
-  the_same : (a b : Node) → Some a ≡ Some b → a ≡ b
-  the_same a b h = cc
+pub node_body : (disk : Disk) (node : Inode) (file : Node) → node_of disk node ≡ Some file → file.body ≡ body_of disk node
+node_body disk node file is = ap (λ (x : Node). x.body) (node_some disk node file is).1

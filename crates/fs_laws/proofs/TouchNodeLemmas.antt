@@ -10,9 +10,11 @@ use Rattle.fs_codec.specs.Disk.{Disk}
 use Rattle.fs_codec.specs.Held.{address}
 use Rattle.fs_codec.specs.Store.{Node, rank, holds}
 use Rattle.fs_codec.specs.Stands.{name_of, is_held, held_of, data_of, body_of, node_of}
+use Rattle.fs_laws.specs.Shown.{file_of}
 use Rattle.fs_laws.specs.Touch.{mode_with, gained}
 use Rattle.fs_laws.specs.Grows.{Grows, IsPlace}
 use Rattle.fs_laws.proofs.HeldGains.{held_gains}
+use Rattle.fs_laws.proofs.ShownLemmas.{node_shown, node_some}
 use Rattle.fs_laws.proofs.TouchModeLemmas.{still_holds, same_type}
 use Rattle.fs_laws.proofs.TouchBodyLemmas.{held_is, grown_body, not_indirect, not_double}
 
@@ -29,43 +31,6 @@ pub rank_low : (p : BlockName) → IsPlace p → rank p < 67592
 rank_low (Data n) h = omega (arith, h)
 rank_low (Ind k) h = omega (arith, h)
 rank_low Dbl h = omega arith
-
--- the node of an inode that is used
-abbrev pub node_fields : Disk → Inode → Node
-node_fields disk node = record {
-  mode = node.mode;
-  nlink = node.nlink;
-  uid = node.uid;
-  gid = node.gid;
-  size = node.size;
-  device = cond (is_device node.mode) (slice_index node.addr 0) 0;
-  actime = node.actime;
-  modtime = node.modtime;
-  held = held_of disk node;
-  body = body_of disk node;
-}
-
-pub some_node : (disk : Disk) (node : Inode) → node.mode ≢ 0 → node_of disk node ≡ Some (node_fields disk node)
-some_node disk node some = ap (λ t. cond t None (Some (node_fields disk node))) (ne_eqb node.mode 0 some)
-
-node_or : Node → Option Node → Node
-node_or other None = other
-node_or other (Some file) = file
-
-same_node : (a b : Node) → Some a ≡ Some b → a ≡ b
-unfolding node_or
-same_node a b e = ap (node_or a) e
-
--- what it is to have a node
-pub node_some : (disk : Disk) (node : Inode) (file : Node) → node_of disk node ≡ Some file → (node.mode ≢ 0) × (file ≡ node_fields disk node)
-node_some disk node file is = by (node.mode == 0) refl where
-  by : (t : Bool) → (node.mode == 0) ≡ t → (node.mode ≢ 0) × (file ≡ node_fields disk node)
-  by true e = absurd (nothing (sym (ap (λ t. cond t None (Some (node_fields disk node))) e) ∙ is)) where
-    nothing : None ≡ Some file → ⊥
-    nothing s = cc
-  by false e =
-      let some : node.mode ≢ 0 = eqb-false node.mode 0 e in
-      (some, same_node file (node_fields disk node) (sym is ∙ some_node disk node some))
 
 pub holds_when : (mode : ℕ) → mode ≢ 0 → is_device mode ≡ false → holds_blocks mode ≡ true
 holds_when mode some plain = ap (λ t. not t && not (is_device mode)) (ne_eqb mode 0 some) ∙ ap not plain
@@ -104,7 +69,7 @@ place_data Dbl h n e = absurd (not_double n (sym e))
 
 -- the fields of the node that gains the block
 grown_fields : (old new : Disk) (node next : Inode) (p : BlockName) (b : ℕ) → Grows old node new next p b → address old node p ≡ 0 → b ≢ 0 → node.mode ≢ 0 → is_device node.mode ≡ false → IsPlace p
-    → ((j : ℕ) → length (data_of old node j) ≡ 512) → node_fields new next ≡ gained (node_fields old node) p
+    → ((j : ℕ) → length (data_of old node j) ≡ 512) → file_of new next ≡ gained (file_of old node) p
 grown_fields old new node next p b g none some used plain place each =
     let h : holds_blocks node.mode ≡ true = holds_when node.mode used plain in
     let h' : holds_blocks next.mode ≡ true = ap holds_blocks g.mode ∙ mode_holds node.mode p h in
@@ -132,6 +97,6 @@ pub grown_node : (old new : Disk) (node next : Inode) (p : BlockName) (b : ℕ) 
 grown_node old new node next p b file g none some is plain place each =
     let f = node_some old node file is in
     let h : holds_blocks next.mode ≡ true = ap holds_blocks g.mode ∙ mode_holds node.mode p (holds_when node.mode f.0 plain) in
-    some_node new next (used next.mode h) ∙ ap Some (grown_fields old new node next p b g none some f.0 plain place each ∙ ap (λ n. gained n p) (sym f.1)) where
+    node_shown new next (used next.mode h) ∙ ap Some (grown_fields old new node next p b g none some f.0 plain place each ∙ ap (λ n. gained n p) (sym f.1)) where
       used : (mode : ℕ) → holds_blocks mode ≡ true → mode ≢ 0
       used mode h e = let z : holds_blocks 0 ≡ true = ap holds_blocks (sym e) ∙ h in absurd (cc)

@@ -12,8 +12,10 @@ use Rattle.fs_codec.specs.Held.{address, addresses}
 use Rattle.fs_codec.specs.Store.{Node}
 use Rattle.fs_codec.specs.Stands.{name_of, is_held, held_of, one_past, data_of, body_of, node_of}
 use Rattle.bmap_path.specs.declared.BlockName.TheVariants.{Data}
+use Rattle.fs_laws.specs.Shown.{file_of}
 use Rattle.fs_laws.specs.Truncation.{truncated_mode, truncated, no_names, names_held}
 use Rattle.fs_laws.proofs.CountNames.{small_data, small_is, names_counted}
+use Rattle.fs_laws.proofs.ShownLemmas.{node_some}
 
 pub truncated_small : (mode : ℕ) → is_large (truncated_mode mode) ≡ false
 truncated_small mode =
@@ -61,28 +63,6 @@ bare_body : (disk : Disk) (node : Inode) → IsBare node → body_of disk node �
 unfolding body_of
 bare_body disk node bare = ap (λ n. flat_map (data_of disk node) (range_with_len 0 n)) (past_none (λ n. is_held disk node (Data n)) 67328 (bare_data disk node bare))
 
--- a used inode as a node
-as_node : Disk → Inode → Node
-as_node disk node = record {
-  mode = node.mode;
-  nlink = node.nlink;
-  uid = node.uid;
-  gid = node.gid;
-  size = node.size;
-  device = cond (is_device node.mode) (slice_index node.addr 0) 0;
-  actime = node.actime;
-  modtime = node.modtime;
-  held = held_of disk node;
-  body = body_of disk node;
-}
-
-used_node : (disk : Disk) (node : Inode) (file : Node) → node_of disk node ≡ Some file → ((node.mode == 0) ≡ false) × (as_node disk node ≡ file)
-unfolding as_node
-used_node disk node file is = by (node.mode == 0) refl is where
-  by : (t : Bool) → (node.mode == 0) ≡ t → cond t None (Some (as_node disk node)) ≡ Some file → ((node.mode == 0) ≡ false) × (as_node disk node ≡ file)
-  by true e none = absurd (none-some file none)
-  by false e some = (e, same_Some (as_node disk node) file some)
-
 -- a small inode without addresses, and otherwise as the file's
 cut : Inode → List ℕ → Inode
 cut node addr = record node { mode = truncated_mode node.mode; size = 0; addr = addr }
@@ -99,30 +79,29 @@ emptied : (file : Node) (mode device : ℕ) (held : List Bool) (body : List ℕ)
     → record file { mode = mode; size = 0; device = device; held = held; body = body } ≡ record file { mode = mode; size = 0; held = no_names; body = [] }
 emptied file mode device held body same names none i = record file { mode = mode; size = 0; device = same i; held = names i; body = none i }
 
-cut_node : (old new : Disk) (node : Inode) (addr : List ℕ) → is_device node.mode ≡ false → length addr ≡ 8 → ((k : ℕ) → slice_index addr k ≡ 0) → as_node new (cut node addr) ≡ truncated (as_node old node)
-unfolding as_node cut
+cut_node : (old new : Disk) (node : Inode) (addr : List ℕ) → is_device node.mode ≡ false → length addr ≡ 8 → ((k : ℕ) → slice_index addr k ≡ 0) → file_of new (cut node addr) ≡ truncated (file_of old node)
+unfolding cut
 cut_node old new node addr file long none =
     let bare : IsBare (cut node addr) = cut_bare node addr long none in
     let before : cond (is_device node.mode) (slice_index node.addr 0) 0 ≡ 0 = ap (λ t. cond t (slice_index node.addr 0) 0) file in
     let device : cond (is_device (truncated_mode node.mode)) (slice_index addr 0) 0 ≡ cond (is_device node.mode) (slice_index node.addr 0) 0 = no_device (is_device (truncated_mode node.mode)) (slice_index addr 0) (none 0) ∙ sym before in
     let names = bare_names new (cut node addr) bare in
     let body = bare_body new (cut node addr) bare in
-    emptied (as_node old node) (truncated_mode node.mode) (cond (is_device (truncated_mode node.mode)) (slice_index addr 0) 0) (held_of new (cut node addr)) (body_of new (cut node addr)) device names body
-    ∙ sym (ap (λ t. cond t (as_node old node) (record (as_node old node) { mode = truncated_mode node.mode; size = 0; held = no_names; body = [] })) file)
+    emptied (file_of old node) (truncated_mode node.mode) (cond (is_device (truncated_mode node.mode)) (slice_index addr 0) 0) (held_of new (cut node addr)) (body_of new (cut node addr)) device names body
+    ∙ sym (ap (λ t. cond t (file_of old node) (record (file_of old node) { mode = truncated_mode node.mode; size = 0; held = no_names; body = [] })) file)
 
 -- The inode that is left is the file, truncated.
 pub truncated_node : (old new : Disk) (node : Inode) (addr : List ℕ) (file : Node) → is_device node.mode ≡ false → length addr ≡ 8 → ((k : ℕ) → slice_index addr k ≡ 0) → node_of old node ≡ Some file
     → node_of new (record node { mode = truncated_mode node.mode; size = 0; addr = addr }) ≡ Some (truncated file)
-unfolding as_node cut
+unfolding cut
 truncated_node old new node addr file plain long none is =
-    ap (λ t. cond t None (Some (as_node new (cut node addr)))) (truncated_used node.mode)
+    ap (λ t. cond t None (Some (file_of new (cut node addr)))) (truncated_used node.mode)
     ∙ ap (λ n. Some n) (cut_node old new node addr plain long none)
-    ∙ ap (λ n. Some (truncated n)) (used_node old node file is).1
+    ∙ ap (λ n. Some (truncated n)) (sym (node_some old node file is).1)
 
 -- A file holds as many names as its inode has addresses other than 0.
 pub file_counted : (disk : Disk) (node : Inode) (file : Node) → is_device node.mode ≡ false → length node.addr ≡ 8 → node_of disk node ≡ Some file → names_held file ≡ count_by (λ b. not (b == 0)) (addresses disk node)
-unfolding as_node
 file_counted disk node file plain long is =
-    let u = used_node disk node file is in
-    let holds : holds_blocks node.mode ≡ true = ap (λ t. not t && not (is_device node.mode)) u.0 ∙ ap not plain in
-    ap names_held (sym u.1) ∙ names_counted disk node holds long
+    let u = node_some disk node file is in
+    let holds : holds_blocks node.mode ≡ true = ap (λ t. not t && not (is_device node.mode)) (ne_eqb node.mode 0 u.0) ∙ ap not plain in
+    ap names_held u.1 ∙ names_counted disk node holds long

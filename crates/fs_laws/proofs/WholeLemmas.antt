@@ -16,7 +16,8 @@ use Rattle.fs_codec.proofs.CountLemmas.{count-cons, count-append}
 use Rattle.fs_codec.proofs.LeastLemmas.{IsLeast, least_is}
 use Rattle.fs_laws.specs.Chain.{free}
 use Rattle.fs_laws.specs.Whole.{held, IsWhole}
-use Rattle.fs_laws.proofs.ChainLemmas.{free_is_data, count_first}
+use Rattle.fs_codec.proofs.FreeLemmas.{free_is_data}
+use Rattle.fs_laws.proofs.ChainLemmas.{count_first}
 use Rattle.fs_laws.proofs.FreeLemmas.{data_some}
 use Rattle.fs_codec.specs.declared.layout.TheConstants.{DISK_BLOCKS}
 

@@ -2,7 +2,24 @@
 use Rattle.std.specs.Prelude.{◌≡◌, ◌≢◌, false, slice_index, if◌then◌else◌}
 use Rattle.fs_codec.specs.Fields.{Inode}
 use Rattle.fs_codec.specs.Modes.{file_type, is_device, is_large}
+use Rattle.fs_codec.specs.Disk.{Disk}
 use Rattle.fs_codec.specs.Store.{Node}
+use Rattle.fs_codec.specs.Stands.{held_of, body_of}
+
+-- the node of an inode that is used
+abbrev pub file_of : Disk → Inode → Node
+file_of disk node = record {
+  mode = node.mode;
+  nlink = node.nlink;
+  uid = node.uid;
+  gid = node.gid;
+  size = node.size;
+  device = if is_device node.mode then slice_index node.addr 0 else 0;
+  actime = node.actime;
+  modtime = node.modtime;
+  held = held_of disk node;
+  body = body_of disk node;
+}
 
 -- An inode still holds what it held: its type is the same, and it is large or not as it was. It is used still.
 pub record KeepsBlocks (node next : Inode) : Type 0 where

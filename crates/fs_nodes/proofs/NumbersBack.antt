@@ -18,38 +18,20 @@ use Rattle.fs_laws.specs.Numbers.{without_node}
 use Rattle.fs_laws.specs.Truncation.{names_held}
 use Rattle.fs_laws.proofs.FileLemmas.{file_apart}
 use Rattle.fs_laws.proofs.NumbersStore.{same_inode}
+use Rattle.fs_laws.proofs.ShownLemmas.{node_some}
 use Rattle.fs_blocks.specs.State.{State, disk, Fits, IsVolume}
 use Rattle.fs_blocks.specs.Touch.{Truncates}
 use Rattle.fs_blocks.proofs.SuperLemmas.{head_is}
 use Rattle.fs_nodes.specs.FileSystem.{store_now, SameRest}
 use Rattle.fs_nodes.specs.Inodes.{WritesInode, Writes}
 use Rattle.fs_nodes.specs.Numbers.{pushed, ChangesList, ChangesInode}
+use Rattle.fs_nodes.proofs.NodesLemmas.{no_node}
 use Rattle.fs_nodes.proofs.NumbersLemmas.{or_true, or_false, with_spare, spare_changes}
 use Rattle.fs_nodes.proofs.BackLemmas.{carries_freed, carries_emptied, written}
 
-pub some_when : (t : Bool) (shown file : Node) → cond t None (Some shown) ≡ Some file → shown ≡ file
-some_when true shown file is = absurd (cc)
-some_when false shown file is = cc
-
 -- what a used inode's node holds
 held_file : (disk : Disk) (node : Inode) (file : Node) → node_of disk node ≡ Some file → file.held ≡ held_of disk node
-held_file disk node file is = ap (λ (n : Node). n.held) (sym (some_when (node.mode == 0) _ file is))
-
-some_of : (t : Bool) (shown : Node) → t ≡ false → (file : Node) × (cond t None (Some shown) ≡ Some file)
-some_of true shown e = absurd (cc)
-some_of false shown e = (shown, refl)
-
-none_of : (t : Bool) (shown : Node) → t ≡ true → cond t None (Some shown) ≡ None
-none_of true shown e = refl
-none_of false shown e = absurd (cc)
-
--- A used inode has a node.
-pub file_of : (disk : Disk) (node : Inode) → node.mode ≢ 0 → (file : Node) × (node_of disk node ≡ Some file)
-file_of disk node used = some_of (node.mode == 0) _ (ne_eqb node.mode 0 used)
-
--- A free inode has none.
-pub no_file : (disk : Disk) (node : Inode) → node.mode ≡ 0 → node_of disk node ≡ None
-no_file disk node is = none_of (node.mode == 0) _ (ap (λ n. n == 0) is)
+held_file disk node file is = ap (λ (n : Node). n.held) (node_some disk node file is).1
 
 abbrev one : Bool → ℕ
 one t = cond t 1 0
@@ -103,13 +85,13 @@ cleared old mid fin i node between next file whole fits sizes low high first use
       let nothing = device_none (disk old) node file e is in
       writes_as old fin i (node_of (disk old) next) None (length (free (disk old))) (length (free (disk old)) + names_held file) old.changed (old.changed || nat_lt 0 (names_held file))
       (written old old fin i node next whole fits sizes (omega (arith, low)) high first (carries_emptied old node next none) (subst P (stays e) w) (λ one. absurd (omega (arith, low, one))))
-      (no_file (disk old) next none) (omega (arith, nothing)) (sym (ap (λ n. old.changed || nat_lt 0 n) nothing ∙ or_false old.changed))
+      (no_node (disk old) next none) (omega (arith, nothing)) (sym (ap (λ n. old.changed || nat_lt 0 n) nothing ∙ or_false old.changed))
   by false e =
       let t = gives e in
       let room = (t.used file is).1 in
       writes_as old fin i (node_of (disk mid) next) None (length (free (disk mid))) (length (free (disk old)) + names_held file) mid.changed (old.changed || nat_lt 0 (names_held file))
       (written old mid fin i node next whole fits sizes (omega (arith, low)) high first (carries_freed old mid node between next (used_holds node.mode used e) none t.moves) w (λ one. absurd (omega (arith, low, one))))
-      (no_file (disk mid) next none) room (t.moves.changed ∙ ap (λ b. old.changed || b) (marked (length (free (disk old))) (names_held file) (length (free (disk mid))) room))
+      (no_node (disk mid) next none) room (t.moves.changed ∙ ap (λ b. old.changed || b) (marked (length (free (disk old))) (names_held file) (length (free (disk mid))) room))
 
 -- what the blocks of an inode are where they are given back
 pub used_apart : (s : State) (i : ℕ) (node : Inode) → IsWhole (disk s) → 1 < i → i ≤ inode_count (disk s) → inode (disk s) i ≡ node → node.mode ≢ 0 → is_device node.mode ≡ false → IsApart (disk s) (addresses (disk s) node)

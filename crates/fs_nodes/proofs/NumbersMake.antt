@@ -23,12 +23,11 @@ use Rattle.fs_nodes.specs.Inodes.{WritesInode, Carries, Writes}
 use Rattle.fs_nodes.specs.Table.{references_to, references_in, entries_of, IsEntry, IsTable, IsNodes}
 use Rattle.fs_nodes.specs.Numbers.{refers_to, ChangesList}
 use Rattle.fs_nodes.proofs.TableLemmas.{one, entries_cons, none_of, some_entries, references_at, no_entry}
-use Rattle.fs_nodes.proofs.NodesLemmas.{node_at, referenced_used}
+use Rattle.fs_nodes.proofs.NodesLemmas.{node_at, referenced_used, no_node}
 use Rattle.fs_nodes.proofs.SaveLemmas.{other_entry}
 use Rattle.fs_nodes.proofs.TakeLemmas.{new_nodes_with, new_system}
 use Rattle.fs_nodes.proofs.BackLemmas.{written}
 use Rattle.fs_nodes.proofs.NumbersLemmas.{spare_changes, free_mode, free_zero, free_high, drawn_first, drawn_second, or_false}
-use Rattle.fs_nodes.proofs.NumbersBack.{no_file}
 
 -- Whether the table has an inode is whether something refers to it.
 any_step : (t u : Bool) (n : ℕ) → u ≡ nat_lt 0 n → t || u ≡ nat_lt 0 (cond t 1 0 + n)
@@ -90,7 +89,7 @@ no_entry_free v es i n few f = elim (cases_lt 0 (entries_of es i)) [
       let less = some_entries (disk v) es i n.table in
       let at = references_at (disk v) es i n.table in
       let used : IsSome (node_numbered (store_now v) i) = referenced_used v es i n (omega (arith, some, less, at)) in
-      let none : node_numbered (store_now v) i ≡ None = node_at v i f.low f.high ∙ no_file (disk v) (inode (disk v) i) f.none in
+      let none : node_numbered (store_now v) i ≡ None = node_at v i f.low f.high ∙ no_node (disk v) (inode (disk v) i) f.none in
       let yes : is_some (node_numbered (store_now v) i) ≡ true = used in
       let none_there : is_some (node_numbered (store_now v) i) ≡ false = ap is_some none in
       absurd (cc)

@@ -1,35 +1,32 @@
 -- What a read or a write of a file leaves, with its times and its inode.
-use Rattle.std.proofs.Common.{◌≡◌, ◌≢◌, ◌+◌, ◌*◌, ◌<◌, ◌≤◌, ◌==◌, ◌&&◌, ◌||◌, inl, inr, ℕ, Bool, true, false, not, cond, List, [], length, length-set, get_or, slice_set, slice_index, min, nat_eq, Option, Some, None, refl, sym, ap, ◌∙◌, subst, arith}
-use Rattle.std.proofs.lemmas.Bool.Decides.{eqb_tells}
-use Rattle.std.specs.List.{count_by, refill}
-use Rattle.fs_codec.specs.Fields.{Inode, fields_of}
-use Rattle.fs_codec.specs.Modes.{file_type, is_device, is_directory}
+use Rattle.std.proofs.Common.{◌≡◌, ◌≢◌, ◌+◌, ◌*◌, ◌≤◌, ◌==◌, ◌&&◌, ◌||◌, ℕ, Bool, true, false, not, cond, List, [], length, slice_set, slice_index, min, nat_eq, Option, Some, None, refl, sym, ap, ◌∙◌, subst, arith}
+use Rattle.std.specs.List.{count_by}
+use Rattle.fs_codec.specs.Fields.{Inode}
+use Rattle.fs_codec.specs.Modes.{file_type, is_device, is_directory, holds_blocks}
 use Rattle.fs_codec.specs.Disk.{Disk, inode, inode_count, head}
 use Rattle.fs_codec.specs.Held.{addresses, held_blocks}
 use Rattle.fs_codec.specs.Store.{Node, node_numbered}
-use Rattle.fs_codec.specs.Stands.{held_of, body_of, node_of, store_of}
-use Rattle.fs_codec.specs.declared.node.DiskNode.{DiskNode}
-use Rattle.fs_codec.specs.declared.modes.TheConstants.{IFDIR}
+use Rattle.fs_codec.specs.Stands.{held_of, body_of, node_of}
 use Rattle.fs_codec.specs.declared.super_block.SuperBlock.{SuperBlock}
 use Rattle.v6_base.specs.declared.errno.Errno.{Errno}
 use Rattle.fs_laws.specs.Chain.{free}
-use Rattle.fs_laws.specs.Whole.{IsApart}
+use Rattle.fs_laws.specs.Whole.{IsApart, IsWhole}
 use Rattle.fs_laws.specs.Pieces.{pieces, Moving, reading, writing, beginning, read_file, write_file}
 use Rattle.fs_laws.proofs.FileLemmas.{file_apart}
+use Rattle.fs_laws.proofs.ShownLemmas.{node_shown, node_some}
+use Rattle.fs_laws.proofs.TouchNodeLemmas.{holds_when}
 use Rattle.fs_blocks.specs.State.{State, disk, Fits}
 use Rattle.fs_blocks.specs.Touch.{MovesBlocks}
 use Rattle.fs_blocks.proofs.SuperLemmas.{head_is}
 use Rattle.fs_blocks.proofs.VolumeLemmas.{same_refl}
 use Rattle.fs_nodes.specs.declared.table.Referenced.{Referenced}
 use Rattle.fs_nodes.specs.FileSystem.{FileSystem, store_now}
-use Rattle.fs_nodes.specs.Inodes.{WritesInode, Carries}
-use Rattle.fs_nodes.specs.Table.{file_system, with_inode, IsNodes}
+use Rattle.fs_nodes.specs.Inodes.{Carries}
+use Rattle.fs_nodes.specs.Table.{file_system, IsNodes, IsUsed, HasInode}
 use Rattle.fs_nodes.specs.Moves.{file_of, moving, Comes, Grew, Dated, Ends, Moves, Carried}
-use Rattle.fs_nodes.proofs.BackLemmas.{carries_moved}
-use Rattle.fs_nodes.proofs.NodesLemmas.{IsUsed, node_at}
-use Rattle.fs_nodes.proofs.SaveLemmas.{Saves, saved}
-use Rattle.fs_nodes.proofs.TakeLemmas.{refilled, some_entry}
-use Rattle.fs_nodes.proofs.PieceSteps.{file_is, some_file, holds_some, same_names, same_body}
+use Rattle.fs_nodes.proofs.BackLemmas.{held_is, carries_moved}
+use Rattle.fs_nodes.proofs.NodesLemmas.{node_at, room_is, mark_is, same_mark, root_kept}
+use Rattle.fs_nodes.proofs.PieceSteps.{same_names, same_body}
 
 -- an inode with other times
 pub dated : (disk : Disk) (x y : Inode) (actime modtime : ℕ) → y ≡ record x { actime = actime; modtime = modtime } → Dated x y × (file_of disk y ≡ record (file_of disk x) { actime = actime; modtime = modtime })
@@ -62,7 +59,7 @@ ends_device {Memory} s x y m memory d device used is =
     let there = nothing y (ap is_device d.mode ∙ device) in
     let P : Moving Memory → Type 0 = λ n. Comes s y n memory 0 None in
     record {
-      comes = subst P (sym is) (record { node = file_is (disk s) y some; room = refl; memory = refl; done = refl; error = refl });
+      comes = subst P (sym is) (record { node = node_shown (disk s) y some; room = refl; memory = refl; done = refl; error = refl });
       carries = record {
         count = λ k some_k. (let a : count_by (nat_eq k) (held_blocks (disk s) y) ≡ count_by (nat_eq k) (held_blocks (disk s) x) = ap (count_by (nat_eq k)) (there ∙ sym here) in omega (arith, a));
         inside = λ k some_k comes. (let a : count_by (nat_eq k) (held_blocks (disk s) y) ≡ 0 = ap (count_by (nat_eq k)) there in absurd (omega (arith, a, comes)));
@@ -71,15 +68,11 @@ ends_device {Memory} s x y m memory d device used is =
       };
       used = some;
       type = ap file_type d.mode;
-      changed = sym (unmarked s.changed (length (free (disk s))));
+      changed = sym (same_mark s.changed (length (free (disk s))));
     } where
       never : (t : Bool) → t && not true ≡ false
       never true = refl
       never false = refl
-
-      unmarked : (o : Bool) (a : ℕ) → o || not (a == a) ≡ o
-      unmarked true a = refl
-      unmarked false a = elim (eqb_tells a a) [ inl y ↦ ap not y.0 | inr y ↦ absurd (y.1 refl) ]
 
 abbrev plain : ℕ → List ℕ → Inode
 plain mode addr = record { mode = mode; nlink = 0; uid = 0; gid = 0; size = 0; addr = addr; actime = 0; modtime = 0 }
@@ -104,28 +97,20 @@ dated_apart s x y d apart =
 pub ends_file : {Memory : Type 0} (s t : State) (x y z : Inode) (m : Moving Memory) (bytes : Memory) (moved : ℕ) (refusal : Option Errno) → Dated x y → is_device x.mode ≡ false → x.mode ≢ 0
     → Comes t z m bytes moved refusal → Grew s y t z → Ends s x t z m bytes moved refusal
 ends_file s t x y z m bytes moved refusal d file used c g =
-    let some : z.mode ≢ 0 = (some_file (disk t) z m.node c.node).0 in
+    let some : z.mode ≢ 0 = (node_some (disk t) z m.node c.node).0 in
     let kind : file_type z.mode ≡ file_type x.mode = g.type ∙ ap file_type d.mode in
     let device : is_device z.mode ≡ false = ap (λ k. (k == 0o020000) || (k == 0o060000)) kind ∙ file in
     let moves = same_moves s t x y z d g.moves in
     record {
       comes = c;
-      carries = carries_moved s t x z (holds_some x.mode used file) (holds_some z.mode some device) moves;
+      carries = carries_moved s t x z (holds_when x.mode used file) (holds_when z.mode some device) moves;
       used = some;
       type = kind;
       changed = moves.changed;
     }
 
 -- The store, where a call has come to its end and its inode is written.
-mark_is : (s : State) → s.changed ≡ (store_now s).mark
-unfolding store_now
-mark_is s = refl
-
-room_is : (s : State) → (store_now s).room ≡ length (free (disk s))
-unfolding store_now store_of
-room_is s = refl
-
-pub moves_store : {Memory : Type 0} (old new fin : State) (i : ℕ) (x next : Inode) (m : Moving Memory) (bytes : Memory) (moved : ℕ) (refusal : Option Errno) → Ends old x new next m bytes moved refusal
+moves_store : {Memory : Type 0} (old new fin : State) (i : ℕ) (x next : Inode) (m : Moving Memory) (bytes : Memory) (moved : ℕ) (refusal : Option Errno) → Ends old x new next m bytes moved refusal
     → store_now fin ≡ record (store_now old) { nodes = slice_set (store_now old).nodes i (node_of (disk new) next); room = length (free (disk new)); mark = new.changed }
     → Moves (store_now old) i (store_now fin) m bytes moved refusal
 moves_store old new fin i x next m bytes moved refusal e is =
@@ -150,32 +135,6 @@ within_head s i fits low = let h : (head (disk s)).i_size ≡ s.head.i_size = ap
 
 pub within_disk : (s : State) (i : ℕ) → Fits s.head → i ≤ 16 * s.head.i_size → i ≤ inode_count (disk s)
 within_disk s i fits low = let h : (head (disk s)).i_size ≡ s.head.i_size = ap (λ (x : SuperBlock). x.i_size) (head_is s.blocks s.head fits) in omega (arith, h, low)
-
--- the root stays a directory
-pub root_kept : (s : State) (es : List Referenced) (i : ℕ) (x next : Inode) → IsNodes s es → x ≡ inode (disk s) i → file_type next.mode ≡ file_type x.mode → i ≡ 1 → is_directory next.mode ≡ true
-root_kept s es i x next n same kind first =
-    ap (λ t. t == IFDIR) kind ∙ ap (λ (y : Inode). is_directory y.mode) same ∙ ap (λ j. is_directory (inode (disk s) j).mode) first ∙ n.whole.root
-
--- Where an inode of the table is written after its blocks were moved.
-saved_at : (old new fin : State) (es now : List Referenced) (k i : ℕ) (next : DiskNode) → IsNodes old es → k < length es → ((e : Referenced) → (get_or es k e).ino ≡ i) → Carries old (inode (disk old) i) new (fields_of next)
-    → WritesInode new i (fields_of next) fin → next.mode ≢ 0 → (i ≡ 1 → is_directory next.mode ≡ true) → ((e : Referenced) → now ≡ slice_set es k (with_inode (get_or es k e) next)) → Carried old new fin es (refill (length es) es now) i (fields_of next)
-saved_at old new fin es now k i next n low ino c w used root is =
-    let e : Referenced = some_entry es k low in
-    let entry = n.table.each k (some_entry es k low) low in
-    let same : inode (disk old) i ≡ fields_of (get_or es k (some_entry es k low)).node = ap (inode (disk old)) (sym (ino (some_entry es k low))) ∙ sym entry.same in
-    let c' : Carries old (fields_of (get_or es k (some_entry es k low)).node) new (fields_of next) = (let P : Inode → Type 0 = λ x. Carries old x new (fields_of next) in subst P same c) in
-    let to : refill (length es) es now ≡ slice_set es k (with_inode (get_or es k (some_entry es k low)) next) =
-    refilled es now (ap length (is (some_entry es k low)) ∙ length-set es k (with_inode (get_or es k (some_entry es k low)) next)) ∙ is (some_entry es k low) in
-    let s : Saves old new fin es (slice_set es k (with_inode (get_or es k (some_entry es k low)) next)) i (fields_of next) = saved old new fin es k (some_entry es k low) i next n low (ino (some_entry es k low)) c' w used root in
-    let P : List Referenced → Type 0 = λ l. Carried old new fin es l i (fields_of next) in
-    subst P (sym to) (record { nodes = s.nodes; references = s.references; store = s.store; rest = s.rest })
-
-pub saved_after : (old new fin : State) (es held now : List Referenced) (k i : ℕ) (next : DiskNode) → held ≡ es → k < length held → ((e : Referenced) → (get_or held k e).ino ≡ i) → WritesInode new i (fields_of next) fin
-    → ((e : Referenced) → now ≡ slice_set held k (with_inode (get_or held k e) next))
-    → IsNodes old es → Carries old (inode (disk old) i) new (fields_of next) → next.mode ≢ 0 → (i ≡ 1 → is_directory next.mode ≡ true) → Carried old new fin es (refill (length es) es now) i (fields_of next)
-saved_after old new fin es held now k i next same low ino w is n c used root =
-    let P : List Referenced → Type 0 = λ l. k < length l → ((e : Referenced) → (get_or l k e).ino ≡ i) → ((e : Referenced) → now ≡ slice_set l k (with_inode (get_or l k e) next)) → Carried old new fin es (refill (length es) es now) i (fields_of next) in
-    subst P (sym same) (λ low ino is. saved_at old new fin es now k i next n low ino c w used root is) low ino is
 
 -- times that are set where there is something
 one_time : (t : Bool) (f : Node) (time : ℕ) → cond t f (record f { actime = time }) ≡ record f { actime = cond t f.actime time; modtime = f.modtime }
@@ -246,23 +205,32 @@ pub accessed_apart : (s : State) (x y : Inode) (actime modtime : ℕ) → y ≡ 
 accessed_apart s x y actime modtime is file apart =
     let d = (dated (disk s) x y actime modtime is).0 in dated_apart s x y d (apart (ap is_device (sym d.mode) ∙ file))
 
+-- what an inode holds lies apart
+pub holds_apart : (s : State) (i : ℕ) (node : Inode) → IsWhole (disk s) → 1 ≤ i → i ≤ inode_count (disk s) → node ≡ inode (disk s) i → holds_blocks node.mode ≡ true → IsApart (disk s) (addresses (disk s) node)
+holds_apart s i node w low high same holds =
+    let P : List ℕ → Type 0 = IsApart (disk s) in
+    subst P (ap (held_blocks (disk s)) (sym same) ∙ held_is (disk s) node holds) (file_apart (disk s) i w low high)
+
 -- The blocks of an inode of a file system are apart.
 pub apart_of : (s : State) (es : List Referenced) (i : ℕ) (x : Inode) → IsNodes s es → IsUsed s i → x ≡ inode (disk s) i → is_device x.mode ≡ false → IsApart (disk s) (addresses (disk s) x)
 apart_of s es i x n u same file =
-    let y : Inode = inode (disk s) i in
-    let used : x.mode ≢ 0 = (λ e. u.used (sym (ap (λ (z : Inode). z.mode) same) ∙ e)) in
-    let held : held_blocks (disk s) x ≡ addresses (disk s) x = ap (λ t. cond t (addresses (disk s) x) []) (holds_some x.mode used file) in
-    let P : List ℕ → Type 0 = IsApart (disk s) in
-    subst P (ap (held_blocks (disk s)) (sym same) ∙ held) (file_apart (disk s) i n.whole u.low u.high)
+    holds_apart s i x n.whole u.low u.high same (holds_when x.mode (λ e. u.used (sym (ap (λ (z : Inode). z.mode) same) ∙ e)) file)
+
+-- What a call that moves bytes leaves, once its inode is written.
+pub carried_of : {Memory : Type 0} (v w fin : State) (es es' : List Referenced) (i : ℕ) (x next : Inode) (m : Moving Memory) (bytes : Memory) (moved : ℕ) (refusal : Option Errno) → IsNodes v es → HasInode v es i x → Ends v x w next m bytes moved refusal
+    → ((old : State) → IsNodes old es → Carries old (inode (disk old) i) w next → next.mode ≢ 0 → (i ≡ 1 → is_directory next.mode ≡ true) → Carried old w fin es es' i next) → Carried v w fin es es' i next
+carried_of v w fin es es' i x next m bytes moved refusal n h e carried =
+    let P : Inode → Type 0 = λ y. Carries v y w next in
+    carried v n (subst P h.same e.carries) e.used (root_kept v i next.mode n.whole (e.type ∙ ap (λ (y : Inode). file_type y.mode) h.same))
 
 -- What a call has come to, in terms of a file system.
 pub called : {Memory : Type 0} (v w fin : State) (es after : List Referenced) (fs : FileSystem) (i : ℕ) (x next : Inode) (run : Node → ℕ → Moving Memory) (bytes : Memory) (moved : ℕ) (refusal : Option Errno) (node : Node)
-    → file_system v es ≡ fs → IsUsed v i → x ≡ inode (disk v) i → Ends v x w next (run (file_of (disk v) x) (length (free (disk v)))) bytes moved refusal → Carried v w fin es after i next
+    → file_system v es ≡ fs → HasInode v es i x → Ends v x w next (run (file_of (disk v) x) (length (free (disk v)))) bytes moved refusal → Carried v w fin es after i next
     → node_numbered fs.store i ≡ Some node → Moves fs.store i (store_now fin) (run node fs.store.room) bytes moved refusal
-called {Memory} v w fin es after fs i x next run bytes moved refusal node view u same e c =
+called {Memory} v w fin es after fs i x next run bytes moved refusal node view h e c =
     let P : FileSystem → Type 0 = λ f. node_numbered f.store i ≡ Some node → Moves f.store i (store_now fin) (run node f.store.room) bytes moved refusal in
     subst P view (λ found.
-    let is = (some_file (disk v) x node (ap (node_of (disk v)) same ∙ sym (node_at v i u.low u.high) ∙ found)).1 in
+    let is = (node_some (disk v) x node (ap (node_of (disk v)) h.same ∙ sym (node_at v i h.used.low h.used.high) ∙ found)).1 in
     let m : Moves (store_now v) i (store_now fin) (run (file_of (disk v) x) (length (free (disk v)))) bytes moved refusal = moves_store v w fin i x next (run (file_of (disk v) x) (length (free (disk v)))) bytes moved refusal e c.store in
     let Q : Node → Type 0 = λ n. Moves (store_now v) i (store_now fin) (run n (length (free (disk v)))) bytes moved refusal in
     let R : ℕ → Type 0 = λ r. Moves (store_now v) i (store_now fin) (run node r) bytes moved refusal in

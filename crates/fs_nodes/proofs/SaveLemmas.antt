@@ -5,7 +5,7 @@ use Rattle.std.proofs.lemmas.Bool.{cases_lt}
 use Rattle.std.proofs.lemmas.Bool.Decides.{eqb_tells}
 use Rattle.std.proofs.lemmas.List.Sums.{sum_by-set, sum_by-remove, get_or-le-sum_by}
 use Rattle.std.proofs.lemmas.List.Edits.{length-remove, get_or-remove_below, get_or-remove_above}
-use Rattle.std.specs.List.{range_with_len, sum_by, remove}
+use Rattle.std.specs.List.{range_with_len, sum_by, remove, refill}
 use Rattle.fs_codec.specs.Fields.{Inode, fields_of}
 use Rattle.fs_codec.specs.Modes.{is_directory}
 use Rattle.fs_codec.specs.Disk.{Disk, inode, inode_count}
@@ -16,11 +16,12 @@ use Rattle.fs_laws.specs.Whole.{ChangesFile}
 use Rattle.fs_laws.proofs.FileLemmas.{same_inodes}
 use Rattle.fs_blocks.specs.State.{State, disk}
 use Rattle.fs_nodes.specs.declared.table.Referenced.{Referenced}
-use Rattle.fs_nodes.specs.FileSystem.{store_now, SameRest}
 use Rattle.fs_nodes.specs.Inodes.{WritesInode, Carries, Writes}
+use Rattle.fs_nodes.specs.Moves.{Carried}
 use Rattle.fs_nodes.specs.Table.{share, references_to, references_in, entries_of, with_inode, IsEntry, IsTable, IsNodes}
 use Rattle.fs_nodes.proofs.TableLemmas.{one}
 use Rattle.fs_nodes.proofs.BackLemmas.{written}
+use Rattle.fs_nodes.proofs.TakeLemmas.{refilled, some_entry}
 
 one_at : (e : Referenced) (i : ℕ) → e.ino ≡ i → one (e.ino == i) ≡ 1
 one_at e i is = elim (eqb_tells e.ino i) [ inl h ↦ ap one h.0 | inr h ↦ absurd (h.1 is) ]
@@ -91,29 +92,17 @@ references_saved count count' es k d next same low ino refs =
     ap (λ n. map (references_to (set es k next)) (range_with_len 0 (n + 1))) same
     ∙ (λ j. map (λ i. same_sum (share i) es k d next low (λ l. cond (ino l == i) (refs l) 0) j) (range_with_len 0 (count + 1)))
 
--- What a file system comes to where a call changes a file's blocks and then writes its inode, in its block and in the table.
-pub record Saves (old new fin : State) (es es' : List Referenced) (i : ℕ) (next : Inode) : Type 0 where
-  pub nodes : IsNodes fin es'
-  pub references : references_in (inode_count (disk fin)) es' ≡ references_in (inode_count (disk old)) es
-  pub store : store_now fin ≡ record (store_now old) {
-    nodes = slice_set (store_now old).nodes i (node_of (disk new) next);
-    room = length (free (disk new));
-    mark = new.changed;
-  }
-  pub rest : SameRest old.blocks fin.blocks
-
-pub saved : (old new fin : State) (es : List Referenced) (k : ℕ) (d : Referenced) (i : ℕ) (next : DiskNode) → IsNodes old es → k < length es → (get_or es k d).ino ≡ i
+-- A call changes a file's blocks and then writes its inode, in its block and in the table.
+saved : (old new fin : State) (es : List Referenced) (k : ℕ) (d : Referenced) (i : ℕ) (next : DiskNode) → IsNodes old es → k < length es → (get_or es k d).ino ≡ i
     → Carries old (fields_of (get_or es k d).node) new (fields_of next) → WritesInode new i (fields_of next) fin → next.mode ≢ 0 → (i ≡ 1 → is_directory next.mode ≡ true)
-    → Saves old new fin es (set es k (with_inode (get_or es k d) next)) i (fields_of next)
+    → Carried old new fin es (set es k (with_inode (get_or es k d) next)) i (fields_of next)
 saved old new fin es k d i next n low ino c w used root =
-    let e : Referenced = get_or es k d in
     let is = n.table.each k d low in
     let low' = is.low in let high' = is.high in
     let w' : Writes old i (node_of (disk new) (fields_of next)) (length (free (disk new))) new.changed fin =
     written old new fin i (fields_of (get_or es k d).node) (fields_of next) n.whole n.fits n.sizes (omega (arith, ino, low')) (omega (arith, ino, high')) (ap (inode (disk old)) (sym ino) ∙ sym is.same) c w root in
     let change : ChangesFile (disk old) (disk fin) (get_or es k d).ino = (let P : ℕ → Type 0 = ChangesFile (disk old) (disk fin) in subst P (sym ino) w'.changes) in
     let count = same_inodes (disk old) (disk fin) change.zone in
-    let next' : Referenced = record (get_or es k d) { node = next } in
     record {
       nodes = record {
         whole = w'.whole;
@@ -132,3 +121,22 @@ saved old new fin es k d i next n low ino c w used root =
       store = w'.store;
       rest = w'.rest;
     }
+
+-- The same, where the table is a slice in which the inode has been found.
+saved_at : (old new fin : State) (es now : List Referenced) (k i : ℕ) (next : DiskNode) → IsNodes old es → k < length es → ((e : Referenced) → (get_or es k e).ino ≡ i) → Carries old (inode (disk old) i) new (fields_of next)
+    → WritesInode new i (fields_of next) fin → next.mode ≢ 0 → (i ≡ 1 → is_directory next.mode ≡ true) → ((e : Referenced) → now ≡ slice_set es k (with_inode (get_or es k e) next)) → Carried old new fin es (refill (length es) es now) i (fields_of next)
+saved_at old new fin es now k i next n low ino c w used root is =
+    let entry = n.table.each k (some_entry es k low) low in
+    let same : inode (disk old) i ≡ fields_of (get_or es k (some_entry es k low)).node = ap (inode (disk old)) (sym (ino (some_entry es k low))) ∙ sym entry.same in
+    let c' : Carries old (fields_of (get_or es k (some_entry es k low)).node) new (fields_of next) = (let P : Inode → Type 0 = λ x. Carries old x new (fields_of next) in subst P same c) in
+    let to : refill (length es) es now ≡ slice_set es k (with_inode (get_or es k (some_entry es k low)) next) =
+    refilled es now (ap length (is (some_entry es k low)) ∙ length-set es k (with_inode (get_or es k (some_entry es k low)) next)) ∙ is (some_entry es k low) in
+    let P : List Referenced → Type 0 = λ l. Carried old new fin es l i (fields_of next) in
+    subst P (sym to) (saved old new fin es k (some_entry es k low) i next n low (ino (some_entry es k low)) c' w used root)
+
+pub saved_after : (old new fin : State) (es held now : List Referenced) (k i : ℕ) (next : DiskNode) → held ≡ es → k < length held → ((e : Referenced) → (get_or held k e).ino ≡ i) → WritesInode new i (fields_of next) fin
+    → ((e : Referenced) → now ≡ slice_set held k (with_inode (get_or held k e) next))
+    → IsNodes old es → Carries old (inode (disk old) i) new (fields_of next) → next.mode ≢ 0 → (i ≡ 1 → is_directory next.mode ≡ true) → Carried old new fin es (refill (length es) es now) i (fields_of next)
+saved_after old new fin es held now k i next same low ino w is n c used root =
+    let P : List Referenced → Type 0 = λ l. k < length l → ((e : Referenced) → (get_or l k e).ino ≡ i) → ((e : Referenced) → now ≡ slice_set l k (with_inode (get_or l k e) next)) → Carried old new fin es (refill (length es) es now) i (fields_of next) in
+    subst P (sym same) (λ low ino is. saved_at old new fin es now k i next n low ino c w used root is) low ino is

@@ -1,17 +1,18 @@
 -- What a read or a write of an inode's file comes to.
-use Rattle.std.specs.Prelude.{◌≡◌, ◌≢◌, ◌≤◌, ℕ, Bool, true, false, not, ◌||◌, ◌==◌, List, length, slice_index, slice_set, if◌then◌else◌, Option, Some, None}
+use Rattle.std.specs.Prelude.{◌≡◌, ◌≢◌, ◌≤◌, ℕ, Bool, true, false, not, ◌||◌, ◌==◌, List, length, slice_set, Option, Some, None}
 use Rattle.v6_base.specs.declared.errno.Errno.{Errno}
 use Rattle.fs_codec.specs.Fields.{Inode}
 use Rattle.fs_codec.specs.Modes.{file_type, is_device, holds_blocks}
-use Rattle.fs_codec.specs.Disk.{Disk, inode_count}
+use Rattle.fs_codec.specs.Disk.{inode_count}
 use Rattle.fs_codec.specs.Held.{addresses}
-use Rattle.fs_codec.specs.Store.{Node, Store}
+use Rattle.fs_codec.specs.Store.{Store}
 use Rattle.fs_laws.specs.Numbers.{with_node}
-use Rattle.fs_codec.specs.Stands.{held_of, body_of, node_of}
+use Rattle.fs_codec.specs.Stands.{node_of}
 use Rattle.fs_laws.specs.Chain.{free}
 use Rattle.fs_laws.specs.Whole.{IsApart}
 use Rattle.fs_laws.specs.Touch.{touching}
 use Rattle.fs_laws.specs.Pieces.{Moving, with_bytes}
+pub use Rattle.fs_laws.specs.Shown.{file_of}
 use Rattle.buf_cache.specs.Blocks.{IsDisk}
 use Rattle.fs_blocks.specs.State.{State, disk, IsVolume}
 use Rattle.fs_blocks.specs.Touch.{MovesBlocks}
@@ -19,21 +20,6 @@ use Rattle.fs_nodes.specs.declared.table.Referenced.{Referenced}
 use Rattle.fs_nodes.specs.FileSystem.{store_now, SameRest}
 use Rattle.fs_nodes.specs.Inodes.{Carries}
 use Rattle.fs_nodes.specs.Table.{references_in, IsNodes}
-
--- the node of an inode that is used
-abbrev pub file_of : Disk → Inode → Node
-file_of disk node = record {
-  mode = node.mode;
-  nlink = node.nlink;
-  uid = node.uid;
-  gid = node.gid;
-  size = node.size;
-  device = if is_device node.mode then slice_index node.addr 0 else 0;
-  actime = node.actime;
-  modtime = node.modtime;
-  held = held_of disk node;
-  body = body_of disk node;
-}
 
 -- a read or a write of an inode's file that has come so far
 abbrev pub moving : {Memory : Type 0} → State → Inode → Memory → ℕ → Moving Memory

@@ -2,7 +2,7 @@
 use Rattle.std.specs.Prelude.{◌≡◌, ◌≢◌, ℕ, ◌+◌, ◌<◌, ◌≤◌, ◌==◌, if◌then◌else◌, List, map, count_by}
 use Rattle.std.specs.List.{range_with_len, sum_by, All}
 use Rattle.buf_cache.specs.Blocks.{block_at}
-use Rattle.fs_codec.specs.Fields.{fields_of}
+use Rattle.fs_codec.specs.Fields.{Inode, fields_of}
 use Rattle.fs_codec.specs.Disk.{Disk, inode, inode_count}
 use Rattle.fs_codec.specs.declared.node.DiskNode.{DiskNode}
 use Rattle.fs_laws.specs.Chain.{SameZone}
@@ -47,6 +47,18 @@ pub record IsNodes (volume : State) (entries : List Referenced) : Type 0 where
   pub fits : Fits volume.head
   pub sizes : SameZone (block_at volume.blocks) (disk volume)
   pub table : IsTable (disk volume) entries
+
+-- The number of an inode that is used.
+pub record IsUsed (s : State) (i : ℕ) : Type 0 where
+  pub low : 1 ≤ i
+  pub high : i ≤ inode_count (disk s)
+  pub used : (inode (disk s) i).mode ≢ 0
+
+-- The table has the inode of a number.
+pub record HasInode (s : State) (entries : List Referenced) (i : ℕ) (node : Inode) : Type 0 where
+  pub some : 1 ≤ entries_of entries i
+  pub used : IsUsed s i
+  pub same : node ≡ inode (disk s) i
 
 -- A file system on a volume, with a table of inodes, of which the disk has all.
 abbrev pub file_system : State → List Referenced → FileSystem

@@ -1,25 +1,20 @@
 //! Reads and writes of an inode's file: readi and writei in Lions' Commentary, `rdwri.c`.
 ghost use Rattle.std.specs.Prelude.{◌≡◌, ◌≢◌, ◌+◌, ◌*◌, ◌<◌, ◌≤◌, ◌==◌, ℕ, if◌then◌else◌, min, true, false, length, slice_index, Some};
 ghost use Rattle.fs_codec.specs.Fields.{Inode, fields_of};
-ghost use Rattle.fs_codec.specs.Modes.{is_device, is_directory};
-ghost use Rattle.fs_codec.specs.Disk.{inode, inode_count};
+ghost use Rattle.fs_codec.specs.Modes.{is_device};
 ghost use Rattle.fs_codec.specs.Held.{addresses};
 ghost use Rattle.fs_codec.specs.Store.{Node, node_numbered};
 ghost use Rattle.fs_laws.specs.Chain.{free};
 ghost use Rattle.fs_laws.specs.Whole.{IsApart};
 ghost use Rattle.fs_laws.specs.Pieces.{read_file, write_file};
-ghost use Rattle.fs_blocks.specs.State.{State, disk};
+ghost use Rattle.fs_blocks.specs.State.{disk};
 ghost use Rattle.fs_nodes.specs.Copy.{put_into, get_from, put_kernel, get_kernel};
 ghost use Rattle.fs_nodes.specs.FileSystem.{SameRest};
-ghost use Rattle.fs_nodes.specs.Inodes.{Carries};
-ghost use Rattle.fs_nodes.specs.Table.{entries_of, IsNodes};
-ghost use Rattle.fs_nodes.specs.Moves.{file_of, Ends, Moves, Carried};
+ghost use Rattle.fs_nodes.specs.Moves.{file_of, Ends, Moves};
 
-use crate::inodes::see;
 use crate::nodes::Nodes;
 use crate::pieces::{Moved, read_pieces, read_pieces_kernel, write_pieces, write_pieces_kernel};
-use crate::table::{Referenced, inode_in, place, save};
-use arrayvec::ArrayVec;
+use crate::table::{carry_inode, inode_of};
 use fs_blocks::Volume;
 use fs_codec::{DiskNode, is_device};
 use v6_base::Space;
@@ -143,23 +138,6 @@ fn write_file_kernel(
     write_pieces_kernel(volume, node, offset, offset + buf.len() as u64, buf)
 }
 
-/// Writes an inode, whose blocks may have moved, into its block and into the table.
-fn carry_inode(
-    volume: &mut Volume,
-    table: &mut ArrayVec<Referenced, 100>,
-    ino: u16,
-    node: &DiskNode,
-)
-    requires some { 1 ≤ entries_of table.old.items ino }
-    requires low { 1 ≤ ino }
-    requires high { ino ≤ 16 * volume.old.state.head.i_size }
-    ensures { (old : State) → IsNodes old table.old.items → Carries old (inode (disk old) ino) volume.old.state (fields_of node.now) → node.now.mode ≢ 0 → (ino ≡ 1 → is_directory node.now.mode ≡ true) → Carried old volume.old.state volume.new.state table.old.items table.new.items ino (fields_of node.now) }
-{
-    see(volume);
-    let k = place(table, ino);
-    save(volume, table, k, ino, node);
-}
-
 impl Nodes {
     /// Reads bytes of a file, `count` from byte `offset` on, into the memory of a process, from address `at` on, and sets the
     /// time of access, where `count` is not 0. A read ends at the end of the file, and takes a block for each hole that it
@@ -184,7 +162,7 @@ impl Nodes {
         ensures references { self.new.references ≡ self.old.references }
         ensures rest { SameRest self.old.blocks self.new.blocks }
     {
-        let mut node = inode_in(&self.table, ino);
+        let mut node = inode_of(&self.volume, &self.table, ino);
         let moved = read_file(&mut self.volume, &mut node, offset, space, at, count, time);
         carry_inode(&mut self.volume, &mut self.table, ino, &node);
         moved
@@ -203,7 +181,7 @@ impl Nodes {
         ensures references { self.new.references ≡ self.old.references }
         ensures rest { SameRest self.old.blocks self.new.blocks }
     {
-        let mut node = inode_in(&self.table, ino);
+        let mut node = inode_of(&self.volume, &self.table, ino);
         let moved = read_file_kernel(&mut self.volume, &mut node, offset, buf, time);
         carry_inode(&mut self.volume, &mut self.table, ino, &node);
         moved
@@ -231,7 +209,7 @@ impl Nodes {
         ensures references { self.new.references ≡ self.old.references }
         ensures rest { SameRest self.old.blocks self.new.blocks }
     {
-        let mut node = inode_in(&self.table, ino);
+        let mut node = inode_of(&self.volume, &self.table, ino);
         let moved = write_file(&mut self.volume, &mut node, offset, space, at, count, time);
         carry_inode(&mut self.volume, &mut self.table, ino, &node);
         moved
@@ -250,7 +228,7 @@ impl Nodes {
         ensures references { self.new.references ≡ self.old.references }
         ensures rest { SameRest self.old.blocks self.new.blocks }
     {
-        let mut node = inode_in(&self.table, ino);
+        let mut node = inode_of(&self.volume, &self.table, ino);
         let moved = write_file_kernel(&mut self.volume, &mut node, offset, buf, time);
         carry_inode(&mut self.volume, &mut self.table, ino, &node);
         moved

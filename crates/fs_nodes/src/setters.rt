@@ -1,13 +1,75 @@
 //! Calls that set fields of an inode: Lions' Commentary, `inode.h` and `sys4.c`.
 ghost use Rattle.std.specs.Prelude.{◌≡◌, ◌≢◌, ◌<◌, ◌≤◌, true, Some, slice_index, bit_and};
+ghost use Rattle.fs_codec.specs.Fields.{fields_of};
 ghost use Rattle.fs_codec.specs.Modes.{file_type, is_large, is_device};
 ghost use Rattle.fs_codec.specs.declared.modes.TheConstants.{IALLOC};
 ghost use Rattle.fs_codec.specs.Store.{Node, node_numbered};
 ghost use Rattle.fs_laws.specs.Numbers.{with_node};
-ghost use Rattle.fs_nodes.specs.FileSystem.{SameRest};
+ghost use Rattle.fs_nodes.specs.FileSystem.{store_now, SameRest};
+ghost use Rattle.fs_nodes.specs.Setting.{set_in, set_of, CanSet};
+ghost use Rattle.fs_nodes.specs.Table.{files_of, IsNodes};
 
 use crate::nodes::Nodes;
-use crate::table::{inode_in, set_inode};
+use crate::table::{Referenced, carry_inode, inode_of};
+use arrayvec::ArrayVec;
+use fs_blocks::Volume;
+use fs_codec::DiskNode;
+
+/// What a call sets of an inode, and the time of that, where it is kept.
+#[derive(Clone, Copy)]
+pub(crate) enum Setting {
+    Mode { mode: u16, time: u32 },
+    Owner { uid: u8, gid: u8, time: u32 },
+    Links { nlink: u8, time: u32 },
+    Device { device: u16 },
+    /// The size of a pipe's file is 0 then.
+    Empty,
+}
+
+/// Sets it in an inode.
+fn set(node: &mut DiskNode, setting: Setting)
+    ensures { fields_of node.new ≡ set_in setting (fields_of node.old) }
+{
+    match setting {
+        Setting::Mode { mode, time } => {
+            node.mode = mode;
+            node.modtime = time;
+        }
+        Setting::Owner { uid, gid, time } => {
+            node.uid = uid;
+            node.gid = gid;
+            node.modtime = time;
+        }
+        Setting::Links { nlink, time } => {
+            node.nlink = nlink;
+            node.modtime = time;
+        }
+        Setting::Device { device } => node.addr[0] = device,
+        Setting::Empty => node.size = 0,
+    }
+}
+
+/// Sets it in an inode that is referred to.
+fn set_fields(
+    volume: &mut Volume,
+    table: &mut ArrayVec<Referenced, 100>,
+    ino: u16,
+    setting: Setting,
+)
+    requires nodes { IsNodes volume.old.state table.old.items }
+    requires referenced { 0 < slice_index (files_of volume.old table.old.items).references ino }
+    requires can { (node : Node) → node_numbered (store_now volume.old.state) ino ≡ Some node → CanSet setting node }
+    ensures nodes { IsNodes volume.new.state table.new.items }
+    ensures references { (files_of volume.new table.new.items).references ≡ (files_of volume.old table.old.items).references }
+    ensures store { (node : Node) → node_numbered (store_now volume.old.state) ino ≡ Some node
+        → store_now volume.new.state
+        ≡ with_node (store_now volume.old.state) ino (set_of setting node) (store_now volume.old.state).room }
+    ensures rest { SameRest volume.old.state.blocks volume.new.state.blocks }
+{
+    let mut node = inode_of(volume, table, ino);
+    set(&mut node, setting);
+    carry_inode(volume, table, ino, &node);
+}
 
 /// Each of these calls is for an inode that is referred to. A time is that of the change.
 impl Nodes {
@@ -23,10 +85,8 @@ impl Nodes {
         ensures references { self.new.references ≡ self.old.references }
         ensures rest { SameRest self.old.blocks self.new.blocks }
     {
-        let mut node = inode_in(&self.table, ino);
-        node.mode = mode;
-        node.modtime = time;
-        set_inode(&mut self.volume, &mut self.table, ino, &node);
+        let setting = Setting::Mode { mode, time };
+        set_fields(&mut self.volume, &mut self.table, ino, setting);
     }
 
     /// Sets the owner and the group.
@@ -38,11 +98,8 @@ impl Nodes {
         ensures references { self.new.references ≡ self.old.references }
         ensures rest { SameRest self.old.blocks self.new.blocks }
     {
-        let mut node = inode_in(&self.table, ino);
-        node.uid = uid;
-        node.gid = gid;
-        node.modtime = time;
-        set_inode(&mut self.volume, &mut self.table, ino, &node);
+        let setting = Setting::Owner { uid, gid, time };
+        set_fields(&mut self.volume, &mut self.table, ino, setting);
     }
 
     /// Sets the number of links.
@@ -54,10 +111,8 @@ impl Nodes {
         ensures references { self.new.references ≡ self.old.references }
         ensures rest { SameRest self.old.blocks self.new.blocks }
     {
-        let mut node = inode_in(&self.table, ino);
-        node.nlink = nlink;
-        node.modtime = time;
-        set_inode(&mut self.volume, &mut self.table, ino, &node);
+        let setting = Setting::Links { nlink, time };
+        set_fields(&mut self.volume, &mut self.table, ino, setting);
     }
 
     /// Sets the device of a device's inode, and no time.
@@ -70,9 +125,8 @@ impl Nodes {
         ensures references { self.new.references ≡ self.old.references }
         ensures rest { SameRest self.old.blocks self.new.blocks }
     {
-        let mut node = inode_in(&self.table, ino);
-        node.addr[0] = device;
-        set_inode(&mut self.volume, &mut self.table, ino, &node);
+        let setting = Setting::Device { device };
+        set_fields(&mut self.volume, &mut self.table, ino, setting);
     }
 
     /// Makes the size of a pipe's file 0, and leaves its blocks and its times.
@@ -84,8 +138,6 @@ impl Nodes {
         ensures references { self.new.references ≡ self.old.references }
         ensures rest { SameRest self.old.blocks self.new.blocks }
     {
-        let mut node = inode_in(&self.table, ino);
-        node.size = 0;
-        set_inode(&mut self.volume, &mut self.table, ino, &node);
+        set_fields(&mut self.volume, &mut self.table, ino, Setting::Empty);
     }
 }

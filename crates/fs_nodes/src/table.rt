@@ -1,23 +1,23 @@
 //! The table of inodes in memory.
-ghost use Rattle.std.specs.Prelude.{◌≡◌, ◌<◌, ◌≤◌, IfSome, IfNone, length, slice_index_or, slice_set, Some};
+ghost use Rattle.std.specs.Prelude.{◌≡◌, ◌≢◌, ◌*◌, ◌<◌, ◌≤◌, true, false, IfSome, IfNone, length, slice_index, slice_index_or, slice_set};
 ghost use Rattle.fs_codec.specs.Fields.{fields_of};
+ghost use Rattle.fs_codec.specs.Modes.{is_device, is_directory};
 ghost use Rattle.fs_codec.specs.Disk.{Disk, inode, inode_count};
-ghost use Rattle.fs_codec.specs.Store.{Node, node_numbered};
-ghost use Rattle.fs_laws.specs.Numbers.{with_node};
-ghost use Rattle.fs_laws.specs.Shown.{KeepsBlocks, Renews};
-ghost use Rattle.fs_nodes.specs.FileSystem.{store_now, SameRest};
-ghost use Rattle.fs_blocks.specs.State.{disk};
-ghost use Rattle.fs_nodes.specs.Inodes.{WritesInode};
-ghost use Rattle.fs_nodes.specs.Table.{entries_of, once_more, with_inode, references_in, IsTable, IsNodes};
+ghost use Rattle.fs_codec.specs.Held.{addresses};
+ghost use Rattle.fs_laws.specs.Whole.{IsApart};
+ghost use Rattle.fs_blocks.specs.State.{State, disk};
+ghost use Rattle.fs_nodes.specs.Inodes.{WritesInode, Carries};
+ghost use Rattle.fs_nodes.specs.Moves.{Carried};
+ghost use Rattle.fs_nodes.specs.Table.{entries_of, once_more, with_inode, files_of, IsTable, IsNodes, HasInode};
 ghost use Rattle.fs_nodes.specs.declared.table.Referenced.{Referenced};
 
-use crate::inodes::write_inode;
+use crate::inodes::{see, write_inode};
 use arrayvec::ArrayVec;
 use fs_blocks::Volume;
 use fs_codec::DiskNode;
 
 /// An inode in memory: Lions' Commentary, `inode.h`.
-#[derive(Clone, Copy, Debug, PartialEq, Eq)]
+#[derive(Clone, Copy)]
 pub(crate) struct Referenced {
     pub(crate) ino: u16,
     /// How many refer to it, at least one.
@@ -108,24 +108,32 @@ pub(crate) fn inode_in(table: &[Referenced], ino: u16) -> DiskNode
     table[place(table, ino)].node
 }
 
-/// Writes an inode of which fields have been set, but no block has moved, into its block and into the table.
-pub(crate) fn set_inode(
+/// The inode of a number that is referred to.
+pub(crate) fn inode_of(volume: &Volume, table: &ArrayVec<Referenced, 100>, ino: u16) -> DiskNode
+    requires nodes { IsNodes volume.now.state table.now.items }
+    requires referenced { 0 < slice_index (files_of volume.now table.now.items).references ino }
+    ensures here { HasInode volume.now.state table.now.items ino (fields_of result) }
+    ensures used { result.mode ≢ 0 }
+    ensures apart { is_device result.mode ≡ false
+        → IsApart (disk volume.now.state) (addresses (disk volume.now.state) (fields_of result)) }
+{
+    see(volume);
+    inode_in(table, ino)
+}
+
+/// Writes an inode, whose blocks may have moved, into its block and into the table.
+pub(crate) fn carry_inode(
     volume: &mut Volume,
     table: &mut ArrayVec<Referenced, 100>,
     ino: u16,
     node: &DiskNode,
 )
-    requires sound { IsNodes volume.old.state table.old.items }
     requires some { 1 ≤ entries_of table.old.items ino }
-    requires keeps { KeepsBlocks (inode (disk volume.old.state) ino) (fields_of node.now) }
-    ensures sound { IsNodes volume.new.state table.new.items }
-    ensures references { references_in (inode_count (disk volume.new.state)) table.new.items
-        ≡ references_in (inode_count (disk volume.old.state)) table.old.items }
-    ensures store { (file renewed : Node) → node_numbered (store_now volume.old.state) ino ≡ Some file
-        → Renews (fields_of node.now) file renewed
-        → store_now volume.new.state ≡ with_node (store_now volume.old.state) ino renewed (store_now volume.old.state).room }
-    ensures rest { SameRest volume.old.state.blocks volume.new.state.blocks }
+    requires low { 1 ≤ ino }
+    requires high { ino ≤ 16 * volume.old.state.head.i_size }
+    ensures { (old : State) → IsNodes old table.old.items → Carries old (inode (disk old) ino) volume.old.state (fields_of node.now) → node.now.mode ≢ 0 → (ino ≡ 1 → is_directory node.now.mode ≡ true) → Carried old volume.old.state volume.new.state table.old.items table.new.items ino (fields_of node.now) }
 {
+    see(volume);
     let k = place(table, ino);
     save(volume, table, k, ino, node);
 }

@@ -4,9 +4,8 @@ ghost use Rattle.fs_codec.specs.Store.{Node, node_numbered};
 ghost use Rattle.fs_laws.specs.Numbers.{with_truncated};
 ghost use Rattle.fs_nodes.specs.FileSystem.{SameRest};
 
-use crate::inodes::see;
 use crate::nodes::Nodes;
-use crate::table::{inode_in, place, save};
+use crate::table::{carry_inode, inode_of};
 use fs_codec::is_device;
 
 impl Nodes {
@@ -18,14 +17,12 @@ impl Nodes {
         ensures references { self.new.references ≡ self.old.references }
         ensures rest { SameRest self.old.blocks self.new.blocks }
     {
-        let mut node = inode_in(&self.table, ino);
+        let mut node = inode_of(&self.volume, &self.table, ino);
         if is_device(node.mode) {
             return;
         }
-        let k = place(&self.table, ino);
         self.volume.truncate(&mut node);
-        see(&self.volume);
         node.modtime = time;
-        save(&mut self.volume, &mut self.table, k, ino, &node);
+        carry_inode(&mut self.volume, &mut self.table, ino, &node);
     }
 }

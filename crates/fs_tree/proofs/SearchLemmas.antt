@@ -53,31 +53,3 @@ module _ (s t : Store) (same : s.nodes ≡ t.nodes) where
 
   search_same : (user : User) (dir : ℕ) (bytes : List ℕ) → then_do (way s user dir bytes) (found s) ≡ then_do (way t user dir bytes) (found t)
   search_same user dir bytes = then_same _ _ _ _ (way_same user dir bytes) found_same
-
--- What it answers depends on the references besides.
-answer_either : (b : Bool) (f f' g g' : Finding ℕ) → f.answer ≡ f'.answer → g.answer ≡ g'.answer → (if b then f else g).answer ≡ (if b then f' else g').answer
-answer_either true f f' g g' p q = p
-answer_either false f f' g g' p q = q
-
-answer_same : (r : Result ℕ Errno) (s t : Store) (references : List ℕ) → (finding (record { store = s; references = references }) r).answer ≡ (finding (record { store = t; references = references }) r).answer
-answer_same (Ok ino) s t references = answer_either (can_refer (record { store = s; references = references }) ino) _ _ _ _ refl refl
-answer_same (Err e) s t references = refl
-
-pub find_same : (s t : Store) (references : List ℕ) (user : User) (dir : ℕ) (bytes : List ℕ) → s.nodes ≡ t.nodes
-    → (find_in (record { store = s; references = references }) user dir bytes).answer ≡ (find_in (record { store = t; references = references }) user dir bytes).answer
-find_same s t references user dir bytes same =
-    ap (λ r. (finding (record { store = s; references = references }) r).answer) (search_same s t same user dir bytes)
-    ∙ answer_same (then_do (way t user dir bytes) (found t)) s t references
-
--- What is found is referred to.
-refers : (b : Bool) (n : Inodes) (i ino : ℕ) → (if b then record { answer = Ok i; inodes = with_reference n i } else refused n ENFILE).answer ≡ Ok ino
-    → (if b then record { answer = Ok i; inodes = with_reference n i } else refused {A = ℕ} n ENFILE).inodes ≡ with_reference n ino
-refers true n i ino is = ap (with_reference n) (ap (number_or i) is) where
-  number_or : ℕ → Result ℕ Errno → ℕ
-  number_or d (Ok a) = a
-  number_or d (Err e) = d
-refers false n i ino is = absurd (cc)
-
-pub finding_refers : (n : Inodes) (r : Result ℕ Errno) (ino : ℕ) → (finding n r).answer ≡ Ok ino → (finding n r).inodes ≡ with_reference n ino
-finding_refers n (Ok i) ino is = refers (can_refer n i) n i ino is
-finding_refers n (Err e) ino is = absurd (cc)

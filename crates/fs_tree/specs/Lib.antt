@@ -5,3 +5,4 @@ pub mod Directory
 pub mod Path
 pub mod Finding
 pub mod Entries
+pub mod Tests

@@ -9,7 +9,7 @@ use fs_codec::{DirEntry, read_entry};
 use fs_nodes::Nodes;
 
 /// What a search of a directory for a name comes to. Places are numbers of entries.
-#[derive(Clone, Copy, Debug, PartialEq, Eq)]
+#[derive(Clone, Copy)]
 pub(crate) enum Looked {
     /// The place of the first entry of this name, and its inode number.
     Entry(u16, u16),

@@ -17,7 +17,7 @@ use fs_nodes::Nodes;
 use v6_base::{Errno, Space};
 
 /// The search of a directory for a component of a name.
-#[derive(Clone, Copy, Debug, PartialEq, Eq)]
+#[derive(Clone, Copy)]
 pub(crate) struct Last {
     pub(crate) dir: u16,
     pub(crate) name: [u8; 14],
@@ -27,7 +27,7 @@ pub(crate) struct Last {
 }
 
 /// Where a name leads.
-#[derive(Clone, Copy, Debug, PartialEq, Eq)]
+#[derive(Clone, Copy)]
 pub(crate) enum Way {
     /// It has no component: to where it starts.
     Start(u16),

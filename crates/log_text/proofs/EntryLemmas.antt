@@ -8,7 +8,7 @@ use Rattle.v6_base.specs.declared.entry.Entry.{Entry}
 use Rattle.v6_base.specs.declared.entry.Entry.TheVariants.{Boot, Go, Idle, Trap, TickUser, TickKernel, TickIdle, Sleep, Wake, Signal, Nice, Time, Size, SizeKeep, Fork, Leave, Bare, Text, Share, Image, SwapIn, SwapOut, Exit, Reap, Panic, End}
 use Rattle.v6_base.specs.LogLine.{entry_words, entry_line}
 use Rattle.pick_rules.specs.Ranges.{IsInRange}
-use Rattle.log_text.specs.Reading.{words_of, entry_of}
+use Rattle.log_text.specs.inside.Reading.{words_of, entry_of}
 use Rattle.log_text.proofs.SplitLemmas.{are_words, come_apart}
 use Rattle.log_text.proofs.WholeLemmas.{slot_whole, text_whole, clicks_whole, block_whole, time_whole, signal_whole, signed_whole, channel_whole}
 use Rattle.log_text.proofs.ReadLemmas.{slot_back, text_back, clicks_back, block_back, time_back, signal_back, signed_back, channel_back}

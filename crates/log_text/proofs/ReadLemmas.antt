@@ -11,7 +11,7 @@ use Rattle.v6_base.specs.declared.entry.Chan.{Chan}
 use Rattle.v6_base.specs.declared.entry.Chan.TheVariants.{RunIn, RunOut, Tout, Keys, Wait, Read, Write}
 use Rattle.v6_base.specs.LogLine.{channel}
 use Rattle.pick_rules.specs.Ranges.{IsSlot, IsText, IsSignal, IsClicks, IsBlock, IsInode, IsTime, IsPriority, IsChannel}
-use Rattle.log_text.specs.Reading.{number_of, signed_of, negated, not_negated, channel_of}
+use Rattle.log_text.specs.inside.Reading.{number_of, signed_of, negated, not_negated, channel_of}
 use Rattle.log_text.proofs.NumberLemmas.{own, number_is}
 
 number_back : (bits n : ℕ) → n < 2 ^ bits → n < 2 ^ 64 → number_of bits (decimal n) ≡ Some n

@@ -10,7 +10,7 @@ use Rattle.std.proofs.lemmas.List.Splits.{slice_split_at, slice_split_none}
 use Rattle.std.proofs.lemmas.List.Sums.{AllPass-from_list_all}
 use Rattle.std.proofs.lemmas.Str.Parse.{digit_from_value}
 use Rattle.v6_base.specs.LogLine.{spaced}
-use Rattle.log_text.specs.Reading.{words_of}
+use Rattle.log_text.specs.inside.Reading.{words_of}
 
 abbrev is_space : ℕ → Bool
 is_space byte = eqb byte 32

@@ -1,7 +1,7 @@
 //! What the words of a line say.
 ghost use Rattle.std.specs.Prelude.{◌≡◌, option_map};
-ghost use Rattle.log_text.specs.Reading as read;
-ghost use Rattle.log_text.specs.Reading.{words_of, channel_of, entry_of};
+ghost use Rattle.log_text.specs.inside.Reading as read;
+ghost use Rattle.log_text.specs.inside.Reading.{words_of, channel_of, entry_of};
 
 use crate::numbers::{read_i8, read_u8, read_u16, read_u32};
 use crate::words::{is, word};

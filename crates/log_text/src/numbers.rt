@@ -2,7 +2,7 @@
 ghost use Rattle.std.specs.Prelude.{◌≡◌, false, MatchOption};
 ghost use Rattle.std.specs.List.{list_all};
 ghost use Rattle.std.specs.Char.{is_ascii_digit};
-ghost use Rattle.log_text.specs.Reading.{IsDigits, number_of, signed_of, negated, not_negated};
+ghost use Rattle.log_text.specs.inside.Reading.{IsDigits, number_of, signed_of, negated, not_negated};
 
 fn all_digits(word: &[u8]) -> bool
     ensures { result ≡ list_all is_ascii_digit word.now }

@@ -1,7 +1,7 @@
 //! The words of a line.
 ghost use Rattle.std.specs.Prelude.{◌≡◌};
 ghost use Rattle.std.specs.Str.{bytes_eq};
-ghost use Rattle.log_text.specs.Reading.{word_at, words_of};
+ghost use Rattle.log_text.specs.inside.Reading.{word_at, words_of};
 
 /// The word of a line at this place, the first being 0, and an empty one where the line has fewer.
 pub(crate) fn word(line: &[u8], place: usize) -> &[u8]

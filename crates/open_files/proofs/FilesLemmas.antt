@@ -28,12 +28,6 @@ named_changed (Some x) f keeps old file is = subst (λ (y : OpenFile). 1 ≤ y.c
 more_named : (n : ℕ) (x : OpenFile) → 1 ≤ x.count → 1 ≤ (with_more n x).count
 more_named n x some = omega (arith, some)
 
-pub named_with_change : (files : List (Option OpenFile)) (i : ℕ) (f : OpenFile → OpenFile) → ((x : OpenFile) → 1 ≤ x.count → 1 ≤ (f x).count) → AreNamed files → AreNamed (with_change files i f)
-named_with_change files i f keeps all = named_set files i (changed f (file_at files i)) all (named_changed (file_at files i) f keeps (all i))
-
-pub named_more : (files : List (Option OpenFile)) (i n : ℕ) → AreNamed files → AreNamed (with_change files i (with_more n))
-named_more files i n all = named_with_change files i (with_more n) (more_named n) all
-
 pub named_none : (n : ℕ) → AreNamed (replicate n None)
 named_none n entry file is = elim (cases_lt entry n) [
   | inl low ↦ absurd (none-some file (sym (get_or-replicate n entry None None low) ∙ is))
@@ -139,9 +133,6 @@ shared_step files now new mine k low is some used after =
 
 pub shared_skip : (files now new : List (Option OpenFile)) (mine : List ℕ) (k : ℕ) → k < length mine → now ≡ shared files (take k mine) → slice_index mine k ≡ 0 → new ≡ now → new ≡ shared files (take (k + 1) mine)
 shared_skip files now new mine k low is none same = same ∙ (is ∙ shared_more_none files mine k low none)
-
-pub shared_all : (files now : List (Option OpenFile)) (mine : List ℕ) (k : ℕ) → length mine ≤ k → now ≡ shared files (take k mine) → now ≡ shared files mine
-shared_all files now mine k end is = is ∙ ap (shared files) (take_all k mine end)
 
 -- No entry past the last is in use.
 pub past_unused : (files : List (Option OpenFile)) (entry : ℕ) → length files ≤ entry → is_some (file_at files entry) ≡ false

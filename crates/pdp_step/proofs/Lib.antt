@@ -1,3 +1,4 @@
 pub mod Shifts
 pub mod Ends
 pub mod Forms
+pub mod Signs

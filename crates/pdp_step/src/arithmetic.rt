@@ -2,20 +2,20 @@
 ghost use Rattle.std.specs.Prelude.{◌≡◌, ℕ, ◌+◌, ◌-◌, ◌<◌, ◌≤◌, ◌%◌, ◌*◌, ◌/◌, ◌==◌, not, Bool, if◌then◌else◌};
 ghost use Rattle.pdp_decode.specs.Numbers.{one_if};
 ghost use Rattle.pdp_step.specs.Registers.{codes_in};
-ghost use Rattle.pdp_step.specs.Arithmetic.{half, size, is_negative, differ, same_sign, result_of, shifted_of, swapped, combine_of, change_of, is_taken};
+ghost use Rattle.pdp_step.specs.Arithmetic.{half, size, is_negative, differ, same_sign, is_below, result_of, shifted_of, swapped, combine_of, change_of, is_taken};
 
 use crate::regs::pack;
 use pdp_decode::{Condition, Flags, Width};
 
 /// A result with the condition codes that it leaves.
-#[derive(Clone, Copy, Debug, PartialEq, Eq)]
+#[derive(Clone, Copy)]
 pub struct Made {
     pub value: u16,
     pub cc: u8,
 }
 
 /// What an instruction with one operand makes of it.
-#[derive(Clone, Copy, Debug, PartialEq, Eq)]
+#[derive(Clone, Copy)]
 pub enum Change {
     Complement,
     Increase,
@@ -30,7 +30,7 @@ pub enum Change {
 }
 
 /// What an instruction with two operands makes of them.
-#[derive(Clone, Copy, Debug, PartialEq, Eq)]
+#[derive(Clone, Copy)]
 pub enum Combine {
     Compare,
     TestBits,
@@ -88,6 +88,14 @@ fn alike(width: Width, a: u16, b: u16) -> bool
     ensures { result ≡ same_sign width a b }
 {
     negative(width, a) == negative(width, b)
+}
+
+// Whether one number is below another, as signed.
+#[inline(always)]
+fn below(width: Width, a: u16, b: u16) -> bool
+    ensures { result ≡ is_below width a b }
+{
+    wrap(width, a as u32 + top(width)) < wrap(width, b as u32 + top(width))
 }
 
 #[inline(always)]
@@ -186,7 +194,7 @@ pub fn taken(test: Condition, k: Flags) -> bool
 
 /// The result of an instruction with two operands.
 #[inline(always)]
-#[tactic(auto, unfolding(crate::specs::Arithmetic::combine_of))]
+#[tactic(auto, using(crate::proofs::Signs::overflows), unfolding(crate::specs::Arithmetic::combine_of))]
 pub fn combined(op: Combine, width: Width, s: u16, d: u16, c: bool) -> Made
     requires source { s < size width }
     requires dest { d < size width }
@@ -199,7 +207,7 @@ pub fn combined(op: Combine, width: Width, s: u16, d: u16, c: bool) -> Made
     match op {
         Combine::Compare => {
             let t = wrap(width, source + (all(width) - dest));
-            outcome(width, t, !alike(width, s, d) && alike(width, t, d), s < d)
+            outcome(width, t, negative(width, t) != below(width, s, d), s < d)
         }
         Combine::TestBits => outcome(width, s & d, false, c),
         Combine::ClearBits => outcome(width, d & (all(width) - 1 - source) as u16, false, c),
@@ -209,13 +217,13 @@ pub fn combined(op: Combine, width: Width, s: u16, d: u16, c: bool) -> Made
             outcome(
                 width,
                 t,
-                alike(width, s, d) && !alike(width, t, s),
+                below(width, t, s) != negative(width, d),
                 dest + source >= all(width),
             )
         }
         Combine::Difference => {
             let t = wrap(width, dest + (all(width) - source));
-            outcome(width, t, !alike(width, s, d) && alike(width, t, s), d < s)
+            outcome(width, t, negative(width, t) != below(width, d, s), d < s)
         }
         Combine::ExclusiveOr => outcome(width, d ^ s, false, c),
     }

@@ -8,6 +8,5 @@ pub mod TickShapes
 pub mod Movers
 pub mod Placing
 pub mod Within
-pub mod NoPlace
 pub mod OneBlock
 pub mod Stopping

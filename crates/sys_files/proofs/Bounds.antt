@@ -153,9 +153,6 @@ wakes_up_to m n items low wakes = record {
   few = let f = wakes.few in omega (arith, f, low);
 }
 
-pub fits_wake : (chan : Chan) → Fits (waking chan ∷ [])
-fits_wake chan = fits_wakes 1 (waking chan ∷ []) (omega arith) (one_wakes chan)
-
 -- A byte that is written to the console shows at most 8.
 few_in_capitals : (o : Option ℕ) (byte : ℕ) → length (in_capitals o byte) ≤ 8
 few_in_capitals (Some mark) byte = omega arith

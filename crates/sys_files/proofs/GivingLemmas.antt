@@ -9,7 +9,7 @@ use Rattle.fs_tree.specs.declared.user.User.{User}
 use Rattle.fs_tree.specs.Finding.{Inodes, inodes_of, find_in, put_back}
 use Rattle.sys_files.specs.Entering.{SameReferences, one_to, OneReferenceMore, TwoReferencesMore}
 use Rattle.sys_files.proofs.OwingLemmas.{once_less, put_count}
-use Rattle.sys_files.proofs.NamingLemmas.{found_more, found_none, found_node}
+use Rattle.fs_tree.proofs.NamingLemmas.{found_more, found_none, found_node}
 use Rattle.sys_files.proofs.EnteringLemmas.{taken, takes_one, rest_same}
 
 -- A reference to this inode has gone.

@@ -4,7 +4,7 @@ use Rattle.v6_base.specs.Image.{Image}
 use Rattle.v6_base.specs.Access.{store_byte, image_after}
 use Rattle.v6_base.specs.Copy.{then_store, store_bytes}
 use Rattle.v6_base.specs.declared.space.Trap.{Trap}
-use Rattle.v6_base.proofs.Copies.{SameLengths, store_lengths, then_lengths}
+use Rattle.v6_base.proofs.Copies.{SameLengths, same_lengths, byte_lengths, bytes_lengths}
 use Rattle.fs_codec.specs.Modes.{is_device}
 use Rattle.fs_codec.specs.Store.{Node}
 use Rattle.fs_laws.specs.Pieces.{Moving, going_on, reading, read_file, pieces, beginning}
@@ -16,31 +16,6 @@ use Rattle.tty_line.specs.Reading as line
 use Rattle.tty_line.specs.Reading.{HandedOut, then_hands, hands_out, Reading, reads}
 use Rattle.sys_files.specs.Handed.{Handed, node_at, file_of}
 use Rattle.sys_files.specs.Moving.{read_of}
-
-pub same_image : (image : Image) → SameLengths image image
-same_image image = record { text = refl; «data» = refl; stack = refl }
-
--- Stores of an image leave its sizes, one byte and more.
-if_stored : (start m : Image) (r : Result Image Trap) → SameLengths start m → SameLengths m (image_after m r)
-    → IfOk r (SameLengths start)
-if_stored start m (Ok new) before here = then_lengths start m new new before here refl
-if_stored start m (Err trap) before here = tt
-
-byte_lengths : (start m : Image) (at byte : ℕ) → SameLengths start m → IfOk (store_byte m at byte) (SameLengths start)
-byte_lengths start m at byte same = if_stored start m (store_byte m at byte) same (store_lengths m at byte)
-
-then_stored : (start : Image) (r : Result Image Trap) (next : Image → Option Image) → IfOk r (SameLengths start)
-    → ((new : Image) → SameLengths start new → IfSome (next new) (SameLengths start))
-    → IfSome (then_store r next) (SameLengths start)
-then_stored start (Ok new) next here goes = goes new here
-then_stored start (Err trap) next here goes = tt
-
-pub bytes_lengths : (start m : Image) (at : ℕ) (bytes : List ℕ) → SameLengths start m
-    → IfSome (store_bytes m at bytes) (SameLengths start)
-bytes_lengths start m at [] same = same
-bytes_lengths start m at (byte ∷ bytes) same =
-    then_stored start (store_byte m (at % 65536) byte) (λ new. store_bytes new (at + 1) bytes)
-    (byte_lengths start m (at % 65536) byte same) (λ new here. bytes_lengths start new (at + 1) bytes here)
 
 -- A read of a file keeps what holds of each memory that its bytes are put into.
 module _ {Memory : Type 0} (Holds : Memory → Type 0) (put : Memory → ℕ → List ℕ → Option Memory)
@@ -96,13 +71,13 @@ line_lengths t image at count = by (length t.canonical == 0) (t.delimiters == 0)
       (cond {A = Reading} none (record { terminal = t; image = image; took = Wait })
       (line.reads_line (with_line t) image at count))
       (line.reads_line t image at count)).image
-  by true true = same_image image
-  by true false = handed_lengths image image at 0 count (with_line t).canonical (same_image image)
-  by false none = handed_lengths image image at 0 count t.canonical (same_image image)
+  by true true = same_lengths image
+  by true false = handed_lengths image image at 0 count (with_line t).canonical (same_lengths image)
+  by false none = handed_lengths image image at 0 count t.canonical (same_lengths image)
 
 -- And a read of a file.
 pub read_lengths : (h : Handed) (entry at count now : ℕ) → SameLengths h.image (read_of h entry at count now).memory
 read_lengths h entry at count now =
     file_keeps (SameLengths h.image) (put_into at)
     (λ image n bytes kept. bytes_lengths h.image image (at + n) bytes kept) (node_at h (file_of h entry).ino)
-    h.inodes.store.room h.image (file_of h entry).offset count now (same_image h.image)
+    h.inodes.store.room h.image (file_of h entry).offset count now (same_lengths h.image)

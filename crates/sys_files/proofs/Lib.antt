@@ -2,7 +2,6 @@ pub mod KeptLemmas
 pub mod OwedLemmas
 pub mod CheckLemmas
 pub mod AreaLemmas
-pub mod NamingLemmas
 pub mod OwingLemmas
 pub mod DoesLemmas
 pub mod DescriptorLemmas

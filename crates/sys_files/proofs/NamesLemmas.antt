@@ -11,7 +11,7 @@ use Rattle.fs_codec.specs.declared.node.DiskNode.{DiskNode}
 use Rattle.fs_codec.specs.Store.{Node}
 use Rattle.fs_nodes.specs.FileSystem.{ShowsNode}
 use Rattle.fs_tree.specs.declared.user.User.{User}
-use Rattle.sys_files.proofs.NamingLemmas.{found_few}
+use Rattle.fs_tree.proofs.NamingLemmas.{found_few}
 use Rattle.fs_tree.specs.declared.user.Want.TheVariants.{Execute}
 use Rattle.fs_tree.specs.Permission.{permission}
 use Rattle.fs_tree.specs.Finding.{Inodes, find_in}

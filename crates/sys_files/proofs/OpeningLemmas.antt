@@ -18,7 +18,7 @@ use Rattle.sys_files.specs.Handed.{Handed, node_at, user_of, with_inodes}
 use Rattle.sys_files.specs.Did.{must, need, until_end, fails, returns}
 use Rattle.sys_files.specs.Sound.{is_of, numbers_of, IsSound, IsKept}
 use Rattle.sys_files.specs.Opening.{opens_to_read, opens_to_write, last_failure, open_tests, can_open, with_opened, opens, opens_named, open_file}
-use Rattle.sys_files.proofs.NamingLemmas.{found_more}
+use Rattle.fs_tree.proofs.NamingLemmas.{found_more}
 use Rattle.sys_files.proofs.CheckLemmas.{check_quiet, must_hold, must_fail, need_there}
 use Rattle.sys_files.proofs.NumberLemmas.{given_times, numbers_change, open_given, pipes_set, set_here}
 use Rattle.sys_files.proofs.OwedLemmas.{count_changed}

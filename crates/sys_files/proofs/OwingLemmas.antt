@@ -13,7 +13,7 @@ use Rattle.fs_tree.specs.Finding.{Inodes, Finding, inodes_of, with_reference, pu
 use Rattle.sys_files.specs.Handed.{Handed, user_of, with_inodes, let_go}
 use Rattle.sys_files.specs.Did.{Did, check, then_named, until_end, finds}
 use Rattle.sys_files.specs.Sound.{owed, numbers_of, HasNoPipe, IsSound, IsKept}
-use Rattle.sys_files.proofs.NamingLemmas.{found_more, found_none, found_referred}
+use Rattle.fs_tree.proofs.NamingLemmas.{found_more, found_none, found_referred}
 use Rattle.sys_files.proofs.OwedLemmas.{directory_referred}
 
 -- how many of the references that a call has taken are to an inode

@@ -6,7 +6,7 @@ use Rattle.std.proofs.lemmas.List.FromFn.{length-range_with_len}
 use Rattle.v6_base.specs.Trace.{Log}
 use Rattle.v6_base.specs.declared.entry.Chan.TheVariants.{Keys}
 use Rattle.v6_base.specs.declared.entry.Entry.TheVariants.{Wake}
-use Rattle.v6_base.proofs.Copies.{SameLengths, then_lengths}
+use Rattle.v6_base.proofs.Copies.{SameLengths, then_lengths, same_lengths}
 use Rattle.proc_tab.specs.declared.row.Row.{Row}
 use Rattle.u_area.specs.declared.area.UArea.{UArea}
 use Rattle.u_area.proofs.AreaLemmas.{one_area}
@@ -17,7 +17,6 @@ use Rattle.sys_files.specs.Did.{Did}
 use Rattle.sys_files.specs.Descriptors.{is_closed_by, Closing, released, told_by, dropped, closes, then_closes, close_all}
 use Rattle.sys_files.specs.Moving.{resume_read}
 use Rattle.sys_files.proofs.Bounds.{Fits, fits_none, fits_shown, AreWakes, none_wakes, one_wakes, more_wakes, wakes_up_to, fits_wakes}
-use Rattle.sys_files.proofs.Lengths.{same_image}
 use Rattle.sys_files.proofs.Walks.{Walks, walk_resume}
 
 -- What stays of a row of the table of processes. A process gets a terminal with the first one that it opens.
@@ -81,7 +80,7 @@ same_area u = record {
 }
 
 pub steady_same : (h : Handed) → Steady h h
-steady_same h = record { row = same_row h.row; area = same_area h.u; image = same_image h.image; marks = refl }
+steady_same h = record { row = same_row h.row; area = same_area h.u; image = same_lengths h.image; marks = refl }
 
 -- what may be another in the area
 pub area_is : (old new : UArea) → SameArea old new

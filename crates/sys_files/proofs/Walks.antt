@@ -8,7 +8,7 @@ use Rattle.v6_base.specs.declared.entry.Chan.TheVariants.{Keys}
 use Rattle.v6_base.specs.declared.entry.Entry.TheVariants.{Wake}
 use Rattle.v6_base.specs.declared.errno.Errno.{Errno}
 use Rattle.v6_base.specs.declared.errno.Errno.TheVariants.{EPERM, EBADF, EFAULT, EEXIST, ENOTDIR, EISDIR, ENFILE, EMFILE, ENOTTY, ENODEV, ENXIO, ESPIPE, EMLINK}
-use Rattle.v6_base.proofs.Copies.{SameLengths}
+use Rattle.v6_base.proofs.Copies.{SameLengths, same_lengths, bytes_lengths}
 use Rattle.fs_codec.specs.Bytes.{bytes_of}
 use Rattle.fs_codec.specs.Modes.{is_device, is_directory, is_character_device}
 use Rattle.fs_codec.specs.Store.{Node}
@@ -38,7 +38,7 @@ use Rattle.sys_files.specs.Moving.{with_moved, gives_count, waits_for_keys, read
 use Rattle.sys_files.specs.Modes.{of_terminal, words_at, sets_modes, stty_set, tells_modes, gtty_get}
 use Rattle.sys_files.specs.Names.{with_directory, enters_directory, chdir_to, is_owner, changes_mode, chmod_to, chown_to, sync_all}
 use Rattle.sys_files.specs.Status.{status_bytes, with_stored, tells_status, stat_file, stat_open}
-use Rattle.sys_files.proofs.Lengths.{same_image, bytes_lengths, line_lengths, read_lengths}
+use Rattle.sys_files.proofs.Lengths.{line_lengths, read_lengths}
 
 -- What has to be shown of the words of which the rows are made, of a fact of the parts and of a fact of what a row does. A write
 -- shows so many bytes at most as it has to write.
@@ -176,11 +176,11 @@ module _ {P : Handed → Type 0} {Q : Did → Type 0} {Few : ℕ → Type 0} (k 
 
   walk_status : (h : Handed) (ino at : ℕ) → P h → Q (tells_status h ino at)
   walk_status h ino at p =
-      walk_stored h _ (bytes_lengths h.image h.image at (status_bytes ino (node_at h ino)) (same_image h.image)) p
+      walk_stored h _ (bytes_lengths h.image h.image at (status_bytes ino (node_at h ino)) (same_lengths h.image)) p
 
   walk_told : (h : Handed) (at : ℕ) (odd : Bool) → P h → Q (with_stored h (cond odd None (store_bytes h.image at (bytes_of h.line.modes))))
   walk_told h at true p = k.refused h EFAULT p
-  walk_told h at false p = walk_stored h _ (bytes_lengths h.image h.image at (bytes_of h.line.modes) (same_image h.image)) p
+  walk_told h at false p = walk_stored h _ (bytes_lengths h.image h.image at (bytes_of h.line.modes) (same_lengths h.image)) p
 
   walk_terminal : (h : Handed) (does : Did) → P h → Q does → Q (of_terminal h does)
   walk_terminal h does p goes =

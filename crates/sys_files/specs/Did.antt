@@ -1,5 +1,5 @@
 -- What a call does, and the words that the rows of calls are made of: section II of the manual, INTRO(II).
-use Rattle.std.specs.Prelude.{ℕ, Bool, if◌then◌else◌, List, [], Option, Some, None, Result, Ok, Err}
+use Rattle.std.specs.Prelude.{ℕ, List, [], Result, Ok, Err}
 use Rattle.v6_base.specs.Trace.{Item}
 use Rattle.v6_base.specs.declared.answer.Answer.{Answer}
 use Rattle.v6_base.specs.declared.answer.Answer.TheVariants.{Ret, Fail}
@@ -8,6 +8,7 @@ use Rattle.fs_tree.specs.declared.made.Made.{Made}
 use Rattle.fs_tree.specs.declared.made.Made.TheVariants as made
 use Rattle.fs_tree.specs.Name.{name_at}
 use Rattle.fs_tree.specs.Finding.{Finding, find_in, make_in}
+pub use Rattle.fs_tree.specs.Tests.{must, need}
 use Rattle.sys_files.specs.Handed.{Handed, r0, r1, user_of, with_inodes, let_go}
 
 -- what is answered, what the parts are then, and what is shown
@@ -32,15 +33,6 @@ is_done h = returns h (r0 h)
 abbrev pub check : {A : Type 0} → Handed → Result A Errno → (A → Did) → Did
 check h (Ok a) next = next a
 check h (Err e) next = fails h e
-
--- a truth that must hold, and else an error
-abbrev pub must : Errno → Bool → Result (Unit {0}) Errno
-must e holds = if holds then Ok tt else Err e
-
--- a value that must be there, and else an error
-abbrev pub need : {A : Type 0} → Errno → Option A → Result A Errno
-need e (Some a) = Ok a
-need e None = Err e
 
 -- A reference that the call has taken goes at its end.
 abbrev pub until_end : ℕ → Did → Did

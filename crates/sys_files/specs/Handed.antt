@@ -4,12 +4,13 @@ use Rattle.v6_base.specs.Image.{Image}
 use Rattle.proc_tab.specs.declared.row.Row.{Row}
 use Rattle.u_area.specs.declared.area.UArea.{UArea}
 use Rattle.fs_codec.specs.Modes.{is_character_device}
-use Rattle.fs_codec.specs.Store.{Node, Store, node_numbered}
+use Rattle.fs_codec.specs.Store.{Node, Store}
 use Rattle.fs_laws.specs.Numbers.{with_node}
 use Rattle.open_files.specs.declared.file.OpenFile.{OpenFile}
 use Rattle.open_files.specs.Files.{file_at}
 use Rattle.fs_tree.specs.declared.user.User.{User}
 use Rattle.fs_tree.specs.Finding.{Inodes, inodes_of, put_back}
+pub use Rattle.fs_tree.specs.Tests.{no_node, node_in}
 use Rattle.tty_line.specs.Terminal.{Terminal}
 use Rattle.sys_files.specs.declared.files.Files.{Files}
 
@@ -44,13 +45,6 @@ r1 h = slice_index h.u.r 1
 
 abbrev pub user_of : UArea → User
 user_of u = record { uid = u.uid; gid = u.gid }
-
--- what stands for a node where there is none of this number
-abbrev pub no_node : Node
-no_node = record { mode = 0; nlink = 0; uid = 0; gid = 0; size = 0; device = 0; actime = 0; modtime = 0; held = []; body = [] }
-
-abbrev pub node_in : Store → ℕ → Node
-node_in store ino = unwrap_or (node_numbered store ino) no_node
 
 abbrev pub node_at : Handed → ℕ → Node
 node_at h ino = node_in h.inodes.store ino

@@ -42,7 +42,7 @@ pub(crate) fn find_to_make<S: Space>(
 }
 
 /// The room that a directory has for the entry of a new name, from byte `offset` of it on.
-#[derive(Clone, Copy, Debug, PartialEq, Eq)]
+#[derive(Clone, Copy)]
 pub(crate) struct Room {
     pub(crate) dir: u16,
     pub(crate) offset: u32,

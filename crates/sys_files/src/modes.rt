@@ -30,7 +30,7 @@ use fs_nodes::Nodes;
 use proc_tab::Row;
 use tty_line::Line;
 use u_area::UArea;
-use v6_base::{Answer, Chan, Entry, Errno, Slot, Space, Trace, copy_in, copy_out};
+use v6_base::{Answer, Chan, Entry, Errno, Slot, Space, Trace};
 
 /// Sees that the file of an inode, which is referred to, is a terminal.
 ///
@@ -72,7 +72,7 @@ fn words_at<S: Space>(space: &S, at: u16) -> Option<[u8; 6]>
     ensures { (h : Handed) → h.image ≡ S.image space.now → result ≡ words_at h at }
 {
     let mut bytes = [0; 6];
-    if at % 2 == 1 || !copy_in(space, at, &mut bytes) {
+    if at % 2 == 1 || !space.copy_in(at, &mut bytes) {
         return None;
     }
     Some(bytes)
@@ -104,7 +104,7 @@ fn put_modes<S: Space>(line: &Line, u: &UArea, space: &mut S, at: u16) -> Answer
         → tells_modes h at ≡ did_with (record h { image = S.image space.new }) result }
     ensures memory { S.rest space.new ≡ S.rest space.old }
 {
-    if at % 2 == 1 || !copy_out(space, at, &bytes_of(line.modes())) {
+    if at % 2 == 1 || !space.copy_out(at, &bytes_of(line.modes())) {
         return Answer::Fail(Errno::EFAULT);
     }
     done(u)

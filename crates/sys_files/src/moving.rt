@@ -1,5 +1,5 @@
 //! Bytes are read and written: `rdwr` and `seek` in Lions' Commentary, `sys2.c`.
-ghost use Rattle.std.specs.Prelude.{◌≡◌, ◌<◌, ◌≤◌, ◌+◌, ◌%◌, ◌^◌, IsSome, ◌==◌, length, if◌then◌else◌, slice_index};
+ghost use Rattle.std.specs.Prelude.{◌≡◌, ◌<◌, ◌≤◌, ◌+◌, ◌%◌, ◌^◌, IsSome, ◌==◌, length, if◌then◌else◌, slice_index, take};
 ghost use Rattle.v6_base.specs.Trace.{Took, sent};
 ghost use Rattle.proc_tab.specs.declared.row.Row.{Row};
 ghost use Rattle.u_area.specs.declared.area.UArea.{UArea};
@@ -226,6 +226,49 @@ fn taken(device: bool, count: u16, done: u16) -> u16
     if device { count } else { done }
 }
 
+/// How many bytes of a memory are got at once to be shown.
+const PIECE: u16 = 128;
+
+/// Gets bytes of a memory from an address on, up to the first that cannot be read, and says how many. Addresses wrap round.
+fn read_front<S: Space>(space: &S, at: u16, into: &mut [u8]) -> usize
+    requires { length into.old ≤ 512 }
+    ensures few { result ≤ length into.new }
+    ensures front { take result into.new ≡ readable (S.image space.now) at (length into.old) }
+{
+    if space.copy_in(at, into) {
+        return into.len();
+    }
+    for i in 0..into.len() {
+        match space.load_byte(at.wrapping_add(i as u16)) {
+            Ok(byte) => into[i] = byte,
+            Err(_) => return i,
+        }
+    }
+    into.len()
+}
+
+/// Shows bytes of a memory, a piece of them from an address on, up to the first that cannot be read, and says how many.
+fn show_piece<S: Space, T: Trace>(
+    line: &mut Line,
+    space: &S,
+    at: u16,
+    count: u16,
+    trace: &mut T,
+) -> u16
+    requires { count ≤ PIECE }
+    ensures count { result ≡ length (readable (S.image space.now) at count) }
+    ensures line { line.new ≡ after_shown line.old (readable (S.image space.now) at count) }
+    ensures items { Took (T.taken trace.old) (sent 0 (shows line.old (readable (S.image space.now) at count)))
+        (T.taken trace.new) }
+    ensures frame { T.leads_to trace.old trace.new }
+{
+    let mut piece = [0; PIECE as usize];
+    let part = &mut piece[..usize::from(count)];
+    let got = read_front(space, at, part);
+    line.write(&part[..got], trace);
+    got as u16
+}
+
 /// Shows bytes of a memory, so many from an address on, one after another, up to the first that cannot be read. The answer
 /// says whether all could be. Addresses wrap round.
 fn show_all<S: Space, T: Trace>(
@@ -241,11 +284,13 @@ fn show_all<S: Space, T: Trace>(
         (T.taken trace.new) }
     ensures frame { T.leads_to trace.old trace.new }
 {
-    for i in 0..count {
-        match space.load_byte(at.wrapping_add(i)) {
-            Ok(byte) => line.write(&[byte], trace),
-            Err(_) => return false,
+    let mut shown: u16 = 0;
+    while shown < count {
+        let most = PIECE.min(count - shown);
+        if show_piece(line, space, at.wrapping_add(shown), most, trace) < most {
+            return false;
         }
+        shown += most;
     }
     true
 }

@@ -21,7 +21,7 @@ use fs_codec::{DiskNode, is_device, put_words, write_node};
 use fs_nodes::Nodes;
 use proc_tab::Row;
 use u_area::UArea;
-use v6_base::{Answer, Errno, Slot, Space, Trace, copy_out};
+use v6_base::{Answer, Errno, Slot, Space, Trace};
 
 /// The first address that is told: the number of a device.
 fn first_address(node: &DiskNode) -> u16
@@ -93,7 +93,7 @@ fn put_status<S: Space>(nodes: &Nodes, space: &mut S, ino: u16, at: u16) -> bool
     ensures rest { S.rest space.new ≡ S.rest space.old }
 {
     let node = inode_of(nodes, ino);
-    copy_out(space, at, &status_bytes(ino, &node))
+    space.copy_out(at, &status_bytes(ino, &node))
 }
 
 /// Tells of a file whose inode is referred to.

@@ -6,7 +6,8 @@ use Rattle.std.proofs.lemmas.List.{append-nil, drop_more, drop_all}
 use Rattle.v6_base.specs.Trace.{Taken}
 use Rattle.script_text.specs.declared.script.Event as asked
 use Rattle.script_text.specs.declared.script.Event.TheVariants as ask
-use Rattle.abstract_unix.specs.declared.turned.Unbuilt.{Unbuilt}
+use Rattle.abstract_unix.specs.declared.ends.Ends.{Ends}
+use Rattle.abstract_unix.specs.declared.ends.Ends.TheVariants.{AtEnd}
 use Rattle.abstract_unix.specs.Unix.{System}
 use Rattle.abstract_unix.specs.Runs.{Event, Slot, Tick, Byte, Switch, Course, begun}
 use Rattle.v6_run.specs.Events.{Clock, is_ticked, slot_with, slot_numbered, happens, clock_after, events_from, events_of}
@@ -114,7 +115,7 @@ ticks_is every since i next less is =
 -- The events of a script up to one have happened, and this is its clock then.
 pub record HasTaken (all : List asked.Event) (i : ℕ) (clock : Clock) (from : Course) (system : System) (old new : Taken) : Type 0 where
   pub happened : List Event
-  pub run : HasRun from happened None system old new
+  pub run : HasRun from happened AtEnd system old new
   pub all_is : events_of all ≡ happened ++ events_from clock (drop i all)
 
 pub taken_none : (all : List asked.Event) (m : System) (clock : Clock) (t : Taken) → clock ≡ record { every = 0; slots = 0 } → HasTaken all 0 clock (begun m) m t t
@@ -129,20 +130,21 @@ module _ (all : List asked.Event) (i : ℕ) (clock after : Clock) (from : Course
       ∙ ap (λ l. taken.happened ++ (happens clock event ++ l)) (events_alike (clock_after clock event) after (drop (i + 1) all) ticks)
       ∙ sym (append_assoc taken.happened (happens clock event) (events_from after (drop (i + 1) all)))
 
-  pub taken_more : HasRun (begun m) (happens clock event) None next b c → HasTaken all (i + 1) after from next a c
+  pub taken_more : HasRun (begun m) (happens clock event) AtEnd next b c → HasTaken all (i + 1) after from next a c
   taken_more run = record {
     happened = taken.happened ++ happens clock event;
-    run = run_more from m next None a b c taken.happened (happens clock event) _ taken.run run refl;
+    run = run_more from m next AtEnd a b c taken.happened (happens clock event) _ taken.run run refl;
     all_is = split_is;
   }
 
   -- what follows the event that ends the run doesn't happen
-  pub taken_last : (place : Unbuilt) → HasRun (begun m) (happens clock event) (Some place) next b c → HasRun from (events_of all) (Some place) next a c
-  taken_last place run = run_last from m next place a b c taken.happened (happens clock event) (events_from after (drop (i + 1) all)) _ taken.run run split_is
+  pub taken_last : (ending : Ends) → ending ≢ AtEnd → HasRun (begun m) (happens clock event) ending next b c → HasRun from (events_of all) ending next a c
+  taken_last ending early run =
+      run_last from m next ending a b c taken.happened (happens clock event) (events_from after (drop (i + 1) all)) _ taken.run early run split_is
 
 pub taken_all : (all : List asked.Event) (i : ℕ) (clock : Clock) (from : Course) (m : System) (a b : Taken) → HasTaken all i clock from m a b → length all ≤ i
-    → HasRun from (events_of all) None m a b
+    → HasRun from (events_of all) AtEnd m a b
 taken_all all i clock from m a b taken past =
     let same : events_of all ≡ taken.happened =
     taken.all_is ∙ ap (λ l. taken.happened ++ events_from clock l) (drop_all i all past) ∙ append-nil taken.happened in
-    run_as from m None a b _ _ (sym same) taken.run
+    run_as from m AtEnd a b _ _ (sym same) taken.run

@@ -1,5 +1,5 @@
 -- What has been written to the files of a run, step by step.
-use Rattle.std.proofs.Common.{◌≡◌, ◌<◌, ◌≤◌, ℕ, Bool, true, false, Option, Some, None, is_some, Result, Ok, Err, is_err, OnOk, MatchResult, List, [], ◌++◌, refl, sym, ◌∙◌, ap, subst}
+use Rattle.std.proofs.Common.{◌≡◌, ◌<◌, ◌≤◌, ℕ, Bool, true, false, not, Result, Ok, Err, is_err, OnOk, MatchResult, List, [], ◌++◌, refl, sym, ◌∙◌, ap, subst}
 use Rattle.std.proofs.lemmas.List.{append-nil}
 use Rattle.v6_base.specs.Trace.{line_bytes, text_of}
 use Rattle.v6_port.specs.declared.host.OutPort.{OutPort}
@@ -12,7 +12,9 @@ use Rattle.fs_codec.specs.declared.layout.TheConstants.{DISK_BLOCKS, SWAP_START}
 use Rattle.buf_cache.specs.Blocks.{block_at, blocks_of, IsDisk}
 use Rattle.fs_laws.specs.Rest.{SameRest}
 use Rattle.fs_laws.proofs.RestLemmas.{rest_then}
-use Rattle.abstract_unix.specs.declared.turned.Unbuilt.{Unbuilt}
+use Rattle.abstract_unix.specs.declared.ends.Ends.{Ends}
+use Rattle.abstract_unix.specs.declared.ends.Ends.TheVariants as ends
+use Rattle.abstract_unix.specs.declared.ends.Ends.TheVariants.{AtEnd}
 use Rattle.abstract_unix.specs.Unix.{System, SystemOnDisk}
 use Rattle.abstract_unix.specs.Runs.{Course, shown_by, finished}
 use Rattle.fs_laws.proofs.ImageLemmas.{block_of_image}
@@ -21,7 +23,7 @@ use Rattle.v6_run.specs.declared.outputs.Output.TheVariants.{Final}
 use Rattle.v6_run.specs.Ports.{term, log_of, final_of, HasShown, HasShownFronts}
 use Rattle.v6_run.specs.Fronts.{HoldsFront, HoldsSome, HoldsFrontOfSome}
 use Rattle.v6_run.specs.Final.{IsFinal, disk_text}
-use Rattle.v6_run.specs.Outputs.{port_of, is_shown, is_output, final_writes, run_writes, EndsRun, StopsRun}
+use Rattle.v6_run.specs.Outputs.{port_of, is_shown, is_output, final_writes, is_finished, run_writes, EndsRun, StopsRun}
 use Rattle.v6_port.proofs.CauseLemmas.{still_tells, calm_then, fault_then}
 use Rattle.v6_run.proofs.FrontLemmas.{front_of_nothing, front_of_all}
 use Rattle.v6_run.proofs.FinalLemmas.{final_is, final_same}
@@ -74,20 +76,20 @@ module _ (first : Disk) (run : Course) (a b c : Outside) (opens : OnlyAt is_outp
     log_shown : Tells a → (log_of c).bytes ≡ (log_of a).bytes ++ text_of (shown_by run)
     log_shown told = (shown (tells_b told)).log ∙ ap (λ l. l ++ text_of (shown_by run)) (opened out_port.Log)
 
-    pub came_to_unbuilt : (ending : Option Unbuilt) (place : Unbuilt) → ending ≡ Some place → ending ≡ run.ending → ((p : OutPort) → is_output (Out p) ≡ true → (b.port (Out p)).is_open ≡ true)
-        → (term c).is_open ≡ true → (log_of c).is_open ≡ true → Calm a b → Calm b c → EndsRun first run ending a c
-    came_to_unbuilt ending place is ends open_b open_term open_log calm calm_too = record {
-      ended = ends;
+    pub came_to_unbuilt : (ended : Ends) → is_finished ended ≡ false → ended ≡ run.ending → ((p : OutPort) → is_output (Out p) ≡ true → (b.port (Out p)).is_open ≡ true)
+        → (term c).is_open ≡ true → (log_of c).is_open ≡ true → Calm a b → Calm b c → EndsRun first run ended a c
+    came_to_unbuilt ended is last open_b open_term open_log calm calm_too = record {
+      ended = last;
       written = at;
-      is_open = λ p out. still p out ∙ sym (ap is_there is);
+      is_open = λ p out. still p out ∙ sym (ap not is);
       calm = calm_c calm calm_too;
     } where
-      is_there : Option Unbuilt → Bool
-      is_there None = false
-      is_there (Some u) = true
+      leaves_none : (e : Ends) → is_finished e ≡ false → final_writes first e run.system []
+      leaves_none AtEnd f = absurd (cc f)
+      leaves_none (ends.NotBuilt place) f = refl
 
       no_disk : final_writes first run.ending run.system []
-      no_disk = subst (λ e. final_writes first e run.system []) (sym is ∙ ends) refl
+      no_disk = subst (λ e. final_writes first e run.system []) last (leaves_none ended is)
 
       at : Tells a → (p : OutPort) → HoldsSome (run_writes first run p) (a.port (Out p)).bytes (c.port (Out p)).bytes
       at told out_port.Term = record { text = line_bytes 0 (shown_by run); fits = refl; holds = term_shown told }
@@ -102,9 +104,9 @@ module _ (first : Disk) (run : Course) (a b c : Outside) (opens : OnlyAt is_outp
       still out_port.Report out = absurd (let no : false ≡ true = out in cc)
 
     -- the run has come to its end, and its disk is written
-    module _ (ends : None ≡ run.ending) (text : List ℕ) (final : IsFinal first (finished run.system).unix.store text) (d : Outside) (writes : OnlyAt (same (Out out_port.Final)) c d) where
+    module _ (last : AtEnd ≡ run.ending) (text : List ℕ) (final : IsFinal first (finished run.system).unix.store text) (d : Outside) (writes : OnlyAt (same (Out out_port.Final)) c d) where
       fits : final_writes first run.ending run.system text
-      fits = subst (λ e. final_writes first e run.system text) ends final
+      fits = subst (λ e. final_writes first e run.system text) last final
 
       unwritten_by : (p : OutPort) → same (Out out_port.Final) (Out p) ≡ false → (d.port (Out p)).bytes ≡ (c.port (Out p)).bytes
       unwritten_by p other = ap (λ (state : PortState). state.bytes) (writes.others (Out p) other)
@@ -146,9 +148,9 @@ module _ (first : Disk) (run : Course) (a b c : Outside) (opens : OnlyAt is_outp
           fault = fault_any _ known _ _ (fault_then _ _ a d e (writes.fixed ∙ plays.fixed ∙ opens.fixed) (calm_then _ _ _ (calm_c calm calm_too) calm_still) fault);
         }
 
-        pub came_to_end : ((p : OutPort) → is_output (Out p) ≡ true → (e.port (Out p)).is_open ≡ false) → Calm a b → Calm b c → Calm c d → Calm d e → EndsRun first run None a e
+        pub came_to_end : ((p : OutPort) → is_output (Out p) ≡ true → (e.port (Out p)).is_open ≡ false) → Calm a b → Calm b c → Calm c d → Calm d e → EndsRun first run AtEnd a e
         came_to_end closed calm calm_too calm_still calm_last = record {
-          ended = ends;
+          ended = last;
           written = written_e;
           is_open = closed;
           calm = calm_then _ _ _ (calm_then _ _ _ (calm_c calm calm_too) calm_still) calm_last;
@@ -158,13 +160,13 @@ module _ (first : Disk) (run : Course) (a b c : Outside) (opens : OnlyAt is_outp
 pub run_leaves : (old played ended : SystemOnDisk) (run : Course) → (head (block_at old.blocks)).f_size ≤ SWAP_START → played.system ≡ run.system → SameRest old.blocks played.blocks
     → ended.system ≡ finished played.system → StandsFor DISK_BLOCKS (block_at ended.stored) ended.system.unix.store → SameRest played.blocks ended.stored → IsDisk ended.stored
     → IsFinal (block_at old.blocks) (finished run.system).unix.store (disk_text ended.stored)
-run_leaves old played ended run low plays first ends stands second form =
-    subst (λ (m : System). IsFinal (block_at old.blocks) m.unix.store (disk_text ended.stored)) (ends ∙ ap finished plays)
+run_leaves old played ended run low plays first finishes stands second form =
+    subst (λ (m : System). IsFinal (block_at old.blocks) m.unix.store (disk_text ended.stored)) (finishes ∙ ap finished plays)
     (final_is old.blocks ended.stored ended.system.unix.store low (rest_then _ _ _ first second) form stands)
 
-pub came_to_none : (ending last : Option Unbuilt) → false ≡ is_some ending → ending ≡ last → None ≡ last
-came_to_none None last none is = is
-came_to_none (Some place) last none is = absurd (cc)
+pub came_through : (ended : Ends) → is_finished ended ≡ true → ended ≡ AtEnd
+came_through AtEnd is = refl
+came_through (ends.NotBuilt place) is = absurd (cc is)
 
 pub fault_where_err : {T E : Type 0} (r : Result T E) (P Q : Type 0) → true ≡ is_err r → MatchResult r (λ _. P) (λ _. Q) → Q
 fault_where_err (Ok x) P Q is holds = absurd (cc)
@@ -183,9 +185,9 @@ pub same_blocks : (image : List ℕ) (blocks : List (List ℕ)) → blocks ≡ b
 same_blocks image blocks is n low = ap (λ l. block_at l n) is ∙ block_of_image image n low
 
 module _ (d e : Disk) (same_disk : (n : ℕ) → n < DISK_BLOCKS → e n ≡ d n) where
-  final_over : (ending : Option Unbuilt) (m : System) (text : List ℕ) → final_writes e ending m text → final_writes d ending m text
-  final_over None m text final = final_same d e (finished m).unix.store text same_disk final
-  final_over (Some place) m text none = none
+  final_over : (ending : Ends) (m : System) (text : List ℕ) → final_writes e ending m text → final_writes d ending m text
+  final_over AtEnd m text final = final_same d e (finished m).unix.store text same_disk final
+  final_over (ends.NotBuilt place) m text none = none
 
   writes_over : (run : Course) (p : OutPort) (text : List ℕ) → run_writes e run p text → run_writes d run p text
   writes_over run out_port.Term text fits = fits
@@ -193,12 +195,12 @@ module _ (d e : Disk) (same_disk : (n : ℕ) → n < DISK_BLOCKS → e n ≡ d n
   writes_over run out_port.Final text fits = final_over run.ending run.system text fits
   writes_over run out_port.Report text fits = fits
 
-  pub ends_over : (run : Course) (ending : Option Unbuilt) (old new : Outside) → EndsRun e run ending old new → EndsRun d run ending old new
-  ends_over run ending old new ends = record {
-    ended = ends.ended;
-    written = λ told p. let all = ends.written told p in record { text = all.text; fits = writes_over run p all.text all.fits; holds = all.holds };
-    is_open = ends.is_open;
-    calm = ends.calm;
+  pub ends_over : (run : Course) (ending : Ends) (old new : Outside) → EndsRun e run ending old new → EndsRun d run ending old new
+  ends_over run ending old new ended = record {
+    ended = ended.ended;
+    written = λ told p. let all = ended.written told p in record { text = all.text; fits = writes_over run p all.text all.fits; holds = all.holds };
+    is_open = ended.is_open;
+    calm = ended.calm;
   }
 
   pub stops_over : (run : Course) (output : Output) (known : Bool) (old new : Outside) → StopsRun e run output known old new → StopsRun d run output known old new

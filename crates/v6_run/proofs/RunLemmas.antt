@@ -17,6 +17,9 @@ use Rattle.v6_run.specs.declared.image.TheConstants.{IMAGE_LIMIT}
 use Rattle.v6_run.specs.declared.run.TheConstants.{SCRIPT_LIMIT}
 use Rattle.v6_run.specs.declared.status.Status.{Status}
 use Rattle.v6_run.specs.declared.status.Status.TheVariants.{ReadFault, WriteFault, ScriptFault, NoMemory, NotBuilt}
+use Rattle.abstract_unix.specs.declared.ends.Ends.{Ends}
+use Rattle.abstract_unix.specs.declared.ends.Ends.TheVariants as ends
+use Rattle.abstract_unix.specs.declared.ends.Ends.TheVariants.{AtEnd}
 use Rattle.abstract_unix.specs.declared.turned.Unbuilt.{Unbuilt}
 use Rattle.abstract_unix.specs.declared.turned.Unbuilt.TheVariants as unbuilt
 use Rattle.v6_run.specs.declared.files.ReadError.{ReadError}
@@ -96,11 +99,11 @@ completion_is core (Some i) (Some s) image bytes image_is good script_is =
     ap (λ l. fault_completion (image_fault l) (Known (bytes_completion l core (take SCRIPT_LIMIT s)))) same_image
     ∙ ap (λ f. fault_completion f (Known (bytes_completion image core (take SCRIPT_LIMIT s)))) good ∙ ap (λ l. Known (bytes_completion image core l)) same_script
 
-has_begun : (ended : Option Unbuilt) → IsMet ended → has_written (status_at ended) ≡ true
-has_begun None met = refl
-has_begun (Some (unbuilt.Line n)) met = absurd met
-has_begun (Some (unbuilt.At pc)) met = refl
-has_begun (Some unbuilt.Room) met = refl
+has_begun : (ended : Ends) → IsMet ended → has_written (status_at ended) ≡ true
+has_begun AtEnd met = refl
+has_begun (ends.NotBuilt (unbuilt.Line n)) met = absurd met
+has_begun (ends.NotBuilt (unbuilt.At pc)) met = refl
+has_begun (ends.NotBuilt unbuilt.Room) met = refl
 
 -- the files that `run` writes are those for writing that its words name
 named_output : (words : RunWords) (p : OutPort) → is_named (Run words) (Out p) ≡ true → is_output (Out p) ≡ true
@@ -131,10 +134,10 @@ module _ (words : RunWords) (image bytes : List ℕ) (old middle : Outside) (fil
   before_run : (s : Status) → may_end (Run words) s ≡ true → has_written s ≡ false → (s ≡ ReadFault in_port.Script → ⊥)
       → (is_decided s ≡ true → Tells old → IsKnownAnd (command_completion (Run words) old.fixed) (IsComplete s old middle)) → IsCaused (is_known (Some (Run words)) old.fixed) s old middle
       → Answers (Run words) s old middle
-  before_run s ends before read complete cause = unwritten (Run words) s old middle files.only ends before files.none (λ is. absurd (read is)) complete cause
+  before_run s may before read complete cause = unwritten (Run words) s old middle files.only may before files.none (λ is. absurd (read is)) complete cause
 
   faulty : (fault : text.ScriptFault) → may_end (Run words) (ScriptFault fault) ≡ true → script_of bytes ≡ Err fault → Answers (Run words) (ScriptFault fault) old middle
-  faulty fault ends is = before_run (ScriptFault fault) ends refl (λ is. cc)
+  faulty fault may is = before_run (ScriptFault fault) may refl (λ is. cc)
       (λ _. early_complete (ScriptFault fault) (ap (λ s. lines_completion image words.core s (signal_line_of bytes)) is)) files.calm
 
   pub script_refused : (error : ScriptError) → RefusesScript bytes error → Answers (Run words) (script_status error) old middle
@@ -176,46 +179,46 @@ module _ (words : RunWords) (image bytes : List ℕ) (old middle : Outside) (fil
       only_run : OnlyAt (is_named (Run words)) old new
       only_run = only_then _ _ _ _ files.only (only_within _ _ _ _ (names_outputs words) only)
 
-      run_complete : (ended : Option Unbuilt) → EndsRun (disk_of image) run ended middle new → Tells old
+      run_complete : (ended : Ends) → EndsRun (disk_of image) run ended middle new → Tells old
           → IsKnownAnd (command_completion (Run words) old.fixed) (IsComplete (status_at ended) old new)
-      run_complete ended ends told = subst (λ m. IsKnownAnd m (IsComplete (status_at ended) old new)) (sym (run_completion told)) (record {
-        answered = ap status_at ends.ended;
+      run_complete ended all told = subst (λ m. IsKnownAnd m (IsComplete (status_at ended) old new)) (sym (run_completion told)) (record {
+        answered = ap status_at all.ended;
         written = λ p _. subst (λ (state : PortState). HoldsSome (run_writes (disk_of image) run p) state.bytes (new.port (Out p)).bytes) (files.none p)
-            (ends.written (still_tells _ _ _ files.only told) p);
+            (all.written (still_tells _ _ _ files.only told) p);
       })
 
       -- before its last event it came to what isn't built
       unbuilt_at : (place : Unbuilt) → has_written (NotBuilt place) ≡ true
-          → EndsRun (disk_of image) run (Some place) middle new → Answers (Run words) (NotBuilt place) old new
-      unbuilt_at place begun ends = record {
+          → EndsRun (disk_of image) run (ends.NotBuilt place) middle new → Answers (Run words) (NotBuilt place) old new
+      unbuilt_at place begun ended = record {
         only = only_run;
         ends = refl;
         unreported = λ is. cc;
-        complete = λ _. run_complete (Some place) ends;
+        complete = λ _. run_complete (ends.NotBuilt place) ended;
         partial = λ p is. absurd (cc);
         order = λ is. absurd (cc);
         none = λ before. not_so _ (sym before ∙ begun);
         closed = λ is. absurd (cc);
-        unfinished = λ _ p named. ends.is_open p (named_output words p named);
-        cause = calm_then _ _ _ files.calm ends.calm;
+        unfinished = λ _ p named. ended.is_open p (named_output words p named);
+        cause = calm_then _ _ _ files.calm ended.calm;
       }
 
-      pub run_ended : (ended : Option Unbuilt) → EndsRun (disk_of image) run ended middle new → Answers (Run words) (status_at ended) old new
-      run_ended None ends = record {
+      pub run_ended : (ended : Ends) → EndsRun (disk_of image) run ended middle new → Answers (Run words) (status_at ended) old new
+      run_ended AtEnd ended = record {
         only = only_run;
         ends = refl;
         unreported = λ is. cc;
-        complete = λ _. run_complete None ends;
+        complete = λ _. run_complete AtEnd ended;
         partial = λ p is. absurd (cc);
         order = λ is. absurd (cc);
         none = λ before. not_so _ (sym before);
-        closed = λ _ p named. ends.is_open p (named_output words p named);
+        closed = λ _ p named. ended.is_open p (named_output words p named);
         unfinished = λ is. not_so _ is;
-        cause = calm_then _ _ _ files.calm ends.calm;
+        cause = calm_then _ _ _ files.calm ended.calm;
       }
-      run_ended (Some (unbuilt.Line n)) ends = absurd (subst IsMet (sym ends.ended) run_is_met)
-      run_ended (Some (unbuilt.At pc)) ends = unbuilt_at (unbuilt.At pc) refl ends
-      run_ended (Some unbuilt.Room) ends = unbuilt_at unbuilt.Room refl ends
+      run_ended (ends.NotBuilt (unbuilt.Line n)) ended = absurd (subst IsMet (sym ended.ended) run_is_met)
+      run_ended (ends.NotBuilt (unbuilt.At pc)) ended = unbuilt_at (unbuilt.At pc) refl ended
+      run_ended (ends.NotBuilt unbuilt.Room) ended = unbuilt_at unbuilt.Room refl ended
 
       run_partial : (output : Output) (known : Bool) → StopsRun (disk_of image) run output known middle new → Tells old
           → IsKnownAnd (command_completion (Run words) old.fixed) (IsPartial old new)

@@ -21,7 +21,8 @@ use Rattle.v6_run.specs.declared.image.TheConstants.{IMAGE_LIMIT}
 use Rattle.v6_run.specs.declared.run.TheConstants.{SCRIPT_LIMIT}
 use Rattle.v6_run.specs.declared.status.Status.{Status}
 use Rattle.v6_run.specs.declared.status.Status.TheVariants as status
-use Rattle.abstract_unix.specs.declared.turned.Unbuilt.{Unbuilt}
+use Rattle.abstract_unix.specs.declared.ends.Ends.{Ends}
+use Rattle.abstract_unix.specs.declared.ends.Ends.TheVariants.{AtEnd, NotBuilt}
 use Rattle.abstract_unix.specs.declared.turned.Unbuilt.TheVariants as unbuilt
 use Rattle.v6_run.specs.Words.{RunWords, Command, Run, Check, Make}
 use Rattle.v6_run.specs.Events.{events_of}
@@ -65,9 +66,9 @@ ends_with s = record { status = s; writes = λ port. exactly [] }
 abbrev pub only_to : OutPort → List ℕ → OutPort → List ℕ → Type 0
 only_to port text q = exactly (if same (Out port) (Out q) then text else [])
 
-abbrev pub status_at : Option Unbuilt → Status
-status_at None = status.Done
-status_at (Some place) = status.NotBuilt place
+abbrev pub status_at : Ends → Status
+status_at AtEnd = status.Done
+status_at (NotBuilt place) = status.NotBuilt place
 
 -- the terminal and LOG get what the run shows, and FINAL the disk that it leaves
 abbrev pub course_completion : List ℕ → Course → Completion

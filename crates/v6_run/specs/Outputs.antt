@@ -1,12 +1,13 @@
 -- The files that `run` writes, by docs/manual/commands.md: what the terminal shows, the log, and the disk at the end.
-use Rattle.std.specs.Prelude.{◌≡◌, ℕ, Bool, true, Option, Some, None, is_some, List, [], ◌||◌}
+use Rattle.std.specs.Prelude.{◌≡◌, ℕ, Bool, true, false, not, List, [], ◌||◌}
 use Rattle.v6_base.specs.Trace.{line_bytes, text_of}
 use Rattle.v6_port.specs.declared.host.OutPort.{OutPort}
 use Rattle.v6_port.specs.declared.host.OutPort.TheVariants as out_port
 use Rattle.v6_port.specs.Outside.{Port, Out, same, Outside, Tells}
 use Rattle.v6_port.specs.Causes.{Calm, FaultAt}
 use Rattle.fs_codec.specs.Disk.{Disk}
-use Rattle.abstract_unix.specs.declared.turned.Unbuilt.{Unbuilt}
+use Rattle.abstract_unix.specs.declared.ends.Ends.{Ends}
+use Rattle.abstract_unix.specs.declared.ends.Ends.TheVariants.{AtEnd, NotBuilt}
 use Rattle.abstract_unix.specs.Unix.{System}
 use Rattle.abstract_unix.specs.Runs.{Course, shown_by, finished}
 use Rattle.v6_run.specs.declared.outputs.Output.{Output}
@@ -27,9 +28,14 @@ abbrev pub is_output : Port → Bool
 is_output q = is_shown q || same (Out out_port.Final) q
 
 -- a run that has come to its end leaves its disk, and one that came to what isn't built nothing
-abbrev pub final_writes : Disk → Option Unbuilt → System → List ℕ → Type 0
-final_writes first None m = IsFinal first (finished m).unix.store
-final_writes first (Some place) m = exactly []
+abbrev pub final_writes : Disk → Ends → System → List ℕ → Type 0
+final_writes first AtEnd m = IsFinal first (finished m).unix.store
+final_writes first (NotBuilt place) m = exactly []
+
+-- and where it leaves its disk its files are finished
+abbrev pub is_finished : Ends → Bool
+is_finished AtEnd = true
+is_finished (NotBuilt place) = false
 
 -- the texts that a run from a disk may write to each port
 abbrev pub run_writes : Disk → Course → OutPort → List ℕ → Type 0
@@ -38,11 +44,11 @@ run_writes first c out_port.Log = exactly (text_of (shown_by c))
 run_writes first c out_port.Final = final_writes first c.ending c.system
 run_writes first c out_port.Report = exactly []
 
--- The run has been taken, and all of it is written. Its files are finished where it came to its end.
-pub record EndsRun (first : Disk) (c : Course) (ending : Option Unbuilt) (old new : Outside) : Type 0 where
-  pub ended : ending ≡ c.ending
+-- The run has been taken and ends so, and all of it is written.
+pub record EndsRun (first : Disk) (c : Course) (ends : Ends) (old new : Outside) : Type 0 where
+  pub ended : ends ≡ c.ending
   pub written : Tells old → (p : OutPort) → HoldsSome (run_writes first c p) (old.port (Out p)).bytes (new.port (Out p)).bytes
-  pub is_open : (p : OutPort) → is_output (Out p) ≡ true → (new.port (Out p)).is_open ≡ is_some ending
+  pub is_open : (p : OutPort) → is_output (Out p) ≡ true → (new.port (Out p)).is_open ≡ not (is_finished ends)
   pub calm : Calm old new
 
 -- One of its files, under a name that is known or not, has failed.

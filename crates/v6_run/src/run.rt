@@ -1,6 +1,6 @@
 //! The command `run`.
 ghost use Rattle.std.specs.List.{list_any};
-ghost use Rattle.std.specs.Prelude.{◌≡◌, ◌<◌, ◌≤◌, ◌^◌, length, is_some, true, false, None, Some, IfOk, OnOk, IfErr, MatchResult, ◌++◌};
+ghost use Rattle.std.specs.Prelude.{◌≡◌, ◌<◌, ◌≤◌, ◌^◌, length, true, false, None, Some, IfOk, OnOk, IfErr, MatchResult, ◌++◌};
 ghost use Rattle.v6_port.specs.Outside.{Out, IsOpen, OnlyAt, Tells, same};
 ghost use Rattle.v6_port.specs.declared.host.OutPort.{OutPort};
 ghost use Rattle.v6_port.specs.declared.host.OutPort.TheVariants.{Term, Log};
@@ -10,13 +10,14 @@ ghost use Rattle.fs_codec.specs.Disk.{head};
 ghost use Rattle.buf_cache.specs.Blocks.{block_at, blocks_of};
 ghost use Rattle.fs_laws.specs.Rest.{SameRest};
 ghost use Rattle.script_text.specs.Script.{is_signal};
-ghost use Rattle.abstract_unix.specs.Unix.{New, phase_after};
+ghost use Rattle.abstract_unix.specs.Unix.{New};
+ghost use Rattle.abstract_unix.specs.Endings.{phase_after};
 ghost use Rattle.abstract_unix.specs.Runs.{boots, started, course, shown_by};
 ghost use Rattle.v6_run.specs.Words.{Run, run_words_value};
 ghost use Rattle.v6_run.specs.Events.{events_of};
 ghost use Rattle.v6_run.specs.Ports.{HasShown, HasShownFronts};
 ghost use Rattle.v6_run.specs.Errors.{end_of, run_status};
-ghost use Rattle.v6_run.specs.Outputs.{port_of, is_shown, is_output, EndsRun, StopsRun};
+ghost use Rattle.v6_run.specs.Outputs.{port_of, is_shown, is_output, is_finished, EndsRun, StopsRun};
 ghost use Rattle.v6_run.specs.Headline.{run_knows};
 ghost use Rattle.v6_run.specs.Answers.{Answers, HasFiles};
 
@@ -30,15 +31,11 @@ use crate::words::RunWords;
 use fs_codec::SWAP_START;
 use script_text::{Event, MAX_BYTES};
 use std::alloc::Global;
-use unix_core::{BootFault, Kernel, Unbuilt};
+use unix_core::{BootFault, Ends, Kernel, Unbuilt};
 use v6_port::{Host, InPort};
 
 /// The most bytes of a script that are read: one more than a script may have.
 pub(crate) const SCRIPT_LIMIT: usize = MAX_BYTES + 1;
-
-/// There was no memory for a kernel.
-#[derive(Clone, Copy)]
-pub(crate) struct NoMemory;
 
 /// Why a run was not done to its end.
 #[derive(Clone, Copy)]
@@ -90,50 +87,35 @@ impl From<ScriptError> for RunError {
     }
 }
 
-impl From<NoMemory> for RunError {
-    ghost use Rattle.std.specs.Prelude.{◌≡◌};
-    ghost use Rattle.v6_run.specs.declared.run.RunError.TheVariants.{NoMemory};
-
-    ghost from_gives = { λ error run_error. run_error ≡ NoMemory };
-
-    fn from(error: NoMemory) -> RunError {
-        let NoMemory = error;
-        RunError::NoMemory
-    }
-}
-
 /// The kernel for an image and so many clicks of core.
-fn boot(alloc: Global, image: &[u8], core: u32) -> Result<Kernel, NoMemory>
+fn boot(alloc: Global, image: &[u8], core: u32) -> Result<Kernel, RunError>
     requires least { 64 ≤ core }
     requires most { core ≤ 3968 }
     requires good { image_fault image.now ≡ None }
     ensures system { IfOk result (λ kernel. boots image.now core ≡ Some kernel.system) }
     ensures blocks { IfOk result (λ kernel. kernel.blocks ≡ blocks_of image.now) }
     ensures phase { IfOk result (λ kernel. kernel.phase ≡ New) }
+    ensures memory { IfErr result (λ error. error ≡ RunError.NoMemory) }
 {
     match Kernel::boot(alloc, image, core as u16) {
         Ok(kernel) => Ok(kernel),
         Err(BootFault::Image(_)) => unreachable!(),
-        Err(BootFault::NoMemory) => Err(NoMemory),
+        Err(BootFault::NoMemory) => Err(RunError::NoMemory),
     }
 }
 
-/// Runs the kernel over the events of a script, with the terminal and the log open, and gives what isn't built where it comes
-/// to that. Where one of the two can't be written, the run goes on without both, and then that is the answer.
-fn play<H: Host>(
-    kernel: &mut Kernel,
-    events: &[Event],
-    host: &mut H,
-) -> Result<Option<Unbuilt>, Output>
+/// Runs the kernel over the events of a script, with the terminal and the log open, and tells how the run ends. Where one of
+/// the two can't be written, the run goes on without both, and then that is the answer.
+fn play<H: Host>(kernel: &mut Kernel, events: &[Event], host: &mut H) -> Result<Ends, Output>
     requires term { IsOpen (H.outside host.old) (Out Term) }
     requires log { IsOpen (H.outside host.old) (Out Log) }
     requires unsignalled { list_any is_signal events.now ≡ false }
     requires new { kernel.old.phase ≡ New }
-    ensures phase { IfOk result (λ ending. kernel.new.phase ≡ phase_after ending) }
+    ensures phase { IfOk result (λ ends. kernel.new.phase ≡ phase_after ends) }
     ensures only { OnlyAt is_shown (H.outside host.old) (H.outside host.new) }
     ensures term { IsOpen (H.outside host.new) (Out Term) }
     ensures log { IsOpen (H.outside host.new) (Out Log) }
-    ensures ending { IfOk result (λ ending. ending ≡ (course (started kernel.old.system) (events_of events.now)).ending) }
+    ensures ending { IfOk result (λ ends. ends ≡ (course (started kernel.old.system) (events_of events.now)).ending) }
     ensures shown { OnOk result (Tells (H.outside host.old)
         → HasShown (shown_by (course (started kernel.old.system) (events_of events.now)))
         (H.outside host.old) (H.outside host.new)) }
@@ -146,43 +128,53 @@ fn play<H: Host>(
         (λ output. FaultAt (Out (port_of output)) true (H.outside host.old) (H.outside host.new)) }
 {
     let mut ports = Ports::new(host);
-    let ending = show_run(kernel, events, &mut ports);
+    let ends = show_run(kernel, events, &mut ports);
     match ports.failed() {
         Some(output) => Err(output),
-        None => Ok(ending),
+        None => Ok(ends),
     }
 }
 
-/// Runs the kernel with its files opened, and gives what isn't built where it comes to that. Else the run is finished, its disk
-/// is written, and then the files are finished.
+/// Whether a run that ends so leaves its disk, and its files finished.
+fn is_finished(ends: Ends) -> bool
+    ensures { result ≡ is_finished ends }
+{
+    match ends {
+        Ends::AtEnd => true,
+        Ends::NotBuilt(_) => false,
+    }
+}
+
+/// Runs the kernel with its files opened, and tells how the run ends. Where it leaves its disk, that is written, and then the
+/// files are finished.
 fn run_with_outputs<H: Host>(
     kernel: &mut Kernel,
     events: &[Event],
     words: &RunWords<'_>,
     host: &mut H,
-) -> Result<Option<Unbuilt>, Output>
+) -> Result<Ends, Output>
     requires closed { (p : OutPort) → is_output (Out p) ≡ true → ((H.outside host.old).port (Out p)).is_open ≡ false }
     requires root { (head (block_at kernel.old.blocks)).f_size ≤ SWAP_START }
     requires unsignalled { list_any is_signal events.now ≡ false }
     requires new { kernel.old.phase ≡ New }
     ensures only { OnlyAt is_output (H.outside host.old) (H.outside host.new) }
     ensures outcome { MatchResult result
-        (λ ending. EndsRun (block_at kernel.old.blocks) (course (started kernel.old.system) (events_of events.now)) ending
+        (λ ends. EndsRun (block_at kernel.old.blocks) (course (started kernel.old.system) (events_of events.now)) ends
         (H.outside host.old) (H.outside host.new))
         (λ output. StopsRun (block_at kernel.old.blocks) (course (started kernel.old.system) (events_of events.now)) output
         (run_knows (run_words_value words.now) (H.outside host.old).fixed (Out (port_of output)))
         (H.outside host.old) (H.outside host.new)) }
 {
     open_outputs(words, host)?;
-    let ending = play(kernel, events, host)?;
-    if ending.is_some() {
-        return Ok(ending);
+    let ends = play(kernel, events, host)?;
+    if !is_finished(ends) {
+        return Ok(ends);
     }
     if leave_disk(kernel, host).is_err() {
         return Err(Output::Final);
     }
     finish_outputs(host)?;
-    Ok(None)
+    Ok(ends)
 }
 
 /// The files that are read before a run.
@@ -219,8 +211,8 @@ pub(crate) fn run<H: Host>(
     let script = read_script(alloc, &files.script)?;
     let mut kernel = boot(alloc, &files.image, words.core)?;
     match run_with_outputs(&mut kernel, &script.events, words, host) {
-        Ok(None) => Ok(()),
-        Ok(Some(place)) => Err(RunError::NotBuilt(place)),
+        Ok(Ends::AtEnd) => Ok(()),
+        Ok(Ends::NotBuilt(place)) => Err(RunError::NotBuilt(place)),
         Err(output) => Err(RunError::Write(output)),
     }
 }

@@ -1,9 +1,11 @@
 //! A run over the events of a script.
-ghost use Rattle.std.specs.Prelude.{◌≡◌, ◌<◌, ◌+◌, false, replicate, flat_map};
+ghost use Rattle.std.specs.Prelude.{◌≡◌, ◌<◌, ◌+◌, Ok, Err, false, replicate, flat_map};
 ghost use Rattle.std.specs.List.{list_any, range_with_len};
 ghost use Rattle.script_text.specs.Script.{is_signal};
 ghost use Rattle.fs_laws.specs.Rest.{SameRest};
-ghost use Rattle.abstract_unix.specs.Unix.{New, Started, phase_after};
+ghost use Rattle.abstract_unix.specs.Unix.{New, Started};
+ghost use Rattle.abstract_unix.specs.declared.ends.Ends.TheVariants.{AtEnd};
+ghost use Rattle.abstract_unix.specs.Endings.{phase_after, last_line};
 ghost use Rattle.abstract_unix.specs.Runs.{Slot, begun, started, course, shown_by};
 ghost use Rattle.v6_run.specs.Events.{slot_with, slot_numbered, happens, clock_after, events_of};
 ghost use Rattle.v6_run.specs.Clocks.{clock_value, TicksAlike};
@@ -12,13 +14,13 @@ ghost use Rattle.v6_run.specs.Courses.{HasRun};
 
 use crate::clock::{Clock, since_after, since_next};
 use script_text::Event;
-use unix_core::{Kernel, Turned, Unbuilt};
+use unix_core::{Ends, Kernel, Turned, Unbuilt};
 use v6_base::{Entry, Trace};
 
-/// Takes so many slots, or those up to the first that comes to what isn't built, and gives that. It stands by itself, so that
-/// its loop has all registers.
+/// Takes so many slots, or those up to the first that ends the run, and tells how. It stands by itself, so that its loop has
+/// all registers.
 #[inline(never)]
-fn run_slots<T: Trace>(kernel: &mut Kernel, count: u32, trace: &mut T) -> Option<Unbuilt>
+fn run_slots<T: Trace>(kernel: &mut Kernel, count: u32, trace: &mut T) -> Ends
     requires started { kernel.old.phase ≡ Started }
     ensures phase { kernel.new.phase ≡ phase_after result }
     ensures run { HasRun (begun kernel.old.system) (replicate count Slot) result kernel.new.system
@@ -28,15 +30,26 @@ fn run_slots<T: Trace>(kernel: &mut Kernel, count: u32, trace: &mut T) -> Option
 {
     'slots: for _ in 0..count {
         if let Turned::NotBuilt(place) = kernel.turn(trace) {
-            return Some(place);
+            return Ends::NotBuilt(place);
         }
     }
-    None
+    Ends::AtEnd
+}
+
+/// How a run ends after a tick.
+fn ends_by(ticked: Result<(), Unbuilt>) -> Ends
+    ensures goes { ticked ≡ Ok tt → result ≡ AtEnd }
+    ensures stops { (place : Unbuilt) → ticked ≡ Err place → result ≡ Ends.NotBuilt place }
+{
+    match ticked {
+        Ok(()) => Ends::AtEnd,
+        Err(place) => Ends::NotBuilt(place),
+    }
 }
 
 /// Takes one slot, and a tick after it where there is one. The turn is that of `run_slots`: with a second place where a turn
 /// is taken it would stand out of line in both.
-fn take_slot<T: Trace>(kernel: &mut Kernel, ticks: bool, trace: &mut T) -> Option<Unbuilt>
+fn take_slot<T: Trace>(kernel: &mut Kernel, ticks: bool, trace: &mut T) -> Ends
     requires started { kernel.old.phase ≡ Started }
     ensures phase { kernel.new.phase ≡ phase_after result }
     ensures run { HasRun (begun kernel.old.system) (slot_with ticks) result kernel.new.system
@@ -44,13 +57,14 @@ fn take_slot<T: Trace>(kernel: &mut Kernel, ticks: bool, trace: &mut T) -> Optio
     ensures rest { SameRest kernel.old.blocks kernel.new.blocks }
     ensures frame { T.leads_to trace.old trace.new }
 {
-    if let Some(place) = run_slots(kernel, 1, trace) {
-        return Some(place);
+    match run_slots(kernel, 1, trace) {
+        Ends::AtEnd => {}
+        ends => return ends,
     }
     if ticks {
-        kernel.tick(trace).err()
+        ends_by(kernel.tick(trace))
     } else {
-        None
+        Ends::AtEnd
     }
 }
 
@@ -62,7 +76,7 @@ fn run_clocked<T: Trace>(
     since: u32,
     count: u32,
     trace: &mut T,
-) -> Option<Unbuilt>
+) -> Ends
     requires within { since < every }
     requires started { kernel.old.phase ≡ Started }
     ensures phase { kernel.new.phase ≡ phase_after result }
@@ -74,20 +88,16 @@ fn run_clocked<T: Trace>(
     let mut gone = since;
     'slots: for _ in 0..count {
         gone = since_next(every, gone);
-        if let Some(place) = take_slot(kernel, gone == 0, trace) {
-            return Some(place);
+        match take_slot(kernel, gone == 0, trace) {
+            Ends::AtEnd => {}
+            ends => return ends,
         }
     }
-    None
+    Ends::AtEnd
 }
 
 /// Takes the slots of a line `run N`, with the ticks of the clock.
-fn run_line<T: Trace>(
-    kernel: &mut Kernel,
-    clock: &mut Clock,
-    count: u32,
-    trace: &mut T,
-) -> Option<Unbuilt>
+fn run_line<T: Trace>(kernel: &mut Kernel, clock: &mut Clock, count: u32, trace: &mut T) -> Ends
     requires started { kernel.old.phase ≡ Started }
     ensures phase { kernel.new.phase ≡ phase_after result }
     ensures run { HasRun (begun kernel.old.system) (happens (clock_value clock.old) (Event.Run count)) result kernel.new.system
@@ -108,12 +118,7 @@ fn run_line<T: Trace>(
 }
 
 /// Takes one event of a script.
-fn take_event<T: Trace>(
-    kernel: &mut Kernel,
-    clock: &mut Clock,
-    event: Event,
-    trace: &mut T,
-) -> Option<Unbuilt>
+fn take_event<T: Trace>(kernel: &mut Kernel, clock: &mut Clock, event: Event, trace: &mut T) -> Ends
     requires unsignalled { is_signal event ≡ false }
     requires started { kernel.old.phase ≡ Started }
     ensures phase { kernel.new.phase ≡ phase_after result }
@@ -126,23 +131,23 @@ fn take_event<T: Trace>(
     match event {
         Event::Clock(every) => {
             *clock = Clock { every, since: 0 };
-            None
+            Ends::AtEnd
         }
         Event::Run(count) => run_line(kernel, clock, count, trace),
-        Event::Tick => kernel.tick(trace).err(),
+        Event::Tick => ends_by(kernel.tick(trace)),
         Event::Byte(byte) => {
             kernel.typed(byte, trace);
-            None
+            Ends::AtEnd
         }
         Event::Switch(word) => {
             kernel.set_switches(word);
-            None
+            Ends::AtEnd
         }
     }
 }
 
-/// Takes the events of a script in turn, up to the first that comes to what isn't built.
-fn run_events<T: Trace>(kernel: &mut Kernel, events: &[Event], trace: &mut T) -> Option<Unbuilt>
+/// Takes the events of a script in turn, up to the first that ends the run.
+fn run_events<T: Trace>(kernel: &mut Kernel, events: &[Event], trace: &mut T) -> Ends
     requires unsignalled { list_any is_signal events.now ≡ false }
     requires started { kernel.old.phase ≡ Started }
     ensures phase { kernel.new.phase ≡ phase_after result }
@@ -153,15 +158,16 @@ fn run_events<T: Trace>(kernel: &mut Kernel, events: &[Event], trace: &mut T) ->
 {
     let mut clock = Clock { every: 0, since: 0 };
     'events: for event in events {
-        if let Some(place) = take_event(kernel, &mut clock, *event, trace) {
-            return Some(place);
+        match take_event(kernel, &mut clock, *event, trace) {
+            Ends::AtEnd => {}
+            ends => return ends,
         }
     }
-    None
+    Ends::AtEnd
 }
 
 /// Starts the kernel, and takes the events of a script in turn.
-fn run_script<T: Trace>(kernel: &mut Kernel, events: &[Event], trace: &mut T) -> Option<Unbuilt>
+fn run_script<T: Trace>(kernel: &mut Kernel, events: &[Event], trace: &mut T) -> Ends
     requires unsignalled { list_any is_signal events.now ≡ false }
     requires new { kernel.old.phase ≡ New }
     ensures phase { kernel.new.phase ≡ phase_after result }
@@ -174,12 +180,19 @@ fn run_script<T: Trace>(kernel: &mut Kernel, events: &[Event], trace: &mut T) ->
     run_events(kernel, events, trace)
 }
 
-/// Takes a whole run, and writes the last line of its log where the run has come to its end.
-pub(crate) fn show_run<T: Trace>(
-    kernel: &mut Kernel,
-    events: &[Event],
-    trace: &mut T,
-) -> Option<Unbuilt>
+/// The last line of the log of a run that ends so.
+fn last_line<T: Trace>(ends: Ends, trace: &mut T)
+    ensures shown { Took (T.taken trace.old) (last_line ends) (T.taken trace.new) }
+    ensures frame { T.leads_to trace.old trace.new }
+{
+    match ends {
+        Ends::AtEnd => trace.entry(Entry::End),
+        Ends::NotBuilt(_) => {}
+    }
+}
+
+/// Takes a whole run, with the last line of its log.
+pub(crate) fn show_run<T: Trace>(kernel: &mut Kernel, events: &[Event], trace: &mut T) -> Ends
     requires unsignalled { list_any is_signal events.now ≡ false }
     requires new { kernel.old.phase ≡ New }
     ensures phase { kernel.new.phase ≡ phase_after result }
@@ -190,10 +203,7 @@ pub(crate) fn show_run<T: Trace>(
     ensures rest { SameRest kernel.old.blocks kernel.new.blocks }
     ensures frame { T.leads_to trace.old trace.new }
 {
-    let ending = run_script(kernel, events, trace);
-    if ending.is_some() {
-        return ending;
-    }
-    trace.entry(Entry::End);
-    None
+    let ends = run_script(kernel, events, trace);
+    last_line(ends, trace);
+    ends
 }

@@ -6,7 +6,7 @@ ghost use Rattle.v6_run.specs.Words.{command_in, run_words, check_words, make_wo
 use script_text::number_of;
 
 /// The files of `run` that are read or written, and the size of core in clicks of 64 bytes.
-#[derive(Clone, Copy, Debug)]
+#[derive(Clone, Copy)]
 pub(crate) struct RunWords<'a> {
     pub(crate) image: &'a str,
     pub(crate) core: u32,
@@ -17,7 +17,7 @@ pub(crate) struct RunWords<'a> {
 }
 
 /// A command with its names and numbers.
-#[derive(Clone, Copy, Debug)]
+#[derive(Clone, Copy)]
 pub(crate) enum Command<'a> {
     /// `run IMAGE CORE SCRIPT TERM LOG FINAL`
     Run(RunWords<'a>),

@@ -1,4 +1,4 @@
-use Rattle.sys_files.proofs.NamingLemmas.{ends_at_node, ends_referred}
+use Rattle.fs_tree.proofs.NamingLemmas.{ends_at_node, ends_referred}
 use Rattle.sys_files.proofs.naming.find_name.Goals as goal
 
 pub returns-clause-node : goal.returns-clause-node

@@ -3,7 +3,9 @@ use Rattle.v6_port.specs.Outside.{PortState}
 use Rattle.fs_codec.specs.Disk.{disk_of, head}
 use Rattle.fs_codec.specs.declared.layout.TheConstants.{SWAP_START}
 use Rattle.buf_cache.specs.Blocks.{block_at, blocks_of}
-use Rattle.abstract_unix.specs.declared.turned.Unbuilt.{Unbuilt}
+use Rattle.abstract_unix.specs.declared.ends.Ends.{Ends}
+use Rattle.abstract_unix.specs.declared.ends.Ends.TheVariants as ends
+use Rattle.abstract_unix.specs.declared.ends.Ends.TheVariants.{AtEnd}
 use Rattle.abstract_unix.specs.Runs.{boots, started, course}
 use Rattle.v6_run.specs.Events.{events_of}
 use Rattle.v6_run.specs.Outputs.{EndsRun}
@@ -43,7 +45,9 @@ returns-in_err-kernel g c =
     let events = c.in_ok-script.script.events.items in
     let built = subst (λ l. signal_line_of l ≡ None) c.deref.ensures.value (value_where_ok _ _ _ c.in_ok-script.was c.read_script.ensures.built) in
     let script_is = subst (λ bytes. script_of bytes ≡ Ok events) c.deref.ensures.value (value_where_ok _ _ _ c.in_ok-script.was c.read_script.ensures.events) in
-    end_passed run_status _ _ (λ s. Answers (Run words) s old new) c.from_residual-in_err-kernel.ensures.1 (boot_refused words _ _ old new files _ script_is built)
+    let memory = error_where_err _ _ _ c.in_err-kernel.was c.boot.ensures.memory in
+    end_passed run_status _ _ (λ s. Answers (Run words) s old new) c.from_residual-in_err-kernel.ensures.1
+    (subst (λ e. Answers (Run words) (run_status e) old new) (sym memory) (boot_refused words _ _ old new files _ script_is built))
 
 pub run_with_outputs-requires-clause-closed : goal.run_with_outputs-requires-clause-closed
 run_with_outputs-requires-clause-closed g c p out =
@@ -56,8 +60,8 @@ run_with_outputs-requires-clause-root g c =
     let blocks_is = subst (λ l. c.in_ok-kernel.kernel.blocks ≡ blocks_of l) c.deref-2.ensures.value (value_where_ok _ _ _ c.in_ok-kernel.was c.boot.ensures.blocks) in
     subst (λ l. (head (block_at l)).f_size ≤ SWAP_START) (sym blocks_is) (image_below c.in_ok-files.files.image.items files.good)
 
-pub returns-in-Ok-None : goal.returns-in-Ok-None
-returns-in-Ok-None g c =
+pub returns-in-Ok-AtEnd : goal.returns-in-Ok-AtEnd
+returns-in-Ok-AtEnd g c =
     let words = run_words_value c.args.words.now in
     let old = g.H.Host.outside c.args.host.now in
     let middle = g.H.Host.outside c.read_files.new.host in
@@ -73,13 +77,13 @@ returns-in-Ok-None g c =
     let boots_is = subst (λ l. boots l words.core ≡ Some kernel.system) c.deref-2.ensures.value (value_where_ok _ _ _ c.in_ok-kernel.was c.boot.ensures.system) in
     let blocks_is = subst (λ l. kernel.blocks ≡ blocks_of l) c.deref-2.ensures.value (value_where_ok _ _ _ c.in_ok-kernel.was c.boot.ensures.blocks) in
     let only = c.run_with_outputs.ensures.only in
-    let field = c.in-Ok-None.field-0-is in
-    let none : c.in-Ok-None.field-0 ≡ None = cc in
-    let ends = subst (λ (e : Option Unbuilt). EndsRun (block_at kernel.blocks) (course (started kernel.system) (events_of c.deref-3.result.now)) e middle new) none c.in-Ok-None.ensures.outcome in
-    run_ended words image bytes old middle files _ script_is built kernel.system boots_is new only None (ends_over (disk_of image) (block_at kernel.blocks) (same_blocks image kernel.blocks blocks_is) _ _ _ _ ends)
+    let field = c.in-Ok-AtEnd.field-0-is in
+    let none : c.in-Ok-AtEnd.field-0 ≡ AtEnd = cc in
+    let ended = subst (λ (e : Ends). EndsRun (block_at kernel.blocks) (course (started kernel.system) (events_of c.deref-3.result.now)) e middle new) none c.in-Ok-AtEnd.ensures.outcome in
+    run_ended words image bytes old middle files _ script_is built kernel.system boots_is new only AtEnd (ends_over (disk_of image) (block_at kernel.blocks) (same_blocks image kernel.blocks blocks_is) _ _ _ _ ended)
 
-pub returns-in-Ok-Some : goal.returns-in-Ok-Some
-returns-in-Ok-Some g c =
+pub returns-in-Ok-NotBuilt : goal.returns-in-Ok-NotBuilt
+returns-in-Ok-NotBuilt g c =
     let words = run_words_value c.args.words.now in
     let old = g.H.Host.outside c.args.host.now in
     let middle = g.H.Host.outside c.read_files.new.host in
@@ -95,11 +99,11 @@ returns-in-Ok-Some g c =
     let boots_is = subst (λ l. boots l words.core ≡ Some kernel.system) c.deref-2.ensures.value (value_where_ok _ _ _ c.in_ok-kernel.was c.boot.ensures.system) in
     let blocks_is = subst (λ l. kernel.blocks ≡ blocks_of l) c.deref-2.ensures.value (value_where_ok _ _ _ c.in_ok-kernel.was c.boot.ensures.blocks) in
     let only = c.run_with_outputs.ensures.only in
-    let field = c.in-Ok-Some.field-0-is in
-    let same = c.in-Ok-Some.place-is in
-    let some : c.in-Ok-Some.field-0 ≡ Some c.in-Ok-Some.place = cc in
-    let ends = subst (λ (e : Option Unbuilt). EndsRun (block_at kernel.blocks) (course (started kernel.system) (events_of c.deref-3.result.now)) e middle new) some c.in-Ok-Some.ensures.outcome in
-    run_ended words image bytes old middle files _ script_is built kernel.system boots_is new only (Some c.in-Ok-Some.place) (ends_over (disk_of image) (block_at kernel.blocks) (same_blocks image kernel.blocks blocks_is) _ _ _ _ ends)
+    let field = c.in-Ok-NotBuilt.field-0-is in
+    let same = c.in-Ok-NotBuilt.place-is in
+    let some : c.in-Ok-NotBuilt.field-0 ≡ ends.NotBuilt c.in-Ok-NotBuilt.place = cc in
+    let ended = subst (λ (e : Ends). EndsRun (block_at kernel.blocks) (course (started kernel.system) (events_of c.deref-3.result.now)) e middle new) some c.in-Ok-NotBuilt.ensures.outcome in
+    run_ended words image bytes old middle files _ script_is built kernel.system boots_is new only (ends.NotBuilt c.in-Ok-NotBuilt.place) (ends_over (disk_of image) (block_at kernel.blocks) (same_blocks image kernel.blocks blocks_is) _ _ _ _ ended)
 
 pub returns : goal.returns
 returns g c =

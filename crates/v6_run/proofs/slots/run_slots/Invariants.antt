@@ -1,5 +1,6 @@
-use Rattle.std.proofs.Common.{◌≡◌, None, replicate}
+use Rattle.std.proofs.Common.{◌≡◌, replicate}
 use Rattle.fs_laws.specs.Rest.{SameRest}
+use Rattle.abstract_unix.specs.declared.ends.Ends.TheVariants.{AtEnd}
 use Rattle.abstract_unix.specs.Unix.{Started}
 use Rattle.abstract_unix.specs.Runs.{Slot, begun}
 use Rattle.v6_run.specs.Courses.{HasRun}
@@ -7,7 +8,7 @@ use Rattle.v6_run.proofs.slots.run_slots.Given as goal
 
 abbrev pub invariant-slots : goal.invariant-slots
 invariant-slots g l = record {
-  run : HasRun (begun l.initial.kernel.system) (replicate l.counter Slot) None l.kernel.system (g.T.Trace.taken l.initial.trace) (g.T.Trace.taken l.trace);
+  run : HasRun (begun l.initial.kernel.system) (replicate l.counter Slot) AtEnd l.kernel.system (g.T.Trace.taken l.initial.trace) (g.T.Trace.taken l.trace);
   phase : l.kernel.phase ≡ Started;
   rest : SameRest l.initial.kernel.blocks l.kernel.blocks;
   frame : g.T.Trace.leads_to l.initial.trace l.trace;

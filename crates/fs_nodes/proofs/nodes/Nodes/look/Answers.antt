@@ -6,7 +6,8 @@ use Rattle.fs_codec.specs.Stands.{body_of}
 use Rattle.fs_laws.specs.Whole.{IsApart}
 use Rattle.fs_blocks.specs.State.{State, disk}
 use Rattle.fs_nodes.specs.FileSystem.{file_byte}
-use Rattle.fs_nodes.proofs.LookLemmas.{holds_apart, used_in, seen_bytes}
+use Rattle.fs_nodes.proofs.LookLemmas.{used_in, seen_bytes}
+use Rattle.fs_nodes.proofs.PieceEnds.{holds_apart}
 use Rattle.fs_nodes.proofs.NodesLemmas.{plain, plain_of, same_files}
 use Rattle.fs_nodes.proofs.nodes.Nodes.look.Goals as goal
 

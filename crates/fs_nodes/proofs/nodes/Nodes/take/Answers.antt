@@ -6,9 +6,9 @@ use Rattle.fs_codec.specs.Store.{node_numbered}
 use Rattle.fs_blocks.specs.State.{disk}
 use Rattle.fs_nodes.specs.declared.table.Referenced.{Referenced}
 use Rattle.fs_nodes.specs.FileSystem.{FileSystem, referenced}
-use Rattle.fs_nodes.specs.Table.{entries_of, references_in}
+use Rattle.fs_nodes.specs.Table.{entries_of, references_in, IsUsed}
 use Rattle.fs_nodes.proofs.TableLemmas.{entry_at, no_entry, referenced_is}
-use Rattle.fs_nodes.proofs.NodesLemmas.{IsUsed, used_number}
+use Rattle.fs_nodes.proofs.NodesLemmas.{used_number}
 use Rattle.fs_nodes.proofs.TakeLemmas.{Again, again, Once, once, taken_files}
 use Rattle.fs_nodes.proofs.nodes.Nodes.take.Goals as goal
 use Rattle.fs_nodes.proofs.nodes.Nodes.take.Goals.{In-Some, After-refer_again, In_default, After-push}

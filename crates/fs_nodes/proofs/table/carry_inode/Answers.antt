@@ -1,7 +1,8 @@
 use Rattle.std.proofs.Common.{◌<◌, List, length, get_or, sym, ap, ◌∙◌, subst}
 use Rattle.fs_nodes.specs.declared.table.Referenced.{Referenced}
-use Rattle.fs_nodes.proofs.PieceEnds.{within_disk, saved_after}
-use Rattle.fs_nodes.proofs.read_write.carry_inode.Goals as goal
+use Rattle.fs_nodes.proofs.PieceEnds.{within_disk}
+use Rattle.fs_nodes.proofs.SaveLemmas.{saved_after}
+use Rattle.fs_nodes.proofs.table.carry_inode.Goals as goal
 
 pub save-requires-clause-high : goal.save-requires-clause-high
 save-requires-clause-high c = within_disk c.args.volume.now.state c.args.ino c.see.ensures.sound.fits c.requires.high

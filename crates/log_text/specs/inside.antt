@@ -1,0 +1,2 @@
+-- What contracts inside the crate speak of.
+pub mod Reading
