@@ -1,13 +1,15 @@
 -- What is known of each slot stays what the slots have.
-use Rattle.std.proofs.Common.{◌≡◌, ◌<◌, ℕ, List, length, get_or, set, Option, Some, None, refl, sym, ap, subst, ◌∙◌}
+use Rattle.std.proofs.Common.{◌≡◌, ◌<◌, ℕ, zero, suc, List, length, get_or, set, replicate, Option, Some, None, refl, sym, ap, subst, ◌∙◌}
 use Rattle.std.proofs.lemmas.List.{map-set, get_or-map, length-map}
 use Rattle.v6_base.specs.declared.entry.Place.{Place}
 use Rattle.v6_base.specs.Image.{Image}
 use Rattle.u_area.specs.declared.area.UArea.{UArea}
-use Rattle.image_keep.specs.Kept.{Held, Keeping, Nothing, Alive, Grave, Kept, keeping, with_keeping, imaged, described, with_image, with_area, image_of, HasImage, HasGrave}
+use Rattle.image_keep.specs.Kept.{Held, Keeping, Nothing, Alive, Grave, Kept, keeping, with_keeping, imaged, described, with_image, with_area, image_of, area_of, text_of, no_users, HasImage, HasGrave}
 use Rattle.image_keep.specs.Lent.{left_of}
 use Rattle.image_keep.specs.Places.{with_image_at, with_grave_at}
+use Rattle.image_keep.specs.Moves.{with_image_moved, forked_at}
 use Rattle.image_keep.proofs.Frames.{after, keeping_back}
+use Rattle.image_keep.proofs.PlaceFrames.{bare_moved, bare_forked}
 use Rattle.part_rows.specs.declared.kind.Kind.{Kind}
 use Rattle.part_rows.specs.declared.kind.Kind.TheVariants as kind
 use Rattle.part_rows.specs.Kinds.{kind_of, kinds_of}
@@ -90,4 +92,64 @@ tied_grave kinds k w s u o block tied is found = tied_put kinds k w s (Grave u b
 pub tied_no_grave : (kinds : List Kind) (k w : Kept) (s : ℕ) (u : UArea) (o : Option ℕ) → kinds ≡ kinds_of k → w ≡ with_grave_at k s u o → o ≡ None → kinds ≡ kinds_of w
 tied_no_grave kinds k w s u o tied is none = tied ∙ ap kinds_of (sym (is ∙ ap (with_grave_at k s u) none))
 
-pub ruleset ties = (has_image, has_nothing, has_grave, tied_put, tied_area, tied_loan, tied_image, tied_no_image, tied_resized, tied_grave, tied_no_grave)
+-- No slot has a text.
+none_at : (n s : ℕ) → get_or {A = Option ℕ} (replicate n None) s None ≡ None
+none_at zero s = refl
+none_at (suc n) zero = refl
+none_at (suc n) (suc s) = none_at n s
+
+pub no_text : (k : Kept) (s : ℕ) → k.users ≡ no_users → text_of k s ≡ None
+unfolding no_users
+no_text k s plain = ap (λ users. get_or users s None) plain ∙ none_at 50 s
+
+pub none_text : (k : Kept) (s : ℕ) → k.users ≡ no_users → None ≡ text_of k s
+none_text k s plain = sym (no_text k s plain)
+
+pub tied_moved : (kinds : List Kind) (k w : Kept) (s : ℕ) (u : UArea) (m : Image) (o : Option Place) (place : Place) → kinds ≡ kinds_of k → k.users ≡ no_users
+    → w ≡ with_image_moved k s u m o → o ≡ Some place → set kinds s kind.Image ≡ kinds_of w
+tied_moved kinds k w s u m o place tied plain is = tied_image kinds k w s u m o place tied (is ∙ bare_moved k s u m o (no_text k s plain))
+
+pub tied_not_moved : (kinds : List Kind) (k w : Kept) (s : ℕ) (u : UArea) (m : Image) (o : Option Place) → kinds ≡ kinds_of k → w ≡ with_image_moved k s u m o
+    → o ≡ None → kinds ≡ kinds_of w
+tied_not_moved kinds k w s u m o tied is none = tied ∙ ap kinds_of (sym (is ∙ ap (with_image_moved k s u m) none))
+
+pub tied_expanded : (kinds : List Kind) (k w : Kept) (s : ℕ) (u : UArea) (m : Image) (o : Option Place) → kinds ≡ kinds_of k → k.users ≡ no_users
+    → w ≡ with_image_moved k s u m o → HasImage k s → kinds ≡ kinds_of w
+tied_expanded kinds k w s u m o tied plain is = tied_resized kinds k w s u m o tied (is ∙ bare_moved k s u m o (no_text k s plain))
+
+pub tied_forked : (kinds : List Kind) (k w : Kept) (from to : ℕ) (o : Option Place) (place : Place) → kinds ≡ kinds_of k → k.users ≡ no_users
+    → w ≡ forked_at k from to o → o ≡ Some place → set kinds to kind.Image ≡ kinds_of w
+tied_forked kinds k w from to o place tied plain is =
+    tied_image kinds k w to (area_of k from) (image_of k from) o place tied (is ∙ bare_forked k from to o (no_text k from plain) (no_text k to plain))
+
+pub tied_not_forked : (kinds : List Kind) (k w : Kept) (from to : ℕ) (o : Option Place) → kinds ≡ kinds_of k → w ≡ forked_at k from to o → o ≡ None → kinds ≡ kinds_of w
+tied_not_forked kinds k w from to o tied is none = tied ∙ ap kinds_of (sym (is ∙ ap (forked_at k from to) none))
+
+-- none has one afterwards
+image_plain : (k : Kept) (s : ℕ) (u : UArea) (m : Image) (o : Option Place) → (with_image_at k s u m o).users ≡ k.users
+image_plain k s u m None = refl
+image_plain k s u m (Some place) = refl
+
+pub plain_put : (k w : Kept) (s : ℕ) (x : Keeping) → k.users ≡ no_users → w ≡ with_keeping k s x → w.users ≡ no_users
+plain_put k w s x plain is = ap (λ v. v.users) is ∙ plain
+
+pub plain_moved : (k w : Kept) (s : ℕ) (u : UArea) (m : Image) (o : Option Place) → k.users ≡ no_users → w ≡ with_image_moved k s u m o → w.users ≡ no_users
+plain_moved k w s u m o plain is = ap (λ v. v.users) (is ∙ bare_moved k s u m o (no_text k s plain)) ∙ image_plain k s u m o ∙ plain
+
+pub plain_forked : (k w : Kept) (from to : ℕ) (o : Option Place) → k.users ≡ no_users → w ≡ forked_at k from to o → w.users ≡ no_users
+plain_forked k w from to o plain is =
+    ap (λ v. v.users) (is ∙ bare_forked k from to o (no_text k from plain) (no_text k to plain)) ∙ image_plain k to (area_of k from) (image_of k from) o ∙ plain
+
+pub plain_grave : (k w : Kept) (s : ℕ) (u : UArea) (o : Option ℕ) → k.users ≡ no_users → w ≡ with_grave_at k s u o → w.users ≡ no_users
+plain_grave k w s u None plain is = ap (λ v. v.users) is ∙ plain
+plain_grave k w s u (Some block) plain is = ap (λ v. v.users) is ∙ plain
+
+pub plain_area : (k w : Kept) (s : ℕ) (u : UArea) → k.users ≡ no_users → w ≡ with_area k s u → w.users ≡ no_users
+unfolding with_area
+plain_area k w s u plain is = ap (λ v. v.users) is ∙ plain
+
+pub plain_loan : (k w : Kept) (s : ℕ) → k.users ≡ no_users → left_of w s ≡ left_of k s → w.users ≡ no_users
+unfolding with_image
+plain_loan k w s plain same = ap (λ v. v.users) (after k w s same) ∙ plain
+
+pub ruleset ties = (has_image, has_nothing, has_grave, no_text, none_text, tied_put, tied_area, tied_loan, tied_moved, tied_not_moved, tied_expanded, tied_forked, tied_not_forked, tied_grave, tied_no_grave, plain_put, plain_moved, plain_forked, plain_grave, plain_area, plain_loan)

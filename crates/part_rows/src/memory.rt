@@ -10,6 +10,19 @@ enum Access {
     LoadWord(u16, Result<u16, Trap>),
     StoreByte(u16, u8, Result<(), Trap>),
     StoreWord(u16, u16, Result<(), Trap>),
+    // Four bytes that are got, or not.
+    CopyIn(u16, Option<[u8; 4]>),
+    // Four bytes, and whether they are put.
+    CopyOut(u16, [u8; 4], bool),
+}
+
+fn four_bytes<S: Space>(memory: &S, at: u16) -> Option<[u8; 4]> {
+    let mut bytes = [0o377; 4];
+    if memory.copy_in(at, &mut bytes) {
+        Some(bytes)
+    } else {
+        None
+    }
 }
 
 fn holds<S: Space>(memory: &mut S, access: Access) -> bool {
@@ -18,6 +31,8 @@ fn holds<S: Space>(memory: &mut S, access: Access) -> bool {
         Access::LoadWord(at, wanted) => memory.load_word(at) == wanted,
         Access::StoreByte(at, value, wanted) => memory.store_byte(at, value) == wanted,
         Access::StoreWord(at, value, wanted) => memory.store_word(at, value) == wanted,
+        Access::CopyIn(at, wanted) => four_bytes(memory, at) == wanted,
+        Access::CopyOut(at, bytes, wanted) => memory.copy_out(at, &bytes) == wanted,
     }
 }
 
@@ -88,8 +103,59 @@ fn a_text_data_and_a_stack_stand_at_their_addresses(rt: HostRuntime) {
     judge(&rt, &mut memory, &FULL_SEGMENT);
 }
 
+// 128, 768, 128: a text that fills its segment, data that fill six, and a stack that fills the last. Four bytes go from
+// the text into the data, from the data into the stack, and from the last address on to 0.
+static NO_GAP: [Access; 16] = [
+    Access::StoreWord(8192, 0o1002, Ok(())),
+    Access::CopyIn(8190, Some([0, 0, 2, 2])),
+    Access::CopyOut(8190, [1, 2, 3, 4], false),
+    Access::LoadWord(8192, Ok(0o1002)),
+    Access::CopyOut(8192, [1, 2, 3, 4], true),
+    Access::CopyIn(8191, Some([0, 1, 2, 3])),
+    Access::CopyOut(57342, [1, 2, 3, 4], true),
+    Access::LoadByte(57343, Ok(2)),
+    Access::LoadByte(57344, Ok(3)),
+    Access::CopyIn(57341, Some([0, 1, 2, 3])),
+    Access::CopyOut(65534, [5, 6, 7, 8], false),
+    Access::LoadWord(65534, Ok(0)),
+    Access::StoreWord(65534, 0o403, Ok(())),
+    Access::CopyIn(65534, Some([3, 1, 0, 0])),
+    Access::CopyOut(65532, [5, 6, 7, 8], true),
+    Access::CopyIn(65533, Some([6, 7, 8, 0])),
+];
+
+// 0, 1, 1: data up to 63, a stack from 65472 on, and nothing between them. Four bytes go from the stack into the data, and
+// none where one of them has no place.
+static A_GAP: [Access; 15] = [
+    Access::CopyOut(65534, [5, 6, 7, 8], true),
+    Access::LoadWord(65534, Ok(0o3005)),
+    Access::LoadWord(0, Ok(0o4007)),
+    Access::CopyIn(65534, Some([5, 6, 7, 8])),
+    Access::CopyIn(65535, Some([6, 7, 8, 0])),
+    Access::CopyOut(62, [1, 2, 3, 4], false),
+    Access::LoadWord(62, Ok(0)),
+    Access::CopyIn(62, None),
+    Access::CopyIn(61, None),
+    Access::CopyOut(60, [1, 2, 3, 4], true),
+    Access::CopyIn(60, Some([1, 2, 3, 4])),
+    Access::CopyOut(65470, [1, 2, 3, 4], false),
+    Access::LoadWord(65472, Ok(0)),
+    Access::CopyIn(65470, None),
+    Access::CopyIn(65471, None),
+];
+
+#[test]
+fn bytes_go_from_one_list_into_the_next(rt: HostRuntime) {
+    let mut memory = Whole::new(rt.alloc()).expect(&rt, "memory");
+    memory.set_sizes(128, 768, 128);
+    judge(&rt, &mut memory, &NO_GAP);
+    memory.set_sizes(0, 0, 0);
+    memory.set_sizes(0, 1, 1);
+    judge(&rt, &mut memory, &A_GAP);
+}
+
 // Of a name of the kernel's own: `co`, and the number 7 in its last byte.
-static NAME: [Access; 8] = [
+static NAME: [Access; 13] = [
     Access::LoadByte(1, Ok(b'o')),
     Access::LoadWord(0, Ok(0o67543)),
     Access::LoadByte(63, Ok(7)),
@@ -98,6 +164,11 @@ static NAME: [Access; 8] = [
     Access::LoadWord(64, Err(Trap::Segment)),
     Access::StoreByte(0, 0, Err(Trap::Segment)),
     Access::StoreWord(1, 0, Err(Trap::Odd)),
+    Access::CopyIn(0, Some([b'c', b'o', 0, 0])),
+    Access::CopyIn(60, Some([0, 0, 0, 7])),
+    Access::CopyIn(61, None),
+    Access::CopyIn(65534, None),
+    Access::CopyOut(0, [1, 2, 3, 4], false),
 ];
 
 #[test]

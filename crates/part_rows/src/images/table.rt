@@ -1,6 +1,6 @@
 //! Images, with what is known of each slot: so a call that its slot doesn't allow is never made.
 ghost use Rattle.std.specs.Prelude.{◌≡◌, ◌<◌, ◌≤◌, true};
-ghost use Rattle.image_keep.specs.Kept.{Nothing, keeping, HasImage, HasGrave};
+ghost use Rattle.image_keep.specs.Kept.{Nothing, keeping, HasImage, HasGrave, no_users};
 ghost use Rattle.part_rows.specs.Kinds.{kinds_of};
 
 use crate::kind::Kind;
@@ -19,24 +19,26 @@ pub struct End {
     pub child_system: u32,
 }
 
-/// The images of fifty slots, and what each slot has. A call gives `None` where the slot has something else than it asks
-/// for.
+/// The images of fifty slots, of which none has a text, and what each slot has. A call gives `None` where the slot has
+/// something else than it asks for.
 #[derive(Drop)]
 pub struct Table {
     images: Images,
     kinds: [Kind; 50],
     ghost tied: { kinds ≡ kinds_of images },
+    ghost plain: { images.users ≡ no_users },
 }
 
 #[tactic(auto, using(crate::proofs::TableLemmas::ties))]
 impl Table {
-    /// Fifty slots with nothing, beside a core of so many clicks.
+    /// Fifty slots with nothing, beside a core of so many clicks and a swap area of zeros.
     pub fn new(alloc: Global, core: u16) -> Result<Table, AllocError>
         requires least { 64 ≤ core }
         requires most { core ≤ 3968 }
     {
+        let swap = vec![in alloc; 0u8; 446464]?;
         Ok(Table {
-            images: Images::new(alloc, core)?,
+            images: Images::new(alloc, core, &swap)?,
             kinds: [Kind::Nothing; 50],
         })
     }

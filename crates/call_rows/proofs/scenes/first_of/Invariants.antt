@@ -1,5 +1,0 @@
-use Rattle.call_rows.specs.Ready.{IsReady}
-use Rattle.call_rows.proofs.scenes.first_of.Given as goal
-
-abbrev pub invariant-loop-k : goal.invariant-loop-k
-invariant-loop-k l = IsReady l.w.files.table l.w.u.files l.w.u.dir l.w.files.tree.nodes.references

@@ -1,5 +1,0 @@
-use Rattle.call_rows.proofs.ReadyLemmas.{begun}
-use Rattle.call_rows.proofs.world.parts.Goals as goal
-
-pub returns-clause-ready : goal.returns-clause-ready
-returns-clause-ready c = begun c.new-2.result c.args.nodes c.new.result.nodes c.new-2.ensures c.new.ensures.nodes c.requires.few c.requires.root

@@ -1,5 +1,0 @@
-use Rattle.std.proofs.Common.{◌≤◌, ℕ, slice_index}
-use Rattle.call_rows.proofs.world.refer_to_crowd.Given as goal
-
-abbrev pub invariant-loop-ino : goal.invariant-loop-ino
-invariant-loop-ino l = (i : ℕ) → slice_index l.nodes.references i ≤ 1

@@ -1,7 +1,0 @@
-use Rattle.disk_rows.proofs.area.come_back.Goals as goal
-
-pub fetch-requires : goal.fetch-requires
-fetch-requires c = (c.args.u.now, c.stored-bytes.ensures.sized, c.stored-bytes.ensures.written)
-
-pub returns : goal.returns
-returns c = c.fetch.ensures.same c.args.u.now c.stored-bytes.ensures.sized c.stored-bytes.ensures.written

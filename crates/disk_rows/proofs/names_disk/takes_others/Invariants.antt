@@ -1,6 +1,0 @@
-use Rattle.std.proofs.Common.{◌≤◌, ◌+◌, ℕ, slice_index}
-use Rattle.disk_rows.proofs.names_disk.takes_others.Given as goal
-
--- each inode is referred to once more at most for each of those before
-abbrev pub invariant-loop-k : goal.invariant-loop-k
-invariant-loop-k l = (i : ℕ) → slice_index l.nodes.references i ≤ l.k + 1

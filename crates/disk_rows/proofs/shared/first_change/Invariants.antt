@@ -1,5 +1,0 @@
-use Rattle.std.proofs.Common.{◌≤◌, ℕ, slice_index}
-use Rattle.disk_rows.proofs.shared.first_change.Given as goal
-
-abbrev pub invariant-loop-k : goal.invariant-loop-k
-invariant-loop-k l = (i : ℕ) → slice_index l.tree.nodes.references i ≤ 65530

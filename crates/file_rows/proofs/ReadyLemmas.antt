@@ -1,0 +1,120 @@
+-- What is ready can be called on, and stays ready through every call that keeps what it must.
+use Rattle.std.proofs.Common.{◌≡◌, ◌+◌, ◌*◌, cond, eqb, ◌<◌, ◌≤◌, ◌==◌, ℕ, zero, suc, List, length, replicate, slice_index, Option, None, refl, sym, ap, ◌∙◌, subst, arith, if◌then◌else◌, Bool, true, false}
+use Rattle.std.specs.Prelude.{count_by}
+use Rattle.std.proofs.lemmas.List.Sums.{count_by-le-length}
+use Rattle.std.proofs.lemmas.Bool.{eqb-true, ne_eqb}
+use Rattle.std.proofs.lemmas.List.Folds.{sum_by-replicate}
+use Rattle.std.proofs.lemmas.Option.{none-some}
+use Rattle.v6_base.specs.Image.{Image}
+use Rattle.proc_tab.specs.declared.row.Row.{Row}
+use Rattle.u_area.specs.declared.area.UArea.{UArea}
+use Rattle.open_files.specs.declared.file.OpenFile.{OpenFile}
+use Rattle.open_files.specs.Files.{file_at, times, HaveRoom}
+use Rattle.fs_nodes.specs.FileSystem.{FileSystem}
+use Rattle.sys_files.specs.declared.files.Files.{Files}
+use Rattle.sys_files.specs.Handed.{Handed, handed}
+use Rattle.sys_files.specs.Sound.{IsSound, IsKept, numbers_of, is_of}
+use Rattle.file_rows.specs.Ready.{IsReady}
+
+one_or_none : (b : Bool) → (if b then 1 else 0) ≤ 1
+one_or_none true = omega arith
+one_or_none false = omega arith
+
+pub sound_of : (f : Files) (u : UArea) (row : Row) (image : Image) → IsReady f.table u.files u.dir f.tree.nodes.references
+    → length f.table ≡ 100 → HaveRoom f.table → IsSound (handed f u row image)
+sound_of f u row image ready long room = record {
+  is_open = ready.is_open;
+  counted = λ entry file is.
+      let n = ready.counted entry in
+      let e : numbers_of (file_at f.table entry) ≡ file.count = ap numbers_of is in
+      omega (arith, n, e);
+  room = room;
+  referred = ready.referred;
+  few = λ ino.
+      let n = ready.few ino in
+      let c = count_by-le-length (is_of ino) f.table in
+      let o = one_or_none (u.dir == ino) in
+      omega (arith, n, c, o, long);
+  no_pipe = ready.no_pipe;
+}
+
+pub kept_ready : (old new : Handed) → IsReady old.files old.u.files old.u.dir old.inodes.references → IsKept old new
+    → IsReady new.files new.u.files new.u.dir new.inodes.references
+kept_ready old new ready kept = record {
+  is_open = kept.is_open;
+  counted = λ entry.
+      let a = ready.counted entry in
+      let b = kept.numbers entry in
+      omega (arith, a, b);
+  referred = λ ino.
+      let a = ready.referred ino in
+      let b = kept.references ino in
+      omega (arith, a, b);
+  few = λ ino.
+      let a = ready.few ino in
+      let b = kept.references ino in
+      omega (arith, a, b);
+  no_pipe = kept.no_pipe;
+}
+
+-- The same references, by another name.
+pub same : (files : List (Option OpenFile)) (numbers : List ℕ) (dir : ℕ) (old new : List ℕ) → new ≡ old
+    → IsReady files numbers dir old → IsReady files numbers dir new
+same files numbers dir old new e ready = let P : List ℕ → Type 0 = λ r. IsReady files numbers dir r in subst P (sym e) ready
+
+zeros : (n i : ℕ) → slice_index (replicate n 0) i ≡ 0
+zeros zero i = refl
+zeros (suc n) zero = refl
+zeros (suc n) (suc i) = zeros n i
+
+named_by_none : (n entry : ℕ) → times (replicate n 0) entry ≡ 0
+named_by_none n entry =
+    let other : eqb 0 (entry + 1) ≡ false = ne_eqb 0 (entry + 1) (λ e. omega (arith, e)) in
+    let nothing : cond {A = ℕ} (eqb 0 (entry + 1)) 1 0 ≡ 0 = ap (λ b. cond b 1 0) other in
+    let all = sum_by-replicate (λ number. cond (eqb number (entry + 1)) 1 0) n 0 in
+    let product : n * cond {A = ℕ} (eqb 0 (entry + 1)) 1 0 ≡ n * 0 = ap (λ k. n * k) nothing in
+    omega (arith, all, product)
+
+-- another process, without an open file
+pub fresh_ready : (files : List (Option OpenFile)) (numbers : List ℕ) (dir : ℕ) (references : List ℕ)
+    → IsReady files numbers dir references → IsReady files (replicate 15 0) dir references
+fresh_ready files numbers dir references ready = record {
+  is_open = λ fd used. let z = zeros 15 fd in absurd (omega (arith, used, z));
+  counted = λ entry. let z = named_by_none 15 entry in omega (arith, z);
+  referred = ready.referred;
+  few = ready.few;
+  no_pipe = ready.no_pipe;
+}
+
+all_free : (n entry : ℕ) → file_at (replicate n None) entry ≡ None
+all_free zero entry = refl
+all_free (suc n) zero = refl
+all_free (suc n) (suc entry) = all_free n entry
+
+none_of : (n ino : ℕ) → count_by (is_of ino) (replicate n None) ≡ 0
+none_of n ino = let all = sum_by-replicate (λ file. cond (is_of ino file) 1 0) n None in omega (arith, all)
+
+owing_root : (ino : ℕ) (references : List ℕ) (b : Bool) → (1 == ino) ≡ b → 0 < slice_index references 1 → (if b then 1 else 0) ≤ slice_index references ino
+owing_root ino references true e root = let P : ℕ → Type 0 = λ i. 1 ≤ slice_index references i in subst P (eqb-true 1 ino e) (omega (arith, root))
+owing_root ino references false e root = omega arith
+
+-- Nothing is open, and the process is in the root.
+begins : (references : List ℕ) → ((i : ℕ) → slice_index references i ≤ 2) → 0 < slice_index references 1
+    → IsReady (replicate 100 None) (replicate 15 0) 1 references
+begins references few root = record {
+  is_open = λ fd used. let z = zeros 15 fd in absurd (omega (arith, used, z));
+  counted = λ entry. let z = named_by_none 15 entry in omega (arith, z);
+  referred = λ ino.
+      let n = none_of 100 ino in
+      let o = owing_root ino references (1 == ino) refl root in
+      omega (arith, n, o);
+  few = λ ino. let f = few ino in omega (arith, f);
+  no_pipe = λ entry file is. absurd (none-some file (sym (all_free 100 entry) ∙ is));
+}
+
+pub begun : (files : List (Option OpenFile)) (old new : FileSystem) → files ≡ replicate 100 None → new ≡ old
+    → ((i : ℕ) → slice_index old.references i ≤ 2) → 0 < slice_index old.references 1 → IsReady files (replicate 15 0) 1 new.references
+begun files old new none here few root =
+    let P : List (Option OpenFile) → Type 0 = λ l. IsReady l (replicate 15 0) 1 new.references in
+    let Q : FileSystem → Type 0 = λ fs. IsReady (replicate 100 None) (replicate 15 0) 1 fs.references in
+    subst P (sym none) (subst Q (sym here) (begins old.references few root))
