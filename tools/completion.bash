@@ -9,6 +9,9 @@ _v6() {
         case $word in -*) words='--as --blocks --damaged --help --inodes --mode --replace --short --table --time -l -r' ;; esac ;;
     v6-console | console.py)
         case $word in -*) words='--clock --core --disk --help --replay --script --slots --v6' ;; esac ;;
+    v6-log | log.py)
+        [ "$COMP_CWORD" -eq 1 ] && words='show draw diff --help'
+        case $word in -*) words='--disk --from --help --output --script --to -o' ;; esac ;;
     v6-as | as.py) case $word in -*) words='--disassemble --help -l -n -o -s' ;; esac ;;
     v6-cc | cc.py) case $word in -*) words='--compiler --help -D -I -S -o -s' ;; esac ;;
     v6-run | run.py) case $word in -*) words='--core --disk --help --log --term --v6' ;; esac ;;
@@ -21,4 +24,5 @@ _v6() {
     fi
 }
 
-complete -o filenames -F _v6 v6 v6-as v6-cc v6-console v6-disk v6-run v6-try as.py cc.py console.py disk.py run.py try.py
+complete -o filenames -F _v6 v6 v6-as v6-cc v6-console v6-disk v6-log v6-run v6-try as.py cc.py console.py disk.py log.py \
+    run.py try.py

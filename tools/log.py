@@ -1,0 +1,176 @@
+#!/usr/bin/env python3
+"""Tells, draws and compares the logs of runs: see docs/tools/log.md."""
+import argparse
+import collections
+import os
+import sys
+
+sys.path.insert(0, os.path.dirname(os.path.abspath(__file__)))
+from files import guarded, put_out, read_bytes
+from logpicture import Picture
+from logwords import Teller
+from processes import programs_of
+from proctable import SLOTS, LogFault, Table
+from program import add_version
+from scriptfile import ScriptError, ticks_of
+from volume import DiskError
+
+COMMON, MORE = 3, 5  # lines that are shown before the place where two logs part, and behind it
+CUT = "the log ends within a run: its last line is neither `end` nor `panic`"
+
+
+def lines_of(data):
+    """The lines of a log; one without its end counts too."""
+    *lines, last = data.decode("ascii", "replace").split("\n")
+    return lines + [last] if last else lines
+
+
+class Story:
+    """A log, told line by line. `moments` has how many slots have passed at each tick."""
+
+    def __init__(self, data, programs=None, moments=()):
+        self.lines, self.table, self.moments = lines_of(data), Table(), iter(moments)
+        self.teller = Teller(self.table, programs)
+
+    def width(self):
+        """How many slots are shown: those up to the highest that a fork names."""
+        forks = [line.split(" ") for line in self.lines if line.startswith("fork ")]
+        named = [int(words[2]) for words in forks if len(words) > 2 and words[2].isdecimal()]
+        return min(max(named, default=1) + 1, SLOTS)
+
+    def take(self, line):
+        """What a line tells, and how many slots have passed, where that is known."""
+        entry = self.table.read(line)
+        words = self.teller.told(entry)
+        self.table.apply(entry)
+        return words, next(self.moments, None) if entry["word"] == "tick" else None
+
+    def letters(self, width):
+        return "".join(self.table.letter(slot) for slot in range(width))
+
+
+def story_of(options, name):
+    programs = programs_of(read_bytes(options.disk)) if options.disk else None
+    moments = ticks_of(read_bytes(options.script)) if options.script else ()
+    return Story(read_bytes(name), programs, moments)
+
+
+# show
+
+
+def show(options):
+    story = story_of(options, options.log)
+    width = story.width()
+    number_width = max(len(str(len(story.lines))), 4)
+    moment = "  passed " if options.script else " "
+    for part in (str(slot // 10 or " ") for slot in range(width)), (str(slot % 10) for slot in range(width)):
+        head = "".join(part)
+        if head.strip():
+            first = head[0].isdecimal()
+            print(f"{'line' if first else '':>{number_width}}{moment if first else ' ' * len(moment)} {head}".rstrip())
+    for number, line in enumerate(story.lines, 1):
+        words, passed = story.take(line)
+        if options.first <= number <= options.last:
+            at = f" {'' if passed is None else passed:>8}" if options.script else " "
+            print(f"{number:>{number_width}}{at} {story.letters(width)}  {words}")
+    return ended(story, options.log)
+
+
+def ended(story, name):
+    """The status of a log that was read whole: 1 where it is cut."""
+    if story.table.over:
+        return 0
+    print(f"log.py: {name}: {CUT}", file=sys.stderr)
+    return 1
+
+
+# draw
+
+
+def draw(options):
+    story = story_of(options, options.log)
+    picture = Picture(len(story.lines), story.width(), story.teller)
+    for line in story.lines:
+        _, passed = story.take(line)
+        picture.take(story.table, passed)
+    put_out(options.output, picture.drawn(story.table).encode())
+    return ended(story, options.log)
+
+
+# diff
+
+
+def tell(story, lines, mark):
+    for line in lines:
+        words, _ = story.take(line)
+        print(f"{mark} {story.table.lines:>8}  {line:24}  {words}")
+
+
+def parting(one, other):
+    """How many lines are the same in both, though their `boot` may tell another core or time."""
+    least = min(len(one.lines), len(other.lines))
+    return next((at for at in range(min(1, least), least) if one.lines[at] != other.lines[at]), least)
+
+
+def diff(options):
+    one, other = story_of(options, options.log), story_of(options, options.other)
+    if one.lines == other.lines:
+        return 0
+    same = parting(one, other)
+    common = range(max(same - COMMON, 1), same)  # indices of lines, behind `boot`
+    for story, mark in ((one, "<"), (other, ">")):
+        if same and one.lines[0] != other.lines[0]:
+            tell(story, story.lines[:1], mark)
+        for line in story.lines[story.table.lines : min(common.start, same)]:
+            story.take(line)
+    if common:
+        print(f"the same up to line {same}")
+        tell(one, [one.lines[at] for at in common], " ")
+        for at in common:
+            other.take(other.lines[at])
+    for story, name, mark in ((one, options.log, "<"), (other, options.other, ">")):
+        tell(story, story.lines[same : same + MORE], mark)
+        if len(story.lines) <= same:
+            print(f"{mark}           {name} ends here")
+    counts(one.lines[same:], other.lines[same:])
+    return 1
+
+
+def counts(one, other):
+    """How often each word comes from there on, where it isn't as often."""
+    words = [collections.Counter(line.partition(" ")[0] for line in lines) for lines in (one, other)]
+    told = [f"{word} {words[0][word]}/{words[1][word]}" for word in sorted(words[0] | words[1]) if words[0][word] != words[1][word]]
+    if told:
+        print("from there on: " + ", ".join(told))
+
+
+# the command
+
+
+def options_of(words):
+    parser = argparse.ArgumentParser(prog="log.py", description="Tells, draws and compares logs: docs/tools/log.md")
+    add_version(parser)
+    commands = parser.add_subparsers(dest="command", required=True, metavar="show, draw, diff")
+    for name, help_of in (("show", "tells a log in words"), ("draw", "makes a picture of it"), ("diff", "tells where two logs part")):
+        command = commands.add_parser(name, help=help_of, description=f"log.py {name}: docs/tools/log.md")
+        command.add_argument("log", help="the log of a run: docs/manual/log.md")
+        if name == "diff":
+            command.add_argument("other", help="the log of another run")
+        command.add_argument("--disk", metavar="IMAGE", help="names programs by the size of their images on this disk")
+        command.add_argument("--script", metavar="FILE", help="tells by the script of the run how many slots have passed")
+        if name == "show":
+            command.add_argument("--from", dest="first", type=int, default=1, metavar="LINE", help="the first line that is shown")
+            command.add_argument("--to", dest="last", type=int, default=sys.maxsize, metavar="LINE", help="the last one")
+        if name == "draw":
+            command.add_argument("-o", "--output", metavar="FILE", default="-", help="where the picture goes, in SVG")
+    return parser.parse_args(words)
+
+
+def main(words):
+    options = options_of(words)
+    does = {"show": show, "draw": draw, "diff": diff}[options.command]
+    return guarded("log.py", lambda: does(options), LogFault, ScriptError, DiskError)
+
+
+if __name__ == "__main__":
+    sys.exit(main(sys.argv[1:]))

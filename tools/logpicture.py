@@ -1,0 +1,212 @@
+"""A picture of a log, in SVG: lanes of the processes over the lines of the log, and under them who holds core and swap area.
+
+A long log is thinned: the picture has so many columns, and a column shows what was so for most of its lines; the maps show
+what was so at its end.
+"""
+from xml.sax.saxutils import escape
+
+from proctable import CORE_FIRST, SWAP_FIRST, SWAP_LAST
+
+COLUMNS, LEFT, LANE, GAP, TOP = 1000, 150, 16, 6, 58
+CORE_HEIGHT, SWAP_HEIGHT = 240, 150
+LEAST = 31  # units that a map shows at least, less one
+MARKS = 10  # places with a number under the picture
+STATES = {  # letter: how it is filled, and what it means. They differ in brightness and in pattern, for paper
+    "R": ("#000000", "runs"),
+    "r": ("#8c8c8c", "could run"),
+    "o": ("url(#dots)", "could run, out of core"),
+    "w": ("#dfe9f5", "waits; a signal wakes it"),
+    "W": ("url(#lines)", "waits, out of core"),
+    "s": ("#f7efd8", "sleeps; no signal wakes it"),
+    "S": ("url(#lines)", "waits, out of core"),
+    "z": ("url(#cross)", "has ended, not waited for"),
+}
+HUES = 11  # colours of holders; two numbers next to each other differ
+STYLE = """
+text { font: 11px sans-serif; fill: #000 }
+.title { font-size: 13px; font-weight: bold }
+.small, .unit { font-size: 9px }
+.unit { text-anchor: end }
+.edge { fill: none; stroke: #555; stroke-width: 1 }
+.tick { stroke: #999; stroke-width: 0.5 }
+"""
+PATTERNS = """<defs>
+<pattern id="dots" width="4" height="4" patternUnits="userSpaceOnUse"><rect width="4" height="4" fill="#ddd"/><circle cx="2" cy="2" r="1" fill="#333"/></pattern>
+<pattern id="lines" width="4" height="4" patternUnits="userSpaceOnUse"><rect width="4" height="4" fill="#fff"/><path d="M0 4L4 0" stroke="#668" stroke-width="0.8"/></pattern>
+<pattern id="cross" width="5" height="5" patternUnits="userSpaceOnUse"><rect width="5" height="5" fill="#fff"/><path d="M0 0L5 5M0 5L5 0" stroke="#a33" stroke-width="0.8"/></pattern>
+</defs>"""
+
+
+class Columns:
+    """The columns of a picture of so many lines."""
+
+    def __init__(self, lines):
+        self.lines, self.count = max(lines, 1), min(max(lines, 1), COLUMNS)
+        self.starts = [-(-column * self.lines // self.count) for column in range(self.count + 1)]
+
+    def of(self, line):
+        return line * self.count // self.lines
+
+    def x(self, column):
+        return round(LEFT + column * COLUMNS / self.count, 2)
+
+
+class Lane:
+    """A slot's states: the letter of most lines of each column."""
+
+    def __init__(self, columns):
+        self.columns, self.letter, self.since = columns, ".", 0
+        self.shares = [None] * columns.count  # letter -> lines, or the letter of all
+
+    def change(self, line, letter):
+        """From a line on, which counts from 0, the letter is this one."""
+        if letter != self.letter:
+            self.add(line)
+            self.letter, self.since = letter, line
+
+    def add(self, end):
+        if self.since == end:
+            return
+        starts, first, last = self.columns.starts, self.columns.of(self.since), self.columns.of(end - 1)
+        for column in (first, last) if first != last else (first,):
+            shares = self.shares[column] = self.shares[column] or {}
+            lines = min(end, starts[column + 1]) - max(self.since, starts[column])
+            shares[self.letter] = shares.get(self.letter, 0) + lines
+        for column in range(first + 1, last):
+            self.shares[column] = {self.letter: 1}
+
+    def pieces(self):
+        """(first column, column past the last, letter), without those in which the slot is free."""
+        letters = [max(shares, key=shares.get) if shares else "." for shares in self.shares]
+        return pieces_of(letters, ".")
+
+
+def pieces_of(values, nothing):
+    """(first, past the last, value) of each stretch of equal values."""
+    start = 0
+    for at in range(1, len(values) + 1):
+        if at == len(values) or values[at] != values[start]:
+            if values[start] != nothing:
+                yield start, at, values[start]
+            start = at
+
+
+class Picture:
+    def __init__(self, lines, width, teller):
+        self.columns = Columns(lines)
+        self.lanes = [Lane(self.columns) for _ in range(width)]
+        self.holders = []  # of each column that is done: what is held at its end
+        self.names = [[] for _ in range(width)]  # the numbers of the processes that a slot has had
+        self.passed = {}  # column -> the slots of the run, where a tick tells them
+        self.teller, self.line = teller, 0
+
+    def take(self, table, passed=None):
+        """The table after one more line."""
+        for slot in table.touched - {None} if self.line else range(len(self.lanes)):
+            self.lanes[slot].change(self.line, table.letter(slot))
+        if passed is not None:
+            self.passed.setdefault(self.columns.of(self.line), passed)
+        if table.entry["word"] in ("boot", "fork"):
+            for slot in [0, 1] if table.entry["word"] == "boot" else [table.entry["T"]]:
+                self.names[slot].append(table.rows[slot].number)
+        self.line += 1
+        if self.line == self.columns.starts[len(self.holders) + 1]:
+            self.holders.append(set(table.holders()))
+
+    def drawn(self, table):
+        """The picture, when all lines were taken."""
+        for lane in self.lanes:
+            lane.add(self.line)
+        lanes_end = TOP + len(self.lanes) * (LANE + GAP)
+        core_top, core_end = lanes_end + 44, lanes_end + 44 + CORE_HEIGHT
+        swap_top, swap_end = core_end + 30, core_end + 30 + SWAP_HEIGHT
+        out = [f'<svg xmlns="http://www.w3.org/2000/svg" viewBox="0 0 {LEFT + COLUMNS + 20} {swap_end + 20}" '
+               f'width="{LEFT + COLUMNS + 20}" height="{swap_end + 20}">', f"<style>{STYLE}</style>", PATTERNS,
+               '<rect width="100%" height="100%" fill="#fff"/>']
+        out += self.legend() + self.drawn_lanes() + self.marks(lanes_end)
+        out += self.map(f"core: {table.core} clicks", "at", CORE_FIRST, table.core, core_top, CORE_HEIGHT)
+        out += self.map("swap area: blocks", "swap", SWAP_FIRST, SWAP_LAST, swap_top, SWAP_HEIGHT)
+        return "\n".join([*out, "</svg>", ""])
+
+    def legend(self):
+        out, x = [text(4, 16, f"{self.line} lines of a log", "title")], 4
+        for fill, means in dict.fromkeys(STATES.values()):
+            out.append(rect(x, 28, 14, 10, fill, "edge"))
+            out.append(text(x + 18, 37, means))
+            x += 36 + 6 * len(means)
+        return out
+
+    def drawn_lanes(self):
+        out = []
+        for slot, lane in enumerate(self.lanes):
+            y, numbers = TOP + slot * (LANE + GAP), self.names[slot]
+            named = ", ".join(map(str, numbers[:4])) + (" .." if len(numbers) > 4 else "")
+            out.append(text(4, y + 12, f"slot {slot}: " + ("the swapper" if not slot else f"process {named}")))
+            for first, last, letter in lane.pieces():
+                x = self.columns.x(first)
+                fill, means = STATES[letter]
+                out.append(rect(x, y, round(self.columns.x(last) - x, 2), LANE, fill, title=means))
+            out.append(f'<path class="tick" d="M{LEFT} {y + LANE}h{COLUMNS}"/>')
+        return out
+
+    def marks(self, y):
+        """The numbers of lines, and of slots where they are known."""
+        out = [text(4, y + 14, "line of the log", "small")] + [text(4, y + 26, "slots passed", "small")] * bool(self.passed)
+        for mark in range(MARKS + 1):
+            column = min(mark * self.columns.count // MARKS, self.columns.count - 1)
+            x = self.columns.x(column)
+            out.append(f'<path class="tick" d="M{x} {TOP}V{y + 4}"/>')
+            out.append(text(x, y + 14, str(self.columns.starts[column] + 1), "small"))
+            known = [at for at in self.passed if at <= column]
+            if known:
+                out.append(text(x, y + 26, str(self.passed[max(known)]), "small"))
+        return out
+
+    def map(self, name, where, first, most, top, height):
+        """Who holds what over the columns, up to the last unit that is ever held."""
+        spans = {}  # (start, units, holder) -> the columns
+        for column, held in enumerate(self.holders):
+            for place, units, holder in held:
+                if place.where == where:
+                    spans.setdefault((place.start, units, holder), []).append(column)
+        last = min(max([start + units for start, units, _ in spans] + [first + LEAST]), most)
+        scale, out = height / (last + 1 - first), [text(4, top + 12, name)]
+        for (start, units, holder), columns in sorted(spans.items()):
+            for begin, end in stretches(columns):
+                x, y = self.columns.x(begin), round(top + (start - first) * scale, 2)
+                wide, high = round(self.columns.x(end) - x, 2), round(max(units * scale, 0.5), 2)
+                called = holder if holder.startswith("text") else f"process {holder}"
+                out.append(rect(x, y, wide, high, colour(holder), title=f"{called}: {start} to {start + units - 1}"))
+                if wide > 8 * len(holder) and high > 9:
+                    out.append(text(x + 2, y + min(high, 14) - 3, holder, "small"))
+        out.append(rect(LEFT, top, COLUMNS, height, "none", "edge"))
+        for unit in (first, (first + last) // 2, last):
+            out.append(text(LEFT - 5, round(top + (unit - first) * scale + 8 * (unit < last), 2), str(unit), "unit"))
+        return out
+
+
+def stretches(columns):
+    """(first, past the last) of each stretch of columns next to each other."""
+    start = 0
+    for at in range(1, len(columns) + 1):
+        if at == len(columns) or columns[at] != columns[at - 1] + 1:
+            yield columns[start], columns[at - 1] + 1
+            start = at
+
+
+def colour(holder):
+    if holder.startswith("text"):
+        return "#c9b458"
+    number = int(holder)
+    return f"hsl({number * 360 * 4 // HUES % 360},55%,{60 + number % 3 * 9}%)"
+
+
+def rect(x, y, width, height, fill, kind="", title=""):
+    kind = f' class="{kind}"' if kind else ""
+    inside = f"><title>{escape(title)}</title></rect>" if title else "/>"
+    return f'<rect{kind} x="{x}" y="{y}" width="{width}" height="{height}" style="fill:{fill}"{inside}'
+
+
+def text(x, y, words, kind=""):
+    kind = f' class="{kind}"' if kind else ""
+    return f'<text{kind} x="{x}" y="{y}">{escape(words)}</text>'

@@ -1,0 +1,120 @@
+"""What the lines of a log tell, in words: docs/manual/log.md."""
+CHANNELS = {"keys": "for keys", "tout": "for a time", "runin": "until somebody may go out of core",
+            "runout": "until somebody out of core can run"}
+TICKS = {"u": "in a program", "k": "in the kernel", "i": "while nobody ran"}
+PANICS = {"swap": "there is no room in the swap area", "zombie": "there is no block for a process that ended",
+          "text": "there is no place in the table of texts"}
+FEW = 12  # processes that a line names
+
+
+class Teller:
+    """Says what a line tells, by the table before it. A program is named where no other of the disk has an image as large."""
+
+    def __init__(self, table, programs=None):
+        self.table, self.programs = table, programs or {}
+
+    def who(self, slot):
+        row = self.table.row(slot)
+        if not slot:
+            return "the swapper"
+        names = self.programs.get(row.program, [])
+        return f"process {row.number}" + (f" ({names[0]})" if len(names) == 1 else "")
+
+    def all(self, slots):
+        named = [self.who(slot) for slot in slots[:FEW]]
+        more = [f"{len(slots) - FEW} more"] if len(slots) > FEW else []
+        return ", ".join(named + more) or "nobody"
+
+    def channel(self, name):
+        kind, _, number = name.partition(".")
+        if kind in CHANNELS:
+            return CHANNELS[kind]
+        if kind == "wait":
+            row = self.table.rows.get(int(number))
+            return f"for a child of {self.who(int(number))}" if row else f"for a child in slot {number}"
+        return f"for {'bytes' if kind == 'read' else 'room'} in the pipe of inode {number}"
+
+    def place(self, entry):
+        where, start = entry["place"]
+        return f"at click {start}" if where == "at" else f"in the swap area at block {start}"
+
+    def told(self, entry):
+        return getattr(self, "tell_" + entry["word"])(entry)
+
+    def tell_boot(self, entry):
+        return f"the system begins, with {entry['C']} clicks of core, at {entry['TIME']} seconds"
+
+    def tell_go(self, entry):
+        return f"{self.who(entry['S'])} runs"
+
+    def tell_idle(self, entry):
+        return "nobody can run"
+
+    def tell_trap(self, entry):
+        return f"{self.who(entry['S'])} has left the kernel"
+
+    def tell_tick(self, entry):
+        return f"a tick {TICKS[entry['mode']]}"
+
+    def tell_sleep(self, entry):
+        own = entry["W"] == f"wait.{entry['S']}"
+        what = "for a child" if own else self.channel(entry["W"])
+        return f"{self.who(entry['S'])} waits {what}, at priority {entry['P']}"
+
+    def tell_wake(self, entry):
+        return f"woken are those who wait {self.channel(entry['W'])}: {self.all(self.table.sleepers(entry['W']))}"
+
+    def tell_signal(self, entry):
+        return f"{self.who(entry['S'])} gets signal {entry['X']}"
+
+    def tell_nice(self, entry):
+        return f"{self.who(entry['S'])} wants {entry['P']} added to its priority"
+
+    def tell_time(self, entry):
+        return f"the time is set to {entry['TIME']} seconds"
+
+    def tell_size(self, entry):
+        image = f"the image of {self.who(entry['S'])} becomes {entry['N']} clicks"
+        return image + (f", {self.place(entry)}" if "place" in entry else ", where it stands")
+
+    def tell_fork(self, entry):
+        return (f"{self.who(entry['S'])} makes process {self.table.next_number()} in slot {entry['T']}, "
+                f"{self.place(entry)}")
+
+    def tell_drop(self, entry):
+        stays = entry["kind"] == "sticky" and self.table.text(entry["K"]).users == 1
+        return f"{self.who(entry['S'])} leaves text {entry['K']}" + (", which stays" if stays else "")
+
+    def tell_bare(self, entry):
+        return f"{self.who(entry['S'])} gives back its image for a new program"
+
+    def tell_text(self, entry):
+        return f"{self.who(entry['S'])} makes text {entry['K']} of {entry['N']} clicks, {self.place(entry)}"
+
+    def tell_share(self, entry):
+        return f"{self.who(entry['S'])} takes text {entry['K']}"
+
+    def tell_image(self, entry):
+        name = self.programs.get(entry["N"], [])
+        what = f" of {name[0]}" if len(name) == 1 else ""
+        return f"{self.who(entry['S'])} has its new image{what}, of {entry['N']} clicks, {self.place(entry)}"
+
+    def tell_in(self, entry):
+        text = self.table.row(entry["S"]).text
+        first = text is not None and not self.table.text(text).loaded
+        return f"{self.who(entry['S'])} comes into core at click {entry['C']}" + (f", text {text} first" if first else "")
+
+    def tell_out(self, entry):
+        return f"{self.who(entry['S'])} goes out of core, to block {entry['B']}"
+
+    def tell_exit(self, entry):
+        return f"{self.who(entry['S'])} ends; block {entry['B']} keeps what its parent may ask for"
+
+    def tell_reap(self, entry):
+        return f"the parent of {self.who(entry['S'])} has waited for it"
+
+    def tell_panic(self, entry):
+        return f"the system stops, for {PANICS[entry['reason']]}"
+
+    def tell_end(self, entry):
+        return "the script has ended"

@@ -1,0 +1,187 @@
+"""log.py: what it tells of a log line by line, the picture, and where two logs part."""
+import os
+import unittest
+import xml.etree.ElementTree as tree
+
+from common import TOP, Case, read, tool, v6
+
+log_main = tool("log").main
+SVG = "{http://www.w3.org/2000/svg}"
+LOG = """boot 100 7
+sleep 0 -100 runout
+go 1
+fork 1 2 at 18
+trap 1
+sleep 1 40 wait.1
+go 2
+drop 2 3 plain
+"""
+TEXTS = """boot 64 0
+sleep 0 -100 runout
+go 1
+bare 1
+text 1 0 20 swap 4000
+image 1 30 swap 4003
+go 0
+in 1 1
+sleep 0 -100 runout
+go 1
+fork 1 2 swap 4003
+sleep 1 1 read.9
+go 0
+out 1 4007
+in 2 1
+sleep 0 -100 runin
+go 2
+drop 2 0 sticky
+exit 2 swap 4003
+wake wait.1
+idle
+tick i
+signal 1 2
+reap 2
+panic swap
+"""
+TOLD = """line  012
+   1  Rr.  the system begins, with 64 clicks of core, at 0 seconds
+   2  sr.  the swapper waits until somebody out of core can run, at priority -100
+   3  sR.  process 1 runs
+   4  sR.  process 1 gives back its image for a new program
+   5  sR.  process 1 makes text 0 of 20 clicks, in the swap area at block 4000
+   6  sR.  process 1 has its new image, of 30 clicks, in the swap area at block 4003
+   7  Ro.  the swapper runs
+   8  Rr.  process 1 comes into core at click 1, text 0 first
+   9  sr.  the swapper waits until somebody out of core can run, at priority -100
+  10  sR.  process 1 runs
+  11  sRo  process 1 makes process 2 in slot 2, in the swap area at block 4003
+  12  swo  process 1 waits for bytes in the pipe of inode 9, at priority 1
+  13  Rwo  the swapper runs
+  14  RWo  process 1 goes out of core, to block 4007
+  15  RWr  process 2 comes into core at click 1, text 0 first
+  16  sWr  the swapper waits until somebody may go out of core, at priority -100
+  17  sWR  process 2 runs
+  18  sWR  process 2 leaves text 0
+  19  sWz  process 2 ends; block 4003 keeps what its parent may ask for
+  20  sWz  woken are those who wait for a child of process 1: nobody
+  21  sWz  nobody can run
+  22  sWz  a tick while nobody ran
+  23  soz  process 1 gets signal 2
+  24  so.  the parent of process 2 has waited for it
+  25  so.  the system stops, for there is no room in the swap area
+"""
+
+
+class Log(Case):
+    def log(self, *words):
+        return self.call(log_main, *words)
+
+    def text(self, name, text):
+        return self.put(name, text.encode())
+
+    def refused(self, text, said):
+        status, _, error = self.log("show", self.text("bad", text))
+        self.assertEqual((status, error), (1, f"log.py: {said}\n"))
+
+    def test_show(self):
+        name = self.text("log", TEXTS)
+        self.assertEqual(self.log("show", name), (0, TOLD, ""))
+        few = "".join(TOLD.splitlines(True)[:1] + TOLD.splitlines(True)[7:9])
+        self.assertEqual(self.log("show", name, "--from", "7", "--to", "8"), (0, few, ""))
+
+    def test_programs_and_moments(self):
+        shell = os.path.join(TOP, "examples", "shell", "image")
+        names = [self.path(name) for name in ("term", "log", "final")]
+        script = self.text("script", "clock 7\nrun 10\ntick\nclock 1000\nrun 19000\ntype ls\nrun 30000\n")
+        self.assertEqual(v6("run", shell, "1200", script, *names)[0], 0)
+        status, out, _ = self.log("show", "--disk", shell, "--script", script, names[1])
+        self.assertEqual(status, 0)
+        told = [line.split(maxsplit=3) for line in out.splitlines()[1:]]
+        passed = [int(words[1]) for words in told if "  a tick " in " ".join(words) or words[-1].startswith("a tick")]
+        self.assertEqual(passed[:4], [7, 10, 1010, 2010])
+        self.assertEqual((len(passed), passed[-1]), (51, 49010))
+        self.assertTrue(any("has its new image of /bin/ls" in line for line in out.splitlines()))
+
+    def test_spoiled(self):
+        for line, why in (("go 60", "S is out of its range: go 60"), ("go 01", "no line of a log: 'go 01'"), ("walk 1", "no line of a log: 'walk 1'"),
+                          ("go  1", "no line of a log: 'go  1'"), ("nice 1 -0", "no line of a log: 'nice 1 -0'"), ("", "no line of a log: ''"),
+                          ("trap 7", "slot 7 is free there"), ("fork 1 1 at 9", "slot 1 isn't free there"),
+                          ("share 1 3", "text 3 isn't in use there"), ("boot 64 0", "`boot` is the first line, and no other is")):
+            self.refused(f"boot 64 0\nsleep 0 -100 runout\n{line}\nend\n", f"line 3: {why}")
+        self.refused("go 1\nend\n", "line 1: `boot` is the first line, and no other is")
+        self.refused("boot 64 0\nend\ngo 1\n", "line 3: a line behind the last: go 1")
+        self.refused(LOG, "line 8: text 3 isn't in use there")
+
+    def test_the_last_user_of_a_text(self):
+        begins = "boot 64 0\nsleep 0 -100 runout\ngo 1\nbare 1\ntext 1 0 20 swap 4000\nimage 1 30 swap 4003\nfork 1 2 swap 4007\n"
+        self.refused(begins + "drop 1 0 plain\ndrop 2 0 plain\nshare 1 0\n", "line 10: text 0 isn't in use there")
+        for drops in ("drop 1 0 plain\n", "drop 1 0 plain\ndrop 2 0 sticky\n"):
+            self.assertEqual(self.log("show", self.text("log", begins + drops + "share 1 0\nend\n"))[0], 0)
+
+    def test_numbers_go_round(self):
+        child = "fork 1 2 at 18\nexit 2 swap 4000\nreap 2\n"
+        name = self.text("log", "boot 64 0\nsleep 0 -100 runout\n" + "fork 1 3 at 40\n" + child * 32767 + "end\n")
+        status, out, _ = self.log("show", name, "--from", str(4 + 3 * 32764))
+        told = [line.split("process ")[2].split()[0] for line in out.splitlines() if "makes" in line]
+        self.assertEqual((status, told), (0, ["32767", "3", "4"]))
+
+    def test_cut(self):
+        name = self.text("cut", TEXTS[: TEXTS.index("exit")])
+        status, out, error = self.log("show", name)
+        self.assertEqual((status, out), (1, TOLD[: TOLD.index("  19")]))
+        self.assertEqual(error, f"log.py: {name}: the log ends within a run: its last line is neither `end` nor `panic`\n")
+
+    def test_draw(self):
+        name, out = self.text("log", TEXTS), self.path("out.svg")
+        self.assertEqual(self.log("draw", name, "-o", out), (0, "", ""))
+        rects = [(rect.get("x"), rect.get("y"), rect.get("width"), rect.find(SVG + "title").text)
+                 for rect in tree.fromstring(read(out)).iter(SVG + "rect") if rect.find(SVG + "title") is not None]
+        # 25 columns of 40 points each, from 150 on; lanes of 22 points from 58 on
+        lanes = [[rect for rect in rects if rect[1] == str(58 + 22 * slot)] for slot in range(3)]
+        self.assertEqual([(rect[0], rect[2], rect[3]) for rect in lanes[2]],
+                         [("550.0", "160.0", "could run, out of core"), ("710.0", "80.0", "could run"), ("790.0", "80.0", "runs"),
+                          ("870.0", "200.0", "has ended, not waited for")])
+        held = {rect[3] for rect in rects if ":" in rect[3]}
+        self.assertEqual(held, {"process 1: 1 to 17", "text 0: 4000 to 4002", "process 1: 4003 to 4006", "text 0: 1 to 20",
+                                "process 1: 21 to 50", "process 2: 4003 to 4006", "process 1: 4007 to 4010", "process 2: 21 to 50",
+                                "process 2: 4003 to 4003"})
+
+    def test_page(self):
+        """The page shows what the commands on it show."""
+        shell, names = os.path.join(TOP, "examples", "shell"), [self.path(name) for name in ("term", "log", "final")]
+        self.assertEqual(v6("run", os.path.join(shell, "image"), "1200", os.path.join(shell, "script"), *names)[0], 0)
+        page = read(os.path.join(TOP, "docs", "tools", "log.md")).decode()
+        shown = self.log("show", "--disk", os.path.join(shell, "image"), "--from", "24", "--to", "34", names[1])[1]
+        self.assertIn("\n\n" + shown + "```\n", page)
+        self.assertEqual(self.log("draw", names[1])[1], read(os.path.join(TOP, "docs", "tools", "log.svg")).decode())
+
+    def test_a_long_log_is_thinned(self):
+        turns = "go 1\nsleep 1 10 keys\nwake keys\ngo 1\ntrap 1\n" * 20000
+        name, out = self.text("log", "boot 64 0\nsleep 0 -100 runout\n" + turns + "end\n"), self.path("out.svg")
+        self.assertEqual(self.log("draw", name, "-o", out), (0, "", ""))
+        lane = [rect for rect in tree.fromstring(read(out)).iter(SVG + "rect") if rect.get("y") == "80"]
+        self.assertEqual([rect.find(SVG + "title").text for rect in lane], ["runs"])
+
+    def test_diff(self):
+        one = self.text("one", TEXTS)
+        self.assertEqual(self.log("diff", one, one), (0, "", ""))
+        other = self.text("other", TEXTS.replace("boot 64", "boot 70").replace("reap 2\npanic swap", "wake tout\nend"))
+        status, out, error = self.log("diff", one, other)
+        self.assertEqual((status, error), (1, ""))
+        lines = [line.split() for line in out.splitlines()]
+        self.assertEqual([(words[0], words[1], words[2]) for words in lines[:2]], [("<", "1", "boot"), (">", "1", "boot")])
+        self.assertEqual(out.splitlines()[2], "the same up to line 23")
+        self.assertEqual([words[0] for words in lines[3:]], ["21", "22", "23", "<", "<", ">", ">", "from"])
+        self.assertEqual(out.splitlines()[-1], "from there on: end 0/1, panic 1/0, reap 1/0, wake 0/1")
+        cut = self.text("cut", "".join(TEXTS.splitlines(True)[:5]))
+        self.assertIn("> " + " " * 10 + f"{cut} ends here\n", self.log("diff", one, cut)[1])
+        self.assertEqual(self.log("diff", one, self.text("none", ""))[0], 1)
+
+    def test_outputs(self):
+        self.assertEqual(self.log("show", self.path("none")), (1, "", f"log.py: {self.path('none')}: No such file or directory\n"))
+        self.assertEqual(self.log("walk")[0], 2)
+        name, bad = self.text("log", TEXTS), self.text("bad", "walk\n")
+        self.assertEqual(self.log("show", "--script", bad, name)[2], "log.py: script: line 1\n")
+
+
+if __name__ == "__main__":
+    unittest.main()
