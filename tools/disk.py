@@ -8,7 +8,7 @@ import tempfile
 
 sys.path.insert(0, os.path.dirname(os.path.abspath(__file__)))
 from archives import FORMS, Member
-from files import STREAMS, guarded, place_of, put_out, read_bytes, replace, same_file
+from files import STREAMS, guarded, place_of, put_out, read_bytes, replace, same_file, uninterrupted
 from program import V6, ProgramError, add_version, call
 from repair import Repair, grow
 from survey import Survey, damaged, walk
@@ -241,7 +241,9 @@ def members_of(volume, start, path):
 def get_folder(options, volume, start, target):
     if os.path.lexists(target):
         raise DiskError(f"{options.out}: there already, and a folder is to be made")
-    with tempfile.TemporaryDirectory(dir=os.path.dirname(os.path.abspath(target)), prefix=b".new-") as beside:
+    with uninterrupted():
+        made = tempfile.TemporaryDirectory(dir=os.path.dirname(os.path.abspath(target)), prefix=b".new-")
+    with made as beside:
         folder = Folder(volume, beside + b"/it", options.table)
         folder.fill(start)
         os.rename(beside + b"/it", target)

@@ -1,4 +1,5 @@
 """Files of the host that the tools read and write."""
+import contextlib
 import errno
 import os
 import signal
@@ -8,6 +9,7 @@ import tempfile
 
 BLOCK = 512  # in which holes are counted
 MOST = 2**28  # bytes of a file that is read whole
+INTERRUPTS = signal.SIGINT, signal.SIGTERM, signal.SIGHUP
 STREAMS = ("-", b"-", "/dev/stdout", b"/dev/stdout")
 
 
@@ -21,7 +23,7 @@ def guarded(tool, body, *known, failed=1):
     """The status of a tool: what `body` gives, or `failed` where it fails with an error of the host or a known one, which is
     told in a line. An interrupt, also by another program's signal, ends it as an error does, so that nothing is left beside a
     file; so does a pipe that is closed, without a word."""
-    for number in (signal.SIGTERM, signal.SIGHUP):
+    for number in INTERRUPTS[1:]:
         if signal.getsignal(number) == signal.SIG_DFL:
             signal.signal(number, _interrupt)
     try:
@@ -42,6 +44,16 @@ def guarded(tool, body, *known, failed=1):
 
 def _interrupt(*_):
     raise KeyboardInterrupt
+
+
+@contextlib.contextmanager
+def uninterrupted():
+    """Holds interrupts back while a file is made, until its maker knows the name by which to remove it."""
+    before = signal.pthread_sigmask(signal.SIG_BLOCK, INTERRUPTS)
+    try:
+        yield
+    finally:
+        signal.pthread_sigmask(signal.SIG_SETMASK, before)
 
 
 def read_bytes(name, most=None):
@@ -129,7 +141,8 @@ def replace(name, data, mode=0o644, look=None, holes=()):
     place, beside = place_of(name), None
     try:
         prefix = b".new-" if isinstance(name, bytes) else ".new-"
-        handle, beside = tempfile.mkstemp(dir=os.path.dirname(place), prefix=prefix)
+        with uninterrupted():
+            handle, beside = tempfile.mkstemp(dir=os.path.dirname(place), prefix=prefix)
         with os.fdopen(handle, "wb") as file:
             if holes:
                 write_sparse(file, data, holes)

@@ -26,6 +26,18 @@ import os, sys, time
 if any(name.startswith(".new-") for name in os.listdir(os.path.dirname(sys.argv[1]))):
     time.sleep(60)
 """
+AT_ONCE = """
+import os, runpy, signal, sys, tempfile
+make = getattr(tempfile, sys.argv[1])
+def made(*words, **named):
+    it = make(*words, **named)
+    os.kill(os.getpid(), signal.SIGTERM)
+    return it
+setattr(tempfile, sys.argv[1], made)
+del sys.argv[:2]
+sys.path.insert(0, os.path.dirname(sys.argv[0]))
+runpy.run_path(sys.argv[0], run_name="__main__")
+"""
 
 
 class Names(Disks):
@@ -165,6 +177,15 @@ class Names(Disks):
         self.assertEqual(running.communicate()[1], b"")
         self.assertEqual(running.returncode, 130)
         self.assertEqual(sorted(os.listdir(self.folder)), before)
+
+    def test_an_interrupt_at_once(self):
+        """Also where the signal comes before the tool knows how the file is called that was made beside the disk."""
+        image, file = self.new({"a": b"1"}, "--blocks", "100"), self.put("file", b"2")
+        before, out = sorted(os.listdir(self.folder)), self.path("out")
+        for maker, words in (("mkstemp", ("put", image, file, "/b")), ("mkdtemp", ("get", image, "/", out))):
+            done = subprocess.run([sys.executable, "-c", AT_ONCE, maker, os.path.join(TOOLS, "disk.py"), "--v6", V6, *words],
+                                  capture_output=True)
+            self.assertEqual((done.returncode, done.stderr, sorted(os.listdir(self.folder))), (130, b"", before), words)
 
     def test_second_names(self):
         """Of a folder with hard links, there and back."""
