@@ -39,6 +39,7 @@ cat /tmp/greeting
 chdir /nowhere
 exit
 """
+LONG = 600  # seconds: what a busy machine never takes for one of these
 OVER = "\nconsole: nobody waits for a key any more: the run is over\n"
 OTHER = """
 import os, subprocess, sys
@@ -95,10 +96,12 @@ LOGS = (
 BOOT = "boot 1200 0\nsleep 0 -100 runout\ngo 1\n"
 
 
-def used():
-    """Seconds of a processor that the programs have taken that were run so far."""
-    times = os.times()
-    return times.children_user + times.children_system
+COUNTS = """
+import subprocess, sys
+with open(sys.argv[1], "a") as file:
+    file.write("run ")
+sys.exit(subprocess.run(sys.argv[2:]).returncode)
+"""
 
 
 class Person(io.BytesIO):
@@ -349,17 +352,18 @@ class Sessions(Case):
         self.assertEqual((status, said.count("everybody sleeps for a time, and that is long"), OVER in said), (0, 1, True))
 
     def test_a_long_file(self):
-        """One run for a piped file of many lines. The script is that of lines that are typed one by one."""
+        """Few runs for a piped file of many lines: not a run a line. The script is that of lines that are typed one by one."""
         typed = "".join(f"echo {n}\n" for n in range(1000))
-        script, began = self.path("script"), used()
-        status, term, said = self.session(typed, "--script", script)
-        self.assertLess(used() - began, 3)
+        script, counter, runs = self.path("script"), self.put("counts.py", COUNTS.encode()), self.path("runs")
+        words = ("--v6", f"{sys.executable} {counter} {runs} {V6}", "--script", script)
+        status, term, said = self.session(typed, *words)
         self.assertEqual((status, said), (0, ""))
+        self.assertLessEqual(len(read(runs).split()), 10)
         self.assertEqual(term, b"# " + b"".join(b"ECHO %d\r\n%d\r\n# " % (n, n) for n in range(1000)))
         self.assertEqual(read(script), self.script("run 10000\n" + "".join(f"type echo {n}\nrun 10000\n" for n in range(1000))))
-        began = used()
-        self.assertEqual(self.session("echo x\n", "--script", script)[1], term + b"ECHO X\r\nX\r\n# ")
-        self.assertLess(used() - began, 1.5)  # of which two runs of the script, one for this line
+        os.remove(runs)
+        self.assertEqual(self.session("echo x\n", *words)[1], term + b"ECHO X\r\nX\r\n# ")
+        self.assertEqual(len(read(runs).split()), 2)  # of the script, and of the script with this line
 
     def test_lines_with_more_and_fewer_slots(self):
         """Each has what it needs, also where many are tried in one run: a line `c` counts for a while."""
@@ -428,8 +432,8 @@ class Terminals(Case):
         return image
 
     def until(self, wanted):
-        """What the host's terminal shows until there is this."""
-        shown, end = b"", time.monotonic() + 60
+        """What the host's terminal shows until there is this. Only a console that hangs meets the end."""
+        shown, end = b"", time.monotonic() + LONG
         while wanted not in shown and select.select([self.ours], [], [], max(end - time.monotonic(), 0))[0]:
             shown += os.read(self.ours, 4096)
         self.assertIn(wanted, shown)
@@ -453,7 +457,7 @@ class Terminals(Case):
         os.write(self.ours, b"~l\n")
         self.assertIn(b"    1  a{b}\r\ntaken back:\r\n    2  a^Ib\r\n% ", self.until(b"a^Ib\r\n% "))
         os.write(self.ours, b"~.\n")
-        self.assertEqual(self.console.wait(10), 0)
+        self.assertEqual(self.console.wait(LONG), 0)
 
 
 if __name__ == "__main__":

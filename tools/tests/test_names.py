@@ -24,7 +24,11 @@ sys.exit(done.returncode)
 SLOW = """
 import os, sys, time
 if any(name.startswith(".new-") for name in os.listdir(os.path.dirname(sys.argv[1]))):
-    time.sleep(60)
+    above = os.getppid()
+    for _ in range(6000):
+        if os.getppid() != above:
+            break
+        time.sleep(0.1)
 """
 AT_ONCE = """
 import os, runpy, signal, sys, tempfile
@@ -171,7 +175,7 @@ class Names(Disks):
         before = sorted(os.listdir(self.folder))
         running = subprocess.Popen([sys.executable, os.path.join(TOOLS, "disk.py"), "--v6", f"{sys.executable} {slow} {file}",
                                     "put", image, file, "/b"], stderr=subprocess.PIPE)
-        while not any(name.startswith(".new-") for name in os.listdir(self.folder)):
+        while running.poll() is None and not any(name.startswith(".new-") for name in os.listdir(self.folder)):
             time.sleep(0.01)
         running.terminate()
         self.assertEqual(running.communicate()[1], b"")
@@ -214,12 +218,28 @@ class Names(Disks):
         self.assertIn(b"/etc/init2 0644 0 0 times 80000 80000\n", read(self.path("table1")))
         self.assertEqual(v6("check", image), v6("check", self.path("again")))
 
+    def work(self, count):
+        """How many steps of Python a disk of so many files takes: calls, and the lines of loops."""
+        files = {f"f{k}": b"x" * (k % 4 > 0) for k in range(count)}
+        folder, image, steps = self.folder_of(files), self.path(f"image{count}"), 0
+
+        def step(*_):
+            nonlocal steps
+            steps += 1
+            return step
+
+        before = sys.gettrace()
+        sys.settrace(step)
+        try:
+            self.done("new", image, folder, "--inodes", "4096")
+        finally:
+            sys.settrace(before)
+        self.assertEqual(v6("check", image)[1].split()[1], str(count + 1))
+        return steps
+
     def test_many_files(self):
-        files = {f"f{k}": b"x" * (k % 4 > 0) for k in range(4000)}
-        folder, image, began = self.folder_of(files), self.path("image"), time.process_time()
-        self.done("new", image, folder, "--inodes", "4096")
-        self.assertLess(time.process_time() - began, 2)
-        self.assertEqual(v6("check", image)[1].split()[1], "4001")
+        """The time for a file doesn't grow with their number: four times as many take four times as many steps."""
+        self.assertLess(self.work(2000), 5 * self.work(500))
 
     def test_grow(self):
         """Files stay as they are, also those whose blocks stood where the new inodes stand."""
