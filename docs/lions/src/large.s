@@ -1,0 +1,4 @@
+/ A program whose bss no image can have.
+	sys	exit
+	.bss
+	.=.+60000.
