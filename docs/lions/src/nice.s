@@ -1,0 +1,8 @@
+/ The same, but the child is nice.
+	sys	fork
+	br	1f
+	br	.
+1:
+	mov	$10.,r0
+	sys	nice
+	br	.
