@@ -16,6 +16,7 @@ from scriptfile import ScriptError, ticks_of
 from volume import DiskError
 
 COMMON, MORE = 3, 5  # lines that are shown before the place where two logs part, and behind it
+OTHER = "the script isn't that of this run: it has {} ticks, and the log {}"
 CUT = "the log ends within a run: its last line is neither `end` nor `panic`"
 
 
@@ -31,6 +32,7 @@ class Story:
     def __init__(self, data, programs=None, moments=()):
         self.lines, self.table, self.moments = lines_of(data), Table(), iter(moments)
         self.teller = Teller(self.table, programs)
+        self.ticks, self.timed = 0, 0  # of the lines so far, and those of them that the script has too
 
     def width(self):
         """How many slots are shown: those up to the highest that a fork names."""
@@ -43,7 +45,20 @@ class Story:
         entry = self.table.read(line)
         words = self.teller.told(entry)
         self.table.apply(entry)
-        return words, next(self.moments, None) if entry["word"] == "tick" else None
+        return words, self.moment() if entry["word"] == "tick" else None
+
+    def moment(self):
+        """How many slots have passed at one more tick, where the script has it."""
+        passed = next(self.moments, None)
+        self.ticks, self.timed = self.ticks + 1, self.timed + (passed is not None)
+        return passed
+
+    def other_script(self):
+        """Why the script can't be that of this run, when all lines are told, or None. A run that was cut or has stopped may
+        have had fewer ticks than its script."""
+        more = sum(1 for _ in self.moments) if self.lines and self.lines[-1] == "end" else 0
+        fits = self.timed == self.ticks and not more
+        return None if fits else OTHER.format(self.timed + more, self.ticks)
 
     def letters(self, width):
         return "".join(self.table.letter(slot) for slot in range(width))
@@ -73,15 +88,17 @@ def show(options):
         if options.first <= number <= options.last:
             at = f" {'' if passed is None else passed:>8}" if options.script else " "
             print(f"{number:>{number_width}}{at} {story.letters(width)}  {words}")
-    return ended(story, options.log)
+    return ended(story, options)
 
 
-def ended(story, name):
-    """The status of a log that was read whole: 1 where it is cut."""
-    if story.table.over:
-        return 0
-    print(f"log.py: {name}: {CUT}", file=sys.stderr)
-    return 1
+def ended(story, options):
+    """The status of a log that was read whole: 1 where it is cut, or of another run than the script."""
+    faults = [] if story.table.over else [CUT]
+    if options.script:
+        faults += filter(None, [story.other_script()])
+    for fault in faults:
+        print(f"log.py: {options.log}: {fault}", file=sys.stderr)
+    return int(bool(faults))
 
 
 # draw
@@ -94,7 +111,7 @@ def draw(options):
         _, passed = story.take(line)
         picture.take(story.table, passed)
     put_out(options.output, picture.drawn(story.table).encode())
-    return ended(story, options.log)
+    return ended(story, options)
 
 
 # diff

@@ -130,6 +130,20 @@ class Log(Case):
         self.assertEqual((status, out), (1, TOLD[: TOLD.index("  19")]))
         self.assertEqual(error, f"log.py: {name}: the log ends within a run: its last line is neither `end` nor `panic`\n")
 
+    def test_a_script_of_another_run(self):
+        """One with another number of ticks is told; a run that didn't come to its end may have fewer."""
+        ticks = "boot 64 0\nsleep 0 -100 runout\n" + "tick k\n" * 3
+        for lines, script, wanted in (("end\n", "clock 5\nrun 15\n", None), ("end\n", "clock 5\nrun 20\n", (4, 3)),
+                                      ("end\n", "tick\nrun 4\ntick\n", (2, 3)), ("panic swap\n", "clock 5\nrun 20\n", None),
+                                      ("panic swap\n", "clock 5\nrun 14\n", (2, 3))):
+            name, of = self.text("log", ticks + lines), self.text("script", script)
+            said = "" if wanted is None else (f"log.py: {name}: the script isn't that of this run: it has {wanted[0]} ticks, and the "
+                                              f"log {wanted[1]}\n")
+            for command in ("show", "draw"):
+                status, _, error = self.log(command, "--script", of, name)
+                self.assertEqual((status, error), (int(wanted is not None), said))
+        self.assertEqual(self.log("show", self.text("log", ticks + "end\n"))[0], 0)
+
     def test_draw(self):
         name, out = self.text("log", TEXTS), self.path("out.svg")
         self.assertEqual(self.log("draw", name, "-o", out), (0, "", ""))
