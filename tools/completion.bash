@@ -15,6 +15,7 @@ _v6() {
     v6-as | as.py) case $word in -*) words='--disassemble --help -l -n -o -s' ;; esac ;;
     v6-cc | cc.py) case $word in -*) words='--compiler --help -D -I -S -o -s' ;; esac ;;
     v6-run | run.py) case $word in -*) words='--core --disk --help --log --term --v6' ;; esac ;;
+    v6-trace | trace.py) case $word in -*) words='--from --help --process --to --v6' ;; esac ;;
     v6-try | try.py) case $word in -*) words='--core --disk --file --final --help --slots --v6 --with -t' ;; esac ;;
     esac
     if [ -n "$words" ]; then
@@ -24,5 +25,5 @@ _v6() {
     fi
 }
 
-complete -o filenames -F _v6 v6 v6-as v6-cc v6-console v6-disk v6-log v6-run v6-try as.py cc.py console.py disk.py log.py \
-    run.py try.py
+complete -o filenames -F _v6 v6 v6-as v6-cc v6-console v6-disk v6-log v6-run v6-trace v6-try as.py cc.py console.py disk.py \
+    log.py run.py trace.py try.py

@@ -1,0 +1,190 @@
+"""Moments of a run: its script is cut there and run again, for its log and for the bytes of core and of the swap area."""
+import os
+import threading
+from concurrent.futures import ThreadPoolExecutor
+
+from files import read_bytes
+from program import ProgramError, call
+from proctable import SWAP_FIRST, SWAP_LAST
+from scriptfile import COUNT, OTHER, ScriptError, lines_of
+
+CLICK, BLOCK, SEGMENT, U_AREA, ADDRESSES = 64, 512, 8192, 1024, 65536
+SWAP_BYTES = (SWAP_LAST - SWAP_FIRST + 1) * BLOCK
+DONE, USAGE, NOT_BUILT = 0, 1, 11  # of the program's statuses: docs/manual/commands.md
+WORKERS = os.cpu_count() or 1
+
+
+class MomentError(Exception):
+    """Why a moment can't be shown; the text tells it."""
+
+
+class Script:
+    """The lines of a script, and how many slots they ask for."""
+
+    def __init__(self, data):
+        self.lines = []  # of each line its bytes, and the slots of a `run`, or None
+        self.pauses = set()  # after how many slots something else comes
+        for number, line in enumerate(lines_of(data), 1):
+            found = COUNT.fullmatch(line)
+            if not found and not OTHER.fullmatch(line):
+                raise ScriptError(f"script: line {number}")
+            self.lines.append((line, int(found[2]) if found and found[1] == b"run" else None))
+        self.slots = 0
+        for _, count in self.lines:
+            if count is None:
+                self.pauses.add(self.slots)
+            self.slots += count or 0
+
+    def cut(self, slots, more=False):
+        """The script up to where so many slots have passed; with `more` also what comes before the next slot."""
+        out, left = [], slots
+        for line, count in self.lines:
+            if not left and (count or not more):
+                break
+            if count is not None and count > left:
+                out.append(b"run %d" % left)
+                break
+            left -= count or 0
+            out.append(line)
+        return b"".join(line + b"\n" for line in out)
+
+
+class Run:
+    """A run of an image in a core under a script, which can be cut after each of its slots."""
+
+    def __init__(self, v6, image, core, script, folder):
+        self.v6, self.image, self.core, self.script, self.folder = v6, image, core, Script(script), folder
+        self.files, self.guard = {}, threading.Lock()
+        self.lines, self.status, self.said = self.played(script)
+        self.before = {}  # slots, more: how many lines the log has then
+
+    def names(self, *wanted):
+        """Files for one run, those of the thread that makes it."""
+        with self.guard:
+            number = self.files.setdefault(threading.get_ident(), len(self.files))
+        return [os.path.join(self.folder, f"{number}.{name}") for name in wanted]
+
+    def played(self, script):
+        """The lines of the log of a script without its last line `end`, the status, and what the program says."""
+        file, term, log = self.names("script", "term", "log")
+        with open(file, "wb") as out:
+            out.write(script)
+        if os.path.exists(log):
+            os.unlink(log)
+        status, said = call(self.v6, "run", self.image, str(self.core), file, term, log, os.devnull)
+        if not os.path.exists(log):
+            raise MomentError(said)
+        lines = read_bytes(log).decode("ascii", "replace").split("\n")[:-1]
+        return lines[:-1] if lines and lines[-1] == "end" else lines, status, said
+
+    def count(self, slots, more=False):
+        """How many lines the log has after so many slots; with `more` after all that comes before the next one too."""
+        more = more and slots in self.script.pauses
+        if (slots, more) not in self.before:
+            lines, *_ = self.played(self.script.cut(slots, more))
+            if lines != self.lines[: len(lines)]:
+                raise MomentError(f"{self.image}: the run isn't the same each time; has the disk changed?")
+            self.before[slots, more] = len(lines)
+        return self.before[slots, more]
+
+    def slots_of(self, wanted):
+        """For each of these lines, counted from 0 on, the slot of the run in which it came, from 1 on; 0 is before the first.
+
+        They are found by halving, all of them at once: where the log of a cut script has grown over several of them, it is cut in
+        the middle again."""
+        found, wanted = {}, sorted(wanted)
+        first = self.count(0)
+        found.update({line: 0 for line in wanted if line < first})
+        parts = [(0, self.script.slots, [line for line in wanted if line >= first])]
+        with ThreadPoolExecutor(WORKERS) as pool:
+            while parts := [part for part in parts if part[2]]:
+                middles = [(low + high) // 2 for low, high, _ in parts if high - low > 1]
+                counts = dict(zip(middles, pool.map(self.count, middles)))
+                later = []
+                for low, high, lines in parts:
+                    if high - low <= 1:
+                        found.update({line: high for line in lines})
+                        continue
+                    middle = (low + high) // 2
+                    later.append((low, middle, [line for line in lines if line < counts[middle]]))
+                    later.append((middle, high, [line for line in lines if line >= counts[middle]]))
+                parts = later
+        return found
+
+    def memory(self, slots, more=False):
+        """The bytes of core and of the swap area after so many slots."""
+        file, final = self.names("script", "memory")
+        with open(file, "wb") as out:
+            out.write(self.script.cut(slots, more))
+        status, said = call(self.v6, "memory", self.image, str(self.core), file, final)
+        if status == USAGE:
+            raise ProgramError(f"{self.v6} has no command `memory`, which tells what core and the swap area hold")
+        if status != DONE:
+            raise MomentError(said)
+        data = read_bytes(final)
+        if len(data) != self.core * CLICK + SWAP_BYTES:
+            raise MomentError(f"the memory has {len(data)} bytes, and {self.core * CLICK + SWAP_BYTES} are wanted")
+        return Memory(data, self.core)
+
+
+def word(data, at):
+    return int.from_bytes(data[at : at + 2], "little")
+
+
+class Memory:
+    """Core, from click 1 on, and behind it the swap area, from block 4000 on: docs/manual/core.md."""
+
+    def __init__(self, data, core):
+        self.data, self.core = data, core
+
+    def start(self, place):
+        """Where the bytes of a place begin."""
+        if place.where == "at":
+            return (place.start - 1) * CLICK
+        return self.core * CLICK + (place.start - SWAP_FIRST) * BLOCK
+
+    def process(self, row, text=None):
+        """What a process has, by its row of the table and that of its text."""
+        return Process(self, row, text)
+
+
+class Process:
+    """The u area and the memory of a process: docs/manual/u-area.md."""
+
+    def __init__(self, memory, row, text=None):
+        self.data, self.at = memory.data, memory.start(row.place)
+        self.u = self.data[self.at : self.at + U_AREA]
+        self.registers = [word(self.u, 2 * number) for number in range(8)]
+        self.pc, self.carry = self.registers[7], self.u[16] & 1
+        self.text, data, stack = (CLICK * word(self.u, at) for at in (24, 26, 28))
+        self.pending = self.u[30]
+        self.kept = [word(self.u, 32 + 2 * number) for number in range(8)]
+        first = -(-self.text // SEGMENT) * SEGMENT
+        self.parts = [(first, data, self.at + U_AREA), (ADDRESSES - stack, stack, self.at + U_AREA + data)]
+        if self.text and text:
+            at = CLICK * (text.click - 1) if text.loaded else memory.core * CLICK + (text.block - SWAP_FIRST) * BLOCK
+            self.parts.append((0, self.text, at))
+
+    def byte(self, address):
+        """The byte at an address, or None where nothing is."""
+        address %= ADDRESSES
+        for first, size, at in self.parts:
+            if first <= address < first + size:
+                return self.data[at + address - first]
+        return None
+
+    def word(self, address):
+        """The word at an address, or None."""
+        low, high = self.byte(address), self.byte(address + 1)
+        return None if address & 1 or low is None or high is None else low | high << 8
+
+    def bytes(self, address, most):
+        """The bytes from an address on, as far as there are any."""
+        out = bytearray()
+        while len(out) < most and (byte := self.byte(address + len(out))) is not None:
+            out.append(byte)
+        return bytes(out)
+
+    def string(self, address, most=510):
+        """The bytes from an address on up to a NUL."""
+        return self.bytes(address, most).partition(b"\0")[0]

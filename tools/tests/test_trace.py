@@ -1,0 +1,213 @@
+"""trace.py: the moments of a run, calls in memory, and what is told of them. Slots and registers are by hand, from the programs."""
+import os
+import re
+import sys
+import unittest
+import unittest.mock
+
+from common import TOP, V6, Case, read, tool, v6, words, write
+
+from callwords import FORMS, Call, answer, call_at
+from moments import Memory, MomentError, Run, Script
+from pdp11 import ARGUMENTS, CALLS
+from proctable import Place, Row, Text
+
+trace, as_main, disk_main = tool("trace"), tool("as").main, tool("disk").main
+HI = os.path.join(TOP, "examples", "hi")
+PAIR = os.path.join(TOP, "docs", "lions", "src", "pair.s")
+TYPED = b"run 60\ntype one\nrun 60\ntype two\nrun 60\n"
+# Each process opens, forks or not, and goes round: clr, read, inc, mov, clr, write, br. The parent has a movb before, the child a br.
+TOLD = """\
+  1 [1] exec("/etc/init", ["/etc/init"]) = done
+  2 [1 /etc/init] open("/dev/tty8", 2) = 0
+  3 [1 /etc/init] fork() = 2
+  6 [1 /etc/init] read(0, 063, 100) waits for keys
+  9 [2 /etc/init] read(0, 063, 100) waits for keys
+ 61 [1 /etc/init] read(0, 063, 100) = 4 "one\\n", after 55 slots for keys
+ 62 [2 /etc/init] read(0, 063, 100) waits for keys again
+ 66 [1 /etc/init] write(0, "Pone\\n", 5) = 5
+ 69 [1 /etc/init] read(0, 063, 100) waits for keys
+121 [2 /etc/init] read(0, 063, 100) = 4 "two\\n", after 112 slots, 2 times for keys
+122 [1 /etc/init] read(0, 063, 100) waits for keys again
+126 [2 /etc/init] write(0, "Ctwo\\n", 5) = 5
+129 [2 /etc/init] read(0, 063, 100) waits for keys
+"""
+# The memory of examples/hi after each of its first slots: the registers R0 and PC, and the clicks of the stack.
+STANDS = """
+import subprocess, sys
+sys.path.insert(0, {tools!r})
+from scriptfile import COUNT, lines_of
+if sys.argv[2] != "memory":
+    sys.exit(subprocess.run(sys.argv[1:]).returncode)
+image, core, script, final = sys.argv[3:]
+slots = sum(int(COUNT.fullmatch(line)[2]) for line in lines_of(open(script, "rb").read()))
+r0, pc, stack = {{0: (0, 0, 0), 1: (0, 0, 20), 2: (0, 6, 20), 3: (3, 12, 20), 4: (0, 16, 20)}}[slots]
+u = bytearray(1024)
+u[0:2], u[14:16], u[16:18] = (one.to_bytes(2, "little") for one in (r0, pc, 0o170000))
+u[26], u[28] = 1, stack
+data = bytes.fromhex({icode!r} if not slots else {program!r}).ljust(64, b"\\0")
+open(final, "wb").write(bytes(u + data).ljust(64 * int(core) + 446464, b"\\0"))
+"""
+OLD = b"import subprocess, sys\nsys.exit(1 if sys.argv[2] == 'memory' else subprocess.run(sys.argv[1:]).returncode)\n"
+ICODE = words("104413 000014 000010 000777 000014 000000 062457 061564 064457 064556 000164")
+PROGRAM = words("104405 000022 000001 104404 000034 000003 012700 000000 104401") + b"/dev/tty8\0hi\n\0"
+HAS_MEMORY = v6("memory", os.devnull, "63", os.devnull, os.devnull)[0] != 1
+
+
+class Cuts(unittest.TestCase):
+    def test_cut(self):
+        script = Script(b"clock 5\nrun 10\n; a word\nrun 0\ntype a\nrun 3\ntick")
+        self.assertEqual(script.slots, 13)
+        for slots, more, wanted in ((0, False, b""), (0, True, b"clock 5\n"), (4, False, b"clock 5\nrun 4\n"),
+                                    (4, True, b"clock 5\nrun 4\n"), (10, False, b"clock 5\nrun 10\n"),
+                                    (10, True, b"clock 5\nrun 10\n; a word\nrun 0\ntype a\n"),
+                                    (11, False, b"clock 5\nrun 10\n; a word\nrun 0\ntype a\nrun 1\n"),
+                                    (13, True, b"clock 5\nrun 10\n; a word\nrun 0\ntype a\nrun 3\ntick\n")):
+            self.assertEqual(script.cut(slots, more), wanted, (slots, more))
+
+
+class Words(unittest.TestCase):
+    def test_forms(self):
+        """Each call has a form, with as many words as it has arguments."""
+        self.assertEqual(set(FORMS), set(CALLS) - {"indir"})
+        for name, form in FORMS.items():
+            self.assertEqual(len(form.partition(":")[2]), ARGUMENTS.get(name, 0), name)
+
+    def process(self, data, stack=b"", registers=(0,) * 8, codes=0, pending=0, text=None):
+        """A process at click 3 of a core of 64, with whole clicks of data and of stack."""
+        clicks = len(text or b"") // 64, len(data) // 64, len(stack) // 64
+        u = b"".join(one.to_bytes(2, "little") for one in (*registers, 0o170000 | codes, 0, 0, 0, *clicks)) + bytes([pending])
+        core = bytearray(64 * 64 + 446464)
+        image = u.ljust(1024, b"\0") + data + stack
+        core[128 : 128 + len(image)] = image
+        if text:
+            core[64 * 40 : 64 * 40 + len(text)] = text
+        row = Row(1, 0, 16, Place("at", 3), text=0 if text else None)
+        return Memory(bytes(core), 64).process(row, Text(clicks[0], 4000, 1, 1, 41) if text else None)
+
+    def test_addresses(self):
+        """Of docs/manual/core.md: with 2 clicks of data and 20 of stack the address 64256 is byte 128 after the u area."""
+        one = self.process(bytes(range(128)), bytes([7]) + bytes(1279))
+        self.assertEqual([one.byte(at) for at in (0, 127, 128, 64255, 64256, 65535, 65536)], [0, 127, None, None, 7, 0, 0])
+        self.assertEqual((one.word(2), one.word(3), one.word(126), one.word(128)), (0o1402, None, 127 << 8 | 126, None))
+        two = self.process(bytes([9] * 64), text=bytes([5] * 128))
+        self.assertEqual([two.byte(at) for at in (0, 127, 128, 8191, 8192, 8255, 8256)], [5, 5, None, None, 9, 9, None])
+
+    def test_out_of_core(self):
+        core = bytearray(64 * 64 + 446464)
+        core[64 * 64 + 5 * 512 : 64 * 64 + 5 * 512 + 2] = b"\x34\x12"
+        one = Memory(bytes(core), 64).process(Row(1, 0, 16, Place("swap", 4005)))
+        self.assertEqual(one.registers[0], 0x1234)
+
+    def call(self, text, r0=0, at=0, r1=0):
+        """The call at an address of data of these words, with a name at 20 and another at 26."""
+        data = words(text).ljust(20, b"\0") + b"/a\tb\0\0c\"\0"
+        call = call_at(self.process(data.ljust(64, b"\0"), registers=(r0, r1, 0, 0, 0, 0, 0, at)))
+        return call and call.told()
+
+    def test_calls(self):
+        for text, r0, wanted in (("104405 000024 000002", 0, 'open("/a\\tb", 2)'), ("104404 000024 000004", 1, 'write(1, "/a\\tb", 4)'),
+                                 ("104403 000024 000004", 5, "read(5, 024, 4)"), ("104411 000024 000032", 0, 'link("/a\\tb", "c\\"")'),
+                                 ("104423 177777 000001", 3, "seek(3, -1, 1)"), ("104410 000032 000644", 0, 'creat("c\\"", 0644)'),
+                                 ("104442", 0o177773, "nice(-5)"), ("104421 010000", 0, "break(010000)"), ("104401", 768, "exit(768)"),
+                                 ("104400 000006 000000 104406", 4, "close(4)"), ("104471", 0, "call 57()"), ("010001", 0, None)):
+            self.assertEqual(self.call(text, r0), wanted, text)
+        self.assertEqual(self.call("000000 000000 000000 000000 104413 000024 000016 000024 000032 000000", at=8),
+                         'exec("/a\\tb", ["/a\\tb", "c\\""])')
+        self.assertEqual(self.call("104431", r0=1, r1=2), "stime(65538)")
+
+    def test_answers(self):
+        for name, r0, r1, wanted in (("open", 3, 0, "3"), ("close", 3, 0, "done"), ("wait", 2, 0o1400, "2, status 01400"),
+                                     ("time", 1, 2, "65538"), ("getuid", 0o1002, 0, "2, effective 2"), ("csw", 8, 0, "010")):
+            self.assertEqual(answer(Call(name, []), self.process(bytes(64), registers=(r0, r1, 0, 0, 0, 0, 0, 0))), wanted)
+        one = self.process(b"ab\n".ljust(64, b"x"), registers=(40, 0, 0, 0, 0, 0, 0, 0))
+        self.assertEqual(answer(Call("read", [], buffer=0), one), '40 "ab\\n' + "x" * 29 + '"..')
+        for error, wanted in ((2, "ENOENT"), (26, "ETXTBSY"), (50, "error 50")):
+            one = self.process(bytes(64), registers=(error, 0, 0, 0, 0, 0, 0, 0), codes=1)
+            self.assertEqual(answer(Call("open", []), one), wanted)
+
+
+class Traces(Case):
+    def trace(self, *words_):
+        return self.call(trace.main, *words_)
+
+    def pair(self):
+        """A disk whose first program is the pair of docs/lions."""
+        image, program = self.path("image"), self.path("pair")
+        self.assertEqual(v6("make", "0", image), (0, ""))
+        self.assertEqual(self.call(as_main, "-o", program, PAIR), (0, "", ""))
+        self.assertEqual(self.call(disk_main, "--v6", V6, "put", image, program, "/etc/init"), (0, "", ""))
+        return image, self.put("typed", TYPED)
+
+    def test_slots(self):
+        """When each line of the log came, by the slots of the program."""
+        image, script = self.pair()
+        run = Run(V6, image, 1200, read(script), self.folder)
+        turns = [number for number, line in enumerate(run.lines) if line.split()[0] in ("trap", "sleep") and line.split()[1] != "0"]
+        slots = run.slots_of(turns)
+        self.assertEqual([slots[line] for line in turns], [int(line.split()[0]) for line in TOLD.splitlines()])
+        self.assertEqual(run.slots_of([0, 2]), {0: 0, 2: 0})
+
+    def test_a_run_of_another_disk(self):
+        image, script = self.pair()
+        run = Run(V6, image, 1200, read(script), self.folder)
+        write(image, read(os.path.join(HI, "image")))
+        with self.assertRaisesRegex(MomentError, "the run isn't the same each time; has the disk changed?"):
+            run.count(70)
+
+    def stands(self):
+        text = STANDS.format(tools=os.path.join(TOP, "tools"), icode=ICODE.hex(), program=PROGRAM.hex())
+        return self.put("stands.py", text.encode())
+
+    def test_by_hand(self):
+        """What is told where the memory of each moment is given by hand."""
+        stands = f"{sys.executable} {self.stands()} {V6}"
+        words_ = "--v6", stands, os.path.join(HI, "image"), "1200", os.path.join(HI, "script")
+        told = (' 1 [1] exec("/etc/init", ["/etc/init"]) = done\n 2 [1 /etc/init] open("/dev/tty8", 1) = 0\n'
+                ' 3 [1 /etc/init] write(0, "hi\\n", 3) = 3\n 5 [1 /etc/init] exit(0)\n')
+        self.assertEqual(self.trace(*words_), (0, told, ""))
+        with unittest.mock.patch.object(trace, "AT_ONCE", 1):
+            self.assertEqual(self.trace("--from", "8", "--to", "9", *words_), (0, "".join(told.splitlines(True)[1:3]), ""))
+        self.assertEqual(self.trace("--process", "2", *words_), (1, "", "trace.py: process 2 makes no call there\n"))
+
+    def test_page(self):
+        """The page shows what is told of the two readers."""
+        page = read(os.path.join(TOP, "docs", "tools", "trace.md")).decode()
+        self.assertIn("\n\n" + TOLD + "```\n", page)
+
+    @unittest.skipUnless(HAS_MEMORY, "v6 has no command memory yet")
+    def test_two_readers(self):
+        image, script = self.pair()
+        self.assertEqual(self.trace("--v6", V6, image, "1200", script), (0, TOLD, ""))
+        told = [line for line in TOLD.splitlines() if "[2 " in line]
+        self.assertEqual(self.trace("--v6", V6, "--process", "2", image, "1200", script)[1].splitlines(), told)
+
+    @unittest.skipUnless(HAS_MEMORY, "v6 has no command memory yet")
+    def test_a_shell(self):
+        """An exec that is refused and one that isn't, files, a wait, and what isn't there."""
+        script = self.put("typed", b"run 10000\ntype cat nosuch /usr/sys/ken/slp.c\nrun 10000\n")
+        status, out, error = self.trace("--v6", V6, "--process", "2", os.path.join(TOP, "examples", "shell", "image"), "1200", script)
+        self.assertEqual((status, error), (0, ""))
+        told = [re.sub(", 0[0-7]+, ", ", A, ", line.strip().partition("] ")[2]) for line in out.splitlines()]
+        slp = '"\\t/*\\n\\t * You are not expected to "..'
+        self.assertEqual(told, ['exec("cat", ["cat", "nosuch", "/usr/sys/ken/slp.c"]) = ENOENT',
+                                'exec("/bin/cat", ["cat", "nosuch", "/usr/sys/ken/slp.c"]) = done', 'open("nosuch", 0) = ENOENT',
+                                'open("/usr/sys/ken/slp.c", 0) = 3', f"read(3, A, 512) = 54 {slp}", f"write(1, {slp}, 54) = 54",
+                                "read(3, A, 512) = 0", "close(3) = done", "exit(0)"])
+        self.assertEqual({line.partition("[")[2].partition("]")[0] for line in out.splitlines()}, {"2 /etc/init", "2 /bin/cat"})
+
+    def test_what_is_refused(self):
+        image, bad = os.path.join(HI, "image"), self.put("bad", b"run 5\nwalk\n")
+        self.assertEqual(self.trace("--v6", V6, image, "1200", bad), (1, "", "trace.py: script: line 2\n"))
+        self.assertEqual(self.trace("--v6", V6, bad, "1200", os.path.join(HI, "script")), (1, "", "trace.py: image: bad super-block\n"))
+        self.assertEqual(self.trace("--v6", V6, image, "63", os.path.join(HI, "script")), (1, "", "trace.py: core size\n"))
+        none = self.path("none")
+        self.assertEqual(self.trace(none, "1200", none), (1, "", f"trace.py: {none}: No such file or directory\n"))
+        # a program without the command, as one of an earlier day
+        old = f"{sys.executable} {self.put('old.py', OLD)} {V6}"
+        said = f"trace.py: {old} has no command `memory`, which tells what core and the swap area hold\n"
+        self.assertEqual(self.trace("--v6", old, image, "1200", os.path.join(HI, "script")), (1, "", said))
+
+
+if __name__ == "__main__":
+    unittest.main()

@@ -1,0 +1,208 @@
+#!/usr/bin/env python3
+"""Tells the calls of each process of a run as they come: see docs/tools/trace.md."""
+import argparse
+import copy
+import itertools
+import os
+import sys
+import tempfile
+from concurrent.futures import ThreadPoolExecutor
+from dataclasses import dataclass
+
+sys.path.insert(0, os.path.dirname(os.path.abspath(__file__)))
+from callwords import Call, answer, call_at, kept, name_of
+from files import guarded, read_bytes
+from logwords import CHANNELS
+from moments import WORKERS, MomentError, Run
+from program import CORE, V6, ProgramError, add_version
+from proctable import LogFault, Table
+from scriptfile import ScriptError
+
+AT_ONCE = 32  # moments whose memory is kept at a time
+ENDS = ("trap", "sleep", "exit")  # words of the lines with which a turn in the kernel ends
+
+
+@dataclass
+class Turn:
+    """A turn in the kernel of the process in a slot of the table: its line, when it came, and the table before and after."""
+
+    line: int
+    words: list
+    slot: int = 0  # of the run
+    number: int = 0  # of the process
+    lines: list = None  # all lines of this slot of the run
+    old: tuple = None  # the process's row and its text before, and after
+    new: tuple = None
+    is_shown: bool = True
+
+    def kind(self):
+        return self.words[0]
+
+    def place(self):
+        return int(self.words[1])
+
+    def made(self, word):
+        """The line of this word about the process, as words, or None."""
+        found = [line.split(" ") for line in self.lines if line.startswith(f"{word} {self.words[1]} ")]
+        return found[-1] if found else None
+
+
+def turns_of(lines):
+    """The turns in the kernel that a log tells, without those of the swapper."""
+    found = [Turn(number, line.split(" ")) for number, line in enumerate(lines)]
+    return [turn for turn in found if turn.kind() in ENDS and turn.words[1] != "0"]
+
+
+def channel(name, own):
+    """What a process waits for, in words."""
+    kind, _, number = name.partition(".")
+    if kind == "wait":
+        return "for a child" if number == own else f"for a child in slot {number}"
+    return CHANNELS.get(kind) or f"for {'bytes' if kind == 'read' else 'room'} in the pipe of inode {number}"
+
+
+class Tracer:
+    """Follows a run turn by turn. Turns that aren't wanted are looked at only where they tell the name of a program."""
+
+    def __init__(self, run, options):
+        self.run, self.options = run, options
+        self.table, self.taken = Table(), 0
+        self.names, self.waiting = {}, {}  # by slots of the table: programs, and calls that have begun
+        self.width = len(str(run.script.slots))
+
+    def turns(self):
+        """Those that are wanted, each with its moment and the rows of its process."""
+        found, lines = turns_of(self.run.lines), self.run.lines
+        execs = {turn.line for turn in found if turn.line and lines[turn.line - 1].startswith("image ")}
+        for turn in found:
+            turn.is_shown = self.options.first <= turn.line + 1 <= self.options.last
+        wanted = [turn for turn in found if turn.line < self.options.last and (turn.is_shown or turn.line in execs)]
+        slots = self.run.slots_of([turn.line for turn in wanted])
+        with ThreadPoolExecutor(WORKERS) as pool:
+            before = pool.map(lambda turn: self.run.count(slots[turn.line] - 1, True), wanted)
+            after = pool.map(lambda turn: self.run.count(slots[turn.line]), wanted)
+            for turn, first, past in zip(wanted, before, after):
+                turn.slot, turn.lines = slots[turn.line], lines[first:past]
+                turn.old = self.row(turn.place(), first)
+                turn.new = self.row(turn.place(), past) if turn.kind() != "exit" else None
+                turn.number = turn.old[0].number
+                if self.options.process not in (None, turn.number):
+                    turn.is_shown = False
+                if turn.is_shown or turn.line in execs:
+                    yield turn
+
+    def row(self, slot, count):
+        """The row of a slot and its text after so many lines of the log."""
+        while self.taken < count:
+            self.table.take(self.run.lines[self.taken])
+            self.taken += 1
+        row = copy.copy(self.table.row(slot))
+        return row, None if row.text is None else copy.copy(self.table.text(row.text))
+
+    def look(self, turn):
+        """What the process has before its turn and after it."""
+        old = self.run.memory(turn.slot - 1, True).process(*turn.old)
+        new = self.run.memory(turn.slot).process(*turn.new) if turn.kind() == "trap" else None
+        return old, new
+
+    def follow(self):
+        turns, forks = self.turns(), iter(self.forks())
+        fork = next(forks, None)
+        with ThreadPoolExecutor(WORKERS) as pool:
+            while chunk := list(itertools.islice(turns, AT_ONCE)):
+                for turn, (old, new) in zip(chunk, pool.map(self.look, chunk)):
+                    while fork and fork[0] < turn.line:
+                        self.names[fork[2]] = self.names.get(fork[1], "")
+                        fork = next(forks, None)
+                    said = self.told(turn, old, new)
+                    if turn.is_shown:
+                        yield turn, said
+
+    def forks(self):
+        """(line, parent, child) of each fork of the log."""
+        for number, line in enumerate(self.run.lines):
+            if line.startswith("fork "):
+                words = line.split(" ")
+                yield number, int(words[1]), int(words[2])
+
+    def call(self, turn, old):
+        """The call that a turn is about, and whether it begins there; None where it isn't about a call."""
+        slot = turn.place()
+        if slot in self.waiting:
+            return self.waiting[slot], False
+        if old.pending:
+            return kept(old), False
+        return call_at(old), True
+
+    def told(self, turn, old, new):
+        """What a turn tells, in words."""
+        slot = turn.place()
+        call, begins = self.call(turn, old)
+        who = f"{turn.slot:>{self.width}} [{turn.number}{' ' + self.names[slot] if self.names.get(slot) else ''}] "
+        if begins and call:
+            call.began = turn.slot
+        if turn.kind() == "sleep":
+            return self.sleeps(turn, call, who)
+        self.waiting.pop(slot, None)
+        if turn.kind() == "exit":
+            self.names.pop(slot, None)
+            return who + call.told()
+        if call is None:
+            grown = turn.made("size")
+            return who + (f"a larger stack: the image has {grown[2]} clicks" if grown else "a fault")
+        if call.name == "exec" and turn.made("image"):
+            self.names[slot] = name_of(old)
+        return f"{who}{call.told()} = {answer(call, new)}{self.waited(turn, call)}"
+
+    def sleeps(self, turn, call, who):
+        slot, what = turn.place(), channel(turn.words[3], turn.words[1])
+        call = self.waiting.setdefault(slot, call or Call("call", []))
+        call.waited.append(what)
+        again = " again" if len(call.waited) > 1 else ""
+        return f"{who}{call.told()} waits {what}{again}"
+
+    def waited(self, turn, call):
+        """How long a call that is done has taken, and what it has waited for."""
+        if not call.waited:
+            return ""
+        whats = list(dict.fromkeys(call.waited))
+        times = f", {len(call.waited)} times" if len(call.waited) > 1 else ""
+        since = "a wait" if call.began is None else f"{turn.slot - call.began} slots"
+        return f", after {since}{times} {' and '.join(whats)}"
+
+
+def trace(options):
+    image = options.image
+    with tempfile.TemporaryDirectory() as folder:
+        run = Run(options.v6, image, options.core, read_bytes(options.script), folder)
+        shown = 0
+        for _, said in Tracer(run, options).follow():
+            shown += 1
+            print(said)
+        if options.process is not None and not shown:
+            raise MomentError(f"process {options.process} makes no call there")
+        if run.status:
+            print(f"trace.py: {run.said}", file=sys.stderr)
+        return run.status
+
+
+def options_of(words):
+    parser = argparse.ArgumentParser(prog="trace.py", description="Tells the calls of each process of a run: docs/tools/trace.md")
+    parser.add_argument("image", help="the disk")
+    parser.add_argument("core", type=int, help=f"the size of core, in clicks; {CORE} is the most")
+    parser.add_argument("script", help="the script: docs/manual/scripts.md")
+    parser.add_argument("--process", type=int, metavar="N", help="the calls of this process alone, by its number")
+    parser.add_argument("--from", dest="first", type=int, default=1, metavar="LINE", help="the first line of the log that counts")
+    parser.add_argument("--to", dest="last", type=int, default=sys.maxsize, metavar="LINE", help="the last one")
+    parser.add_argument("--v6", metavar="COMMAND", default=V6, help="the program (bin/v6)")
+    add_version(parser)
+    return parser.parse_args(words)
+
+
+def main(words):
+    options = options_of(words)
+    return guarded("trace.py", lambda: trace(options), MomentError, ProgramError, ScriptError, LogFault)
+
+
+if __name__ == "__main__":
+    sys.exit(main(sys.argv[1:]))
