@@ -132,7 +132,7 @@ def word(data, at):
 
 
 class Memory:
-    """Core, from click 1 on, and behind it the swap area, from block 4000 on: docs/manual/core.md."""
+    """Core, from click 1 on, and after it the swap area, from block 4000 on: docs/manual/core.md."""
 
     def __init__(self, data, core):
         self.data, self.core = data, core

@@ -1,4 +1,4 @@
-/ An image grows and is cut by break, and grows by its stack, with a child's image in core behind it.
+/ An image grows and is cut by break, and grows by its stack, with a child's image in core after it.
 	sys	fork
 	br	child
 	sys	break; 4096.		/ 64 clicks of data
