@@ -14,7 +14,7 @@ from proctable import Place, Row, Text
 
 trace, as_main, disk_main = tool("trace"), tool("as").main, tool("disk").main
 HI = os.path.join(TOP, "examples", "hi")
-PAIR = os.path.join(TOP, "docs", "lions", "src", "pair.s")
+SOURCES = os.path.join(TOP, "docs", "lions", "src")
 TYPED = b"run 60\ntype one\nrun 60\ntype two\nrun 60\n"
 # Each process opens, forks or not, and goes round: clr, read, inc, mov, clr, write, br. The parent has a movb before, the child a br.
 TOLD = """\
@@ -131,13 +131,16 @@ class Traces(Case):
     def trace(self, *words_):
         return self.call(trace.main, *words_)
 
-    def pair(self):
-        """A disk whose first program is the pair of docs/lions."""
-        image, program = self.path("image"), self.path("pair")
+    def disk(self, source):
+        """A disk whose first program is one of docs/lions."""
+        image, program = self.path("image"), self.path("program")
         self.assertEqual(v6("make", "0", image), (0, ""))
-        self.assertEqual(self.call(as_main, "-o", program, PAIR), (0, "", ""))
+        self.assertEqual(self.call(as_main, "-o", program, os.path.join(SOURCES, source)), (0, "", ""))
         self.assertEqual(self.call(disk_main, "--v6", V6, "put", image, program, "/etc/init"), (0, "", ""))
-        return image, self.put("typed", TYPED)
+        return image
+
+    def pair(self):
+        return self.disk("pair.s"), self.put("typed", TYPED)
 
     def test_slots(self):
         """When each line of the log came, by the slots of the program."""
@@ -179,8 +182,22 @@ class Traces(Case):
     def test_two_readers(self):
         image, script = self.pair()
         self.assertEqual(self.trace("--v6", V6, image, "1200", script), (0, TOLD, ""))
+        # from the middle on, the descriptor of a call that waits already isn't known, and neither is when it began
+        told = [" 61 [1 /etc/init] read(.., 063, 100) = 4 \"one\\n\"", " 62 [2 /etc/init] read(.., 063, 100) waits for keys"]
+        self.assertEqual(self.trace("--v6", V6, "--from", "18", "--to", "22", image, "1200", script)[1].splitlines(), told)
         told = [line for line in TOLD.splitlines() if "[2 " in line]
         self.assertEqual(self.trace("--v6", V6, "--process", "2", image, "1200", script)[1].splitlines(), told)
+
+    @unittest.skipUnless(HAS_MEMORY, "v6 has no command memory yet")
+    def test_an_image_that_grows(self):
+        """The child exits with its R0, which is the number of its parent, and the parent with that of its child."""
+        status, out, error = self.trace("--v6", V6, self.disk("grow.s"), "1200", self.put("script", b"run 60\n"))
+        self.assertEqual((status, error), (0, ""))
+        self.assertEqual([line.replace(" /etc/init]", "]").split(None, 2) for line in out.splitlines()[1:]], [
+            ["2", "[1]", "fork() = 2"], ["3", "[1]", "break(010000) = done"], ["4", "[1]", "break(02000) = done"],
+            ["5", "[1]", "wait() waits for a child"], ["7", "[2]", "exit(1)"],
+            ["8", "[1]", "wait() = 2, status 0400, after 3 slots for a child"], ["9", "[1]", "break(04000) = done"],
+            ["11", "[1]", "a larger stack: the image has 90 clicks"], ["13", "[1]", "break(010000) = done"], ["14", "[1]", "exit(2)"]])
 
     @unittest.skipUnless(HAS_MEMORY, "v6 has no command memory yet")
     def test_a_shell(self):
