@@ -1,4 +1,5 @@
 """Moments of a run: its script is cut there and run again, for its log and for the bytes of core and of the swap area."""
+import bisect
 import os
 import threading
 from concurrent.futures import ThreadPoolExecutor
@@ -12,6 +13,13 @@ CLICK, BLOCK, SEGMENT, U_AREA, ADDRESSES = 64, 512, 8192, 1024, 65536
 SWAP_BYTES = (SWAP_LAST - SWAP_FIRST + 1) * BLOCK
 DONE, USAGE, NOT_BUILT = 0, 1, 11  # of the program's statuses: docs/manual/commands.md
 WORKERS = os.cpu_count() or 1
+ENDS = ("trap", "sleep", "exit")  # words of the lines with which a turn in the kernel ends
+
+
+def is_turn(line):
+    """Whether with this line of a log a turn in the kernel ends, of another than the swapper."""
+    word, _, rest = line.partition(" ")
+    return word in ENDS and rest.partition(" ")[0] != "0"
 
 
 class MomentError(Exception):
@@ -77,6 +85,12 @@ class Run:
         lines = read_bytes(log).decode("ascii", "replace").split("\n")[:-1]
         return lines[:-1] if lines and lines[-1] == "end" else lines, status, said
 
+    def known(self, more):
+        """The moments whose count of lines is known, in their order: (slots, how many lines)."""
+        with self.guard:
+            found = list(self.before.items())
+        return sorted((slots, count) for (slots, late), count in found if late == (more and slots in self.script.pauses))
+
     def count(self, slots, more=False):
         """How many lines the log has after so many slots; with `more` after all that comes before the next one too."""
         more = more and slots in self.script.pauses
@@ -84,22 +98,34 @@ class Run:
             lines, *_ = self.played(self.script.cut(slots, more))
             if lines != self.lines[: len(lines)]:
                 raise MomentError(f"{self.image}: the run isn't the same each time; has the disk changed?")
-            self.before[slots, more] = len(lines)
+            with self.guard:
+                self.before[slots, more] = len(lines)
         return self.before[slots, more]
 
-    def slots_of(self, wanted):
-        """For each of these lines, counted from 0 on, the slot of the run in which it came, from 1 on; 0 is before the first.
+    def parts(self, lines, more):
+        """The lines between the nearest moments whose counts are known: (slots, slots, lines)."""
+        known, parts = self.known(more), {}
+        counts = [count for _, count in known]
+        for line in lines:
+            place = bisect.bisect_right(counts, line)
+            high = known[place][0] if place < len(known) else self.script.slots
+            parts.setdefault((known[place - 1][0], high), []).append(line)
+        return [(low, high, found) for (low, high), found in parts.items()]
+
+    def slots_of(self, wanted, more=False):
+        """For each of these lines, counted from 0 on, the slot of the run in which it came, from 1 on; 0 is before the first. With
+        `more` what comes between two slots counts to the one before it.
 
         They are found by halving, all of them at once: where the log of a cut script has grown over several of them, it is cut in
         the middle again."""
         found, wanted = {}, sorted(wanted)
-        first = self.count(0)
+        first = self.count(0, more)
         found.update({line: 0 for line in wanted if line < first})
-        parts = [(0, self.script.slots, [line for line in wanted if line >= first])]
+        parts = self.parts([line for line in wanted if line >= first], more)
         with ThreadPoolExecutor(WORKERS) as pool:
             while parts := [part for part in parts if part[2]]:
                 middles = [(low + high) // 2 for low, high, _ in parts if high - low > 1]
-                counts = dict(zip(middles, pool.map(self.count, middles)))
+                counts = dict(zip(middles, pool.map(lambda middle: self.count(middle, more), middles)))
                 later = []
                 for low, high, lines in parts:
                     if high - low <= 1:
@@ -110,6 +136,19 @@ class Run:
                     later.append((middle, high, [line for line in lines if line >= counts[middle]]))
                 parts = later
         return found
+
+    def end(self):
+        """After how many slots the run can be shown last: all of the script's, or fewer where it comes to what isn't built."""
+        if self.status == DONE:
+            return self.script.slots
+        low, high = -1, self.script.slots
+        while high - low > 1:
+            middle = (low + high) // 2
+            done = self.played(self.script.cut(middle, True))[1] == DONE
+            low, high = (middle, high) if done else (low, middle)
+        if low < 0:
+            raise MomentError(self.said)
+        return low
 
     def memory(self, slots, more=False):
         """The bytes of core and of the swap area after so many slots."""
@@ -161,7 +200,9 @@ class Process:
         self.kept = [word(self.u, 32 + 2 * number) for number in range(8)]
         first = -(-self.text // SEGMENT) * SEGMENT
         self.parts = [(first, data, self.at + U_AREA), (ADDRESSES - stack, stack, self.at + U_AREA + data)]
-        if self.text and text:
+        if row.state == "dead":  # of whom half of the u area is kept
+            self.parts = []
+        elif self.text and text:
             at = CLICK * (text.click - 1) if text.loaded else memory.core * CLICK + (text.block - SWAP_FIRST) * BLOCK
             self.parts.append((0, self.text, at))
 

@@ -3,7 +3,7 @@ from dataclasses import dataclass
 
 from assembler import HEADER
 from pdp11 import MAGIC
-from volume import ROOT, Volume, shown
+from volume import Volume
 
 # What a machine comes to when the slots of a line are done.
 WAITS = "waits"  # for a key: whoever was woken by the last line reads the terminal again, or nobody can run
@@ -19,21 +19,12 @@ DOES = {"keys": "reads the terminal", "tout": "sleeps for a time", "runs": "runs
 
 def programs_of(disk):
     """The paths of the programs of magic 0407 on a disk, by the clicks of the images that exec(II) makes of them."""
-    volume, found, folders, seen = Volume(disk), {}, [(b"", ROOT)], set()
-    while folders:
-        path, folder = folders.pop()
-        seen.add(folder)
-        for number, name in volume.entries(volume.inode(folder)):
-            inode = volume.inode(number)
-            if not volume.is_used(number) or inode.is_device() or number in seen:
-                continue
-            if inode.is_directory():
-                folders.append((path + b"/" + name, number))
-                continue
-            header = volume.read(inode)[: HEADER.size]
-            if len(header) == HEADER.size and HEADER.unpack(header)[0] == MAGIC:
-                clicks = U_AREA + STACK + -(-sum(HEADER.unpack(header)[1:4]) // CLICK)
-                found.setdefault(clicks, []).append(shown(path + b"/" + name))
+    volume, found = Volume(disk), {}
+    for path, inode in volume.files():
+        header = volume.read(inode)[: HEADER.size]
+        if len(header) == HEADER.size and HEADER.unpack(header)[0] == MAGIC:
+            clicks = U_AREA + STACK + -(-sum(HEADER.unpack(header)[1:4]) // CLICK)
+            found.setdefault(clicks, []).append(path)
     return {clicks: sorted(names) for clicks, names in found.items()}
 
 

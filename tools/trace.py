@@ -13,13 +13,12 @@ sys.path.insert(0, os.path.dirname(os.path.abspath(__file__)))
 from callwords import Call, answer, call_at, kept, name_of
 from files import guarded, read_bytes
 from logwords import CHANNELS
-from moments import WORKERS, MomentError, Run
+from moments import WORKERS, MomentError, Run, is_turn
 from program import CORE, V6, ProgramError, add_version
 from proctable import LogFault, Table
 from scriptfile import ScriptError
 
 AT_ONCE = 32  # moments whose memory is kept at a time
-ENDS = ("trap", "sleep", "exit")  # words of the lines with which a turn in the kernel ends
 
 
 @dataclass
@@ -49,8 +48,7 @@ class Turn:
 
 def turns_of(lines):
     """The turns in the kernel that a log tells, without those of the swapper."""
-    found = [Turn(number, line.split(" ")) for number, line in enumerate(lines)]
-    return [turn for turn in found if turn.kind() in ENDS and turn.words[1] != "0"]
+    return [Turn(number, line.split(" ")) for number, line in enumerate(lines) if is_turn(line)]
 
 
 def channel(name, own):

@@ -342,6 +342,21 @@ class Volume:
             number = found
         return number
 
+    def files(self):
+        """The path and the inode of each plain file."""
+        folders, seen = [(b"", ROOT)], set()
+        while folders:
+            path, folder = folders.pop()
+            seen.add(folder)
+            for number, name in self.entries(self.inode(folder)):
+                inode = self.inode(number)
+                if not self.is_used(number) or inode.is_device() or number in seen:
+                    continue
+                if inode.is_directory():
+                    folders.append((path + b"/" + name, number))
+                else:
+                    yield shown(path + b"/" + name), inode
+
     def enter(self, directory, name, number, time):
         """A new entry of a directory, in the place of one of this name, whose inode is free, or in the first empty one, or
         after the others. The inode gets a link more."""

@@ -1,0 +1,111 @@
+"""The moments of a run, one by one: the table of processes by the log, and core and the swap area by the program's command."""
+import copy
+import threading
+from collections import OrderedDict
+from concurrent.futures import ThreadPoolExecutor
+
+from moments import WORKERS, MomentError
+from proctable import Table
+
+APART = 4096  # lines of the log between two tables that are kept
+KEPT = 48  # moments whose memory is kept
+
+
+class Moment:
+    """What is there after so many slots, and after all of the script that comes before the next one.
+
+    `lines` of the log have come until then, those from `first` on with this moment's slot and behind it."""
+
+    def __init__(self, history, slots, first, lines):
+        self.history, self.slots, self.first, self.lines = history, slots, first, lines
+        self.table = history.table(lines)
+
+    def memory(self):
+        return self.history.memory(self.slots)
+
+    def slot_of(self, number):
+        """The slot of the table in which the process of this number is, or None."""
+        return next((slot for slot, row in self.table.rows.items() if row.number == number), None)
+
+    def process(self, number):
+        """What the process of this number has, or None where it isn't there or has no image."""
+        slot = self.slot_of(number)
+        row = self.table.rows.get(slot)
+        if row is None or row.place is None:
+            return None
+        return self.memory().process(row, None if row.text is None else self.table.texts.get(row.text))
+
+    def running(self):
+        """The number of the process that runs, or None."""
+        row = self.table.rows.get(self.table.running)
+        return row.number if row else None
+
+
+class History:
+    """A run that is looked at moment by moment."""
+
+    def __init__(self, run):
+        self.run, self.last = run, run.end()
+        self.tables, self.built = [Table()], Table()  # before the lines 0, APART and so on; and the table that makes more of them
+        self.memories, self.guard = OrderedDict(), threading.Lock()
+
+    def table(self, lines):
+        """The table after so many lines of the log."""
+        with self.guard:
+            while self.built.lines < lines and len(self.tables) <= lines // APART:
+                self.built.take(self.run.lines[self.built.lines])
+                if self.built.lines % APART == 0:
+                    self.tables.append(copy.deepcopy(self.built))
+            table = copy.deepcopy(self.tables[lines // APART])
+        for line in self.run.lines[table.lines : lines]:
+            table.take(line)
+        return table
+
+    def count(self, slots):
+        """How many lines have come until a moment. Between two moments with the same count nothing is run for it."""
+        known = self.run.known(True)
+        below = max((one for one in known if one[0] <= slots), default=None)
+        above = min((one for one in known if one[0] >= slots), default=None)
+        if below and above and below[1] == above[1]:
+            return below[1]
+        return self.run.count(slots, True)
+
+    def moment(self, slots):
+        if not 0 <= slots <= self.last:
+            raise MomentError(f"slot {slots}: the run has {self.last}, and 0 is before the first")
+        first = self.count(slots - 1) if slots else 0
+        return Moment(self, slots, first, self.count(slots))
+
+    def memory(self, slots):
+        """Core and the swap area at a moment; those asked for last are kept."""
+        with self.guard:
+            if slots in self.memories:
+                self.memories.move_to_end(slots)
+                return self.memories[slots]
+        found = self.run.memory(slots, True)
+        with self.guard:
+            self.memories[slots] = found
+            while len(self.memories) > KEPT:
+                self.memories.popitem(last=False)
+        return found
+
+    def life(self, number):
+        """The lines of the log with which processes of this number came and went: (line, line or None), one after the other."""
+        table, found = Table(), [(0, None)] if number in (0, 1) else []
+        for line, text in enumerate(self.run.lines):
+            entry = table.read(text)
+            if entry["word"] == "reap" and found and table.row(entry["S"]).number == number:
+                found[-1] = (found[-1][0], line)
+            table.apply(entry)
+            if entry["word"] == "fork" and table.last == number:
+                found.append((line, None))
+        return found
+
+    def each(self, does, wanted):
+        """What `does` makes of each of these, several at a time."""
+        with ThreadPoolExecutor(WORKERS) as pool:
+            return list(pool.map(does, wanted))
+
+    def slot_of_line(self, line):
+        """The moment at which a line of the log, counted from 0 on, has come."""
+        return self.run.slots_of([line], True)[line]

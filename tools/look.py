@@ -1,0 +1,114 @@
+#!/usr/bin/env python3
+"""Shows any moment of a run, forwards and backwards: see docs/tools/look.md."""
+import argparse
+import os
+import sys
+import tempfile
+
+sys.path.insert(0, os.path.dirname(os.path.abspath(__file__)))
+from files import guarded, read_bytes
+from history import History
+from lookcommands import Looker, LookError
+from lookviews import Views
+from moments import MomentError, Run
+from processes import programs_of
+from program import CORE, V6, ProgramError, add_version
+from proctable import LogFault
+from scriptfile import ScriptError
+from symbols import Programs
+from volume import DiskError
+
+KNOWN = (LookError, MomentError, ProgramError, LogFault)
+LAST = ("end", "panic")
+
+
+def compare(run, name):
+    """Looks whether a log is that of this run. One that is cut is said to be, and one of another run is refused."""
+    *lines, rest = read_bytes(name).decode("ascii", "replace").split("\n")
+    is_whole = bool(lines) and lines[-1].split(" ")[0] in LAST and not rest
+    lines = lines[:-1] if lines and lines[-1] == "end" else lines
+    for number, (found, wanted) in enumerate(zip(lines, run.lines), 1):
+        if found != wanted:
+            raise LookError(f"{name}: line {number} is of another run: it is {found[:60]!r}, and here {wanted!r}")
+    if len(lines) > len(run.lines):
+        raise LookError(f"{name}: it has {len(lines)} lines, and this run has {len(run.lines)}")
+    if len(lines) < len(run.lines) or not is_whole and not run.status:
+        print(f"look.py: {name}: it is cut behind line {len(lines)}; the run has {len(run.lines)}", file=sys.stderr)
+
+
+def looker_of(options, folder):
+    run = Run(options.v6, options.image, options.core, read_bytes(options.script), folder)
+    if options.log:
+        compare(run, options.log)
+    disk = read_bytes(options.image)
+    programs = Programs(disk, options.symbols)
+    for name in programs.strangers():
+        print(f"look.py: {name}: no program, so it has no names", file=sys.stderr)
+    looker = Looker(History(run), Views(programs, programs_of(disk)))
+    if run.status:
+        print(f"look.py: {run.said}: the run is shown up to slot {looker.history.last}", file=sys.stderr)
+    return looker
+
+
+def do(looker, command):
+    """Does a command; whether it was done. Where it isn't, a line says why, and the moment stays."""
+    try:
+        for line in looker.lines_of(command):
+            print(line)
+        return True
+    except KNOWN as error:
+        sys.stdout.flush()
+        print(f"look.py: {error}", file=sys.stderr)
+        return False
+
+
+def talk(looker):
+    """Commands from a terminal, after a prompt. An empty line is the last command again, and an interrupt ends a command."""
+    import readline  # noqa: F401, since input() edits its line by it
+
+    command = "slot"
+    while not looker.is_over:
+        try:
+            do(looker, command)
+            command = input(f"{looker.moment.slots}> ").strip() or command
+        except KeyboardInterrupt:
+            command = ""
+            print()
+        except EOFError:
+            print()
+            break
+
+
+def look(options):
+    with tempfile.TemporaryDirectory() as folder:
+        looker = looker_of(options, folder)
+        if not options.commands and sys.stdin.isatty():
+            return talk(looker)
+        faults = 0
+        for command in options.commands or sys.stdin:
+            faults += not do(looker, command)
+            if looker.is_over:
+                break
+        return int(faults > 0)
+
+
+def options_of(words):
+    parser = argparse.ArgumentParser(prog="look.py", description="Shows any moment of a run: docs/tools/look.md")
+    parser.add_argument("image", help="the disk")
+    parser.add_argument("core", type=int, help=f"the size of core, in clicks; {CORE} is the most")
+    parser.add_argument("script", help="the script: docs/manual/scripts.md")
+    parser.add_argument("-c", dest="commands", action="append", metavar="COMMAND", help="a command, instead of those that are typed")
+    parser.add_argument("--log", metavar="LOG", help="a log that is to be that of this run")
+    parser.add_argument("--symbols", metavar="FILE", action="append", default=[], help="a program with names, if the disk's has none")
+    parser.add_argument("--v6", metavar="COMMAND", default=V6, help="the program (bin/v6)")
+    add_version(parser)
+    return parser.parse_args(words)
+
+
+def main(words):
+    options = options_of(words)
+    return guarded("look.py", lambda: look(options), *KNOWN, ScriptError, DiskError)
+
+
+if __name__ == "__main__":
+    sys.exit(main(sys.argv[1:]))

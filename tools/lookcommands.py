@@ -1,0 +1,303 @@
+"""The commands of look.py: docs/tools/look.md."""
+import re
+
+from looksearch import Event, Search, State
+from proctable import FORMS
+
+NUMBER = re.compile("[0-9]+")
+LETTERS = "RrowWsSz"
+REGISTERS = {**{f"r{n}": n for n in range(6)}, "sp": 6, "pc": 7}
+MOST_WORDS = 4096  # that are shown at once
+HELP = """\
+ps                       the processes
+process [N]              process N whole; without a number, here and everywhere, the one that runs, or process 1
+code [PLACE [COUNT]]     its instructions, round PC or from a place on
+words PLACE [COUNT]      words of its memory
+core, swap, texts        who holds which clicks and blocks; the shared texts
+log [COUNT]              the lines of the log that led here
+slot N, line N           to a moment, by its slot or by a line of the log
+step [COUNT]             so many slots further; back: so many back
+next WORD, last WORD     to the next line of the log with this word (go, trap, signal, ..), or the last; line is any
+until WHAT, since WHAT   forwards and backwards to where WHAT becomes so:
+    state LETTERS            the process has one of these letters of ps
+    place core|swap [START]  its image is there
+    call [NAME]              it stands at this call, or at any
+    pc PLACE [PLACE]         its PC is there, or between two places
+    word PLACE [VALUE]       a word of it changes, or becomes a value
+watch PLACE              shows a word at each moment from now on; unwatch: none any more
+help, quit
+of N, at the end of a command, is process N. A number with a 0 before it is octal. A PLACE is an address,
+a register, a name of the program, or one of them + a number."""
+
+
+class LookError(Exception):
+    """Why a command isn't done; the text tells it."""
+
+
+class Looker:
+    """A run, and the moment of it that is looked at. Each command gives the lines that it shows."""
+
+    def __init__(self, history, views):
+        self.history, self.views = history, views
+        self.moment = history.moment(0)
+        self.watched = []  # (number of the process, address), one after the other
+        self.is_over = False
+
+    def lines_of(self, text):
+        """What a command shows."""
+        words = text.split()
+        if not words:
+            return []
+        does = getattr(self, "do_" + words[0], None)
+        if does is None:
+            raise LookError(f"{words[0]}: no such command; help names them")
+        self.number = None
+        if len(words) > 2 and words[-2] == "of":
+            self.number = self.number_of(words[-1], "a process")
+            words = words[:-2]
+        try:
+            return does(*words[1:])
+        except TypeError as error:
+            if "positional argument" not in str(error):
+                raise
+            raise LookError(f"{text.strip()}: too few words, or too many; help shows each command") from None
+
+    # words of commands
+
+    def number_of(self, text, what, most=None):
+        if not NUMBER.fullmatch(text) or text[0] == "0" and set(text) & set("89"):
+            raise LookError(f"{text}: no number, where that of {what} is wanted")
+        value = int(text, 8 if text[0] == "0" else 10)
+        if most is not None and value > most:
+            raise LookError(f"{text}: {what} is {most} at most")
+        return value
+
+    def chosen(self):
+        """The number of the process that a command is about."""
+        number = self.number
+        if number is None:
+            number = self.moment.running() or 1
+        if self.moment.slot_of(number) is None:
+            raise LookError(self.gone(number))
+        return number
+
+    def gone(self, number):
+        """Why a process isn't there."""
+        said = f"process {number} isn't there in slot {self.moment.slots}"
+        lives = self.history.life(number)
+        before = [went for _, went in lives if went is not None and went < self.moment.lines]
+        later = [came for came, _ in lives if came >= self.moment.lines]
+        if before:
+            return f"{said}: it has gone with line {before[-1] + 1} of the log"
+        return f"{said}: it comes with line {later[0] + 1} of the log" if later else f"{said}, and never in this run"
+
+    def memory_of(self):
+        """The number of the process that a command is about, and what it has in memory."""
+        number = self.chosen()
+        process = self.moment.process(number)
+        if process is None or not process.parts:
+            raise LookError(f"process {number} has no memory in slot {self.moment.slots}: " +
+                            ("the swapper has no image" if not number else "it has ended" if process else "it has no image"))
+        return number, process
+
+    def address(self, text):
+        """An address, of a place."""
+        first, plus, more = text.partition("+")
+        number, process = self.memory_of()
+        if NUMBER.fullmatch(first):
+            at = self.number_of(first, "an address", 65535)
+        elif first in REGISTERS:
+            at = process.registers[REGISTERS[first]]
+        else:
+            program = self.views.program(self.moment, number)
+            at = program.address_of(first) if program else None
+            if at is None:
+                whose = f"{program.path} has no such name" if program else f"process {number} has no program with names"
+                raise LookError(f"{first}: {whose}")
+        return at + (self.number_of(more, "bytes", 65535) if plus else 0) & 0xFFFF
+
+    def word_address(self, text):
+        at = self.address(text)
+        if at & 1:
+            raise LookError(f"{text}: {at:06o} is odd, and a word has an even address")
+        return at
+
+    # what there is
+
+    def do_help(self):
+        return HELP.split("\n")
+
+    def do_quit(self):
+        self.is_over = True
+        return []
+
+    def do_ps(self):
+        return self.views.ps(self.moment)
+
+    def do_process(self, number=None):
+        if number is not None:
+            self.number = self.number_of(number, "a process")
+        return self.views.process(self.moment, self.chosen())
+
+    def do_code(self, place=None, count="16"):
+        number, process = self.memory_of()
+        at = None if place is None else self.word_address(place)
+        count = self.number_of(count, "words", MOST_WORDS)
+        return self.views.code(process, self.views.program(self.moment, number), at, count)
+
+    def do_words(self, place, count="8"):
+        number, process = self.memory_of()
+        count = self.number_of(count, "words", MOST_WORDS)
+        return self.views.words(process, self.views.program(self.moment, number), self.word_address(place), count)
+
+    def do_core(self):
+        return self.views.map(self.moment, "at")
+
+    def do_swap(self):
+        return self.views.map(self.moment, "swap")
+
+    def do_texts(self):
+        return self.views.texts(self.moment)
+
+    def do_log(self, count=None):
+        first = None if count is None else max(0, self.moment.lines - self.number_of(count, "lines"))
+        return self.views.log(self.moment, first)
+
+    # moves
+
+    def go(self, slots):
+        """To a moment: what has come with it, and what is watched."""
+        before = self.moment.slots
+        self.moment = self.history.moment(slots)
+        return [self.views.head(self.moment), *self.views.log(self.moment), *self.watches(before)]
+
+    def watches(self, before):
+        out = []
+        for number, at in self.watched:
+            now, then = self.word(self.moment, number, at), self.word(self.history.moment(before), number, at)
+            was = f", and was {shown(then)}" if now != then else ""
+            out.append(f"  word {at:06o} of process {number}: {shown(now)}{was}")
+        return out
+
+    def word(self, moment, number, at):
+        """A word of a process at a moment, or None where it isn't there."""
+        process = moment.process(number)
+        return process.word(at) if process else None
+
+    def do_slot(self, number=None):
+        return self.go(self.moment.slots if number is None else self.number_of(number, "a slot"))
+
+    def do_line(self, number):
+        number, lines = self.number_of(number, "a line"), len(self.history.run.lines)
+        if not 1 <= number <= lines:
+            raise LookError(f"line {number}: the log of this run has the lines 1 to {lines}")
+        slots = self.history.slot_of_line(number - 1)
+        if slots > self.history.last:
+            raise LookError(f"line {number} comes in slot {slots}, in which the run comes to what can't be shown")
+        return self.go(slots)
+
+    def do_step(self, count="1"):
+        return self.by(self.number_of(count, "slots"))
+
+    def do_back(self, count="1"):
+        return self.by(-self.number_of(count, "slots"))
+
+    def by(self, count):
+        slots = self.moment.slots + count
+        if slots < 0 or slots > self.history.last:
+            raise LookError(f"slot {self.moment.slots} is too near: the run is from slot 0 to {self.history.last}")
+        return self.go(slots)
+
+    # searches
+
+    def found(self, slots, text, forwards):
+        if slots is None:
+            raise LookError(f"{text}: not found {'behind' if forwards else 'before'} slot {self.moment.slots}")
+        return self.go(slots)
+
+    def event(self, word, forwards):
+        if word not in FORMS and word != "line":
+            raise LookError(f"{word}: no word of a log")
+        event = Event(None if word == "line" else word, self.number)
+        return self.found(Search(self.history, self.moment, forwards).event(event), word, forwards)
+
+    def do_next(self, word):
+        return self.event(word, True)
+
+    def do_last(self, word):
+        return self.event(word, False)
+
+    def do_until(self, kind, *words):
+        return self.where(kind, words, True)
+
+    def do_since(self, kind, *words):
+        return self.where(kind, words, False)
+
+    def where(self, kind, words, forwards):
+        does = getattr(self, "where_" + kind, None)
+        if does is None:
+            raise LookError(f"{kind}: it's state, place, call, pc or word that becomes so")
+        slots = does(Search(self.history, self.moment, forwards), *words)
+        return self.found(slots, " ".join([kind, *words]), forwards)
+
+    def where_state(self, search, letters):
+        if not set(letters) <= set(LETTERS):
+            raise LookError(f"{letters}: a state is one of the letters {LETTERS}")
+        return search.state(State(self.any(), lambda table, slot: table.letter(slot) in letters))
+
+    def any(self):
+        """The number of a process, which needn't be there at this moment."""
+        return self.number if self.number is not None else self.chosen()
+
+    def where_place(self, search, where, start=None):
+        if where not in ("core", "swap"):
+            raise LookError(f"{where}: a place is in core or swap")
+        wanted = None if start is None else self.number_of(start, "a place", 4871)
+
+        def holds(table, slot):
+            place = table.rows[slot].place
+            return place is not None and place.where == ("at" if where == "core" else "swap") and wanted in (None, place.start)
+
+        return search.state(State(self.any(), holds))
+
+    def where_call(self, search, name=""):
+        return search.call(name if not NUMBER.fullmatch(name) else f"call {name}", self.number)
+
+    def where_pc(self, search, first, last=None):
+        number = self.chosen()
+        low, high = self.address(first), None if last is None else self.address(last)
+        if high is None:
+            program = self.views.program(self.moment, number)
+            high = program.end_of(first) if program and not NUMBER.fullmatch(first) else None
+            high = low if high is None else high
+        if high < low:
+            raise LookError(f"{last}: it is before {first}")
+        return search.value(lambda moment: is_alive(moment, number) and low <= moment.process(number).pc <= high)
+
+    def where_word(self, search, place, value=None):
+        number, at = self.chosen(), self.word_address(place)
+        if value is None:
+            return search.value(lambda moment: self.word(moment, number, at))
+        value = self.number_of(value, "a word", 65535)
+        return search.value(lambda moment: self.word(moment, number, at) == value)
+
+    def do_watch(self, place=None):
+        if place is not None:
+            one = self.chosen(), self.word_address(place)
+            if one not in self.watched:
+                self.watched.append(one)
+        return self.watches(self.moment.slots) or ["no word is watched"]
+
+    def do_unwatch(self):
+        self.watched = []
+        return []
+
+
+def is_alive(moment, number):
+    process = moment.process(number)
+    return bool(process and process.parts)
+
+
+def shown(value):
+    return "none" if value is None else f"{value:06o}"
+

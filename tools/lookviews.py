@@ -1,0 +1,282 @@
+"""What look.py shows of a moment: the processes, one of them whole, and what core and the swap area hold."""
+import disassembler
+from callwords import PENDING, call_at, kept, octal, text_of
+from logwords import Teller
+from moments import ADDRESSES, word
+from pdp11 import ARGUMENTS
+from proctable import SWAP_FIRST, SWAP_LAST, blocks
+
+BEFORE, AFTER = 16, 10  # bytes of code before PC, and words from it on
+DEPTH, MOST_ARGUMENTS = 16, 256  # words of a stack that are shown, and words of a program's arguments
+TOP = 512  # bytes at the top of a stack in which ps(I) looks for arguments
+STATES = {"R": "runs", "r": "can run", "o": "could run, and is out of core", "z": "has ended, and its parent hasn't waited for it"}
+FILES, SIGNALS = 15, 20
+JSR, JSR_MASK, LONG = 0o004000, 0o177000, (0o27, 0o37, 0o60, 0o70)
+NO_IMAGE = "it has no image at this moment"
+
+
+def arguments_of(process):
+    """The arguments with which a program was executed, as ps(I) finds them at the top of the stack; none where they are no more."""
+    for end in range(ADDRESSES - 2, ADDRESSES - TOP - 2 * MOST_ARGUMENTS, -2):
+        if process.word(end) != 0o177777:
+            continue
+        for count in range(1, MOST_ARGUMENTS):
+            at = end - 2 * count
+            if process.word(at - 2) == count and all((process.word(at + 2 * n) or 0) > end for n in range(count)):
+                return [process.string(process.word(at + 2 * n)) for n in range(count)]
+    return []
+
+
+class Views:
+    """Shows moments, with the names of programs."""
+
+    def __init__(self, programs, sizes):
+        self.programs, self.sizes = programs, sizes
+
+    # the log
+
+    def line(self, moment, number):
+        """A line of the log, counted from 0 on, and what it tells."""
+        table, text = moment.history.table(number), moment.history.run.lines[number]
+        return f"{number + 1:>7}  {text:22}  {Teller(table, self.sizes).told(table.read(text))}"
+
+    def log(self, moment, first=None):
+        """The lines that came with a moment, or those from another on."""
+        return [self.line(moment, number) for number in range(moment.first if first is None else first, moment.lines)]
+
+    def head(self, moment):
+        running = moment.running()
+        who = "nobody can run" if running is None else "the swapper runs" if not running else f"{self.who(moment, running)} runs"
+        lines = f"line {moment.lines} of {len(moment.history.run.lines)}"
+        return f"slot {moment.slots} of {moment.history.last}, {lines}: {who}"
+
+    # processes
+
+    def program(self, moment, number):
+        process = moment.process(number)
+        if process is None or not process.parts:
+            return None
+        words = arguments_of(process)
+        return self.programs.of(process, words[0].decode("ascii", "replace") if words else "")
+
+    def command(self, moment, number):
+        """The words with which the program of a process was executed, as ps(I) shows them, or the path of its file."""
+        process = moment.process(number)
+        words = arguments_of(process) if process and process.parts else []
+        if words:
+            return " ".join(text_of(one)[1:-1] for one in words)
+        program = self.program(moment, number)
+        return program.path if program else ""
+
+    def who(self, moment, number):
+        """A process with the path of its program, or the name that it was executed by."""
+        program = self.program(moment, number)
+        name = program.path if program else self.command(moment, number).partition(" ")[0]
+        return f"process {number}" + (f" ({name})" if name else "")
+
+    def ps(self, moment):
+        """The processes as ps(I) and pstat show them."""
+        out = ["S SLOT   PID  PPID UID PRI PLACE      SIZE TEXT WAITS     COMMAND"]
+        for slot, row in sorted(moment.table.rows.items()):
+            process = moment.process(row.number) if slot else None
+            user = "-" if process is None else str(process.u[18])
+            priority = str(row.priority) if row.state == "asleep" else "-"
+            text = "-" if row.text is None else str(row.text)
+            command = self.command(moment, row.number) if slot else "(the swapper)"
+            out.append(f"{moment.table.letter(slot)} {slot:4} {row.number:5} {row.parent:5} {user:>3} {priority:>3} {place_of(row):10} "
+                       f"{row.size if slot else '-':>4} {text:>4} {row.channel or '-':9} {command}".rstrip())
+        return out
+
+    def process(self, moment, number):
+        """A process whole."""
+        slot = moment.slot_of(number)
+        row, process = moment.table.rows[slot], moment.process(number)
+        out = [f"process {number} in slot {slot}, a child of process {row.parent}" if number else "the swapper, in slot 0",
+               f"state      {self.state(moment, slot)}"]
+        if process is None:
+            return out + [f"image      {'the swapper has none' if not slot else NO_IMAGE}"]
+        if not process.parts:
+            out.append(f"left       half of its u area, in block {row.place.start}")
+            return out + self.area(moment, number)
+        program = self.program(moment, number)
+        text = "no text" if row.text is None else f"text {row.text}"
+        out.append(f"image      {row.size} clicks {place_of(row)}; {text}")
+        out.append(f"program    {program.path if program else 'no file of the disk has its words'}")
+        out.append("arguments  " + (" ".join(text_of(one) for one in arguments_of(process)) or "none at the top of the stack"))
+        out += self.registers(process) + self.call(process)
+        out += ["code"] + self.code(process, program) + ["stack"] + self.stack(process, program)
+        return out + self.area(moment, number)
+
+    def state(self, moment, slot):
+        letter, row = moment.table.letter(slot), moment.table.rows[slot]
+        if letter in STATES:
+            return f"{letter}: {STATES[letter]}"
+        does = "waits" if letter in "wW" else "sleeps"
+        own = row.channel == f"wait.{slot}"
+        what = "for a child" if own else Teller(moment.table, self.sizes).channel(row.channel)
+        return f"{letter}: {does} {what}, at priority {row.priority}" + (", out of core" if letter.isupper() else "")
+
+    def registers(self, process):
+        shown = [f"r{number} {value:06o}" for number, value in enumerate(process.registers[:6])]
+        codes = "".join(name if process.u[16] & bit else "-" for name, bit in (("n", 8), ("z", 4), ("v", 2), ("c", 1)))
+        return ["registers  " + "  ".join(shown), f"           sp {process.registers[6]:06o}  pc {process.pc:06o}  codes {codes}"]
+
+    def call(self, process):
+        if process.pending:
+            name = PENDING.get(process.pending, f"call {process.pending}")
+            return [f"call       {kept(process).told() if name != 'disk' else 'a wait for the disk'} has begun, and isn't done"]
+        call = call_at(process)
+        return [f"call       {call.told()} comes next"] if call else []
+
+    def code(self, process, program=None, at=None, count=AFTER):
+        """The words from an address on, disassembled; those round PC without an address."""
+        start = start_of(process, process.pc) if at is None else at
+        words, end = [], (process.pc if at is None else at) + 2 * count
+        while start + 2 * len(words) < end and (one := process.word(start + 2 * len(words))) is not None:
+            words.append(one)
+        out = []
+        for where, line, found in disassembler.lines(words, start):
+            mark = ">" if where == process.pc else " "
+            shown = " ".join(f"{one:06o}" for one in found)
+            name = f"{self.name(program, where):14} " if program and program.names else ""
+            out.append(f"{mark} {where:06o} {name}{shown:20}  {line.expandtabs(8)}".rstrip())
+        return out or [f"  {start:06o} nothing is there"]
+
+    def name(self, program, address):
+        return (program.name_at(address) if program else None) or ""
+
+    def stack(self, process, program=None):
+        """The words from SP on, with what may be return addresses."""
+        at, out = process.registers[6], []
+        for address in range(at, min(at + 2 * DEPTH, ADDRESSES), 2):
+            value = process.word(address)
+            if value is None:
+                break
+            back = returns(process, value)
+            name = self.name(program, value)
+            told = f"return to {name or octal(value)}, from {back}" if back else ""
+            out.append(f"  {address:06o} {value:06o}  {told}".rstrip())
+        more = (ADDRESSES - at) // 2 - len(out)
+        if out and more > 0:
+            out.append(f"  and {more} more words")
+        return out or [f"  {at:06o} nothing is there" if at else "  empty"]
+
+    def area(self, moment, number):
+        """The u area, field by field."""
+        process = moment.process(number)
+        u = process.u
+        user, group, real_user, real_group = u[18:22]
+        out = ["u area", f"  user {user}, group {group}; real user {real_user}, real group {real_group}",
+               f"  directory: inode {word(u, 22)}",
+               f"  clicks: text {word(u, 24)}, data {word(u, 26)}, stack {word(u, 28)}",
+               f"  pending call: {PENDING.get(u[30], 'none')}" + (f", {' '.join(octal(one) for one in process.kept)}" if u[30] else ""),
+               f"  ticks: {word(u, 48)} in the program, {word(u, 50)} in the kernel; of its children {long(u, 52)} and {long(u, 56)}",
+               f"  exit status: {octal(word(u, 60))}"]
+        caught = [(n, word(u, 64 + 2 * n)) for n in range(1, SIGNALS) if word(u, 64 + 2 * n)]
+        does = [f"{n} {'ignored' if handler & 1 else 'to ' + octal(handler)}" for n, handler in caught]
+        out.append("  signals: " + (", ".join(does) or "each as at the start"))
+        return out + self.files(moment, number)
+
+    def files(self, moment, number):
+        """The open files: by descriptors their entries in the table of open files, and who has the same one."""
+        users = {}
+        for row in moment.table.rows.values():
+            process = moment.process(row.number) if row.number and row.state != "dead" else None
+            for descriptor in range(FILES if process else 0):
+                users.setdefault(process.u[104 + descriptor], []).append((row.number, descriptor))
+        process, out = moment.process(number), []
+        for descriptor in range(FILES):
+            entry = process.u[104 + descriptor]
+            if entry:
+                others = [f"{other} of process {who}" for who, other in users.get(entry, []) if (who, other) != (number, descriptor)]
+                out.append(f"  file {descriptor}: open file {entry - 1}" + (f", as {', '.join(others)}" if others else ""))
+        return out or ["  no open files"]
+
+    # core and the swap area
+
+    def map(self, moment, where):
+        """Who holds which clicks of core, or which blocks of the swap area, and what is free."""
+        first, last = (1, moment.table.core) if where == "at" else (SWAP_FIRST, SWAP_LAST)
+        held = sorted((place.start, units, name) for place, units, name in moment.table.holders() if place.where == where)
+        out, at, free = [], first, 0
+        for start, units, name in [*held, (last + 1, 0, None)]:
+            if start > at:
+                out.append(f"{at:5} to {start - 1:5} {start - at:5}  free")
+                free += start - at
+            if name:
+                who = name if name.startswith("text") else self.who(moment, int(name))
+                out.append(f"{start:5} to {start + units - 1:5} {units:5}  {who}")
+            at = max(at, start + units)
+        return [*out, f"{free} of {last - first + 1} {'clicks' if where == 'at' else 'blocks'} are free"]
+
+    def texts(self, moment):
+        if not moment.table.texts:
+            return ["there are no shared texts"]
+        out = ["TEXT CLICKS BLOCKS        USERS LOADED  CORE"]
+        for number, text in sorted(moment.table.texts.items()):
+            core = f"at {text.click}" if text.loaded else "-"
+            out.append(f"{number:4} {text.clicks:6} {text.block:5} to {text.block + blocks(text.clicks) - 1:5} {text.users:5} {text.loaded:6}  "
+                       f"{core}")
+        return out
+
+    def words(self, process, program, at, count):
+        """Words of memory, eight a line, and their bytes as text."""
+        out = []
+        for start in range(at, at + 2 * count, 16):
+            addresses = range(start, min(start + 16, at + 2 * count), 2)
+            found = [process.word(address) for address in addresses]
+            shown = " ".join("  --  " if one is None else f"{one:06o}" for one in found)
+            text = "".join("  " if one is None else char(one & 255) + char(one >> 8) for one in found)
+            out.append(f"{start % ADDRESSES:06o} {self.name(program, start):14} {shown:55}  {text}".rstrip())
+        return out
+
+
+def char(byte):
+    return chr(byte) if 0o40 <= byte < 0o177 else "."
+
+
+def long(data, at):
+    """A number of two words, the high one first."""
+    return word(data, at) << 16 | word(data, at + 2)
+
+
+def place_of(row):
+    if row.place is None:
+        return "-"
+    return f"at {row.place.start}" if row.place.where == "at" else f"swap {row.place.start}"
+
+
+def start_of(process, pc):
+    """An address before PC from where the instructions lead to it: the furthest of them."""
+    for at in range(max(pc - BEFORE, pc & 1), pc, 2):
+        words = [process.word(address) for address in range(at, pc, 2)]
+        if None not in words and leads(words, at):
+            return at
+    return pc
+
+
+def leads(words, at):
+    """Whether these words are whole instructions, with the words that calls have behind them."""
+    while words:
+        text, count = disassembler.instruction(words, at) or ("", len(words) + 1)
+        count += ARGUMENTS.get(text[4:], 0) if text.startswith("sys\t") else 0
+        if count > len(words):
+            return False
+        at, words = at + 2 * count, words[count:]
+    return True
+
+
+def returns(process, value):
+    """The call of a subroutine behind which an address stands, as text, or None."""
+    for back in (4, 2):
+        if value & 1 or value < back:
+            continue
+        first = process.word(value - back)
+        if first is None or first & JSR_MASK != JSR:
+            continue
+        mode = first & 0o77
+        is_long = mode in LONG[:2] or mode & 0o60 == 0o60
+        if is_long == (back == 4):
+            words = [process.word(value - back + 2 * n) or 0 for n in range(back // 2)]
+            return disassembler.instruction(words, value - back)[0].replace("\t", " ")
+    return None
