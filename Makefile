@@ -3,7 +3,7 @@
 PREFIX = /usr/local
 DESTDIR =
 LIB = $(PREFIX)/lib/v6
-TOOLS = as cc console disk log run trace try
+TOOLS = as cc console disk log look run trace try
 root = $(DESTDIR)$(PREFIX)
 
 .PHONY: all check install uninstall

@@ -12,6 +12,7 @@ _v6() {
     v6-log | log.py)
         [ "$COMP_CWORD" -eq 1 ] && words='show draw diff --help'
         case $word in -*) words='--disk --from --help --output --script --to -o' ;; esac ;;
+    v6-look | look.py) case $word in -*) words='--help --log --symbols --v6 -c' ;; esac ;;
     v6-as | as.py) case $word in -*) words='--disassemble --help -l -n -o -s' ;; esac ;;
     v6-cc | cc.py) case $word in -*) words='--compiler --help -D -I -S -o -s' ;; esac ;;
     v6-run | run.py) case $word in -*) words='--core --disk --help --log --term --v6' ;; esac ;;
@@ -25,5 +26,5 @@ _v6() {
     fi
 }
 
-complete -o filenames -F _v6 v6 v6-as v6-cc v6-console v6-disk v6-log v6-run v6-trace v6-try as.py cc.py console.py disk.py \
-    log.py run.py trace.py try.py
+complete -o filenames -F _v6 v6 v6-as v6-cc v6-console v6-disk v6-log v6-look v6-run v6-trace v6-try as.py cc.py console.py disk.py \
+    log.py look.py run.py trace.py try.py

@@ -16,9 +16,13 @@ class Moment:
 
     `lines` of the log have come until then, those from `first` on with this moment's slot and behind it."""
 
-    def __init__(self, history, slots, first, lines):
-        self.history, self.slots, self.first, self.lines = history, slots, first, lines
+    def __init__(self, history, slots, lines):
+        self.history, self.slots, self.lines = history, slots, lines
         self.table = history.table(lines)
+
+    @property
+    def first(self):
+        return self.history.count(self.slots - 1) if self.slots else 0
 
     def memory(self):
         return self.history.memory(self.slots)
@@ -73,8 +77,7 @@ class History:
     def moment(self, slots):
         if not 0 <= slots <= self.last:
             raise MomentError(f"slot {slots}: the run has {self.last}, and 0 is before the first")
-        first = self.count(slots - 1) if slots else 0
-        return Moment(self, slots, first, self.count(slots))
+        return Moment(self, slots, self.count(slots))
 
     def memory(self, slots):
         """Core and the swap area at a moment; those asked for last are kept."""

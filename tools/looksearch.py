@@ -9,7 +9,8 @@ from callwords import call_at
 from moments import is_turn
 
 NEAR = 32  # moments that are looked at one by one
-PROBES, WIDER = 4, 4  # moments that are looked at in a stretch, and how much longer than the last a stretch is
+PROBES, WIDER = 8, 4  # moments that are looked at in a stretch, and how much longer than the last a stretch is
+PARTS = 4  # of a stretch that is halved
 AT_ONCE = 16  # calls that are looked at together
 BLOCK = 4096  # lines of the log that are gone through together, backwards
 
@@ -139,7 +140,9 @@ class Search:
             return seen[slots]
 
         def fetch(wanted):
-            self.history.each(at, [slots for slots in wanted if slots not in seen])
+            ends = {min(wanted), max(wanted)}  # first, since between two moments with the same lines no log is asked for
+            for slots in (ends, set(wanted) - ends):
+                self.history.each(at, sorted(slots - set(seen)))
 
         def begins(low, high):
             return at(low) != at(high) and at(high) is not False
@@ -155,7 +158,7 @@ class Search:
             pairs = list(zip(stretch, stretch[1:]))
             for low, high in pairs if self.forwards else reversed(pairs):
                 if begins(low, high):
-                    return self.halve(at, low, high)
+                    return self.halve(at, fetch, low, high)
         return None
 
     def near(self):
@@ -172,12 +175,14 @@ class Search:
             yield sorted({first + (last - first) * n // PROBES for n in range(PROBES + 1)})
             low, high, size = first, last, size * WIDER
 
-    def halve(self, at, low, high):
-        """Between two moments of which the later one has what is wanted: one that has it, behind one that hasn't."""
+    def halve(self, at, fetch, low, high):
+        """Between two moments of which the later one has what is wanted: one that has it, behind one that hasn't. The stretch is
+        cut into several at a time, since they are looked at together."""
         first, last = at(low), at(high)
         while high - low > 1:
-            middle = (low + high) // 2
-            past = at(middle) == last if last is True or not self.forwards else at(middle) != first
-            low, high = (low, middle) if past else (middle, high)
+            ends = sorted({low + (high - low) * n // PARTS for n in range(PARTS + 1)})
+            fetch(ends)
+            past = [at(slots) == last if last is True or not self.forwards else at(slots) != first for slots in ends]
+            place = past.index(True) if self.forwards else len(past) - past[::-1].index(False)
+            low, high = ends[place - 1], ends[place]
         return high
-

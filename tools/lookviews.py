@@ -100,8 +100,10 @@ class Views:
             return out + self.area(moment, number)
         program = self.program(moment, number)
         text = "no text" if row.text is None else f"text {row.text}"
-        out.append(f"image      {row.size} clicks {place_of(row)}; {text}")
+        where = "in core from click" if row.place.where == "at" else "in the swap area from block"
+        out.append(f"image      {row.size} clicks, {where} {row.place.start} on; {text}")
         out.append(f"program    {program.path if program else 'no file of the disk has its words'}")
+        out += [f"names      {name} doesn't fit: its words are others" for name in self.programs.others(process)]
         out.append("arguments  " + (" ".join(text_of(one) for one in arguments_of(process)) or "none at the top of the stack"))
         out += self.registers(process) + self.call(process)
         out += ["code"] + self.code(process, program) + ["stack"] + self.stack(process, program)

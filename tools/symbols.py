@@ -89,6 +89,10 @@ class Programs:
         self.own = [(name, program_of(name, read_bytes(name))) for name in own]
         self.found = [program for path, inode in volume.files() if (program := program_of(path, volume.read(inode)))]
 
+    def others(self, process):
+        """The files of the host whose words aren't those of a process."""
+        return [name for name, program in self.own if program and program.fits(process) is None]
+
     def strangers(self):
         """The files of the host that are no programs."""
         return [name for name, program in self.own if program is None]

@@ -16,10 +16,10 @@ ENVIRONMENT = {**{key: value for key, value in os.environ.items() if key != "V6"
 class Words(Case):
     def test_help_and_version(self):
         program = hashlib.sha256(read(os.path.join(TOP, "bin", "v6"))).hexdigest()[:12]
-        for name in ("as", "cc", "console", "disk", "row", "run", "trace", "try"):
+        for name in ("as", "cc", "console", "disk", "look", "row", "run", "trace", "try"):
             self.assertEqual(self.call(tool(name).main, "--version"),
                              (0, f"{name}.py of the repository whose bin/v6 is {program}\n", ""))
-        for name in ("as", "cc", "console", "disk", "manpages", "row", "run", "trace", "try"):
+        for name in ("as", "cc", "console", "disk", "look", "manpages", "row", "run", "trace", "try"):
             status, said, _ = self.call(tool(name).main, "--help")
             self.assertEqual((status, said.split()[:2]), (0, ["usage:", name + ".py"]))
         self.assertFalse(os.path.exists("--help"))
@@ -74,7 +74,7 @@ class Install(Case):
     @unittest.skipUnless(shutil.which("bash"), "bash isn't there")
     def test_completion(self):
         for words, wanted in (("v6 ch", "check"), ("v6-disk re", "repair"), ("v6-console x --sc", "--script"),
-                              ("v6-cc --co", "--compiler"), ("v6-trace --pr", "--process")):
+                              ("v6-cc --co", "--compiler"), ("v6-trace --pr", "--process"), ("v6-look x --sy", "--symbols")):
             *_, last = words.split()
             script = (f"source {TOP}/tools/completion.bash; COMP_WORDS=({words}); COMP_CWORD={len(words.split()) - 1}; _v6; "
                       "echo ${COMPREPLY[@]}")

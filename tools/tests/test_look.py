@@ -1,0 +1,384 @@
+"""look.py: what it shows of moments whose log and memory are given by hand, where its searches come to, and what is refused."""
+import os
+import struct
+import sys
+import tempfile
+import unittest
+
+from common import TOP, V6, Case, read, tool, v6, words, write
+
+from history import History
+from lookcommands import LookError, Looker
+from lookviews import Views
+from moments import Memory, MomentError, Run, Script
+from proctable import LogFault
+from symbols import Program, Programs
+from volume import ROOT, Volume
+
+look, as_main, disk_main = tool("look"), tool("as").main, tool("disk").main
+HI = os.path.join(TOP, "examples", "hi")
+PAGE = os.path.join(TOP, "docs", "tools", "look.md")
+HAS_MEMORY = v6("memory", os.devnull, "63", os.devnull, os.devnull)[0] != 1
+OLD = b"import subprocess, sys\nsys.exit(1 if sys.argv[2] == 'memory' else subprocess.run(sys.argv[1:]).returncode)\n"
+CORE = 64
+# a program whose memory is all zeros
+ZEROS = b"""import subprocess, sys
+if sys.argv[2] != "memory":
+    sys.exit(subprocess.run(sys.argv[1:]).returncode)
+open(sys.argv[6], "wb").write(bytes(64 * int(sys.argv[4]) + 446464))
+"""
+# start: jsr pc,sub; sys exit; nop; sub: mov r0,-(sp); clr r0; rts pc
+TEXT = words("004767 000004 104401 000240 010046 005000 000207")
+START = ((0, "boot 64 0"), (0, "sleep 0 -100 runout"), (0, "go 1"), (1, "bare 1"), (1, "image 1 37 at 1"), (1, "trap 1"), (1, "go 1"))
+# The stack of /bin/x below its u area: R0, the return address, argc, the address of the argument, -1, the argument.
+TOP_WORDS = "000005 000004 000001 177770 177777 061057 067151 074057 000000"
+
+
+def program(names=True, magic=0o407):
+    table = struct.pack("<8s2H", b"start", 0o42, 0) + struct.pack("<8s2H", b"sub", 2, 8) if names else b""
+    return struct.pack("<8H", magic, len(TEXT), 0, 0, len(table), 0, 0, 1) + TEXT + table
+
+
+def image(registers, codes=0, text=TEXT, stack=b"", more=()):
+    """The bytes of an image of one click of data and twenty of stack; `more` are bytes of the u area by their places."""
+    u = bytearray(1024)
+    struct.pack_into("<9H", u, 0, *registers, 0o170000 | codes)
+    struct.pack_into("<4H", u, 22, 1, 0, 1, 20)
+    for at, data in more:
+        u[at : at + len(data)] = data
+    return bytes(u) + text.ljust(64, b"\0") + stack.rjust(1280, b"\0")
+
+
+def placed(*images):
+    """Core and the swap area, with images at clicks of core, or from 4000 on at blocks of the swap area."""
+    data = bytearray(64 * CORE + 446464)
+    for place, one in images:
+        at = 64 * (place - 1) if place < 4000 else 64 * CORE + 512 * (place - 4000)
+        data[at : at + len(one)] = one
+    return bytes(data)
+
+
+class ByHand(Run):
+    """A run that is given by hand: its lines with the slots in which they come, and what its memory is after a slot. From a slot
+    on it may come to what isn't built."""
+
+    def __init__(self, slots, lines, memory, stops=None):
+        self.told, self.held, self.stops, self.looks = lines, memory, stops, 0
+        super().__init__("by hand", "disk", CORE, b"run %d\n" % slots, None)
+
+    def played(self, script):
+        slots = Script(script).slots
+        status = 11 if self.stops is not None and slots >= self.stops else 0
+        return [line for slot, line in self.told if slot <= slots], status, "not built: pc 6"
+
+    def memory(self, slots, more=False):
+        self.looks += 1
+        return Memory(self.held(slots), CORE)
+
+
+def looker_of(run, files=(("/etc/init", program()),), own=()):
+    volume = Volume.empty(200, 16, 0)
+    folder = volume.make_directory(ROOT, b"etc", 0o755, 0)
+    for name, data in files:
+        volume.write_file(volume.make(folder, os.path.basename(name).encode(), 0o100755, 0), data, 0)
+    return Looker(History(run), Views(Programs(volume.image(), own), {}))
+
+
+class Shown(unittest.TestCase):
+    maxDiff = None
+
+    def looker(self, **options):
+        held = placed((1, image((0, 0, 0, 0, 0, 0, 0o177756, 0o14), 4, stack=words(TOP_WORDS),
+                                more=((48, struct.pack("<2H", 7, 2)), (68, struct.pack("<2H", 1, 0o100)), (104, b"\1\0\3")))))
+        looker = looker_of(ByHand(9, START, lambda slots: held), **options)
+        looker.lines_of("slot 5")
+        return looker
+
+    def test_a_process(self):
+        shown = self.looker().lines_of("process 1")
+        self.assertEqual(shown[:9], [
+            "process 1 in slot 1, a child of process 0", "state      R: runs", "image      37 clicks, in core from click 1 on; no text",
+            "program    /etc/init", 'arguments  "/bin/x"',
+            "registers  r0 000000  r1 000000  r2 000000  r3 000000  r4 000000  r5 000000",
+            "           sp 177756  pc 000014  codes -z--", "code", "  000000 start          004767 000004         jsr     pc,10"])
+        self.assertEqual(shown[9:15], [
+            "  000004 start+4        104401                sys     exit", "  000006 start+6        000240                nop",
+            "  000010 sub            010046                mov     r0,-(sp)", "  000012 sub+2          005000                clr     r0",
+            "> 000014 sub+4          000207                rts     pc", "  000016                000000                0"])
+        stack = shown.index("stack")
+        self.assertEqual(shown[stack:], [
+            "stack", "  177756 000005", "  177760 000004  return to start+4, from jsr pc,10", "  177762 000001", "  177764 177770",
+            "  177766 177777", "  177770 061057", "  177772 067151", "  177774 074057", "  177776 000000", "u area",
+            "  user 0, group 0; real user 0, real group 0", "  directory: inode 1", "  clicks: text 0, data 1, stack 20",
+            "  pending call: none", "  ticks: 7 in the program, 2 in the kernel; of its children 0 and 0", "  exit status: 0",
+            "  signals: 2 ignored, 3 to 0100", "  file 0: open file 0", "  file 2: open file 2"])
+
+    def test_names(self):
+        """Without names in the program's file, or with a program whose words are others, there are addresses alone."""
+        looker = self.looker(files=(("/etc/init", program(names=False)),))
+        self.assertIn("  000010 010046                mov     r0,-(sp)", looker.lines_of("process"))
+        looker = self.looker(files=(("/etc/other", program().replace(TEXT, bytes(14))),))
+        self.assertIn("program    no file of the disk has its words", looker.lines_of("process"))
+        with self.assertRaisesRegex(LookError, "sub: process 1 has no program with names"):
+            looker.lines_of("code sub")
+        looker = self.looker()
+        self.assertEqual(looker.lines_of("words sub 2"), ["000010 sub            010046 005000" + 44 * " " + "&..."])
+        self.assertEqual(looker.lines_of("words sp+2 1")[0][:28], "177760                000004")
+        self.assertEqual(looker.lines_of("words 072 4")[0].split(), ["000072", "000000", "000000", "000000", "--", "......"])
+
+    def test_names_of_the_host(self):
+        """A file of the host has names for a process whose words are its own, and is told not to fit another."""
+        with tempfile.TemporaryDirectory() as folder:
+            named, other = os.path.join(folder, "named"), os.path.join(folder, "other")
+            write(named, program())
+            write(other, program().replace(TEXT, bytes(14)))
+            looker = self.looker(files=(("/etc/init", program(names=False)),), own=(other, named))
+            shown = looker.lines_of("process")
+        self.assertIn(f"names      {other} doesn't fit: its words are others", shown)
+        self.assertIn(f"program    {named}", shown)
+        self.assertIn("  000010 sub            010046                mov     r0,-(sp)", shown)
+
+    def test_symbols(self):
+        """Data begin in a segment of their own behind a shared text, and names of either part have that part's addresses alone."""
+        table = b"".join(struct.pack("<8s2H", *one) for one in ((b"_main", 0o42, 2), (b"_buf", 3, 8194), (b"size", 1, 6)))
+        shared = Program("/bin/it", struct.pack("<8H", 0o410, 6, 4, 2, len(table), 0, 0, 1) + bytes(10) + table)
+        found = [shared.name_at(at) for at in (0, 2, 5, 6, 8191, 8192, 8194, 8197, 8198)]
+        self.assertEqual(found, [None, "_main", "_main+3", None, None, None, "_buf", "_buf+3", None])
+        self.assertEqual([shared.address_of(name) for name in ("main", "_buf", "size")], [2, 8194, None])
+
+    def test_map(self):
+        looker = self.looker()
+        self.assertEqual(looker.lines_of("core"), ["    1 to    37    37  process 1 (/etc/init)", "   38 to    64    27  free",
+                                                   "27 of 64 clicks are free"])
+        self.assertEqual(looker.lines_of("swap"), [" 4000 to  4871   872  free", "872 of 872 blocks are free"])
+        self.assertEqual(looker.lines_of("texts"), ["there are no shared texts"])
+
+    def test_texts(self):
+        """A text of 9 clicks takes two blocks, and its one loaded user has it in core."""
+        lines = (*START[:4], (1, "text 1 0 9 swap 4000"), (1, "image 1 37 swap 4002"), (1, "trap 1"), (2, "go 0"), (2, "in 1 1"))
+        looker = looker_of(ByHand(9, lines, lambda slots: placed()))
+        looker.lines_of("slot 3")
+        self.assertEqual(looker.lines_of("texts")[1].split(), ["0", "9", "4000", "to", "4001", "1", "1", "at", "1"])
+        self.assertEqual([line.split()[:3] for line in looker.lines_of("core")[:2]], [["1", "to", "9"], ["10", "to", "46"]])
+        looker.lines_of("slot 1")
+        self.assertEqual(looker.lines_of("swap")[:2], [" 4000 to  4001     2  text 0", " 4002 to  4006     5  process 1"])
+
+    def test_ps(self):
+        """A parent that waits for its child, which is out of core, and a zombie."""
+        lines = (*START, (2, "fork 1 2 swap 4001"), (2, "trap 1"), (3, "fork 1 3 swap 4006"), (3, "trap 1"), (4, "sleep 1 40 wait.1"),
+                 (5, "go 3"), (5, "exit 3 swap 4000"))
+        looker = looker_of(ByHand(9, lines, lambda slots: placed((1, image((0,) * 8, more=((18, b"\5"),))), (4000, bytes(512)))))
+        looker.lines_of("slot 9")
+        self.assertEqual([line.split()[:9] for line in looker.lines_of("ps")[1:4]], [
+            ["s", "0", "0", "0", "-", "-100", "-", "-", "-"], ["w", "1", "1", "0", "5", "40", "at", "1", "37"],
+            ["o", "2", "2", "1", "0", "-", "swap", "4001", "37"]])
+        self.assertIn("state      z: has ended, and its parent hasn't waited for it", looker.lines_of("process 3"))
+        self.assertIn("left       half of its u area, in block 4000", looker.lines_of("process 3"))
+        with self.assertRaisesRegex(LookError, "process 3 has no memory in slot 9: it has ended"):
+            looker.lines_of("words 0 of 3")
+        with self.assertRaisesRegex(LookError, "process 0 has no memory in slot 9: the swapper has no image"):
+            looker.lines_of("code of 0")
+
+    def test_a_pending_call(self):
+        """A read of the console that has begun: its address and count are kept in the u area."""
+        held = placed((1, image((0,) * 8, more=((30, b"\1"), (32, struct.pack("<3H", 4, 0o100, 12))))))
+        looker = looker_of(ByHand(9, (*START, (2, "sleep 1 10 keys"), (2, "idle")), lambda slots: held))
+        looker.lines_of("slot 2")
+        shown = looker.lines_of("process 1")
+        self.assertIn("call       read(.., 0100, 12) has begun, and isn't done", shown)
+        self.assertIn("state      w: waits for keys, at priority 10", shown)
+
+
+class Moves(unittest.TestCase):
+    """A run of ten million slots: process 1 forks in slot 100, its child goes out of core in slot 9,000,000 and in again 500,000
+    later, and ends in slot 9,800,000. The word 040 of process 1 is 0, from slot 1,234,567 on 1, and from 7,654,321 on 2."""
+
+    LINES = (*START, (100, "fork 1 2 at 38"), (100, "trap 1"), (9000000, "out 2 4000"), (9500000, "in 2 38"),
+             (9800000, "go 2"), (9800000, "exit 2 swap 4000"), (9900000, "reap 2"))
+
+    def held(self, slots):
+        value = (slots >= 1234567) + (slots >= 7654321)
+        pc = 8 if 5000000 <= slots < 6000000 else 0
+        text = TEXT.ljust(32, b"\0") + struct.pack("<H", value)
+        return placed((1, image((0,) * 7 + (pc,), text=text)), (38, image((0,) * 8)))
+
+    def setUp(self):
+        self.run_ = ByHand(10000000, self.LINES, self.held)
+        self.looker = looker_of(self.run_)
+
+    def at(self, *commands):
+        for command in commands:
+            self.looker.lines_of(command)
+        return self.looker.moment.slots
+
+    def test_steps(self):
+        self.assertEqual(self.looker.lines_of("slot 100"), [
+            "slot 100 of 10000000, line 9 of 14: process 1 (/etc/init) runs",
+            "      8  fork 1 2 at 38          process 1 makes process 2 in slot 2, at click 38",
+            "      9  trap 1                  process 1 has left the kernel"])
+        self.assertEqual(self.at("step"), 101)
+        self.assertEqual(self.at("back 3"), 98)
+        self.assertEqual(self.at("line 10"), 9000000)
+        self.assertEqual(self.at("line 1"), 0)
+
+    def test_events(self):
+        self.assertEqual([self.at("next go"), self.at("next trap"), self.at("next exit"), self.at("last go")], [1, 100, 9800000, 1])
+        with self.assertRaisesRegex(LookError, "signal: not found behind slot 1"):
+            self.looker.lines_of("next signal")
+
+    def test_lines(self):
+        self.assertEqual([self.at("next line") for _ in range(4)], [1, 100, 9000000, 9500000])
+        self.assertEqual([self.at("last line") for _ in range(3)], [9000000, 100, 1])
+        self.assertEqual([self.at("next line of 2") for _ in range(5)], [100, 9000000, 9500000, 9800000, 9900000])
+        self.assertEqual(self.at("last fork"), 100)
+
+    def test_states(self):
+        self.assertEqual(self.at("until place swap of 2"), 9000000)
+        self.assertEqual(self.at("until place core 38 of 2"), 9500000)
+        self.assertEqual(self.at("until state z of 2"), 9800000)
+        self.assertEqual(self.at("since place swap of 2"), 9000000)
+        self.assertEqual(self.at("since state rR of 2"), 100)
+
+    def test_words(self):
+        """The changes of a word, and a value of it, forwards and backwards, with few looks."""
+        self.assertEqual(self.at("until word 040"), 1234567)
+        self.assertEqual(self.at("until word 040"), 7654321)
+        self.assertEqual(self.at("slot 10000000", "since word 040"), 7654321)
+        self.assertEqual(self.at("since word 040"), 1234567)
+        self.assertEqual(self.at("slot 10000000", "since word 040 1"), 1234567)
+        self.assertLess(self.run_.looks, 5 * 160)
+        with self.assertRaisesRegex(LookError, "word 040 3: not found behind slot 1234567"):
+            self.looker.lines_of("until word 040 3")
+
+    def test_near(self):
+        """Of the nearest slots each one is looked at: a word that changes in the next ones is found in the first of them."""
+        self.run_.held = lambda slots: placed((1, image((0,) * 8, text=TEXT.ljust(32, b"\0") + struct.pack("<H", slots % 7 == 3))))
+        self.assertEqual([self.at("slot 11", "until word 040"), self.at("until word 040"), self.at("since word 040 1")], [17, 18, 17])
+
+    def test_pc(self):
+        """A name is all of its routine, up to the next name."""
+        self.assertEqual(self.at("slot 1", "until pc sub"), 5000000)
+        self.assertEqual(self.at("until pc start"), 6000000)
+        self.assertEqual(self.at("slot 10000000", "since pc 010"), 5000000)
+
+    def test_calls(self):
+        """A process stands at a call just before the slot in which it is made."""
+        text = words("104402 104424 104424 000777")
+        run = ByHand(900, (*START, (300, "fork 1 2 at 38"), (300, "trap 1"), (500, "trap 1"), (700, "trap 1")),
+                     lambda slots: placed((1, image((0,) * 7 + (2 * (slots > 300) + 2 * (slots > 500),), text=text))))
+        self.looker = looker_of(run)
+        self.assertEqual([self.at("slot 1", "until call getpid"), self.at("until call"), self.at("since call fork")], [499, 699, 299])
+        self.assertIn("call       fork() comes next", self.looker.lines_of("process 1"))
+        with self.assertRaisesRegex(LookError, "call open: not found behind slot 299"):
+            self.looker.lines_of("until call open")
+
+    def test_watch(self):
+        self.looker.lines_of("slot 1234566")
+        self.assertEqual(self.looker.lines_of("watch 040"), ["  word 000040 of process 1: 000000"])
+        self.assertEqual(self.looker.lines_of("step")[-1], "  word 000040 of process 1: 000001, and was 000000")
+        self.assertEqual(self.looker.lines_of("step")[-1], "  word 000040 of process 1: 000001")
+        self.looker.lines_of("unwatch")
+        self.assertEqual(self.looker.lines_of("watch"), ["no word is watched"])
+
+    def test_what_is_refused(self):
+        """A line says why, and the moment stays."""
+        self.at("slot 200")
+        for command, why in (
+                ("slot 10000001", "slot 10000001: the run has 10000000, and 0 is before the first"), ("slot x", "x: no number"),
+                ("back 201", "slot 200 is too near: the run is from slot 0 to 10000000"),
+                ("line 0", "line 0: the log of this run has the lines 1 to 14"), ("line 15", "line 15: the log"), ("hop", "hop: no such command"),
+                ("words", "words: too few words"), ("ps 1 2", "ps 1 2: too few words, or too many"), ("next hop", "hop: no word of a log"),
+                ("words 1", "1: 000001 is odd"), ("words 0200000", "0200000: an address is 65535 at most"), ("words 08", "08: no number"),
+                ("words 0 9999", "9999: words is 4096 at most"), ("process 3", "process 3 isn't there in slot 200, and never in this run"),
+                ("until state x", "x: a state is one of the letters RrowWsSz"), ("until place top", "top: a place is in core or swap"),
+                ("until what", "what: it's state, place, call, pc or word"), ("until pc 010 06", "06: it is before 010"),
+                ("code nosuch", "nosuch: /etc/init has no such name"), ("until word 040 9 of 1", "word 040 9: not found behind slot 200")):
+            with self.assertRaisesRegex(LookError if "has 1000" not in why else MomentError, why):
+                self.looker.lines_of(command)
+            self.assertEqual(self.looker.moment.slots, 200, command)
+        self.at("slot 50")
+        with self.assertRaisesRegex(LookError, "process 2 isn't there in slot 50: it comes with line 8 of the log"):
+            self.looker.lines_of("process 2")
+        self.at("slot 9950000")
+        with self.assertRaisesRegex(LookError, "process 2 isn't there in slot 9950000: it has gone with line 14 of the log"):
+            self.looker.lines_of("words 0 of 2")
+
+    def test_a_run_that_stops(self):
+        """A run that comes to what isn't built in slot 700 is shown up to slot 699."""
+        looker = looker_of(ByHand(900, (*START, (700, "fork 1 2 at 38")), self.held, stops=700))
+        self.assertEqual(looker.history.last, 699)
+        with self.assertRaisesRegex(LookError, "fork: not found"):
+            looker.lines_of("next fork")
+        with self.assertRaisesRegex(LookError, "line 8 comes in slot 700, in which the run comes to what can't be shown"):
+            looker.lines_of("line 8")
+
+    def test_a_spoiled_log(self):
+        with self.assertRaisesRegex(LogFault, "line 8: slot 7 is free there"):
+            looker_of(ByHand(900, (*START, (5, "trap 7")), self.held)).lines_of("slot 6")
+
+
+class Commands(Case):
+    def look(self, *words_, v6_=V6):
+        return self.call(look.main, "--v6", v6_, *words_)
+
+    def hi(self, *words_, **options):
+        return self.look(os.path.join(HI, "image"), "1200", os.path.join(HI, "script"), *words_, **options)
+
+    def test_log(self):
+        """Moments by the log alone, of a program whose memory is all zeros."""
+        zeros = f"{sys.executable} {self.put('zeros.py', ZEROS)} {V6}"
+        status, out, error = self.hi("-c", "slot", "-c", "next fork", "-c", "quit", "-c", "slot", v6_=zeros)
+        self.assertEqual((status, out.splitlines()[1:], error), (1, [
+            "      1  boot 1200 0             the system begins, with 1200 clicks of core, at 0 seconds",
+            "      2  sleep 0 -100 runout     the swapper waits until somebody out of core can run, at priority -100",
+            "      3  go 1                    process 1 runs"], "look.py: fork: not found behind slot 0\n"))
+
+    def test_logs(self):
+        """A log that is cut is shown all the same; one that is spoiled, or of another run, isn't."""
+        log = self.path("log")
+        self.assertEqual(v6("run", os.path.join(HI, "image"), "1200", os.path.join(HI, "script"), self.path("t"), log, self.path("f")), (0, ""))
+        lines = read(log).splitlines(True)
+        self.assertEqual(self.hi("--log", log, "-c", "help")[::2], (0, ""))
+        cut = self.put("cut", b"".join(lines[:5]))
+        self.assertEqual(self.hi("--log", cut, "-c", "help")[::2],
+                         (0, f"look.py: {cut}: it is cut behind line 5; the run has {len(lines) - 1}\n"))
+        spoiled = self.put("spoiled", b"".join(lines[:2]) + b"go 2\n")
+        self.assertEqual(self.hi("--log", spoiled, "-c", "help"),
+                         (1, "", f"look.py: {spoiled}: line 3 is of another run: it is 'go 2', and here 'go 1'\n"))
+        longer = self.put("longer", b"".join(lines[:-1]) + b"idle\nend\n")
+        self.assertEqual(self.hi("--log", longer, "-c", "help")[2],
+                         f"look.py: {longer}: it has {len(lines)} lines, and this run has {len(lines) - 1}\n")
+
+    def test_what_is_refused(self):
+        image_, script = os.path.join(HI, "image"), os.path.join(HI, "script")
+        bad, none = self.put("bad", b"run 5\nwalk\n"), self.path("none")
+        self.assertEqual(self.look(image_, "1200", bad), (1, "", "look.py: script: line 2\n"))
+        self.assertEqual(self.look(bad, "1200", script), (1, "", "look.py: image: bad super-block\n"))
+        self.assertEqual(self.look(image_, "63", script), (1, "", "look.py: core size\n"))
+        self.assertEqual(self.look(image_, "1200", none), (1, "", f"look.py: {none}: No such file or directory\n"))
+        self.assertEqual(self.hi("--symbols", bad, "-c", "help")[::2], (0, f"look.py: {bad}: no program, so it has no names\n"))
+        old = f"{sys.executable} {self.put('old.py', OLD)} {V6}"
+        said = f"look.py: {old} has no command `memory`, which tells what core and the swap area hold\n"
+        self.assertEqual(self.hi("-c", "ps", v6_=old), (1, "", said))
+
+    @unittest.skipUnless(HAS_MEMORY, "v6 has no command memory yet")
+    def test_page(self):
+        """The page shows what is shown of the two readers; its slots and registers are by hand, from the program."""
+        page = read(PAGE).decode()
+        disk, pair = self.path("image"), self.path("pair")
+        self.assertEqual(v6("make", "0", disk), (0, ""))
+        source = os.path.join(TOP, "docs", "lions", "src", "pair.s")
+        self.assertEqual(self.call(as_main, "-s", "-o", pair, source), (0, "", ""))
+        self.assertEqual(self.call(disk_main, "--v6", V6, "put", disk, pair, "/etc/init"), (0, "", ""))
+        script = self.put("typed", b"run 60\ntype one\nrun 60\ntype two\nrun 60\n")
+        commands = ("until call write", "process", "ps", "core", "since state w of 1")
+        status, out, error = self.look(disk, "1200", script, *[word for one in commands for word in ("-c", one)])
+        self.assertEqual((status, error), (0, ""))
+        self.assertIn("\n\n" + out + "```\n", page)
+        self.assertIn("slot 65 of 180", out)
+        self.assertIn('call       write(0, "Pone\\n", 5) comes next', out)
+        self.assertIn("sp 177760  pc 000040", out)
+
+
+if __name__ == "__main__":
+    unittest.main()
