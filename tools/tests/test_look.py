@@ -1,9 +1,11 @@
 """look.py: what it shows of moments whose log and memory are given by hand, where its searches come to, and what is refused."""
+import io
 import os
 import struct
 import sys
 import tempfile
 import unittest
+import unittest.mock
 
 from common import TOP, V6, Case, read, tool, v6, words, write
 
@@ -333,6 +335,23 @@ class Commands(Case):
             "      2  sleep 0 -100 runout     the swapper waits until somebody out of core can run, at priority -100",
             "      3  go 1                    process 1 runs"], "look.py: fork: not found behind slot 0\n"))
 
+    def readers(self):
+        """The disk and the script of the two readers of the page."""
+        disk, pair = self.path("image"), self.path("pair")
+        self.assertEqual(v6("make", "0", disk), (0, ""))
+        source = os.path.join(TOP, "docs", "lions", "src", "pair.s")
+        self.assertEqual(self.call(as_main, "-s", "-o", pair, source), (0, "", ""))
+        self.assertEqual(self.call(disk_main, "--v6", V6, "put", disk, pair, "/etc/init"), (0, "", ""))
+        return disk, self.put("typed", b"run 60\ntype one\nrun 60\ntype two\nrun 60\n")
+
+    def test_from_a_pipe(self):
+        """What is typed after slot 60 belongs to the moment 60. A command that can't be done is told, and the next one is done."""
+        zeros, typed = f"{sys.executable} {self.put('zeros.py', ZEROS)} {V6}", io.StringIO("next wake\nhop\n\nnext wake\nquit\nslot 3\n")
+        with unittest.mock.patch("sys.stdin", typed):
+            status, out, error = self.look(self.readers()[0], "1200", self.path("typed"), v6_=zeros)
+        self.assertEqual((status, error), (1, "look.py: hop: no such command; help names them\n"))
+        self.assertEqual([line.split(" ")[1] for line in out.splitlines() if line.startswith("slot")], ["60", "120"])
+
     def test_logs(self):
         """A log that is cut is shown all the same; one that is spoiled, or of another run, isn't."""
         log = self.path("log")
@@ -365,12 +384,7 @@ class Commands(Case):
     def test_page(self):
         """The page shows what is shown of the two readers; its slots and registers are by hand, from the program."""
         page = read(PAGE).decode()
-        disk, pair = self.path("image"), self.path("pair")
-        self.assertEqual(v6("make", "0", disk), (0, ""))
-        source = os.path.join(TOP, "docs", "lions", "src", "pair.s")
-        self.assertEqual(self.call(as_main, "-s", "-o", pair, source), (0, "", ""))
-        self.assertEqual(self.call(disk_main, "--v6", V6, "put", disk, pair, "/etc/init"), (0, "", ""))
-        script = self.put("typed", b"run 60\ntype one\nrun 60\ntype two\nrun 60\n")
+        disk, script = self.readers()
         commands = ("until call write", "process", "ps", "core", "since state w of 1")
         status, out, error = self.look(disk, "1200", script, *[word for one in commands for word in ("-c", one)])
         self.assertEqual((status, error), (0, ""))
