@@ -63,14 +63,14 @@ def do(looker, command):
 
 
 def talk(looker):
-    """Commands from a terminal, after a prompt. An empty line is the last command again, and an interrupt ends a command."""
+    """Commands from a terminal, after a prompt. An empty line is the last command that was done again, and an interrupt ends a command."""
     import readline  # noqa: F401, since input() edits its line by it
 
-    command = "slot"
+    command, last = "slot", "slot"
     while not looker.is_over:
         try:
-            do(looker, command)
-            command = input(f"{looker.moment.slots}> ").strip() or command
+            last = command if do(looker, command) else last
+            command = input(f"{looker.moment.slots}> ").strip() or last
         except KeyboardInterrupt:
             command = ""
             print()

@@ -8,8 +8,8 @@ import itertools
 from callwords import call_at
 from moments import is_turn
 
-NEAR = 32  # moments that are looked at one by one
-PROBES, WIDER = 8, 4  # moments that are looked at in a stretch, and how much longer than the last a stretch is
+NEAR = 24  # moments that are looked at one by one
+PROBES, WIDER = 8, 8  # moments that are looked at in a stretch, and how much longer than the last a stretch is
 PARTS = 4  # of a stretch that is halved
 AT_ONCE = 16  # calls that are looked at together
 BLOCK = 4096  # lines of the log that are gone through together, backwards
