@@ -282,6 +282,21 @@ class Moves(unittest.TestCase):
         self.looker.lines_of("unwatch")
         self.assertEqual(self.looker.lines_of("watch"), ["no word is watched"])
 
+    def test_a_long_log(self):
+        """A tick in each slot from 2 on, and in slot 5,002 a fork before it: line 8 is the tick of slot 2, and line 5,008 the fork."""
+        ticks = [(slot, "tick u") for slot in range(2, 10002)]
+        lines = (*START, *ticks[:5000], (5002, "fork 1 2 at 38"), *ticks[5000:])
+        self.looker = looker_of(ByHand(20000, lines, self.held))
+        self.assertEqual([self.at("line 5007"), self.at("line 5009"), self.at("line 10008")], [5001, 5002, 10001])
+        self.assertEqual([self.at("last fork"), self.at("slot 20000", "last fork"), self.at("slot 3", "next fork")], [5002] * 3)
+        self.assertEqual(len(self.looker.lines_of("ps")), 4)
+        self.at("back")
+        self.assertEqual((len(self.looker.lines_of("ps")), self.looker.moment.lines), (3, 5007))
+        self.at("slot 9001")
+        self.assertEqual((len(self.looker.lines_of("ps")), self.looker.moment.lines), (4, 9008))
+        self.assertEqual(self.looker.lines_of("log 2"), ["   9007  tick u                  a tick in a program",
+                                                        "   9008  tick u                  a tick in a program"])
+
     def test_what_is_refused(self):
         """A line says why, and the moment stays."""
         self.at("slot 200")
