@@ -115,6 +115,23 @@ class Shown(unittest.TestCase):
             "  pending call: none", "  ticks: 7 in the program, 2 in the kernel; of its children 0 and 0", "  exit status: 0",
             "  signals: 2 ignored, 3 to 0100", "  file 0: open file 0", "  file 2: open file 2"])
 
+    def test_code_behind_other_words(self):
+        """Words before PC that are no instructions aren't shown: here 0, which is none of a program."""
+        text = words("004767 000004 104401 000000 010046 005000 000207")
+        held = placed((1, image((0,) * 7 + (0o14,), text=text)))
+        looker = looker_of(ByHand(9, START, lambda slots: held))
+        looker.lines_of("slot 5")
+        self.assertEqual(looker.lines_of("code")[0], "  000010 sub            010046                mov     r0,-(sp)")
+
+    def test_arguments(self):
+        """An argument of the bytes 0377 0377 is no end of the list of arguments. Where the list isn't there, there are none."""
+        for top, wanted in (("000002 177766 177772 177777 061057 000170 177777 000000 000000", 'arguments  "/bx" "\\377\\377"'),
+                            ("000003 177766 177772 177777 061057 000170 177777 000000 000000", "arguments  none at the top of the stack")):
+            held = placed((1, image((0,) * 8, stack=words(top))))
+            looker = looker_of(ByHand(9, START, lambda slots, held=held: held))
+            looker.lines_of("slot 5")
+            self.assertIn(wanted, looker.lines_of("process"))
+
     def test_names(self):
         """Without names in the program's file, or with a program whose words are others, there are addresses alone."""
         looker = self.looker(files=(("/etc/init", program(names=False)),))
@@ -200,7 +217,7 @@ class Moves(unittest.TestCase):
 
     def held(self, slots):
         value = (slots >= 1234567) + (slots >= 7654321)
-        pc = 8 if 5000000 <= slots < 6000000 else 0
+        pc = 10 if 5000000 <= slots < 6000000 else 0
         text = TEXT.ljust(32, b"\0") + struct.pack("<H", value)
         return placed((1, image((0,) * 7 + (pc,), text=text)), (38, image((0,) * 8)))
 
@@ -240,6 +257,14 @@ class Moves(unittest.TestCase):
         self.assertEqual(self.at("until state z of 2"), 9800000)
         self.assertEqual(self.at("since place swap of 2"), 9000000)
         self.assertEqual(self.at("since state rR of 2"), 100)
+        with self.assertRaisesRegex(LookError, "state R: not found behind slot 50"):  # it runs from slot 1 until its child does
+            self.at("slot 50", "until state R of 1")
+
+    def test_a_wakeup(self):
+        """A line about a process is also one that wakes it."""
+        lines = (*START, (2, "fork 1 2 at 38"), (2, "trap 1"), (3, "sleep 1 10 keys"), (3, "go 2"), (5, "trap 2"), (8, "wake keys"))
+        self.looker = looker_of(ByHand(20, lines, self.held))
+        self.assertEqual([self.at("slot 4", "next line of 1"), self.at("slot 4", "next line of 2")], [8, 5])
 
     def test_words(self):
         """The changes of a word, and a value of it, forwards and backwards, with few looks."""
@@ -261,7 +286,8 @@ class Moves(unittest.TestCase):
         """A name is all of its routine, up to the next name."""
         self.assertEqual(self.at("slot 1", "until pc sub"), 5000000)
         self.assertEqual(self.at("until pc start"), 6000000)
-        self.assertEqual(self.at("slot 10000000", "since pc 010"), 5000000)
+        self.assertEqual(self.at("slot 10000000", "since pc 012"), 5000000)
+        self.assertEqual(self.at("slot 10000000", "since pc 4 11"), 5000000)
 
     def test_calls(self):
         """A process stands at a call just before the slot in which it is made."""
