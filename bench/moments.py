@@ -79,7 +79,7 @@ class Wanted:
                     return held[address % 65536 - first]
             return None
 
-        found = [(byte(address), byte(address + 1)) for address in range(at, at + 2 * WORDS, 2)]
+        found = [(byte(address), byte(address + 1)) for address in range(at, min(at + 2 * WORDS, 65536), 2)]
         return [None if None in pair else pair[0] | pair[1] << 8 for pair in found]
 
     def area(self, slot):

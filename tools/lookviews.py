@@ -16,7 +16,23 @@ NO_IMAGE = "it has no image at this moment"
 
 
 def arguments_of(process):
-    """The arguments with which a program was executed, as ps(I) finds them at the top of the stack; none where they are no more."""
+    """The arguments with which a program was executed, at the top of the stack: by their list, or, where a program has written over
+    that, the texts behind its end, as ps(I) finds them."""
+    return listed_arguments(process) or texts_of(process)
+
+
+def texts_of(process):
+    """What is behind the end of a list of arguments, -1, where it is text to the top of the stack."""
+    for end in range(ADDRESSES - 2, ADDRESSES - TOP, -2):
+        if process.word(end) == 0o177777:
+            found = process.bytes(end + 2, ADDRESSES - end - 2).rstrip(b"\0")
+            if found and all(0o40 <= byte < 0o177 or not byte for byte in found):
+                return found.split(b"\0")
+    return []
+
+
+def listed_arguments(process):
+    """The arguments by their count, their addresses and the -1 behind these."""
     for end in range(ADDRESSES - 2, ADDRESSES - TOP - 2 * MOST_ARGUMENTS, -2):
         if process.word(end) != 0o177777:
             continue
@@ -190,8 +206,12 @@ class Views:
         for descriptor in range(FILES):
             entry = process.u[104 + descriptor]
             if entry:
-                others = [f"{other} of process {who}" for who, other in users.get(entry, []) if (who, other) != (number, descriptor)]
-                out.append(f"  file {descriptor}: open file {entry - 1}" + (f", as {', '.join(others)}" if others else ""))
+                others = {}
+                for who, other in users.get(entry, []):
+                    if (who, other) != (number, descriptor):
+                        others.setdefault(who, []).append(str(other))
+                told = "; ".join(f"{', '.join(files)} of process {who}" for who, files in others.items())
+                out.append(f"  file {descriptor}: open file {entry - 1}" + (f", as {told}" if told else ""))
         return out or ["  no open files"]
 
     # core and the swap area
@@ -223,13 +243,13 @@ class Views:
 
     def words(self, process, program, at, count):
         """Words of memory, eight a line, and their bytes as text."""
-        out = []
-        for start in range(at, at + 2 * count, 16):
-            addresses = range(start, min(start + 16, at + 2 * count), 2)
+        out, end = [], min(at + 2 * count, ADDRESSES)
+        for start in range(at, end, 16):
+            addresses = range(start, min(start + 16, end), 2)
             found = [process.word(address) for address in addresses]
             shown = " ".join("  --  " if one is None else f"{one:06o}" for one in found)
             text = "".join("  " if one is None else char(one & 255) + char(one >> 8) for one in found)
-            out.append(f"{start % ADDRESSES:06o} {self.name(program, start):14} {shown:55}  {text}".rstrip())
+            out.append(f"{start:06o} {self.name(program, start):14} {shown:55}  {text}".rstrip())
         return out
 
 

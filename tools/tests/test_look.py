@@ -124,8 +124,12 @@ class Shown(unittest.TestCase):
         self.assertEqual(looker.lines_of("code")[0], "  000010 sub            010046                mov     r0,-(sp)")
 
     def test_arguments(self):
-        """An argument of the bytes 0377 0377 is no end of the list of arguments. Where the list isn't there, there are none."""
-        for top, wanted in (("000002 177766 177772 177777 061057 000170 177777 000000 000000", 'arguments  "/bx" "\\377\\377"'),
+        """An argument of the bytes 0377 0377 is no end of the list of arguments. Where a program has written over the list, its texts
+        are behind the -1; where they aren't all text, there are none."""
+        for top, wanted in (("000106 000106 177777 071554 000000", 'arguments  "ls"'),
+                            ("000002 177760 177762 177777 000141 000142", 'arguments  "a" "b"'),
+                            ("000002 177774 177776 177777 000141 000142", 'arguments  "a" "b"'),
+                            ("000002 177766 177772 177777 061057 000170 177777 000000 000000", 'arguments  "/bx" "\\377\\377"'),
                             ("000003 177766 177772 177777 061057 000170 177777 000000 000000", "arguments  none at the top of the stack")):
             held = placed((1, image((0,) * 8, stack=words(top))))
             looker = looker_of(ByHand(9, START, lambda slots, held=held: held))
@@ -142,6 +146,7 @@ class Shown(unittest.TestCase):
             looker.lines_of("code sub")
         looker = self.looker()
         self.assertEqual(looker.lines_of("words sub 2"), ["000010 sub            010046 005000" + 44 * " " + "&..."])
+        self.assertEqual(len(looker.lines_of("words 65520 100")), 1)  # up to the last address
         self.assertEqual(looker.lines_of("words sp+2 1")[0][:28], "177760                000004")
         self.assertEqual(looker.lines_of("words 072 4")[0].split(), ["000072", "000000", "000000", "000000", "--", "......"])
 
@@ -183,16 +188,19 @@ class Shown(unittest.TestCase):
         self.assertEqual(looker.lines_of("swap")[:2], [" 4000 to  4001     2  text 0", " 4002 to  4006     5  process 1"])
 
     def test_ps(self):
-        """A parent that waits for its child, which is out of core, and a zombie."""
+        """A parent that waits for its child, which is out of core, and a zombie. Both have two descriptors of one open file."""
+        files = bytes((1, 5, 0, 5))
         lines = (*START, (2, "fork 1 2 swap 4001"), (2, "trap 1"), (3, "fork 1 3 swap 4006"), (3, "trap 1"), (4, "sleep 1 40 wait.1"),
                  (5, "go 3"), (5, "exit 3 swap 4000"))
-        looker = looker_of(ByHand(9, lines, lambda slots: placed((1, image((0,) * 8, more=((18, b"\5"),))), (4000, bytes(512)))))
+        looker = looker_of(ByHand(9, lines, lambda slots: placed(
+            (1, image((0,) * 8, more=((18, b"\5"), (104, files)))), (4001, image((0,) * 8, more=((104, files),))))))
         looker.lines_of("slot 9")
         self.assertEqual([line.split()[:9] for line in looker.lines_of("ps")[1:4]], [
             ["s", "0", "0", "0", "-", "-100", "-", "-", "-"], ["w", "1", "1", "0", "5", "40", "at", "1", "37"],
             ["o", "2", "2", "1", "0", "-", "swap", "4001", "37"]])
         self.assertIn("state      z: has ended, and its parent hasn't waited for it", looker.lines_of("process 3"))
         self.assertIn("left       half of its u area, in block 4000", looker.lines_of("process 3"))
+        self.assertIn("  file 1: open file 4, as 3 of process 1; 1, 3 of process 2", looker.lines_of("process 1"))
         with self.assertRaisesRegex(LookError, "process 3 has no memory in slot 9: it has ended"):
             looker.lines_of("words 0 of 3")
         with self.assertRaisesRegex(LookError, "process 0 has no memory in slot 9: the swapper has no image"):
