@@ -8,7 +8,8 @@ import itertools
 from callwords import call_at
 from moments import is_turn
 
-NEAR = 24  # moments that are looked at one by one
+NEAR, MOST_NEAR = 24, 512  # moments that are looked at one by one: the fewest, and the most
+WORK = 20_000_000  # slots that may be run for them, where they are more than the fewest
 PROBES, WIDER = 8, 8  # moments that are looked at in a stretch, and how much longer than the last a stretch is
 PARTS = 4  # of a stretch that is halved
 AT_ONCE = 16  # calls that are looked at together
@@ -162,10 +163,11 @@ class Search:
         return None
 
     def near(self):
-        here = self.moment.slots
+        here, last = self.moment.slots, self.history.last
+        near = max(NEAR, min(MOST_NEAR, WORK // (last + 1)))
         if self.forwards:
-            return here, min(here + NEAR, self.history.last)
-        return max(here - 1 - NEAR, 0), max(here - 1, 0)
+            return here, min(here + near, last)
+        return max(here - 1 - near, 0), max(here - 1, 0)
 
     def stretches(self, low, high):
         """Moments to be looked at, in stretches that become longer and longer."""

@@ -290,6 +290,13 @@ class Moves(unittest.TestCase):
         self.run_.held = lambda slots: placed((1, image((0,) * 8, text=TEXT.ljust(32, b"\0") + struct.pack("<H", slots % 7 == 3))))
         self.assertEqual([self.at("slot 11", "until word 040"), self.at("until word 040"), self.at("since word 040 1")], [17, 18, 17])
 
+    def test_short_runs(self):
+        """In a short run the nearest 512 slots are looked at one by one: a word that is 1 in slot 500 alone is found from slot 0 on."""
+        text = TEXT.ljust(32, b"\0")
+        self.looker = looker_of(ByHand(30000, START, lambda slots: placed(
+            (1, image((0,) * 8, text=text + struct.pack("<H", slots in (500, 29000)))))))
+        self.assertEqual([self.at("slot 1", "until word 040 1"), self.at("slot 29400", "since word 040 1")], [500, 29000])
+
     def test_pc(self):
         """A name is all of its routine, up to the next name."""
         self.assertEqual(self.at("slot 1", "until pc sub"), 5000000)
