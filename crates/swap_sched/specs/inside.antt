@@ -1,0 +1,3 @@
+-- What contracts inside the crate speak of.
+pub mod Searches
+pub mod Does
