@@ -173,14 +173,61 @@ fn fill(all: &mut [u8], at: usize, n: usize)
     all[at..at + n].fill(0);
 }
 
-/// Puts `n` bytes to another place.
+/// The `n` bytes from a place on.
+#[tactic(auto, unfolding(crate::specs::Bytes::part))]
+fn piece(all: &[u8], at: usize, n: usize) -> &[u8]
+    requires { at + n ≤ length all.now }
+    ensures { result.now ≡ part all.now at n }
+{
+    &all[at..at + n]
+}
+
+/// Puts `n` bytes to a place behind them.
+#[tactic(auto, using(crate::proofs::Parts::apart))]
+fn copy_up(all: &mut [u8], from: usize, to: usize, n: usize)
+    requires apart { from + n ≤ to }
+    requires to { to + n ≤ length all.old }
+    ensures { all.new ≡ over all.old to (part all.old from n) }
+{
+    let (low, high) = all.split_at_mut(to);
+    write(high, 0, piece(low, from, n));
+}
+
+/// Puts `n` bytes to a place before them.
+#[tactic(auto, using(crate::proofs::Parts::apart))]
+fn copy_down(all: &mut [u8], from: usize, to: usize, n: usize)
+    requires apart { to + n ≤ from }
+    requires from { from + n ≤ length all.old }
+    ensures { all.new ≡ over all.old to (part all.old from n) }
+{
+    let (low, high) = all.split_at_mut(from);
+    write(low, to, piece(high, 0, n));
+}
+
+/// Puts `n` bytes to a place where they overlap.
 #[tactic(auto, unfolding(crate::specs::Bytes::over, crate::specs::Bytes::part))]
-fn shift(all: &mut [u8], from: usize, to: usize, n: usize)
+fn copy_over(all: &mut [u8], from: usize, to: usize, n: usize)
     requires from { from + n ≤ length all.old }
     requires to { to + n ≤ length all.old }
     ensures { all.new ≡ over all.old to (part all.old from n) }
 {
     all.copy_within(from..from + n, to);
+}
+
+/// Puts `n` bytes to another place, or leaves them where they are.
+#[tactic(auto, using(crate::proofs::Parts::stays))]
+fn shift(all: &mut [u8], from: usize, to: usize, n: usize)
+    requires from { from + n ≤ length all.old }
+    requires to { to + n ≤ length all.old }
+    ensures { all.new ≡ over all.old to (part all.old from n) }
+{
+    if from + n <= to {
+        copy_up(all, from, to, n);
+    } else if to + n <= from {
+        copy_down(all, from, to, n);
+    } else if from != to {
+        copy_over(all, from, to, n);
+    }
 }
 
 /// So many zeros.
