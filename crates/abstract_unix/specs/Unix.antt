@@ -40,14 +40,6 @@ pub data Phase : Type 0 where
   Stopped : Phase  -- it has come to what isn't built, and takes no event any more
   Finished : Phase  -- all that has changed is on the disk
 
--- A system, the blocks that it reads and writes, and how far its run has come. `stored` is what its disk has of the
--- blocks.
-pub record SystemOnDisk : Type 0 where
-  pub system : System
-  pub blocks : List (List ℕ)
-  pub stored : List (List ℕ)
-  pub phase : Phase
-
 abbrev pub process_at : Unix → ℕ → Option Process
 process_at u slot = slice_index_or u.processes slot None
 

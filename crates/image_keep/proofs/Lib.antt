@@ -45,3 +45,4 @@ pub mod WordsRead
 pub mod RunsRead
 pub mod Lent
 pub mod Vacant
+pub mod Registers

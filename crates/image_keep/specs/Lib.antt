@@ -16,5 +16,6 @@ pub mod Told
 pub mod Inside
 pub mod SharedTexts
 pub mod Starts
+pub mod Running
 pub mod Holds
 pub mod Leaves

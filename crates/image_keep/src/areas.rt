@@ -2,6 +2,7 @@
 ghost use Rattle.std.specs.Prelude.{◌≡◌, ◌<◌, length, slice_set};
 ghost use Rattle.image_keep.specs.Areas.{area_at, textless_area};
 ghost use Rattle.image_keep.specs.Growth.{area_resized};
+ghost use Rattle.image_keep.specs.Running.{with_state};
 
 use u_area::UArea;
 
@@ -14,6 +15,15 @@ pub(crate) fn area_at(areas: &[UArea], s: usize) -> UArea
     areas[s]
 }
 
+/// The same where it stands.
+#[inline(always)]
+pub(crate) fn area_ref(areas: &[UArea], s: usize) -> &UArea
+    requires { s < length areas.now }
+    ensures { result.now ≡ area_at areas.now s }
+{
+    &areas[s]
+}
+
 /// Gives a slot's image another u area.
 pub(crate) fn put_area(areas: &mut [UArea], s: usize, u: &UArea)
     requires { s < length areas.old }
@@ -21,6 +31,19 @@ pub(crate) fn put_area(areas: &mut [UArea], s: usize, u: &UArea)
     ensures long { length areas.new ≡ length areas.old }
 {
     areas[s] = *u;
+}
+
+/// Puts registers and condition codes into a slot's u area.
+#[inline(always)]
+pub(crate) fn put_state(areas: &mut [UArea], s: usize, r: &[u16; 8], cc: u8)
+    requires slot { s < length areas.old }
+    requires codes { cc < 16 }
+    ensures areas { areas.new ≡ slice_set areas.old s (with_state (area_at areas.old s) r.now cc) }
+    ensures long { length areas.new ≡ length areas.old }
+{
+    let u = &mut areas[s];
+    u.r = *r;
+    u.cc = cc;
 }
 
 /// Gives a slot's image the u area of another one.

@@ -149,10 +149,9 @@ impl Images {
     {
         self.memory.see_bytes();
         let row = row_of(&self.rows, s as usize);
-        let mut bytes = [0; 1024];
-        u.store(&mut bytes);
+        let front = u.front();
         let at = place_click(self.core, place_of(row));
-        self.memory.put(64 * at, &bytes);
+        self.memory.put(64 * at, &front);
         put_area(&mut self.areas, s as usize, u);
     }
 

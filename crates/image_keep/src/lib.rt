@@ -17,6 +17,7 @@ mod memory;
 mod parts;
 mod rooms;
 mod row;
+mod running;
 mod runs;
 mod starts;
 mod swapping;
@@ -24,5 +25,6 @@ mod texts;
 
 pub use images::{Images, NoSwap};
 pub use loan::SpaceOf;
+pub use running::Fixed;
 pub use swapping::NoCore;
 pub use texts::TextRefusal;

@@ -2,9 +2,11 @@
 ghost use Rattle.std.specs.Prelude.{◌≡◌, true};
 ghost use Rattle.v6_base.specs.Image.{IsImage};
 ghost use Rattle.image_keep.specs.Kept.{image_of, HasImage};
+ghost use Rattle.image_keep.specs.Running.{IsFixed};
 ghost use Rattle.image_keep.specs.Starts.{AreStarts};
 
 use crate::images::Images;
+use crate::running::Fixed;
 use crate::starts::Starts;
 use v6_base::{Slot, Space, Trap};
 
@@ -21,18 +23,29 @@ pub struct SpaceOf<'a> {
 
 impl Images {
     /// The memory of the process in a slot, which has an image.
-    #[inline(always)]
     pub fn space(&mut self, s: Slot) -> SpaceOf<'_>
         requires { HasImage self.old s }
         ensures images { result.images.now ≡ self.entry.now }
         ensures loan { result.images.ghost_name ≡ self.entry.ghost_name }
         ensures slot { result.slot ≡ s }
     {
-        let starts = self.starts(s);
+        let fixed = self.fixed(s);
+        self.space_at(&fixed)
+    }
+
+    /// The memory of the process of which this is fixed.
+    #[inline(always)]
+    pub fn space_at(&mut self, fixed: &Fixed) -> SpaceOf<'_>
+        requires { IsFixed self.old fixed.now }
+        ensures images { result.images.now ≡ self.entry.now }
+        ensures loan { result.images.ghost_name ≡ self.entry.ghost_name }
+        ensures slot { result.slot ≡ fixed.now.slot }
+    {
+        self.see_kept();
         SpaceOf {
             images: self,
-            slot: s as usize,
-            starts,
+            slot: fixed.slot as usize,
+            starts: fixed.starts,
         }
     }
 }

@@ -101,7 +101,7 @@ fn word_in(all: &[u8], at: usize) -> u16
 
 /// Each byte is below 256.
 #[inline(always)]
-fn see_bytes(bytes: &[u8])
+pub(crate) fn see_bytes(bytes: &[u8])
     ensures { AreBytes bytes.now }
 {
     let _ = bytes;

@@ -11,14 +11,14 @@ use map_fit::Holes;
 use v6_base::Slot;
 
 /// Whether so many units are free in one piece.
-fn is_room_in(map: &mut Holes, n: u16) -> bool
-    ensures some { 0 < n → (taken : List Range) (first last : ℕ) → IsMap map.old taken first last → result ≡ is_some (first_fit taken first last n) }
+fn is_room_in(map: &Holes, n: u16) -> bool
+    ensures some { 0 < n → (taken : List Range) (first last : ℕ) → IsMap map.now taken first last → result ≡ is_some (first_fit taken first last n) }
     ensures none { n ≡ 0 → result ≡ true }
 {
     if n == 0 {
         return true;
     }
-    map.take(n).is_some()
+    map.fits(n)
 }
 
 impl Images {
@@ -26,8 +26,7 @@ impl Images {
     pub fn has_room(&self, clicks: u16) -> bool
         ensures { result ≡ is_some (core_fit self.now clicks) }
     {
-        let mut map = self.core_map.copy();
-        is_room_in(&mut map, clicks)
+        is_room_in(&self.core_map, clicks)
     }
 
     /// Whether so many clicks of core would be free in one piece without a slot's image. Nothing changes.
@@ -42,6 +41,6 @@ impl Images {
         let mut core_map = self.core_map.copy();
         let mut swap_map = self.swap_map.copy();
         give_back(&mut core_map, &mut swap_map, row);
-        is_room_in(&mut core_map, clicks)
+        is_room_in(&core_map, clicks)
     }
 }

@@ -1,9 +1,8 @@
 -- The u area of the process that runs is another one, which names the same files and the same directory.
-use Rattle.std.proofs.Common.{◌≡◌, ◌<◌, ◌%◌, ℕ, List, refl, arith}
+use Rattle.std.proofs.Common.{◌≡◌, ◌<◌, ℕ, List, refl}
 use Rattle.u_area.specs.declared.area.UArea.{UArea}
 use Rattle.u_area.proofs.AreaLemmas.{one_area}
 use Rattle.image_keep.specs.Kept.{with_area, area_of}
-use Rattle.sys_procs.specs.Process.{with_state}
 use Rattle.sys_procs.proofs.Alive.{area_here}
 use Rattle.unix_core.specs.declared.world.World.{World}
 use Rattle.abstract_unix.specs.Unix.{process_of, with_process}
@@ -12,11 +11,6 @@ use Rattle.unix_core.proofs.WorldLemmas.{ready_alive}
 use Rattle.unix_core.proofs.PutLemmas.{IsLikeArea, with_images, unix_put, board_put, good_put}
 
 -- An area has its codes, whichever proof says that they are four bits.
-pub state_is : (u : UArea) (r : List ℕ) (cc : ℕ) (codes : cc < 16) → record u { r = r; cc = cc; codes = codes } ≡ with_state u r cc
-state_is u r cc codes =
-    let same : cc ≡ cc % 16 = omega arith in
-    one_area (record u { r = r; cc = cc; codes = codes }) (with_state u r cc) refl same refl refl refl refl refl refl refl refl refl refl refl refl refl refl refl refl refl
-
 pub given_is : (u : UArea) (r : List ℕ) (codes : u.cc < 16) → ◌≡◌ {A = UArea} (record u { r = r; codes = codes }) (record u { r = r })
 given_is u r codes =
     one_area (record u { r = r; codes = codes }) (record u { r = r }) refl refl refl refl refl refl refl refl refl refl refl refl refl refl refl refl refl refl refl

@@ -29,7 +29,6 @@ use Rattle.unix_core.specs.declared.machine.Stage.TheVariants as stage
 use Rattle.abstract_unix.specs.Unix.{no_texts}
 use Rattle.abstract_unix.specs.References.{is_text_of}
 use Rattle.abstract_unix.specs.Runs.{first_process, first_unix, system_with}
-use Rattle.pdp_step.specs.declared.regs.Regs.{Regs}
 use Rattle.unix_core.specs.Parts.{unix_of, system_at, first_held, IsGood, IsKernel}
 use Rattle.unix_core.proofs.GoodLemmas.{texts_none, owed_so}
 use Rattle.abstract_unix.specs.Whole.{Told, told_of, told_in, names, stands, all_names, all_stand, refer, Owes}
@@ -260,7 +259,7 @@ module _ (fs : FileSystem) (core : ℕ) (referred : (ino : ℕ) → slice_index 
     resting = λ e. absurd (cc e);
   }
 
-  pub first_system : (regs : Regs) → system_at stage.New regs w ≡ system_with fs.store core
-  first_system regs =
+  pub first_system : system_at w ≡ system_with fs.store core
+  first_system =
       (λ i. record { unix = unix_is i; board = board_of (slots i) (images i) })
       ∙ ap (λ texts. record { unix = first_unix fs.store core; board = record (first_board core fs.store.stamp) { texts = texts } }) no_places

@@ -5,39 +5,28 @@ use Rattle.v6_base.specs.declared.entry.Entry.TheVariants.{Boot}
 use Rattle.v6_base.proofs.Took.{took_then}
 use Rattle.fs_laws.specs.Numbers.{synced}
 use Rattle.fs_nodes.specs.FileSystem.{FileSystem}
-use Rattle.pdp_step.specs.declared.regs.Regs.{Regs}
 use Rattle.unix_core.specs.declared.world.World.{World}
 use Rattle.unix_core.specs.declared.machine.Stage.{Stage}
 use Rattle.unix_core.specs.declared.machine.Stage.TheVariants as stage
 use Rattle.abstract_unix.specs.Unix.{Unix, New, Started}
 use Rattle.abstract_unix.specs.Turn.{pass_of, settled_after}
 use Rattle.abstract_unix.specs.Runs.{start_of, event_of, Switch, finished}
-use Rattle.unix_core.specs.Parts.{unix_of, board_in, with_regs, system_at, phase_of, IsGood, IsUser, IsKernel}
+use Rattle.unix_core.specs.Parts.{unix_of, board_in, system_at, phase_of, IsGood, IsUser, IsKernel}
 
 pub kernel_good : (at : Stage) (w : World) → phase_of at ≡ Started → IsKernel at w → IsGood w
 kernel_good stage.New w started kernel = kernel.new refl
-kernel_good (stage.Running s) w started kernel = (kernel.running s refl).ready.good
+kernel_good (stage.Running f) w started kernel = (kernel.running f refl).user.ready.good
 kernel_good stage.Resting w started kernel = (kernel.resting refl).good
 kernel_good stage.Stopped w started kernel = absurd (cc started)
 kernel_good stage.Finished w started kernel = absurd (cc started)
 
--- The registers that stand apart tell of nothing but the process.
-regs_time : (at : Stage) (regs : Regs) (u : Unix) → (with_regs at regs u).clock.time ≡ u.clock.time
-regs_time (stage.Running s) regs u = refl
-regs_time at regs u = refl
-
-pub regs_store : (at : Stage) (regs : Regs) (u : Unix) → (with_regs at regs u).store ≡ u.store
-regs_store (stage.Running s) regs u = refl
-regs_store at regs u = refl
-
 -- The first line of the log tells of core and of the time.
-pub start_items : (at : Stage) (regs : Regs) (w : World) → IsGood w → (a b c : Taken) → Took a (Log (Boot w.core w.procs.table.now) ∷ []) b
-    → Took b (settled_after (pass_of (system_at at regs w))).items c → Took a (start_of (system_at at regs w)).items c
-start_items at regs w good a b c first second =
+pub start_items : (w : World) → IsGood w → (a b c : Taken) → Took a (Log (Boot w.core w.procs.table.now) ∷ []) b
+    → Took b (settled_after (pass_of (system_at w))).items c → Took a (start_of (system_at w)).items c
+start_items w good a b c first second =
     let core = good.core in
-    let time = regs_time at regs (unix_of w) in
-    took_then a b c (Log (Boot w.core w.procs.table.now) ∷ []) (settled_after (pass_of (system_at at regs w))).items (start_of (system_at at regs w)).items first second
-    (λ i. Log (Boot (core i) (sym time i)) ∷ (settled_after (pass_of (system_at at regs w))).items)
+    took_then a b c (Log (Boot w.core w.procs.table.now) ∷ []) (settled_after (pass_of (system_at w))).items (start_of (system_at w)).items first second
+    (λ i. Log (Boot (core i) w.procs.table.now) ∷ (settled_after (pass_of (system_at w))).items)
 
 -- Nothing of the parts but the Unix itself knows of the switches.
 module _ (w : World) (word : ℕ) where
@@ -65,7 +54,7 @@ module _ (w : World) (word : ℕ) where
   pub switched_kernel : (at : Stage) → IsKernel at w → IsKernel at switched
   switched_kernel at kernel = record {
     new = λ e. switched_good (kernel.new e);
-    running = λ s e. switched_user s (kernel.running s e);
+    running = λ f e. let was = kernel.running f e in record { user = switched_user f.slot was.user; fixed = was.fixed };
     resting = λ e. let was = kernel.resting e in record {
       good = switched_good was.good;
       settled = was.settled;
@@ -74,17 +63,16 @@ module _ (w : World) (word : ℕ) where
     };
   }
 
-  pub switched_system : (at : Stage) (regs : Regs) → system_at at regs switched ≡ (event_of (Switch word) (system_at at regs w)).next
-  switched_system (stage.Running s) regs = refl
-  switched_system at regs = refl
+  pub switched_system : system_at switched ≡ (event_of (Switch word) (system_at w)).next
+  switched_system = refl
 
 -- All is on the disk: the file system is this one.
 module _ (w : World) (new : FileSystem) (store : new.store ≡ synced w.files.tree.nodes.store w.procs.table.now) where
   abbrev pub updated : World
   updated = record w { files = record w.files { tree = record w.files.tree { nodes = new } } }
 
-  pub updated_system : (regs : Regs) → system_at stage.Finished regs updated ≡ finished (system_at stage.Finished regs w)
-  updated_system regs =
+  pub updated_system : system_at updated ≡ finished (system_at w)
+  updated_system =
       ap (λ s. record { unix = record (unix_of w) { store = s }; board = board_in w }) store
 
 -- A run that is finished keeps nothing together but its files.
@@ -94,7 +82,7 @@ finished_kernel w = record { new = λ e. absurd (cc e); running = λ s e. absurd
 -- the stage of a run that hasn't been started
 pub new_stage : (at : Stage) → phase_of at ≡ New → at ≡ stage.New
 new_stage stage.New is = refl
-new_stage (stage.Running s) is = absurd (cc is)
+new_stage (stage.Running f) is = absurd (cc is)
 new_stage stage.Resting is = absurd (cc is)
 new_stage stage.Stopped is = absurd (cc is)
 new_stage stage.Finished is = absurd (cc is)

@@ -14,7 +14,6 @@ use Rattle.pick_rules.specs.Sleepers.{sleep_stat, runin_told, asleep, flagged, f
 use Rattle.pick_rules.specs.Board.{Board}
 use Rattle.pick_rules.specs.Logged.{logged}
 use Rattle.pick_rules.proofs.Laws.{sleep_now, sleep_ticks, sleep_tout, sleep_running}
-use Rattle.pdp_step.specs.declared.regs.Regs.{Regs}
 use Rattle.image_keep.specs.Kept.{Kept, HasImage, keeping}
 use Rattle.proc_tab.specs.Processes.{Processes, member_at}
 use Rattle.sys_procs.specs.World.{clock_of}
@@ -32,7 +31,7 @@ use Rattle.abstract_unix.specs.Unix.{Unix, System, Started}
 use Rattle.unix_core.specs.Passing.{trapped, ended_table}
 use Rattle.abstract_unix.specs.Endings.{is_early}
 use Rattle.abstract_unix.specs.Turn.{Turn, end_effects, ending_at, settled, settled_after, turned_by, turned}
-use Rattle.unix_core.specs.Parts.{unix_of, board_in, system_at, turn_end, phase_of, is_over, IsGood, IsRested, IsKernel, Takes}
+use Rattle.unix_core.specs.Parts.{unix_of, board_in, system_at, turn_end, phase_of, is_over, IsGood, IsKernel, Takes}
 use Rattle.unix_core.proofs.TableLemmas.{RunsImage, with_table, good_table}
 use Rattle.unix_core.proofs.TickLemmas.{trapped_like, runin_like}
 
@@ -137,18 +136,16 @@ ended_clock t s ending.NotBuilt = refl
 
 module _ (w : World) (good : IsGood w) (s : ℕ) (above : 0 < s) (low : s < 50) (e : Ending) (runs : e ≢ ending.Ended → w.procs.table.running ≡ Some s)
     (t : Table) (is : t ≡ ended_table w.procs.table s e) (table : IsTable t) where
-  pub ended_rested : IsRested stage.Resting (with_table w t)
-  ended_rested = record {
-    resting = refl;
-    good = good_table w t
-        (ended_agree w.procs.rows w.procs.images w.procs.table s good.agree above low t e is table (λ alive. good.running s (runs alive) above))
-        (ended_image w.procs.images w.procs.table t s e is good.running) good;
-  }
+  pub ended_good : IsGood (with_table w t)
+  ended_good =
+      good_table w t
+      (ended_agree w.procs.rows w.procs.images w.procs.table s good.agree above low t e is table (λ alive. good.running s (runs alive) above))
+      (ended_image w.procs.images w.procs.table t s e is good.running) good
 
-  pub ended_system : (regs : Regs) (b : Board) → board_in (with_table w t) ≡ b → (now : System)
-      → now ≡ record (system_at stage.Resting regs (with_table w t)) { board = (settled (board_in (with_table w t))).board }
+  pub ended_system : (b : Board) → board_in (with_table w t) ≡ b → (now : System)
+      → now ≡ record (system_at (with_table w t)) { board = (settled (board_in (with_table w t))).board }
       → now ≡ record { unix = unix_of w; board = (settled b).board }
-  ended_system regs b board now final =
+  ended_system b board now final =
       let clock : clock_of t ≡ clock_of w.procs.table = ap clock_of is ∙ ended_clock w.procs.table s e in
       final ∙ (λ i. record { unix = record (unix_of w) { clock = clock i }; board = (settled (board i)).board })
 
@@ -158,13 +155,13 @@ module _ (w : World) (good : IsGood w) (s : ℕ) (above : 0 < s) (low : s < 50) 
         ≡ turn_end w s pc e
     ended_is = ap (λ o. settled_after (record { unix = unix_of w; log = logged (board_in w) (end_effects s e); is_idle = false; ending = o })) (sym goes)
 
-    pub ended_takes : (at : Stage) (regs old : Regs) (v : World) → IsKernel at v → phase_of at ≡ Started
+    pub ended_takes : (at : Stage) (v : World) → IsKernel at v → phase_of at ≡ Started
         → board_in (with_table w t) ≡ (logged {W = Unix} (board_in w) (end_effects s e)).board
-        → system_at at regs v ≡ record (system_at stage.Resting old (with_table w t)) { board = (settled (board_in (with_table w t))).board }
-        → Takes (turn_end w s pc e) at regs v
-    ended_takes at regs old v kernel started board final =
-        subst (λ (x : Turn). Takes x at regs v) ended_is
-        (record { kernel = kernel; system = ended_system old _ board (system_at at regs v) final; phase = started })
+        → system_at v ≡ record (system_at (with_table w t)) { board = (settled (board_in (with_table w t))).board }
+        → Takes (turn_end w s pc e) at v
+    ended_takes at v kernel started board final =
+        subst (λ (x : Turn). Takes x at v) ended_is
+        (record { kernel = kernel; system = ended_system _ board (system_at v) final; phase = started })
 
     pub ended_items : (a b c : Taken) → board_in (with_table w t) ≡ (logged {W = Unix} (board_in w) (end_effects s e)).board
         → Took a (logged {W = Unix} (board_in w) (end_effects s e)).items b → Took b (settled (board_in (with_table w t))).items c
@@ -178,13 +175,13 @@ pub stopped_kernel : (w : World) → IsKernel stage.Stopped w
 stopped_kernel w = record { new = λ f. absurd (cc f); running = λ s f. absurd (cc f); resting = λ f. absurd (cc f) }
 
 module _ (w : World) (s pc : ℕ) where
-  pub stopped_takes : (e : Ending) → is_early (ending_at pc e) ≡ true → (regs : Regs) → Takes (turn_end w s pc e) stage.Stopped regs w
-  stopped_takes ending.Next f regs = absurd (cc f)
-  stopped_takes ending.Trapped f regs = absurd (cc f)
-  stopped_takes (ending.Slept pri chan) f regs = absurd (cc f)
-  stopped_takes ending.Ended f regs = absurd (cc f)
-  stopped_takes ending.NoRoom f regs = record { kernel = stopped_kernel w; system = refl; phase = refl }
-  stopped_takes ending.NotBuilt f regs = record { kernel = stopped_kernel w; system = refl; phase = refl }
+  pub stopped_takes : (e : Ending) → is_early (ending_at pc e) ≡ true → Takes (turn_end w s pc e) stage.Stopped w
+  stopped_takes ending.Next f = absurd (cc f)
+  stopped_takes ending.Trapped f = absurd (cc f)
+  stopped_takes (ending.Slept pri chan) f = absurd (cc f)
+  stopped_takes ending.Ended f = absurd (cc f)
+  stopped_takes ending.NoRoom f = record { kernel = stopped_kernel w; system = refl; phase = refl }
+  stopped_takes ending.NotBuilt f = record { kernel = stopped_kernel w; system = refl; phase = refl }
 
   pub stopped_items : (e : Ending) → is_early (ending_at pc e) ≡ true → (turn_end w s pc e).items ≡ []
   stopped_items ending.Next f = absurd (cc f)

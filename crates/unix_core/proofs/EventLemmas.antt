@@ -17,7 +17,6 @@ use Rattle.pick_rules.specs.Logged.{Logged, logged, left_by, board_after}
 use Rattle.pick_rules.proofs.Laws.{wakeup_kept}
 use Rattle.tty_line.specs.Terminal.{Terminal}
 use Rattle.tty_line.specs.Input.{typed}
-use Rattle.pdp_step.specs.declared.regs.Regs.{Regs}
 use Rattle.image_keep.specs.Kept.{Kept}
 use Rattle.proc_tab.specs.Processes.{Processes}
 use Rattle.sys_procs.specs.World.{clock_of}
@@ -25,17 +24,15 @@ use Rattle.sys_procs.specs.Agree as kind
 use Rattle.sys_procs.specs.Agree.{Agree, board_of}
 use Rattle.sys_procs.proofs.Agreement.{AreLike, agree_like, tables_same, wakeup_like}
 use Rattle.unix_core.specs.declared.world.World.{World}
-use Rattle.unix_core.specs.declared.machine.Stage.{Stage}
 use Rattle.abstract_unix.specs.Unix.{Unix, System}
 use Rattle.unix_core.specs.Passing.{called_table}
 use Rattle.abstract_unix.specs.Turn.{Happened, happens, settled, settled_after, pass_effects, pass_of}
 use Rattle.abstract_unix.specs.Outside as outside
 use Rattle.abstract_unix.specs.Outside.{wakes, typed_of}
-use Rattle.unix_core.specs.Parts.{unix_of, board_in, with_regs, system_at, IsRested}
+use Rattle.unix_core.specs.Parts.{unix_of, board_in, system_at, IsGood}
 use Rattle.unix_core.proofs.BoardLemmas.{logged_line}
 use Rattle.unix_core.proofs.LoggedLemmas.{after_items, logged_shown, logged_after}
-use Rattle.unix_core.proofs.MachineLemmas.{rested_unix, some_good}
-use Rattle.unix_core.proofs.TableLemmas.{RunsImage, with_table, rested_table, table_system}
+use Rattle.unix_core.proofs.TableLemmas.{RunsImage, with_table, good_table, table_system}
 
 -- An event has left this Unix and this log, and the kernel has settled.
 module _ (was now : System) (u : Unix) (l : Logged Unix) (stop : l.stop ≡ None) (is : was ≡ record { unix = u; board = l.board }) where
@@ -125,34 +122,30 @@ bytes_logged b bytes es =
     ∙ ap (λ x. after_items (sent 0 bytes) (logged x es)) (ap (λ (l : Logged Unix). l.board) (logged_shown b (sent 0 bytes)) ∙ bytes_board b bytes)
 
 -- A byte is typed.
-module _ (at : Stage) (regs : Regs) (w : World) (byte : ℕ) (rested : IsRested at w) (line : Terminal) (line_is : line ≡ (typed w.files.line byte).terminal) where
+module _ (w : World) (byte : ℕ) (was : IsGood w) (line : Terminal) (line_is : line ≡ (typed w.files.line byte).terminal) where
   abbrev w1 : World
   w1 = record w { files = record w.files { line = line } }
 
-  pub typed_rested : IsRested at w1
-  typed_rested = record {
-    resting = rested.resting;
-    good = let good = rested.good in record {
-      agree = good.agree;
-      in_core = good.in_core;
-      running = good.running;
-      owed = good.owed;
-      marks = good.marks;
-      rooms = good.rooms;
-      core = good.core;
-    };
+  pub typed_good : IsGood w1
+  typed_good = record {
+    agree = was.agree;
+    in_core = was.in_core;
+    running = was.running;
+    owed = was.owed;
+    marks = was.marks;
+    rooms = was.rooms;
+    core = was.core;
   }
 
   module _ (called : Bool) (called_is : called ≡ outside.calls (typed w.files.line byte).keyed) (t : Table) (table_is : t ≡ called_table called Keys w.procs.table) (good : IsTable t)
       (board_is : board_of t w.procs.images ≡ (logged {W = Unix} (board_in w) (wakes called Keys)).board) where
-    pub typed_woken : IsRested at (with_table w1 t)
+    pub typed_woken : IsGood (with_table w1 t)
     typed_woken =
-        let was = (some_good at w rested) in
-        rested_table w1 t (called_agree w.procs.rows w.procs.images w.procs.table t called Keys table_is good was.agree)
-        (called_image w.procs.images w.procs.table t called Keys table_is was.running) at typed_rested
+        good_table w1 t (called_agree w.procs.rows w.procs.images w.procs.table t called Keys table_is good was.agree)
+        (called_image w.procs.images w.procs.table t called Keys table_is was.running) typed_good
 
     abbrev m : System
-    m = system_at at regs w
+    m = system_at w
 
     abbrev shown : List ℕ
     shown = (typed w.files.line byte).shown
@@ -166,58 +159,46 @@ module _ (at : Stage) (regs : Regs) (w : World) (byte : ℕ) (rested : IsRested 
     typed_stop : l.stop ≡ None
     typed_stop = ap (λ (x : Logged Unix). x.stop) l_is ∙ wakes_stop (board_in w) called Keys
 
-    typed_is : system_at at regs (with_table w1 t) ≡ record { unix = record m.unix { line = (typed w.files.line byte).terminal }; board = l.board }
+    typed_is : system_at (with_table w1 t) ≡ record { unix = record m.unix { line = (typed w.files.line byte).terminal }; board = l.board }
     typed_is =
         let clock : clock_of t ≡ clock_of w.procs.table = ap clock_of table_is ∙ called_clock w.procs.table called Keys in
-        let unix : with_regs at regs (unix_of (with_table w1 t)) ≡ record m.unix { line = (typed w.files.line byte).terminal } =
-        rested_unix at regs (with_table w1 t) typed_woken
-        ∙ (λ i. record (unix_of w) { line = line_is i; clock = clock i })
-        ∙ ap (λ (u : Unix). record u { line = (typed w.files.line byte).terminal }) (sym (rested_unix at regs w rested)) in
+        let unix : unix_of (with_table w1 t) ≡ record m.unix { line = (typed w.files.line byte).terminal } = λ i. record (unix_of w) { line = line_is i; clock = clock i } in
         let board : board_of t w.procs.images ≡ l.board = board_is ∙ ap (λ (x : Logged Unix). x.board) (sym l_is) in
         λ i. record { unix = unix i; board = board i }
 
-    abbrev turn_by : Terminal → Happened
-    turn_by line = happens (record m.unix { line = (typed line byte).terminal })
-        (logged m.board (map Show (sent 0 (typed line byte).shown) ++ wakes (outside.calls (typed line byte).keyed) Keys))
-
-    turn_is : turn_by w.files.line ≡ typed_of m byte
-    turn_is = ap turn_by (sym (ap (λ (u : Unix). u.line) (rested_unix at regs w rested)))
-
-    pub typed_next : (now : System) → now ≡ record (system_at at regs (with_table w1 t)) { board = (settled (board_in (with_table w1 t))).board }
+    pub typed_next : (now : System) → now ≡ record (system_at (with_table w1 t)) { board = (settled (board_in (with_table w1 t))).board }
         → now ≡ (settled_after (typed_of m byte)).next
     typed_next now final =
-        settles_next (system_at at regs (with_table w1 t)) now (record m.unix { line = (typed w.files.line byte).terminal }) l typed_stop typed_is final
-        ∙ ap (λ x. (settled_after x).next) turn_is
+        settles_next (system_at (with_table w1 t)) now (record m.unix { line = (typed w.files.line byte).terminal }) l typed_stop typed_is final
 
     pub typed_items : (n : System) → m ≡ n → (a b c d : Taken) → Took a (sent 0 shown) b → Took b (logged {W = Unix} (board_in w) (wakes called Keys)).items c
         → Took c (settled (board_in (with_table w1 t))).items d → Took a (settled_after (typed_of n byte)).items d
     typed_items n same a b c d one two three =
-        subst (λ x. Took a (settled_after x).items d) (turn_is ∙ ap (λ x. typed_of x byte) same)
-        (settles_items (system_at at regs (with_table w1 t)) (system_at at regs (with_table w1 t)) (record m.unix { line = (typed w.files.line byte).terminal }) l typed_stop typed_is a c d
+        subst (λ x. Took a (settled_after (typed_of x byte)).items d) same
+        (settles_items (system_at (with_table w1 t)) (system_at (with_table w1 t)) (record m.unix { line = (typed w.files.line byte).terminal }) l typed_stop typed_is a c d
         (took_then a b c (sent 0 shown) (logged {W = Unix} (board_in w) (wakes called Keys)).items l.items one two (ap (λ (x : Logged Unix). x.items) (sym l_is))) three)
 
 -- The pass of the swapper.
-module _ (at : Stage) (regs : Regs) (w : World) (rested : IsRested at w) (t : Table) (table_is : t ≡ fall_asleep w.procs.table 0 pswp RunOut) (good : IsTable t)
+module _ (w : World) (was : IsGood w) (t : Table) (table_is : t ≡ fall_asleep w.procs.table 0 pswp RunOut) (good : IsTable t)
     (board_is : board_of t w.procs.images ≡ (logged {W = Unix} (board_in w) pass_effects).board) where
-  pub pass_rested : IsRested at (with_table w t)
-  pass_rested =
-      let was = (some_good at w rested) in
-      rested_table w t (pass_agree w.procs.rows w.procs.images w.procs.table t table_is good was.agree)
-      (λ s e above. let none : t.running ≡ None = ap (λ (x : Table). x.running) table_is ∙ pass_nobody w.procs.table in absurd (cc (none, e))) at rested
+  pub pass_good : IsGood (with_table w t)
+  pass_good =
+      good_table w t (pass_agree w.procs.rows w.procs.images w.procs.table t table_is good was.agree)
+      (λ s e above. let none : t.running ≡ None = ap (λ (x : Table). x.running) table_is ∙ pass_nobody w.procs.table in absurd (cc (none, e))) was
 
   abbrev began : System
-  began = system_at at regs w
+  began = system_at w
 
-  pass_is : system_at at regs (with_table w t) ≡ record { unix = began.unix; board = (logged {W = Unix} began.board pass_effects).board }
+  pass_is : system_at (with_table w t) ≡ record { unix = began.unix; board = (logged {W = Unix} began.board pass_effects).board }
   pass_is =
-      table_system at regs w t (ap clock_of table_is ∙ pass_clock w.procs.table)
+      table_system w t (ap clock_of table_is ∙ pass_clock w.procs.table)
       ∙ ap (λ (b : Board). record began { board = b }) board_is
 
-  pub pass_next : (now : System) → now ≡ record (system_at at regs (with_table w t)) { board = (settled (board_in (with_table w t))).board } → now ≡ (settled_after (pass_of began)).next
-  pass_next now final = settles_next (system_at at regs (with_table w t)) now began.unix (logged began.board pass_effects) (pass_stop began.board) pass_is final
+  pub pass_next : (now : System) → now ≡ record (system_at (with_table w t)) { board = (settled (board_in (with_table w t))).board } → now ≡ (settled_after (pass_of began)).next
+  pass_next now final = settles_next (system_at (with_table w t)) now began.unix (logged began.board pass_effects) (pass_stop began.board) pass_is final
 
   pub pass_items : (n : System) → began ≡ n → (a b c : Taken) → Took a (logged {W = Unix} (board_in w) pass_effects).items b → Took b (settled (board_in (with_table w t))).items c
       → Took a (settled_after (pass_of n)).items c
   pass_items n same a b c one two =
       subst (λ (s : System). Took a (settled_after (pass_of s)).items c) same
-      (settles_items (system_at at regs (with_table w t)) (system_at at regs (with_table w t)) began.unix (logged began.board pass_effects) (pass_stop began.board) pass_is a b c one two)
+      (settles_items (system_at (with_table w t)) (system_at (with_table w t)) began.unix (logged began.board pass_effects) (pass_stop began.board) pass_is a b c one two)

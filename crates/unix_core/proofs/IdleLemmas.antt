@@ -7,7 +7,6 @@ use Rattle.pick_rules.specs.declared.table.Table.{Table}
 use Rattle.pick_rules.specs.Table.{empty_row, row_at, is_ready, is_loaded}
 use Rattle.pick_rules.specs.Choice.{chosen, IsChoice}
 use Rattle.pick_rules.proofs.Chosen.{chosen_is_choice}
-use Rattle.pdp_step.specs.declared.regs.Regs.{Regs}
 use Rattle.unix_core.specs.declared.world.World.{World}
 use Rattle.unix_core.specs.declared.machine.Stage.{Stage}
 use Rattle.abstract_unix.specs.declared.ends.Ends.{Ends}
@@ -60,18 +59,18 @@ nobody_runs m idle = nobody_by m m.board.table.running idle
 -- in a run that has been started
 idle_chosen : (at : Stage) (w : World) → phase_of at ≡ Started → IsKernel at w → w.procs.table.running ≡ None → chosen w.procs.table ≡ None
 idle_chosen stage.New w started kernel none = absurd (cc started)
-idle_chosen (stage.Running s) w started kernel none = absurd (let runs = (kernel.running s refl).ready.runs in cc (none, runs))
+idle_chosen (stage.Running f) w started kernel none = absurd (let runs = (kernel.running f refl).user.ready.runs in cc (none, runs))
 idle_chosen stage.Resting w started kernel none = (kernel.resting refl).idle none
 idle_chosen stage.Stopped w started kernel none = absurd (cc started)
 idle_chosen stage.Finished w started kernel none = absurd (cc started)
 
-module _ (at : Stage) (regs : Regs) (w : World) (started : phase_of at ≡ Started) (kernel : IsKernel at w) where
+module _ (at : Stage) (w : World) (started : phase_of at ≡ Started) (kernel : IsKernel at w) where
   nobody_here : w.procs.table.running ≡ None → NobodyCanRun w.procs.table
   nobody_here none =
       let good : IsGood w = kernel_good at w started kernel in
       nobody_can w.procs.table good.agree.table.last good.agree.rows (idle_chosen at w started kernel none)
 
-  pub idle_nobody : (m : System) → system_at at regs w ≡ m → (answer : Turned) → answer ≡ turned (event_of Slot m) → answer ≡ Idle → NobodyCanRun m.board.table
+  pub idle_nobody : (m : System) → system_at w ≡ m → (answer : Turned) → answer ≡ turned (event_of Slot m) → answer ≡ Idle → NobodyCanRun m.board.table
   idle_nobody m same answer is idle =
       subst (λ (x : System). NobodyCanRun x.board.table) same
-      (nobody_here (nobody_runs (system_at at regs w) (ap (λ (x : System). turned (event_of Slot x)) same ∙ sym is ∙ idle)))
+      (nobody_here (nobody_runs (system_at w) (ap (λ (x : System). turned (event_of Slot x)) same ∙ sym is ∙ idle)))

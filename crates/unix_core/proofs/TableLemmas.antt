@@ -11,11 +11,9 @@ use Rattle.proc_tab.specs.Processes.{Processes}
 use Rattle.sys_procs.specs.World.{clock_of}
 use Rattle.sys_procs.specs.Agree.{Agree}
 use Rattle.sys_procs.proofs.Agreement.{agree_like, tables_same}
-use Rattle.pdp_step.specs.declared.regs.Regs.{Regs}
 use Rattle.unix_core.specs.declared.world.World.{World}
-use Rattle.unix_core.specs.declared.machine.Stage.{Stage}
 use Rattle.unix_core.specs.Passing.{settled_table}
-use Rattle.unix_core.specs.Parts.{unix_of, board_in, with_regs, system_at, IsGood, IsRested}
+use Rattle.unix_core.specs.Parts.{unix_of, board_in, system_at, IsGood}
 use Rattle.unix_core.proofs.BoardLemmas.{settle_none}
 
 abbrev pub with_table : World → Table → World
@@ -35,12 +33,6 @@ module _ (w : World) (t : Table) (agree : Agree w.procs.rows t w.procs.images) (
     running = runs;
     rooms = good.rooms;
     core = good.core;
-  }
-
-  pub rested_table : (at : Stage) → IsRested at w → IsRested at (with_table w t)
-  rested_table at rested = record {
-    resting = rested.resting;
-    good = good_table rested.good;
   }
 
 -- what stands in core can run
@@ -106,9 +98,5 @@ module _ (v : Processes) (k : Kept) (t : Table) where
       by false g f = absurd (let gives : gives_up t t.running ≡ true = ap (gives_up t) f in cc (g, gives))
 
 -- The system with another table, whose clock is the same.
-pub table_system : (at : Stage) (regs : Regs) (w : World) (u : Table) → clock_of u ≡ clock_of w.procs.table
-    → system_at at regs (with_table w u) ≡ record (system_at at regs w) { board = board_in (with_table w u) }
-table_system at regs w u clock = λ i. record {
-  unix = with_regs at regs (record (unix_of w) { clock = clock i });
-  board = board_in (with_table w u);
-}
+pub table_system : (w : World) (u : Table) → clock_of u ≡ clock_of w.procs.table → system_at (with_table w u) ≡ record (system_at w) { board = board_in (with_table w u) }
+table_system w u clock = λ i. record { unix = record (unix_of w) { clock = clock i }; board = board_in (with_table w u) }

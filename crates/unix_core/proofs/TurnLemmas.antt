@@ -13,23 +13,20 @@ use Rattle.v6_base.specs.declared.entry.PanicKind.TheVariants as panic
 use Rattle.pick_rules.specs.Effects.{Effect, Show, kind_of, came}
 use Rattle.pick_rules.specs.Logged.{Logged, Stop, logged, log_one, with_what_came, with_item, unless_stopped, left_by}
 use Rattle.pdp_step.specs.declared.outcome.Outcome.{Outcome}
-use Rattle.pdp_step.specs.declared.regs.Regs.{Regs}
-use Rattle.pdp_step.specs.Instruction.{instr}
 use Rattle.sys_procs.specs.Process.{register}
 use Rattle.abstract_unix.specs.declared.ending.Ending.{Ending}
 use Rattle.abstract_unix.specs.declared.ending.Ending.TheVariants as ending
 use Rattle.unix_core.specs.declared.machine.Stage.{Stage}
-use Rattle.unix_core.specs.declared.machine.Stage.TheVariants as stage
 use Rattle.abstract_unix.specs.declared.ends.Ends.{Ends}
 use Rattle.abstract_unix.specs.declared.ends.Ends.TheVariants as ends
 use Rattle.abstract_unix.specs.declared.ends.Ends.TheVariants.{AtEnd}
 use Rattle.unix_core.specs.declared.world.World.{World}
-use Rattle.abstract_unix.specs.Unix.{Unix, System, process_of, with_process}
+use Rattle.abstract_unix.specs.Unix.{Unix, System, process_of}
 use Rattle.abstract_unix.specs.Endings.{phase_after}
 use Rattle.abstract_unix.specs.Steps.{Steps}
 use Rattle.abstract_unix.specs.Calls.{resumed}
-use Rattle.abstract_unix.specs.Turn.{Happened, Turn, machine_of, with_machine, comes_to, instruction, turn, end_effects, settled, settled_after, ending_at, unmet, ending_by, turn_of}
-use Rattle.unix_core.specs.Parts.{unix_of, board_in, system_at, turn_end, unmet_as, ended_as, HasCome, HasStepped, Takes}
+use Rattle.abstract_unix.specs.Turn.{Happened, Turn, comes_to, instruction, turn, end_effects, settled, settled_after, ending_at, unmet, ending_by, turn_of}
+use Rattle.unix_core.specs.Parts.{unix_of, board_in, turn_end, unmet_as, ended_as, HasCome, HasStepped, Takes}
 use Rattle.unix_core.proofs.BoardLemmas.{logged_line}
 
 -- after a panic nothing is logged
@@ -158,8 +155,8 @@ module _ (m : System) (s : ℕ) (steps : Steps) (e : Ending) (w : World) (come :
   pub turn_is : settled_after (turn_of m s steps) ≡ shown_before taken.items (turn_end w s pc e)
   turn_is = ap settled_after left_is ∙ ended_is (ending_at pc e)
 
-  pub turn_takes : (at : Stage) (regs : Regs) (now : World) → Takes (turn_end w s pc e) at regs now → Takes (settled_after (turn_of m s steps)) at regs now
-  turn_takes at regs now takes = record {
+  pub turn_takes : (at : Stage) (now : World) → Takes (turn_end w s pc e) at now → Takes (settled_after (turn_of m s steps)) at now
+  turn_takes at now takes = record {
     kernel = takes.kernel;
     system = takes.system ∙ ap (λ (t : Turn). t.next) (sym turn_is);
     phase = takes.phase ∙ ap (λ (t : Turn). phase_after t.ending) (sym turn_is);
@@ -169,27 +166,17 @@ module _ (m : System) (s : ℕ) (steps : Steps) (e : Ending) (w : World) (come :
   turn_items a b c one two =
       took_then a b c taken.items (turn_end w s pc e).items (settled_after (turn_of m s steps)).items one two (ap (λ (t : Turn). t.items) (sym turn_is))
 
--- The process that executes instructions has stepped, and its registers have been put back.
-module _ (m : System) (s : ℕ) (o : Outcome) (regs regs' : Regs) (w w' : World) (stepped : HasStepped m regs w s o)
-    (back : system_at stage.Resting regs' w' ≡ system_at (stage.Running s) regs w) where
-  abbrev stepped_to : Unix
-  stepped_to = with_process m.unix s (with_machine (process_of m.unix s) (instr (machine_of m.unix.texts (process_of m.unix s))).machine)
-
-  unix_back : unix_of w' ≡ stepped_to
-  unix_back = ap (λ (x : System). x.unix) back ∙ stepped.unix
-
-  board_back : board_in w' ≡ m.board
-  board_back = ap (λ (x : System). x.board) back ∙ stepped.board
-
-  steps_are : comes_to (unix_of w') s o ≡ turn m s
+-- The process that executes instructions has stepped.
+module _ (m : System) (s : ℕ) (o : Outcome) (w : World) (stepped : HasStepped m w s o) where
+  steps_are : comes_to (unix_of w) s o ≡ turn m s
   steps_are =
-      (λ i. comes_to (unix_back i) s (stepped.outcome i))
+      (λ i. comes_to (stepped.unix i) s (stepped.outcome i))
       ∙ sym (ap (λ b. if b then instruction m.unix s else resumed m.unix s) stepped.user)
 
-  pub stepped_come : (e : Ending) (then_ : World) → HasCome (board_in w') (comes_to (unix_of w') s o) e then_ → HasCome m.board (turn m s) e then_
-  stepped_come e then_ come = subst (λ st. HasCome m.board st e then_) steps_are (subst (λ b. HasCome b (comes_to (unix_of w') s o) e then_) board_back come)
+  pub stepped_come : (e : Ending) (then_ : World) → HasCome (board_in w) (comes_to (unix_of w) s o) e then_ → HasCome m.board (turn m s) e then_
+  stepped_come e then_ come = subst (λ st. HasCome m.board st e then_) steps_are (subst (λ b. HasCome b (comes_to (unix_of w) s o) e then_) stepped.board come)
 
-  pub stepped_items : (a b : Taken) → Took a (logged (board_in w') (comes_to (unix_of w') s o).effects).items b → Took a (logged m.board (turn m s).effects).items b
+  pub stepped_items : (a b : Taken) → Took a (logged (board_in w) (comes_to (unix_of w) s o).effects).items b → Took a (logged m.board (turn m s).effects).items b
   stepped_items a b took =
       subst (λ (st : Steps). Took a (logged m.board st.effects).items b) steps_are
-      (subst (λ x. Took a (logged x (comes_to (unix_of w') s o).effects).items b) board_back took)
+      (subst (λ x. Took a (logged x (comes_to (unix_of w) s o).effects).items b) stepped.board took)

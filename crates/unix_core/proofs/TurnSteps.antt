@@ -1,25 +1,24 @@
 -- An instruction of the process that runs: its memory is another one, what belongs together still does, and the process has
 -- stepped.
-use Rattle.std.proofs.Common.{◌≡◌, ◌<◌, ◌∙◌, if◌then◌else◌, ℕ, zero, suc, false, List, [], map, min, Option, Some, None, refl, sym, ap, subst, arith}
+use Rattle.std.proofs.Common.{◌≡◌, ◌<◌, ◌∙◌, ◌==◌, if◌then◌else◌, ℕ, zero, suc, false, List, [], map, min, Option, Some, None, refl, sym, ap, subst, arith}
 use Rattle.std.proofs.lemmas.List.{set-set}
 use Rattle.v6_base.specs.Image.{Image}
 use Rattle.u_area.specs.declared.area.UArea.{UArea}
 use Rattle.pdp_step.specs.declared.outcome.Outcome.{Outcome}
 use Rattle.pdp_step.specs.declared.outcome.Outcome.TheVariants as came
-use Rattle.pdp_step.specs.declared.regs.Regs.{Regs}
-use Rattle.pdp_step.specs.Machine as pdp
 use Rattle.pdp_step.specs.Machine.{Machine}
-use Rattle.pdp_step.specs.Instruction.{Stepped, stepped, instr}
+use Rattle.pdp_step.specs.Instruction.{instr}
 use Rattle.pick_rules.specs.Choice.{settle}
-use Rattle.image_keep.specs.Kept.{Kept, IsKept, with_image, image_of}
+use Rattle.image_keep.specs.Kept.{Kept, IsKept, area_of, with_image}
+use Rattle.image_keep.specs.Running.{with_state}
 use Rattle.image_keep.proofs.Frames.{with_image_texts}
+use Rattle.sys_procs.specs.declared.procs.Procs.{Procs}
 use Rattle.sys_procs.specs.Process.{Process}
 use Rattle.sys_procs.specs.World.{text_in}
 use Rattle.sys_procs.specs.Agree.{text_place}
 use Rattle.sys_procs.proofs.Alive.{is_here, put_here}
 use Rattle.sys_procs.proofs.MemoryLemmas.{image_here}
 use Rattle.abstract_unix.specs.declared.turned.Turned.TheVariants.{Ran}
-use Rattle.unix_core.specs.declared.machine.Stage.TheVariants as stage
 use Rattle.unix_core.specs.declared.world.World.{World}
 use Rattle.abstract_unix.specs.declared.ends.Ends.TheVariants.{AtEnd}
 use Rattle.abstract_unix.specs.Unix.{Unix, System, no_texts, process_of, with_process}
@@ -27,16 +26,16 @@ use Rattle.abstract_unix.specs.Steps.{steps}
 use Rattle.abstract_unix.specs.Calls.{resumed}
 use Rattle.abstract_unix.specs.Turn.{Turn, machine_of, with_machine, is_user, comes_to, instruction, turn, turn_of, slot_by, slot_of, settled_as, settled_after, turned}
 use Rattle.abstract_unix.specs.Runs.{Slot, event_of}
-use Rattle.unix_core.specs.Parts.{unix_of, board_in, holding, with_regs, system_at, IsReady, IsUser, HasStepped}
+use Rattle.unix_core.specs.Parts.{unix_of, board_in, system_at, machine_in, with_machine_in, IsReady, IsUser, HasStepped}
 use Rattle.abstract_unix.specs.Whole.{told_in, Owes}
 use Rattle.abstract_unix.proofs.Owing.{told_change, some_within}
 use Rattle.unix_core.proofs.GoodLemmas.{owed_none, owed_so, core_same, runs_same}
 use Rattle.sys_procs.specs.Handed.{AreProcs}
 use Rattle.unix_core.proofs.WorldLemmas.{ready_alive, slot_is}
 use Rattle.unix_core.proofs.LoanLemmas.{image_now, image_other, image_core}
-use Rattle.unix_core.proofs.PutLemmas.{with_images, slot_put, agree_put}
+use Rattle.unix_core.proofs.PutLemmas.{IsLikeArea, with_images, slot_put, agree_put}
 use Rattle.unix_core.proofs.BoardLemmas.{settle_same}
-use Rattle.unix_core.proofs.AreaLemmas.{state_is}
+use Rattle.unix_core.proofs.AreaLemmas.{own_area, with_its_area, area_unix, area_board, area_ready}
 
 -- The memory of the process is another one.
 module _ (w : World) (s : ℕ) (ready : IsReady w s) (image : Image) where
@@ -92,66 +91,76 @@ module _ (w : World) (s : ℕ) (ready : IsReady w s) (image : Image) where
     user = ready.user;
   }
 
-  pub memory_user : IsUser s w → IsUser s with_memory
-  memory_user user = record {
-    ready = memory_ready;
-    user = ap is_user memory_process ∙ user.user;
-    settled = user.settled;
-  }
-
--- The process while its registers stand apart.
-pub apart_process : (w : World) (s : ℕ) (regs : Regs) → IsReady w s
-    → process_of (with_regs (stage.Running s) regs (unix_of w)) s ≡ holding regs (process_of (unix_of w) s)
-apart_process w s regs ready =
-    let ps : List (Option Process) = (unix_of w).processes in
-    let p : Process = process_of (unix_of w) s in
-    put_here ps s (holding regs p) (some_within ps s p (slot_is w s ready))
-
 -- what an instruction works on
-machine_is : (w : World) (s : ℕ) (regs : Regs) → IsReady w s → IsKept w.procs.images
-    → machine_of (unix_of w).texts (process_of (with_regs (stage.Running s) regs (unix_of w)) s) ≡ pdp.machine_of regs (image_of w.procs.images s)
-machine_is w s regs ready holds =
-    ap (machine_of (unix_of w).texts) (apart_process w s regs ready)
-    ∙ (λ i. record { r = regs.r; cc = regs.cc; image = image_here w.procs s (ready_alive w s ready) holds i })
+machine_is : (w : World) (s : ℕ) → IsReady w s → IsKept w.procs.images → machine_of (unix_of w).texts (process_of (unix_of w) s) ≡ machine_in w.procs.images s
+machine_is w s ready holds =
+    let own = own_area w s ready in
+    λ i. record { r = (sym own i).r; cc = (sym own i).cc; image = image_here w.procs s (ready_alive w s ready) holds i }
 
--- The process has stepped, and left these registers and this memory.
-module _ (w : World) (s : ℕ) (user : IsUser s w) (holds : IsKept w.procs.images) (regs regs' : Regs) (o : Outcome) (image : Image)
-    (step : stepped o (pdp.machine_of regs' image) ≡ instr (pdp.machine_of regs (image_of w.procs.images s))) where
-  abbrev before : System
-  before = system_at (stage.Running s) regs w
-
+-- The process has stepped, and its memory and its registers are these.
+module _ (w : World) (s : ℕ) (user : IsUser s w) (holds : IsKept w.procs.images) (procs : Procs)
+    (kept : procs ≡ record w.procs { images = with_machine_in w.procs.images s (instr (machine_in w.procs.images s)).machine }) where
   abbrev old : Process
   old = process_of (unix_of w) s
 
-  abbrev its : Machine
-  its = machine_of before.unix.texts (process_of before.unix s)
+  abbrev m : Machine
+  m = (instr (machine_in w.procs.images s)).machine
 
-  comes : instr its ≡ stepped o (pdp.machine_of regs' image)
-  comes = ap instr (machine_is w s regs user.ready holds) ∙ sym step
+  abbrev with_image_then : World
+  with_image_then = with_memory w s user.ready m.image
 
-  process_is : with_machine (holding regs old) (pdp.machine_of regs' image) ≡ holding regs' (record old { «data» = image.data; stack = image.stack })
-  process_is =
-      ap (λ (u : UArea). record old { u = u; «data» = image.data; stack = image.stack }) (sym (state_is old.u regs'.r regs'.cc regs'.cc_in_range))
+  abbrev area : UArea
+  area = with_state (area_of w.procs.images s) m.r m.cc
 
-  unix_then : with_regs (stage.Running s) regs' (unix_of (with_memory w s user.ready image))
-      ≡ with_process before.unix s (with_machine (process_of before.unix s) (instr its).machine)
+  abbrev stored : Process
+  stored = record old { u = area; «data» = m.image.data; stack = m.image.stack }
+
+  ready_then : IsReady with_image_then s
+  ready_then = memory_ready w s user.ready m.image
+
+  area_like : IsLikeArea area (process_of (unix_of with_image_then) s).u
+  area_like = subst (λ (p : Process). IsLikeArea area p.u) (sym (memory_process w s user.ready m.image))
+      (subst (λ (u : UArea). IsLikeArea area u) (own_area w s user.ready) (record { clicks = refl; files = refl; dir = refl }))
+
+  abbrev now : World
+  now = with_its_area with_image_then s ready_then area
+
+  unix_then : unix_of now ≡ with_process (unix_of w) s stored
   unix_then =
       let ps : List (Option Process) = (unix_of w).processes in
-      let q : Process = record old { «data» = image.data; stack = image.stack } in
-      let put : Unix → Process → Unix = λ u x. with_process u s (holding regs' x) in
-      (λ i. put (memory_unix w s user.ready image i) (memory_process w s user.ready image i))
-      ∙ ap (λ l. record (unix_of w) { processes = l }) (set-set ps s (Some q) (Some (holding regs' q)) ∙ sym (set-set ps s (Some (holding regs old)) (Some (holding regs' q))))
-      ∙ ap (with_process before.unix s) (sym process_is)
-      ∙ (λ i. with_process before.unix s (with_machine (sym (apart_process w s regs user.ready) i) (sym comes i).machine))
+      let q : Process = record old { «data» = m.image.data; stack = m.image.stack } in
+      area_unix with_image_then s ready_then area
+      ∙ (λ i. with_process (memory_unix w s user.ready m.image i) s (record (memory_process w s user.ready m.image i) { u = area }))
+      ∙ ap (λ l. record (unix_of w) { processes = l }) (set-set ps s (Some q) (Some stored))
 
-  pub has_stepped : HasStepped before regs' (with_memory w s user.ready image) s o
-  has_stepped = record {
-    runs = user.ready.runs;
-    user = ap is_user (apart_process w s regs user.ready) ∙ user.user;
-    outcome = sym (ap (λ (x : Stepped). x.outcome) comes);
-    unix = unix_then;
-    board = memory_board w s user.ready image;
-  }
+  stored_is : stored ≡ with_machine old m
+  stored_is = ap (λ (u : UArea). record old { u = with_state u m.r m.cc; «data» = m.image.data; stack = m.image.stack }) (own_area w s user.ready)
+
+  process_then : process_of (unix_of now) s ≡ stored
+  process_then =
+      let ps : List (Option Process) = (unix_of w).processes in
+      ap (λ (x : Unix). process_of x s) unix_then ∙ put_here ps s stored (some_within ps s old (slot_is w s user.ready))
+
+  abbrev stepped_world : Procs → World
+  stepped_world p = record w { procs = p }
+
+  pub stepped_user : IsUser s (stepped_world procs)
+  stepped_user = subst (λ p. IsUser s (stepped_world p)) (sym kept) (record {
+    ready = area_ready with_image_then s ready_then area area_like;
+    user = ap is_user process_then ∙ ap (λ (u : UArea). u.pending == 0) (own_area w s user.ready) ∙ user.user;
+    settled = user.settled;
+  })
+
+  pub has_stepped : (o : Outcome) → o ≡ (instr (machine_in w.procs.images s)).outcome → HasStepped (system_at w) (stepped_world procs) s o
+  has_stepped o outcome =
+      let its : machine_in w.procs.images s ≡ machine_of (unix_of w).texts old = sym (machine_is w s user.ready holds) in
+      subst (λ p. HasStepped (system_at w) (stepped_world p) s o) (sym kept) (record {
+        runs = user.ready.runs;
+        user = user.user;
+        outcome = outcome ∙ ap (λ x. (instr x).outcome) its;
+        unix = unix_then ∙ ap (with_process (unix_of w) s) stored_is ∙ ap (λ x. with_process (unix_of w) s (with_machine old (instr x).machine)) its;
+        board = area_board with_image_then s ready_then area ∙ memory_board w s user.ready m.image;
+      })
 
 -- the slot of a process that isn't the swapper
 pub user_slot : (m : System) (s : ℕ) → m.board.table.running ≡ Some s → 0 < s → event_of Slot m ≡ settled_after (turn_of m s (turn m s))
@@ -162,7 +171,7 @@ user_slot m s runs above = ap settled_after (ap (slot_of m) runs ∙ by s above)
     by (suc r) above = refl
 
 -- An instruction has been done, and the kernel needn't settle.
-module _ (m : System) (s : ℕ) (above : 0 < s) (regs' : Regs) (w' : World) (done : HasStepped m regs' w' s came.Next) (quiet : settle m.board.table ≡ None) where
+module _ (m : System) (s : ℕ) (above : 0 < s) (w' : World) (done : HasStepped m w' s came.Next) (quiet : settle m.board.table ≡ None) where
   abbrev u : Unix
   u = with_process m.unix s (with_machine (process_of m.unix s) (instr (machine_of m.unix.texts (process_of m.unix s))).machine)
 
@@ -191,7 +200,7 @@ module _ (m : System) (s : ℕ) (above : 0 < s) (regs' : Regs) (w' : World) (don
   pub plain_goes : (event_of Slot m).ending ≡ AtEnd
   plain_goes = ap (λ (t : Turn). t.ending) plain_is
 
-  pub plain_next : system_at (stage.Running s) regs' w' ≡ (event_of Slot m).next
+  pub plain_next : system_at w' ≡ (event_of Slot m).next
   plain_next =
       (λ i. record { unix = done.unix i; board = done.board i })
       ∙ ap (λ (t : Turn). t.next) (sym plain_is)
@@ -200,17 +209,5 @@ module _ (m : System) (s : ℕ) (above : 0 < s) (regs' : Regs) (w' : World) (don
   plain_items = ap (λ (t : Turn). t.items) plain_is
 
 -- the kernel has settled, also by the board of its log
-pub quiet_system : (w : World) (s : ℕ) (regs : Regs) → IsUser s w → settle (system_at (stage.Running s) regs w).board.table ≡ None
-quiet_system w s regs user = settle_same w.procs.table ∙ user.settled
-
--- The same where the memory has been lent, and has come back.
-module _ (w : World) (s : ℕ) (user : IsUser s w) (holds : IsKept w.procs.images) (regs regs' : Regs) (o : Outcome) (image lent : Image)
-    (lent_is : lent ≡ image_of w.procs.images s) (step : stepped o (pdp.machine_of regs' image) ≡ instr (pdp.machine_of regs lent))
-    (k : Kept) (back : k ≡ with_image w.procs.images s image) where
-  pub lent_stepped : HasStepped (system_at (stage.Running s) regs w) regs' (with_images w k) s o
-  lent_stepped =
-      subst (λ l. HasStepped (system_at (stage.Running s) regs w) regs' (with_images w l) s o) (sym back)
-      (has_stepped w s user holds regs regs' o image (step ∙ ap (λ m. instr (pdp.machine_of regs m)) lent_is))
-
-  pub lent_user : IsUser s (with_images w k)
-  lent_user = subst (λ l. IsUser s (with_images w l)) (sym back) (memory_user w s user.ready image user)
+pub quiet_system : (w : World) (s : ℕ) → IsUser s w → settle (system_at w).board.table ≡ None
+quiet_system w s user = settle_same w.procs.table ∙ user.settled

@@ -1,3 +1,5 @@
 pub mod Boots
 pub mod Parts
 pub mod Passing
+pub mod Memory
+pub mod State

@@ -1,9 +1,8 @@
--- How the parts of a kernel are the Unix and the board: the world of files and processes, and the registers of the process
--- that executes instructions.
+-- How the parts of a kernel are the Unix and the board: the world of files and processes.
 use Rattle.std.specs.Prelude.{◌≡◌, ◌<◌, ℕ, min, Bool, true, false, List, [], map, Option, Some, None}
 use Rattle.fs_tree.specs.Marks.{no_marks}
 use Rattle.pdp_step.specs.declared.outcome.Outcome.{Outcome}
-use Rattle.pdp_step.specs.declared.regs.Regs.{Regs}
+use Rattle.pdp_step.specs.Machine.{Machine}
 use Rattle.pdp_step.specs.Instruction.{instr}
 use Rattle.pick_rules.specs.declared.table.Table.{Table}
 use Rattle.pick_rules.specs.Table.{is_in_core}
@@ -17,7 +16,9 @@ use Rattle.pick_rules.specs.Logged.{Stop, logged, left_by}
 use Rattle.v6_base.specs.declared.entry.Place.TheVariants.{Core}
 use Rattle.image_keep.specs.Area.{sized_area}
 use Rattle.image_keep.specs.Places.{cleared}
-use Rattle.image_keep.specs.Kept.{Held, Kept, Has, HasImage}
+use Rattle.image_keep.specs.Kept.{Held, Kept, Has, HasImage, image_of, area_of, with_image, with_area}
+use Rattle.image_keep.specs.declared.running.Fixed.{Fixed}
+use Rattle.image_keep.specs.Running.{IsFixed, with_state}
 use Rattle.sys_procs.specs.Process.{Process, register}
 use Rattle.sys_procs.specs.World.{clock_of, processes_in, texts_in}
 use Rattle.sys_procs.specs.Agree.{board_of}
@@ -58,21 +59,19 @@ unix_of w = record {
 abbrev pub board_in : parts.World → Board
 board_in w = board_of w.procs.table w.procs.images
 
--- a process with these registers
-abbrev pub holding : Regs → Process → Process
-holding regs p = record p { u = record p.u { r = regs.r; cc = regs.cc; codes = regs.cc_in_range } }
-
--- the Unix while the registers of the process that executes instructions stand apart
-abbrev pub with_regs : Stage → Regs → Unix → Unix
-with_regs (stage.Running s) regs u = with_process u s (holding regs (process_of u s))
-with_regs at regs u = u
-
-abbrev pub system_at : Stage → Regs → parts.World → System
-system_at at regs w = record { unix = with_regs at regs (unix_of w); board = board_in w }
+abbrev pub system_at : parts.World → System
+system_at w = record { unix = unix_of w; board = board_in w }
 
 -- what the next slot comes to
-abbrev pub turn_at : Stage → Regs → parts.World → Turn
-turn_at at regs w = settled_after (slot_of (system_at at regs w) w.procs.table.running)
+abbrev pub turn_at : parts.World → Turn
+turn_at w = settled_after (slot_of (system_at w) w.procs.table.running)
+
+-- what an instruction of a process works on, and what is kept of the process with what that has become
+abbrev pub machine_in : Kept → ℕ → Machine
+machine_in k s = record { r = (area_of k s).r; cc = (area_of k s).cc; image = image_of k s }
+
+abbrev pub with_machine_in : Kept → ℕ → Machine → Kept
+with_machine_in k s m = with_area (with_image k s m.image) s (with_state (area_of k s) m.r m.cc)
 
 -- what a turn comes to of which this is left, and which ends so, with the PC where it began
 abbrev pub turn_end : parts.World → ℕ → ℕ → Ending → Turn
@@ -88,8 +87,8 @@ abbrev pub pc_by : Unix → Option ℕ → ℕ
 pc_by u None = 0
 pc_by u (Some s) = register (process_of u s) 7
 
-abbrev pub pc_at : Stage → Regs → parts.World → ℕ
-pc_at at regs w = pc_by (with_regs at regs (unix_of w)) w.procs.table.running
+abbrev pub pc_at : parts.World → ℕ
+pc_at w = pc_by (unix_of w) w.procs.table.running
 
 -- the first image of process 1
 abbrev pub first_held : Held
@@ -152,10 +151,10 @@ pub record IsUser (s : ℕ) (w : parts.World) : Type 0 where
   pub user : is_user (process_of (unix_of w) s) ≡ true
   pub settled : settle w.procs.table ≡ None
 
--- Between two things that happen in an event no registers stand apart.
-pub record IsRested (at : Stage) (w : parts.World) : Type 0 where
-  pub resting : at ≡ stage.Resting
-  pub good : IsGood w
+-- It is known where its image stands.
+pub record IsRunning (f : Fixed) (w : parts.World) : Type 0 where
+  pub user : IsUser f.slot w
+  pub fixed : IsFixed w.procs.images f
 
 -- Between two events a process goes on with a call, or nobody runs but the swapper, or nobody.
 pub record IsPaused (w : parts.World) : Type 0 where
@@ -166,7 +165,7 @@ pub record IsPaused (w : parts.World) : Type 0 where
 
 abbrev pub phase_of : Stage → Phase
 phase_of stage.New = New
-phase_of (stage.Running s) = Started
+phase_of (stage.Running f) = Started
 phase_of stage.Resting = Started
 phase_of stage.Stopped = Stopped
 phase_of stage.Finished = Finished
@@ -174,22 +173,21 @@ phase_of stage.Finished = Finished
 -- what is so of every kernel
 pub record IsKernel (at : Stage) (w : parts.World) : Type 0 where
   pub new : at ≡ stage.New → IsGood w
-  pub running : (s : ℕ) → at ≡ stage.Running s → IsUser s w
+  pub running : (f : Fixed) → at ≡ stage.Running f → IsRunning f w
   pub resting : at ≡ stage.Resting → IsPaused w
 
--- A system whose running process was in user mode, and of which these are the registers and the world after the instruction.
-pub record HasStepped (m : System) (regs : Regs) (w : parts.World) (s : ℕ) (o : Outcome) : Type 0 where
+-- A system whose running process was in user mode, and the world after its instruction.
+pub record HasStepped (m : System) (w : parts.World) (s : ℕ) (o : Outcome) : Type 0 where
   pub runs : m.board.table.running ≡ Some s
   pub user : is_user (process_of m.unix s) ≡ true
   pub outcome : o ≡ (instr (machine_of m.unix.texts (process_of m.unix s))).outcome
-  pub unix : with_regs (stage.Running s) regs (unix_of w)
-      ≡ with_process m.unix s (with_machine (process_of m.unix s) (instr (machine_of m.unix.texts (process_of m.unix s))).machine)
+  pub unix : unix_of w ≡ with_process m.unix s (with_machine (process_of m.unix s) (instr (machine_of m.unix.texts (process_of m.unix s))).machine)
   pub board : board_in w ≡ m.board
 
 -- The parts have taken an event that comes to this.
-pub record Takes (turn : Turn) (at : Stage) (regs : Regs) (w : parts.World) : Type 0 where
+pub record Takes (turn : Turn) (at : Stage) (w : parts.World) : Type 0 where
   pub kernel : IsKernel at w
-  pub system : system_at at regs w ≡ turn.next
+  pub system : system_at w ≡ turn.next
   pub phase : phase_of at ≡ phase_after turn.ending
 
 -- what a slot answers that went so, with the PC where it began

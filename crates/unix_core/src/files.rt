@@ -5,10 +5,12 @@ ghost use Rattle.fs_laws.specs.Rest.{SameRest};
 ghost use Rattle.fs_nodes.specs.FileSystem.{IsFileSystem};
 ghost use Rattle.fs_tree.specs.Finding.{inodes_of, put_back};
 ghost use Rattle.image_keep.specs.Kept.{IsKept};
+ghost use Rattle.proc_tab.specs.Processes.{AreProcesses};
 
 use fs_nodes::Nodes;
 use image_keep::Images;
 use open_files::OpenTable;
+use sys_procs::Procs;
 
 /// The inode of the root.
 pub(crate) const ROOT: u16 = 1;
@@ -32,6 +34,15 @@ pub(crate) fn see_kept(images: &Images)
     ensures { IsKept images.now }
 {
     let _place = images.place(0);
+}
+
+/// Sees what holds of the table of processes and of all images that are kept.
+pub(crate) fn see_procs(procs: &Procs)
+    ensures rows { AreProcesses procs.now.rows }
+    ensures images { IsKept procs.now.images }
+{
+    let _used = procs.rows.in_use(0);
+    see_kept(&procs.images);
 }
 
 /// Sees how many numbers a process has for its files.

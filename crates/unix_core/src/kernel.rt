@@ -12,9 +12,9 @@ ghost use Rattle.abstract_unix.specs.Turn.{turned, NobodyCanRun};
 ghost use Rattle.abstract_unix.specs.Outside.{is_signal_key};
 ghost use Rattle.abstract_unix.specs.Private.{AllUndisturbed, TickUndisturbed, OthersUndisturbed};
 
-use crate::files::{ROOT, see_kept, see_nodes};
+use crate::files::{ROOT, see_kept, see_nodes, see_procs};
 use crate::init::put_program;
-use crate::machine::{Machine, Stage, turned_at};
+use crate::machine::{Machine, Stage, execute, turned_at};
 use crate::world::World;
 use abstract_unix::{Turned, Unbuilt};
 use fs_codec::DISK_BLOCKS;
@@ -22,7 +22,7 @@ use fs_nodes::Nodes;
 use fs_tree::Tree;
 use image_keep::Images;
 use open_files::OpenTable;
-use pdp_step::{Outcome, Regs, step};
+use pdp_step::Outcome;
 use pick_rules::Table;
 use proc_tab::Rows;
 use seg_regs::Proto;
@@ -58,17 +58,18 @@ fn make_first(procs: &mut Procs)
 /// The kernel with its processes and its disk: the abstract Unix, in fixed memory.
 #[derive(Drop)]
 pub struct Kernel {
-    machine: Machine,
+    pub(crate) machine: Machine,
 }
 
 impl Model for Kernel {
-    ghost use Rattle.abstract_unix.specs.Unix.{SystemOnDisk};
+    ghost use Rattle.unix_core.specs.State.{KernelState};
     ghost use Rattle.unix_core.specs.Parts.{IsKernel, system_at, phase_of};
 
-    ghost Value = { SystemOnDisk };
+    ghost Value = { KernelState };
 
     ghost view = { λ k. record {
-      system = system_at k.machine.stage k.machine.regs k.machine.world;
+      system = system_at k.machine.world;
+      kept = k.machine.world.procs.images;
       blocks = k.machine.world.files.tree.nodes.blocks;
       stored = k.machine.world.files.tree.nodes.stored;
       phase = phase_of k.machine.stage;
@@ -80,6 +81,7 @@ impl Model for Kernel {
 impl Kernel {
     ghost use Rattle.abstract_unix.specs.Unix.{New, Started, Stopped, Finished};
     ghost use Rattle.abstract_unix.specs.Endings.{phase_after};
+    ghost use Rattle.unix_core.specs.Memory.{kept_in};
     ghost use Rattle.abstract_unix.specs.Runs.{Slot, Tick, Byte, Switch, start_of, event_of, system_with, finished};
 
     /// A kernel with a file system, whose process 1 is about to execute `/etc/init`, with images and a tape of which nothing
@@ -112,7 +114,6 @@ impl Kernel {
         Kernel {
             machine: Machine {
                 stage: Stage::New,
-                regs: Regs { r: [0; 8], cc: 0 },
                 world: World {
                     files,
                     procs,
@@ -155,17 +156,16 @@ impl Kernel {
         ensures items { Took (T.taken trace.old) (event_of Slot self.old.system).items (T.taken trace.new) }
         ensures frame { T.leads_to trace.old trace.new }
     {
-        match self.machine.stage {
-            Stage::Running(s) => {
-                let at = self.machine.regs.r[7];
+        match &self.machine.stage {
+            Stage::Running(fixed) => {
                 see_kept(&self.machine.world.procs.images);
-                let outcome = {
-                    let mut space = self.machine.world.procs.images.space(s);
-                    step(&mut self.machine.regs, &mut space)
-                };
-                match outcome {
+                let at = self.machine.world.procs.images.area_at(fixed).r[7];
+                match execute(&mut self.machine.world.procs, fixed) {
                     Outcome::Next => Turned::Ran,
-                    outcome => turned_at(self.machine.after_step(s, outcome, trace), at),
+                    outcome => {
+                        let s = fixed.slot;
+                        turned_at(self.machine.after_step(s, outcome, trace), at)
+                    }
                 }
             }
             Stage::Resting => {
@@ -220,11 +220,13 @@ impl Kernel {
 
     /// Ends a run: writes to the disk what has changed, and the super-block with the time where that has. A file system that
     /// keeps clear of the swap area, as each that was booted does, is without a fault there too. sync(II) of the manual;
-    /// `update` in Lions' Commentary, `alloc.c`.
+    /// `update` in Lions' Commentary, `alloc.c`. Core and the swap area then keep what the system tells, where the run has not
+    /// stopped before.
     pub fn finish(&mut self)
         requires { self.old.phase ≡ Started ⊎ self.old.phase ≡ Stopped }
         ensures phase { self.new.phase ≡ Finished }
         ensures system { self.new.system ≡ finished self.old.system }
+        ensures kept { self.old.phase ≡ Started → self.new.kept ≡ kept_in self.new.system }
         ensures stored { self.new.stored ≡ self.new.blocks }
         ensures stands { StandsFor DISK_BLOCKS (block_at self.new.stored) self.new.system.unix.store }
         ensures below { (head (block_at self.old.blocks)).f_size ≤ SWAP_START
@@ -232,7 +234,7 @@ impl Kernel {
         ensures rest { SameRest self.old.blocks self.new.blocks }
         ensures form { IsDisk self.new.blocks }
     {
-        self.machine.put_away();
+        self.machine.stage = Stage::Finished;
         self.machine
             .world
             .files
@@ -240,14 +242,6 @@ impl Kernel {
             .nodes
             .update_all(self.machine.world.procs.table.now);
         see_nodes(&self.machine.world.files.tree.nodes);
-    }
-
-    /// Block `n` of the disk, as a run that has been finished leaves it.
-    pub fn final_block(&self, n: u16) -> [u8; 512]
-        requires finished { self.now.phase ≡ Finished }
-        requires block { n < DISK_BLOCKS }
-        ensures { result ≡ block_at self.now.stored n }
-    {
-        *self.machine.world.files.tree.nodes.on_disk(n)
+        see_procs(&self.machine.world.procs);
     }
 }

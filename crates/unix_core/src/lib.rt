@@ -10,6 +10,7 @@ mod machine;
 mod onfiles;
 mod passing;
 mod process;
+mod readers;
 mod settling;
 mod world;
 

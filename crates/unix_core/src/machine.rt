@@ -2,22 +2,26 @@
 ghost use Rattle.std.specs.Prelude.{◌≡◌, ◌≢◌, ◌<◌, ℕ, Bool, true, false, None, Some};
 ghost use Rattle.v6_base.specs.Trace.{Took};
 ghost use Rattle.fs_laws.specs.Rest.{SameRest};
+ghost use Rattle.pdp_step.specs.Instruction.{instr};
 ghost use Rattle.pick_rules.specs.Choice.{chosen, settle};
 ghost use Rattle.pick_rules.specs.Logged.{logged};
+ghost use Rattle.image_keep.specs.Running.{IsFixed};
 ghost use Rattle.sys_procs.specs.Process.{register};
 ghost use Rattle.abstract_unix.specs.declared.ends.Ends.TheVariants.{AtEnd};
 ghost use Rattle.abstract_unix.specs.Unix.{Unix, System, Started, process_of};
 ghost use Rattle.abstract_unix.specs.Endings.{is_early};
 ghost use Rattle.abstract_unix.specs.Turn.{turned, turned_by, ending_at, turn, turn_of, settled, settled_after, pass_of};
 ghost use Rattle.abstract_unix.specs.Outside.{calls, charged, mode_of, tick_entry, timed_area, tick_of, typed_of};
-ghost use Rattle.unix_core.specs.Parts.{unix_of, board_in, system_at, turn_at, turned_at, turn_end, pc_at, phase_of, is_over, IsGood, IsReady, IsUser, IsRested, IsKernel, HasCome, HasStepped, Takes};
+ghost use Rattle.unix_core.specs.Parts.{unix_of, board_in, system_at, turn_at, turned_at, turn_end, pc_at, phase_of, machine_in, with_machine_in, is_over, IsGood, IsReady, IsUser, IsKernel, HasCome, HasStepped, Takes};
 
 use crate::process::{come_to, resume};
 use crate::settling::{end_turn, pass, settle, wake};
 use crate::world::World;
 use abstract_unix::{Ending, Turned, Unbuilt};
-use pdp_step::{Outcome, Regs};
+use image_keep::Fixed;
+use pdp_step::{Outcome, Regs, step};
 use pick_rules::{Mode, Second};
+use sys_procs::Procs;
 use tty_line::Keyed;
 use u_area::UArea;
 use v6_base::{Chan, Entry, Slot, Trace};
@@ -27,8 +31,8 @@ use v6_base::{Chan, Entry, Slot, Trace};
 pub enum Stage {
     /// The run hasn't been started.
     New,
-    /// The process in this slot executes instructions. Its registers stand apart from its u area.
-    Running(Slot),
+    /// A process executes instructions, of which this is fixed.
+    Running(Fixed),
     /// A process goes on with a call, or nobody runs but the swapper, or nobody.
     Resting,
     /// The run has come to what isn't built, and takes no event any more.
@@ -53,7 +57,6 @@ pub(crate) enum Went {
 #[derive(Drop)]
 pub(crate) struct Machine {
     pub(crate) stage: Stage,
-    pub(crate) regs: Regs,
     pub(crate) world: World,
 }
 
@@ -121,6 +124,27 @@ fn went_by(ending: Ending) -> Went
     }
 }
 
+/// The process of which this is fixed does one instruction, with the registers in its u area.
+#[inline(always)]
+pub(crate) fn execute(procs: &mut Procs, fixed: &Fixed) -> Outcome
+    requires { IsFixed procs.old.images fixed.now }
+    ensures outcome { result ≡ (instr (machine_in procs.old.images fixed.now.slot)).outcome }
+    ensures kept { procs.new ≡ record procs.old {
+      images = with_machine_in procs.old.images fixed.now.slot (instr (machine_in procs.old.images fixed.now.slot)).machine;
+    } }
+    ensures fixed { IsFixed procs.new.images fixed.now }
+{
+    let u = procs.images.area_at(fixed);
+    let r = u.r;
+    let mut regs = Regs { r, cc: u.cc };
+    let outcome = {
+        let mut space = procs.images.space_at(fixed);
+        step(&mut regs, &mut space)
+    };
+    procs.images.set_registers_at(fixed, &regs.r, regs.cc);
+    outcome
+}
+
 /// What a slot answers that went so, with the PC where it began.
 #[inline(always)]
 pub(crate) fn turned_at(went: Went, at: u16) -> Turned
@@ -135,83 +159,42 @@ pub(crate) fn turned_at(went: Went, at: u16) -> Turned
 }
 
 impl Machine {
-    /// Puts the registers of the process that executes instructions, where there is one, back into its u area.
-    fn put_back(&mut self)
-        requires { IsKernel self.old.stage self.old.world }
-        ensures system { system_at self.new.stage self.new.regs self.new.world
-            ≡ system_at self.old.stage self.old.regs self.old.world }
-        ensures table { self.new.world.procs.table ≡ self.old.world.procs.table }
-        ensures apart { (s : ℕ) → self.new.stage ≢ Stage.Running s }
-        ensures rested { phase_of self.old.stage ≡ Started → IsRested self.new.stage self.new.world }
-        ensures blocks { self.new.world.files.tree.nodes.blocks ≡ self.old.world.files.tree.nodes.blocks }
-    {
-        if let Stage::Running(s) = self.stage {
-            let mut u = self.world.procs.images.area(s);
-            let r = self.regs.r;
-            u.r = r;
-            u.cc = self.regs.cc;
-            self.world.procs.images.set_area(s, &u);
-            self.stage = Stage::Resting;
-        }
-    }
-
-    /// Takes no event any more.
-    pub(crate) fn put_away(&mut self)
-        requires { IsKernel self.old.stage self.old.world }
-        ensures stage { self.new.stage ≡ Stage.Finished }
-        ensures system { system_at self.new.stage self.new.regs self.new.world
-            ≡ system_at self.old.stage self.old.regs self.old.world }
-        ensures blocks { self.new.world.files.tree.nodes.blocks ≡ self.old.world.files.tree.nodes.blocks }
-    {
-        self.put_back();
-        self.stage = Stage::Finished;
-    }
-
-    /// Sees whether a process executes instructions, when the kernel has settled: its registers then stand apart.
+    /// Sees what the next slot finds, when the kernel has settled.
     fn refresh(&mut self)
-        requires rested { IsRested self.old.stage self.old.world }
+        requires good { IsGood self.old.world }
         requires settled { (s : ℕ) → self.old.world.procs.table.running ≡ Some s → settle self.old.world.procs.table ≡ None }
         requires idle { self.old.world.procs.table.running ≡ None → chosen self.old.world.procs.table ≡ None }
         ensures kernel { IsKernel self.new.stage self.new.world }
         ensures started { phase_of self.new.stage ≡ Started }
-        ensures system { system_at self.new.stage self.new.regs self.new.world
-            ≡ system_at self.old.stage self.old.regs self.old.world }
-        ensures blocks { self.new.world.files.tree.nodes.blocks ≡ self.old.world.files.tree.nodes.blocks }
+        ensures world { self.new.world ≡ self.old.world }
     {
+        self.stage = Stage::Resting;
         match self.world.procs.table.running {
-            Some(s) if s != 0 => self.take_out(s),
+            Some(s) if s != 0 => self.enter_user(s),
             _ => {}
         }
     }
 
-    /// Takes the registers of a process that runs out of its u area, where it executes instructions.
-    fn take_out(&mut self, s: Slot)
+    /// Sees whether a process that runs executes instructions, and what then stays fixed of it.
+    fn enter_user(&mut self, s: Slot)
         requires stage { self.old.stage ≡ Stage.Resting }
         requires ready { IsReady self.old.world s }
         requires settled { settle self.old.world.procs.table ≡ None }
         ensures kernel { IsKernel self.new.stage self.new.world }
         ensures started { phase_of self.new.stage ≡ Started }
-        ensures system { system_at self.new.stage self.new.regs self.new.world
-            ≡ system_at self.old.stage self.old.regs self.old.world }
-        ensures blocks { self.new.world.files.tree.nodes.blocks ≡ self.old.world.files.tree.nodes.blocks }
+        ensures world { self.new.world ≡ self.old.world }
     {
-        let u = self.world.procs.images.area(s);
-        if u.pending == 0 {
-            let r = u.r;
-            self.regs = Regs { r, cc: u.cc };
-            self.stage = Stage::Running(s);
+        if self.world.procs.images.area(s).pending == 0 {
+            self.stage = Stage::Running(self.world.procs.images.fixed(s));
         }
     }
 
-    /// Settles, after an event that has left the registers in their u areas.
+    /// Settles, after an event.
     fn settle<T: Trace>(&mut self, trace: &mut T)
-        requires { IsRested self.old.stage self.old.world }
+        requires { IsGood self.old.world }
         ensures kernel { IsKernel self.new.stage self.new.world }
         ensures started { phase_of self.new.stage ≡ Started }
-        ensures system { system_at self.new.stage self.new.regs self.new.world
-            ≡ record (system_at self.old.stage self.old.regs self.old.world) {
-              board = (settled (board_in self.old.world)).board;
-            } }
+        ensures system { system_at self.new.world ≡ record (system_at self.old.world) { board = (settled (board_in self.old.world)).board } }
         ensures blocks { self.new.world.files.tree.nodes.blocks ≡ self.old.world.files.tree.nodes.blocks }
         ensures items { Took (T.taken trace.old) (settled (board_in self.old.world)).items (T.taken trace.new) }
         ensures frame { T.leads_to trace.old trace.new }
@@ -222,12 +205,11 @@ impl Machine {
 
     /// Takes a pass of the swapper.
     pub(crate) fn pass<T: Trace>(&mut self, trace: &mut T)
-        requires { IsRested self.old.stage self.old.world }
-        ensures takes { Takes (settled_after (pass_of (system_at self.old.stage self.old.regs self.old.world)))
-            self.new.stage self.new.regs self.new.world }
+        requires { IsGood self.old.world }
+        ensures takes { Takes (settled_after (pass_of (system_at self.old.world))) self.new.stage self.new.world }
         ensures rest { SameRest self.old.world.files.tree.nodes.blocks self.new.world.files.tree.nodes.blocks }
         ensures items { Took (T.taken trace.old)
-            (settled_after (pass_of (system_at self.old.stage self.old.regs self.old.world))).items (T.taken trace.new) }
+            (settled_after (pass_of (system_at self.old.world))).items (T.taken trace.new) }
         ensures frame { T.leads_to trace.old trace.new }
     {
         pass(&mut self.world.procs.table, trace);
@@ -241,13 +223,12 @@ impl Machine {
         requires user { 0 < s }
         requires resting { self.old.stage ≡ Stage.Resting }
         ensures come { HasCome (board_in self.old.world)
-            (turn (system_at self.old.stage self.old.regs self.old.world) s) result self.new.world }
-        ensures stage { self.new.stage ≡ Stage.Resting }
+            (turn (system_at self.old.world) s) result self.new.world }
         ensures good { IsGood self.new.world }
         ensures runs { result ≢ Ending.Ended → self.new.world.procs.table.running ≡ Some s }
         ensures rest { SameRest self.old.world.files.tree.nodes.blocks self.new.world.files.tree.nodes.blocks }
         ensures items { Took (T.taken trace.old) (logged (board_in self.old.world)
-            (turn (system_at self.old.stage self.old.regs self.old.world) s).effects).items (T.taken trace.new) }
+            (turn (system_at self.old.world) s).effects).items (T.taken trace.new) }
         ensures frame { T.leads_to trace.old trace.new }
     {
         resume(&mut self.world, s, trace)
@@ -261,9 +242,8 @@ impl Machine {
         requires user { 0 < s }
         requires slot { s < 50 }
         requires runs { is_over ending ≡ false → ending ≢ Ending.Ended → self.old.world.procs.table.running ≡ Some s }
-        requires stage { self.old.stage ≡ Stage.Resting }
         ensures answer { (pc : ℕ) → turned_at pc result ≡ turned (turn_end self.old.world s pc ending) }
-        ensures takes { (pc : ℕ) → Takes (turn_end self.old.world s pc ending) self.new.stage self.new.regs self.new.world }
+        ensures takes { (pc : ℕ) → Takes (turn_end self.old.world s pc ending) self.new.stage self.new.world }
         ensures blocks { self.new.world.files.tree.nodes.blocks ≡ self.old.world.files.tree.nodes.blocks }
         ensures items { (pc : ℕ) → Took (T.taken trace.old) (turn_end self.old.world s pc ending).items (T.taken trace.new) }
         ensures frame { T.leads_to trace.old trace.new }
@@ -285,19 +265,17 @@ impl Machine {
     /// over slots.
     #[inline(never)]
     pub(crate) fn after_step<T: Trace>(&mut self, s: Slot, outcome: Outcome, trace: &mut T) -> Went
-        requires stage { self.old.stage ≡ Stage.Running s }
-        requires user { IsUser s self.old.world }
-        ensures answer { (m : System) → HasStepped m self.old.regs self.old.world s outcome
+        requires { IsUser s self.old.world }
+        ensures answer { (m : System) → HasStepped m self.old.world s outcome
             → turned_at (register (process_of m.unix s) 7) result ≡ turned (settled_after (turn_of m s (turn m s))) }
-        ensures takes { (m : System) → HasStepped m self.old.regs self.old.world s outcome
-            → Takes (settled_after (turn_of m s (turn m s))) self.new.stage self.new.regs self.new.world }
+        ensures takes { (m : System) → HasStepped m self.old.world s outcome
+            → Takes (settled_after (turn_of m s (turn m s))) self.new.stage self.new.world }
         ensures kernel { IsKernel self.new.stage self.new.world }
         ensures rest { SameRest self.old.world.files.tree.nodes.blocks self.new.world.files.tree.nodes.blocks }
-        ensures items { (m : System) → HasStepped m self.old.regs self.old.world s outcome
+        ensures items { (m : System) → HasStepped m self.old.world s outcome
             → Took (T.taken trace.old) (settled_after (turn_of m s (turn m s))).items (T.taken trace.new) }
         ensures frame { T.leads_to trace.old trace.new }
     {
-        self.put_back();
         let ending = come_to(&mut self.world, s, outcome, trace);
         self.end(s, ending, trace)
     }
@@ -309,13 +287,11 @@ impl Machine {
     pub(crate) fn other_slot<T: Trace>(&mut self, trace: &mut T) -> Went
         requires kernel { IsKernel self.old.stage self.old.world }
         requires resting { self.old.stage ≡ Stage.Resting }
-        ensures answer { turned_at (pc_at self.old.stage self.old.regs self.old.world) result
-            ≡ turned (turn_at self.old.stage self.old.regs self.old.world) }
-        ensures takes { Takes (turn_at self.old.stage self.old.regs self.old.world)
-            self.new.stage self.new.regs self.new.world }
+        ensures answer { turned_at (pc_at self.old.world) result ≡ turned (turn_at self.old.world) }
+        ensures takes { Takes (turn_at self.old.world) self.new.stage self.new.world }
         ensures rest { SameRest self.old.world.files.tree.nodes.blocks self.new.world.files.tree.nodes.blocks }
         ensures items { Took (T.taken trace.old)
-            (turn_at self.old.stage self.old.regs self.old.world).items (T.taken trace.new) }
+            (turn_at self.old.world).items (T.taken trace.new) }
         ensures frame { T.leads_to trace.old trace.new }
     {
         match self.world.procs.table.running {
@@ -331,10 +307,10 @@ impl Machine {
         }
     }
 
-    /// The PC of the process that runs, or 0, where no registers stand apart.
+    /// The PC of the process that runs, or 0.
     pub(crate) fn pc(&self) -> u16
-        requires { IsRested self.now.stage self.now.world }
-        ensures { result ≡ pc_at self.now.stage self.now.regs self.now.world }
+        requires { IsGood self.now.world }
+        ensures { result ≡ pc_at self.now.world }
     {
         match self.world.procs.table.running {
             Some(s) if s != 0 => self.world.procs.images.area(s).r[7],
@@ -342,10 +318,10 @@ impl Machine {
         }
     }
 
-    /// Where a tick comes, when the registers have been put back.
+    /// Where a tick comes.
     fn mode(&self) -> Mode
-        requires { IsRested self.now.stage self.now.world }
-        ensures { result ≡ mode_of (system_at self.now.stage self.now.regs self.now.world) }
+        requires { IsGood self.now.world }
+        ensures { result ≡ mode_of (system_at self.now.world) }
     {
         match self.world.procs.table.running {
             None => Mode::Idle,
@@ -362,8 +338,8 @@ impl Machine {
 
     /// Charges the process that runs with a tick: times(II).
     fn charge(&mut self, mode: Mode)
-        requires { IsRested self.old.stage self.old.world }
-        ensures rested { IsRested self.new.stage self.new.world }
+        requires { IsGood self.old.world }
+        ensures good { IsGood self.new.world }
         ensures stage { self.new.stage ≡ self.old.stage }
         ensures unix { unix_of self.new.world ≡ charged (unix_of self.old.world) mode self.old.world.procs.table.running }
         ensures table { self.new.world.procs.table ≡ self.old.world.procs.table }
@@ -384,14 +360,12 @@ impl Machine {
     pub(crate) fn tick<T: Trace>(&mut self, trace: &mut T)
         requires kernel { IsKernel self.old.stage self.old.world }
         requires started { phase_of self.old.stage ≡ Started }
-        ensures takes { Takes (settled_after (tick_of (system_at self.old.stage self.old.regs self.old.world)))
-            self.new.stage self.new.regs self.new.world }
+        ensures takes { Takes (settled_after (tick_of (system_at self.old.world))) self.new.stage self.new.world }
         ensures rest { SameRest self.old.world.files.tree.nodes.blocks self.new.world.files.tree.nodes.blocks }
         ensures items { Took (T.taken trace.old)
-            (settled_after (tick_of (system_at self.old.stage self.old.regs self.old.world))).items (T.taken trace.new) }
+            (settled_after (tick_of (system_at self.old.world))).items (T.taken trace.new) }
         ensures frame { T.leads_to trace.old trace.new }
     {
-        self.put_back();
         let mode = self.mode();
         self.charge(mode);
         let second = self.world.procs.table.tick_ageing(mode);
@@ -409,14 +383,12 @@ impl Machine {
     pub(crate) fn typed<T: Trace>(&mut self, byte: u8, trace: &mut T)
         requires kernel { IsKernel self.old.stage self.old.world }
         requires started { phase_of self.old.stage ≡ Started }
-        ensures takes { Takes (settled_after (typed_of (system_at self.old.stage self.old.regs self.old.world) byte))
-            self.new.stage self.new.regs self.new.world }
+        ensures takes { Takes (settled_after (typed_of (system_at self.old.world) byte)) self.new.stage self.new.world }
         ensures rest { SameRest self.old.world.files.tree.nodes.blocks self.new.world.files.tree.nodes.blocks }
         ensures items { Took (T.taken trace.old)
-            (settled_after (typed_of (system_at self.old.stage self.old.regs self.old.world) byte)).items (T.taken trace.new) }
+            (settled_after (typed_of (system_at self.old.world) byte)).items (T.taken trace.new) }
         ensures frame { T.leads_to trace.old trace.new }
     {
-        self.put_back();
         let keyed = self.world.files.line.typed(byte, trace);
         wake(&mut self.world.procs.table, calls(keyed), Chan::Keys, trace);
         self.settle(trace);

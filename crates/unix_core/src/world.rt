@@ -1,4 +1,4 @@
-//! What a kernel has beside the registers of the process that executes instructions.
+//! What a kernel has beside how far its run has come.
 
 use sys_files::Files;
 use sys_procs::Procs;

@@ -2,7 +2,7 @@ use Rattle.std.proofs.Common.{◌∙◌, ap}
 use Rattle.u_area.specs.declared.area.UArea.{UArea}
 use Rattle.image_keep.specs.Kept.{with_area}
 use Rattle.abstract_unix.specs.Calls.{refused_area}
-use Rattle.unix_core.proofs.AreaLemmas.{state_is}
+use Rattle.image_keep.proofs.Registers.{state_is}
 use Rattle.unix_core.proofs.process.refuse.Goals as goal
 
 pub returns : goal.returns

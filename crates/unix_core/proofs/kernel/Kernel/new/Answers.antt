@@ -1,4 +1,4 @@
-use Rattle.std.proofs.Common.{◌∙◌, ap, sym, subst, refl, lit<, replicate}
+use Rattle.std.proofs.Common.{◌∙◌, ap, sym, subst, refl}
 use Rattle.fs_nodes.specs.FileSystem.{FileSystem}
 use Rattle.pick_rules.specs.Table.{first_table, IsTable}
 use Rattle.image_keep.specs.Kept.{Kept, Alive, with_keeping}
@@ -22,13 +22,13 @@ returns-clause-system c =
     (ap (λ (p : Procs). p.table) made ∙ c.new-4.ensures.table ∙ ap first_table c.requires.time)
     (subst (λ (p : Procs). IsTable p.table) (sym made) c.new-4.ensures.good)
     (ap (λ (p : Procs). p.images) made ∙ ap (λ (k : Kept). with_keeping k 1 (Alive first_held)) c.requires.images) (ap (λ (p : Procs). p.switches) made)
-    (ap (λ t. t.entry_room) c.requires.tape) (ap (λ t. t.byte_room) c.requires.tape) refl (record { r = replicate 8 0; cc = 0; cc_in_range = lit< tt })
+    (ap (λ t. t.entry_room) c.requires.tape) (ap (λ t. t.byte_room) c.requires.tape) refl
 
 pub returns-clause-blocks : goal.returns-clause-blocks
 returns-clause-blocks c = ap (λ (f : FileSystem). f.blocks) c.new-tree.ensures.nodes
 
-pub invariant_of-result-2 : goal.invariant_of-result-2
-invariant_of-result-2 c =
+pub invariant_of-result : goal.invariant_of-result
+invariant_of-result c =
     let w : World = record {
       files = record { tree = c.new-tree.result; table = c.new.result; line = c.new-2.result };
       procs = c.make_first.new.procs;

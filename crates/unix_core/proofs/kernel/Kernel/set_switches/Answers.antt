@@ -1,5 +1,6 @@
 use Rattle.std.proofs.Common.{◌∙◌, ap, sym, subst}
-use Rattle.abstract_unix.specs.Unix.{System, SystemOnDisk}
+use Rattle.abstract_unix.specs.Unix.{System}
+use Rattle.unix_core.specs.State.{KernelState}
 use Rattle.abstract_unix.specs.Runs.{event_of, Switch}
 use Rattle.unix_core.proofs.BootKernelLemmas.{switched_kernel, switched_system}
 use Rattle.abstract_unix.specs.Private.{AllUndisturbed}
@@ -12,7 +13,7 @@ invariant_of-self c = let m = c.self.inside.machine in switched_kernel m.world c
 pub returns-clause-next : goal.returns-clause-next
 returns-clause-next c =
     let m = c.self.inside.machine in
-    switched_system m.world c.args.w m.stage m.regs ∙ ap (λ (v : SystemOnDisk). (event_of (Switch c.args.w) v.system).next) c.self.view_is
+    switched_system m.world c.args.w ∙ ap (λ (v : KernelState). (event_of (Switch c.args.w) v.system).next) c.self.view_is
 
 pub returns-clause-private : goal.returns-clause-private
 returns-clause-private c =

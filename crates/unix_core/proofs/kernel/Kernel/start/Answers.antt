@@ -1,10 +1,8 @@
-use Rattle.std.proofs.Common.{◌∙◌, refl, ap, subst, sym}
+use Rattle.std.proofs.Common.{◌∙◌, ap, subst, sym}
 use Rattle.v6_base.specs.Trace.{Took}
-use Rattle.unix_core.specs.declared.machine.Stage.{Stage}
-use Rattle.unix_core.specs.declared.machine.Stage.TheVariants as stage
-use Rattle.abstract_unix.specs.Unix.{System, SystemOnDisk}
+use Rattle.abstract_unix.specs.Unix.{System}
+use Rattle.unix_core.specs.State.{KernelState}
 use Rattle.abstract_unix.specs.Runs.{start_of}
-use Rattle.unix_core.specs.Parts.{system_at}
 use Rattle.unix_core.proofs.BootKernelLemmas.{new_stage, start_items}
 use Rattle.abstract_unix.specs.Private.{AllUndisturbed}
 use Rattle.unix_core.proofs.PrivateLemmas.{start_private}
@@ -13,16 +11,13 @@ use Rattle.unix_core.proofs.kernel.Kernel.start.Goals as goal
 pub pass-requires : goal.pass-requires
 pass-requires g c =
     let m = c.self.inside.machine in
-    let new = new_stage m.stage (ap (λ (v : SystemOnDisk). v.phase) c.self.view_is ∙ c.requires) in
-    record { resting = refl; good = c.self.invariant.new new }
+    let new = new_stage m.stage (ap (λ (v : KernelState). v.phase) c.self.view_is ∙ c.requires) in
+    c.self.invariant.new new
 
 pub returns-clause-next : goal.returns-clause-next
 returns-clause-next g c =
-    let m = c.self.inside.machine in
-    let new = new_stage m.stage (ap (λ (v : SystemOnDisk). v.phase) c.self.view_is ∙ c.requires) in
     c.pass.ensures.takes.system
-    ∙ ap (λ (at : Stage). (start_of (system_at at m.regs m.world)).next) (sym new)
-    ∙ ap (λ (v : SystemOnDisk). (start_of v.system).next) c.self.view_is
+    ∙ ap (λ (v : KernelState). (start_of v.system).next) c.self.view_is
 
 pub returns-clause-private : goal.returns-clause-private
 returns-clause-private g c =
@@ -32,10 +27,9 @@ returns-clause-private g c =
 pub returns-clause-items : goal.returns-clause-items
 returns-clause-items g c =
     let m = c.self.inside.machine in
-    let new = new_stage m.stage (ap (λ (v : SystemOnDisk). v.phase) c.self.view_is ∙ c.requires) in
-    subst (λ (v : SystemOnDisk). Took (g.T.Trace.taken c.args.trace.now) (start_of v.system).items (g.T.Trace.taken c.pass.new.trace)) c.self.view_is
-    (subst (λ (at : Stage). Took (g.T.Trace.taken c.args.trace.now) (start_of (system_at at m.regs m.world)).items (g.T.Trace.taken c.pass.new.trace)) (sym new)
-    (start_items stage.Resting m.regs m.world (c.self.invariant.new new) _ _ _ c.entry.ensures.took c.pass.ensures.items))
+    let new = new_stage m.stage (ap (λ (v : KernelState). v.phase) c.self.view_is ∙ c.requires) in
+    subst (λ (v : KernelState). Took (g.T.Trace.taken c.args.trace.now) (start_of v.system).items (g.T.Trace.taken c.pass.new.trace)) c.self.view_is
+    (start_items m.world (c.self.invariant.new new) _ _ _ c.entry.ensures.took c.pass.ensures.items)
 
 pub returns-clause-phase : goal.returns-clause-phase
 returns-clause-phase g c = c.pass.ensures.takes.phase

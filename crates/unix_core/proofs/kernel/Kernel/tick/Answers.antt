@@ -1,5 +1,6 @@
 use Rattle.std.proofs.Common.{◌∙◌, ap, sym, subst}
-use Rattle.abstract_unix.specs.Unix.{System, SystemOnDisk}
+use Rattle.abstract_unix.specs.Unix.{System}
+use Rattle.unix_core.specs.State.{KernelState}
 use Rattle.abstract_unix.specs.Turn.{settled_after}
 use Rattle.abstract_unix.specs.Outside.{tick_of}
 use Rattle.abstract_unix.specs.Private.{AllUndisturbed}
@@ -7,13 +8,13 @@ use Rattle.unix_core.proofs.PrivateLemmas.{tick_private}
 use Rattle.unix_core.proofs.kernel.Kernel.tick.Goals as goal
 
 pub tick-requires-clause-started : goal.tick-requires-clause-started
-tick-requires-clause-started g c = ap (λ (v : SystemOnDisk). v.phase) c.self.view_is ∙ c.requires
+tick-requires-clause-started g c = ap (λ (v : KernelState). v.phase) c.self.view_is ∙ c.requires
 
 pub returns-clause-phase : goal.returns-clause-phase
 returns-clause-phase g c = c.tick.ensures.takes.phase
 
 pub returns-clause-next : goal.returns-clause-next
-returns-clause-next g c = c.tick.ensures.takes.system ∙ ap (λ (k : SystemOnDisk). (settled_after (tick_of k.system)).next) c.self.view_is
+returns-clause-next g c = c.tick.ensures.takes.system ∙ ap (λ (k : KernelState). (settled_after (tick_of k.system)).next) c.self.view_is
 
 pub returns-clause-private : goal.returns-clause-private
 returns-clause-private g c =

@@ -1,6 +1,7 @@
 use Rattle.std.proofs.Common.{◌∙◌, ap, sym, subst}
 use Rattle.v6_base.specs.Trace.{Took}
-use Rattle.abstract_unix.specs.Unix.{System, SystemOnDisk}
+use Rattle.abstract_unix.specs.Unix.{System}
+use Rattle.unix_core.specs.State.{KernelState}
 use Rattle.abstract_unix.specs.Turn.{settled_after}
 use Rattle.abstract_unix.specs.Outside.{typed_of}
 use Rattle.abstract_unix.specs.Private.{AllUndisturbed}
@@ -8,13 +9,13 @@ use Rattle.unix_core.proofs.PrivateLemmas.{typed_private}
 use Rattle.unix_core.proofs.kernel.Kernel.typed.Goals as goal
 
 pub typed-requires-clause-started : goal.typed-requires-clause-started
-typed-requires-clause-started g c = ap (λ (v : SystemOnDisk). v.phase) c.self.view_is ∙ c.requires.started
+typed-requires-clause-started g c = ap (λ (v : KernelState). v.phase) c.self.view_is ∙ c.requires.started
 
 pub returns-clause-phase : goal.returns-clause-phase
 returns-clause-phase g c = c.typed.ensures.takes.phase
 
 pub returns-clause-next : goal.returns-clause-next
-returns-clause-next g c = c.typed.ensures.takes.system ∙ ap (λ (k : SystemOnDisk). (settled_after (typed_of k.system c.args.b)).next) c.self.view_is
+returns-clause-next g c = c.typed.ensures.takes.system ∙ ap (λ (k : KernelState). (settled_after (typed_of k.system c.args.b)).next) c.self.view_is
 
 pub returns-clause-private : goal.returns-clause-private
 returns-clause-private g c =
@@ -23,5 +24,5 @@ returns-clause-private g c =
 
 pub returns-clause-items : goal.returns-clause-items
 returns-clause-items g c =
-    subst (λ (k : SystemOnDisk). Took (g.T.Trace.taken c.args.trace.now) (settled_after (typed_of k.system c.args.b)).items (g.T.Trace.taken c.typed.new.trace))
+    subst (λ (k : KernelState). Took (g.T.Trace.taken c.args.trace.now) (settled_after (typed_of k.system c.args.b)).items (g.T.Trace.taken c.typed.new.trace))
     c.self.view_is c.typed.ensures.items

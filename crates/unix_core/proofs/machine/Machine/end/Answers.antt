@@ -1,11 +1,8 @@
-use Rattle.std.proofs.Common.{◌∙◌, refl, ap, sym, subst}
+use Rattle.std.proofs.Common.{◌∙◌, refl}
 use Rattle.v6_base.proofs.Took.{took_nothing}
 use Rattle.unix_core.specs.declared.world.World.{World}
-use Rattle.unix_core.specs.declared.machine.Stage.{Stage}
-use Rattle.abstract_unix.specs.Turn.{settled}
-use Rattle.unix_core.specs.Parts.{board_in, system_at, IsRested}
-use Rattle.unix_core.proofs.TableLemmas.{with_table}
-use Rattle.unix_core.proofs.EndLemmas.{not_over, ended_rested, ended_takes, ended_items, stopped_takes, stopped_items, end_answer}
+use Rattle.unix_core.specs.Parts.{board_in}
+use Rattle.unix_core.proofs.EndLemmas.{not_over, ended_good, ended_takes, ended_items, stopped_takes, stopped_items, end_answer}
 use Rattle.unix_core.proofs.machine.Machine.end.Goals as goal
 
 pub end_turn-requires-clause-table : goal.end_turn-requires-clause-table
@@ -15,21 +12,17 @@ pub settle-requires : goal.settle-requires
 settle-requires g c =
     let w : World = c.args.self.now.world in
     let on = not_over c.args.ending 0 (c.in-Ran.ensures.goes refl 0) in
-    subst (λ (at : Stage). IsRested at (with_table w c.end_turn.new.table)) (sym c.requires.stage)
-    (ended_rested w (c.requires.good on) c.args.s c.requires.user c.requires.slot c.args.ending (c.requires.runs on) c.end_turn.new.table c.end_turn.ensures.table c.end_turn.ensures.good)
+    ended_good w (c.requires.good on) c.args.s c.requires.user c.requires.slot c.args.ending (c.requires.runs on) c.end_turn.new.table c.end_turn.ensures.table c.end_turn.ensures.good
 
 pub returns-in-Ran-clause-answer : goal.returns-in-Ran-clause-answer
 returns-in-Ran-clause-answer g c pc = c.in-Ran.ensures.went pc ∙ end_answer c.args.self.now.world c.args.s pc c.args.ending
 
 pub returns-in-Ran-clause-takes : goal.returns-in-Ran-clause-takes
 returns-in-Ran-clause-takes g c pc =
-    let m = c.args.self.now in
-    let w : World = m.world in
-    let w' : World = with_table w c.end_turn.new.table in
+    let w : World = c.args.self.now.world in
     let on = not_over c.args.ending pc (c.in-Ran.ensures.goes refl pc) in
     ended_takes w (c.requires.good on) c.args.s c.requires.user c.requires.slot c.args.ending (c.requires.runs on) c.end_turn.new.table c.end_turn.ensures.table c.end_turn.ensures.good
-    pc (c.in-Ran.ensures.goes refl pc) _ _ m.regs _ c.settle.ensures.kernel c.settle.ensures.started (c.end_turn.ensures.board w.procs.images)
-    (c.settle.ensures.system ∙ ap (λ (at : Stage). record (system_at at m.regs w') { board = (settled (board_in w')).board }) c.requires.stage)
+    pc (c.in-Ran.ensures.goes refl pc) _ _ c.settle.ensures.kernel c.settle.ensures.started (c.end_turn.ensures.board w.procs.images) c.settle.ensures.system
 
 pub returns-in-Ran-clause-items : goal.returns-in-Ran-clause-items
 returns-in-Ran-clause-items g c pc =
@@ -44,7 +37,7 @@ returns-in_default-clause-answer g c pc = c.went_by.ensures.went pc ∙ end_answ
 pub returns-in_default-clause-takes : goal.returns-in_default-clause-takes
 returns-in_default-clause-takes g c pc =
     let m = c.args.self.now in
-    stopped_takes m.world c.args.s pc c.args.ending (c.went_by.ensures.stops c.in_default.not-Ran pc) m.regs
+    stopped_takes m.world c.args.s pc c.args.ending (c.went_by.ensures.stops c.in_default.not-Ran pc)
 
 pub returns-in_default-clause-items : goal.returns-in_default-clause-items
 returns-in_default-clause-items g c pc =

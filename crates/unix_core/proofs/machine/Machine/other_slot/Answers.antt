@@ -4,25 +4,24 @@ use Rattle.sys_procs.specs.Process.{register}
 use Rattle.abstract_unix.specs.Unix.{System, process_of}
 use Rattle.abstract_unix.specs.Turn.{Turn, turn, turned}
 use Rattle.unix_core.specs.Parts.{system_at, pc_by, pc_at, turn_end, Takes}
-use Rattle.unix_core.proofs.MachineLemmas.{rested_alive}
+use Rattle.unix_core.proofs.PutLemmas.{good_alive}
 use Rattle.unix_core.proofs.TurnLemmas.{turn_is, turn_takes, turn_items}
 use Rattle.unix_core.proofs.TurnSteps.{user_slot}
-use Rattle.unix_core.proofs.SlotLemmas.{kernel_rested}
 use Rattle.unix_core.proofs.machine.Machine.other_slot.Goals as goal
 
 pub end-requires-clause-slot : goal.end-requires-clause-slot
 end-requires-clause-slot g c =
     let m = c.args.self.now in
     let above : 0 < c.in-Some.s = search rules in
-    (rested_alive m.stage m.world c.in-Some.s (kernel_rested m.stage m.world c.requires.kernel c.requires.resting) c.in-Some.is above).below
+    (good_alive m.world c.in-Some.s (c.requires.kernel.resting c.requires.resting).good c.in-Some.is above).below
 
 pub returns-in-Some-clause-answer : goal.returns-in-Some-clause-answer
 returns-in-Some-clause-answer g c =
     let n = c.args.self.now in
     let s = c.in-Some.s in
     let above : 0 < s = search rules in
-    let m : System = system_at n.stage n.regs n.world in
-    c.end.ensures.answer (pc_at n.stage n.regs n.world)
+    let m : System = system_at n.world in
+    c.end.ensures.answer (pc_at n.world)
     ∙ ap (λ o. turned (turn_end c.go_on-ending.new.self.world s (pc_by m.unix o) c.go_on-ending.result)) c.in-Some.is
     ∙ ap turned (sym (turn_is m s (turn m s) c.go_on-ending.result c.go_on-ending.new.self.world c.go_on-ending.ensures.come))
     ∙ ap turned (sym (user_slot m s c.in-Some.is above))
@@ -32,10 +31,10 @@ returns-in-Some-clause-takes g c =
     let n = c.args.self.now in
     let s = c.in-Some.s in
     let above : 0 < s = search rules in
-    let m : System = system_at n.stage n.regs n.world in
+    let m : System = system_at n.world in
     let new = c.end.new.self in
-    subst (λ (t : Turn). Takes t new.stage new.regs new.world) (sym (user_slot m s c.in-Some.is above))
-    (turn_takes m s (turn m s) c.go_on-ending.result c.go_on-ending.new.self.world c.go_on-ending.ensures.come _ _ _
+    subst (λ (t : Turn). Takes t new.stage new.world) (sym (user_slot m s c.in-Some.is above))
+    (turn_takes m s (turn m s) c.go_on-ending.result c.go_on-ending.new.self.world c.go_on-ending.ensures.come _ _
     (c.end.ensures.takes (register (process_of m.unix s) 7)))
 
 pub returns-in-Some-clause-items : goal.returns-in-Some-clause-items
@@ -43,7 +42,7 @@ returns-in-Some-clause-items g c =
     let n = c.args.self.now in
     let s = c.in-Some.s in
     let above : 0 < s = search rules in
-    let m : System = system_at n.stage n.regs n.world in
+    let m : System = system_at n.world in
     subst (λ (t : Turn). Took (g.T.Trace.taken c.args.trace.now) t.items (g.T.Trace.taken c.end.new.trace)) (sym (user_slot m s c.in-Some.is above))
     (turn_items m s (turn m s) c.go_on-ending.result c.go_on-ending.new.self.world c.go_on-ending.ensures.come _ _ _
     c.go_on-ending.ensures.items (c.end.ensures.items (register (process_of m.unix s) 7)))

@@ -4,22 +4,20 @@ use Rattle.pick_rules.specs.Board.{Board}
 use Rattle.sys_procs.specs.World.{clock_of}
 use Rattle.unix_core.specs.declared.world.World.{World}
 use Rattle.unix_core.specs.Parts.{system_at}
-use Rattle.unix_core.proofs.MachineLemmas.{some_good}
-use Rattle.unix_core.proofs.TableLemmas.{rested_table, settled_agree, settled_image, settled_settles, settled_idle, settled_clock, table_system}
+use Rattle.unix_core.proofs.TableLemmas.{good_table, settled_agree, settled_image, settled_settles, settled_idle, settled_clock, table_system}
 use Rattle.unix_core.proofs.machine.Machine.settle.Goals as goal
 
 pub settle-requires : goal.settle-requires
-settle-requires g c = let m = c.args.self.now in (some_good m.stage m.world c.requires).agree.table
+settle-requires g c = c.requires.agree.table
 
-pub refresh-requires-clause-rested : goal.refresh-requires-clause-rested
-refresh-requires-clause-rested g c =
-    let m = c.args.self.now in
-    let w : World = m.world in
+pub refresh-requires-clause-good : goal.refresh-requires-clause-good
+refresh-requires-clause-good g c =
+    let w : World = c.args.self.now.world in
     let t : Table = w.procs.table in
     let u : Table = c.settle.new.table in
-    let good = (some_good m.stage w c.requires) in
-    rested_table w u (settled_agree w.procs.rows w.procs.images t u c.settle.ensures.table c.settle.ensures.good good.agree)
-    (settled_image w.procs.rows w.procs.images t u c.settle.ensures.table c.settle.ensures.good good.agree good.running) m.stage c.requires
+    let good = c.requires in
+    good_table w u (settled_agree w.procs.rows w.procs.images t u c.settle.ensures.table c.settle.ensures.good good.agree)
+    (settled_image w.procs.rows w.procs.images t u c.settle.ensures.table c.settle.ensures.good good.agree good.running) good
 
 pub refresh-requires-clause-settled : goal.refresh-requires-clause-settled
 refresh-requires-clause-settled g c =
@@ -33,12 +31,11 @@ refresh-requires-clause-idle g c =
 
 pub returns-clause-system : goal.returns-clause-system
 returns-clause-system g c =
-    let m = c.args.self.now in
-    let w : World = m.world in
+    let w : World = c.args.self.now.world in
     let t : Table = w.procs.table in
-    c.refresh.ensures.system
-    ∙ table_system m.stage m.regs w c.settle.new.table (ap clock_of c.settle.ensures.table ∙ settled_clock w.procs.rows w.procs.images t)
-    ∙ ap (λ (b : Board). record (system_at m.stage m.regs w) { board = b }) (c.settle.ensures.board w.procs.images)
+    ap system_at c.refresh.ensures.world
+    ∙ table_system w c.settle.new.table (ap clock_of c.settle.ensures.table ∙ settled_clock w.procs.rows w.procs.images t)
+    ∙ ap (λ (b : Board). record (system_at w) { board = b }) (c.settle.ensures.board w.procs.images)
 
 pub returns-clause-items : goal.returns-clause-items
 returns-clause-items g c = c.settle.ensures.items c.args.self.now.world.procs.images

@@ -1,0 +1,36 @@
+use Rattle.std.proofs.Common.{◌∙◌, ap, sym, subst}
+use Rattle.std.proofs.lemmas.Bool.{eq-eqb, ne_eqb}
+use Rattle.u_area.specs.declared.area.UArea.{UArea}
+use Rattle.unix_core.specs.declared.world.World.{World}
+use Rattle.unix_core.specs.declared.machine.Stage.{Stage}
+use Rattle.unix_core.specs.Parts.{IsUser, IsKernel}
+use Rattle.unix_core.proofs.WorldLemmas.{ready_alive}
+use Rattle.unix_core.proofs.MachineLemmas.{user_is, runs_kernel, calls_kernel}
+use Rattle.unix_core.proofs.machine.Machine.enter_user.Goals as goal
+
+pub area-requires : goal.area-requires
+area-requires c = (ready_alive c.args.self.now.world c.args.s c.requires.ready).image
+
+pub fixed-requires : goal.fixed-requires
+fixed-requires c = (ready_alive c.args.self.now.world c.args.s c.requires.ready).image
+
+pub returns-then-area-eq0-clause-kernel : goal.returns-then-area-eq0-clause-kernel
+returns-then-area-eq0-clause-kernel c =
+    let w : World = c.args.self.now.world in
+    let s = c.args.s in
+    runs_kernel w c.fixed.result (record {
+      user = subst (λ t. IsUser t w) (sym c.fixed.ensures.slot) (record {
+        ready = c.requires.ready;
+        user = user_is w s _ (ready_alive w s c.requires.ready) (eq-eqb _ 0 (ap (λ (u : UArea). u.pending) (sym c.area.ensures.u) ∙ c.if-area-eq0.true));
+        settled = c.requires.settled;
+      });
+      fixed = c.fixed.ensures.fixed;
+    })
+
+pub returns-else-area-eq0-clause-kernel : goal.returns-else-area-eq0-clause-kernel
+returns-else-area-eq0-clause-kernel c =
+    let w : World = c.args.self.now.world in
+    let s = c.args.s in
+    subst (λ (at : Stage). IsKernel at w) (sym c.requires.stage)
+    (calls_kernel w s c.requires.ready c.requires.settled
+    (user_is w s _ (ready_alive w s c.requires.ready) (ne_eqb _ 0 (λ e. c.if-area-eq0.false (ap (λ (u : UArea). u.pending) c.area.ensures.u ∙ e)))))

@@ -1,0 +1,100 @@
+//! What a kernel tells of its memory and its disk: the bytes of core and of the swap area, where images stand, and the blocks
+//! that a run leaves.
+ghost use Rattle.std.specs.Prelude.{◌≡◌, ◌<◌, ◌≤◌, ◌+◌, ◌*◌, ◌-◌, ℕ, List, length, slice_index};
+ghost use Rattle.fs_codec.specs.declared.layout.TheConstants.{SWAP_START};
+ghost use Rattle.buf_cache.specs.Blocks.{block_at};
+ghost use Rattle.core_mem.specs.Bytes.{part};
+ghost use Rattle.image_keep.specs.Kept.{place_of};
+ghost use Rattle.image_keep.specs.Holds.{CoreHolds, SwapHolds, AreRangesApart};
+
+use crate::files::see_procs;
+use crate::kernel::Kernel;
+use fs_codec::{DISK_BLOCKS, SWAP_START};
+use v6_base::{Place, Slot};
+
+/// Copies so many bytes from a place on.
+#[tactic(auto, unfolding(core_mem::specs::Bytes::part))]
+fn copy_part(all: &[u8], at: usize, n: usize, out: &mut [u8])
+    requires inside { at + n ≤ length all.now }
+    requires size { length out.old ≡ n }
+    ensures { out.new ≡ part all.now at n }
+{
+    out.copy_from_slice(&all[at..at + n]);
+}
+
+/// The bytes of a block of the swap area, counted from its first one.
+fn swap_block(swap: &[u8], n: usize) -> [u8; 512]
+    requires { 512 * (n + 1) ≤ length swap.now }
+    ensures { result ≡ part swap.now (512 * n) 512 }
+{
+    let mut block = [0; 512];
+    copy_part(swap, 512 * n, 512, &mut block);
+    block
+}
+
+impl Kernel {
+    ghost use Rattle.abstract_unix.specs.Unix.{Started, Finished};
+    ghost use Rattle.unix_core.specs.Memory.{kept_in};
+
+    /// The bytes of core: byte 0 of click c is byte 64 * (c - 1). It holds the images and the texts that are there;
+    /// between two events of a run that goes on, those of the system, at the places that its board tells.
+    pub fn core(&self) -> &[u8]
+        ensures holds { CoreHolds result.now self.now.kept }
+        ensures apart { AreRangesApart self.now.kept }
+        ensures told { self.now.phase ≡ Started → self.now.kept ≡ kept_in self.now.system }
+    {
+        see_procs(&self.machine.world.procs);
+        self.machine.world.procs.images.core()
+    }
+
+    /// The bytes of the swap area: byte 0 of block b of the disk is byte 512 * (b - 4000). It holds the images that are out of
+    /// core, half of the u area of each process that has ended, and all texts; between two events of a run that goes on, those
+    /// of the system.
+    pub fn swap(&self) -> &[u8]
+        ensures holds { SwapHolds result.now self.now.kept }
+        ensures apart { AreRangesApart self.now.kept }
+        ensures told { self.now.phase ≡ Started → self.now.kept ≡ kept_in self.now.system }
+    {
+        see_procs(&self.machine.world.procs);
+        self.machine.world.procs.images.swap()
+    }
+
+    /// A byte of core.
+    pub fn core_byte(&self, at: u32) -> u8
+        requires { at < 64 * self.now.kept.core }
+        ensures { (core : List ℕ) × CoreHolds core self.now.kept × (result ≡ slice_index core at) }
+    {
+        self.core()[at as usize]
+    }
+
+    /// A byte of the swap area.
+    pub fn swap_byte(&self, at: u32) -> u8
+        requires { at < 446464 }
+        ensures { (swap : List ℕ) × SwapHolds swap self.now.kept × (result ≡ slice_index swap at) }
+    {
+        self.swap()[at as usize]
+    }
+
+    /// Where the image of a slot stands, or what is kept of a process that has ended: nothing, where the slot is free.
+    pub fn place(&self, s: Slot) -> Option<Place>
+        requires { s < 50 }
+        ensures { result ≡ place_of self.now.kept s }
+    {
+        self.machine.world.procs.images.place(s)
+    }
+
+    /// Block `n` of the disk, as a run that has been finished leaves it: from block 4000 on what the swap area holds then.
+    pub fn final_block(&self, n: u16) -> [u8; 512]
+        requires finished { self.now.phase ≡ Finished }
+        requires block { n < DISK_BLOCKS }
+        ensures below { n < SWAP_START → result ≡ block_at self.now.stored n }
+        ensures swapped { SWAP_START ≤ n
+            → (swap : List ℕ) × SwapHolds swap self.now.kept × (result ≡ part swap (512 * (n - SWAP_START)) 512) }
+    {
+        if n < SWAP_START {
+            *self.machine.world.files.tree.nodes.on_disk(n)
+        } else {
+            swap_block(self.swap(), usize::from(n - SWAP_START))
+        }
+    }
+}
