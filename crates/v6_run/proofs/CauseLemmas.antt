@@ -27,10 +27,10 @@ right_false false b is = is
 
 -- what `run` has a name for
 pub names_image : (words : RunWords) (q : Port) → is_named (Run words) q ≡ false → same (In in_port.Image) q ≡ false
-names_image words q other = left_false (same (In in_port.Image) q) (same (In in_port.Script) q) (left_false _ (is_output q) other)
+names_image words q other = left_false (same (In in_port.Image) q) (same (In in_port.Script) q) (left_false _ (is_output words.outputs q) other)
 
 pub names_script : (words : RunWords) (q : Port) → is_named (Run words) q ≡ false → same (In in_port.Script) q ≡ false
-names_script words q other = right_false (same (In in_port.Image) q) (same (In in_port.Script) q) (left_false _ (is_output q) other)
+names_script words q other = right_false (same (In in_port.Image) q) (same (In in_port.Script) q) (left_false _ (is_output words.outputs q) other)
 
-pub names_outputs : (words : RunWords) (q : Port) → is_named (Run words) q ≡ false → is_output q ≡ false
-names_outputs words q other = right_false (same (In in_port.Image) q || same (In in_port.Script) q) (is_output q) other
+pub names_outputs : (words : RunWords) (q : Port) → is_named (Run words) q ≡ false → is_output words.outputs q ≡ false
+names_outputs words q other = right_false (same (In in_port.Image) q || same (In in_port.Script) q) (is_output words.outputs q) other

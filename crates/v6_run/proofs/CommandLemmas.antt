@@ -5,7 +5,7 @@ use Rattle.v6_port.specs.declared.host.InPort.{InPort}
 use Rattle.v6_port.specs.declared.host.InPort.TheVariants as in_port
 use Rattle.v6_port.specs.declared.host.OutPort.{OutPort}
 use Rattle.v6_port.specs.declared.host.OutPort.TheVariants as out_port
-use Rattle.v6_port.specs.Outside.{Port, Out, same, is_report, PortState, Outside, Tells, Rose, OnlyAt}
+use Rattle.v6_port.specs.Outside.{Port, Out, same, is_report, IsIdle, PortState, Outside, Tells, Rose, OnlyAt}
 use Rattle.v6_port.specs.Causes.{Calm, FaultAt}
 use Rattle.fs_check.specs.declared.counts.Tally.{Tally}
 use Rattle.v6_run.specs.declared.status.Status.{Status}
@@ -21,7 +21,8 @@ use Rattle.v6_run.specs.declared.run.RunError.TheVariants as run_error
 use Rattle.v6_run.specs.declared.make.MakeError.TheVariants as make_error
 use Rattle.v6_run.specs.declared.error.CommandError.{CommandError}
 use Rattle.v6_run.specs.declared.error.CommandError.TheVariants as error
-use Rattle.v6_run.specs.Words.{Command, Run, Check, Make}
+use Rattle.v6_run.specs.Words.{Outputs, ToDisk, ToMemory, Command, Run, Check, Make}
+use Rattle.v6_run.specs.Outputs.{is_output}
 use Rattle.v6_run.specs.Status.{fault_port, is_decided, has_written}
 use Rattle.v6_run.specs.Errors.{read_status, image_status, command_status, end_of}
 use Rattle.v6_run.specs.Fronts.{HoldsFront, HoldsSome, HoldsFrontOfSome}
@@ -44,8 +45,22 @@ refusal_is (Some c) s P is usage size = at_size (has_core_size c) is
     at_size false some = let same_status : CoreSize ≡ s = cc in subst P same_status size
 
 -- Report has no name
+unwritten_report : (o : Outputs) → is_output o (Out out_port.Report) ≡ false
+unwritten_report (ToDisk files) = refl
+unwritten_report (ToMemory final) = refl
+
+-- before a run none of its files is open
+named_report : (o : Outputs) (p : OutPort) → is_output o (Out p) ≡ true → is_report (Out p) ≡ false
+named_report o out_port.Term named = refl
+named_report o out_port.Log named = refl
+named_report o out_port.Final named = refl
+named_report o out_port.Report named = not_so _ (sym (unwritten_report o) ∙ named)
+
+pub none_open : (o : Outputs) (a : Outside) → IsIdle a → (p : OutPort) → is_output o (Out p) ≡ true → (a.port (Out p)).is_open ≡ false
+none_open o a idle p named = idle.closed p (named_report o p named)
+
 unnamed : (c : Command) → is_named c (Out out_port.Report) ≡ false
-unnamed (Run words) = refl
+unnamed (Run words) = unwritten_report words.outputs
 unnamed (Check image) = refl
 unnamed (Make number final) = refl
 

@@ -1,11 +1,10 @@
 -- The text of a disk reads as its blocks, and is written block by block.
 use Rattle.std.proofs.Common.{◌≡◌, ◌+◌, ◌-◌, ◌*◌, ◌<◌, ◌≤◌, ℕ, zero, suc, None, List, ◌++◌, length, length-append, slice_index, refl, sym, ap, ◌∙◌, subst, append_assoc, arith}
-use Rattle.std.proofs.lemmas.List.{append-nil, get_or_append_left, get_or-append_right}
+use Rattle.std.proofs.lemmas.List.{append-nil, take_all, get_or_append_left, get_or-append_right}
 use Rattle.std.specs.List.{flat_map, range_with_len}
 use Rattle.fs_codec.specs.Disk.{Disk, disk_of, head}
 use Rattle.fs_codec.specs.Fields.{super_of}
 use Rattle.fs_codec.specs.Faults.{image_fault}
-use Rattle.fs_codec.specs.Store.{Store}
 use Rattle.fs_codec.specs.Stands.{StandsFor}
 use Rattle.fs_codec.specs.declared.layout.TheConstants.{DISK_BLOCKS, SWAP_START}
 use Rattle.fs_codec.proofs.ImageLemmas.{bytes_by_places}
@@ -17,6 +16,11 @@ use Rattle.fs_laws.proofs.WholeLemmas.{whole_is, whole_within, within_whole}
 use Rattle.fs_laws.proofs.FreeLemmas.{good_head}
 use Rattle.fs_laws.proofs.AgreeLemmas.{SameFiles, files_whole, files_store}
 use Rattle.fs_laws.proofs.ImageLemmas.{block_of_image}
+use Rattle.core_mem.specs.Bytes.{part}
+use Rattle.core_mem.proofs.Parts.{part-right}
+use Rattle.image_keep.specs.Holds.{SwapHolds}
+use Rattle.abstract_unix.specs.Unix.{System}
+use Rattle.unix_core.specs.Memory.{kept_in}
 use Rattle.v6_run.specs.Fronts.{HoldsFront}
 use Rattle.v6_run.specs.Final.{IsFinal, disk_text}
 
@@ -53,52 +57,66 @@ flat_split f a (suc n) m =
 
 -- Each block of a disk's text is the block.
 module _ (blocks : List (List ℕ)) (form : IsDisk blocks) where
-  each_whole : (j : ℕ) → j < 0 + DISK_BLOCKS → length (block_at blocks j) ≡ 512
+  each_whole : (j : ℕ) → j < 0 + SWAP_START → length (block_at blocks j) ≡ 512
   each_whole j low = form.whole j (omega (arith, low))
 
-  pub text_long : length (disk_text blocks) ≡ 512 * DISK_BLOCKS
+  pub text_long : length (disk_text blocks) ≡ 512 * SWAP_START
   unfolding disk_text
-  text_long = flat_long (block_at blocks) 0 DISK_BLOCKS each_whole
+  text_long = flat_long (block_at blocks) 0 SWAP_START each_whole
 
-  text_byte : (n k : ℕ) → n < DISK_BLOCKS → k < 512 → slice_index (disk_text blocks) (512 * n + k) ≡ slice_index (block_at blocks n) k
+  text_byte : (n k : ℕ) → n < SWAP_START → k < 512 → slice_index (disk_text blocks) (512 * n + k) ≡ slice_index (block_at blocks n) k
   unfolding disk_text
   text_byte n k low small = let first : 0 + n ≡ n = omega arith in
-      flat_byte (block_at blocks) 0 DISK_BLOCKS n k each_whole low small ∙ ap (λ j. slice_index (block_at blocks j) k) first
+      flat_byte (block_at blocks) 0 SWAP_START n k each_whole low small ∙ ap (λ j. slice_index (block_at blocks j) k) first
 
-  pub text_block : (n : ℕ) → n < DISK_BLOCKS → disk_of (disk_text blocks) n ≡ block_at blocks n
+  -- with any swap area behind it
+  pub text_block : (swap : List ℕ) (n : ℕ) → n < SWAP_START → disk_of (disk_text blocks ++ swap) n ≡ block_at blocks n
   unfolding disk_of
-  text_block n low = sym (bytes_by_places (disk_text blocks) (block_at blocks n) (512 * n) 512 (form.whole n low) (λ k small. sym (text_byte n k low small)))
+  text_block swap n low = sym (bytes_by_places (disk_text blocks ++ swap) (block_at blocks n) (512 * n) 512 (form.whole n (omega (arith, low)))
+      (λ k small. sym (get_or_append_left (disk_text blocks) swap 0 (512 * n + k) (let l = text_long in omega (arith, l, low, small)) ∙ text_byte n k low small)))
 
--- The text of the blocks that stand for a store is a final disk of it.
-pub final_is : (old new : List (List ℕ)) (store : Store) → (head (block_at old)).f_size ≤ SWAP_START → SameRest old new → IsDisk new → StandsFor DISK_BLOCKS (block_at new) store
-    → IsFinal (block_at old) store (disk_text new)
-final_is old new store low rest form stands =
+whole_part : (xs : List ℕ) (n : ℕ) → length xs ≡ n → part xs 0 n ≡ xs
+unfolding part
+whole_part xs n long = take_all n xs (omega (arith, long))
+
+-- The text of the blocks that stand for a system's store, with a swap area that holds what the system keeps, is a final disk.
+pub final_is : (old new : List (List ℕ)) (m : System) → (head (block_at old)).f_size ≤ SWAP_START → SameRest old new → IsDisk new → StandsFor DISK_BLOCKS (block_at new) m.unix.store
+    → (swap : List ℕ) → SwapHolds swap (kept_in m) → IsFinal (block_at old) m (disk_text new ++ swap)
+final_is old new m low rest form stands swap holds =
     let whole : IsWhole (block_at new) = whole_is (block_at new) stands.sound in
     let end = (good_head (head (block_at new)) whole.sound.super).end in
-    let text = text_block new form in
-    let files : SameFiles (block_at new) (disk_of (disk_text new)) = record { blocks = λ k inside. text k (omega (arith, inside, end)) } in
-    let size : (head (disk_of (disk_text new))).f_size ≡ (head (block_at old)).f_size = ap (λ l. (super_of l).f_size) (text 1 (omega arith)) ∙ rest.f_size in
+    let disk : Disk = disk_of (disk_text new ++ swap) in
+    let text = text_block new form swap in
+    let long = text_long new form in
+    let swapped = holds.size in
+    let first : (head (block_at new)).f_size ≡ (head (block_at old)).f_size = rest.f_size in
+    let files : SameFiles (block_at new) disk = record { blocks = λ k inside. text k (omega (arith, inside, first, low)) } in
+    let size : (head disk).f_size ≡ (head (block_at old)).f_size = ap (λ l. (super_of l).f_size) (text 1 (omega arith)) ∙ rest.f_size in
+    let there : part (disk_text new ++ swap) (512 * SWAP_START) 446464 ≡ swap =
+    part-right (disk_text new) swap (512 * SWAP_START) 0 446464 (omega (arith, long)) ∙ whole_part swap 446464 swapped in
     record {
-      long = text_long new form;
+      long = length-append (disk_text new) swap ∙ omega (arith, long, swapped);
       stands = record {
-        sound = whole_within SWAP_START (disk_of (disk_text new)) (files_whole (block_at new) (disk_of (disk_text new)) whole files) (omega (arith, size, low));
-        same = stands.same ∙ sym (files_store (block_at new) (disk_of (disk_text new)) whole files);
+        sound = whole_within SWAP_START disk (files_whole (block_at new) disk whole files) (omega (arith, size, low));
+        same = stands.same ∙ sym (files_store (block_at new) disk whole files);
       };
       boot = text 0 (omega arith) ∙ rest.boot;
       size = size;
       behind = λ n past inside. text n inside ∙ rest.behind n past;
+      swap = subst (λ l. SwapHolds l (kept_in m)) (sym there) holds;
     }
 
 -- it is one over another disk with the same blocks
-pub final_same : (d e : Disk) (store : Store) (text : List ℕ) → ((n : ℕ) → n < DISK_BLOCKS → e n ≡ d n) → IsFinal e store text → IsFinal d store text
-final_same d e store text same final =
+pub final_same : (d e : Disk) (m : System) (text : List ℕ) → ((n : ℕ) → n < DISK_BLOCKS → e n ≡ d n) → IsFinal e m text → IsFinal d m text
+final_same d e m text same final =
     let first : (head e).f_size ≡ (head d).f_size = ap (λ l. (super_of l).f_size) (same 1 (omega arith)) in
     record {
       long = final.long;
       stands = final.stands;
       boot = final.boot ∙ same 0 (omega arith);
       size = final.size ∙ first;
-      behind = λ n past inside. final.behind n (omega (arith, past, first)) inside ∙ same n inside;
+      behind = λ n past inside. final.behind n (omega (arith, past, first)) inside ∙ same n (omega (arith, inside));
+      swap = final.swap;
     }
 
 -- The disk of an image without a fault keeps clear of the swap area.
@@ -118,22 +136,22 @@ so_far_more blocks n =
     let first : 0 + n ≡ n = omega arith in
     flat_split (block_at blocks) 0 n 1 ∙ ap (λ l. flat_map (block_at blocks) (range_with_len 0 n) ++ l) (append-nil (block_at blocks (0 + n)) ∙ ap (block_at blocks) first)
 
-pub so_far_all : (blocks : List (List ℕ)) (n : ℕ) → DISK_BLOCKS ≤ n → n ≤ DISK_BLOCKS → so_far blocks n ≡ disk_text blocks
+pub so_far_all : (blocks : List (List ℕ)) (n : ℕ) → SWAP_START ≤ n → n ≤ SWAP_START → so_far blocks n ≡ disk_text blocks
 unfolding so_far disk_text
-so_far_all blocks n low high = let all : n ≡ DISK_BLOCKS = omega (arith, low, high) in ap (λ m. flat_map (block_at blocks) (range_with_len 0 m)) all
+so_far_all blocks n low high = let all : n ≡ SWAP_START = omega (arith, low, high) in ap (λ m. flat_map (block_at blocks) (range_with_len 0 m)) all
 
 -- the blocks from one on
 behind : List (List ℕ) → ℕ → List ℕ
-behind blocks n = flat_map (block_at blocks) (range_with_len (0 + n) (DISK_BLOCKS - n))
+behind blocks n = flat_map (block_at blocks) (range_with_len (0 + n) (SWAP_START - n))
 
-text_split : (blocks : List (List ℕ)) (n : ℕ) → n ≤ DISK_BLOCKS → disk_text blocks ≡ so_far blocks n ++ behind blocks n
+text_split : (blocks : List (List ℕ)) (n : ℕ) → n ≤ SWAP_START → disk_text blocks ≡ so_far blocks n ++ behind blocks n
 unfolding so_far disk_text behind
 text_split blocks n low =
-    let all : DISK_BLOCKS ≡ n + (DISK_BLOCKS - n) = omega (arith, low) in
-    ap (λ m. flat_map (block_at blocks) (range_with_len 0 m)) all ∙ flat_split (block_at blocks) 0 n (DISK_BLOCKS - n)
+    let all : SWAP_START ≡ n + (SWAP_START - n) = omega (arith, low) in
+    ap (λ m. flat_map (block_at blocks) (range_with_len 0 m)) all ∙ flat_split (block_at blocks) 0 n (SWAP_START - n)
 
 -- a front of one block more is a front of all
-front_of_block : (blocks : List (List ℕ)) (old now new : List ℕ) (n : ℕ) → n < DISK_BLOCKS → now ≡ old ++ so_far blocks n → HoldsFront now (block_at blocks n) new → HoldsFront old (disk_text blocks) new
+front_of_block : (blocks : List (List ℕ)) (old now new : List ℕ) (n : ℕ) → n < SWAP_START → now ≡ old ++ so_far blocks n → HoldsFront now (block_at blocks n) new → HoldsFront old (disk_text blocks) new
 front_of_block blocks old now new n low was front = record {
   part = so_far blocks n ++ front.part;
   rest = front.rest ++ behind blocks (n + 1);
@@ -143,7 +161,7 @@ front_of_block blocks old now new n low was front = record {
   holds = front.holds ∙ ap (λ l. l ++ front.part) was ∙ append_assoc old (so_far blocks n) front.part;
 }
 
-pub front_more : (blocks : List (List ℕ)) (old now new piece : List ℕ) (n : ℕ) → n < DISK_BLOCKS → now ≡ old ++ so_far blocks n → piece ≡ block_at blocks n → HoldsFront now piece new → HoldsFront old (disk_text blocks) new
+pub front_more : (blocks : List (List ℕ)) (old now new piece : List ℕ) (n : ℕ) → n < SWAP_START → now ≡ old ++ so_far blocks n → piece ≡ block_at blocks n → HoldsFront now piece new → HoldsFront old (disk_text blocks) new
 front_more blocks old now new piece n low was is front = front_of_block blocks old now new n low was (subst (λ l. HoldsFront now l new) is front)
 
 pub bytes_more : (blocks : List (List ℕ)) (old now new piece : List ℕ) (n : ℕ) → now ≡ old ++ so_far blocks n → piece ≡ block_at blocks n → new ≡ now ++ piece → new ≡ old ++ so_far blocks (n + 1)

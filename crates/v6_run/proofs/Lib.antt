@@ -14,3 +14,4 @@ pub mod AnswerLemmas
 pub mod RunLemmas
 pub mod CheckLemmas
 pub mod CommandLemmas
+pub mod MemoryLemmas

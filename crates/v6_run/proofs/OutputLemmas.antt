@@ -15,37 +15,47 @@ use Rattle.fs_laws.proofs.RestLemmas.{rest_then}
 use Rattle.abstract_unix.specs.declared.ends.Ends.{Ends}
 use Rattle.abstract_unix.specs.declared.ends.Ends.TheVariants as ends
 use Rattle.abstract_unix.specs.declared.ends.Ends.TheVariants.{AtEnd}
-use Rattle.abstract_unix.specs.Unix.{System, SystemOnDisk}
+use Rattle.image_keep.specs.Holds.{SwapHolds}
+use Rattle.abstract_unix.specs.Unix.{System}
+use Rattle.unix_core.specs.State.{KernelState}
+use Rattle.unix_core.specs.Memory.{kept_in}
 use Rattle.abstract_unix.specs.Runs.{Course, shown_by, finished}
 use Rattle.fs_laws.proofs.ImageLemmas.{block_of_image}
 use Rattle.v6_run.specs.declared.outputs.Output.{Output}
-use Rattle.v6_run.specs.declared.outputs.Output.TheVariants.{Final}
+use Rattle.v6_run.specs.declared.outputs.Output.TheVariants.{Term, Log, Final}
 use Rattle.v6_run.specs.Ports.{term, log_of, final_of, HasShown, HasShownFronts}
 use Rattle.v6_run.specs.Fronts.{HoldsFront, HoldsSome, HoldsFrontOfSome}
 use Rattle.v6_run.specs.Final.{IsFinal, disk_text}
-use Rattle.v6_run.specs.Outputs.{port_of, is_shown, is_output, final_writes, is_finished, run_writes, EndsRun, StopsRun}
+use Rattle.v6_run.specs.Words.{Outputs, ToDisk, ToMemory}
+use Rattle.v6_run.specs.Outputs.{port_of, is_shown, is_disk_output, is_output, final_writes, is_finished, disk_writes, run_writes, EndsRun, StopsRun}
 use Rattle.v6_port.proofs.CauseLemmas.{still_tells, calm_then, fault_then}
 use Rattle.v6_run.proofs.FrontLemmas.{front_of_nothing, front_of_all}
 use Rattle.v6_run.proofs.FinalLemmas.{final_is, final_same}
 
-nothing_of : (writes : List ℕ → Type 0) (old new : List ℕ) → new ≡ old → HoldsFrontOfSome writes old new
+pub nothing_of : (writes : List ℕ → Type 0) (old new : List ℕ) → new ≡ old → HoldsFrontOfSome writes old new
 nothing_of writes old new is = record { text = []; fits = λ other. absurd (other is); front = subst (HoldsFront old []) (sym is) (front_of_nothing old []) }
 
-all_of : (writes : List ℕ → Type 0) (old new : List ℕ) → HoldsSome writes old new → HoldsFrontOfSome writes old new
+pub all_of : (writes : List ℕ → Type 0) (old new : List ℕ) → HoldsSome writes old new → HoldsFrontOfSome writes old new
 all_of writes old new all = record { text = all.text; fits = λ _. all.fits; front = front_of_all old all.text new all.holds }
 
-empty_of : (writes : List ℕ → Type 0) (old new : List ℕ) → writes [] → new ≡ old → HoldsSome writes old new
+pub empty_of : (writes : List ℕ → Type 0) (old new : List ℕ) → writes [] → new ≡ old → HoldsSome writes old new
 empty_of writes old new fits is = record { text = []; fits = fits; holds = is ∙ sym (append-nil old) }
 
 -- where no name was sought, none is missing
-fault_any : (p : Port) (known : Bool) (a b : Outside) → FaultAt p true a b → FaultAt p known a b
+pub fault_any : (p : Port) (known : Bool) (a b : Outside) → FaultAt p true a b → FaultAt p known a b
 fault_any p known a b fault = record { rose = fault.rose; others = fault.others; missing = λ told _. fault.missing told refl }
 
-pub stopped_opening : (first : Disk) (run : Course) (output : Output) (known : Bool) (a b : Outside) → ((p : OutPort) → (b.port (Out p)).bytes ≡ (a.port (Out p)).bytes)
-    → FaultAt (Out (port_of output)) known a b → StopsRun first run output known a b
-stopped_opening first run output known a b same_bytes fault = record { written = λ told p. nothing_of _ _ _ (same_bytes p); fault = fault }
+-- each output is a file of `run`
+disk_output : (output : Output) → is_disk_output (Out (port_of output)) ≡ true
+disk_output Term = refl
+disk_output Log = refl
+disk_output Final = refl
 
-module _ (first : Disk) (run : Course) (a b c : Outside) (opens : OnlyAt is_output a b) (opened : (p : OutPort) → (b.port (Out p)).bytes ≡ (a.port (Out p)).bytes) (plays : OnlyAt is_shown b c) where
+pub stopped_opening : (first : Disk) (run : Course) (output : Output) (known : Bool) (a b : Outside) → ((p : OutPort) → (b.port (Out p)).bytes ≡ (a.port (Out p)).bytes)
+    → FaultAt (Out (port_of output)) known a b → StopsRun is_disk_output (disk_writes first run) output known a b
+stopped_opening first run output known a b same_bytes fault = record { named = disk_output output; written = λ told p. nothing_of _ _ _ (same_bytes p); fault = fault }
+
+module _ (first : Disk) (run : Course) (a b c : Outside) (opens : OnlyAt is_disk_output a b) (opened : (p : OutPort) → (b.port (Out p)).bytes ≡ (a.port (Out p)).bytes) (plays : OnlyAt is_shown b c) where
   tells_b : Tells a → Tells b
   tells_b told = still_tells _ _ _ opens told
 
@@ -58,12 +68,13 @@ module _ (first : Disk) (run : Course) (a b c : Outside) (opens : OnlyAt is_outp
   calm_c : Calm a b → Calm b c → Calm a c
   calm_c first_calm second = calm_then _ _ _ first_calm second
 
-  pub stopped_playing : (output : Output) (known : Bool) → (Tells b → HasShownFronts (shown_by run) b c) → Calm a b → FaultAt (Out (port_of output)) true b c → StopsRun first run output known a c
+  pub stopped_playing : (output : Output) (known : Bool) → (Tells b → HasShownFronts (shown_by run) b c) → Calm a b → FaultAt (Out (port_of output)) true b c → StopsRun is_disk_output (disk_writes first run) output known a c
   stopped_playing output known fronts calm fault = record {
+    named = disk_output output;
     written = at;
     fault = fault_any _ known _ _ (fault_then _ _ a b c opens.fixed calm fault);
   } where
-    at : Tells a → (p : OutPort) → HoldsFrontOfSome (run_writes first run p) (a.port (Out p)).bytes (c.port (Out p)).bytes
+    at : Tells a → (p : OutPort) → HoldsFrontOfSome (disk_writes first run p) (a.port (Out p)).bytes (c.port (Out p)).bytes
     at told out_port.Term = record { text = line_bytes 0 (shown_by run); fits = λ _. refl; front = subst (λ l. HoldsFront l (line_bytes 0 (shown_by run)) (term c).bytes) (opened out_port.Term) (fronts (tells_b told)).terminal }
     at told out_port.Log = record { text = text_of (shown_by run); fits = λ _. refl; front = subst (λ l. HoldsFront l (text_of (shown_by run)) (log_of c).bytes) (opened out_port.Log) (fronts (tells_b told)).log }
     at told out_port.Final = nothing_of _ _ _ (unplayed out_port.Final refl)
@@ -76,8 +87,8 @@ module _ (first : Disk) (run : Course) (a b c : Outside) (opens : OnlyAt is_outp
     log_shown : Tells a → (log_of c).bytes ≡ (log_of a).bytes ++ text_of (shown_by run)
     log_shown told = (shown (tells_b told)).log ∙ ap (λ l. l ++ text_of (shown_by run)) (opened out_port.Log)
 
-    pub came_to_unbuilt : (ended : Ends) → is_finished ended ≡ false → ended ≡ run.ending → ((p : OutPort) → is_output (Out p) ≡ true → (b.port (Out p)).is_open ≡ true)
-        → (term c).is_open ≡ true → (log_of c).is_open ≡ true → Calm a b → Calm b c → EndsRun first run ended a c
+    pub came_to_unbuilt : (ended : Ends) → is_finished ended ≡ false → ended ≡ run.ending → ((p : OutPort) → is_disk_output (Out p) ≡ true → (b.port (Out p)).is_open ≡ true)
+        → (term c).is_open ≡ true → (log_of c).is_open ≡ true → Calm a b → Calm b c → EndsRun is_disk_output (disk_writes first run) run ended a c
     came_to_unbuilt ended is last open_b open_term open_log calm calm_too = record {
       ended = last;
       written = at;
@@ -91,64 +102,66 @@ module _ (first : Disk) (run : Course) (a b c : Outside) (opens : OnlyAt is_outp
       no_disk : final_writes first run.ending run.system []
       no_disk = subst (λ e. final_writes first e run.system []) last (leaves_none ended is)
 
-      at : Tells a → (p : OutPort) → HoldsSome (run_writes first run p) (a.port (Out p)).bytes (c.port (Out p)).bytes
+      at : Tells a → (p : OutPort) → HoldsSome (disk_writes first run p) (a.port (Out p)).bytes (c.port (Out p)).bytes
       at told out_port.Term = record { text = line_bytes 0 (shown_by run); fits = refl; holds = term_shown told }
       at told out_port.Log = record { text = text_of (shown_by run); fits = refl; holds = log_shown told }
       at told out_port.Final = empty_of _ _ _ no_disk (unplayed out_port.Final refl)
       at told out_port.Report = empty_of _ _ _ refl (unplayed out_port.Report refl)
 
-      still : (p : OutPort) → is_output (Out p) ≡ true → (c.port (Out p)).is_open ≡ true
+      still : (p : OutPort) → is_disk_output (Out p) ≡ true → (c.port (Out p)).is_open ≡ true
       still out_port.Term out = open_term
       still out_port.Log out = open_log
       still out_port.Final out = ap (λ (state : PortState). state.is_open) (plays.others (Out out_port.Final) refl) ∙ open_b out_port.Final refl
       still out_port.Report out = absurd (let no : false ≡ true = out in cc)
 
     -- the run has come to its end, and its disk is written
-    module _ (last : AtEnd ≡ run.ending) (text : List ℕ) (final : IsFinal first (finished run.system).unix.store text) (d : Outside) (writes : OnlyAt (same (Out out_port.Final)) c d) where
+    module _ (last : AtEnd ≡ run.ending) (text : List ℕ) (final : IsFinal first (finished run.system) text) (d : Outside) (writes : OnlyAt (same (Out out_port.Final)) c d) where
       fits : final_writes first run.ending run.system text
       fits = subst (λ e. final_writes first e run.system text) last final
 
       unwritten_by : (p : OutPort) → same (Out out_port.Final) (Out p) ≡ false → (d.port (Out p)).bytes ≡ (c.port (Out p)).bytes
       unwritten_by p other = ap (λ (state : PortState). state.bytes) (writes.others (Out p) other)
 
-      term_written : Tells a → HoldsSome (run_writes first run out_port.Term) (term a).bytes (term d).bytes
+      term_written : Tells a → HoldsSome (disk_writes first run out_port.Term) (term a).bytes (term d).bytes
       term_written told = record { text = line_bytes 0 (shown_by run); fits = refl; holds = unwritten_by out_port.Term refl ∙ term_shown told }
 
-      log_written : Tells a → HoldsSome (run_writes first run out_port.Log) (log_of a).bytes (log_of d).bytes
+      log_written : Tells a → HoldsSome (disk_writes first run out_port.Log) (log_of a).bytes (log_of d).bytes
       log_written told = record { text = text_of (shown_by run); fits = refl; holds = unwritten_by out_port.Log refl ∙ log_shown told }
 
-      report_written : HoldsSome (run_writes first run out_port.Report) (a.port (Out out_port.Report)).bytes (d.port (Out out_port.Report)).bytes
+      report_written : HoldsSome (disk_writes first run out_port.Report) (a.port (Out out_port.Report)).bytes (d.port (Out out_port.Report)).bytes
       report_written = empty_of _ _ _ refl (unwritten_by out_port.Report refl ∙ unplayed out_port.Report refl)
 
       pub stopped_writing : (known : Bool) → (Tells c → HoldsFront (final_of c).bytes text (final_of d).bytes) → Calm a b → Calm b c → FaultAt (Out out_port.Final) true c d
-          → StopsRun first run Final known a d
+          → StopsRun is_disk_output (disk_writes first run) Final known a d
       stopped_writing known front calm calm_too fault = record {
+        named = refl;
         written = at;
         fault = fault_any _ known _ _ (fault_then _ _ a c d (plays.fixed ∙ opens.fixed) (calm_c calm calm_too) fault);
       } where
-        at : Tells a → (p : OutPort) → HoldsFrontOfSome (run_writes first run p) (a.port (Out p)).bytes (d.port (Out p)).bytes
+        at : Tells a → (p : OutPort) → HoldsFrontOfSome (disk_writes first run p) (a.port (Out p)).bytes (d.port (Out p)).bytes
         at told out_port.Term = all_of _ _ _ (term_written told)
         at told out_port.Log = all_of _ _ _ (log_written told)
         at told out_port.Final = record { text = text; fits = λ _. fits; front = subst (λ l. HoldsFront l text (final_of d).bytes) (unplayed out_port.Final refl) (front (tells_c told)) }
         at told out_port.Report = all_of _ _ _ report_written
 
       module _ (whole : Tells c → (final_of d).bytes ≡ (final_of c).bytes ++ text) (e : Outside) (finishes : (p : OutPort) → (e.port (Out p)).bytes ≡ (d.port (Out p)).bytes) where
-        written_d : Tells a → (p : OutPort) → HoldsSome (run_writes first run p) (a.port (Out p)).bytes (d.port (Out p)).bytes
+        written_d : Tells a → (p : OutPort) → HoldsSome (disk_writes first run p) (a.port (Out p)).bytes (d.port (Out p)).bytes
         written_d told out_port.Term = term_written told
         written_d told out_port.Log = log_written told
         written_d told out_port.Final = record { text = text; fits = fits; holds = whole (tells_c told) ∙ ap (λ l. l ++ text) (unplayed out_port.Final refl) }
         written_d told out_port.Report = report_written
 
-        written_e : Tells a → (p : OutPort) → HoldsSome (run_writes first run p) (a.port (Out p)).bytes (e.port (Out p)).bytes
-        written_e told p = subst (HoldsSome (run_writes first run p) (a.port (Out p)).bytes) (sym (finishes p)) (written_d told p)
+        written_e : Tells a → (p : OutPort) → HoldsSome (disk_writes first run p) (a.port (Out p)).bytes (e.port (Out p)).bytes
+        written_e told p = subst (HoldsSome (disk_writes first run p) (a.port (Out p)).bytes) (sym (finishes p)) (written_d told p)
 
-        pub stopped_finishing : (output : Output) (known : Bool) → Calm a b → Calm b c → Calm c d → FaultAt (Out (port_of output)) true d e → StopsRun first run output known a e
+        pub stopped_finishing : (output : Output) (known : Bool) → Calm a b → Calm b c → Calm c d → FaultAt (Out (port_of output)) true d e → StopsRun is_disk_output (disk_writes first run) output known a e
         stopped_finishing output known calm calm_too calm_still fault = record {
+          named = disk_output output;
           written = λ told p. all_of _ _ _ (written_e told p);
           fault = fault_any _ known _ _ (fault_then _ _ a d e (writes.fixed ∙ plays.fixed ∙ opens.fixed) (calm_then _ _ _ (calm_c calm calm_too) calm_still) fault);
         }
 
-        pub came_to_end : ((p : OutPort) → is_output (Out p) ≡ true → (e.port (Out p)).is_open ≡ false) → Calm a b → Calm b c → Calm c d → Calm d e → EndsRun first run AtEnd a e
+        pub came_to_end : ((p : OutPort) → is_disk_output (Out p) ≡ true → (e.port (Out p)).is_open ≡ false) → Calm a b → Calm b c → Calm c d → Calm d e → EndsRun is_disk_output (disk_writes first run) run AtEnd a e
         came_to_end closed calm calm_too calm_still calm_last = record {
           ended = last;
           written = written_e;
@@ -157,12 +170,13 @@ module _ (first : Disk) (run : Course) (a b c : Outside) (opens : OnlyAt is_outp
         }
 
 -- the disk that a run leaves, where it has come to its end
-pub run_leaves : (old played ended : SystemOnDisk) (run : Course) → (head (block_at old.blocks)).f_size ≤ SWAP_START → played.system ≡ run.system → SameRest old.blocks played.blocks
+pub run_leaves : (old played ended : KernelState) (run : Course) → (head (block_at old.blocks)).f_size ≤ SWAP_START → played.system ≡ run.system → SameRest old.blocks played.blocks
     → ended.system ≡ finished played.system → StandsFor DISK_BLOCKS (block_at ended.stored) ended.system.unix.store → SameRest played.blocks ended.stored → IsDisk ended.stored
-    → IsFinal (block_at old.blocks) (finished run.system).unix.store (disk_text ended.stored)
-run_leaves old played ended run low plays first finishes stands second form =
-    subst (λ (m : System). IsFinal (block_at old.blocks) m.unix.store (disk_text ended.stored)) (finishes ∙ ap finished plays)
-    (final_is old.blocks ended.stored ended.system.unix.store low (rest_then _ _ _ first second) form stands)
+    → (swap : List ℕ) → SwapHolds swap (kept_in ended.system)
+    → IsFinal (block_at old.blocks) (finished run.system) (disk_text ended.stored ++ swap)
+run_leaves old played ended run low plays first finishes stands second form swap holds =
+    subst (λ (m : System). IsFinal (block_at old.blocks) m (disk_text ended.stored ++ swap)) (finishes ∙ ap finished plays)
+    (final_is old.blocks ended.stored ended.system low (rest_then _ _ _ first second) form stands swap holds)
 
 pub came_through : (ended : Ends) → is_finished ended ≡ true → ended ≡ AtEnd
 came_through AtEnd is = refl
@@ -186,25 +200,29 @@ same_blocks image blocks is n low = ap (λ l. block_at l n) is ∙ block_of_imag
 
 module _ (d e : Disk) (same_disk : (n : ℕ) → n < DISK_BLOCKS → e n ≡ d n) where
   final_over : (ending : Ends) (m : System) (text : List ℕ) → final_writes e ending m text → final_writes d ending m text
-  final_over AtEnd m text final = final_same d e (finished m).unix.store text same_disk final
+  final_over AtEnd m text final = final_same d e (finished m) text same_disk final
   final_over (ends.NotBuilt place) m text none = none
 
-  writes_over : (run : Course) (p : OutPort) (text : List ℕ) → run_writes e run p text → run_writes d run p text
-  writes_over run out_port.Term text fits = fits
-  writes_over run out_port.Log text fits = fits
-  writes_over run out_port.Final text fits = final_over run.ending run.system text fits
-  writes_over run out_port.Report text fits = fits
+  writes_over : (outputs : Outputs) (run : Course) (p : OutPort) (text : List ℕ) → run_writes outputs e run p text → run_writes outputs d run p text
+  writes_over (ToDisk files) run out_port.Term text fits = fits
+  writes_over (ToDisk files) run out_port.Log text fits = fits
+  writes_over (ToDisk files) run out_port.Final text fits = final_over run.ending run.system text fits
+  writes_over (ToDisk files) run out_port.Report text fits = fits
+  writes_over (ToMemory final) run p text fits = fits
 
-  pub ends_over : (run : Course) (ending : Ends) (old new : Outside) → EndsRun e run ending old new → EndsRun d run ending old new
-  ends_over run ending old new ended = record {
+  pub ends_over : (outputs : Outputs) (run : Course) (ending : Ends) (old new : Outside) → EndsRun (is_output outputs) (run_writes outputs e run) run ending old new
+      → EndsRun (is_output outputs) (run_writes outputs d run) run ending old new
+  ends_over outputs run ending old new ended = record {
     ended = ended.ended;
-    written = λ told p. let all = ended.written told p in record { text = all.text; fits = writes_over run p all.text all.fits; holds = all.holds };
+    written = λ told p. let all = ended.written told p in record { text = all.text; fits = writes_over outputs run p all.text all.fits; holds = all.holds };
     is_open = ended.is_open;
     calm = ended.calm;
   }
 
-  pub stops_over : (run : Course) (output : Output) (known : Bool) (old new : Outside) → StopsRun e run output known old new → StopsRun d run output known old new
-  stops_over run output known old new stops = record {
-    written = λ told p. let part = stops.written told p in record { text = part.text; fits = λ grew. writes_over run p part.text (part.fits grew); front = part.front };
+  pub stops_over : (outputs : Outputs) (run : Course) (output : Output) (known : Bool) (old new : Outside) → StopsRun (is_output outputs) (run_writes outputs e run) output known old new
+      → StopsRun (is_output outputs) (run_writes outputs d run) output known old new
+  stops_over outputs run output known old new stops = record {
+    named = stops.named;
+    written = λ told p. let part = stops.written told p in record { text = part.text; fits = λ grew. writes_over outputs run p part.text (part.fits grew); front = part.front };
     fault = stops.fault;
   }

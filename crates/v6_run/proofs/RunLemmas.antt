@@ -1,10 +1,10 @@
 -- What `run` answers, exit by exit.
-use Rattle.std.proofs.Common.{◌≡◌, ℕ, Bool, true, false, Option, Some, None, List, take, refl, sym, Ok, Err, ◌∙◌, ap, subst, is_some, if◌then◌else◌}
+use Rattle.std.proofs.Common.{◌≡◌, ℕ, Bool, true, false, Option, Some, None, List, take, refl, sym, Ok, Err, ◌∙◌, ap, subst, is_some, if◌then◌else◌, ◌||◌, ◌&&◌}
 use Rattle.std.specs.Option.{option_map}
 use Rattle.v6_port.specs.declared.host.InPort.TheVariants as in_port
 use Rattle.v6_port.specs.declared.host.OutPort.{OutPort}
 use Rattle.v6_port.specs.declared.host.OutPort.TheVariants as out_port
-use Rattle.v6_port.specs.Outside.{In, Out, same, PortState, Environment, Outside, Tells, OnlyAt}
+use Rattle.v6_port.specs.Outside.{In, Out, same, is_report, PortState, Environment, Outside, Tells, OnlyAt}
 use Rattle.v6_port.specs.Calls.{is_given}
 use Rattle.v6_port.specs.Causes.{Calm}
 use Rattle.fs_codec.specs.Disk.{disk_of}
@@ -41,7 +41,7 @@ use Rattle.v6_run.specs.declared.outputs.Output.TheVariants as file
 use Rattle.v6_run.specs.Outputs.{port_of, is_output, run_writes, EndsRun, StopsRun}
 use Rattle.v6_run.specs.Causes.{IsCaused}
 use Rattle.v6_run.specs.Steps.{StopsReading, StopsImage, RefusesScript}
-use Rattle.v6_run.specs.Headline.{Known, IsKnownAnd, ends_with, course_completion, events_completion, lines_completion, bytes_completion, script_completion, fault_completion, image_completion, command_completion, IsComplete, IsPartial, status_at, is_named, may_end, run_knows, is_known}
+use Rattle.v6_run.specs.Headline.{Known, IsKnownAnd, ends_with, course_completion, events_completion, lines_completion, bytes_completion, script_completion, fault_completion, image_completion, command_completion, IsComplete, IsPartial, status_at, is_named, may_end, run_knows, outputs_know, reports_done, is_known}
 use Rattle.v6_run.specs.Answers.{Answers, HasFiles}
 use Rattle.v6_run.proofs.ImageLemmas.{fault_given}
 use Rattle.v6_port.proofs.CauseLemmas.{still_tells, only_then, calm_then, fault_then}
@@ -52,7 +52,7 @@ use Rattle.v6_run.proofs.AnswerLemmas.{not_so, unwritten, complete_unwritten, im
 pub image_refused : (words : RunWords) (error : ImageError) (old new : Outside) → OnlyAt (same (In in_port.Image)) old new → StopsImage words.image error old new
     → Answers (Run words) (image_status error) old new
 image_refused words error old new only =
-    image_stops (Run words) words.image (script_completion words.core (old.fixed.given words.script)) old new (names_image words) refl refl refl only error
+    image_stops (Run words) words.image (script_completion words (old.fixed.given words.script)) old new (names_image words) refl refl refl only error
 
 -- both are read from ports that are no outputs
 both_read : (old middle new : Outside) → OnlyAt (same (In in_port.Image)) old middle → OnlyAt (same (In in_port.Script)) middle new → (p : OutPort) → new.port (Out p) ≡ old.port (Out p)
@@ -89,15 +89,15 @@ module _ (words : RunWords) (image : List ℕ) (old middle new : Outside) (first
     script_is = λ told. ap (λ (f : Environment). option_map (take SCRIPT_LIMIT) (f.given words.script)) (sym first.fixed) ∙ script_is (still_tells _ _ _ first told);
   }
 
-completion_is : (core : ℕ) (image_given script_given : Option (List ℕ)) (image bytes : List ℕ) → option_map (take IMAGE_LIMIT) image_given ≡ Some image → image_fault image ≡ None
-    → option_map (take SCRIPT_LIMIT) script_given ≡ Some bytes → image_completion image_given (script_completion core script_given) ≡ Known (bytes_completion image core bytes)
-completion_is core None script_given image bytes image_is good script_is = cc
-completion_is core (Some i) None image bytes image_is good script_is = cc
-completion_is core (Some i) (Some s) image bytes image_is good script_is =
+completion_is : (words : RunWords) (image_given script_given : Option (List ℕ)) (image bytes : List ℕ) → option_map (take IMAGE_LIMIT) image_given ≡ Some image → image_fault image ≡ None
+    → option_map (take SCRIPT_LIMIT) script_given ≡ Some bytes → image_completion image_given (script_completion words script_given) ≡ Known (bytes_completion words image bytes)
+completion_is words None script_given image bytes image_is good script_is = cc
+completion_is words (Some i) None image bytes image_is good script_is = cc
+completion_is words (Some i) (Some s) image bytes image_is good script_is =
     let same_image : take IMAGE_LIMIT i ≡ image = cc in
     let same_script : take SCRIPT_LIMIT s ≡ bytes = cc in
-    ap (λ l. fault_completion (image_fault l) (Known (bytes_completion l core (take SCRIPT_LIMIT s)))) same_image
-    ∙ ap (λ f. fault_completion f (Known (bytes_completion image core (take SCRIPT_LIMIT s)))) good ∙ ap (λ l. Known (bytes_completion image core l)) same_script
+    ap (λ l. fault_completion (image_fault l) (Known (bytes_completion words l (take SCRIPT_LIMIT s)))) same_image
+    ∙ ap (λ f. fault_completion f (Known (bytes_completion words image (take SCRIPT_LIMIT s)))) good ∙ ap (λ l. Known (bytes_completion words image l)) same_script
 
 has_begun : (ended : Ends) → IsMet ended → has_written (status_at ended) ≡ true
 has_begun AtEnd met = refl
@@ -105,17 +105,17 @@ has_begun (ends.NotBuilt (unbuilt.Line n)) met = absurd met
 has_begun (ends.NotBuilt (unbuilt.At pc)) met = refl
 has_begun (ends.NotBuilt unbuilt.Room) met = refl
 
--- the files that `run` writes are those for writing that its words name
-named_output : (words : RunWords) (p : OutPort) → is_named (Run words) (Out p) ≡ true → is_output (Out p) ≡ true
-named_output words out_port.Term named = refl
-named_output words out_port.Log named = refl
-named_output words out_port.Final named = refl
-named_output words out_port.Report named = not_so _ named
+-- the files that a run writes are those for writing that its words name
+named_output : (words : RunWords) (p : OutPort) → is_named (Run words) (Out p) ≡ true → is_output words.outputs (Out p) ≡ true
+named_output words out_port.Term named = named
+named_output words out_port.Log named = named
+named_output words out_port.Final named = named
+named_output words out_port.Report named = named
 
-may_stop : (words : RunWords) (output : Output) → may_end (Run words) (WriteFault (port_of output)) ≡ true
-may_stop words file.Term = refl
-may_stop words file.Log = refl
-may_stop words file.Final = refl
+may_stop : (words : RunWords) (output : Output) → is_output words.outputs (Out (port_of output)) ≡ true → may_end (Run words) (WriteFault (port_of output)) ≡ true
+may_stop words file.Term named = ap (λ b. b || false) named
+may_stop words file.Log named = ap (λ b. b || false) named
+may_stop words file.Final named = ap (λ b. b || false) named
 
 not_report : (output : Output) → WriteFault (port_of output) ≡ WriteFault out_port.Report → ⊥
 not_report file.Term is = cc
@@ -123,11 +123,11 @@ not_report file.Log is = cc
 not_report file.Final is = cc
 
 module _ (words : RunWords) (image bytes : List ℕ) (old middle : Outside) (files : HasFiles words image bytes old middle) where
-  run_is : Tells old → command_completion (Run words) old.fixed ≡ Known (bytes_completion image words.core bytes)
-  run_is told = completion_is words.core _ _ image bytes (files.image_is told) files.good (files.script_is told)
+  run_is : Tells old → command_completion (Run words) old.fixed ≡ Known (bytes_completion words image bytes)
+  run_is told = completion_is words _ _ image bytes (files.image_is told) files.good (files.script_is told)
 
   -- what ends a command before its run is this completion, and shows nothing
-  early_complete : (s : Status) → bytes_completion image words.core bytes ≡ ends_with s → Tells old
+  early_complete : (s : Status) → bytes_completion words image bytes ≡ ends_with s → Tells old
       → IsKnownAnd (command_completion (Run words) old.fixed) (IsComplete s old middle)
   early_complete s is told = subst (λ m. IsKnownAnd m (IsComplete s old middle)) (sym (run_is told ∙ ap Known is)) (complete_unwritten s old middle files.none)
 
@@ -138,7 +138,7 @@ module _ (words : RunWords) (image bytes : List ℕ) (old middle : Outside) (fil
 
   faulty : (fault : text.ScriptFault) → may_end (Run words) (ScriptFault fault) ≡ true → script_of bytes ≡ Err fault → Answers (Run words) (ScriptFault fault) old middle
   faulty fault may is = before_run (ScriptFault fault) may refl (λ is. cc)
-      (λ _. early_complete (ScriptFault fault) (ap (λ s. lines_completion image words.core s (signal_line_of bytes)) is)) files.calm
+      (λ _. early_complete (ScriptFault fault) (ap (λ s. lines_completion words image s (signal_line_of bytes)) is)) files.calm
 
   pub script_refused : (error : ScriptError) → RefusesScript bytes error → Answers (Run words) (script_status error) old middle
   script_refused (script_error.Faulty fault.TooLong) refused = faulty fault.TooLong refl refused
@@ -146,8 +146,8 @@ module _ (words : RunWords) (image bytes : List ℕ) (old middle : Outside) (fil
   script_refused (script_error.Faulty (fault.TooManySlots n)) refused = faulty (fault.TooManySlots n) refl refused
   script_refused (script_error.Faulty fault.NoMemory) refused = before_run NoMemory refl refl (λ is. cc) (λ decided. not_so _ decided) files.calm
   script_refused (script_error.Unbuilt n) refused = before_run (NotBuilt (unbuilt.Line n)) refl refl (λ is. cc)
-      (λ _. early_complete (NotBuilt (unbuilt.Line n)) (ap (λ s. lines_completion image words.core s (signal_line_of bytes)) refused.1
-      ∙ ap (events_completion image words.core refused.0) refused.2)) files.calm
+      (λ _. early_complete (NotBuilt (unbuilt.Line n)) (ap (λ s. lines_completion words image s (signal_line_of bytes)) refused.1
+      ∙ ap (events_completion words image refused.0) refused.2)) files.calm
 
   module _ (events : List asked.Event) (script_is : script_of bytes ≡ Ok events) (built : signal_line_of bytes ≡ None) where
     -- the system that was booted is that of the image
@@ -157,20 +157,20 @@ module _ (words : RunWords) (image bytes : List ℕ) (old middle : Outside) (fil
     is_of (Some fault) system is = absurd (cc is)
 
     boots_as : (system : System) → boots image words.core ≡ Some system
-        → bytes_completion image words.core bytes ≡ course_completion image (course (started system) (events_of events))
+        → bytes_completion words image bytes ≡ course_completion words image (course (started system) (events_of events))
     boots_as system is =
-        ap (λ s. lines_completion image words.core s (signal_line_of bytes)) script_is ∙ ap (events_completion image words.core events) built
-        ∙ ap (λ m. course_completion image (course (started m) (events_of events))) (is_of (image_fault image) system is)
+        ap (λ s. lines_completion words image s (signal_line_of bytes)) script_is ∙ ap (events_completion words image events) built
+        ∙ ap (λ m. course_completion words image (course (started m) (events_of events))) (is_of (image_fault image) system is)
 
     pub boot_refused : Answers (Run words) NoMemory old middle
     boot_refused = before_run NoMemory refl refl (λ is. cc) (λ decided. not_so _ decided) files.calm
 
     -- the run, with its files
-    module _ (system : System) (boots_is : boots image words.core ≡ Some system) (new : Outside) (only : OnlyAt is_output middle new) where
+    module _ (system : System) (boots_is : boots image words.core ≡ Some system) (new : Outside) (only : OnlyAt (is_output words.outputs) middle new) where
       abbrev run : Course
       run = course (started system) (events_of events)
 
-      run_completion : Tells old → command_completion (Run words) old.fixed ≡ Known (course_completion image run)
+      run_completion : Tells old → command_completion (Run words) old.fixed ≡ Known (course_completion words image run)
       run_completion told = run_is told ∙ ap Known (boots_as system boots_is)
 
       run_is_met : IsMet run.ending
@@ -179,17 +179,17 @@ module _ (words : RunWords) (image bytes : List ℕ) (old middle : Outside) (fil
       only_run : OnlyAt (is_named (Run words)) old new
       only_run = only_then _ _ _ _ files.only (only_within _ _ _ _ (names_outputs words) only)
 
-      run_complete : (ended : Ends) → EndsRun (disk_of image) run ended middle new → Tells old
+      run_complete : (ended : Ends) → EndsRun (is_output words.outputs) (run_writes words.outputs (disk_of image) run) run ended middle new → Tells old
           → IsKnownAnd (command_completion (Run words) old.fixed) (IsComplete (status_at ended) old new)
       run_complete ended all told = subst (λ m. IsKnownAnd m (IsComplete (status_at ended) old new)) (sym (run_completion told)) (record {
         answered = ap status_at all.ended;
-        written = λ p _. subst (λ (state : PortState). HoldsSome (run_writes (disk_of image) run p) state.bytes (new.port (Out p)).bytes) (files.none p)
+        written = λ p _. subst (λ (state : PortState). HoldsSome (run_writes words.outputs (disk_of image) run p) state.bytes (new.port (Out p)).bytes) (files.none p)
             (all.written (still_tells _ _ _ files.only told) p);
       })
 
       -- before its last event it came to what isn't built
       unbuilt_at : (place : Unbuilt) → has_written (NotBuilt place) ≡ true
-          → EndsRun (disk_of image) run (ends.NotBuilt place) middle new → Answers (Run words) (NotBuilt place) old new
+          → EndsRun (is_output words.outputs) (run_writes words.outputs (disk_of image) run) run (ends.NotBuilt place) middle new → Answers (Run words) (NotBuilt place) old new
       unbuilt_at place begun ended = record {
         only = only_run;
         ends = refl;
@@ -203,7 +203,7 @@ module _ (words : RunWords) (image bytes : List ℕ) (old middle : Outside) (fil
         cause = calm_then _ _ _ files.calm ended.calm;
       }
 
-      pub run_ended : (ended : Ends) → EndsRun (disk_of image) run ended middle new → Answers (Run words) (status_at ended) old new
+      pub run_ended : (ended : Ends) → EndsRun (is_output words.outputs) (run_writes words.outputs (disk_of image) run) run ended middle new → Answers (Run words) (status_at ended) old new
       run_ended AtEnd ended = record {
         only = only_run;
         ends = refl;
@@ -220,22 +220,22 @@ module _ (words : RunWords) (image bytes : List ℕ) (old middle : Outside) (fil
       run_ended (ends.NotBuilt (unbuilt.At pc)) ended = unbuilt_at (unbuilt.At pc) refl ended
       run_ended (ends.NotBuilt unbuilt.Room) ended = unbuilt_at unbuilt.Room refl ended
 
-      run_partial : (output : Output) (known : Bool) → StopsRun (disk_of image) run output known middle new → Tells old
+      run_partial : (output : Output) (known : Bool) → StopsRun (is_output words.outputs) (run_writes words.outputs (disk_of image) run) output known middle new → Tells old
           → IsKnownAnd (command_completion (Run words) old.fixed) (IsPartial old new)
       run_partial output known stops told = subst (λ m. IsKnownAnd m (IsPartial old new)) (sym (run_completion told)) (record {
         begun = has_begun run.ending run_is_met;
-        written = λ p _. subst (λ (state : PortState). HoldsFrontOfSome (run_writes (disk_of image) run p) state.bytes (new.port (Out p)).bytes) (files.none p)
+        written = λ p _. subst (λ (state : PortState). HoldsFrontOfSome (run_writes words.outputs (disk_of image) run p) state.bytes (new.port (Out p)).bytes) (files.none p)
             (stops.written (still_tells _ _ _ files.only told) p);
       })
 
-      pub run_stopped : (output : Output) → StopsRun (disk_of image) run output (run_knows words middle.fixed (Out (port_of output))) middle new
+      pub run_stopped : (output : Output) → StopsRun (is_output words.outputs) (run_writes words.outputs (disk_of image) run) output (outputs_know words.outputs middle.fixed (port_of output)) middle new
           → Answers (Run words) (WriteFault (port_of output)) old new
       run_stopped output stops =
           let known : run_knows words old.fixed (Out (port_of output)) ≡ run_knows words middle.fixed (Out (port_of output)) =
           ap (λ (f : Environment). run_knows words f (Out (port_of output))) (sym files.only.fixed) in
           record {
             only = only_run;
-            ends = may_stop words output;
+            ends = may_stop words output stops.named;
             unreported = not_report output;
             complete = λ decided. not_so _ decided;
             partial = λ _ _. run_partial output _ stops;

@@ -24,7 +24,7 @@ use Rattle.v6_run.specs.declared.status.Status.TheVariants as status
 use Rattle.abstract_unix.specs.declared.ends.Ends.{Ends}
 use Rattle.abstract_unix.specs.declared.ends.Ends.TheVariants.{AtEnd, NotBuilt}
 use Rattle.abstract_unix.specs.declared.turned.Unbuilt.TheVariants as unbuilt
-use Rattle.v6_run.specs.Words.{RunWords, Command, Run, Check, Make}
+use Rattle.v6_run.specs.Words.{Outputs, ToDisk, ToMemory, RunWords, Command, Run, Check, Make}
 use Rattle.v6_run.specs.Events.{events_of}
 use Rattle.v6_run.specs.Status.{has_written}
 use Rattle.v6_run.specs.Fronts.{HoldsSome, HoldsFrontOfSome, exactly}
@@ -34,7 +34,7 @@ use Rattle.v6_run.specs.Report.{store_line}
 abbrev pub is_core_size : ℕ → Bool
 is_core_size core = nat_le 64 core && nat_le core 3968
 
--- `run` is the command with a size of core
+-- `run` and `memory` are the commands with a size of core
 abbrev pub has_core_size : Command → Bool
 has_core_size (Run words) = is_core_size words.core
 has_core_size _ = true
@@ -70,26 +70,27 @@ abbrev pub status_at : Ends → Status
 status_at AtEnd = status.Done
 status_at (NotBuilt place) = status.NotBuilt place
 
--- the terminal and LOG get what the run shows, and FINAL the disk that it leaves
-abbrev pub course_completion : List ℕ → Course → Completion
-course_completion image c = record { status = status_at c.ending; writes = run_writes (disk_of image) c }
+-- Of `run` the terminal and LOG get what the run shows, and FINAL the disk that it leaves. Of `memory` FINAL gets core and the
+-- swap area.
+abbrev pub course_completion : RunWords → List ℕ → Course → Completion
+course_completion words image c = record { status = status_at c.ending; writes = run_writes words.outputs (disk_of image) c }
 
 -- from a script without a fault, and its first line that types a key which makes a signal
-abbrev pub events_completion : List ℕ → ℕ → List Event → Option ℕ → Completion
-events_completion image core events (Some n) = ends_with (status.NotBuilt (unbuilt.Line n))
-events_completion image core events None = course_completion image (run_of image core (events_of events))
+abbrev pub events_completion : RunWords → List ℕ → List Event → Option ℕ → Completion
+events_completion words image events (Some n) = ends_with (status.NotBuilt (unbuilt.Line n))
+events_completion words image events None = course_completion words image (run_of image words.core (events_of events))
 
-abbrev pub lines_completion : List ℕ → ℕ → Result (List Event) ScriptFault → Option ℕ → Completion
-lines_completion image core (Err fault) signal = ends_with (status.ScriptFault fault)
-lines_completion image core (Ok events) signal = events_completion image core events signal
+abbrev pub lines_completion : RunWords → List ℕ → Result (List Event) ScriptFault → Option ℕ → Completion
+lines_completion words image (Err fault) signal = ends_with (status.ScriptFault fault)
+lines_completion words image (Ok events) signal = events_completion words image events signal
 
-abbrev pub bytes_completion : List ℕ → ℕ → List ℕ → Completion
-bytes_completion image core bytes = lines_completion image core (script_of bytes) (signal_line_of bytes)
+abbrev pub bytes_completion : RunWords → List ℕ → List ℕ → Completion
+bytes_completion words image bytes = lines_completion words image (script_of bytes) (signal_line_of bytes)
 
 -- from the bytes of SCRIPT, of which at most one more is read than a script may have
-abbrev pub script_completion : ℕ → Option (List ℕ) → List ℕ → MaybeCompletion
-script_completion core None image = Unknown
-script_completion core (Some bytes) image = Known (bytes_completion image core (take SCRIPT_LIMIT bytes))
+abbrev pub script_completion : RunWords → Option (List ℕ) → List ℕ → MaybeCompletion
+script_completion words None image = Unknown
+script_completion words (Some bytes) image = Known (bytes_completion words image (take SCRIPT_LIMIT bytes))
 
 abbrev pub fault_completion : Option ImageFault → MaybeCompletion → MaybeCompletion
 fault_completion (Some fault) rest = Known (ends_with (status.ImageFault fault))
@@ -102,7 +103,7 @@ image_completion (Some bytes) rest = fault_completion (image_fault (take IMAGE_L
 
 -- what a command comes to
 abbrev pub command_completion : Command → Environment → MaybeCompletion
-command_completion (Run words) fixed = image_completion (fixed.given words.image) (script_completion words.core (fixed.given words.script))
+command_completion (Run words) fixed = image_completion (fixed.given words.image) (script_completion words (fixed.given words.script))
 command_completion (Check image) fixed = image_completion (fixed.given image) (λ bytes. Known (ends_with status.Done))
 command_completion (Make number final) fixed = Known (record { status = status.Done; writes = only_to out_port.Final (build_of number) })
 
@@ -131,14 +132,14 @@ pub record IsPartial (old new : Outside) (completion : Completion) : Type 0 wher
   pub begun : has_written completion.status ≡ true
   pub written : (p : OutPort) → is_report (Out p) ≡ false → HoldsFrontOfSome (completion.writes p) (old.port (Out p)).bytes (new.port (Out p)).bytes
 
--- a script is read where the image of `run` is given and has no fault
+-- a script is read where the image of a run is given and has no fault
 abbrev pub IsImageGood : Option Command → Environment → Type 0
 IsImageGood (Some (Run words)) fixed = IsSomeAnd (fixed.given words.image) (λ bytes. image_fault (take IMAGE_LIMIT bytes) ≡ None)
 IsImageGood _ fixed = ⊥
 
 -- the ports for which a command's words have a name
 abbrev pub is_named : Command → Port → Bool
-is_named (Run words) q = same (In in_port.Image) q || same (In in_port.Script) q || is_output q
+is_named (Run words) q = same (In in_port.Image) q || same (In in_port.Script) q || is_output words.outputs q
 is_named (Check image) q = same (In in_port.Image) q
 is_named (Make number final) q = same (Out out_port.Final) q
 
@@ -177,14 +178,22 @@ abbrev pub words_may_end : Option Command → Status → Bool
 words_may_end None s = false
 words_may_end (Some command) s = may_end command s
 
+abbrev pub outputs_know : Outputs → Environment → OutPort → Bool
+outputs_know (ToDisk files) fixed out_port.Term = is_expected (fixed.expects out_port.Term) files.term
+outputs_know (ToDisk files) fixed out_port.Log = is_expected (fixed.expects out_port.Log) files.log
+outputs_know (ToDisk files) fixed out_port.Final = is_expected (fixed.expects out_port.Final) files.final_disk
+outputs_know (ToDisk files) fixed out_port.Report = true
+outputs_know (ToMemory final) fixed out_port.Term = true
+outputs_know (ToMemory final) fixed out_port.Log = true
+outputs_know (ToMemory final) fixed out_port.Final = is_expected (fixed.expects out_port.Final) final
+outputs_know (ToMemory final) fixed out_port.Report = true
+
 -- whether the name that the words give for a port is given, or expected there
 abbrev pub run_knows : RunWords → Environment → Port → Bool
 run_knows words fixed (In in_port.Image) = is_given (fixed.given words.image)
 run_knows words fixed (In in_port.Script) = is_given (fixed.given words.script)
-run_knows words fixed (Out out_port.Term) = is_expected (fixed.expects out_port.Term) words.term
-run_knows words fixed (Out out_port.Log) = is_expected (fixed.expects out_port.Log) words.log
-run_knows words fixed (Out out_port.Final) = is_expected (fixed.expects out_port.Final) words.final_disk
-run_knows words fixed _ = true
+run_knows words fixed (In in_port.Log) = true
+run_knows words fixed (Out p) = outputs_know words.outputs fixed p
 
 abbrev pub is_known : Option Command → Environment → Port → Bool
 is_known None fixed q = true

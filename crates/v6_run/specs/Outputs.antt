@@ -1,4 +1,5 @@
--- The files that `run` writes, by docs/manual/commands.md: what the terminal shows, the log, and the disk at the end.
+-- The files that a run writes, by docs/manual/commands.md: of `run` what the terminal shows, the log, and the disk at the end;
+-- of `memory` core and the swap area at the end.
 use Rattle.std.specs.Prelude.{◌≡◌, ℕ, Bool, true, false, not, List, [], ◌||◌}
 use Rattle.v6_base.specs.Trace.{line_bytes, text_of}
 use Rattle.v6_port.specs.declared.host.OutPort.{OutPort}
@@ -13,7 +14,8 @@ use Rattle.abstract_unix.specs.Runs.{Course, shown_by, finished}
 use Rattle.v6_run.specs.declared.outputs.Output.{Output}
 use Rattle.v6_run.specs.declared.outputs.Output.TheVariants.{Term, Log, Final}
 use Rattle.v6_run.specs.Fronts.{HoldsSome, HoldsFrontOfSome, exactly}
-use Rattle.v6_run.specs.Final.{IsFinal}
+use Rattle.v6_run.specs.Final.{IsFinal, IsMemory}
+use Rattle.v6_run.specs.Words.{Outputs, ToDisk, ToMemory}
 
 abbrev pub port_of : Output → OutPort
 port_of Term = out_port.Term
@@ -24,34 +26,55 @@ port_of Final = out_port.Final
 abbrev pub is_shown : Port → Bool
 is_shown q = same (Out out_port.Term) q || same (Out out_port.Log) q
 
-abbrev pub is_output : Port → Bool
-is_output q = is_shown q || same (Out out_port.Final) q
+abbrev pub is_disk_output : Port → Bool
+is_disk_output q = is_shown q || same (Out out_port.Final) q
+
+abbrev pub is_output : Outputs → Port → Bool
+is_output (ToDisk files) q = is_disk_output q
+is_output (ToMemory final) q = same (Out out_port.Final) q
 
 -- a run that has come to its end leaves its disk, and one that came to what isn't built nothing
 abbrev pub final_writes : Disk → Ends → System → List ℕ → Type 0
-final_writes first AtEnd m = IsFinal first (finished m).unix.store
+final_writes first AtEnd m = IsFinal first (finished m)
 final_writes first (NotBuilt place) m = exactly []
+
+-- or it leaves its core and its swap area
+abbrev pub memory_writes : Ends → System → List ℕ → Type 0
+memory_writes AtEnd m = IsMemory m
+memory_writes (NotBuilt place) m = exactly []
 
 -- and where it leaves its disk its files are finished
 abbrev pub is_finished : Ends → Bool
 is_finished AtEnd = true
 is_finished (NotBuilt place) = false
 
--- the texts that a run from a disk may write to each port
-abbrev pub run_writes : Disk → Course → OutPort → List ℕ → Type 0
-run_writes first c out_port.Term = exactly (line_bytes 0 (shown_by c))
-run_writes first c out_port.Log = exactly (text_of (shown_by c))
-run_writes first c out_port.Final = final_writes first c.ending c.system
-run_writes first c out_port.Report = exactly []
+-- the texts that `run` from a disk may write to each port
+abbrev pub disk_writes : Disk → Course → OutPort → List ℕ → Type 0
+disk_writes first c out_port.Term = exactly (line_bytes 0 (shown_by c))
+disk_writes first c out_port.Log = exactly (text_of (shown_by c))
+disk_writes first c out_port.Final = final_writes first c.ending c.system
+disk_writes first c out_port.Report = exactly []
+
+-- `memory` writes nothing of what is shown
+abbrev pub core_writes : Course → OutPort → List ℕ → Type 0
+core_writes c out_port.Term = exactly []
+core_writes c out_port.Log = exactly []
+core_writes c out_port.Final = memory_writes c.ending c.system
+core_writes c out_port.Report = exactly []
+
+abbrev pub run_writes : Outputs → Disk → Course → OutPort → List ℕ → Type 0
+run_writes (ToDisk files) first c p = disk_writes first c p
+run_writes (ToMemory final) first c p = core_writes c p
 
 -- The run has been taken and ends so, and all of it is written.
-pub record EndsRun (first : Disk) (c : Course) (ends : Ends) (old new : Outside) : Type 0 where
+pub record EndsRun (outputs : Port → Bool) (writes : OutPort → List ℕ → Type 0) (c : Course) (ends : Ends) (old new : Outside) : Type 0 where
   pub ended : ends ≡ c.ending
-  pub written : Tells old → (p : OutPort) → HoldsSome (run_writes first c p) (old.port (Out p)).bytes (new.port (Out p)).bytes
-  pub is_open : (p : OutPort) → is_output (Out p) ≡ true → (new.port (Out p)).is_open ≡ not (is_finished ends)
+  pub written : Tells old → (p : OutPort) → HoldsSome (writes p) (old.port (Out p)).bytes (new.port (Out p)).bytes
+  pub is_open : (p : OutPort) → outputs (Out p) ≡ true → (new.port (Out p)).is_open ≡ not (is_finished ends)
   pub calm : Calm old new
 
 -- One of its files, under a name that is known or not, has failed.
-pub record StopsRun (first : Disk) (c : Course) (output : Output) (known : Bool) (old new : Outside) : Type 0 where
-  pub written : Tells old → (p : OutPort) → HoldsFrontOfSome (run_writes first c p) (old.port (Out p)).bytes (new.port (Out p)).bytes
+pub record StopsRun (outputs : Port → Bool) (writes : OutPort → List ℕ → Type 0) (output : Output) (known : Bool) (old new : Outside) : Type 0 where
+  pub named : outputs (Out (port_of output)) ≡ true
+  pub written : Tells old → (p : OutPort) → HoldsFrontOfSome (writes p) (old.port (Out p)).bytes (new.port (Out p)).bytes
   pub fault : FaultAt (Out (port_of output)) known old new

@@ -1,13 +1,14 @@
 -- What goes out on two ports, one thing after another: the laws of the trace over a host.
-use Rattle.std.proofs.Common.{◌≡◌, true, Option, Some, None, is_some, MatchOption, [], ◌++◌, refl, sym, ◌∙◌, ap, subst, append_assoc}
+use Rattle.std.proofs.Common.{◌≡◌, true, false, Option, Some, None, is_some, MatchOption, [], ◌++◌, refl, sym, ◌∙◌, ap, subst, append_assoc}
 use Rattle.std.proofs.lemmas.List.{append-nil}
 use Rattle.v6_port.specs.Outside.{Out, PortState, Outside, Tells}
 use Rattle.v6_port.specs.Causes.{Calm, FaultAt}
 use Rattle.v6_port.proofs.CauseLemmas.{calm_still, calm_then, fault_then, only_then, still_tells}
 use Rattle.v6_run.specs.declared.outputs.Output.{Output}
 use Rattle.v6_run.specs.declared.ports.Kept.{Kept}
+use Rattle.v6_run.specs.declared.ports.Kept.TheVariants as kept
 use Rattle.v6_run.specs.Outputs.{port_of, is_shown}
-use Rattle.v6_run.specs.Ports.{term, log_of, failed_output, Grows, Goes}
+use Rattle.v6_run.specs.Ports.{term, log_of, failed_output, is_silent, Grows, Goes}
 
 pub grows_not : (told : Type 0) (p : PortState) → Grows told p p
 grows_not told p = record { is_open = refl; bytes = λ _. record { more = []; is = sym (append-nil p.bytes) } }
@@ -35,6 +36,13 @@ Goes-same o kept = record {
   stopped = λ is_cut. (refl, refl);
 }
 
+-- after a failure nothing is written
+silent_failed : (k : Kept) (output : Output) → failed_output k ≡ Some output → is_silent k ≡ true
+silent_failed kept.Nothing output is = absurd (cc is)
+silent_failed (kept.Byte byte) output is = refl
+silent_failed (kept.Line rest) output is = refl
+silent_failed kept.Unwanted output is = refl
+
 -- a fault comes after calm, or else nothing changes after it
 module _ (a b c : Outside) (b_kept c_kept : Kept) (second : Goes b b_kept c c_kept) (fixed : b.fixed ≡ a.fixed) where
   after_calm : (failed : Option Output) → Calm a b → MatchOption failed (Calm b c) (λ output. FaultAt (Out (port_of output)) true b c)
@@ -46,7 +54,7 @@ module _ (a b c : Outside) (b_kept c_kept : Kept) (second : Goes b b_kept c c_ke
       → MatchOption (failed_output c_kept) (Calm a c) (λ output. FaultAt (Out (port_of output)) true a c)
   cause_on None is calm = after_calm (failed_output c_kept) calm (second.cause is)
   cause_on (Some output) is fault =
-      let still = second.stopped (ap is_some is) in
+      let still = second.stopped (silent_failed b_kept output is) in
       subst (λ o. MatchOption o (Calm a c) (λ output. FaultAt (Out (port_of output)) true a c)) (sym (ap failed_output still.1 ∙ is))
       (subst (λ o. FaultAt (Out (port_of output)) true a o) (sym still.0) fault)
 
@@ -59,6 +67,6 @@ Goes-on a a_kept b b_kept c c_kept first second = record {
   cause = λ goes. cause_on a b c b_kept c_kept second first.only.fixed (failed_output b_kept) refl (first.cause goes);
   stopped = λ is_cut.
       let one = first.stopped is_cut in
-      let two = second.stopped (ap (λ k. is_some (failed_output k)) one.1 ∙ is_cut) in
+      let two = second.stopped (ap is_silent one.1 ∙ is_cut) in
       (two.0 ∙ one.0, two.1 ∙ one.1);
 }

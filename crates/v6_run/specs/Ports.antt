@@ -1,5 +1,5 @@
 -- The ports of a host as a trace of what a run shows: the terminal's bytes go to Term, and the lines of the log to Log.
-use Rattle.std.specs.Prelude.{◌≡◌, ℕ, true, false, Option, Some, None, is_some, MatchOption, List, [], ◌∷◌, ◌++◌, ◌==◌, if◌then◌else◌}
+use Rattle.std.specs.Prelude.{◌≡◌, ℕ, Bool, true, false, ◌&&◌, Option, Some, None, is_some, MatchOption, List, [], ◌∷◌, ◌++◌, ◌==◌, if◌then◌else◌}
 use Rattle.v6_base.specs.Trace.{Taken, Item, line_bytes, text_of}
 use Rattle.v6_port.specs.declared.host.OutPort.TheVariants as out_port
 use Rattle.v6_port.specs.Outside.{Out, PortState, Outside, Tells, OnlyAt}
@@ -25,6 +25,7 @@ abbrev pub failed_output : Kept → Option Output
 failed_output kept.Nothing = None
 failed_output (kept.Byte byte) = Some Term
 failed_output (kept.Line rest) = Some Log
+failed_output kept.Unwanted = None
 
 -- the byte that could not be written
 abbrev pub kept_byte : Kept → List ℕ
@@ -40,16 +41,30 @@ kept_text _ = []
 abbrev pub of_line_0 : List ℕ → ℕ → List ℕ
 of_line_0 bytes line = if 0 == line then bytes else []
 
+-- nothing is written any more, or nothing is to be written
+abbrev pub is_silent : Kept → Bool
+is_silent kept.Nothing = false
+is_silent (kept.Byte byte) = true
+is_silent (kept.Line rest) = true
+is_silent kept.Unwanted = true
+
+abbrev pub is_wanted : Kept → Bool
+is_wanted kept.Nothing = true
+is_wanted (kept.Byte byte) = true
+is_wanted (kept.Line rest) = true
+is_wanted kept.Unwanted = false
+
 -- What has been taken are the bytes of line 0, those written to Term, and the text of the log, what was written to Log: each
--- with the byte, or the rest of the line, that is kept because its writing failed. With that the trace is cut.
+-- with the byte, or the rest of the line, that is kept because its writing failed. With that the trace is cut. A trace of which
+-- nothing is wanted is never cut, and tells nothing.
 abbrev pub taken_of : Outside → Kept → Taken
 taken_of o k = record {
   cut = is_some (failed_output k);
-  tells_bytes = o.fixed.tells;
+  tells_bytes = is_wanted k && o.fixed.tells;
   bytes = of_line_0 ((term o).bytes ++ kept_byte k);
   tells_entries = false;
   entries = [];
-  tells_text = o.fixed.tells;
+  tells_text = is_wanted k && o.fixed.tells;
   text = (log_of o).bytes ++ kept_text k;
 }
 
@@ -63,14 +78,14 @@ pub record Grows (told : Type 0) (old new : PortState) : Type 0 where
   pub bytes : told → Extends old.bytes new.bytes
 
 -- What stays while bytes and lines go out: only Term and Log change, and more is written to them. No count changes until a write has
--- failed: then the faults of its port have risen, and from then on nothing changes.
+-- failed: then the faults of its port have risen, and from then on nothing changes; nor does it where nothing is wanted.
 pub record Goes (a : Outside) (a_kept : Kept) (b : Outside) (b_kept : Kept) : Type 0 where
   pub only : OnlyAt is_shown a b
   pub terminal : Grows (Tells a) (term a) (term b)
   pub log : Grows (Tells a) (log_of a) (log_of b)
   pub cause : failed_output a_kept ≡ None
       → MatchOption (failed_output b_kept) (Calm a b) (λ output. FaultAt (Out (port_of output)) true a b)
-  pub stopped : is_some (failed_output a_kept) ≡ true → (b ≡ a) × (b_kept ≡ a_kept)
+  pub stopped : is_silent a_kept ≡ true → (b ≡ a) × (b_kept ≡ a_kept)
 
 -- the terminal and the log have got all of what is shown
 pub record HasShown (items : List Item) (old new : Outside) : Type 0 where

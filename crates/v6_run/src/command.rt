@@ -43,6 +43,7 @@ fn has_core_size(command: &Command<'_>) -> bool
 }
 
 /// Does a command with a good size of core, and gives what it has found, but for its report.
+#[tactic(auto, using(crate::proofs::CommandLemmas::none_open))]
 fn done<H: Host>(
     alloc: Global,
     command: &Command<'_>,
@@ -99,10 +100,12 @@ fn answer<H: Host>(
 /// - `run IMAGE CORE SCRIPT TERM LOG FINAL` boots the disk IMAGE with CORE clicks of memory, takes it through what SCRIPT
 ///   asks for, and writes to TERM what the terminal shows, to LOG what the kernel decides, and to FINAL the disk that is
 ///   left.
+/// - `memory IMAGE CORE SCRIPT FINAL` does the same, and writes to FINAL alone: the bytes of core and then those of the swap
+///   area.
 /// - `check IMAGE` tells how many nodes and free blocks the disk IMAGE has, or the first of its faults.
 /// - `make N FINAL` writes the disk image of the number N to FINAL.
 ///
-/// Any other words are [`Status::Usage`]. `run` and `make` report nothing where they were done; any other status is reported in
+/// Any other words are [`Status::Usage`]. `run`, `memory` and `make` report nothing where they were done; any other status is reported in
 /// one line.
 pub fn v6<H: Host>(alloc: Global, words: &Vec<String>, host: &mut H) -> Status
     requires { IsIdle (H.outside host.old) }

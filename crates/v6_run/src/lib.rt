@@ -1,6 +1,6 @@
 //! The commands: `run` takes a disk image and a script, and writes what the terminal shows, the log of what the kernel
-//! decides, and the disk that is left; `check` tells whether an image has a fault, and what it holds; `make` writes an
-//! image that is known to the last byte.
+//! decides, and the disk that is left; `memory` writes the core and the swap area that such a run leaves; `check` tells whether
+//! an image has a fault, and what it holds; `make` writes an image that is known to the last byte.
 #![tactic(auto)]
 
 mod check;
@@ -11,6 +11,7 @@ mod files;
 mod image;
 mod line;
 mod make;
+mod memory;
 mod outputs;
 mod ports;
 mod report;

@@ -1,9 +1,9 @@
 //! What a run shows, written to the ports of a host.
-ghost use Rattle.std.specs.Prelude.{◌≡◌, ◌++◌, ◌∷◌, [], ◌≤◌, drop, length};
+ghost use Rattle.std.specs.Prelude.{◌≡◌, false, ◌++◌, ◌∷◌, [], ◌≤◌, drop, length};
 ghost use Rattle.v6_base.specs.LogLine.{entry_line};
 ghost use Rattle.v6_port.specs.Outside.{Out, IsOpen};
 ghost use Rattle.v6_port.specs.declared.host.OutPort.TheVariants.{Term, Log};
-ghost use Rattle.v6_run.specs.Ports.{failed_output};
+ghost use Rattle.v6_run.specs.Ports.{is_silent, failed_output};
 
 use crate::files::write_text;
 use crate::outputs::Output;
@@ -22,20 +22,23 @@ enum Kept {
     Byte(u8),
     /// The rest of a line of the log, with its line feed.
     Line(ArrayVec<u8, LINE_ROOM>),
+    /// All of it: nobody wants what the run shows.
+    Unwanted,
 }
 
 /// A trace over the ports of the terminal and the log. A line of the log goes out as one piece. The trace is cut where a
-/// write fails, and keeps what was not written of that byte or line.
+/// write fails, and keeps what was not written of that byte or line. A trace of which nothing is wanted writes nothing, and is
+/// never cut: a run with either is the same code, so that the loop over slots stands once.
 #[derive(Drop)]
 pub(crate) struct Ports<'a, H: Host> {
     host: &'a mut H,
     kept: Kept,
-    ghost term_is_open: { IsOpen (H.outside host.now) (Out Term) },
-    ghost log_is_open: { IsOpen (H.outside host.now) (Out Log) },
+    ghost term_is_open: { is_silent kept ≡ false → IsOpen (H.outside host.now) (Out Term) },
+    ghost log_is_open: { is_silent kept ≡ false → IsOpen (H.outside host.now) (Out Log) },
 }
 
 impl<'a, H: Host> Ports<'a, H> {
-    ghost use Rattle.v6_run.specs.declared.ports.Kept.TheVariants.{Nothing};
+    ghost use Rattle.v6_run.specs.declared.ports.Kept.TheVariants.{Nothing, Unwanted};
 
     /// A trace of which nothing is taken yet.
     pub(crate) fn new(host: &'a mut H) -> Self
@@ -51,12 +54,34 @@ impl<'a, H: Host> Ports<'a, H> {
         }
     }
 
+    /// A trace of which nothing is wanted.
+    pub(crate) fn unwanted(host: &'a mut H) -> Self
+        ensures same_reference { result.host.ghost_name ≡ host.entry.ghost_name }
+        ensures outside { result.host.now ≡ host.old }
+        ensures kept { result.kept ≡ Unwanted }
+    {
+        Ports {
+            host,
+            kept: Kept::Unwanted,
+        }
+    }
+
+    /// Whether nothing is written any more, or nothing is to be written.
+    fn is_silent(&self) -> bool
+        ensures { result ≡ is_silent self.now.kept }
+    {
+        match &self.kept {
+            Kept::Nothing => false,
+            Kept::Byte(_) | Kept::Line(_) | Kept::Unwanted => true,
+        }
+    }
+
     /// Which of the files could not be written, where one could not.
     pub(crate) fn failed(&self) -> Option<Output>
         ensures { result ≡ failed_output self.now.kept }
     {
         match &self.kept {
-            Kept::Nothing => None,
+            Kept::Nothing | Kept::Unwanted => None,
             Kept::Byte(_) => Some(Output::Term),
             Kept::Line(_) => Some(Output::Log),
         }
@@ -103,7 +128,7 @@ impl<'a, H: Host> Trace for Ports<'a, H> {
     ghost goes_on = { λ a b c first second. (Goes-on _ _ _ _ _ _ first.0 second.0, second.1 ∙ first.1) };
 
     fn entry(&mut self, e: Entry) {
-        if self.failed().is_some() {
+        if self.is_silent() {
             return;
         }
         let line = line_of(&e);
@@ -113,7 +138,7 @@ impl<'a, H: Host> Trace for Ports<'a, H> {
     }
 
     fn out(&mut self, byte: u8) {
-        if self.failed().is_some() {
+        if self.is_silent() {
             return;
         }
         if self.host.write(OutPort::Term, &[byte]).is_err() {

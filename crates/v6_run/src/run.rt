@@ -1,4 +1,4 @@
-//! The command `run`.
+//! The commands `run` and `memory`: a run, and what it leaves.
 ghost use Rattle.std.specs.List.{list_any};
 ghost use Rattle.std.specs.Prelude.{◌≡◌, ◌<◌, ◌≤◌, ◌^◌, length, true, false, None, Some, IfOk, OnOk, IfErr, MatchResult, ◌++◌};
 ghost use Rattle.v6_port.specs.Outside.{Out, IsOpen, OnlyAt, Tells, same};
@@ -13,21 +13,22 @@ ghost use Rattle.script_text.specs.Script.{is_signal};
 ghost use Rattle.abstract_unix.specs.Unix.{New};
 ghost use Rattle.abstract_unix.specs.Endings.{phase_after};
 ghost use Rattle.abstract_unix.specs.Runs.{boots, started, course, shown_by};
-ghost use Rattle.v6_run.specs.Words.{Run, run_words_value};
+ghost use Rattle.v6_run.specs.Words.{Run, ToDisk, disk_files_value, run_words_value};
 ghost use Rattle.v6_run.specs.Events.{events_of};
 ghost use Rattle.v6_run.specs.Ports.{HasShown, HasShownFronts};
 ghost use Rattle.v6_run.specs.Errors.{end_of, run_status};
-ghost use Rattle.v6_run.specs.Outputs.{port_of, is_shown, is_output, is_finished, EndsRun, StopsRun};
-ghost use Rattle.v6_run.specs.Headline.{run_knows};
+ghost use Rattle.v6_run.specs.Outputs.{port_of, is_shown, is_disk_output, is_output, is_finished, disk_writes, run_writes, EndsRun, StopsRun};
+ghost use Rattle.v6_run.specs.Headline.{outputs_know};
 ghost use Rattle.v6_run.specs.Answers.{Answers, HasFiles};
 
 use crate::files::{ReadError, read_file};
 use crate::image::{ImageError, read_image};
+use crate::memory::run_to_memory;
 use crate::outputs::{Output, finish_outputs, leave_disk, open_outputs};
 use crate::ports::Ports;
 use crate::script::{ScriptError, read_script};
 use crate::slots::show_run;
-use crate::words::RunWords;
+use crate::words::{DiskFiles, Outputs, RunWords};
 use fs_codec::SWAP_START;
 use script_text::{Event, MAX_BYTES};
 use std::alloc::Global;
@@ -135,8 +136,8 @@ fn play<H: Host>(kernel: &mut Kernel, events: &[Event], host: &mut H) -> Result<
     }
 }
 
-/// Whether a run that ends so leaves its disk, and its files finished.
-fn is_finished(ends: Ends) -> bool
+/// Whether a run that ends so leaves its disk, or its memory, and its files finished.
+pub(crate) fn is_finished(ends: Ends) -> bool
     ensures { result ≡ is_finished ends }
 {
     match ends {
@@ -145,27 +146,30 @@ fn is_finished(ends: Ends) -> bool
     }
 }
 
-/// Runs the kernel with its files opened, and tells how the run ends. Where it leaves its disk, that is written, and then the
-/// files are finished.
-fn run_with_outputs<H: Host>(
+/// Runs the kernel with the files of `run` opened, and tells how the run ends. Where it leaves its disk, that is written, and
+/// then the files are finished.
+fn run_to_disk<H: Host>(
     kernel: &mut Kernel,
     events: &[Event],
-    words: &RunWords<'_>,
+    files: &DiskFiles<'_>,
     host: &mut H,
 ) -> Result<Ends, Output>
-    requires closed { (p : OutPort) → is_output (Out p) ≡ true → ((H.outside host.old).port (Out p)).is_open ≡ false }
+    requires closed { (p : OutPort) → is_disk_output (Out p) ≡ true
+        → ((H.outside host.old).port (Out p)).is_open ≡ false }
     requires root { (head (block_at kernel.old.blocks)).f_size ≤ SWAP_START }
     requires unsignalled { list_any is_signal events.now ≡ false }
     requires new { kernel.old.phase ≡ New }
-    ensures only { OnlyAt is_output (H.outside host.old) (H.outside host.new) }
+    ensures only { OnlyAt is_disk_output (H.outside host.old) (H.outside host.new) }
     ensures outcome { MatchResult result
-        (λ ends. EndsRun (block_at kernel.old.blocks) (course (started kernel.old.system) (events_of events.now)) ends
-        (H.outside host.old) (H.outside host.new))
-        (λ output. StopsRun (block_at kernel.old.blocks) (course (started kernel.old.system) (events_of events.now)) output
-        (run_knows (run_words_value words.now) (H.outside host.old).fixed (Out (port_of output)))
+        (λ ends. EndsRun is_disk_output
+        (disk_writes (block_at kernel.old.blocks) (course (started kernel.old.system) (events_of events.now)))
+        (course (started kernel.old.system) (events_of events.now)) ends (H.outside host.old) (H.outside host.new))
+        (λ output. StopsRun is_disk_output
+        (disk_writes (block_at kernel.old.blocks) (course (started kernel.old.system) (events_of events.now))) output
+        (outputs_know (ToDisk (disk_files_value files.now)) (H.outside host.old).fixed (port_of output))
         (H.outside host.old) (H.outside host.new)) }
 {
-    open_outputs(words, host)?;
+    open_outputs(files, host)?;
     let ends = play(kernel, events, host)?;
     if !is_finished(ends) {
         return Ok(ends);
@@ -175,6 +179,36 @@ fn run_with_outputs<H: Host>(
     }
     finish_outputs(host)?;
     Ok(ends)
+}
+
+/// Runs the kernel with the files opened that the words name, and tells how the run ends.
+fn run_with_outputs<H: Host>(
+    kernel: &mut Kernel,
+    events: &[Event],
+    words: &RunWords<'_>,
+    host: &mut H,
+) -> Result<Ends, Output>
+    requires closed { (p : OutPort) → is_output (run_words_value words.now).outputs (Out p) ≡ true
+        → ((H.outside host.old).port (Out p)).is_open ≡ false }
+    requires root { (head (block_at kernel.old.blocks)).f_size ≤ SWAP_START }
+    requires unsignalled { list_any is_signal events.now ≡ false }
+    requires new { kernel.old.phase ≡ New }
+    ensures only { OnlyAt (is_output (run_words_value words.now).outputs) (H.outside host.old) (H.outside host.new) }
+    ensures outcome { MatchResult result
+        (λ ends. EndsRun (is_output (run_words_value words.now).outputs)
+        (run_writes (run_words_value words.now).outputs (block_at kernel.old.blocks)
+        (course (started kernel.old.system) (events_of events.now)))
+        (course (started kernel.old.system) (events_of events.now)) ends (H.outside host.old) (H.outside host.new))
+        (λ output. StopsRun (is_output (run_words_value words.now).outputs)
+        (run_writes (run_words_value words.now).outputs (block_at kernel.old.blocks)
+        (course (started kernel.old.system) (events_of events.now))) output
+        (outputs_know (run_words_value words.now).outputs (H.outside host.old).fixed (port_of output))
+        (H.outside host.old) (H.outside host.new)) }
+{
+    match &words.outputs {
+        Outputs::Disk(files) => run_to_disk(kernel, events, files, host),
+        Outputs::Memory(name) => run_to_memory(kernel, events, name, host),
+    }
 }
 
 /// The files that are read before a run.
@@ -196,7 +230,7 @@ fn read_files<H: Host>(alloc: Global, words: &RunWords<'_>, host: &mut H) -> Res
     Ok(Files { image, script })
 }
 
-/// The command `run` with good words.
+/// The commands `run` and `memory` with good words.
 pub(crate) fn run<H: Host>(
     alloc: Global,
     words: &RunWords<'_>,
@@ -204,7 +238,8 @@ pub(crate) fn run<H: Host>(
 ) -> Result<(), RunError>
     requires least { 64 ≤ words.now.core }
     requires most { words.now.core ≤ 3968 }
-    requires closed { (p : OutPort) → is_output (Out p) ≡ true → ((H.outside host.old).port (Out p)).is_open ≡ false }
+    requires closed { (p : OutPort) → is_output (run_words_value words.now).outputs (Out p) ≡ true
+        → ((H.outside host.old).port (Out p)).is_open ≡ false }
     ensures { Answers (Run (run_words_value words.now)) (end_of run_status result) (H.outside host.old) (H.outside host.new) }
 {
     let files = read_files(alloc, words, host)?;

@@ -1,25 +1,40 @@
 //! The words of a command.
 ghost use Rattle.std.specs.Prelude.{◌≡◌, option_map, string_bytes, codes};
 ghost use Rattle.script_text.specs.Number.{number_of};
-ghost use Rattle.v6_run.specs.Words.{command_in, run_words, check_words, make_words, is_word, command_value};
+ghost use Rattle.v6_run.specs.Words.{command_in, run_words, check_words, make_words, is_word, outputs_value, command_value};
 
 use script_text::number_of;
 
-/// The files of `run` that are read or written, and the size of core in clicks of 64 bytes.
+/// The files that `run` writes.
 #[derive(Clone, Copy)]
-pub(crate) struct RunWords<'a> {
-    pub(crate) image: &'a str,
-    pub(crate) core: u32,
-    pub(crate) script: &'a str,
+pub(crate) struct DiskFiles<'a> {
     pub(crate) term: &'a str,
     pub(crate) log: &'a str,
     pub(crate) final_disk: &'a str,
 }
 
+/// What a run leaves.
+#[derive(Clone, Copy)]
+pub(crate) enum Outputs<'a> {
+    /// The files of `run`.
+    Disk(DiskFiles<'a>),
+    /// The file of `memory`, with the bytes of core and of the swap area.
+    Memory(&'a str),
+}
+
+/// The files of a run that are read, the size of core in clicks of 64 bytes, and what is written.
+#[derive(Clone, Copy)]
+pub(crate) struct RunWords<'a> {
+    pub(crate) image: &'a str,
+    pub(crate) core: u32,
+    pub(crate) script: &'a str,
+    pub(crate) outputs: Outputs<'a>,
+}
+
 /// A command with its names and numbers.
 #[derive(Clone, Copy)]
 pub(crate) enum Command<'a> {
-    /// `run IMAGE CORE SCRIPT TERM LOG FINAL`
+    /// `run IMAGE CORE SCRIPT TERM LOG FINAL`, or `memory IMAGE CORE SCRIPT FINAL`
     Run(RunWords<'a>),
     /// `check IMAGE`
     Check(&'a str),
@@ -27,19 +42,18 @@ pub(crate) enum Command<'a> {
     Make(u32, &'a str),
 }
 
+/// The words of a run, where its verb is the one that is wanted.
 fn run_words<'a>(
-    verb: &str,
-    core: &str,
+    is_named: bool,
     image: &'a str,
+    core: &str,
     script: &'a str,
-    term: &'a str,
-    log: &'a str,
-    final_disk: &'a str,
+    outputs: Outputs<'a>,
 ) -> Option<Command<'a>>
     ensures { option_map command_value result
-        ≡ run_words (is_word verb.now (codes "run")) (number_of core.now) image.now script.now term.now log.now final_disk.now }
+        ≡ run_words is_named (number_of core.now) image.now script.now (outputs_value outputs.entry) }
 {
-    if verb != "run" {
+    if !is_named {
         return None;
     }
     let core = number_of(core.as_bytes())?;
@@ -47,9 +61,7 @@ fn run_words<'a>(
         image,
         core,
         script,
-        term,
-        log,
-        final_disk,
+        outputs,
     }))
 }
 
@@ -78,13 +90,22 @@ pub(crate) fn command_of(words: &[String]) -> Option<Command<'_>>
 {
     match words {
         [verb, image, core, script, term, log, final_disk] => run_words(
-            verb.as_str(),
-            core.as_str(),
+            verb.as_str() == "run",
             image.as_str(),
+            core.as_str(),
             script.as_str(),
-            term.as_str(),
-            log.as_str(),
-            final_disk.as_str(),
+            Outputs::Disk(DiskFiles {
+                term: term.as_str(),
+                log: log.as_str(),
+                final_disk: final_disk.as_str(),
+            }),
+        ),
+        [verb, image, core, script, final_memory] => run_words(
+            verb.as_str() == "memory",
+            image.as_str(),
+            core.as_str(),
+            script.as_str(),
+            Outputs::Memory(final_memory.as_str()),
         ),
         [verb, image] => check_words(verb.as_str(), image.as_str()),
         [verb, number, name] => make_words(verb.as_str(), number.as_str(), name.as_str()),

@@ -1,37 +1,18 @@
-use Rattle.std.proofs.Common.{rules, ◌++◌, ◌∙◌, ap}
+use Rattle.std.proofs.Common.{◌∙◌, ap}
 use Rattle.v6_port.specs.Outside.{Environment}
-use Rattle.v6_run.proofs.FrontLemmas.{front_of_all}
-use Rattle.v6_run.proofs.FinalLemmas.{no_blocks, front_more, bytes_more, so_far_all}
-use Rattle.v6_run.specs.Ports.{final_of}
+use Rattle.v6_run.proofs.FrontLemmas.{front_of_first, front_of_both, whole_of_both, whole_on}
 use Rattle.v6_run.proofs.outputs.write_disk.Goals as goal
 
-pub numbers-init : goal.numbers-init
-numbers-init g c = record {
-  only = search rules;
-  calm = search rules;
-  is_open = c.requires.is_open;
-  bytes = λ told. no_blocks c.args.kernel.now.stored _;
-}
-
-pub returns-in_err-write_all-clause-front : goal.returns-in_err-write_all-clause-front
-returns-in_err-write_all-clause-front g c told =
-    let now = g.H.Host.outside c.numbers.host in
-    let still = ap (λ (f : Environment). f.tells) c.numbers.invariant.only.fixed ∙ told in
-    front_more _ _ _ _ _ c.numbers.n c.numbers-test.true (c.numbers.invariant.bytes told) c.final_block.ensures (c.in_err-write_all.ensures.front still)
-
-pub numbers-preserved : goal.numbers-preserved
-numbers-preserved g c = record {
-  only = search rules;
-  calm = search rules;
-  is_open = search rules;
-  bytes = λ told.
-      let still = ap (λ (f : Environment). f.tells) c.numbers.invariant.only.fixed ∙ told in
-      bytes_more _ _ _ _ _ c.numbers.n (c.numbers.invariant.bytes told) c.final_block.ensures (c.in_ok-write_all.ensures.whole still);
-}
+pub returns-in_err-write_blocks-clause-front : goal.returns-in_err-write_blocks-clause-front
+returns-in_err-write_blocks-clause-front g c = λ told. front_of_first _ _ _ _ (c.in_err-write_blocks.ensures.front told)
 
 pub returns-clause-whole : goal.returns-clause-whole
-returns-clause-whole g c told =
-    c.numbers.invariant.bytes told ∙ ap (λ l. (final_of (g.H.Host.outside c.args.host.now)).bytes ++ l) (so_far_all c.args.kernel.now.stored c.numbers.n c.numbers-test.false c.numbers.auto.n-end)
+returns-clause-whole g c =
+    whole_on c.write_all.result _ _ (λ second told.
+    let still = ap (λ (f : Environment). f.tells) c.in_ok-write_blocks.ensures.only.fixed ∙ told in
+    whole_of_both _ _ _ _ _ (c.in_ok-write_blocks.ensures.whole told) (second still)) c.write_all.ensures.whole
 
 pub returns-clause-front : goal.returns-clause-front
-returns-clause-front g c told = front_of_all _ _ _ (returns-clause-whole g c told)
+returns-clause-front g c = λ told.
+    let still = ap (λ (f : Environment). f.tells) c.in_ok-write_blocks.ensures.only.fixed ∙ told in
+    front_of_both _ _ _ _ _ (c.in_ok-write_blocks.ensures.whole told) (c.write_all.ensures.front still)

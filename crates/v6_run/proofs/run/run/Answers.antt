@@ -8,7 +8,7 @@ use Rattle.abstract_unix.specs.declared.ends.Ends.TheVariants as ends
 use Rattle.abstract_unix.specs.declared.ends.Ends.TheVariants.{AtEnd}
 use Rattle.abstract_unix.specs.Runs.{boots, started, course}
 use Rattle.v6_run.specs.Events.{events_of}
-use Rattle.v6_run.specs.Outputs.{EndsRun}
+use Rattle.v6_run.specs.Outputs.{is_output, run_writes, EndsRun}
 use Rattle.v6_run.specs.Words.{Run, run_words_value}
 use Rattle.script_text.specs.Script.{script_of, signal_line_of}
 use Rattle.v6_run.specs.Steps.{RefusesScript}
@@ -79,8 +79,8 @@ returns-in-Ok-AtEnd g c =
     let only = c.run_with_outputs.ensures.only in
     let field = c.in-Ok-AtEnd.field-0-is in
     let none : c.in-Ok-AtEnd.field-0 ≡ AtEnd = cc in
-    let ended = subst (λ (e : Ends). EndsRun (block_at kernel.blocks) (course (started kernel.system) (events_of c.deref-3.result.now)) e middle new) none c.in-Ok-AtEnd.ensures.outcome in
-    run_ended words image bytes old middle files _ script_is built kernel.system boots_is new only AtEnd (ends_over (disk_of image) (block_at kernel.blocks) (same_blocks image kernel.blocks blocks_is) _ _ _ _ ended)
+    let ended = subst (λ (e : Ends). EndsRun (is_output words.outputs) (run_writes words.outputs (block_at kernel.blocks) (course (started kernel.system) (events_of c.deref-3.result.now))) (course (started kernel.system) (events_of c.deref-3.result.now)) e middle new) none c.in-Ok-AtEnd.ensures.outcome in
+    run_ended words image bytes old middle files _ script_is built kernel.system boots_is new only AtEnd (ends_over (disk_of image) (block_at kernel.blocks) (same_blocks image kernel.blocks blocks_is) words.outputs _ _ _ _ ended)
 
 pub returns-in-Ok-NotBuilt : goal.returns-in-Ok-NotBuilt
 returns-in-Ok-NotBuilt g c =
@@ -102,8 +102,8 @@ returns-in-Ok-NotBuilt g c =
     let field = c.in-Ok-NotBuilt.field-0-is in
     let same = c.in-Ok-NotBuilt.place-is in
     let some : c.in-Ok-NotBuilt.field-0 ≡ ends.NotBuilt c.in-Ok-NotBuilt.place = cc in
-    let ended = subst (λ (e : Ends). EndsRun (block_at kernel.blocks) (course (started kernel.system) (events_of c.deref-3.result.now)) e middle new) some c.in-Ok-NotBuilt.ensures.outcome in
-    run_ended words image bytes old middle files _ script_is built kernel.system boots_is new only (ends.NotBuilt c.in-Ok-NotBuilt.place) (ends_over (disk_of image) (block_at kernel.blocks) (same_blocks image kernel.blocks blocks_is) _ _ _ _ ended)
+    let ended = subst (λ (e : Ends). EndsRun (is_output words.outputs) (run_writes words.outputs (block_at kernel.blocks) (course (started kernel.system) (events_of c.deref-3.result.now))) (course (started kernel.system) (events_of c.deref-3.result.now)) e middle new) some c.in-Ok-NotBuilt.ensures.outcome in
+    run_ended words image bytes old middle files _ script_is built kernel.system boots_is new only (ends.NotBuilt c.in-Ok-NotBuilt.place) (ends_over (disk_of image) (block_at kernel.blocks) (same_blocks image kernel.blocks blocks_is) words.outputs _ _ _ _ ended)
 
 pub returns : goal.returns
 returns g c =
@@ -122,4 +122,4 @@ returns g c =
     let boots_is = subst (λ l. boots l words.core ≡ Some kernel.system) c.deref-2.ensures.value (value_where_ok _ _ _ c.in_ok-kernel.was c.boot.ensures.system) in
     let blocks_is = subst (λ l. kernel.blocks ≡ blocks_of l) c.deref-2.ensures.value (value_where_ok _ _ _ c.in_ok-kernel.was c.boot.ensures.blocks) in
     let only = c.run_with_outputs.ensures.only in
-    run_stopped words image bytes old middle files _ script_is built kernel.system boots_is new only _ (stops_over (disk_of image) (block_at kernel.blocks) (same_blocks image kernel.blocks blocks_is) _ _ _ _ _ c.in-Err.ensures.outcome)
+    run_stopped words image bytes old middle files _ script_is built kernel.system boots_is new only _ (stops_over (disk_of image) (block_at kernel.blocks) (same_blocks image kernel.blocks blocks_is) words.outputs _ _ _ _ _ c.in-Err.ensures.outcome)

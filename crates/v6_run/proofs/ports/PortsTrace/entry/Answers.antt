@@ -1,20 +1,26 @@
-use Rattle.std.proofs.Common.{sym, ◌∙◌, ap, is_some, drop}
-use Rattle.v6_run.proofs.PortLemmas.{took_all, took_front, took_while_cut}
+use Rattle.std.proofs.Common.{sym, ◌∙◌, ap, drop}
+use Rattle.v6_run.proofs.PortLemmas.{took_all, took_front, took_silently, appended_silently}
 use Rattle.v6_run.proofs.ports.PortsTrace.entry.Goals as goal
 
-pub returns-then-is_some-clause-took : goal.returns-then-is_some-clause-took
-returns-then-is_some-clause-took g c =
-    let is_cut = ap is_some (sym c.failed.ensures) ∙ sym c.is_some.ensures ∙ c.if-is_some.true in
-    took_while_cut (g.H.Host.outside c.args.self.now.host.now) c.args.self.now.kept _ is_cut
+pub returns-then-is_silent-clause-took : goal.returns-then-is_silent-clause-took
+returns-then-is_silent-clause-took g c =
+    took_silently (g.H.Host.outside c.args.self.now.host.now) c.args.self.now.kept _ (sym c.is_silent.ensures ∙ c.if-is_silent.true)
+
+pub returns-then-is_silent-clause-whole : goal.returns-then-is_silent-clause-whole
+returns-then-is_silent-clause-whole g c =
+    appended_silently (g.H.Host.outside c.args.self.now.host.now) c.args.self.now.kept _ (sym c.is_silent.ensures ∙ c.if-is_silent.true)
+
+pub write_text-requires : goal.write_text-requires
+write_text-requires g c = c.args.self.now.log_is_open (sym c.is_silent.ensures ∙ c.if-is_silent.false)
 
 pub returns-in-Err-clause-took : goal.returns-in-Err-clause-took
 returns-in-Err-clause-took g c =
-    let goes = ap is_some (sym c.failed.ensures) ∙ sym c.is_some.ensures ∙ c.if-is_some.false in
+    let loud = sym c.is_silent.ensures ∙ c.if-is_silent.false in
     let line = c.as_slice.ensures.value in
-    took_front _ _ c.args.self.now.kept c.args.e _ goes c.in-Err.ensures.only (line ∙ c.line_of-line.ensures) c.in-Err.count c.in-Err.ensures.front c.rest_of.result.items
+    took_front _ _ c.args.self.now.kept c.args.e _ loud c.in-Err.ensures.only (line ∙ c.line_of-line.ensures) c.in-Err.count c.in-Err.ensures.front c.rest_of.result.items
     (c.rest_of.ensures ∙ ap (drop c.in-Err.count) (sym line))
 
 pub returns-in_default-clause-took : goal.returns-in_default-clause-took
 returns-in_default-clause-took g c =
-    let goes = ap is_some (sym c.failed.ensures) ∙ sym c.is_some.ensures ∙ c.if-is_some.false in
-    took_all _ _ c.args.self.now.kept c.args.e _ goes c.in_default.ensures.only (c.as_slice.ensures.value ∙ c.line_of-line.ensures) c.in_default.ensures.whole
+    let loud = sym c.is_silent.ensures ∙ c.if-is_silent.false in
+    took_all _ _ c.args.self.now.kept c.args.e _ loud c.in_default.ensures.only (c.as_slice.ensures.value ∙ c.line_of-line.ensures) c.in_default.ensures.whole

@@ -3,10 +3,10 @@ use Rattle.buf_cache.specs.Blocks.{block_at}
 use Rattle.abstract_unix.specs.declared.ends.Ends.{Ends}
 use Rattle.abstract_unix.specs.Runs.{started, course}
 use Rattle.v6_run.specs.Events.{events_of}
-use Rattle.v6_run.specs.Outputs.{EndsRun}
+use Rattle.v6_run.specs.Outputs.{is_disk_output, disk_writes, EndsRun}
 use Rattle.v6_run.proofs.ResultLemmas.{match_passed}
 use Rattle.v6_run.proofs.OutputLemmas.{stopped_playing, stopped_writing, stopped_finishing, came_to_end, run_leaves, came_through, fault_where_err, calm_where_ok, told_where_ok}
-use Rattle.v6_run.proofs.run.run_with_outputs.Goals as goal
+use Rattle.v6_run.proofs.run.run_to_disk.Goals as goal
 
 pub returns-in_err-ends-clause-outcome : goal.returns-in_err-ends-clause-outcome
 returns-in_err-ends-clause-outcome g c =
@@ -22,8 +22,8 @@ returns-then-is_err-clause-outcome g c =
     let played = c.in_ok-ends.ensures in
     let whole = came_through _ (sym c.is_finished.ensures ∙ c.if-not-is_finished.false) in
     let written = c.leave_disk.ensures in
-    let leaves = run_leaves c.args.kernel.now c.play.new.kernel c.leave_disk.new.kernel run c.requires.root played.system played.rest written.system written.stands written.rest written.form in
-    stopped_writing _ run _ _ _ opened.only opened.bytes played.only played.shown (sym whole ∙ played.ending) _ leaves _ written.only _ written.front opened.cause played.cause
+    let leaves = run_leaves c.args.kernel.now c.play.new.kernel c.leave_disk.new.kernel run c.requires.root played.system played.rest written.system written.stands written.rest written.form written.written.0 written.written.1 in
+    stopped_writing _ run _ _ _ opened.only opened.bytes played.only played.shown (sym whole ∙ played.ending) _ leaves _ written.only _ written.written.3 opened.cause played.cause
     (fault_where_err c.leave_disk.result _ _ c.if-is_err.ensures.value written.cause)
 
 pub returns-in_err-finish_outputs-clause-outcome : goal.returns-in_err-finish_outputs-clause-outcome
@@ -34,10 +34,10 @@ returns-in_err-finish_outputs-clause-outcome g c =
     let whole = came_through _ (sym c.is_finished.ensures ∙ c.if-not-is_finished.false) in
     let written = c.leave_disk.ensures in
     let finished = c.in_err-finish_outputs.ensures in
-    let leaves = run_leaves c.args.kernel.now c.play.new.kernel c.leave_disk.new.kernel run c.requires.root played.system played.rest written.system written.stands written.rest written.form in
+    let leaves = run_leaves c.args.kernel.now c.play.new.kernel c.leave_disk.new.kernel run c.requires.root played.system played.rest written.system written.stands written.rest written.form written.written.0 written.written.1 in
     match_passed _ _ _ _ c.from_residual-in_err-finish_outputs.ensures.1
     (stopped_finishing _ run _ _ _ opened.only opened.bytes played.only played.shown (sym whole ∙ played.ending) _ leaves _ written.only
-    (told_where_ok c.leave_disk.result _ c.if-is_err.ensures.value written.whole) _ finished.bytes _ _ opened.cause played.cause
+    (told_where_ok c.leave_disk.result _ c.if-is_err.ensures.value written.written.2) _ finished.bytes _ _ opened.cause played.cause
     (calm_where_ok c.leave_disk.result _ _ c.if-is_err.ensures.value written.cause) finished.cause)
 
 pub returns-clause-outcome : goal.returns-clause-outcome
@@ -48,8 +48,8 @@ returns-clause-outcome g c =
     let whole = came_through _ (sym c.is_finished.ensures ∙ c.if-not-is_finished.false) in
     let written = c.leave_disk.ensures in
     let finished = c.in_ok-finish_outputs.ensures in
-    let leaves = run_leaves c.args.kernel.now c.play.new.kernel c.leave_disk.new.kernel run c.requires.root played.system played.rest written.system written.stands written.rest written.form in
-    subst (λ (e : Ends). EndsRun (block_at c.args.kernel.now.blocks) run e (g.H.Host.outside c.args.host.now) (g.H.Host.outside c.finish_outputs.new.host)) (sym whole)
+    let leaves = run_leaves c.args.kernel.now c.play.new.kernel c.leave_disk.new.kernel run c.requires.root played.system played.rest written.system written.stands written.rest written.form written.written.0 written.written.1 in
+    subst (λ (e : Ends). EndsRun is_disk_output (disk_writes (block_at c.args.kernel.now.blocks) run) run e (g.H.Host.outside c.args.host.now) (g.H.Host.outside c.finish_outputs.new.host)) (sym whole)
     (came_to_end _ run _ _ _ opened.only opened.bytes played.only played.shown (sym whole ∙ played.ending) _ leaves _ written.only
-    (told_where_ok c.leave_disk.result _ c.if-is_err.ensures.value written.whole) _ finished.bytes finished.is_open opened.cause played.cause
+    (told_where_ok c.leave_disk.result _ c.if-is_err.ensures.value written.written.2) _ finished.bytes finished.is_open opened.cause played.cause
     (calm_where_ok c.leave_disk.result _ _ c.if-is_err.ensures.value written.cause) finished.cause)

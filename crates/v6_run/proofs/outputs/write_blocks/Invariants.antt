@@ -4,7 +4,7 @@ use Rattle.v6_port.specs.Outside.{Out, IsOpen, OnlyAt, Tells, same}
 use Rattle.v6_port.specs.Causes.{Calm}
 use Rattle.v6_run.specs.Ports.{final_of}
 use Rattle.v6_run.proofs.FinalLemmas.{so_far}
-use Rattle.v6_run.proofs.outputs.write_disk.Given as goal
+use Rattle.v6_run.proofs.outputs.write_blocks.Given as goal
 
 abbrev pub invariant-numbers : goal.invariant-numbers
 invariant-numbers g l =

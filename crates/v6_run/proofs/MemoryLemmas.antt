@@ -1,0 +1,115 @@
+-- What has been written by `memory`, step by step.
+use Rattle.std.proofs.Common.{◌≡◌, ℕ, Bool, true, false, not, List, [], ◌++◌, refl, sym, ◌∙◌, ap, subst}
+use Rattle.v6_port.specs.declared.host.OutPort.{OutPort}
+use Rattle.v6_port.specs.declared.host.OutPort.TheVariants as out_port
+use Rattle.v6_port.specs.Outside.{Out, same, PortState, Outside, Tells, OnlyAt}
+use Rattle.v6_port.specs.Causes.{Calm, FaultAt}
+use Rattle.abstract_unix.specs.declared.ends.Ends.{Ends}
+use Rattle.abstract_unix.specs.declared.ends.Ends.TheVariants as ends
+use Rattle.abstract_unix.specs.declared.ends.Ends.TheVariants.{AtEnd}
+use Rattle.image_keep.specs.Kept.{Kept}
+use Rattle.image_keep.specs.Holds.{CoreHolds, SwapHolds, MemoryHolds, AreRangesApart}
+use Rattle.abstract_unix.specs.Unix.{System}
+use Rattle.abstract_unix.specs.Runs.{Course, finished}
+use Rattle.unix_core.specs.Memory.{kept_in}
+use Rattle.v6_run.specs.declared.outputs.Output.TheVariants.{Final}
+use Rattle.v6_run.specs.Ports.{final_of}
+use Rattle.v6_run.specs.Fronts.{HoldsFront, HoldsSome, HoldsFrontOfSome}
+use Rattle.v6_run.specs.Final.{IsMemory}
+use Rattle.v6_run.specs.Outputs.{memory_writes, core_writes, is_finished, EndsRun, StopsRun}
+use Rattle.v6_port.proofs.CauseLemmas.{still_tells, calm_then, fault_then}
+use Rattle.v6_run.proofs.OutputLemmas.{nothing_of, all_of, empty_of, fault_any}
+
+-- Finishing changes nothing of what core and the swap area keep.
+pub kept_finished : (m n : System) → n ≡ finished m → kept_in n ≡ kept_in m
+unfolding kept_in
+kept_finished m n is = ap kept_in is
+
+pub memory_held : (core swap : List ℕ) (k : Kept) → CoreHolds core k → SwapHolds swap k → AreRangesApart k → MemoryHolds core swap k
+memory_held core swap k in_core in_swap apart = record { in_core = in_core; in_swap = in_swap; apart = apart }
+
+-- its file is opened
+module _ (run : Course) (a b : Outside) (opens : OnlyAt (same (Out out_port.Final)) a b) (opened : (final_of b).bytes ≡ (final_of a).bytes) where
+  others_same : (p : OutPort) → same (Out out_port.Final) (Out p) ≡ false → (b.port (Out p)).bytes ≡ (a.port (Out p)).bytes
+  others_same p other = ap (λ (state : PortState). state.bytes) (opens.others (Out p) other)
+
+  pub memory_unopened : (known : Bool) → FaultAt (Out out_port.Final) known a b → StopsRun (same (Out out_port.Final)) (core_writes run) Final known a b
+  memory_unopened known fault = record { named = refl; written = λ told. at; fault = fault } where
+    at : (p : OutPort) → HoldsFrontOfSome (core_writes run p) (a.port (Out p)).bytes (b.port (Out p)).bytes
+    at out_port.Term = nothing_of _ _ _ (others_same out_port.Term refl)
+    at out_port.Log = nothing_of _ _ _ (others_same out_port.Log refl)
+    at out_port.Final = nothing_of _ _ _ opened
+    at out_port.Report = nothing_of _ _ _ (others_same out_port.Report refl)
+
+  -- the run has come to what isn't built: the file stays open, and nothing is written
+  pub memory_unbuilt : (ended : Ends) → is_finished ended ≡ false → ended ≡ run.ending → (final_of b).is_open ≡ true → Calm a b
+      → EndsRun (same (Out out_port.Final)) (core_writes run) run ended a b
+  memory_unbuilt ended is last unclosed calm = record { ended = last; written = λ told. at; is_open = still; calm = calm } where
+    leaves_none : (e : Ends) → is_finished e ≡ false → memory_writes e run.system []
+    leaves_none AtEnd f = absurd (cc f)
+    leaves_none (ends.NotBuilt place) f = refl
+
+    none : memory_writes run.ending run.system []
+    none = subst (λ e. memory_writes e run.system []) last (leaves_none ended is)
+
+    at : (p : OutPort) → HoldsSome (core_writes run p) (a.port (Out p)).bytes (b.port (Out p)).bytes
+    at out_port.Term = empty_of _ _ _ refl (others_same out_port.Term refl)
+    at out_port.Log = empty_of _ _ _ refl (others_same out_port.Log refl)
+    at out_port.Final = empty_of _ _ _ none opened
+    at out_port.Report = empty_of _ _ _ refl (others_same out_port.Report refl)
+
+    still : (p : OutPort) → same (Out out_port.Final) (Out p) ≡ true → (b.port (Out p)).is_open ≡ not (is_finished ended)
+    still out_port.Term out = absurd (let no : false ≡ true = out in cc)
+    still out_port.Log out = absurd (let no : false ≡ true = out in cc)
+    still out_port.Final out = unclosed ∙ sym (ap not is)
+    still out_port.Report out = absurd (let no : false ≡ true = out in cc)
+
+  -- the run has come to its end, and its memory is written
+  module _ (last : AtEnd ≡ run.ending) (core swap : List ℕ) (holds : MemoryHolds core swap (kept_in run.system)) (c : Outside) (writes : OnlyAt (same (Out out_port.Final)) b c) where
+    is_memory : memory_writes run.ending run.system (core ++ swap)
+    is_memory = subst (λ e. memory_writes e run.system (core ++ swap)) last (let m : IsMemory run.system (core ++ swap) = record { core = core; swap = swap; split = refl; holds = holds } in m)
+
+    tells_b : Tells a → Tells b
+    tells_b told = still_tells _ _ _ opens told
+
+    others_then : (p : OutPort) → same (Out out_port.Final) (Out p) ≡ false → (c.port (Out p)).bytes ≡ (a.port (Out p)).bytes
+    others_then p other = ap (λ (state : PortState). state.bytes) (writes.others (Out p) other) ∙ others_same p other
+
+    pub memory_stopped : (known : Bool) → (Tells b → HoldsFront (final_of b).bytes (core ++ swap) (final_of c).bytes) → Calm a b → FaultAt (Out out_port.Final) true b c
+        → StopsRun (same (Out out_port.Final)) (core_writes run) Final known a c
+    memory_stopped known front calm fault = record { named = refl; written = at; fault = fault_any _ known _ _ (fault_then _ _ a b c opens.fixed calm fault) } where
+      at : Tells a → (p : OutPort) → HoldsFrontOfSome (core_writes run p) (a.port (Out p)).bytes (c.port (Out p)).bytes
+      at told out_port.Term = nothing_of _ _ _ (others_then out_port.Term refl)
+      at told out_port.Log = nothing_of _ _ _ (others_then out_port.Log refl)
+      at told out_port.Final = record { text = core ++ swap; fits = λ _. is_memory; front = subst (λ l. HoldsFront l (core ++ swap) (final_of c).bytes) opened (front (tells_b told)) }
+      at told out_port.Report = nothing_of _ _ _ (others_then out_port.Report refl)
+
+    module _ (whole : Tells b → (final_of c).bytes ≡ (final_of b).bytes ++ (core ++ swap)) (d : Outside) (finishes : OnlyAt (same (Out out_port.Final)) c d) (finished : (final_of d).bytes ≡ (final_of c).bytes) where
+      others_last : (p : OutPort) → same (Out out_port.Final) (Out p) ≡ false → (d.port (Out p)).bytes ≡ (a.port (Out p)).bytes
+      others_last p other = ap (λ (state : PortState). state.bytes) (finishes.others (Out p) other) ∙ others_then p other
+
+      all_written : Tells a → (p : OutPort) → HoldsSome (core_writes run p) (a.port (Out p)).bytes (d.port (Out p)).bytes
+      all_written told out_port.Term = empty_of _ _ _ refl (others_last out_port.Term refl)
+      all_written told out_port.Log = empty_of _ _ _ refl (others_last out_port.Log refl)
+      all_written told out_port.Final = record { text = core ++ swap; fits = is_memory; holds = finished ∙ whole (tells_b told) ∙ ap (λ l. l ++ (core ++ swap)) opened }
+      all_written told out_port.Report = empty_of _ _ _ refl (others_last out_port.Report refl)
+
+      pub memory_unfinished : (known : Bool) → Calm a b → Calm b c → FaultAt (Out out_port.Final) true c d → StopsRun (same (Out out_port.Final)) (core_writes run) Final known a d
+      memory_unfinished known calm calm_too fault = record {
+        named = refl;
+        written = λ told p. all_of _ _ _ (all_written told p);
+        fault = fault_any _ known _ _ (fault_then _ _ a c d (writes.fixed ∙ opens.fixed) (calm_then _ _ _ calm calm_too) fault);
+      }
+
+      pub memory_left : (final_of d).is_open ≡ false → Calm a b → Calm b c → Calm c d → EndsRun (same (Out out_port.Final)) (core_writes run) run AtEnd a d
+      memory_left closed calm calm_too calm_last = record {
+        ended = last;
+        written = all_written;
+        is_open = shut;
+        calm = calm_then _ _ _ (calm_then _ _ _ calm calm_too) calm_last;
+      } where
+        shut : (p : OutPort) → same (Out out_port.Final) (Out p) ≡ true → (d.port (Out p)).is_open ≡ false
+        shut out_port.Term out = absurd (let no : false ≡ true = out in cc)
+        shut out_port.Log out = absurd (let no : false ≡ true = out in cc)
+        shut out_port.Final out = closed
+        shut out_port.Report out = absurd (let no : false ≡ true = out in cc)
