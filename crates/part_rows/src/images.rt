@@ -5,6 +5,7 @@
 mod addresses;
 mod bytes;
 mod clicks;
+mod copies;
 mod growth;
 mod headers;
 mod maps;

@@ -22,6 +22,8 @@ mod memory;
 #[cfg(test)]
 mod parents;
 #[cfg(test)]
+mod passes;
+#[cfg(test)]
 mod scripts;
 #[cfg(test)]
 mod tables;

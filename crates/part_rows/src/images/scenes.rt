@@ -29,6 +29,10 @@ pub enum Step {
     Stores(Slot, u16, u8),
     /// A byte is read in a slot's image, or why it can't be.
     Loads(Slot, u16, Result<u8, Trap>),
+    /// Four bytes are got from an address of a slot's image on, or not.
+    Gets(Slot, u16, Option<[u8; 4]>),
+    /// Four bytes, and whether they are put from an address of a slot's image on.
+    Puts(Slot, u16, [u8; 4], bool),
 }
 
 /// A scene: the clicks of core, from 64 to 3968, and the steps.
@@ -65,6 +69,8 @@ fn holds(table: &mut Table, step: Step) -> bool {
         Step::HasRoom(clicks, free) => table.has_room(clicks) == free,
         Step::Stores(s, at, byte) => table.store(s, at, byte) == Some(Ok(())),
         Step::Loads(s, at, byte) => table.load(s, at) == Some(byte),
+        Step::Gets(s, at, bytes) => table.get(s, at) == Some(bytes),
+        Step::Puts(s, at, bytes, done) => table.put(s, at, bytes) == Some(done),
         _ => places(table, step),
     }
 }

@@ -182,4 +182,27 @@ impl Table {
         let mut space = self.images.space(s);
         Some(space.store_byte(at, byte))
     }
+
+    /// Four bytes of a slot's image from an address on, if all of them can be read.
+    pub fn get(&mut self, s: Slot, at: u16) -> Option<Option<[u8; 4]>> {
+        if !self.has_image(s) {
+            return None;
+        }
+        let space = self.images.space(s);
+        let mut bytes = [0o377; 4];
+        if space.copy_in(at, &mut bytes) {
+            Some(Some(bytes))
+        } else {
+            Some(None)
+        }
+    }
+
+    /// Puts four bytes into a slot's image, from an address on, and says whether they are put.
+    pub fn put(&mut self, s: Slot, at: u16, bytes: [u8; 4]) -> Option<bool> {
+        if !self.has_image(s) {
+            return None;
+        }
+        let mut space = self.images.space(s);
+        Some(space.copy_out(at, &bytes))
+    }
 }
