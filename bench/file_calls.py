@@ -35,7 +35,7 @@ from random_calls import random_plan
 from random_disk import Tree
 from random_program import CALLS, MARK, RESULTS, Call, init_of, items_of, slots_of
 
-DISK_BYTES, NOT_BUILT = 2494464, 11
+DISK_BYTES, SWAP_AT, NOT_BUILT = 2494464, 2048000, 11
 ERRORS = {1: "EPERM", 2: "ENOENT", 6: "ENXIO", 9: "EBADF", 13: "EACCES", 17: "EEXIST", 20: "ENOTDIR", 21: "EISDIR",
           23: "ENFILE", 24: "EMFILE", 27: "EFBIG", 28: "ENOSPC", 29: "ESPIPE", 31: "EMLINK"}
 Outcome = collections.namedtuple("Outcome", "status report term final")
@@ -143,8 +143,8 @@ def disk_differences(case, folder, want, final):
     if not found.startswith("ok "):
         yield f"the final disk has a fault: {found}"
         return
-    behind = 512 * case.tree.fsize
-    if final[behind:] != case.image.ljust(DISK_BYTES, b"\0")[behind:] or final[512:516] != case.image[512:516]:
+    behind = slice(512 * case.tree.fsize, SWAP_AT)
+    if final[behind] != case.image.ljust(DISK_BYTES, b"\0")[behind] or final[512:516] != case.image[512:516]:
         yield "the final disk: its size, or what is behind the file system, has changed"
     got = json.loads(reference("standfor", f"{folder}/image", f"{folder}/v6.final")[1])
     if got["block0"] != want["block0"]:

@@ -32,7 +32,7 @@ import sys
 import tempfile
 import time
 
-from file_calls import DISK_BYTES, NOT_BUILT, by_command, first_difference, line_difference, node_differences
+from file_calls import DISK_BYTES, NOT_BUILT, SWAP_AT, by_command, first_difference, line_difference, node_differences
 from random_disk import Tree
 from random_execs import Programs
 from random_processes import assembled, init_of, listed, random_program, random_script
@@ -132,8 +132,8 @@ def outcome_of(run):
 
 def store_differences(case, want, final):
     from abstract_unix import disk
-    behind, image = 512 * case.tree.fsize, case.image.ljust(DISK_BYTES, b"\0")
-    if final[behind:] != image[behind:] or final[:516] != image[:516]:
+    behind, image = slice(512 * case.tree.fsize, SWAP_AT), case.image.ljust(DISK_BYTES, b"\0")
+    if final[behind] != image[behind] or final[:516] != image[:516]:
         yield "the final disk: its boot block, or what is behind the file system, has changed"
     got = json.loads(json.dumps(disk.store_of(final).dump()))
     for key in ("count", "room", "spare", "stamp"):

@@ -13,7 +13,7 @@ import disassembler
 from files import read_bytes, told
 from pdp11 import ARGUMENTS
 from program import V6, ProgramError, add_version
-from rowfile import DATA, HI, TEXT, Row, RowError, names
+from rowfile import DATA, DISK_BYTES, HI, SWAP_AT, TEXT, Row, RowError, names
 
 FILES = ("term", "log", "final")
 
@@ -80,15 +80,21 @@ def differences(row, image, came):
         came["log"] = came["log"][-len(log):] if row.is_end else came["log"]
     if row.lines["check"] is not None:
         wanted["check"] = row.lines["check"]
+    left = came["final"]
     if disk is not None or wanted["status"]:
-        wanted["final"] = disk or b""
+        wanted["final"], came["final"] = before_swap(disk or b""), before_swap(left)
     found = [(what, value, came[what]) for what, value in wanted.items() if came[what] != value]
     if log is None and came["log"].endswith(b"end\n") != row.ends():
         found.append(("last line of the log", b"end" if row.ends() else b"none", came["log"][-20:]))
-    for at, data in [] if disk is not None else row.left or []:
-        if came["final"][at : at + len(data)] != data:
-            found.append((f"disk at {at}", data, came["final"][at : at + len(data)]))
+    for at, data in row.left or []:
+        if (disk is None or at >= SWAP_AT) and left[at : at + len(data)] != data:
+            found.append((f"disk at {at}", data, left[at : at + len(data)]))
     return found
+
+
+def before_swap(disk):
+    """A disk, as far as it comes before the swap area; or all of what isn't as long as a disk."""
+    return disk[:SWAP_AT] if len(disk) == DISK_BYTES else disk
 
 
 # showing

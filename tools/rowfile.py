@@ -8,6 +8,7 @@ DATA = os.path.join(TOP, "crates", "run_rows", "data")
 HI = os.path.join(TOP, "examples", "hi", "image")
 HI_BYTES = 34304
 DISK_BYTES = 2494464  # of a disk that a run leaves
+SWAP_AT = 2048000  # where its swap area begins
 INODE_7, HEADER, TEXT = 1216, 33792, 33808  # of /etc/init on the disk of examples/hi
 SECTIONS = ("init", "before", "after", "over", "disk", "left", "script", "term", "log")
 NUMBERS = ("size", "made", "core", "clicks", "fill", "status", "shown")

@@ -96,8 +96,20 @@ fn log_differs(
     compared(alloc, "last line of the log", wanted, log)
 }
 
-/// The disk that is left: nothing where the run isn't done; the image with zeros behind it, but for some pieces; or these
-/// pieces alone.
+/// Where the swap area begins: block 4000.
+const SWAP_AT: usize = 2_048_000;
+
+/// A disk, as far as it comes before the swap area; or all of what isn't as long as a disk.
+fn before_swap(disk: &[u8]) -> &[u8] {
+    if disk.len() == DISK_BYTES {
+        disk.get(..SWAP_AT).unwrap_or(disk)
+    } else {
+        disk
+    }
+}
+
+/// The disk that is left: nothing where the run isn't done; the image with zeros behind it, but for some pieces, up to the swap
+/// area, and these pieces; or these pieces alone.
 fn disk_differs(
     alloc: Global,
     row: &Row,
@@ -113,7 +125,10 @@ fn disk_differs(
         for piece in row.left.iter() {
             put(&mut disk, &[(piece.at, piece.bytes.as_slice())]);
         }
-        return compared(alloc, "final disk", &disk, left);
+        let found = compared(alloc, "final disk", before_swap(&disk), before_swap(left))?;
+        if found.is_some() {
+            return Ok(found);
+        }
     }
     for piece in row.left.iter() {
         if !have(left, &[(piece.at, piece.bytes.as_slice())]) {

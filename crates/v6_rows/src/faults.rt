@@ -1,4 +1,5 @@
 //! What each file holds where a call of the host fails: docs/manual/commands.md.
+use crate::final_disk::GRAVE;
 use crate::log::shown_on;
 use fs_codec::{BLOCK_SIZE, DISK_BYTES};
 use run_fixtures::{HI_BYTES, RUN, end_over, hi_image, host_with, is_front};
@@ -34,16 +35,17 @@ const WRITES: [Fault; 7] = [
     (36, Status::WriteFault(OutPort::Log), 18, 0),
 ];
 
-/// Then there is a write for each of 4,872 blocks, and the three finishes.
-const ENDS: [Fault; 9] = [
+/// Then there is a write for each of the 4,000 blocks before the swap area, one for the swap area, and the three finishes.
+const ENDS: [Fault; 10] = [
     (37, Status::WriteFault(OutPort::Final), 19, 0),
     (38, Status::WriteFault(OutPort::Final), 19, 1),
     (3_000, Status::WriteFault(OutPort::Final), 19, 2_963),
-    (4_908, Status::WriteFault(OutPort::Final), 19, 4_871),
-    (4_909, Status::WriteFault(OutPort::Term), 19, 4_872),
-    (4_910, Status::WriteFault(OutPort::Log), 19, 4_872),
-    (4_911, Status::WriteFault(OutPort::Final), 19, 4_872),
-    (4_912, Status::Done, 19, 4_872),
+    (4_036, Status::WriteFault(OutPort::Final), 19, 3_999),
+    (4_037, Status::WriteFault(OutPort::Final), 19, 4_000),
+    (4_038, Status::WriteFault(OutPort::Term), 19, 4_872),
+    (4_039, Status::WriteFault(OutPort::Log), 19, 4_872),
+    (4_040, Status::WriteFault(OutPort::Final), 19, 4_872),
+    (4_041, Status::Done, 19, 4_872),
     (0, Status::Done, 19, 4_872),
 ];
 
@@ -66,7 +68,7 @@ fn leaves_fronts(alloc: Global, row: &Fault) -> Result<bool, AllocError> {
     let status = end_over(alloc, RUN, &mut host)?;
     let term = shown_on(alloc, OutPort::Term, count)?;
     let log = shown_on(alloc, OutPort::Log, count)?;
-    let disk = hi_image(alloc, DISK_BYTES, &[])?;
+    let disk = hi_image(alloc, DISK_BYTES, GRAVE)?;
     let written = blocks.min(4_872) * BLOCK_SIZE;
     Ok(
         status == wanted

@@ -1,8 +1,9 @@
 //! Commands over files of the system: docs/manual/ports.md. What is held goes out, also where a run ends early, and what can't
 //! go out is a fault.
+use crate::final_disk::GRAVE;
 use crate::log::shown_on;
 use fs_codec::DISK_BYTES;
-use run_fixtures::{HI_BYTES, Piece, RUN, TEXT, end_over, hi_image, is_front};
+use run_fixtures::{HI_BYTES, Piece, RUN, TEXT, end_over, hi_image, is_front, put};
 use std::fs;
 use std::test::Fail;
 use v6_port::{FileHost, Host, OutPort};
@@ -37,6 +38,8 @@ struct FileRow<'a> {
     words: &'a str,
     status: Status,
     shown: Option<(&'a [u8], usize)>,
+    /// What processes that have ended leave in the swap area.
+    graves: &'a [Piece<'a>],
     /// How many bytes of the disk the file `final` then holds, where it is looked at.
     disk: Option<usize>,
 }
@@ -49,6 +52,7 @@ const FILE_ROWS: [FileRow<'static>; 8] = [
         words: RUN,
         status: Status::Done,
         shown: Some((b"HI\r\n", 1)),
+        graves: GRAVE,
         disk: Some(2_494_464),
     },
     FileRow {
@@ -58,6 +62,7 @@ const FILE_ROWS: [FileRow<'static>; 8] = [
         words: RUN,
         status: Status::NotBuilt(Unbuilt::At(16)),
         shown: Some((b"HI\r\n", 1)),
+        graves: &[],
         disk: Some(0),
     },
     // The first slot is the exec, the second the open, and each third from the third on a write: 100 in 300.
@@ -68,6 +73,7 @@ const FILE_ROWS: [FileRow<'static>; 8] = [
         words: RUN,
         status: Status::Done,
         shown: Some((&[b'A'; 128], 100)),
+        graves: &[],
         disk: Some(2_494_464),
     },
     FileRow {
@@ -77,6 +83,7 @@ const FILE_ROWS: [FileRow<'static>; 8] = [
         words: RUN_ONTO_FULL,
         status: Status::WriteFault(OutPort::Term),
         shown: None,
+        graves: &[],
         disk: None,
     },
     FileRow {
@@ -86,6 +93,7 @@ const FILE_ROWS: [FileRow<'static>; 8] = [
         words: RUN_ONTO_FULL,
         status: Status::WriteFault(OutPort::Term),
         shown: None,
+        graves: &[],
         disk: None,
     },
     // The terminal's file got all before.
@@ -96,6 +104,7 @@ const FILE_ROWS: [FileRow<'static>; 8] = [
         words: "run image 1200 script term log /dev/full",
         status: Status::WriteFault(OutPort::Final),
         shown: Some((b"HI\r\n", 1)),
+        graves: &[],
         disk: None,
     },
     FileRow {
@@ -105,6 +114,7 @@ const FILE_ROWS: [FileRow<'static>; 8] = [
         words: "run image 1200 script term /dev/full final",
         status: Status::WriteFault(OutPort::Log),
         shown: Some((b"HI\r\n", 1)),
+        graves: &[],
         disk: None,
     },
     FileRow {
@@ -114,6 +124,7 @@ const FILE_ROWS: [FileRow<'static>; 8] = [
         words: "make 12 /dev/full",
         status: Status::WriteFault(OutPort::Final),
         shown: None,
+        graves: &[],
         disk: None,
     },
 ];
@@ -135,9 +146,10 @@ fn is_shown(rt: &HostRuntime, piece: &[u8], times: usize) -> Result<bool, Fail> 
     Ok(shown.as_slice() == wanted.as_slice())
 }
 
-/// Whether the file `final` holds so many bytes of the disk, and nothing else. The file is removed.
-fn is_left(rt: &HostRuntime, pieces: &[Piece<'_>], bytes: usize) -> Result<bool, Fail> {
-    let disk = hi_image(rt.alloc(), DISK_BYTES, pieces)?;
+/// Whether the file `final` holds so many bytes of the disk that the row leaves, and nothing else. The file is removed.
+fn is_left(rt: &HostRuntime, row: &FileRow<'_>, bytes: usize) -> Result<bool, Fail> {
+    let mut disk = hi_image(rt.alloc(), DISK_BYTES, row.pieces)?;
+    put(&mut disk, row.graves);
     let left = fs::read(rt, "final")?;
     fs::remove_file(rt, "final")?;
     Ok(is_front(left.as_slice(), &disk, bytes))
@@ -159,7 +171,7 @@ fn file_row_holds(rt: &HostRuntime, row: &FileRow<'_>) -> Result<bool, Fail> {
         holds = is_shown(rt, piece, times)? && holds;
     }
     match row.disk {
-        Some(bytes) => holds = is_left(rt, row.pieces, bytes)? && holds,
+        Some(bytes) => holds = is_left(rt, row, bytes)? && holds,
         None => {
             let _ = fs::remove_file(rt, "final");
         }
@@ -176,7 +188,7 @@ fn image_is_left_as_the_final_disk(rt: HostRuntime) -> Result<(), Fail> {
     fs::write(&rt, "script", "run 20\n")?;
     let status = end_over_files(&rt, "run image 1200 script term log image")?;
     let left = fs::read(&rt, "image")?;
-    let disk = hi_image(rt.alloc(), DISK_BYTES, &[])?;
+    let disk = hi_image(rt.alloc(), DISK_BYTES, GRAVE)?;
     let log = fs::read(&rt, "log")?;
     let shown = shown_on(rt.alloc(), OutPort::Log, 19)?;
     for name in ["image", "script", "term", "log"] {
