@@ -154,12 +154,12 @@ class Picture:
         out = [text(4, y + 14, "line of the log", "small")] + [text(4, y + 26, "slots passed", "small")] * bool(self.passed)
         for mark in range(MARKS + 1):
             column = min(mark * self.columns.count // MARKS, self.columns.count - 1)
-            x = self.columns.x(column)
+            x, side = self.columns.x(column), "unit" if mark == MARKS else "small"  # the last number ends at the edge
             out.append(f'<path class="tick" d="M{x} {TOP}V{y + 4}"/>')
-            out.append(text(x, y + 14, str(self.columns.starts[column] + 1), "small"))
+            out.append(text(x, y + 14, str(self.columns.starts[column] + 1), side))
             known = [at for at in self.passed if at <= column]
             if known:
-                out.append(text(x, y + 26, str(self.passed[max(known)]), "small"))
+                out.append(text(x, y + 26, str(self.passed[max(known)]), side))
         return out
 
     def map(self, name, where, first, most, top, height):
