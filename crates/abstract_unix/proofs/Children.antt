@@ -1,11 +1,12 @@
 -- fork(II): its effects are apt.
-use Rattle.std.proofs.Common.{◌≡◌, ◌∙◌, ◌+◌, ℕ, zero, suc, Bool, false, List, [], map, find, Option, Some, None, is_none, get_or, set, refl, sym, ap, subst}
+use Rattle.std.proofs.Common.{◌≡◌, ◌∙◌, ◌+◌, ◌≤◌, ℕ, zero, suc, Bool, false, List, [], map, find, Option, Some, None, is_none, get_or, set, refl, sym, ap, subst, arith}
 use Rattle.std.proofs.Math.ListN.{get_or-map}
 use Rattle.std.specs.List.{range_with_len}
 use Rattle.v6_base.specs.declared.errno.Errno.TheVariants.{EAGAIN}
 use Rattle.proc_tab.specs.Processes.{member_at, lowest}
 use Rattle.pick_rules.specs.Effects.{Fork}
 use Rattle.pick_rules.specs.Lawful.{Seen}
+use Rattle.image_keep.specs.Kept.{clicks_of}
 use Rattle.log_laws.proofs.Fitting.{Apt}
 use Rattle.log_laws.proofs.Seats.{Seats, with_seat, InCall, own}
 use Rattle.log_laws.proofs.Births.{free_seat, fork_apt}
@@ -33,21 +34,21 @@ find_same : (p q : ℕ → Bool) (a n : ℕ) → ((r : ℕ) → p r ≡ q r)
 find_same p q a zero h = refl
 find_same p q a (suc n) h = rw (h a, find_same p q (a + 1) n h) refl
 
-free_is : (processes : List (Option Process)) (clock : Clock) (texts : List (Option Text))
-    → lowest is_none (map member_of processes) ≡ free_seat (seats_in processes clock texts)
+free_is : (processes : List (Option Process)) (clock : Clock) (texts : List (Option Text)) (limit : ℕ)
+    → lowest is_none (map member_of processes) ≡ free_seat (seats_in processes clock texts limit)
 unfolding lowest
-free_is processes clock texts =
-    find_same _ _ 1 49 (λ r. ap is_none (member_in processes r) ∙ seat_free (get_or processes r None) ∙ ap is_none (sym (seat_in processes clock texts r)))
+free_is processes clock texts limit =
+    find_same _ _ 1 49 (λ r. ap is_none (member_in processes r) ∙ seat_free (get_or processes r None) ∙ ap is_none (sym (seat_in processes clock texts limit r)))
 
 module _ (s : ℕ) (seen : Seen) where
   -- fork
-  into_fine : (w : World) (o : Option ℕ) → (i : Calling s w seen) → lowest is_none (members w) ≡ o → FineComes s seen (fork_into w s o)
+  into_fine : (w : World) (o : Option ℕ) → (i : Calling s w seen) → lowest is_none (members w) ≡ o → FineComes w.limit s seen (fork_into w s o)
   unfolding Apt
   into_fine w None i e =
-      fails_fine s seen (change w s past_word) EAGAIN (kept_in w.processes w.clock w.texts s false seen _ i refl refl refl refl)
-  into_fine w (Some c) i e = subst (λ text. FineComes s seen (forks_by text)) (sym alone) (record {
-    fine = fork_apt _ s v seen c w [] i (sym (free_is w.processes w.clock w.texts) ∙ e) (λ click. refl)
-        (λ now j. kept_in (set w.processes c (Some (copied (process_of w s) (next_pid w)))) w.clock w.texts s false now _ (grown now j) refl refl refl refl);
+      fails_fine s seen (change w s past_word) EAGAIN (kept_in w.processes w.clock w.texts w.limit s false seen _ i refl refl refl refl)
+  into_fine w (Some c) i e = subst (λ text. FineComes w.limit s seen (forks_by text)) (sym alone) (record {
+    fine = fork_apt _ s v seen c w [] i (sym (free_is w.processes w.clock w.texts w.limit) ∙ e) least
+        (λ now j. kept_in (set w.processes c (Some (copied (process_of w s) (next_pid w)))) w.clock w.texts w.limit s false now _ (grown now j) refl refl refl refl);
   })
     where
       -- by the text that the child shares
@@ -57,16 +58,21 @@ module _ (s : ℕ) (seen : Seen) where
           does (Fork s c w) (gives (change (record child { texts = joined_by_child w.texts text }) s past_word) s (next_pid w))
 
       alone : (process_of w s).text ≡ None
-      alone = runner_text w.processes w.clock w.texts s seen.board i.turn ∙ (own s s (seats_here w) seen.board i.agrees i.turn).bare
+      alone = runner_text w.processes w.clock w.texts w.limit s seen.board i.turn ∙ (own s s (seats_here w) seen.board i.agrees i.turn).bare
 
       v : Seats
       v = seats_here w
 
-      grown : (now : Seen) → InCall s false (with_seat v c (Some i.turn.seat)) now
-          → InCall s false (seats_in (set w.processes c (Some (copied (process_of w s) (next_pid w)))) w.clock w.texts) now
-      grown now j = subst (λ x. InCall s false x now)
-          (ap (λ seat. with_seat v c (Some seat)) (sym (runner_seat w.processes w.clock w.texts s seen.board i.turn)) ∙ sym (put_in w.processes w.clock w.texts c _)) j
+      least : 1 ≤ i.turn.seat.size
+      least =
+          let size : clicks_of (process_of w s).u ≡ i.turn.seat.size = ap (λ x. x.size) (runner_seat w.processes w.clock w.texts w.limit s seen.board i.turn) in
+          omega (arith, size)
 
-  pub fork_fine : (w : World) → Calling s w seen → FineComes s seen (fork_one w s)
+      grown : (now : Seen) → InCall s false (with_seat v c (Some i.turn.seat)) now
+          → InCall s false (seats_in (set w.processes c (Some (copied (process_of w s) (next_pid w)))) w.clock w.texts w.limit) now
+      grown now j = subst (λ x. InCall s false x now)
+          (ap (λ seat. with_seat v c (Some seat)) (sym (runner_seat w.processes w.clock w.texts w.limit s seen.board i.turn)) ∙ sym (put_in w.processes w.clock w.texts w.limit c _)) j
+
+  pub fork_fine : (w : World) → Calling s w seen → FineComes w.limit s seen (fork_one w s)
   unfolding fork_one
   fork_fine w i = into_fine w (lowest is_none (members w)) i refl

@@ -1,39 +1,32 @@
 -- Each event of a run adds lines that fit, as long as the run goes on: the slots.
-use Rattle.std.proofs.Common.{◌≡◌, ◌∙◌, ◌==◌, ◌&&◌, ◌||◌, inl, inr, ℕ, zero, suc, not, Bool, true, false, List, [], ◌∷◌, ◌++◌, append-nil, fold, Option, Some, None, refl, sym, ap, subst}
+use Rattle.std.proofs.Common.{◌≡◌, ◌∙◌, inl, inr, ℕ, zero, suc, List, [], ◌∷◌, ◌++◌, append-nil, fold, Option, Some, None, refl, sym, ap, subst}
 use Rattle.v6_base.specs.Trace.{Item, Byte, Log, entries_of}
-use Rattle.v6_base.specs.declared.entry.Chan.TheVariants.{RunOut}
-use Rattle.v6_base.specs.declared.entry.Place.{Place}
-use Rattle.v6_base.specs.declared.entry.Place.TheVariants.{Core, Swap}
 use Rattle.v6_base.specs.declared.entry.Entry.{Entry}
-use Rattle.v6_base.specs.declared.entry.Entry.TheVariants as line
-use Rattle.pick_rules.specs.declared.table.Table.{Table}
-use Rattle.pick_rules.specs.Priority.{pswp}
-use Rattle.pick_rules.specs.Table.{row_at, is_ready, is_loaded, is_in_core}
 use Rattle.pick_rules.specs.Choice.{settle}
 use Rattle.pick_rules.specs.Board.{Board}
 use Rattle.pick_rules.specs.Apply.{applied}
 use Rattle.v6_base.specs.declared.entry.PanicKind.{PanicKind}
 use Rattle.v6_base.specs.declared.entry.PanicKind.TheVariants as panic
-use Rattle.pick_rules.specs.Effects.{Effect, Show, Size, Fork, Text, Image, Exit, kind_of, came}
+use Rattle.pick_rules.specs.Effects.{Effect, Show, Size, Fork, Text, Image, Exit, Why, Panicked, Unbuilt, kind_of, came}
 use Rattle.pick_rules.specs.Logged.{Stop, Logged, log_one, logged, left_by}
-use Rattle.pick_rules.specs.Swapper.{Waits, candidate, move_for, swap_move}
-use Rattle.pick_rules.specs.Lawful.{Seen, FitAll, seen_after}
-use Rattle.pick_rules.proofs.Found.{least_in}
-use Rattle.pick_rules.proofs.Movers.{Lives, candidate_lives}
-use Rattle.pick_rules.proofs.Shapes.{shape_at}
-use Rattle.log_laws.proofs.Fitting.{fit_item, seen_append, seen_items, Apt, Ends, Fitted, apt_fits}
-use Rattle.log_laws.proofs.Seats.{Seat, Seats, seat_at, stands, rule_of, AgreesAt, Agrees, RunnerAt, Paused, Holds}
+use Rattle.pick_rules.specs.Lawful.{Over, Seen, FitAll, seen_after}
+use Rattle.log_laws.proofs.Fitting.{fit_item, seen_append, seen_items, Apt, EndsBy, Ends, Fitted, apt_fits}
+use Rattle.log_laws.proofs.Seats.{RunnerAt, Paused, Holds}
 use Rattle.log_laws.proofs.Settles.{Settled, IsSettled, settling}
-use Rattle.log_laws.proofs.Passes.{Moves, pass_ends}
+use Rattle.swap_sched.specs.Pass.{pass, stop_over}
 use Rattle.sys_procs.specs.Process.{register}
+use Rattle.abstract_unix.specs.declared.ending.Ending.{Ending}
+use Rattle.abstract_unix.specs.declared.ending.Ending.TheVariants as ending
 use Rattle.abstract_unix.specs.declared.ends.Ends as run
 use Rattle.abstract_unix.specs.declared.ends.Ends.TheVariants as ends
 use Rattle.abstract_unix.specs.declared.ends.Ends.TheVariants.{AtEnd}
+use Rattle.abstract_unix.specs.declared.turned.Unbuilt.TheVariants.{At}
 use Rattle.abstract_unix.specs.Unix.{Unix, System, process_of}
 use Rattle.abstract_unix.specs.Steps.{Steps}
-use Rattle.abstract_unix.specs.Turn.{Turn, happens, settled_after, end_effects, ending_at, unmet, ending_by, settled_as, settled, turn_of, pass_effects, pass_of, slot_of}
-use Rattle.abstract_unix.proofs.Sitting.{is_core, seats_of}
-use Rattle.abstract_unix.proofs.Steps.{GoesOn, AptSteps}
+use Rattle.abstract_unix.specs.Turn.{Turn, happens, settled_after, end_effects, ending_at, unmet, ending_by, settled_as, settled, turn_of, passes, pass_of, slot_of}
+use Rattle.abstract_unix.proofs.Sitting.{seats_of, all_sized}
+use Rattle.abstract_unix.proofs.Steps.{GoesOn, IsCalm, AptSteps}
+use Rattle.abstract_unix.proofs.Passing.{Passed, pass_passes}
 use Rattle.abstract_unix.proofs.Turning.{turn_apt}
 
 -- the system at these lines
@@ -45,10 +38,11 @@ pub record Stands (m : System) (seen : Seen) : Type 0 where
   pub board : seen.board ≡ m.board
   pub holds : Holds (seats_of m.unix) seen
 
--- lines that fit, and, where the run goes on after them, the system then
+-- lines that fit, and, where the run goes on after them, the system then; a panic is the last of them
 pub record Fine (seen : Seen) (items : List Item) (m : System) (ending : run.Ends) : Type 0 where
   pub fit : FitAll seen (entries_of items)
   pub stands : ending ≡ AtEnd → Stands m (seen_items seen items)
+  pub over : (kind : PanicKind) → ending ≡ ends.Panic kind → (seen_items seen items).stage ≡ Over
 
 abbrev pub FineTurn : Seen → Turn → Type 0
 FineTurn seen t = Fine seen t.items t.next t.ending
@@ -63,7 +57,7 @@ module _ (u : Unix) (first : Seen) (l : Logged Unix) (fit : FitAll first (entrie
   next b = record { unix = u; board = b }
 
   rests_fine : Holds (seats_of u) now → Fine first l.items (next l.board) AtEnd
-  rests_fine h = record { fit = fit; stands = λ e. record { board = board; holds = h } }
+  rests_fine h = record { fit = fit; stands = λ e. record { board = board; holds = h }; over = λ kind e. absurd (cc e) }
 
   chosen_fine : (e : Entry) → settle now.board.table ≡ Some e → Settled (seats_of u) now e
       → Fine first (l.items ++ Log e ∷ []) (next (applied l.board e)) AtEnd
@@ -76,6 +70,7 @@ module _ (u : Unix) (first : Seen) (l : Logged Unix) (fit : FitAll first (entrie
           board = ap (λ x. x.board) after ∙ ap (λ b. applied b e) board;
           holds = subst (Holds (seats_of u)) (sym after) s.holds;
         };
+        over = λ kind none. absurd (cc none);
       }
 
   settled_fine : Fine first (l.items ++ (settled l.board).items) (next (settled l.board).board) AtEnd
@@ -140,6 +135,24 @@ stops pc (Some stop) steps e = absurd (never (kind_of stop.why) e)
     never panic.Zombie e = cc e
     never panic.Text e = cc e
 
+-- a turn that ends in a panic, which is the last line
+self_calm : (pc : ℕ) (ending : Ending) (kind : PanicKind) → IsCalm ending → ending_at pc ending ≡ ends.Panic kind → ⊥
+self_calm pc ending.Next kind calm e = cc e
+self_calm pc ending.Trapped kind calm e = cc e
+self_calm pc (ending.Slept pri chan) kind calm e = cc e
+self_calm pc ending.Ended kind calm e = cc e
+self_calm pc ending.NotBuilt kind calm e = cc e
+self_calm pc (ending.Panic other) kind calm e = calm
+
+panics : (Q : Seen → Type 0) (pc : ℕ) (o : Option (Stop Unix)) (ending : Ending) (kind : PanicKind) (seen : Seen) → IsCalm ending
+    → ending_by pc o ending ≡ ends.Panic kind → Ends Q o seen → seen.stage ≡ Over
+panics Q pc None ending kind seen calm e q = absurd (self_calm pc ending kind calm e)
+panics Q pc (Some stop) ending kind seen calm e q = by stop.why e q
+  where
+    by : (why : Why) → unmet pc (kind_of why) ≡ ends.Panic kind → EndsBy why seen → seen.stage ≡ Over
+    by (Panicked k) e q = q
+    by (Unbuilt k) e q = absurd (let f : ends.NotBuilt (At pc) ≡ ends.Panic kind = ap (unmet pc) (sym q) ∙ e in cc f)
+
 turned_fine : (s : ℕ) (u : Unix) (seen : Seen) (steps : Steps) → AptSteps s seen steps
     → FineTurn seen (settled_after (turn_of (system_at u seen) s steps))
 turned_fine s u seen steps a = by (ending_by pc l.stop steps.ending) refl
@@ -164,58 +177,28 @@ turned_fine s u seen steps a = by (ending_by pc l.stop steps.ending) refl
     by AtEnd e =
         let k = stops pc l.stop steps e in
         settles_fine steps.unix seen l f.fit f.board (ends_none Goes l.stop (seen_items seen l.items) k.0 f.ends pc k.1) k.0
-    by (ends.NotBuilt place) e = record { fit = f.fit; stands = λ x. absurd (cc x) }
+    by (ends.NotBuilt place) e = record { fit = f.fit; stands = λ x. absurd (cc x); over = λ kind x. absurd (cc x) }
+    by (ends.Panic kind) e = record {
+      fit = f.fit;
+      stands = λ x. absurd (cc x);
+      over = λ other x. panics Goes pc l.stop steps.ending kind (seen_items seen l.items) a.calm e f.ends;
+    }
 
--- The pass of process 0: no image is out of core.
-loaded_by : (v : Seats) (seen : Seen) (s : ℕ) → v.may ≡ is_core → Agrees 0 v seen.board → Lives seen.board.table s
-    → is_loaded seen.board.table s ≡ true
-loaded_by v seen s core a l = by (seat_at v s) (a.each s l.user)
-  where
-    in_core : (p : Option Place) → stands is_core p ≡ true → is_in_core p ≡ true
-    in_core None e = absurd (cc e)
-    in_core (Some (Core c)) e = refl
-    in_core (Some (Swap block)) e = absurd (cc e)
-
-    either : (x y : Bool) → y ≡ true → (x || y) ≡ true
-    either true y e = refl
-    either false y e = e
-
-    by : (o : Option Seat) → AgreesAt (s == 0) (rule_of v seen.board) o (shape_at seen.board.table s)
-        → is_loaded seen.board.table s ≡ true
-    by None k = absurd (let x = l.stat.used in cc (x, k))
-    by (Some seat) k = either (s == 0) _
-        (in_core (row_at seen.board.table s).place (subst (λ may. stands may (row_at seen.board.table s).place ≡ true) core (k.place (sym k.zombie ∙ l.stat.alive))))
-
-nobody_out : (v : Seats) (seen : Seen) → v.may ≡ is_core → Agrees 0 v seen.board → candidate seen.board.table ≡ None
-nobody_out v seen core a = by (candidate t) refl
-  where
-    t : Table
-    t = seen.board.table
-
-    out : (s : ℕ) → (is_ready (row_at t s).stat && not (is_loaded t s)) ≡ true → is_loaded t s ≡ true → ⊥
-    out s e f = clash (is_ready (row_at t s).stat) (is_loaded t s) e f
-      where
-        clash : (x y : Bool) → (x && not y) ≡ true → y ≡ true → ⊥
-        clash true true e f = cc e
-        clash true false e f = cc f
-        clash false y e f = cc e
-
-    by : (o : Option ℕ) → candidate t ≡ o → o ≡ None
-    by None e = refl
-    by (Some s) e = absurd (
-        out s (least_in _ (λ r. is_ready (row_at t r).stat && not (is_loaded t r)) 1 49 s e).passes (loaded_by v seen s core a (candidate_lives t s e))
-        )
-
-pass_waits : (v : Seats) (seen : Seen) → v.may ≡ is_core → Agrees 0 v seen.board → swap_move seen.board ≡ Waits RunOut
-unfolding swap_move
-pass_waits v seen core a = ap (move_for seen.board) (nobody_out v seen core a)
-
+-- The pass of process 0: it ends asleep, or in a panic.
 pass_fine : (u : Unix) (seen : Seen) → Paused (seats_of u) seen → seen.board.table.running ≡ Some 0
     → FineTurn seen (settled_after (pass_of (system_at u seen)))
-unfolding Apt came
-pass_fine u seen p r =
-    let k : Moves (seats_of u) seen (line.Sleep 0 pswp RunOut) = pass_ends (seats_of u) seen RunOut p r tt (pass_waits (seats_of u) seen refl p.agrees) in
-    event_by u u seen pass_effects (k.fits, k.next.paused) (shown_stop seen.board pass_effects tt)
+pass_fine u seen p r = by l.stop refl
+  where
+    l : Logged (Unit {0})
+    l = pass seen.board
+
+    passed : Passed (seats_of u) seen l
+    passed = pass_passes (seats_of u) seen (all_sized u) p r
+
+    by : (o : Option (Stop (Unit {0}))) → l.stop ≡ o
+        → FineTurn seen (settled_after (passes u (record { items = l.items; board = l.board; stop = stop_over u o })))
+    by None e = settles_fine u seen (record { items = l.items; board = l.board; stop = None }) passed.fit passed.board (passed.goes e).paused refl
+    by (Some stop) e = record { fit = passed.fit; stands = λ x. absurd (cc x); over = λ kind x. passed.over stop e }
 
 -- a slot
 pub slot_fine : (u : Unix) (seen : Seen) → Holds (seats_of u) seen
@@ -226,7 +209,7 @@ slot_fine u seen h = by seen.board.table.running refl h.paused.runner
     by : (o : Option ℕ) → seen.board.table.running ≡ o → RunnerAt (seats_of u) seen.board o
         → FineTurn seen (settled_after (slot_of (system_at u seen) o))
     by None e r =
-        record { fit = tt; stands = λ f. record { board = refl; holds = h } }
+        record { fit = tt; stands = λ f. record { board = refl; holds = h }; over = λ kind f. absurd (cc f) }
     by (Some zero) e r = pass_fine u seen h.paused e
     by (Some (suc s)) e (inl z) = absurd (cc z)
     by (Some (suc s)) e (inr t) =

@@ -1,38 +1,30 @@
 -- exec(II), break(II) and the growth of a stack: their effects are apt.
-use Rattle.std.proofs.Common.{◌≡◌, ◌∙◌, ◌<◌, ◌≤◌, ◌+◌, ◌-◌, ◌*◌, ◌/◌, ◌==◌, ◌&&◌, ◌||◌, ℕ, not, nat_le, Bool, true, false, cond, List, [], ◌∷◌, ◌++◌, map, flat_map, length, Option, Some, None, is_some, option_map, Result, Ok, Err, set, get_or-set_same, bit_and, refl, sym, ap, subst, arith}
-use Rattle.std.proofs.lemmas.Bool.{ltb-false, leb-true}
+use Rattle.std.proofs.Common.{◌≡◌, ◌∙◌, ◌≤◌, ◌+◌, ◌-◌, ◌*◌, ◌/◌, ◌==◌, ◌&&◌, ◌||◌, ℕ, not, nat_lt, nat_le, Bool, true, false, cond, List, [], map, Option, Some, None, option_map, Result, Ok, Err, set, bit_and, refl, sym, ap, subst, arith}
+use Rattle.std.proofs.lemmas.Bool.{ltb-false}
 use Rattle.v6_base.specs.Image.{Image, nseg}
 use Rattle.v6_base.specs.declared.errno.Errno.{Errno}
 use Rattle.v6_base.specs.declared.errno.Errno.TheVariants.{ENOEXEC, ENOMEM, EACCES, ETXTBSY}
-use Rattle.v6_base.specs.declared.entry.Place.TheVariants.{Core}
 use Rattle.v6_base.specs.declared.entry.Entry.TheVariants as line
 use Rattle.fs_codec.specs.Modes.{file_type}
 use Rattle.fs_codec.specs.Store.{Node}
 use Rattle.fs_codec.specs.declared.modes.TheConstants.{ISUID, ISGID}
 use Rattle.fs_laws.specs.Pieces.{Moving}
-use Rattle.map_fit.specs.Fit.{IsFit}
-use Rattle.map_fit.proofs.Fits.{is_fit}
 use Rattle.fs_tree.specs.declared.user.Want.TheVariants.{Execute}
 use Rattle.fs_tree.specs.Permission.{permission}
 use Rattle.fs_tree.specs.Name.{name_at}
 use Rattle.fs_tree.specs.Finding.{Finding, find_in}
 use Rattle.aout_head.specs.Header.{Header, header_of, plan_of}
 use Rattle.aout_head.specs.declared.parts.Plan.{Plan}
-use Rattle.pick_rules.specs.declared.row.TableRow.{TableRow}
-use Rattle.pick_rules.specs.Table.{empty_row, row_at, with_row}
-use Rattle.pick_rules.specs.Board.{Board, limit, core_of_row, core_of_text, core_fit, placed}
-use Rattle.pick_rules.specs.Apply.{change_row, applied}
-use Rattle.pick_rules.specs.Effects.{Effect, in_core, came, lifted}
+use Rattle.pick_rules.specs.Board.{placed}
+use Rattle.pick_rules.specs.Effects.{Effect, lifted}
 use Rattle.pick_rules.specs.Effects as effect
 use Rattle.pick_rules.specs.Fits.{IsSize}
-use Rattle.pick_rules.specs.Lawful.{Seen, seen_after}
+use Rattle.pick_rules.specs.Lawful.{Seen}
 use Rattle.pick_rules.proofs.Shapes.{shape_at}
-use Rattle.pick_rules.proofs.Placing.{again_row, bare_table, bare_core}
-use Rattle.pick_rules.proofs.Stopping.{placed_in_core}
 use Rattle.log_laws.proofs.Fitting.{Apt}
-use Rattle.log_laws.proofs.Seats.{Seats, Same, rule_of, InCall, own}
+use Rattle.log_laws.proofs.Seats.{Seats, Same, InCall, own}
 use Rattle.log_laws.proofs.Deaths.{with_own}
-use Rattle.log_laws.proofs.Images.{sized, size_apt, exec_apt, text_apt, bare_fits}
+use Rattle.log_laws.proofs.Images.{sized, size_apt, exec_apt, text_apt}
 use Rattle.seg_regs.specs.Sizes.{is_refused}
 use Rattle.sys_procs.specs.declared.program.Program.{Program}
 use Rattle.sys_procs.specs.Process.{Process, image_of}
@@ -46,63 +38,44 @@ use Rattle.sys_procs.specs.Break as break
 use Rattle.sys_procs.specs.ExecFile as exec
 use Rattle.abstract_unix.specs.Unix.{Unix}
 use Rattle.abstract_unix.specs.Calls.{world_of, with_world, grows, grown_by, grows_to}
-use Rattle.abstract_unix.proofs.Sitting.{seat_for, seats_in, seats_here, runner_seat, runner_text, put_in, no_entry}
+use Rattle.abstract_unix.proofs.Sitting.{seat_for, seats_in, seats_under, seats_here, runner_seat, runner_text, put_in, no_entry}
 use Rattle.abstract_unix.proofs.Steps.{AptSteps, nothing_built, apt_lifted, trapped}
 use Rattle.abstract_unix.proofs.Rows.{FineComes, Calling, fails_fine}
 
--- sizes that aren't refused are those of an image, where core has a place for it
-first_false : (x y : Bool) → (x || y) ≡ false → x ≡ false
-first_false true y e = absurd (cc e)
-first_false false y e = refl
+-- sizes that aren't refused are those of an image
+second_false : (x y : Bool) → (x || y) ≡ false → y ≡ false
+second_false true y e = absurd (cc e)
+second_false false y e = e
 
-few_clicks : (t d s most : ℕ) → is_refused t d s most ≡ false → 16 + d + s ≤ 1040
+few_clicks : (t d s most : ℕ) → is_refused t d s most ≡ false → 16 + d + s ≤ most
 few_clicks t d s most e =
-    let l = ltb-false 8 (nseg t + nseg d + nseg s) (first_false _ _ e) in omega (arith, l)
-
-within_core : (b : Board) (clicks : ℕ) → is_some (core_fit b clicks) ≡ true → clicks ≤ b.core
-within_core b clicks e = by (core_fit b clicks) e (is_fit _ 1 b.core clicks)
-  where
-    by : (o : Option ℕ) → is_some o ≡ true → IsFit (flat_map core_of_row b.table.rows ++ flat_map core_of_text b.texts) 1 b.core clicks o
-        → clicks ≤ b.core
-    by None f k = absurd (cc f)
-    by (Some start) f k = let l = k.after in let h = k.within in omega (arith, l, h)
-
-below_limit : (core n : ℕ) → n ≤ 2048 → n ≤ core → n ≤ limit core
-below_limit core n l h = omega (arith, l, h)
-
--- Demands that core has no place for.
-module _ (s : ℕ) (seen : Seen) (Q : Seen → Type 0) (clicks : ℕ) (before : World) (es : List (Effect World)) where
-  no_size : nat_le clicks (row_at seen.board.table s).size ≡ false → in_core (placed seen.board s clicks) ≡ None
-      → Apt Q seen (effect.Size s clicks before ∷ es)
-  unfolding Apt came
-  no_size grows none = rw grows (rw none tt)
-
-  no_image : in_core (placed seen.board s clicks) ≡ None → Apt Q seen (effect.Image s clicks before ∷ es)
-  unfolding Apt came
-  no_image none = rw none tt
+    let l : t + d + s + 16 ≤ most = ltb-false most (t + d + s + 16) (second_false (nat_lt 8 (nseg t + nseg d + nseg s)) (nat_lt most (t + d + s + 16)) e) in omega (arith, l)
 
 module _ (s : ℕ) (seen : Seen) (w : World) (i : Calling s w seen) where
   abbrev v : Seats
   v = seats_here w
 
-  its : Same (s == s) (rule_of v seen.board) i.turn.seat (shape_at seen.board.table s)
+  its : Same (s == s) v.most i.turn.seat (shape_at seen.board.table s)
   its = own s s v seen.board i.agrees i.turn
 
-  row_text : (row_at seen.board.table s).text ≡ None
-  row_text = its.text ∙ its.bare
+  is_size : (clicks : ℕ) → 16 ≤ clicks → clicks ≤ w.limit → IsSize seen.board clicks
+  is_size clicks least few = record { least = least; most = let most = i.agrees.most in omega (arith, few, most) }
 
   -- the process has an image of another size
   resized : (q : Process) (clicks : ℕ) → seat_for q ≡ sized (seat_for (process_of w s)) clicks → (now : Seen)
       → InCall s false (with_own s v (sized i.turn.seat clicks)) now
-      → InCall s false (seats_in (set w.processes s (Some q)) w.clock w.texts) now
+      → InCall s false (seats_in (set w.processes s (Some q)) w.clock w.texts w.limit) now
   resized q clicks e now j = subst (λ x. InCall s false x now)
-      (ap (λ seat. with_own s v (sized seat clicks)) (sym (runner_seat w.processes w.clock w.texts s seen.board i.turn))
-      ∙ ap (λ seat. with_own s v seat) (sym e) ∙ sym (put_in w.processes w.clock w.texts s q)) j
+      (ap (λ seat. with_own s v (sized seat clicks)) (sym (runner_seat w.processes w.clock w.texts w.limit s seen.board i.turn))
+      ∙ ap (λ seat. with_own s v seat) (sym e) ∙ sym (put_in w.processes w.clock w.texts w.limit s q)) j
 
   -- break and growth
-  expand_fine : (t d st most : ℕ) → is_refused t d st most ≡ false → FineComes s seen (break.expands w s d st)
+  expand_fine : (t d st : ℕ) → is_refused t d st w.limit ≡ false → FineComes w.limit s seen (break.expands w s d st)
   unfolding Apt
-  expand_fine t d st most e = by (nat_le n (row_at seen.board.table s).size) refl (core_fit seen.board n) refl
+  expand_fine t d st e = record {
+    fine = size_apt s false v seen i (InCall s false (seats_in (set w.processes s (Some q)) w.clock w.texts w.limit)) n w [] fits
+        (λ now j. resized q n refl now j);
+  }
     where
       n : ℕ
       n = 16 + d + st
@@ -110,32 +83,11 @@ module _ (s : ℕ) (seen : Seen) (w : World) (i : Calling s w seen) where
       q : Process
       q = break.sized d st (process_of w s)
 
-      few : n ≤ 1040
-      few = few_clicks t d st most e
-
-      fits : IsSize seen.board n → FineComes s seen (break.expands w s d st)
-      fits z = record {
-        fine = size_apt s false v seen i (InCall s false (seats_in (set w.processes s (Some q)) w.clock w.texts)) n w [] z (λ c. refl)
-            (λ now j. resized q n refl now j);
-      }
-
-      by : (x : Bool) → nat_le n (row_at seen.board.table s).size ≡ x → (o : Option ℕ) → core_fit seen.board n ≡ o
-          → FineComes s seen (break.expands w s d st)
-      by true f o g = fits (record {
-        least = omega arith;
-        most = let h = leb-true _ _ f in let k = its.most in omega (arith, h, k);
-      })
-      by false f (Some c) g = fits (record {
-        least = omega arith;
-        most = below_limit seen.board.core n (omega (arith, few)) (within_core seen.board n (ap is_some g));
-      })
-      by false f None g = record {
-        fine = no_size s seen (InCall s false (seats_in (set w.processes s (Some q)) w.clock w.texts)) n w [] f
-            (placed_in_core seen.board s n row_text ∙ ap (option_map Core) g);
-      }
+      fits : IsSize seen.board n
+      fits = is_size n (omega arith) (few_clicks t d st w.limit e)
 
 module _ (s : ℕ) (seen : Seen) where
-  pub break_fine : (w : World) (at : ℕ) → Calling s w seen → FineComes s seen (break.break_at w s at)
+  pub break_fine : (w : World) (at : ℕ) → Calling s w seen → FineComes w.limit s seen (break.break_at w s at)
   unfolding break.break_at
   break_fine w at i = by (is_refused p.u.text_size d p.u.stack_size w.limit) refl
     where
@@ -146,9 +98,9 @@ module _ (s : ℕ) (seen : Seen) where
       d = break.clicks_up_to p.u.text_size at
 
       by : (x : Bool) → is_refused p.u.text_size d p.u.stack_size w.limit ≡ x
-          → FineComes s seen (cond x (fails w ENOMEM) (break.expands w s d p.u.stack_size))
+          → FineComes w.limit s seen (cond x (fails w ENOMEM) (break.expands w s d p.u.stack_size))
       by true e = fails_fine s seen w ENOMEM i
-      by false e = expand_fine s seen w i p.u.text_size d p.u.stack_size w.limit e
+      by false e = expand_fine s seen w i p.u.text_size d p.u.stack_size e
 
   -- a stack that grows has sizes that are allowed
   grown_fits : (t d st most sp new : ℕ) → break.grown_stack t d st most sp ≡ Some new → is_refused t d new most ≡ false
@@ -169,11 +121,11 @@ module _ (s : ℕ) (seen : Seen) where
       outer true g = absurd (cc g)
       outer false g = inner (nat_le wanted st) (is_refused t d wanted most) refl g
 
-  grows_apt : (u : Unix) (c : Comes) → Apt (InCall s false (seats_here c.state)) seen c.effects
+  grows_apt : (u : Unix) (c : Comes) → Apt (InCall s false (seats_under u.limit c.state)) seen c.effects
       → AptSteps s seen (grows u c)
   grows_apt u c a =
       trapped s seen (with_world u c.state) (with_world u c.state) (map (lifted (with_world u)) c.effects) (λ now j. j)
-      (apt_lifted (with_world u) (InCall s false (seats_here c.state)) seen c.effects a)
+      (apt_lifted (with_world u) (InCall s false (seats_under u.limit c.state)) seen c.effects a)
 
   pub grow_apt : (u : Unix) (sp : ℕ) → Calling s (world_of u) seen → AptSteps s seen (grows_to u s sp)
   unfolding break.grow
@@ -187,7 +139,7 @@ module _ (s : ℕ) (seen : Seen) where
       by None e = nothing_built s seen u
       by (Some new) e =
           grows_apt u (break.expands (world_of u) s p.u.data_size new)
-          (expand_fine s seen (world_of u) i p.u.text_size p.u.data_size new u.limit (grown_fits p.u.text_size p.u.data_size p.u.stack_size u.limit sp new e)).fine
+          (expand_fine s seen (world_of u) i p.u.text_size p.u.data_size new (grown_fits p.u.text_size p.u.data_size p.u.stack_size u.limit sp new e)).fine
 
 -- What the tests of exec leave of the world: all sit as they did. A program that they let through has sizes that are
 -- allowed.
@@ -288,9 +240,6 @@ module _ (s : ℕ) (seen : Seen) (w : World) (program : Program) (i : Calling s 
   abbrev old : Process
   old = process_of w s
 
-  abbrev bare : Board
-  bare = applied seen.board (line.Bare s)
-
   abbrev seats : Seats
   seats = v s seen w i
 
@@ -298,27 +247,7 @@ module _ (s : ℕ) (seen : Seen) (w : World) (program : Program) (i : Calling s 
   no_text = (its s seen w i).bare
 
   alone : old.text ≡ None
-  alone = runner_text w.processes w.clock w.texts s seen.board i.turn ∙ no_text
-
-  small : s < length seen.board.table.rows
-  small = rw i.agrees.rows i.turn.small
-
-  abbrev bared_row : TableRow
-  bared_row = record (row_at seen.board.table s) { place = None; size = 0 }
-
-  bare_is : bare.table ≡ with_row seen.board.table s bared_row
-  unfolding applied
-  bare_is = ap (λ t. change_row t s (λ row. record row { size = 0 })) (bare_table seen.board s)
-      ∙ again_row seen.board.table s (record (row_at seen.board.table s) { place = None }) (λ row. record row { size = 0 }) small
-
-  bare_text : (row_at bare.table s).text ≡ None
-  bare_text =
-      ap (λ t. (row_at t s).text) bare_is ∙ ap (λ row. row.text) (get_or-set_same seen.board.table.rows s bared_row empty_row small)
-      ∙ row_text s seen w i
-
-  core_is : bare.core ≡ seen.board.core
-  unfolding applied
-  core_is = bare_core seen.board s
+  alone = runner_text w.processes w.clock w.texts w.limit s seen.board i.turn ∙ no_text
 
   -- what comes after its text
   abbrev next : World → Bool → Comes
@@ -362,9 +291,11 @@ module _ (s : ℕ) (seen : Seen) (w : World) (program : Program) (i : Calling s 
       by false true = refl
       by false false = refl
 
-  plain_fine : is_refused (exec.text_clicks plan) (exec.data_clicks plan) 20 w.limit ≡ false → FineComes s seen plain
-  unfolding Apt came
-  plain_fine sizes = by (core_fit bare clicks) refl
+  plain_fine : is_refused (exec.text_clicks plan) (exec.data_clicks plan) 20 w.limit ≡ false → FineComes w.limit s seen plain
+  plain_fine sizes = record {
+    fine = exec_apt Last s seats seen clicks w [] i no_text (is_size s seen w i clicks (omega arith) (omega (arith, few)))
+        (λ now j. nil_apt World Last now (resized s seen w i q clicks (seat_begins (node_at w program.ino) m.memory.data) now j));
+  }
     where
       clicks : ℕ
       clicks = exec.image_clicks plan
@@ -376,46 +307,26 @@ module _ (s : ℕ) (seen : Seen) (w : World) (program : Program) (i : Calling s 
       q = exec.begins old (node_at w program.ino) program m.memory.data
 
       Last : Seen → Type 0
-      Last now = InCall s false (seats_in (set w.processes s (Some q)) w.clock w.texts) now
+      Last now = InCall s false (seats_in (set w.processes s (Some q)) w.clock w.texts w.limit) now
 
-      few : 16 + exec.data_clicks plan + 20 ≤ 1040
+      few : 16 + exec.data_clicks plan + 20 ≤ w.limit
       few = few_clicks (exec.text_clicks plan) (exec.data_clicks plan) 20 w.limit sizes
 
-      fits : is_some (core_fit bare clicks) ≡ true → IsSize seen.board clicks
-      fits room =
-          let inside = within_core bare clicks room in
-          record {
-            least = omega arith;
-            most = below_limit seen.board.core clicks (omega (arith, few)) (omega (arith, inside, core_is));
-          }
-
-      by : (o : Option ℕ) → core_fit bare clicks ≡ o → FineComes s seen plain
-      by (Some c) e = record {
-        fine = exec_apt Last s seats seen clicks w [] i no_text (fits (ap is_some e)) (λ c. refl)
-            (λ now j. nil_apt World Last now (resized s seen w i q clicks (seat_begins (node_at w program.ino) m.memory.data) now j));
-      }
-      by None e = record {
-        fine = (
-          bare_fits s seats seen i no_text,
-          no_image s (seen_after seen (line.Bare s)) Last clicks w [] (placed_in_core bare s clicks bare_text ∙ ap (option_map Core) e),
-        );
-      }
-
-  sharing_fine : FineComes s seen sharing
+  sharing_fine : FineComes w.limit s seen sharing
   sharing_fine = record {
-    fine = text_apt (InCall s false (seats_here sharing.state)) s seats seen (exec.text_clicks plan) w
+    fine = text_apt (InCall s false (seats_under w.limit sharing.state)) s seats seen (exec.text_clicks plan) w
         (next (makes_text w s program.ino (exec.text_clicks plan)) true).effects i no_text;
   }
 
-  pub loads_fine : is_refused (exec.text_clicks plan) (exec.data_clicks plan) 20 w.limit ≡ false → FineComes s seen (exec.loads w s program)
+  pub loads_fine : is_refused (exec.text_clicks plan) (exec.data_clicks plan) 20 w.limit ≡ false → FineComes w.limit s seen (exec.loads w s program)
   loads_fine sizes = by (exec.text_clicks plan == 0) refl
     where
-      by : (x : Bool) → (exec.text_clicks plan == 0) ≡ x → FineComes s seen (exec.loads w s program)
-      by true none = subst (FineComes s seen) (sym (loads_plain none)) (plain_fine sizes)
-      by false some = subst (FineComes s seen) (sym (loads_shares some)) sharing_fine
+      by : (x : Bool) → (exec.text_clicks plan == 0) ≡ x → FineComes w.limit s seen (exec.loads w s program)
+      by true none = subst (FineComes w.limit s seen) (sym (loads_plain none)) (plain_fine sizes)
+      by false some = subst (FineComes w.limit s seen) (sym (loads_shares some)) sharing_fine
 
 module _ (s : ℕ) (seen : Seen) where
-  pub exec_fine : (w : World) (name list : ℕ) → Calling s w seen → FineComes s seen (exec.exec_file w s name list)
+  pub exec_fine : (w : World) (name list : ℕ) → Calling s w seen → FineComes w.limit s seen (exec.exec_file w s name list)
   unfolding exec.exec_file
   exec_fine w name list i = done t.answer refl
     where
@@ -428,6 +339,10 @@ module _ (s : ℕ) (seen : Seen) where
       still : Calling s t.world seen
       still = subst (λ x. InCall s false x seen) (sym are.same) i
 
-      done : (r : Result Program Errno) → t.answer ≡ r → FineComes s seen (exec.done_by t.world s r)
-      done (Err e) f = fails_fine s seen t.world e still
-      done (Ok program) f = loads_fine s seen t.world program still (are.sizes program f)
+      done : (r : Result Program Errno) → t.answer ≡ r → FineComes w.limit s seen (exec.done_by t.world s r)
+      done (Err e) f =
+          let limit : t.world.limit ≡ w.limit = ap (λ v. v.most) are.same in
+          subst (λ n. FineComes n s seen (fails t.world e)) limit (fails_fine s seen t.world e still)
+      done (Ok program) f =
+          let limit : t.world.limit ≡ w.limit = ap (λ v. v.most) are.same in
+          subst (λ n. FineComes n s seen (exec.loads t.world s program)) limit (loads_fine s seen t.world program still (are.sizes program f))

@@ -32,7 +32,7 @@ use Rattle.abstract_unix.specs.declared.ending.Ending.TheVariants.{Ended}
 use Rattle.abstract_unix.specs.Unix as unix
 use Rattle.abstract_unix.specs.Unix.{Unix}
 use Rattle.abstract_unix.specs.Calls.{handed_of, with_handed, world_of, with_world, did_by, closes_all, exits_with}
-use Rattle.abstract_unix.proofs.Sitting.{seat_for, seat_of, seats_here, seats_of, runner_seat, runner_alive, runner_text, put_in, changed_in, kept_in}
+use Rattle.abstract_unix.proofs.Sitting.{seat_for, seat_of, seats_under, seats_here, seats_of, runner_seat, runner_alive, runner_text, put_in, changed_in, kept_in}
 use Rattle.abstract_unix.proofs.Steps.{AptSteps, Answered, ends_in, apt_lifted, answers_apt}
 use Rattle.abstract_unix.proofs.Quiet.{AreQuiet, SameSize, SameCall, EndsIn, Calm, CalmClosing, close_all_calm}
 use Rattle.abstract_unix.proofs.Rows.{Calling}
@@ -61,8 +61,8 @@ module _ (s : ℕ) where
       → SameSize (unix.process_of u s).u h.u
       → h.u.pending ≡ pending → InCall s (not (pending == 0)) (seats_of (with_handed u s h)) seen
   handed_in u seen calling h pending i k e = subst (λ n. InCall s (not (n == 0)) (seats_of (with_handed u s h)) seen) e
-      (changed_in u.processes u.clock u.texts s calling seen (record (unix.process_of u s) { u = h.u; row = h.row; «data» = h.image.data; stack = h.image.stack }) i
-      (runner_alive u.processes u.clock u.texts s seen.board i.turn) (rw (k.data, k.stack) refl) refl)
+      (changed_in u.processes u.clock u.texts u.limit s calling seen (record (unix.process_of u s) { u = h.u; row = h.row; «data» = h.image.data; stack = h.image.stack }) i
+      (runner_alive u.processes u.clock u.texts u.limit s seen.board i.turn) (rw (k.data, k.stack) refl) refl)
 
   pub did_apt : (u : Unix) (seen : Seen) (calling : Bool) (old : UArea) (did : Did) → InCall s calling (seats_of u) seen
       → SameSize (unix.process_of u s).u old
@@ -89,7 +89,7 @@ module _ (s : ℕ) where
 
   -- a process in its call waits in none
   pub no_pending : (u : Unix) (seen : Seen) → InCall s false (seats_of u) seen → (unix.process_of u s).u.pending ≡ 0
-  no_pending u seen i = eqb-true _ _ (off ((unix.process_of u s).u.pending == 0) (ap (λ x. x.calling) (runner_seat u.processes u.clock u.texts s seen.board i.turn) ∙ i.calls))
+  no_pending u seen i = eqb-true _ _ (off ((unix.process_of u s).u.pending == 0) (ap (λ x. x.calling) (runner_seat u.processes u.clock u.texts u.limit s seen.board i.turn) ∙ i.calls))
     where
       off : (x : Bool) → not x ≡ false → x ≡ true
       off true e = refl
@@ -125,7 +125,7 @@ module _ (s : ℕ) where
       let ppid = (process_of w s).row.ppid in
       ap (λ slots. record (seats_here w) { slots = slots })
       (adopted_seats (process_of w s).row.pid _ ∙ strays_seats (is_none (slot_of w ppid)) ppid _)
-      ∙ put_in w.processes w.clock w.texts s (record (process_of w s) { is_zombie = true; «data» = []; stack = [] })
+      ∙ put_in w.processes w.clock w.texts w.limit s (record (process_of w s) { is_zombie = true; «data» = []; stack = [] })
 
   -- its parent's slot
   parent_range : (w : World) (ppid : ℕ) → parent_slot w ppid ≤ 49
@@ -141,7 +141,7 @@ module _ (s : ℕ) where
       → Apt (Paused (seats_here (dead w s))) seen (dies w s).effects
   unfolding Apt
   dies_apt w seen i =
-      exit_apt s false v seen i (Paused now) w rest (grave w) bare refl (runner_text w.processes w.clock w.texts s seen.board i.turn ∙ bare)
+      exit_apt s false v seen i (Paused now) w rest (grave w) bare refl (runner_text w.processes w.clock w.texts w.limit s seen.board i.turn ∙ bare)
       (λ later p. woken later (subst (λ x. Paused x later) (sym (dead_is w)) p))
     where
       v : Seats
@@ -165,15 +165,15 @@ module _ (s : ℕ) where
           (wake_paused now (seen_after later (line.Wake (Wait 1))) (Wait (parent_slot w (process_of w s).row.ppid)) first))
 
   pub ends_apt : (w : World) (seen : Seen) (status : ℕ) → Calling s w seen
-      → Apt (Paused (seats_here (end_proc w s status).state)) seen (end_proc w s status).effects
+      → Apt (Paused (seats_under w.limit (end_proc w s status).state)) seen (end_proc w s status).effects
   ends_apt w seen status i =
       let alone : (process_of w s).text ≡ None =
-      runner_text w.processes w.clock w.texts s seen.board i.turn ∙ (own s s (seats_here w) seen.board i.agrees i.turn).bare in
-      subst (λ (c : Comes). Apt (Paused (seats_here c.state)) seen c.effects) (sym (end_alone w s status alone))
-      (dies_apt (leaves w s status) seen (kept_in w.processes w.clock w.texts s false seen _ i refl refl refl refl))
+      runner_text w.processes w.clock w.texts w.limit s seen.board i.turn ∙ (own s s (seats_here w) seen.board i.agrees i.turn).bare in
+      subst (λ (c : Comes). Apt (Paused (seats_under w.limit c.state)) seen c.effects) (sym (end_alone w s status alone))
+      (dies_apt (leaves w s status) seen (kept_in w.processes w.clock w.texts w.limit s false seen _ i refl refl refl refl))
 
   pub exits_apt : (u : Unix) (seen : Seen) (status : ℕ) → Calling s (world_of u) seen → AptSteps s seen (exits_with u s status)
-  exits_apt u seen status i = ends_in s seen (exits_with u s status).unix (exits_with u s status).effects Ended by
+  exits_apt u seen status i = ends_in s seen (exits_with u s status).unix (exits_with u s status).effects Ended tt by
     where
       closed : Closing
       closed = closes_all u s
@@ -187,8 +187,8 @@ module _ (s : ℕ) where
       c : Comes
       c = end_proc (world_of now) s status
 
-      by : Apt {W = Unix} (Paused (seats_here c.state)) seen ((map Show closed.items ++ map (lifted (with_world now)) c.effects) ++ [])
+      by : Apt {W = Unix} (Paused (seats_under u.limit c.state)) seen ((map Show closed.items ++ map (lifted (with_world now)) c.effects) ++ [])
       by = rw (append-nil (map Show closed.items ++ map (lifted (with_world now)) c.effects)) (
-          apt_append (InCall s false (seats_of now)) (Paused (seats_here c.state)) seen (map Show closed.items) (map (lifted (with_world now)) c.effects)
+          apt_append (InCall s false (seats_of now)) (Paused (seats_under u.limit c.state)) seen (map Show closed.items) (map (lifted (with_world now)) c.effects)
           (shown_apt Unix s false (seats_of now) seen closed.items calm.quiet (handed_in u seen false closed.state 0 i calm.same.size (calm.same.pending ∙ no_pending u seen i)))
-          (λ later j. apt_lifted (with_world now) (Paused (seats_here c.state)) later c.effects (ends_apt (world_of now) later status j)))
+          (λ later j. apt_lifted (with_world now) (Paused (seats_under u.limit c.state)) later c.effects (ends_apt (world_of now) later status j)))

@@ -1,4 +1,4 @@
--- The log of each run fits, line after line, and that of one that comes to its script's end is lawful.
+-- The log of each run fits, line after line, and that of one that comes to its script's end, or to a panic, is lawful.
 use Rattle.std.proofs.Common.{◌≡◌, ◌∙◌, ◌<◌, ◌≤◌, ◌==◌, ℕ, zero, suc, Bool, true, false, List, [], ◌∷◌, ◌++◌, append-nil, length, if◌then◌else◌, Option, Some, None, is_some, option_map, get_or, slice_index, replicate, refl, sym, ap, subst, inl, inr, arith}
 use Rattle.std.proofs.lemmas.Bool.{cases_lt}
 use Rattle.std.proofs.lemmas.Int.{ints}
@@ -18,22 +18,25 @@ use Rattle.pick_rules.specs.Table.{empty_row, row_at}
 use Rattle.pick_rules.specs.Sleepers.{fall_asleep}
 use Rattle.pick_rules.specs.Board.{Board, first_board}
 use Rattle.pick_rules.specs.Apply.{applied}
-use Rattle.pick_rules.specs.Effects.{came}
+use Rattle.pick_rules.specs.Search.{least}
+use Rattle.pick_rules.specs.Logged.{Logged}
 use Rattle.pick_rules.specs.Lawful.{Booted, Over, Seen, FitAll, Lawful, nothing_seen, seen_after, seen_of}
 use Rattle.pick_rules.proofs.Shapes.{shape_at, Sleeps}
-use Rattle.log_laws.proofs.Fitting.{fit_items, fit_item, seen_append, seen_items, Apt}
-use Rattle.log_laws.proofs.Seats.{Seat, seat_at, rule_of, AgreesAt, Agrees, Paused, Holds}
+use Rattle.log_laws.proofs.Fitting.{fit_items, fit_item, seen_append, seen_items}
+use Rattle.log_laws.proofs.Seats.{Seat, seat_at, AgreesAt, Agrees, Paused, Holds}
 use Rattle.log_laws.proofs.Settles.{end_fits}
+use Rattle.swap_sched.specs.Pass.{pass, over}
 use Rattle.abstract_unix.specs.declared.ends.Ends as run
 use Rattle.abstract_unix.specs.declared.ends.Ends.TheVariants as ends
 use Rattle.abstract_unix.specs.declared.ends.Ends.TheVariants.{AtEnd}
-use Rattle.abstract_unix.specs.Endings.{last_line}
+use Rattle.abstract_unix.specs.Endings.{is_whole, last_line}
 use Rattle.abstract_unix.specs.Unix.{Unix, System, no_texts}
-use Rattle.abstract_unix.specs.Turn.{Turn, settled_after, pass_effects, pass_of}
+use Rattle.abstract_unix.specs.Turn.{Turn, settled_after, passes, pass_of}
 use Rattle.abstract_unix.specs.Runs.{first_unix, system_with, Event, Slot, Tick, Byte, Switch, event_of, Course, goes_on_by, unless_ended, after_event, course, started, boots}
 use Rattle.abstract_unix.specs.Law.{log_of, LogsAreLawful}
 use Rattle.abstract_unix.proofs.Sitting.{seats_of}
-use Rattle.abstract_unix.proofs.Events.{system_at, Stands, Fine, FineTurn, shown_stop, event_by, slot_fine}
+use Rattle.abstract_unix.proofs.Passing.{only_sleeps, pass_sleeps}
+use Rattle.abstract_unix.proofs.Events.{system_at, Stands, Fine, FineTurn, settles_fine, slot_fine}
 use Rattle.abstract_unix.proofs.Outside.{tick_fine, typed_fine, switched_fine}
 
 get_replicate : {X : Type 0} (x : X) (n k : ℕ) → get_or (replicate n x) k x ≡ x
@@ -57,6 +60,7 @@ further : (c : Course) (t : Turn) → FitAll nothing_seen (entries_of c.items) �
 further c t f g = record {
   fit = fit_items nothing_seen c.items t.items f g.fit;
   stands = λ e. subst (Stands t.next) (sym (seen_append nothing_seen c.items t.items)) (g.stands e);
+  over = λ kind e. ap (λ (x : Seen). x.stage) (seen_append nothing_seen c.items t.items) ∙ g.over kind e;
 }
 
 event_goes : (c : Course) (e : Event) → FineCourse c → FineCourse (after_event c e)
@@ -73,6 +77,7 @@ event_goes c e f = by c.ending refl
     by : (o : run.Ends) → c.ending ≡ o → FineCourse (unless_ended o c e)
     by AtEnd n = further c (event_of e c.system) f.fit (at_lines (f.stands n))
     by (ends.NotBuilt place) n = f
+    by (ends.Panic kind) n = f
 
 course_fine : (events : List Event) (c : Course) → FineCourse c → FineCourse (course c events)
 course_fine [] c f = f
@@ -87,7 +92,7 @@ module _ (store : Store) (core : ℕ) (low : 64 ≤ core) (high : core ≤ 3968)
   booted_seen = record { stage = Booted; board = first_board core store.stamp }
 
   first_each : (b : Board) → b ≡ applied (first_board core store.stamp) (line.Sleep 0 pswp RunOut) → (r : ℕ) → 0 < r
-      → AgreesAt (r == 0) (rule_of (seats_of u) b) (seat_at (seats_of u) r) (shape_at b.table r)
+      → AgreesAt (r == 0) (seats_of u).most (seat_at (seats_of u) r) (shape_at b.table r)
   unfolding applied fall_asleep
   first_each b e zero h = absurd (omega arith)
   first_each b e (suc zero) h = rw e (record {
@@ -114,24 +119,29 @@ module _ (store : Store) (core : ℕ) (low : 64 ≤ core) (high : core ≤ 3968)
   first_agrees : Agrees 0 (seats_of u) (applied (first_board core store.stamp) (line.Sleep 0 pswp RunOut))
   unfolding applied fall_asleep no_texts
   first_agrees =
-      record { each = first_each _ refl; sleeps = first_sleeps; rows = refl; seats = refl; time = refl; ticks = refl; texts = refl; core = high }
+      record { each = first_each _ refl; sleeps = first_sleeps; rows = refl; seats = refl; time = refl; ticks = refl; texts = refl; core = high; most = refl }
 
   first_paused : Paused (seats_of u) (seen_after booted_seen (line.Sleep 0 pswp RunOut))
   unfolding applied fall_asleep
   first_paused = record { going = tt; agrees = first_agrees; runner = tt }
 
+  -- nobody is out of core
+  first_pass : pass (first_board core store.stamp) ≡ only_sleeps (first_board core store.stamp)
+  unfolding least
+  first_pass = pass_sleeps (first_board core store.stamp) refl refl
+
   start_fine : FineTurn booted_seen (settled_after (pass_of (system_at u booted_seen)))
-  unfolding Apt came
-  start_fine =
-      event_by u u booted_seen pass_effects (((omega arith, (omega (arith, ints), omega (arith, ints)), tt), refl), first_paused)
-      (shown_stop (first_board core store.stamp) pass_effects tt)
+  unfolding FitAll
+  start_fine = subst (λ (l : Logged (Unit {0})). FineTurn booted_seen (settled_after (passes u (over u l)))) (sym first_pass)
+      (settles_fine u booted_seen (record { items = Log (line.Sleep 0 pswp RunOut) ∷ []; board = applied (first_board core store.stamp) (line.Sleep 0 pswp RunOut); stop = None })
+      (((omega arith, (omega (arith, ints), omega (arith, ints)), tt), refl), tt) refl first_paused refl)
 
   started_fine : IsTime store.stamp → FineCourse (started (system_with store core))
   unfolding FitAll applied
   started_fine time =
-      record { fit = (((omega (arith, high), time), (low, high)), start_fine.fit); stands = start_fine.stands }
+      record { fit = (((omega (arith, high), time), (low, high)), start_fine.fit); stands = start_fine.stands; over = start_fine.over }
 
--- the log of a run, with its last line where it has come to its end
+-- the log of a run, with its last line where it has come to its end or to a panic
 module _ (c : Course) (f : FineCourse c) where
   log_fits : FitAll nothing_seen (log_of c)
   unfolding FitAll
@@ -141,13 +151,17 @@ module _ (c : Course) (f : FineCourse c) where
       by AtEnd e =
           fit_item nothing_seen c.items (Log line.End) f.fit (end_fits (seats_of c.system.unix) (seen_items nothing_seen c.items) (f.stands e).holds, tt)
       by (ends.NotBuilt place) e = rw (append-nil c.items) f.fit
+      by (ends.Panic kind) e = rw (append-nil c.items) f.fit
 
-  log_ends : c.ending ≡ AtEnd → (seen_of (log_of c)).stage ≡ Over
-  log_ends e =
-      ap (λ o. (seen_of (entries_of (c.items ++ last_line o))).stage) e
-      ∙ ap (λ s. s.stage) (seen_append nothing_seen c.items (Log line.End ∷ []))
+  log_ends : is_whole c.ending ≡ true → (seen_of (log_of c)).stage ≡ Over
+  log_ends = by c.ending refl
+    where
+      by : (o : run.Ends) → c.ending ≡ o → is_whole o ≡ true → (seen_of (entries_of (c.items ++ last_line o))).stage ≡ Over
+      by AtEnd e whole = ap (λ s. s.stage) (seen_append nothing_seen c.items (Log line.End ∷ []))
+      by (ends.NotBuilt place) e whole = absurd (cc whole)
+      by (ends.Panic kind) e whole = ap (λ items. (seen_of (entries_of items)).stage) (append-nil c.items) ∙ f.over kind e
 
-  log_lawful : FitAll nothing_seen (log_of c) × (c.ending ≡ AtEnd → Lawful (log_of c))
+  log_lawful : FitAll nothing_seen (log_of c) × (is_whole c.ending ≡ true → Lawful (log_of c))
   log_lawful = (log_fits, λ e. record { fit = log_fits; over = log_ends e })
 
 -- the time of an image's super-block is two words of its bytes
@@ -177,12 +191,12 @@ pub logs_are_lawful : LogsAreLawful
 logs_are_lawful image core events c are low high e = by (boots image core) refl e
   where
     by : (o : Option System) → boots image core ≡ o → option_map (λ m. course (started m) events) o ≡ Some c
-        → FitAll nothing_seen (log_of c) × (c.ending ≡ AtEnd → Lawful (log_of c))
+        → FitAll nothing_seen (log_of c) × (is_whole c.ending ≡ true → Lawful (log_of c))
     by None f g = absurd (cc g)
     by (Some m) f g =
         let store : Store = store_of (disk_of image) in
         let is : course (started (system_with store core)) events ≡ c =
         ap (λ n. course (started n) events) (boots_is image core m f) ∙ cc g in
         let fine : FineCourse (started (system_with store core)) = started_fine store core low high (stamp_in_range image are) in
-        subst (λ c. FitAll nothing_seen (log_of c) × (c.ending ≡ AtEnd → Lawful (log_of c))) is
+        subst (λ c. FitAll nothing_seen (log_of c) × (is_whole c.ending ≡ true → Lawful (log_of c))) is
         (log_lawful (course (started (system_with store core)) events) (course_fine events (started (system_with store core)) fine))

@@ -7,6 +7,7 @@ pub mod Children
 pub mod Exiting
 pub mod Executing
 pub mod Turning
+pub mod Passing
 pub mod Events
 pub mod Outside
 pub mod Lawfully
@@ -17,3 +18,4 @@ pub mod Sharing
 pub mod Dying
 pub mod Moved
 pub mod Mild
+pub mod CallLemmas

@@ -1,6 +1,5 @@
--- What the log of a call on processes leaves of the board: core, who runs, and each place, but that an image may go, or come
--- into core.
-use Rattle.std.proofs.Common.{◌≡◌, ◌∙◌, ◌+◌, ◌-◌, ◌⊎◌, ℕ, ℤ, Bool, true, false, nat_le, if◌then◌else◌, List, [], ◌∷◌, ◌++◌, fold, Option, Some, None, refl, sym, ap, subst, inl, inr}
+-- What the log of a call on processes leaves of the board: core, and who runs.
+use Rattle.std.proofs.Common.{◌≡◌, ◌∙◌, ◌+◌, ◌-◌, ℕ, ℤ, Bool, true, false, nat_le, if◌then◌else◌, List, [], ◌∷◌, ◌++◌, fold, Option, Some, None, refl, sym, subst}
 use Rattle.v6_base.specs.Trace.{Item, Byte, Log}
 use Rattle.v6_base.specs.declared.entry.Chan.{Chan}
 use Rattle.v6_base.specs.declared.entry.Entry.{Entry}
@@ -9,57 +8,41 @@ use Rattle.v6_base.specs.declared.entry.PanicKind.{PanicKind}
 use Rattle.v6_base.specs.declared.entry.Place.{Place}
 use Rattle.v6_base.specs.declared.entry.Place.TheVariants.{Core, Swap}
 use Rattle.pick_rules.specs.declared.row.TableRow.{TableRow}
-use Rattle.pick_rules.specs.Table.{row_at, empty_row, child_row, is_in_core, is_loaded}
+use Rattle.pick_rules.specs.Table.{row_at, empty_row, child_row, is_loaded}
 use Rattle.pick_rules.specs.Board.{TextPlace, Board, placed}
 use Rattle.pick_rules.specs.Apply.{applied, in_table, change_row, change_text, enters_core, leaves_core, joins, without_place, at_place}
 use Rattle.pick_rules.specs.Effects.{Effect, Show, Size, Fork, Text, Image, Exit, Panicked, Unbuilt, Came, Lets, Stops, image_at, came}
 use Rattle.pick_rules.specs.Logged.{Logged, Stop, logged, log_one, with_what_came}
-use Rattle.pick_rules.proofs.Laws.{wakeup_kept, set_each}
+use Rattle.pick_rules.specs.declared.table.Table.{Table}
+use Rattle.pick_rules.specs.Sleepers.{made_ready, runout_told}
+use Rattle.pick_rules.proofs.Laws.{Stays, runout_stays, wakeup_kept}
 use Rattle.pick_rules.proofs.Stopping.{stays_stopped}
-use Rattle.sys_procs.proofs.Agreement.{wakeup_like}
 
 pub record MovedBoard (b now : Board) : Type 0 where
   pub core : now.core ≡ b.core
   pub running : now.table.running ≡ b.table.running
-  pub places : (r : ℕ) → ((row_at now.table r).place ≡ None)
-      ⊎ (((row_at now.table r).place ≡ (row_at b.table r).place) ⊎ (is_in_core (row_at now.table r).place ≡ true))
 
 stays_put : (b : Board) → MovedBoard b b
-stays_put b = record { core = refl; running = refl; places = λ r. inr (inl refl) }
+stays_put b = record { core = refl; running = refl }
 
 moved_then : (a b c : Board) → MovedBoard a b → MovedBoard b c → MovedBoard a c
-moved_then a b c k l = record {
-  core = l.core ∙ k.core;
-  running = l.running ∙ k.running;
-  places = λ r. elim (l.places r) [
-    | inl none ↦ inl none
-    | inr there ↦ elim there [
-      | inl same ↦ elim (k.places r) [
-        | inl none ↦ inl (same ∙ none)
-        | inr before ↦ elim before [
-          | inl old ↦ inr (inl (same ∙ old))
-          | inr inside ↦ inr (inr (ap is_in_core same ∙ inside))
-        ]
-      ]
-      | inr inside ↦ inr (inr inside)
-    ]
-  ];
-}
+moved_then a b c k l = record { core = l.core ∙ k.core; running = l.running ∙ k.running }
 
 -- One row changes, or a text.
-row_moved : (b : Board) (s : ℕ) (f : TableRow → TableRow)
-    → ((f (row_at b.table s)).place ≡ None) ⊎ (((f (row_at b.table s)).place ≡ (row_at b.table s).place) ⊎ (is_in_core (f (row_at b.table s)).place ≡ true))
-    → MovedBoard b (in_table b (λ t. change_row t s f))
-row_moved b s f new = record {
-  core = refl;
-  running = refl;
-  places = set_each (λ r row. (row.place ≡ None) ⊎ ((row.place ≡ (row_at b.table r).place) ⊎ (is_in_core row.place ≡ true))) b.table.rows s (f (row_at b.table s))
-      (λ r. inr (inl refl)) new;
-}
+row_moved : (b : Board) (s : ℕ) (f : TableRow → TableRow) → MovedBoard b (in_table b (λ t. change_row t s f))
+row_moved b s f = record { core = refl; running = refl }
 
 text_moved : (b : Board) (k : Option ℕ) (change : TextPlace → TextPlace) → MovedBoard b (change_text b k change)
 text_moved b None change = stays_put b
-text_moved b (Some k) change = record { core = refl; running = refl; places = λ r. inr (inl refl) }
+text_moved b (Some k) change = record { core = refl; running = refl }
+
+-- The swapper is told, and whoever runs goes on.
+runs_on : (old : Table) → Stays (λ (t : Table). t.running ≡ old.running)
+unfolding made_ready
+runs_on old = record { woken = λ t s w e same. same; runout = λ t same. same; runin = λ t same. same }
+
+told_runs : (t : Table) → (runout_told t).running ≡ t.running
+told_runs t = runout_stays (λ (u : Table). u.running ≡ t.running) (runs_on t) t refl
 
 abbrev no_place : TableRow → TableRow
 no_place row = record row { place = None }
@@ -69,6 +52,9 @@ of_size clicks row = record row { size = clicks }
 
 abbrev in_core_at : ℕ → ℕ → TableRow → TableRow
 in_core_at clicks c row = record row { size = clicks; place = Some (Core c) }
+
+abbrev out_at : ℕ → ℕ → TableRow → TableRow
+out_at clicks block row = record row { size = clicks; place = Some (Swap block); time = 0 }
 
 abbrev entered : TextPlace → TextPlace
 entered text = record text { loaded = text.loaded + 1 }
@@ -83,12 +69,13 @@ out_moved : (b : Board) (s : ℕ) → MovedBoard b (without_place b s)
 out_moved b s = by (is_loaded b.table s)
   where
     by : (x : Bool) → MovedBoard b (in_table (if x then leaves_core b (row_at b.table s).text else b) (λ t. change_row t s no_place))
-    by true = moved_then b (leaves_core b (row_at b.table s).text) _ (text_moved b (row_at b.table s).text left) (row_moved (leaves_core b (row_at b.table s).text) s no_place (inl refl))
-    by false = row_moved b s no_place (inl refl)
+    by true = moved_then b (leaves_core b (row_at b.table s).text) _ (text_moved b (row_at b.table s).text left) (row_moved (leaves_core b (row_at b.table s).text) s no_place)
+    by false = row_moved b s no_place
 
-in_moved : (b : Board) (s clicks c : ℕ) → MovedBoard b (at_place b s clicks (Core c))
-in_moved b s clicks c =
-    moved_then b (enters_core b (row_at b.table s).text) _ (text_moved b (row_at b.table s).text entered) (row_moved (enters_core b (row_at b.table s).text) s (in_core_at clicks c) (inr (inr refl)))
+in_moved : (b : Board) (s clicks : ℕ) (place : Place) → MovedBoard b (at_place b s clicks place)
+in_moved b s clicks (Core c) =
+    moved_then b (enters_core b (row_at b.table s).text) _ (text_moved b (row_at b.table s).text entered) (row_moved (enters_core b (row_at b.table s).text) s (in_core_at clicks c))
+in_moved b s clicks (Swap block) = record { core = refl; running = told_runs (change_row b.table s (out_at clicks block)) }
 
 -- A line that leaves a board so.
 abbrev pub IsMildLine : Entry → Type 0
@@ -96,46 +83,42 @@ IsMildLine e = (b : Board) → MovedBoard b (applied b e)
 
 pub mild_wake : (chan : Chan) → IsMildLine (line.Wake chan)
 unfolding applied
-mild_wake chan b = record {
-  core = refl;
-  running = (wakeup_kept b.table chan).running;
-  places = λ r. inr (inl ((wakeup_like b.table chan).each r).place);
-}
+mild_wake chan b = record { core = refl; running = (wakeup_kept b.table chan).running }
 
 pub mild_nice : (s : ℕ) (nice : ℤ) → IsMildLine (line.Nice s nice)
 unfolding applied
-mild_nice s nice b = row_moved b s (λ row. record row { nice = nice }) (inr (inl refl))
+mild_nice s nice b = row_moved b s (λ row. record row { nice = nice })
 
 pub mild_time : (time : ℕ) → IsMildLine (line.Time time)
 unfolding applied
-mild_time time b = record { core = refl; running = refl; places = λ r. inr (inl refl) }
+mild_time time b = record { core = refl; running = refl }
 
 pub mild_reap : (s : ℕ) → IsMildLine (line.Reap s)
 unfolding applied
-mild_reap s b = row_moved b s (λ row. empty_row) (inl refl)
+mild_reap s b = row_moved b s (λ row. empty_row)
 
 pub mild_bare : (s : ℕ) → IsMildLine (line.Bare s)
 unfolding applied
-mild_bare s b = moved_then b (without_place b s) _ (out_moved b s) (row_moved (without_place b s) s (of_size 0) (inr (inl refl)))
+mild_bare s b = moved_then b (without_place b s) _ (out_moved b s) (row_moved (without_place b s) s (of_size 0))
 
 mild_keep : (s clicks : ℕ) → IsMildLine (line.SizeKeep s clicks)
 unfolding applied
-mild_keep s clicks b = row_moved b s (of_size clicks) (inr (inl refl))
+mild_keep s clicks b = row_moved b s (of_size clicks)
 
-mild_size : (s clicks c : ℕ) → IsMildLine (line.Size s clicks (Core c))
+mild_size : (s clicks : ℕ) (place : Place) → IsMildLine (line.Size s clicks place)
 unfolding applied
-mild_size s clicks c b = moved_then b (without_place b s) _ (out_moved b s) (in_moved (without_place b s) s clicks c)
+mild_size s clicks place b = moved_then b (without_place b s) _ (out_moved b s) (in_moved (without_place b s) s clicks place)
 
-mild_image : (s clicks c : ℕ) → IsMildLine (line.Image s clicks (Core c))
+mild_image : (s clicks : ℕ) (place : Place) → IsMildLine (line.Image s clicks place)
 unfolding applied
-mild_image s clicks c b = in_moved b s clicks c
+mild_image s clicks place b = in_moved b s clicks place
 
-mild_fork : (s child c : ℕ) → IsMildLine (line.Fork s child (Core c))
+mild_fork : (s child : ℕ) (place : Place) → IsMildLine (line.Fork s child place)
 unfolding applied
-mild_fork s child c b =
+mild_fork s child place b =
     let born : Board = in_table b (λ t. change_row t child (λ row. child_row (row_at t s))) in
-    moved_then b born _ (row_moved b child (λ row. child_row (row_at b.table s)) (inl refl))
-    (moved_then born (joins born (row_at b.table s).text) _ (text_moved born (row_at b.table s).text joined) (in_moved (joins born (row_at b.table s).text) child (row_at b.table s).size c))
+    moved_then b born _ (row_moved b child (λ row. child_row (row_at b.table s)))
+    (moved_then born (joins born (row_at b.table s).text) _ (text_moved born (row_at b.table s).text joined) (in_moved (joins born (row_at b.table s).text) child (row_at b.table s).size place))
 
 -- Effects of a call whose process goes on. P is so of the state before each demand for a place.
 module _ {W : Type 0} (P : W → Type 0) where
@@ -164,11 +147,10 @@ module _ {W : Type 0} (P : W → Type 0) where
   CameTamed b (Lets (Byte l byte)) rest = rest
   CameTamed b (Stops why before) rest = P before
 
-  at_core : (b : Board) (before : W) (entry : Place → Entry) (rest : Type 0) → ((c : ℕ) → IsMildLine (entry (Core c))) → P before × rest
+  at_its_place : (b : Board) (before : W) (entry : Place → Entry) (rest : Type 0) → ((place : Place) → IsMildLine (entry place)) → P before × rest
       → (o : Option Place) → CameTamed b (image_at before o entry) rest
-  at_core b before entry rest mild p None = p.0
-  at_core b before entry rest mild p (Some (Core c)) = (mild c b, p.1)
-  at_core b before entry rest mild p (Some (Swap block)) = p.0
+  at_its_place b before entry rest mild p None = p.0
+  at_its_place b before entry rest mild p (Some place) = (mild place b, p.1)
 
   came_tamed : (b : Board) (e : Effect W) (rest : Type 0) → IsTamed e rest → CameTamed b (came b e) rest
   unfolding came
@@ -178,10 +160,10 @@ module _ {W : Type 0} (P : W → Type 0) where
     where
       by : (x : Bool) → CameTamed b (if x then Lets (Log (line.SizeKeep s clicks)) else image_at before (placed b s clicks) (λ place. line.Size s clicks place)) rest
       by true = (mild_keep s clicks b, p.1)
-      by false = at_core b before (λ place. line.Size s clicks place) rest (mild_size s clicks) p (placed b s clicks)
-  came_tamed b (Fork s child before) rest p = at_core b before (λ place. line.Fork s child place) rest (mild_fork s child) p (placed b s (row_at b.table s).size)
+      by false = at_its_place b before (λ place. line.Size s clicks place) rest (mild_size s clicks) p (placed b s clicks)
+  came_tamed b (Fork s child before) rest p = at_its_place b before (λ place. line.Fork s child place) rest (mild_fork s child) p (placed b s (row_at b.table s).size)
   came_tamed b (Text s clicks before) rest p = p
-  came_tamed b (Image s clicks before) rest p = at_core b before (λ place. line.Image s clicks place) rest (mild_image s clicks) p (placed b s clicks)
+  came_tamed b (Image s clicks before) rest p = at_its_place b before (λ place. line.Image s clicks place) rest (mild_image s clicks) p (placed b s clicks)
   came_tamed b (Exit s before) rest p = absurd p
 
   abbrev so_far : List Item → Board → Logged W

@@ -40,7 +40,7 @@ mode_same u seen p = by seen.board.table.running refl p.runner
   where
     user : (s : ℕ) → InTurn s (seats_of u) seen.board
         → (if is_user (process_of u s) then User else Kernel) ≡ mode_now seen.board
-    user s t = turned (is_user (process_of u s)) t.seat.calling (ap (λ x. x.calling) (runner_seat u.processes u.clock u.texts s seen.board t))
+    user s t = turned (is_user (process_of u s)) t.seat.calling (ap (λ x. x.calling) (runner_seat u.processes u.clock u.texts u.limit s seen.board t))
         ∙ sym (mode_is s (seats_of u) seen.board p.agrees t)
       where
         turned : (x y : Bool) → not x ≡ y → cond x User Kernel ≡ cond y Kernel User
@@ -79,7 +79,7 @@ charged_seats u seen mode r = by seen.board.table.running r
     some s true e r = refl
     some s false e (inl z) = absurd (eqb-false s 0 e z)
     some s false e (inr t) =
-        same_seats s seen u.processes u.clock u.texts (timed mode (process_of u s)) t (timed_seat mode (process_of u s))
+        same_seats s seen u.processes u.clock u.texts u.limit (timed mode (process_of u s)) t (timed_seat mode (process_of u s))
 
     by : (o : Option ℕ) → RunnerAt (seats_of u) seen.board o → seats_of (charged u mode o) ≡ seats_of u
     by None r = refl
@@ -160,4 +160,4 @@ typed_fine u seen byte p =
 pub switched_fine : (u : Unix) (seen : Seen) (word : ℕ) → Holds (seats_of u) seen → FineTurn seen (stays (switched_of (system_at u seen) word))
 unfolding FitAll
 switched_fine u seen word h =
-    record { fit = tt; stands = λ e. record { board = refl; holds = h } }
+    record { fit = tt; stands = λ e. record { board = refl; holds = h }; over = λ kind e. absurd (cc e) }

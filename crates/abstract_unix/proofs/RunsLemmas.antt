@@ -13,13 +13,13 @@ use Rattle.abstract_unix.specs.declared.ending.Ending.TheVariants as came
 use Rattle.abstract_unix.specs.declared.ends.Ends.{Ends}
 use Rattle.abstract_unix.specs.declared.ends.Ends.TheVariants as ends
 use Rattle.abstract_unix.specs.declared.ends.Ends.TheVariants.{AtEnd}
-use Rattle.abstract_unix.specs.declared.turned.Unbuilt.{Unbuilt}
 use Rattle.abstract_unix.specs.declared.turned.Unbuilt.TheVariants as unbuilt
-use Rattle.abstract_unix.specs.declared.turned.Turned.TheVariants.{NotBuilt}
+use Rattle.abstract_unix.specs.declared.turned.Turned.{Turned}
+use Rattle.abstract_unix.specs.declared.turned.Turned.TheVariants.{Ran, Idle, NotBuilt, Panic}
 use Rattle.abstract_unix.specs.Unix.{Unix, System, process_of}
 use Rattle.abstract_unix.specs.Steps.{Steps}
-use Rattle.abstract_unix.specs.Turn.{Happened, Turn, stays, settles, calls_for_settling, settled_after, ending_at, unmet, ending_by, end_effects, turn_of, slot_of, turn, turned_by, turned}
-use Rattle.abstract_unix.specs.Runs.{Event, Slot, Tick, Byte, Switch, Course, begun, event_of, start_of, goes_on_by, unless_ended, after_event, course, started, after_items}
+use Rattle.abstract_unix.specs.Turn.{Happened, Turn, stays, settles, calls_for_settling, settled_after, ending_at, unmet, ending_by, ending_of_pass, end_effects, turn_of, slot_of, pass_of, turn, turned_by, turned}
+use Rattle.abstract_unix.specs.Runs.{Event, Slot, Tick, Byte, Switch, Course, begun, event_of, goes_on_by, unless_ended, after_event, course, started, after_items}
 
 -- first these events and then those
 pub course-append : (c : Course) (xs ys : List Event) → course c (xs ++ ys) ≡ course (course c xs) ys
@@ -29,6 +29,7 @@ course-append c (x ∷ xs) ys = course-append (after_event c x) xs ys
 event_ended : (c : Course) (e : Ends) (x : Event) → e ≢ AtEnd → unless_ended e c x ≡ c
 event_ended c AtEnd x early = absurd (early refl)
 event_ended c (ends.NotBuilt place) x early = refl
+event_ended c (ends.Panic kind) x early = refl
 
 -- a run that has ended stays as it is
 pub course_ended : (c : Course) (xs : List Event) → c.ending ≢ AtEnd → course c xs ≡ c
@@ -38,6 +39,7 @@ course_ended c (x ∷ xs) early = ap (λ d. course d xs) (event_ended c c.ending
 event_after_items : (items : List Item) (c : Course) (e : Ends) (x : Event) → unless_ended e (after_items items c) x ≡ after_items items (unless_ended e c x)
 event_after_items items c AtEnd x = ap (λ (l : List Item). record (goes_on_by c (event_of x c.system)) { items = l }) (append_assoc items c.items (event_of x c.system).items)
 event_after_items items c (ends.NotBuilt place) x = refl
+event_after_items items c (ends.Panic kind) x = refl
 
 -- what was shown before stands in front
 pub course-after_items : (items : List Item) (c : Course) (xs : List Event) → course (after_items items c) xs ≡ after_items items (course c xs)
@@ -68,35 +70,35 @@ module _ (c : Course) (m : System) (xs : List Event) (goes : (course c xs).endin
       ∙ course_ended (course c (xs ++ ys)) zs (λ goes. early (sym (ap (λ (d : Course). d.ending) joined) ∙ goes)) ∙ joined
 
 -- what an answer says of the turn's ending
-ends_by : (ending : Ends) (is_idle : Bool) (place : Unbuilt) → turned_by ending is_idle ≡ NotBuilt place → ending ≡ ends.NotBuilt place
-ends_by AtEnd true place is = cc
-ends_by AtEnd false place is = cc
-ends_by (ends.NotBuilt p) is_idle place is = cc
+abbrev pub ending_told : Turned → Ends
+ending_told Ran = AtEnd
+ending_told Idle = AtEnd
+ending_told (NotBuilt place) = ends.NotBuilt place
+ending_told (Panic kind) = ends.Panic kind
 
-pub turn_ends : (t : Turn) (place : Unbuilt) → turned t ≡ NotBuilt place → t.ending ≡ ends.NotBuilt place
-turn_ends t place is = ends_by t.ending t.is_idle place is
+told_by : (ending : Ends) (is_idle : Bool) → ending ≡ ending_told (turned_by ending is_idle)
+told_by AtEnd true = refl
+told_by AtEnd false = refl
+told_by (ends.NotBuilt place) is_idle = refl
+told_by (ends.Panic kind) is_idle = refl
 
-goes_by : (ending : Ends) (is_idle : Bool) → ((place : Unbuilt) → turned_by ending is_idle ≡ NotBuilt place → ⊥) → ending ≡ AtEnd
-goes_by AtEnd is_idle built = refl
-goes_by (ends.NotBuilt place) is_idle built = absurd (built place refl)
+pub turn_told : (t : Turn) → t.ending ≡ ending_told (turned t)
+turn_told t = told_by t.ending t.is_idle
 
-pub turn_goes : (t : Turn) → ((place : Unbuilt) → turned t ≡ NotBuilt place → ⊥) → t.ending ≡ AtEnd
-turn_goes t built = goes_by t.ending t.is_idle built
-
--- what a run may end at before its last event: a place in a program, or want of room in core
+-- what a run may end at before its last event: a place in a program, or a panic
 abbrev pub IsMet : Ends → Type 0
 IsMet AtEnd = ⊤
 IsMet (ends.NotBuilt (unbuilt.Line n)) = ⊥
 IsMet (ends.NotBuilt (unbuilt.At pc)) = ⊤
-IsMet (ends.NotBuilt unbuilt.Room) = ⊤
+IsMet (ends.Panic kind) = ⊤
 
 ending_is : (pc : ℕ) (e : Ending) → IsMet (ending_at pc e)
 ending_is pc came.Next = tt
 ending_is pc came.Trapped = tt
 ending_is pc (came.Slept pri chan) = tt
 ending_is pc came.Ended = tt
-ending_is pc came.NoRoom = tt
 ending_is pc came.NotBuilt = tt
+ending_is pc (came.Panic kind) = tt
 
 stop_is : (pc : ℕ) (stop : Option (Stop Unix)) (e : Ending) → IsMet (ending_by pc stop e)
 stop_is pc None e = ending_is pc e
@@ -112,9 +114,13 @@ turn_is m slot steps =
     let pc : ℕ = register (process_of m.unix slot) 7 in
     stop_is pc (logged m.board (steps.effects ++ end_effects slot steps.ending)).stop steps.ending
 
+pass_is : (stop : Option (Stop Unix)) → IsMet (ending_of_pass stop)
+pass_is None = tt
+pass_is (Some stop) = tt
+
 slot_is : (m : System) (slot : Option ℕ) → IsMet (slot_of m slot).ending
 slot_is m None = tt
-slot_is m (Some zero) = tt
+slot_is m (Some zero) = pass_is (pass_of m).log.stop
 slot_is m (Some (suc s)) = turn_is m (suc s) (turn m (suc s))
 
 -- settling ends no run
@@ -124,6 +130,9 @@ settled_ending h = by (calls_for_settling h)
     by : (b : Bool) → (cond b (settles h) (stays h)).ending ≡ h.ending
     by true = refl
     by false = refl
+
+pub started_is : (m : System) → IsMet (started m).ending
+started_is m = subst IsMet (sym (settled_ending (pass_of m))) (pass_is (pass_of m).log.stop)
 
 event_is : (event : Event) (m : System) → IsMet (event_of event m).ending
 event_is Slot m =
@@ -136,6 +145,7 @@ step_is : (c : Course) (ended : Ends) (event : Event) → IsMet c.ending
     → IsMet (unless_ended ended c event).ending
 step_is c AtEnd event met = event_is event c.system
 step_is c (ends.NotBuilt place) event met = met
+step_is c (ends.Panic kind) event met = met
 
 pub course_is : (c : Course) (events : List Event) → IsMet c.ending → IsMet (course c events).ending
 course_is c [] met = met
@@ -154,13 +164,3 @@ switched_goes m word = refl
 -- A run of one event, which begins at a system.
 pub course_one : (m : System) (event : Event) → course (begun m) (event ∷ []) ≡ goes_on_by (begun m) (event_of event m)
 course_one m event = refl
-
--- The start of a run shows its items, and the run begins at the system then.
-pub start_goes : (m : System) → (start_of m).ending ≡ AtEnd
-start_goes m = refl
-
-pub started_goes : (m : System) → (started m).ending ≡ AtEnd
-started_goes m = refl
-
-pub course_started : (m : System) (events : List Event) → course (started m) events ≡ after_items (start_of m).items (course (begun (start_of m).next) events)
-course_started m events = course_goes (started m) (start_of m).next events refl refl

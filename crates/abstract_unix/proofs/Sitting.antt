@@ -1,11 +1,9 @@
 -- The processes of a Unix as the board of the log tells them: who sits in which slot.
-use Rattle.std.proofs.Common.{◌≡◌, ◌∙◌, ◌==◌, ◌+◌, ℕ, not, Bool, true, false, List, [], ◌∷◌, map, Option, Some, None, unwrap_or, get_or, set, refl, sym, ap, subst}
+use Rattle.std.proofs.Common.{◌≡◌, ◌∙◌, ◌==◌, ◌+◌, ◌≤◌, ℕ, not, Bool, true, false, List, [], ◌∷◌, map, Option, Some, None, unwrap_or, get_or, set, refl, sym, ap, subst, arith}
 use Rattle.std.proofs.lemmas.List.{map-set}
 use Rattle.std.proofs.Math.ListN.{get_or-map}
 use Rattle.std.specs.List.{position_from}
 use Rattle.std.proofs.lemmas.Iterator.Adapters.{position_from-zero}
-use Rattle.v6_base.specs.declared.entry.Place.{Place}
-use Rattle.v6_base.specs.declared.entry.Place.TheVariants.{Core, Swap}
 use Rattle.pick_rules.specs.Board.{Board}
 use Rattle.pick_rules.specs.Lawful.{Seen}
 use Rattle.image_keep.specs.Kept.{clicks_of}
@@ -16,11 +14,6 @@ use Rattle.sys_procs.specs.TextTable.{Text, is_of, entry_of}
 use Rattle.sys_procs.specs.World.{Clock, World}
 use Rattle.abstract_unix.specs.Unix.{Unix}
 use Rattle.abstract_unix.specs.Turn.{is_user}
-
--- images don't go to the swap area yet
-abbrev pub is_core : Place → Bool
-is_core (Core c) = true
-is_core (Swap block) = false
 
 abbrev pub seat_for : Process → Seat
 seat_for p = record { dead = p.is_zombie; calling = not (is_user p); text = p.text; size = clicks_of p.u }
@@ -35,16 +28,20 @@ is_shared [] = false
 is_shared (None ∷ texts) = is_shared texts
 is_shared (Some text ∷ texts) = true
 
-abbrev pub seats_in : List (Option Process) → Clock → List (Option Text) → Seats
-seats_in processes clock texts =
-    record { slots = map seat_of processes; time = clock.time; ticks = clock.ticks; texts = is_shared texts; may = is_core }
+-- with the most clicks of an image
+abbrev pub seats_in : List (Option Process) → Clock → List (Option Text) → ℕ → Seats
+seats_in processes clock texts limit =
+    record { slots = map seat_of processes; time = clock.time; ticks = clock.ticks; texts = is_shared texts; most = limit }
 
 abbrev pub seats_of : Unix → Seats
-seats_of u = seats_in u.processes u.clock u.texts
+seats_of u = seats_in u.processes u.clock u.texts u.limit
 
 -- the same of what a call is handed
+abbrev pub seats_under : ℕ → World → Seats
+seats_under limit w = seats_in w.processes w.clock w.texts limit
+
 abbrev pub seats_here : World → Seats
-seats_here w = seats_in w.processes w.clock w.texts
+seats_here w = seats_under w.limit w
 
 -- no text is in an entry
 no_entry_from : (ino i : ℕ) (texts : List (Option Text)) → is_shared texts ≡ false → position_from (is_of ino) i texts ≡ None
@@ -61,9 +58,9 @@ process_in processes s = get_or processes s None
 abbrev pub found_in : List (Option Process) → ℕ → Process
 found_in processes s = unwrap_or (process_in processes s) no_process
 
-pub seat_in : (processes : List (Option Process)) (clock : Clock) (texts : List (Option Text)) (s : ℕ)
-    → seat_at (seats_in processes clock texts) s ≡ seat_of (process_in processes s)
-seat_in processes clock texts s = get_or-map seat_of processes s None
+pub seat_in : (processes : List (Option Process)) (clock : Clock) (texts : List (Option Text)) (limit s : ℕ)
+    → seat_at (seats_in processes clock texts limit) s ≡ seat_of (process_in processes s)
+seat_in processes clock texts limit s = get_or-map seat_of processes s None
 
 -- the process that sits in a slot
 pub record Sits (processes : List (Option Process)) (s : ℕ) (seat : Seat) : Type 0 where
@@ -76,15 +73,15 @@ sits_by : (processes : List (Option Process)) (s : ℕ) (seat : Seat) (o : Optio
 sits_by processes s seat None e f = absurd (cc f)
 sits_by processes s seat (Some p) e f = record { process = p; at = e; is = cc f }
 
-pub sits : (processes : List (Option Process)) (clock : Clock) (texts : List (Option Text)) (s : ℕ) (seat : Seat)
-    → seat_at (seats_in processes clock texts) s ≡ Some seat → Sits processes s seat
-sits processes clock texts s seat e =
-    sits_by processes s seat (process_in processes s) refl (sym (seat_in processes clock texts s) ∙ e)
+pub sits : (processes : List (Option Process)) (clock : Clock) (texts : List (Option Text)) (limit s : ℕ) (seat : Seat)
+    → seat_at (seats_in processes clock texts limit) s ≡ Some seat → Sits processes s seat
+sits processes clock texts limit s seat e =
+    sits_by processes s seat (process_in processes s) refl (sym (seat_in processes clock texts limit s) ∙ e)
 
 -- whoever runs sits in its slot
-module _ (processes : List (Option Process)) (clock : Clock) (texts : List (Option Text)) (s : ℕ) (b : Board) (t : InTurn s (seats_in processes clock texts) b) where
+module _ (processes : List (Option Process)) (clock : Clock) (texts : List (Option Text)) (limit s : ℕ) (b : Board) (t : InTurn s (seats_in processes clock texts limit) b) where
   pub runner : Sits processes s t.seat
-  runner = sits processes clock texts s t.seat t.at
+  runner = sits processes clock texts limit s t.seat t.at
 
   pub runner_is : found_in processes s ≡ runner.process
   runner_is = ap (λ o. unwrap_or o no_process) runner.at
@@ -99,33 +96,40 @@ module _ (processes : List (Option Process)) (clock : Clock) (texts : List (Opti
   runner_text = ap (λ x. x.text) runner_seat
 
 -- a process is put into a slot
-pub put_in : (processes : List (Option Process)) (clock : Clock) (texts : List (Option Text)) (s : ℕ) (p : Process)
-    → seats_in (set processes s (Some p)) clock texts ≡ with_seat (seats_in processes clock texts) s (Some (seat_for p))
-put_in processes clock texts s p =
-    ap (λ slots. record { slots = slots; time = clock.time; ticks = clock.ticks; texts = is_shared texts; may = is_core })
+pub put_in : (processes : List (Option Process)) (clock : Clock) (texts : List (Option Text)) (limit s : ℕ) (p : Process)
+    → seats_in (set processes s (Some p)) clock texts limit ≡ with_seat (seats_in processes clock texts limit) s (Some (seat_for p))
+put_in processes clock texts limit s p =
+    ap (λ slots. record { slots = slots; time = clock.time; ticks = clock.ticks; texts = is_shared texts; most = limit })
     (map-set seat_of processes s (Some p))
 
 -- and one is taken out
-pub taken_out : (processes : List (Option Process)) (clock : Clock) (texts : List (Option Text)) (s : ℕ)
-    → seats_in (set processes s None) clock texts ≡ with_seat (seats_in processes clock texts) s None
-taken_out processes clock texts s =
-    ap (λ slots. record { slots = slots; time = clock.time; ticks = clock.ticks; texts = is_shared texts; may = is_core })
+pub taken_out : (processes : List (Option Process)) (clock : Clock) (texts : List (Option Text)) (limit s : ℕ)
+    → seats_in (set processes s None) clock texts limit ≡ with_seat (seats_in processes clock texts limit) s None
+taken_out processes clock texts limit s =
+    ap (λ slots. record { slots = slots; time = clock.time; ticks = clock.ticks; texts = is_shared texts; most = limit })
     (map-set seat_of processes s None)
 
 -- The running process is another: it lives, and its image has the same size and shares the same text.
-module _ (processes : List (Option Process)) (clock : Clock) (texts : List (Option Text)) (s : ℕ) (calling : Bool) (seen : Seen) (p : Process)
-    (i : InCall s calling (seats_in processes clock texts) seen) where
+module _ (processes : List (Option Process)) (clock : Clock) (texts : List (Option Text)) (limit s : ℕ) (calling : Bool) (seen : Seen) (p : Process)
+    (i : InCall s calling (seats_in processes clock texts limit) seen) where
   pub changed_in : p.is_zombie ≡ false → clicks_of p.u ≡ clicks_of (found_in processes s).u → p.text ≡ (found_in processes s).text
-      → InCall s (not (is_user p)) (seats_in (set processes s (Some p)) clock texts) seen
-  changed_in alive size text = subst (λ v. InCall s (not (is_user p)) v seen) (sym (put_in processes clock texts s p))
-      (change_in s calling (seats_in processes clock texts) seen i (seat_for p) alive (text ∙ runner_text processes clock texts s seen.board i.turn)
-      (size ∙ ap (λ x. x.size) (runner_seat processes clock texts s seen.board i.turn)))
+      → InCall s (not (is_user p)) (seats_in (set processes s (Some p)) clock texts limit) seen
+  changed_in alive size text = subst (λ v. InCall s (not (is_user p)) v seen) (sym (put_in processes clock texts limit s p))
+      (change_in s calling (seats_in processes clock texts limit) seen i (seat_for p) alive (text ∙ runner_text processes clock texts limit s seen.board i.turn)
+      (size ∙ ap (λ x. x.size) (runner_seat processes clock texts limit s seen.board i.turn)))
 
   -- the same, where it waits in a call or not as it did
   pub kept_in : p.is_zombie ≡ (found_in processes s).is_zombie → clicks_of p.u ≡ clicks_of (found_in processes s).u
       → p.u.pending ≡ (found_in processes s).u.pending → p.text ≡ (found_in processes s).text
-      → InCall s calling (seats_in (set processes s (Some p)) clock texts) seen
+      → InCall s calling (seats_in (set processes s (Some p)) clock texts limit) seen
   kept_in alive size pending text =
-      subst (λ c. InCall s c (seats_in (set processes s (Some p)) clock texts) seen)
-      (ap (λ n. not (n == 0)) pending ∙ ap (λ x. x.calling) (runner_seat processes clock texts s seen.board i.turn) ∙ i.calls)
-      (changed_in (alive ∙ runner_alive processes clock texts s seen.board i.turn) size text)
+      subst (λ c. InCall s c (seats_in (set processes s (Some p)) clock texts limit) seen)
+      (ap (λ n. not (n == 0)) pending ∙ ap (λ x. x.calling) (runner_seat processes clock texts limit s seen.board i.turn) ∙ i.calls)
+      (changed_in (alive ∙ runner_alive processes clock texts limit s seen.board i.turn) size text)
+
+-- each image has a u area
+pub all_sized : (u : Unix) (r : ℕ) (seat : Seat) → seat_at (seats_of u) r ≡ Some seat → 1 ≤ seat.size
+all_sized u r seat e =
+    let sitter : Sits u.processes r seat = sits u.processes u.clock u.texts u.limit r seat e in
+    let size : clicks_of sitter.process.u ≡ seat.size = ap (λ x. x.size) sitter.is in
+    omega (arith, size)

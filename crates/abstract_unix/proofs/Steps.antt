@@ -8,7 +8,7 @@ use Rattle.v6_base.specs.declared.entry.Entry.{Entry}
 use Rattle.v6_base.specs.declared.entry.Entry.TheVariants as line
 use Rattle.pick_rules.specs.Table.{row_at}
 use Rattle.pick_rules.specs.Board.{placed, swap_fit}
-use Rattle.pick_rules.specs.Effects.{Effect, Show, Size, Fork, Text, Image, Exit, Why, Panicked, Unbuilt, Lets, Stops, in_core, at_fit, image_at, came, lifted}
+use Rattle.pick_rules.specs.Effects.{Effect, Show, Size, Fork, Text, Image, Exit, Why, Panicked, Unbuilt, Lets, Stops, at_fit, image_at, came, lifted}
 use Rattle.pick_rules.specs.Ranges.{IsChannel}
 use Rattle.pick_rules.specs.Fits.{IsSleep}
 use Rattle.pick_rules.specs.Lawful.{Seen}
@@ -18,39 +18,51 @@ use Rattle.log_laws.proofs.Lines.{trap_apt, sleep_apt}
 use Rattle.sys_procs.specs.Comes.{Comes}
 use Rattle.abstract_unix.specs.declared.ending.Ending.{Ending}
 use Rattle.abstract_unix.specs.declared.ends.Ends.TheVariants.{AtEnd}
-use Rattle.abstract_unix.specs.declared.ending.Ending.TheVariants.{Trapped, Slept, NotBuilt}
+use Rattle.abstract_unix.specs.declared.ending.Ending.TheVariants.{Next, Trapped, Slept, Ended, NotBuilt, Panic}
 use Rattle.abstract_unix.specs.Unix.{Unix}
 use Rattle.abstract_unix.specs.Errors.{error_number}
 use Rattle.abstract_unix.specs.Steps.{Steps, returns, not_built}
 use Rattle.abstract_unix.specs.Calls.{given_area, refused_area, with_area, answers, came_by, with_world}
 use Rattle.abstract_unix.specs.Turn.{end_effects, ending_at}
-use Rattle.abstract_unix.proofs.Sitting.{seats_here, seats_of, kept_in}
+use Rattle.abstract_unix.proofs.Sitting.{seats_under, seats_of, kept_in}
 
 -- after a turn by which the run goes on its process is between two turns
 abbrev pub GoesOn : Unix → Ending → Seen → Type 0
 GoesOn u ending seen = (pc : ℕ) → ending_at pc ending ≡ AtEnd → Paused (seats_of u) seen
 
+-- A panic comes of a demand alone: no turn ends in one by itself.
+abbrev pub IsCalm : Ending → Type 0
+IsCalm Next = Unit {0}
+IsCalm Trapped = Unit {0}
+IsCalm (Slept pri chan) = Unit {0}
+IsCalm Ended = Unit {0}
+IsCalm NotBuilt = Unit {0}
+IsCalm (Panic kind) = ⊥
+
 -- a turn whose effects are apt, with the lines with which it ends
 pub record AptSteps (s : ℕ) (seen : Seen) (steps : Steps) : Type 0 where
   pub apt : Apt {W = Unix} (GoesOn steps.unix steps.ending) seen (steps.effects ++ end_effects s steps.ending)
+  pub calm : IsCalm steps.ending
 
 -- after what isn't built nothing goes on
 pub unbuilt_apt : (s : ℕ) (seen : Seen) (u : Unix) (P : Seen → Type 0) (effects : List (Effect Unix)) → Apt P seen effects
     → AptSteps s seen (record (not_built u) { effects = effects })
 unbuilt_apt s seen u P effects a = record {
   apt = rw (append-nil effects) (apt_more P (GoesOn u NotBuilt) seen effects (λ now p pc b. absurd (cc b)) a);
+  calm = tt;
 }
 
 pub nothing_built : (s : ℕ) (seen : Seen) (u : Unix) → AptSteps s seen (not_built u)
 unfolding Apt
-nothing_built s seen u = record { apt = λ pc b. absurd (cc b) }
+nothing_built s seen u = record { apt = λ pc b. absurd (cc b); calm = tt }
 
 -- a turn by which it goes on
-pub ends_in : (s : ℕ) (seen : Seen) (u : Unix) (es : List (Effect Unix)) (ending : Ending)
+pub ends_in : (s : ℕ) (seen : Seen) (u : Unix) (es : List (Effect Unix)) (ending : Ending) → IsCalm ending
     → Apt (Paused (seats_of u)) seen (es ++ end_effects s ending)
     → AptSteps s seen (record { effects = es; unix = u; ending = ending })
-ends_in s seen u es ending a = record {
+ends_in s seen u es ending calm a = record {
   apt = apt_more (Paused (seats_of u)) (GoesOn u ending) seen (es ++ end_effects s ending) (λ now p pc b. p) a;
+  calm = calm;
 }
 
 -- Effects over another state are as apt.
@@ -76,13 +88,13 @@ module _ {V W : Type 0} (f : V → W) (seen : Seen) (P Q : Seen → Type 0) (h :
           → AptCame {W = V} seen (cond x (Lets (Log (line.SizeKeep s clicks))) (image_at before (placed seen.board s clicks) (λ place. line.Size s clicks place))) P
           → AptCame {W = W} seen (cond x (Lets (Log (line.SizeKeep s clicks))) (image_at (f before) (placed seen.board s clicks) (λ place. line.Size s clicks place))) Q
       by true a = (a.0, h _ a.1)
-      by false a = fit_lifted (Unbuilt panic.Swap) before (in_core (placed seen.board s clicks)) (λ place. line.Size s clicks place) a
+      by false a = fit_lifted (Panicked panic.Swap) before (placed seen.board s clicks) (λ place. line.Size s clicks place) a
   came_lifted (Fork s child before) a =
-      fit_lifted (Unbuilt panic.Swap) before (in_core (placed seen.board s (row_at seen.board.table s).size))
+      fit_lifted (Panicked panic.Swap) before (placed seen.board s (row_at seen.board.table s).size)
       (λ place. line.Fork s child place) a
-  came_lifted (Text s clicks before) a = tt
+  came_lifted (Text s clicks before) a = a
   came_lifted (Image s clicks before) a =
-      fit_lifted (Unbuilt panic.Swap) before (in_core (placed seen.board s clicks)) (λ place. line.Image s clicks place) a
+      fit_lifted (Panicked panic.Swap) before (placed seen.board s clicks) (λ place. line.Image s clicks place) a
   came_lifted (Exit s before) a =
       fit_lifted (Panicked panic.Zombie) before (swap_fit seen.board 1) (λ block. line.Exit s block) a
 
@@ -105,7 +117,7 @@ module _ (s : ℕ) (seen : Seen) where
       → ((now : Seen) → InCall s false (seats_of u) now → InCall s false (seats_of v) now)
       → Apt (InCall s false (seats_of u)) seen es → AptSteps s seen (record (returns v) { effects = es })
   trapped u v es change a =
-      ends_in s seen v es Trapped (apt_append (InCall s false (seats_of u)) (Paused (seats_of v)) seen es (Show (Log (line.Trap s)) ∷ []) a
+      ends_in s seen v es Trapped tt (apt_append (InCall s false (seats_of u)) (Paused (seats_of v)) seen es (Show (Log (line.Trap s)) ∷ []) a
       (λ now i. trap_apt Unix s (seats_of v) now (change now i)))
 
   pub returns_apt : (u : Unix) → InCall s false (seats_of u) seen → AptSteps s seen (returns u)
@@ -116,30 +128,30 @@ module _ (s : ℕ) (seen : Seen) where
       → AptSteps s seen (record (answers u s answer) { effects = es })
   answers_apt u es (Ret r0 r1) a =
       trapped u (with_area u s (given_area r0 r1)) es
-      (λ now i. kept_in u.processes u.clock u.texts s false now _ i refl refl refl refl) a
+      (λ now i. kept_in u.processes u.clock u.texts u.limit s false now _ i refl refl refl refl) a
   answers_apt u es (Fail e) a = by (nat_lt (error_number e) 100)
     where
       by : (x : Bool)
           → AptSteps s seen (record (cond x (returns (with_area u s (refused_area (error_number e)))) (not_built u)) { effects = es })
       by true =
           trapped u (with_area u s (refused_area (error_number e))) es
-          (λ now i. kept_in u.processes u.clock u.texts s false now _ i refl refl refl refl) a
+          (λ now i. kept_in u.processes u.clock u.texts u.limit s false now _ i refl refl refl refl) a
       by false = unbuilt_apt s seen u (InCall s false (seats_of u)) es a
   answers_apt u es (Sleep pri chan) a =
-      ends_in s seen u es (Slept pri chan)
+      ends_in s seen u es (Slept pri chan) tt
       (apt_append (InCall s true (seats_of u)) (Paused (seats_of u)) seen es (Show (Log (line.Sleep s pri chan)) ∷ []) a.0
       (λ now i. sleep_apt Unix s (seats_of u) now pri chan i a.1 a.2))
 
   -- a call on processes, by its row
-  pub came_apt : (u : Unix) (c : Comes) → Answered s (seats_here c.state) seen c.effects c.answer
+  pub came_apt : (u : Unix) (c : Comes) → Answered s (seats_under u.limit c.state) seen c.effects c.answer
       → AptSteps s seen (came_by u s c)
   came_apt u c a = answers_apt (with_world u c.state) (map (lifted (with_world u)) c.effects) c.answer (by c.answer a)
     where
-      by : (answer : Answer) → Answered s (seats_here c.state) seen c.effects answer
+      by : (answer : Answer) → Answered s (seats_under u.limit c.state) seen c.effects answer
           → Answered s (seats_of (with_world u c.state)) seen (map (lifted (with_world u)) c.effects) answer
       by (Ret r0 r1) a =
-          apt_lifted (with_world u) (InCall s false (seats_here c.state)) seen c.effects a
+          apt_lifted (with_world u) (InCall s false (seats_under u.limit c.state)) seen c.effects a
       by (Fail e) a =
-          apt_lifted (with_world u) (InCall s false (seats_here c.state)) seen c.effects a
+          apt_lifted (with_world u) (InCall s false (seats_under u.limit c.state)) seen c.effects a
       by (Sleep pri chan) a =
-          (apt_lifted (with_world u) (InCall s true (seats_here c.state)) seen c.effects a.0, a.1, a.2)
+          (apt_lifted (with_world u) (InCall s true (seats_under u.limit c.state)) seen c.effects a.0, a.1, a.2)

@@ -25,7 +25,7 @@ use Rattle.abstract_unix.specs.declared.calls.SystemCall.TheVariants.{Indirect, 
 use Rattle.abstract_unix.specs.declared.calls.Sysent.{Sysent}
 use Rattle.abstract_unix.specs.Unix.{Unix, process_of, with_process}
 use Rattle.abstract_unix.specs.Steps.{Steps}
-use Rattle.abstract_unix.specs.Calls.{handed_of, world_of, with_area, entered_area, words_passed, asked, forks, file_row, process_row, does_call, sysent_of, does_if_built, system_call, resumed}
+use Rattle.abstract_unix.specs.Calls.{handed_of, world_of, with_area, entered_area, words_passed, asked, came_by, forks, file_row, process_row, does_call, sysent_of, does_if_built, system_call, resumed}
 use Rattle.abstract_unix.specs.Turn.{machine_of, with_machine, faults, comes_to, instruction, is_user, turn}
 use Rattle.abstract_unix.proofs.Sitting.{seat_for, seats_in, seats_of, found_in, runner_seat, runner_alive, put_in, kept_in, changed_in}
 use Rattle.abstract_unix.proofs.Steps.{AptSteps, nothing_built, returns_apt, came_apt}
@@ -43,7 +43,7 @@ calm_row : (call : FileCall) (h : Handed) (args : List ℕ) (now : ℕ) → Calm
 calm_row call h args now = walk_row (calm_walks h.u) call h args now tt (same_call h.u)
 
 -- a row of a call on processes
-fine_row : (call : ProcessCall) (s : ℕ) (seen : Seen) (w : World) (args : List ℕ) → Calling s w seen → FineComes s seen (process_row call w s args)
+fine_row : (call : ProcessCall) (s : ℕ) (seen : Seen) (w : World) (args : List ℕ) → Calling s w seen → FineComes w.limit s seen (process_row call w s args)
 fine_row process.Exec s seen w a i = exec_fine s seen w (slice_index a 0) (slice_index a 1) i
 fine_row process.Break s seen w a i = break_fine s seen w (slice_index a 0) i
 fine_row call s seen w a i = plain_fine s seen w _ (plain_row call tt s w a) i
@@ -53,9 +53,11 @@ module _ (s : ℕ) (seen : Seen) where
   if_apt true x y f g = f
   if_apt false x y f g = g
 
-  -- a fork: all slots are used, or core has room
+  -- a fork: all slots are used, or a child's image wants a place
   forks_apt : (u : Unix) → Calling s (world_of u) seen → AptSteps s seen (forks u s)
-  forks_apt u i = record { apt = (came_apt s seen u (fork_one (world_of u) s) (fork_fine s seen (world_of u) i).fine).apt }
+  forks_apt u i =
+      let came : AptSteps s seen (came_by u s (fork_one (world_of u) s)) = came_apt s seen u (fork_one (world_of u) s) (fork_fine s seen (world_of u) i).fine in
+      record { apt = came.apt; calm = came.calm }
 
   call_apt : (u : Unix) (call : SystemCall) (args : List ℕ) → Calling s (world_of u) seen
       → AptSteps s seen (does_call u s call args)
@@ -71,7 +73,7 @@ module _ (s : ℕ) (seen : Seen) where
   built_apt u a None i = nothing_built s seen u
   built_apt u a (Some entry) i =
       call_apt (with_area u s (entered_area (words_passed a entry.count))) entry.call a.args
-      (kept_in u.processes u.clock u.texts s false seen (record (process_of u s) { u = entered_area (words_passed a entry.count) (process_of u s).u }) i refl refl refl refl)
+      (kept_in u.processes u.clock u.texts u.limit s false seen (record (process_of u s) { u = entered_area (words_passed a entry.count) (process_of u s).u }) i refl refl refl refl)
 
   called_apt : (u : Unix) (number : ℕ) → Calling s (world_of u) seen
       → AptSteps s seen (system_call number u s)
@@ -88,8 +90,8 @@ module _ (s : ℕ) (seen : Seen) where
   wakes : (u : Unix) → Paused (seats_of u) seen → (t : InTurn s (seats_of u) seen.board)
       → Calling s (change (world_of u) s awake) seen
   wakes u p t =
-      changed_in u.processes u.clock u.texts s t.seat.calling seen (awake (process_of u s)) (begins u p t)
-      (runner_alive u.processes u.clock u.texts s seen.board t) refl refl
+      changed_in u.processes u.clock u.texts u.limit s t.seat.calling seen (awake (process_of u s)) (begins u p t)
+      (runner_alive u.processes u.clock u.texts u.limit s seen.board t) refl refl
 
   resumed_apt : (u : Unix) → Paused (seats_of u) seen → InTurn s (seats_of u) seen.board → AptSteps s seen (resumed u s)
   resumed_apt u p t =
@@ -99,13 +101,13 @@ module _ (s : ℕ) (seen : Seen) where
       (nothing_built s seen u))
 
   -- another process that sits as this one did
-  pub same_seats : (processes : List (Option Process)) (clock : Clock) (texts : List (Option Text)) (p : Process)
-      → InTurn s (seats_in processes clock texts) seen.board
+  pub same_seats : (processes : List (Option Process)) (clock : Clock) (texts : List (Option Text)) (limit : ℕ) (p : Process)
+      → InTurn s (seats_in processes clock texts limit) seen.board
       → seat_for p ≡ seat_for (found_in processes s)
-      → seats_in (set processes s (Some p)) clock texts ≡ seats_in processes clock texts
-  same_seats processes clock texts p t e =
-      let v : Seats = seats_in processes clock texts in
-      put_in processes clock texts s p ∙ ap (λ seat. with_seat v s (Some seat)) (e ∙ runner_seat processes clock texts s seen.board t)
+      → seats_in (set processes s (Some p)) clock texts limit ≡ seats_in processes clock texts limit
+  same_seats processes clock texts limit p t e =
+      let v : Seats = seats_in processes clock texts limit in
+      put_in processes clock texts limit s p ∙ ap (λ seat. with_seat v s (Some seat)) (e ∙ runner_seat processes clock texts limit s seen.board t)
       ∙ ap (λ slots. record v { slots = slots }) (sym (seat_stays s v seen.board t))
 
   -- an instruction of a process in user mode
@@ -122,16 +124,16 @@ module _ (s : ℕ) (seen : Seen) where
       now = with_process u s (with_machine (process_of u s) step.machine)
 
       same : seats_of now ≡ seats_of u
-      same = same_seats u.processes u.clock u.texts (with_machine (process_of u s) step.machine) t refl
+      same = same_seats u.processes u.clock u.texts u.limit (with_machine (process_of u s) step.machine) t refl
 
       calls : t.seat.calling ≡ false
-      calls = ap (λ x. x.calling) (sym (runner_seat u.processes u.clock u.texts s seen.board t)) ∙ ap not user
+      calls = ap (λ x. x.calling) (sym (runner_seat u.processes u.clock u.texts u.limit s seen.board t)) ∙ ap not user
 
       i : Calling s (world_of now) seen
       i = subst (λ v. InCall s false v seen) (sym same) (subst (λ c. InCall s c (seats_of u) seen) calls (begins u p t))
 
       by : (o : Outcome) → AptSteps s seen (comes_to now s o)
-      by outcome.Next = record { apt = λ pc b. subst (λ v. Paused v seen) (sym same) p }
+      by outcome.Next = record { apt = λ pc b. subst (λ v. Paused v seen) (sym same) p; calm = tt }
       by (outcome.Call number) = called_apt now number i
       by (outcome.Fault k) = fault_apt k
         where

@@ -1,7 +1,6 @@
 -- The turn of a slot, where there is a process: an instruction, or a call that it goes on with, until it exits. `trap` and `swtch` in Lions' Commentary, `trap.c` and `slp.c`.
 use Rattle.std.specs.Prelude.{◌≡◌, ℕ, zero, suc, ◌==◌, ◌&&◌, Bool, true, false, not, List, [], ◌∷◌, ◌++◌, Option, Some, None, if◌then◌else◌}
 use Rattle.v6_base.specs.Trace.{Item, Log}
-use Rattle.v6_base.specs.declared.entry.Chan.TheVariants.{RunOut}
 use Rattle.v6_base.specs.declared.entry.Entry.{Entry}
 use Rattle.v6_base.specs.declared.entry.Entry.TheVariants as entry
 use Rattle.pdp_step.specs.declared.outcome.Outcome.{Outcome}
@@ -12,7 +11,6 @@ use Rattle.pdp_step.specs.Machine.{Machine}
 use Rattle.pdp_step.specs.Instruction.{Stepped, instr}
 use Rattle.pick_rules.specs.declared.table.Table.{Table}
 use Rattle.pick_rules.specs.Table.{row_at, is_ready, is_loaded}
-use Rattle.pick_rules.specs.Priority.{pswp}
 use Rattle.pick_rules.specs.Choice.{settle}
 use Rattle.pick_rules.specs.Board.{Board}
 use Rattle.pick_rules.specs.Apply.{applied}
@@ -20,15 +18,16 @@ use Rattle.v6_base.specs.declared.entry.PanicKind.{PanicKind}
 use Rattle.v6_base.specs.declared.entry.PanicKind.TheVariants as panic
 use Rattle.pick_rules.specs.Effects.{Effect, Show, kind_of}
 use Rattle.pick_rules.specs.Logged.{Logged, Stop, nothing_logged, logged, left_by}
+use Rattle.swap_sched.specs.Pass.{pass, over}
 use Rattle.sys_procs.specs.Process.{Process, with_state, register, image_of}
 use Rattle.abstract_unix.specs.declared.ending.Ending.{Ending}
 use Rattle.abstract_unix.specs.declared.ending.Ending.TheVariants as ending
 use Rattle.abstract_unix.specs.declared.ends.Ends.{Ends}
 use Rattle.abstract_unix.specs.declared.ends.Ends.TheVariants as ends
 use Rattle.abstract_unix.specs.declared.ends.Ends.TheVariants.{AtEnd}
-use Rattle.abstract_unix.specs.declared.turned.Unbuilt.TheVariants.{At, Room}
+use Rattle.abstract_unix.specs.declared.turned.Unbuilt.TheVariants.{At}
 use Rattle.abstract_unix.specs.declared.turned.Turned.{Turned}
-use Rattle.abstract_unix.specs.declared.turned.Turned.TheVariants.{Ran, Idle, NotBuilt}
+use Rattle.abstract_unix.specs.declared.turned.Turned.TheVariants.{Ran, Idle, NotBuilt, Panic}
 use Rattle.abstract_unix.specs.Unix.{Text, Unix, System, process_of, with_process}
 use Rattle.abstract_unix.specs.Endings.{is_early}
 use Rattle.abstract_unix.specs.Steps as to
@@ -75,8 +74,8 @@ end_effects slot ending.Next = []
 end_effects slot ending.Trapped = Show (Log (entry.Trap slot)) ∷ []
 end_effects slot (ending.Slept pri chan) = Show (Log (entry.Sleep slot pri chan)) ∷ []
 end_effects slot ending.Ended = []
-end_effects slot ending.NoRoom = []
 end_effects slot ending.NotBuilt = []
+end_effects slot (ending.Panic kind) = []
 
 -- what settling shows, and the board then
 pub record Settled : Type 0 where
@@ -139,14 +138,13 @@ ending_at pc ending.Next = AtEnd
 ending_at pc ending.Trapped = AtEnd
 ending_at pc (ending.Slept pri chan) = AtEnd
 ending_at pc ending.Ended = AtEnd
-ending_at pc ending.NoRoom = ends.NotBuilt Room
 ending_at pc ending.NotBuilt = ends.NotBuilt (At pc)
+ending_at pc (ending.Panic kind) = ends.Panic kind
 
--- A demand that finds no place ends the run: an image's in core, since no image goes to the swap area yet; and what else may
--- be wanted, a panic too, isn't built where the PC was.
+-- A demand that finds no place ends the run with a panic. That for a text to share isn't built, where the PC was.
 abbrev pub unmet : ℕ → PanicKind → Ends
-unmet pc panic.Swap = ends.NotBuilt Room
-unmet pc panic.Zombie = ends.NotBuilt (At pc)
+unmet pc panic.Swap = ends.Panic panic.Swap
+unmet pc panic.Zombie = ends.Panic panic.Zombie
 unmet pc panic.Text = ends.NotBuilt (At pc)
 
 abbrev pub ending_by : ℕ → Option (Stop Unix) → Ending → Ends
@@ -160,12 +158,17 @@ turn_of m slot steps =
       ending = ending_by (register (process_of m.unix slot) 7) l.stop steps.ending;
     }
 
--- The pass of the swapper: it finds nobody out of core, and sleeps.
-abbrev pub pass_effects : List (Effect Unix)
-pass_effects = Show (Log (entry.Sleep 0 pswp RunOut)) ∷ []
+-- how a pass of the swapper ends the run, if it does
+abbrev pub ending_of_pass : Option (Stop Unix) → Ends
+ending_of_pass None = AtEnd
+ending_of_pass (Some stop) = ends.Panic (kind_of stop.why)
+
+-- The pass of the swapper, which moves images and changes no process.
+abbrev pub passes : Unix → Logged Unix → Happened
+passes u l = record (happens u l) { ending = ending_of_pass l.stop }
 
 abbrev pub pass_of : System → Happened
-pass_of m = happens m.unix (logged m.board pass_effects)
+pass_of m = passes m.unix (over m.unix (pass m.board))
 
 abbrev pub slot_by : System → ℕ → Happened
 slot_by m zero = pass_of m
@@ -180,6 +183,7 @@ slot_of m (Some slot) = slot_by m slot
 abbrev pub turned_by : Ends → Bool → Turned
 turned_by AtEnd is_idle = if is_idle then Idle else Ran
 turned_by (ends.NotBuilt place) is_idle = NotBuilt place
+turned_by (ends.Panic kind) is_idle = Panic kind
 
 abbrev pub turned : Turn → Turned
 turned t = turned_by t.ending t.is_idle

@@ -1,11 +1,12 @@
 //! The system calls that are built, in the order of their numbers: section II of the manual; `sysent` in Lions'
 //! Commentary, `sysent.c`.
-ghost use Rattle.std.specs.Prelude.{◌≡◌, Some, IfOk};
+ghost use Rattle.std.specs.Prelude.{◌≡◌, ◌⊎◌, Some, None, IfOk, IfErr};
 ghost use Rattle.v6_base.specs.Trace.{Took};
 ghost use Rattle.fs_laws.specs.Rest.{SameRest};
 ghost use Rattle.sys_files.specs.Handed as parts;
 ghost use Rattle.sys_files.specs.Sound.{IsSound};
 ghost use Rattle.sys_files.specs.Does.{Does};
+ghost use Rattle.pick_rules.specs.Apply.{change_row};
 ghost use Rattle.sys_procs.specs.Done.{HasDone};
 ghost use Rattle.sys_procs.specs.Handed.{handed, AreProcs, Calls};
 ghost use Rattle.abstract_unix.specs.Calls.{sysent_of, file_row, process_row};
@@ -195,7 +196,8 @@ pub fn do_file_call<S: Space, T: Trace>(
     }
 }
 
-/// Does a call on processes.
+/// Does a call on processes. Where it stops in exec(II), its process may have given its place back.
+#[tactic(auto, using(crate::proofs::CallLemmas::stops_whole, crate::proofs::CallLemmas::stops_so))]
 pub fn do_process_call<T: Trace>(
     call: ProcessCall,
     p: &mut Procs,
@@ -209,6 +211,9 @@ pub fn do_process_call<T: Trace>(
         (process_row call (handed p.old tree.old.nodes) s args) }
     ensures frame { T.leads_to trace.old trace.new }
     ensures agree { IfOk result (λ answer. AreProcs p.new) }
+    ensures left { IfErr result (λ kind. AreProcs p.new ⊎ p.new ≡ record p.old {
+      table = change_row p.old.table s (λ row. record row { size = 0; place = None });
+    }) }
     ensures marks { tree.new.marks ≡ tree.old.marks }
     ensures blocks { SameRest tree.old.nodes.blocks tree.new.nodes.blocks }
 {

@@ -1,5 +1,5 @@
 //! How a turn of a process ended.
-use v6_base::Chan;
+use v6_base::{Chan, PanicKind};
 
 /// How a turn of a process ended.
 #[derive(Clone, Copy, Debug, PartialEq, Eq)]
@@ -12,8 +12,8 @@ pub enum Ending {
     Slept { pri: i8, chan: Chan },
     /// The process has exited.
     Ended,
-    /// An image wants a place in core, and there is none.
-    NoRoom,
     /// It came to what isn't built.
     NotBuilt,
+    /// A demand for a place can't be met.
+    Panic(PanicKind),
 }

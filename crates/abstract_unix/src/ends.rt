@@ -1,5 +1,6 @@
 //! How a run ends.
 use crate::turned::Unbuilt;
+use v6_base::PanicKind;
 
 /// How a run ends.
 #[derive(Clone, Copy, Debug, PartialEq, Eq)]
@@ -8,4 +9,6 @@ pub enum Ends {
     AtEnd,
     /// Where it comes to what isn't built.
     NotBuilt(Unbuilt),
+    /// With a panic: a demand for a place in the swap area, or for a text, can't be met.
+    Panic(PanicKind),
 }

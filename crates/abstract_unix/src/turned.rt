@@ -1,4 +1,5 @@
 //! What a turn answers.
+use v6_base::PanicKind;
 
 /// What a turn came to.
 #[derive(Clone, Copy, Debug, PartialEq, Eq)]
@@ -8,6 +9,8 @@ pub enum Turned {
     Idle,
     /// The run ends here: this isn't built.
     NotBuilt(Unbuilt),
+    /// The run ends here: a demand for a place can't be met.
+    Panic(PanicKind),
 }
 
 /// What is not built yet.
@@ -17,6 +20,4 @@ pub enum Unbuilt {
     Line(u32),
     /// What the running process has at this PC: an instruction that comes to a fault, or a call.
     At(u16),
-    /// An image wants a place in core, and there is none: images don't go to the swap area yet.
-    Room,
 }

@@ -1,8 +1,9 @@
--- A fork: its line fits, wherever in core the child's image stands.
+-- A fork: its line fits, wherever the child's image stands, and so does the panic where it finds no place.
 use Rattle.std.proofs.Common.{◌≡◌, ◌≢◌, ◌∙◌, ◌<◌, ◌≤◌, ◌==◌, ◌+◌, ℕ, zero, suc, Bool, true, false, List, ◌∷◌, Option, Some, None, is_none, find, length, get_or-set_other, refl, sym, ap, inl, arith}
 use Rattle.std.specs.List.{range_with_len}
 use Rattle.v6_base.specs.declared.entry.Place.{Place}
 use Rattle.v6_base.specs.declared.entry.Place.TheVariants.{Core, Swap}
+use Rattle.v6_base.specs.declared.entry.PanicKind.TheVariants as panic
 use Rattle.v6_base.specs.declared.entry.Entry.TheVariants as line
 use Rattle.pick_rules.specs.Search.{slots_above_0}
 use Rattle.pick_rules.specs.declared.row.TableRow.{TableRow}
@@ -15,21 +16,21 @@ use Rattle.pick_rules.specs.Effects as effect
 use Rattle.pick_rules.specs.Fits.{IsRunning, FitsBoard, free_slot}
 use Rattle.pick_rules.specs.Lawful.{Seen, seen_after}
 use Rattle.pick_rules.proofs.Found.{IsFound, found_in}
-use Rattle.pick_rules.proofs.Within.{click_within}
+use Rattle.pick_rules.proofs.Within.{place_within, none_placed}
 use Rattle.pick_rules.proofs.Shapes.{Shape, shape_at, same_none, runout_same}
 use Rattle.pick_rules.proofs.Placing.{text_table, text_core, again_row, core_table, core_core}
 use Rattle.log_laws.proofs.Fitting.{going_fits, Apt, AptCame}
-use Rattle.log_laws.proofs.Seats.{Seat, Seats, seat_at, with_seat, Rule, rule_of, AgreesAt, Agrees, InTurn, InCall, runs_in, in_its_slot, not_busy, own, same_board, kept_agrees, change_agrees}
+use Rattle.log_laws.proofs.Seats.{Seat, Seats, seat_at, with_seat, Same, AgreesAt, Agrees, InTurn, InCall, runs_in, in_its_slot, not_busy, own, same_board, kept_agrees, change_agrees}
 
 -- the lowest slot in which nobody sits
 abbrev pub free_seat : Seats → Option ℕ
 free_seat v = find (λ r. is_none (seat_at v r)) slots_above_0
 
 -- a slot is empty on the board exactly where nobody sits in it
-same_empty : (busy : Bool) (rule : Rule) (o : Option Seat) (row : Shape) → AgreesAt busy rule o row
+same_empty : (busy : Bool) (most : ℕ) (o : Option Seat) (row : Shape) → AgreesAt busy most o row
     → is_none o ≡ row.empty
-same_empty busy rule None row a = sym a
-same_empty busy rule (Some seat) row a = sym a.used
+same_empty busy most None row a = sym a
+same_empty busy most (Some seat) row a = sym a.used
 
 find_same : (p q : ℕ → Bool) (a n : ℕ) → ((r : ℕ) → a ≤ r → p r ≡ q r)
     → find p (range_with_len a n) ≡ find q (range_with_len a n)
@@ -39,7 +40,7 @@ find_same p q a (suc n) h = rw (h a (omega arith), find_same p q (a + 1) n (λ r
 same_free : (busy : ℕ) (v : Seats) (b : Board) → Agrees busy v b → free_seat v ≡ free_slot b
 same_free busy v b a =
     find_same _ _ 1 49
-    (λ r l. same_empty (r == busy) (rule_of v b) (seat_at v r) (shape_at b.table r) (a.each r (omega (arith, l))))
+    (λ r l. same_empty (r == busy) v.most (seat_at v r) (shape_at b.table r) (a.each r (omega (arith, l))))
 
 -- the running slot's process sits as it did
 unfoldable pub other_turn : (s c : ℕ) (v : Seats) (b d : Board) (o : Option Seat) → (t : InTurn s v b) → s ≢ c
@@ -98,30 +99,30 @@ module _ (s : ℕ) (v : Seats) (seen : Seen) (child : ℕ) (i : InCall s false v
   not_same : (child == s) ≡ false
   not_same = not_busy s child (λ e. d (sym e))
 
-  child_agrees : (place : Place) → v.may place ≡ true → Agrees s grown (with_child_row seen.board s child place)
-  child_agrees place m = let o = own s s v seen.board i.agrees i.turn in
+  child_agrees : (place : Place) → Agrees s grown (with_child_row seen.board s child place)
+  child_agrees place = let o = own s s v seen.board i.agrees i.turn in
       change_agrees s s child v grown.slots seen.board _ (Some i.turn.seat) (born (row_at seen.board.table s) place) (λ f. refl) i.agrees l refl refl
       i.agrees.time i.agrees.ticks
-      (record { used = refl; zombie = sym i.turn.alive; calling = λ f g. sym i.calls; text = o.text; bare = o.bare; place = λ f. m; size = o.size; most = o.most }) (inl refl)
+      (record { used = refl; zombie = sym i.turn.alive; calling = λ f g. sym i.calls; text = o.text; bare = o.bare; place = λ f. refl; size = o.size; most = o.most }) (inl refl)
 
   inside : child < length seen.board.table.rows
   inside = rw i.agrees.rows l
 
-  fork_in : (place : Place) → v.may place ≡ true → InCall s false grown (seen_after seen (line.Fork s child place))
+  fork_in : (place : Place) → InCall s false grown (seen_after seen (line.Fork s child place))
   unfolding other_turn
-  fork_in (Core c) m =
+  fork_in (Core c) =
       let b : Board = seen.board in
       let e = born_in b s child inside c in
       record {
         going = tt;
-        agrees = same_board s grown (with_child_row b s child (Core c)) (applied b (line.Fork s child (Core c))) e (core_in b s child inside c) (child_agrees (Core c) m);
+        agrees = same_board s grown (with_child_row b s child (Core c)) (applied b (line.Fork s child (Core c))) e (core_in b s child inside c) (child_agrees (Core c));
         turn = other_turn s child v b (applied b (line.Fork s child (Core c))) (Some i.turn.seat) i.turn d (ap (λ t. t.running) e);
         calls = i.calls;
       }
-  fork_in (Swap k) m =
+  fork_in (Swap k) =
       let b : Board = seen.board in
       let e = born_out b s child inside k in
-      let a : Agrees s grown (with_child_row b s child (Swap k)) = child_agrees (Swap k) m in
+      let a : Agrees s grown (with_child_row b s child (Swap k)) = child_agrees (Swap k) in
       let told = runout_same (with_child_row b s child (Swap k)).table _ (same_none _ a.sleeps) in
       let after : Board = record b { table = runout_told (with_child_row b s child (Swap k)).table } in
       record {
@@ -139,15 +140,14 @@ free_other s v b child t e f = absurd (
     let h : is_none (seat_at v s) ≡ false = ap is_none t.at in cc (g, h)
     )
 
--- the rest is to be apt whatever place in core the child gets
+-- the rest is to be apt whatever place the child gets
 pub fork_apt : {W : Type 0}
     → (Q : Seen → Type 0) (s : ℕ) (v : Seats) (seen : Seen) (child : ℕ) (before : W) (es : List (Effect W))
-    → (i : InCall s false v seen) → free_seat v ≡ Some child
-    → ((c : ℕ) → v.may (Core c) ≡ true)
+    → (i : InCall s false v seen) → free_seat v ≡ Some child → 1 ≤ i.turn.seat.size
     → ((now : Seen) → InCall s false (with_seat v child (Some i.turn.seat)) now → Apt Q now es)
     → Apt Q seen (effect.Fork s child before ∷ es)
 unfolding Apt came FitsBoard
-fork_apt Q s v seen child before es i f may rest = by (placed seen.board s (row_at seen.board.table s).size) refl
+fork_apt Q s v seen child before es i f least rest = by (placed seen.board s (row_at seen.board.table s).size) refl
   where
     running : IsRunning seen.board s
     running = runs_in s v seen.board i.turn
@@ -155,14 +155,20 @@ fork_apt Q s v seen child before es i f may rest = by (placed seen.board s (row_
     found : IsFound (λ r. is_none (seat_at v r)) 1 49 child
     found = found_in _ 1 49 child f
 
+    its : Same (s == s) v.most i.turn.seat (shape_at seen.board.table s)
+    its = own s s v seen.board i.agrees i.turn
+
+    size : (row_at seen.board.table s).size ≡ i.turn.seat.size
+    size = its.size i.turn.alive
+
     by : (o : Option Place) → placed seen.board s (row_at seen.board.table s).size ≡ o
         → AptCame seen (image_at before o (λ place. line.Fork s child place)) (λ now. Apt Q now es)
-    by (Some (Core c)) e = (
-      going_fits seen (line.Fork s child (Core c)) i.going
-          (in_its_slot i.turn, (let l = found.below in omega (arith, l)), click_within seen.board s _ c i.agrees.core e)
+    by (Some place) e = (
+      going_fits seen (line.Fork s child place) i.going
+          (in_its_slot i.turn, (let l = found.below in omega (arith, l)), place_within seen.board s _ place i.agrees.core (omega (arith, least, size)) e)
           (running, sym (same_free s v seen.board i.agrees) ∙ f, e),
-      rest (seen_after seen (line.Fork s child (Core c)))
-          (fork_in s v seen child i (let l = found.below in omega (arith, l)) found.least (free_other s v seen.board child i.turn found.passes) (Core c) (may c)),
+      rest (seen_after seen (line.Fork s child place))
+          (fork_in s v seen child i (let l = found.below in omega (arith, l)) found.least (free_other s v seen.board child i.turn found.passes) place),
     )
-    by (Some (Swap block)) e = tt
-    by None e = tt
+    by None e = going_fits seen (line.Panic panic.Swap) i.going tt
+        (inl ((s, running), none_placed seen.board s _ (let most = its.most in let limit = i.agrees.most in omega (arith, most, limit)) e))

@@ -39,8 +39,8 @@ clock_agrees v b a = subst (λ n. Agrees 0 (ticked_at n v) (record b { table = t
         → Agrees 0 (cond x (record v { ticks = 0; time = (v.time + 1) % 2 ^ 32 }) (record v { ticks = b.table.ticks + 1 }))
         (record b { table = cond x (record b.table { ticks = 0; now = (b.table.now + 1) % 2 ^ 32 }) (record b.table { ticks = b.table.ticks + 1; now = b.table.now }) })
     by true =
-        record { each = a.each; sleeps = a.sleeps; rows = a.rows; seats = a.seats; time = ap (λ n. (n + 1) % 2 ^ 32) a.time; ticks = refl; texts = a.texts; core = a.core }
-    by false = record { each = a.each; sleeps = a.sleeps; rows = a.rows; seats = a.seats; time = a.time; ticks = refl; texts = a.texts; core = a.core }
+        record { each = a.each; sleeps = a.sleeps; rows = a.rows; seats = a.seats; time = ap (λ n. (n + 1) % 2 ^ 32) a.time; ticks = refl; texts = a.texts; core = a.core; most = a.most }
+    by false = record { each = a.each; sleeps = a.sleeps; rows = a.rows; seats = a.seats; time = a.time; ticks = refl; texts = a.texts; core = a.core; most = a.most }
 
 -- who runs is the same a tick later
 later_runner : (v : Seats) (b : Board) (o : Option ℕ) → RunnerAt v b o → RunnerAt (a_tick_later v) b o

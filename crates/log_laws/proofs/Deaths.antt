@@ -19,7 +19,7 @@ use Rattle.pick_rules.proofs.Within.{block_within}
 use Rattle.pick_rules.proofs.Shapes.{shape_at}
 use Rattle.pick_rules.proofs.Placing.{text_table, text_core}
 use Rattle.log_laws.proofs.Fitting.{going_fits, Apt, AptCame}
-use Rattle.log_laws.proofs.Seats.{Seat, Seats, seat_at, with_seat, Same, rule_of, AgreesAt, InTurn, InCall, Paused, runs_in, in_its_slot, own, same_board, change_agrees}
+use Rattle.log_laws.proofs.Seats.{Seat, Seats, seat_at, with_seat, Same, AgreesAt, InTurn, InCall, Paused, runs_in, in_its_slot, own, same_board, change_agrees}
 use Rattle.log_laws.proofs.Births.{other_turn}
 
 -- a process that has ended
@@ -44,9 +44,9 @@ module _ (s : ℕ) (calling : Bool) (v : Seats) (seen : Seen) (c : ℕ) (i : InC
       going_fits seen (line.Reap c) i.going (let l = d.small in omega (arith, l))
       ((s, runs_in s v seen.board i.turn), is_zombie_stat _ (same.zombie ∙ d.dead))
     where
-      same : Same (c == s) (rule_of v seen.board) d.seat (shape_at seen.board.table c)
+      same : Same (c == s) v.most d.seat (shape_at seen.board.table c)
       same =
-          subst (λ o. AgreesAt (c == s) (rule_of v seen.board) o (shape_at seen.board.table c)) d.at
+          subst (λ o. AgreesAt (c == s) v.most o (shape_at seen.board.table c)) d.at
           (i.agrees.each c d.user)
 
   not_itself : s ≢ c

@@ -2,6 +2,7 @@
 use Rattle.std.proofs.Common.{◌≡◌, ◌∙◌, List, [], ◌∷◌, ◌++◌, Option, Some, None, fold, refl, sym, ap, subst, inr}
 use Rattle.v6_base.specs.Trace.{Item, Byte, Log, entries_of}
 use Rattle.v6_base.specs.declared.entry.Chan.{Chan}
+use Rattle.v6_base.specs.declared.entry.PanicKind.TheVariants as panic
 use Rattle.v6_base.specs.declared.entry.Entry.{Entry}
 use Rattle.v6_base.specs.declared.entry.Entry.TheVariants as line
 use Rattle.pick_rules.specs.Board.{Board}
@@ -61,10 +62,10 @@ may_come Over b e g f = absurd g
 pub going_fits : (seen : Seen) (e : Entry) → IsGoing seen.stage → IsInRange e → FitsBoard seen.board e → Fits seen e
 going_fits seen e g r f = (r, may_come seen.stage seen.board e g f)
 
--- a log that a panic has stopped has ended
+-- a log that a panic has stopped has ended; what isn't built is a text to share
 abbrev pub EndsBy : Why → Seen → Type 0
 EndsBy (Panicked kind) seen = seen.stage ≡ Over
-EndsBy (Unbuilt kind) seen = Unit {0}
+EndsBy (Unbuilt kind) seen = kind ≡ panic.Text
 
 module _ {W : Type 0} where
   -- what comes of an effect fits
@@ -72,7 +73,7 @@ module _ {W : Type 0} where
   AptCame seen (Lets (Log e)) rest = Fits seen e × rest (seen_after seen e)
   AptCame seen (Lets (Byte l byte)) rest = rest seen
   AptCame seen (Stops (Panicked kind) before) rest = Fits seen (line.Panic kind)
-  AptCame seen (Stops (Unbuilt kind) before) rest = Unit {0}
+  AptCame seen (Stops (Unbuilt kind) before) rest = kind ≡ panic.Text
 
   -- what comes of each effect fits what the effects before it give, and Q holds of what they all give
   unfoldable pub Apt : (Seen → Type 0) → Seen → List (Effect W) → Type 0
@@ -112,7 +113,7 @@ module _ {W : Type 0} where
         ends = ap (λ s. s.stage) (seen_append first xs (Log (line.Panic kind) ∷ []));
       })
       by rest (Stops (Unbuilt kind) before) a =
-          subst (Fitted Q first) (sym (stays_stopped _ _ _ es)) (record { fit = f; board = ap (λ s. s.board) e; ends = tt })
+          subst (Fitted Q first) (sym (stays_stopped _ _ _ es)) (record { fit = f; board = ap (λ s. s.board) e; ends = a })
 
   -- the log of apt effects fits, and Q holds after it, unless it has stopped
   pub apt_fits : (Q : Seen → Type 0) (seen : Seen) (es : List (Effect W)) → Apt Q seen es
@@ -133,7 +134,7 @@ module _ {W : Type 0} where
       by (Lets (Log entry)) b rest = (b.0, rest (seen_after seen entry) b.1 h)
       by (Lets (Byte l byte)) b rest = rest seen b h
       by (Stops (Panicked kind) before) b rest = b
-      by (Stops (Unbuilt kind) before) b rest = tt
+      by (Stops (Unbuilt kind) before) b rest = b
 
   pub apt_more : (P Q : Seen → Type 0) (seen : Seen) (es : List (Effect W)) → ((now : Seen) → P now → Q now)
       → Apt P seen es → Apt Q seen es
@@ -146,7 +147,7 @@ module _ {W : Type 0} where
       by (Lets (Log entry)) b rest = (b.0, rest (seen_after seen entry) b.1)
       by (Lets (Byte l byte)) b rest = rest seen b
       by (Stops (Panicked kind) before) b rest = b
-      by (Stops (Unbuilt kind) before) b rest = tt
+      by (Stops (Unbuilt kind) before) b rest = b
 
   -- a wake fits always
   pub wake_apt : (Q : Seen → Type 0) (seen : Seen) (chan : Chan) (es : List (Effect W)) → IsGoing seen.stage

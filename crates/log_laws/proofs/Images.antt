@@ -1,9 +1,10 @@
 -- The lines of images: a size, and an exec, whose new image takes the place of the old one.
-use Rattle.std.proofs.Common.{◌≡◌, ◌≢◌, ◌∙◌, ◌≤◌, ◌<◌, ◌==◌, ℕ, nat_le, Bool, true, false, cond, List, ◌∷◌, Option, Some, None, set, set-set, length, get_or-set_same, refl, sym, ap, subst, arith}
+use Rattle.std.proofs.Common.{◌≡◌, ◌≢◌, ◌∙◌, ◌≤◌, ◌<◌, ◌==◌, ℕ, nat_le, Bool, true, false, cond, List, ◌∷◌, Option, Some, None, is_some, set, set-set, length, get_or-set_same, refl, sym, ap, subst, inl, arith}
 use Rattle.std.proofs.lemmas.Bool.{leb-true, leb-false}
 use Rattle.v6_base.specs.Trace.{Log}
 use Rattle.v6_base.specs.declared.entry.Place.{Place}
 use Rattle.v6_base.specs.declared.entry.Place.TheVariants.{Core, Swap}
+use Rattle.v6_base.specs.declared.entry.PanicKind.TheVariants as panic
 use Rattle.v6_base.specs.declared.entry.Entry.{Entry}
 use Rattle.v6_base.specs.declared.entry.Entry.TheVariants as line
 use Rattle.pick_rules.specs.declared.row.TableRow.{TableRow}
@@ -14,14 +15,14 @@ use Rattle.pick_rules.specs.Board.{Board, limit, placed}
 use Rattle.pick_rules.specs.Apply.{change_row, applied}
 use Rattle.pick_rules.specs.Effects.{Effect, Show, Lets, image_at, came}
 use Rattle.pick_rules.specs.Effects as effect
-use Rattle.pick_rules.specs.Ranges.{IsClicks}
+use Rattle.pick_rules.specs.Ranges.{IsClicks, IsPlace}
 use Rattle.pick_rules.specs.Fits.{FitsBoard, IsRunning, IsSize}
 use Rattle.pick_rules.specs.Lawful.{Bared, Seen, Fits, FitsStage, seen_after}
-use Rattle.pick_rules.proofs.Within.{click_within}
+use Rattle.pick_rules.proofs.Within.{place_within, none_placed}
 use Rattle.pick_rules.proofs.Shapes.{shape, shape_at, Sleeps, same_none, runout_same}
 use Rattle.pick_rules.proofs.Placing.{again_row, row_in, row_out, core_table, core_core, bare_table, bare_core, moved_in, moved_out, moved_core}
 use Rattle.log_laws.proofs.Fitting.{going_fits, Apt, AptCame}
-use Rattle.log_laws.proofs.Seats.{Seat, Seats, stands, Same, rule_of, Agrees, InTurn, InCall, runs_in, in_its_slot, own, same_board, kept_agrees, change_agrees}
+use Rattle.log_laws.proofs.Seats.{Seat, Seats, Same, Agrees, InTurn, InCall, runs_in, in_its_slot, own, same_board, kept_agrees, change_agrees}
 use Rattle.log_laws.proofs.Lines.{same_turn}
 use Rattle.log_laws.proofs.Deaths.{with_own, own_turn}
 
@@ -33,39 +34,39 @@ placed_table t s row clicks (Swap block) = runout_told (with_row t s (row_out ro
 -- A slot is to have an image: with each row of its own that has a place the board agrees.
 pub record Houses (s : ℕ) (v : Seats) (b : Board) (row : TableRow) : Type 0 where
   pub seat : Seat
-  pub agrees : (next : Seat) (new : TableRow) → Same (s == s) (rule_of v b) next (shape new) → Sleeps new
+  pub agrees : (next : Seat) (new : TableRow) → Same (s == s) v.most next (shape new) → Sleeps new
       → Agrees s (with_own s v next) (record b { table = with_row b.table s new })
-  pub same : (place : Place) (clicks : ℕ) → v.may place ≡ true → clicks ≤ limit b.core
-      → Same (s == s) (rule_of v b) (record seat { size = clicks }) (shape (record row { size = clicks; place = Some place }))
+  pub same : (place : Place) (clicks : ℕ) → clicks ≤ v.most
+      → Same (s == s) v.most (record seat { size = clicks }) (shape (record row { size = clicks; place = Some place }))
   pub sleeps : Sleeps row
 
 clicks_range : (b : Board) (clicks : ℕ) → IsSize b clicks → IsClicks clicks
 clicks_range b clicks z = let l = z.most in omega (arith, l)
 
+sized_within : (b : Board) (s clicks : ℕ) (place : Place) → b.core ≤ 3968 → IsSize b clicks → placed b s clicks ≡ Some place → IsPlace place
+sized_within b s clicks place core z e = place_within b s clicks place core (let l = z.least in omega (arith, l)) e
+
 -- a seat with an image of so many clicks
 abbrev pub sized : Seat → ℕ → Seat
 sized seat clicks = record seat { size = clicks }
 
-module _ (s : ℕ) (v : Seats) (b : Board) (row : TableRow) (h : Houses s v b row) (clicks : ℕ) (l : clicks ≤ limit b.core) where
-  gone_out : (block : ℕ) → v.may (Swap block) ≡ true
-      → Agrees s (with_own s v (sized h.seat clicks)) (record b { table = with_row b.table s (row_out row clicks block) })
-  gone_out block m =
-      let o = h.same (Swap block) clicks m l in
+module _ (s : ℕ) (v : Seats) (b : Board) (row : TableRow) (h : Houses s v b row) (clicks : ℕ) (l : clicks ≤ v.most) where
+  gone_out : (block : ℕ) → Agrees s (with_own s v (sized h.seat clicks)) (record b { table = with_row b.table s (row_out row clicks block) })
+  gone_out block =
+      let o = h.same (Swap block) clicks l in
       h.agrees (sized h.seat clicks) (row_out row clicks block)
       (record { used = o.used; zombie = o.zombie; calling = o.calling; text = o.text; bare = o.bare; place = o.place; size = o.size; most = o.most }) h.sleeps
 
-  housed : (place : Place) → v.may place ≡ true
-      → Agrees s (with_own s v (sized h.seat clicks)) (record b { table = placed_table b.table s row clicks place })
-  housed (Core c) m = h.agrees (sized h.seat clicks) (row_in row clicks c) (h.same (Core c) clicks m l) h.sleeps
-  housed (Swap block) m =
+  housed : (place : Place) → Agrees s (with_own s v (sized h.seat clicks)) (record b { table = placed_table b.table s row clicks place })
+  housed (Core c) = h.agrees (sized h.seat clicks) (row_in row clicks c) (h.same (Core c) clicks l) h.sleeps
+  housed (Swap block) =
       kept_agrees s (with_own s v (sized h.seat clicks)) (record b { table = with_row b.table s (row_out row clicks block) }) _
-      (runout_same (with_row b.table s (row_out row clicks block)) _ (same_none _ (gone_out block m).sleeps)) refl (gone_out block m)
+      (runout_same (with_row b.table s (row_out row clicks block)) _ (same_none _ (gone_out block).sleeps)) refl (gone_out block)
 
-  placed_running : (place : Place) → v.may place ≡ true
-      → (placed_table b.table s row clicks place).running ≡ b.table.running
-  placed_running (Core c) m = refl
-  placed_running (Swap block) m =
-      (runout_same (with_row b.table s (row_out row clicks block)) _ (same_none _ (gone_out block m).sleeps)).running
+  placed_running : (place : Place) → (placed_table b.table s row clicks place).running ≡ b.table.running
+  placed_running (Core c) = refl
+  placed_running (Swap block) =
+      (runout_same (with_row b.table s (row_out row clicks block)) _ (same_none _ (gone_out block).sleeps)).running
 
 -- a call that goes on with an image of its own
 module _ (s : ℕ) (calling : Bool) (v : Seats) (seen : Seen) (i : InCall s calling v seen) where
@@ -77,13 +78,13 @@ module _ (s : ℕ) (calling : Bool) (v : Seats) (seen : Seen) (i : InCall s call
     seat = i.turn.seat;
     agrees = λ next new k sleeps. change_agrees s s s v (set v.slots s (Some next)) seen.board (with_row seen.board.table s new) (Some next) new (λ f. refl)
         i.agrees i.turn.small refl refl i.agrees.time i.agrees.ticks k sleeps;
-    same = λ place clicks m l. let o = own s s v seen.board i.agrees i.turn in
-        record { used = o.used; zombie = o.zombie; calling = o.calling; text = o.text; bare = o.bare; place = λ f. m; size = λ f. refl; most = l };
+    same = λ place clicks l. let o = own s s v seen.board i.agrees i.turn in
+        record { used = o.used; zombie = o.zombie; calling = o.calling; text = o.text; bare = o.bare; place = λ f. refl; size = λ f. refl; most = l };
     sleeps = i.agrees.sleeps s;
   }
 
   -- the size
-  keep_in : (clicks : ℕ) → clicks ≤ limit seen.board.core
+  keep_in : (clicks : ℕ) → clicks ≤ v.most
       → InCall s calling (with_own s v (sized i.turn.seat clicks)) (seen_after seen (line.SizeKeep s clicks))
   unfolding applied own_turn
   keep_in clicks l =
@@ -109,46 +110,47 @@ module _ (s : ℕ) (calling : Bool) (v : Seats) (seen : Seen) (i : InCall s call
   unfolding applied
   sized_core clicks place = moved_core seen.board s clicks place
 
-  size_in : (clicks : ℕ) (place : Place) → v.may place ≡ true → clicks ≤ limit seen.board.core
+  size_in : (clicks : ℕ) (place : Place) → clicks ≤ v.most
       → InCall s calling (with_own s v (sized i.turn.seat clicks)) (seen_after seen (line.Size s clicks place))
   unfolding own_turn houses
-  size_in clicks place m l =
+  size_in clicks place l =
       let row : TableRow = row_at seen.board.table s in
       let newer : Board = record seen.board { table = placed_table seen.board.table s row clicks place } in
       let now : Board = applied seen.board (line.Size s clicks place) in
       let e : now.table ≡ newer.table = sized_table clicks place in
       record {
         going = tt;
-        agrees = same_board s (with_own s v (sized i.turn.seat clicks)) newer now e (sized_core clicks place) (housed s v seen.board row houses clicks l place m);
+        agrees = same_board s (with_own s v (sized i.turn.seat clicks)) newer now e (sized_core clicks place) (housed s v seen.board row houses clicks l place);
         turn = own_turn s v seen.board now (sized i.turn.seat clicks) i.agrees.seats i.turn i.turn.alive
-            (ap (λ t. t.running) e ∙ placed_running s v seen.board row houses clicks l place m);
+            (ap (λ t. t.running) e ∙ placed_running s v seen.board row houses clicks l place);
         calls = i.calls;
       }
 
-  -- the rest is to be apt wherever in core the image of another size stands
+  -- the rest is to be apt wherever the image of another size stands
   pub size_apt : {W : Type 0} → (Q : Seen → Type 0) (clicks : ℕ) (before : W) (es : List (Effect W))
       → IsSize seen.board clicks
-      → ((c : ℕ) → v.may (Core c) ≡ true)
       → ((now : Seen) → InCall s calling (with_own s v (sized i.turn.seat clicks)) now → Apt Q now es)
       → Apt Q seen (effect.Size s clicks before ∷ es)
   unfolding Apt came FitsBoard
-  size_apt Q clicks before es z may rest = by (nat_le clicks (row_at seen.board.table s).size) refl
+  size_apt Q clicks before es z rest = by (nat_le clicks (row_at seen.board.table s).size) refl
     where
+      fits : clicks ≤ v.most
+      fits = let most = z.most in let limit = i.agrees.most in omega (arith, most, limit)
+
       placing : nat_le clicks (row_at seen.board.table s).size ≡ false → (o : Option Place) → placed seen.board s clicks ≡ o
           → AptCame seen (image_at before o (λ place. line.Size s clicks place)) (λ now. Apt Q now es)
-      placing g (Some (Core c)) e = (
-        going_fits seen (line.Size s clicks (Core c)) i.going
-            (in_its_slot i.turn, clicks_range seen.board clicks z, click_within seen.board s clicks c i.agrees.core e) (running, z, leb-false _ _ g, e),
-        rest (seen_after seen (line.Size s clicks (Core c))) (size_in clicks (Core c) (may c) z.most),
+      placing g (Some place) e = (
+        going_fits seen (line.Size s clicks place) i.going
+            (in_its_slot i.turn, clicks_range seen.board clicks z, sized_within seen.board s clicks place i.agrees.core z e) (running, z, leb-false _ _ g, e),
+        rest (seen_after seen (line.Size s clicks place)) (size_in clicks place fits),
       )
-      placing g (Some (Swap block)) e = tt
-      placing g None e = tt
+      placing g None e = going_fits seen (line.Panic panic.Swap) i.going tt (inl ((s, running), none_placed seen.board s clicks z.most e))
 
       by : (x : Bool) → nat_le clicks (row_at seen.board.table s).size ≡ x
           → AptCame seen (cond x (Lets (Log (line.SizeKeep s clicks))) (image_at before (placed seen.board s clicks) (λ place. line.Size s clicks place))) (λ now. Apt Q now es)
       by true e = (
         going_fits seen (line.SizeKeep s clicks) i.going (in_its_slot i.turn, clicks_range seen.board clicks z) (running, z, leb-true _ _ e),
-        rest (seen_after seen (line.SizeKeep s clicks)) (keep_in clicks z.most),
+        rest (seen_after seen (line.SizeKeep s clicks)) (keep_in clicks fits),
       )
       by false e = placing e (placed seen.board s clicks) refl
 
@@ -160,6 +162,7 @@ pub record InExec (s : ℕ) (v : Seats) (seen : Seen) : Type 0 where
   pub place : (row_at seen.board.table s).place ≡ None
   pub seats : length v.slots ≡ 50
   pub core : seen.board.core ≤ 3968
+  pub most : v.most ≡ limit seen.board.core
   pub houses : Houses s v seen.board (row_at seen.board.table s)
   pub seat : houses.seat ≡ turn.seat
 
@@ -169,11 +172,11 @@ module _ (s : ℕ) (v : Seats) (seen : Seen) (i : InCall s false v seen) (bare :
   unfolding FitsBoard
   bare_fits = going_fits seen (line.Bare s) i.going (in_its_slot i.turn) (running s false v seen i, is_placed, o.text ∙ bare)
     where
-      o : Same (s == s) (rule_of v seen.board) i.turn.seat (shape_at seen.board.table s)
+      o : Same (s == s) v.most i.turn.seat (shape_at seen.board.table s)
       o = own s s v seen.board i.agrees i.turn
 
       is_placed : (row_at seen.board.table s).place ≢ None
-      is_placed e = absurd (let f : stands v.may (row_at seen.board.table s).place ≡ true = o.place i.turn.alive in let g : stands v.may (row_at seen.board.table s).place ≡ false = rw e refl in cc (f, g))
+      is_placed e = absurd (let f : is_some (row_at seen.board.table s).place ≡ true = o.place i.turn.alive in let g : is_some (row_at seen.board.table s).place ≡ false = rw e refl in cc (f, g))
 
   pub bare_in : InExec s v (seen_after seen (line.Bare s))
   unfolding applied same_turn houses
@@ -185,14 +188,15 @@ module _ (s : ℕ) (v : Seats) (seen : Seen) (i : InCall s false v seen) (bare :
         place = ap (λ row. row.place) row_is;
         seats = i.agrees.seats;
         core = rw core i.agrees.core;
+        most = i.agrees.most ∙ ap limit (sym core);
         seat = refl;
         houses = record {
           seat = i.turn.seat;
           agrees = λ next new k sleeps. same_board s (with_own s v next) (record seen.board { table = with_row seen.board.table s new }) (record now { table = with_row now.table s new })
               (ap (λ t. with_row t s new) table ∙ ap (λ rows. record seen.board.table { rows = rows }) (set-set seen.board.table.rows s bared new)) core
-              ((houses s false v seen i).agrees next new (subst (λ n. Same (s == s) (record { most = limit n; may = v.may }) next (shape new)) core k) sleeps);
-          same = λ place clicks m l. let o = own s s v seen.board i.agrees i.turn in
-              rw row_is (record { used = o.used; zombie = o.zombie; calling = o.calling; text = o.text; bare = o.bare; place = λ f. m; size = λ f. refl; most = l });
+              ((houses s false v seen i).agrees next new k sleeps);
+          same = λ place clicks l. let o = own s s v seen.board i.agrees i.turn in
+              rw row_is (record { used = o.used; zombie = o.zombie; calling = o.calling; text = o.text; bare = o.bare; place = λ f. refl; size = λ f. refl; most = l });
           sleeps = rw row_is (i.agrees.sleeps s);
         };
       }
@@ -235,10 +239,10 @@ module _ (s : ℕ) (v : Seats) (seen : Seen) (i : InExec s v seen) where
   image_core clicks (Core c) = core_core seen.board s clicks c
   image_core clicks (Swap block) = refl
 
-  image_in : (clicks : ℕ) (place : Place) → v.may place ≡ true → clicks ≤ limit seen.board.core
+  image_in : (clicks : ℕ) (place : Place) → clicks ≤ v.most
       → InCall s false (with_own s v (sized i.turn.seat clicks)) (seen_after seen (line.Image s clicks place))
   unfolding own_turn
-  image_in clicks place m l =
+  image_in clicks place l =
       let row : TableRow = row_at seen.board.table s in
       let newer : Board = record seen.board { table = placed_table seen.board.table s row clicks place } in
       let now : Board = applied seen.board (line.Image s clicks place) in
@@ -246,31 +250,29 @@ module _ (s : ℕ) (v : Seats) (seen : Seen) (i : InExec s v seen) where
       record {
         going = tt;
         agrees = subst (λ seat. Agrees s (with_own s v (sized seat clicks)) now) i.seat
-            (same_board s (with_own s v (sized i.houses.seat clicks)) newer now e (image_core clicks place) (housed s v seen.board row i.houses clicks l place m));
+            (same_board s (with_own s v (sized i.houses.seat clicks)) newer now e (image_core clicks place) (housed s v seen.board row i.houses clicks l place));
         turn = own_turn s v seen.board now (sized i.turn.seat clicks) i.seats i.turn i.turn.alive
-            (ap (λ t. t.running) e ∙ placed_running s v seen.board row i.houses clicks l place m);
+            (ap (λ t. t.running) e ∙ placed_running s v seen.board row i.houses clicks l place);
         calls = i.calls;
       }
 
   pub image_apt : {W : Type 0} → (Q : Seen → Type 0) (clicks : ℕ) (before : W) (es : List (Effect W))
       → IsSize seen.board clicks
-      → ((c : ℕ) → v.may (Core c) ≡ true)
       → ((now : Seen) → InCall s false (with_own s v (sized i.turn.seat clicks)) now → Apt Q now es)
       → Apt Q seen (effect.Image s clicks before ∷ es)
   unfolding Apt came FitsBoard
-  image_apt Q clicks before es z may rest = by (placed seen.board s clicks) refl
+  image_apt Q clicks before es z rest = by (placed seen.board s clicks) refl
     where
       by : (o : Option Place) → placed seen.board s clicks ≡ o
           → AptCame seen (image_at before o (λ place. line.Image s clicks place)) (λ now. Apt Q now es)
-      by (Some (Core c)) e = (
+      by (Some place) e = (
         (
-          (in_its_slot i.turn, clicks_range seen.board clicks z, click_within seen.board s clicks c i.core e),
-          bared_fits (line.Image s clicks (Core c)) (refl, (exec_runs, i.place, z, e)),
+          (in_its_slot i.turn, clicks_range seen.board clicks z, sized_within seen.board s clicks place i.core z e),
+          bared_fits (line.Image s clicks place) (refl, (exec_runs, i.place, z, e)),
         ),
-        rest (seen_after seen (line.Image s clicks (Core c))) (image_in clicks (Core c) (may c) z.most),
+        rest (seen_after seen (line.Image s clicks place)) (image_in clicks place (let most = z.most in let limit = i.most in omega (arith, most, limit))),
       )
-      by (Some (Swap block)) e = tt
-      by None e = tt
+      by None e = (tt, bared_fits (line.Panic panic.Swap) (tt, inl ((s, exec_runs), none_placed seen.board s clicks z.most e)))
 
 -- the limit is that of the board before
 size_after : (s : ℕ) (seen : Seen) (clicks : ℕ) → IsSize seen.board clicks
@@ -283,13 +285,12 @@ pub exec_apt : {W : Type 0}
     → (Q : Seen → Type 0) (s : ℕ) (v : Seats) (seen : Seen) (clicks : ℕ) (before : W) (es : List (Effect W))
     → (i : InCall s false v seen)
     → i.turn.seat.text ≡ None → IsSize seen.board clicks
-    → ((c : ℕ) → v.may (Core c) ≡ true)
     → ((now : Seen) → InCall s false (with_own s v (sized i.turn.seat clicks)) now → Apt Q now es)
     → Apt Q seen (Show (Log (line.Bare s)) ∷ effect.Image s clicks before ∷ es)
 unfolding Apt came bare_in same_turn
-exec_apt Q s v seen clicks before es i bare z may rest = (
+exec_apt Q s v seen clicks before es i bare z rest = (
   bare_fits s v seen i bare,
-  image_apt s v (seen_after seen (line.Bare s)) (bare_in s v seen i bare) Q clicks before es (size_after s seen clicks z) may rest,
+  image_apt s v (seen_after seen (line.Bare s)) (bare_in s v seen i bare) Q clicks before es (size_after s seen clicks z) rest,
 )
 
 -- an exec of a program that would share its text goes no further than that
@@ -299,4 +300,4 @@ pub text_apt : {W : Type 0}
     → i.turn.seat.text ≡ None
     → Apt Q seen (Show (Log (line.Bare s)) ∷ effect.Text s clicks before ∷ es)
 unfolding Apt came
-text_apt Q s v seen clicks before es i bare = (bare_fits s v seen i bare, tt)
+text_apt Q s v seen clicks before es i bare = (bare_fits s v seen i bare, refl)

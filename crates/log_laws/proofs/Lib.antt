@@ -8,3 +8,4 @@ pub mod Clocks
 pub mod Settles
 pub mod Passes
 mod WorkedRow
+mod WorkedSwaps

@@ -22,7 +22,7 @@ use Rattle.pick_rules.proofs.Movers.{in_rows}
 use Rattle.pick_rules.proofs.Laws.{sleep_running}
 use Rattle.pick_rules.proofs.Shapes.{is_asleep, shape_at, Sleeps, SameShapes, same_none, row_same, wakeup_same, runin_same, signalled_same}
 use Rattle.log_laws.proofs.Fitting.{IsGoing, going_fits, Apt}
-use Rattle.log_laws.proofs.Seats.{Seat, Seats, seat_at, Same, AgreesAt, rule_of, Agrees, InTurn, InCall, RunnerAt, Paused, runs_in, in_its_slot, not_zero, own, kept_agrees, change_agrees}
+use Rattle.log_laws.proofs.Seats.{Seat, Seats, seat_at, Same, AgreesAt, Agrees, InTurn, InCall, RunnerAt, Paused, runs_in, in_its_slot, not_zero, own, kept_agrees, change_agrees}
 
 -- a turn goes on over a board with the same runner
 unfoldable pub same_turn : (s : ℕ) (v : Seats) (b c : Board) → c.table.running ≡ b.table.running → InTurn s v b
@@ -112,8 +112,8 @@ pub signal_fits : (busy : ℕ) (v : Seats) (seen : Seen) (r n : ℕ) (seat : Sea
 unfolding FitsBoard
 signal_fits busy v seen r n seat g a h at l m = going_fits seen (line.Signal r n) g (in_slot, (l, m)) (h, used)
   where
-    same : Same (r == busy) (rule_of v seen.board) seat (shape_at seen.board.table r)
-    same = subst (λ o. AgreesAt (r == busy) (rule_of v seen.board) o (shape_at seen.board.table r)) at (a.each r h)
+    same : Same (r == busy) v.most seat (shape_at seen.board.table r)
+    same = subst (λ o. AgreesAt (r == busy) v.most o (shape_at seen.board.table r)) at (a.each r h)
 
     in_slot : IsSlot r
     in_slot = let k = in_rows seen.board.table.rows r same.used in let e = a.rows in omega (arith, k, e)
@@ -151,7 +151,7 @@ pub time_in : (s : ℕ) (calling : Bool) (v : Seats) (seen : Seen) (time : ℕ) 
 unfolding applied
 time_in s calling v seen time i = record {
   going = tt;
-  agrees = let a = i.agrees in record { each = a.each; sleeps = a.sleeps; rows = a.rows; seats = a.seats; time = refl; ticks = a.ticks; texts = a.texts; core = a.core };
+  agrees = let a = i.agrees in record { each = a.each; sleeps = a.sleeps; rows = a.rows; seats = a.seats; time = refl; ticks = a.ticks; texts = a.texts; core = a.core; most = a.most };
   turn = let t = i.turn in record { seat = t.seat; at = t.at; runs = t.runs; user = t.user; small = t.small; alive = t.alive };
   calls = i.calls;
 }

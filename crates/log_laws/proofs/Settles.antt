@@ -13,7 +13,7 @@ use Rattle.pick_rules.proofs.Laws.{chosen_runs, runs_ready, go_settles}
 use Rattle.pick_rules.proofs.Movers.{IsAlive, in_rows, ready_alive}
 use Rattle.pick_rules.proofs.Shapes.{shape_at}
 use Rattle.log_laws.proofs.Fitting.{IsGoing, going_fits}
-use Rattle.log_laws.proofs.Seats.{Seat, Seats, seat_at, rule_of, AgreesAt, Agrees, InTurn, RunnerAt, Paused, Holds}
+use Rattle.log_laws.proofs.Seats.{Seat, Seats, seat_at, AgreesAt, Agrees, InTurn, RunnerAt, Paused, Holds}
 
 -- a slot that can run and is not 0 has a living process
 living : (s : ℕ) (v : Seats) (b : Board) → Agrees 0 v b → 0 < s → can_run b.table s ≡ true → b.table.running ≡ Some s
@@ -23,7 +23,7 @@ living s v b a h e runs = by (seat_at v s) refl (a.each s h)
     stat : IsAlive (row_at b.table s).stat
     stat = ready_alive _ (runs_ready b.table s e)
 
-    by : (o : Option Seat) → seat_at v s ≡ o → AgreesAt (s == 0) (rule_of v b) o (shape_at b.table s) → InTurn s v b
+    by : (o : Option Seat) → seat_at v s ≡ o → AgreesAt (s == 0) v.most o (shape_at b.table s) → InTurn s v b
     by None f k = absurd (let x = stat.used in cc (x, k))
     by (Some seat) f k = record {
       seat = seat;
@@ -54,7 +54,7 @@ go_holds v seen s p c e = record {
     b = record seen.board { table = runs seen.board.table s }
 
     agrees : Agrees 0 v b
-    agrees = let a = p.agrees in record { each = a.each; sleeps = a.sleeps; rows = a.rows; seats = a.seats; time = a.time; ticks = a.ticks; texts = a.texts; core = a.core }
+    agrees = let a = p.agrees in record { each = a.each; sleeps = a.sleeps; rows = a.rows; seats = a.seats; time = a.time; ticks = a.ticks; texts = a.texts; core = a.core; most = a.most }
 
     small : s < 50
     small = subst (λ n. s < n) p.agrees.rows (in_rows seen.board.table.rows s (ready_alive _ (runs_ready seen.board.table s (chosen_runs seen.board.table s c))).used)
@@ -71,7 +71,7 @@ idle_holds v seen p e = record {
   holds = record {
     paused = record {
       going = tt;
-      agrees = let a = p.agrees in record { each = a.each; sleeps = a.sleeps; rows = a.rows; seats = a.seats; time = a.time; ticks = a.ticks; texts = a.texts; core = a.core };
+      agrees = let a = p.agrees in record { each = a.each; sleeps = a.sleeps; rows = a.rows; seats = a.seats; time = a.time; ticks = a.ticks; texts = a.texts; core = a.core; most = a.most };
       runner = tt;
     };
     rests = inl refl;

@@ -8,5 +8,4 @@ pub mod TickShapes
 pub mod Movers
 pub mod Placing
 pub mod Within
-pub mod OneBlock
 pub mod Stopping

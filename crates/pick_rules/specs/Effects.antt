@@ -2,7 +2,6 @@
 use Rattle.std.specs.Prelude.{ℕ, nat_le, if◌then◌else◌, Option, Some, None}
 use Rattle.v6_base.specs.Trace.{Item, Log}
 use Rattle.v6_base.specs.declared.entry.Place.{Place}
-use Rattle.v6_base.specs.declared.entry.Place.TheVariants.{Core, Swap}
 use Rattle.v6_base.specs.declared.entry.PanicKind.{PanicKind}
 use Rattle.v6_base.specs.declared.entry.PanicKind.TheVariants as panic
 use Rattle.v6_base.specs.declared.entry.Entry.{Entry}
@@ -34,21 +33,15 @@ pub data Came (W : Type 0) : Type 0 where
   Lets : Item → Came W
   Stops : Why → W → Came W
 
--- No image goes to the swap area yet.
-abbrev pub in_core : Option Place → Option Place
-in_core None = None
-in_core (Some (Core c)) = Some (Core c)
-in_core (Some (Swap block)) = None
-
 module _ {W : Type 0} where
   -- the line with its place
   abbrev pub at_fit : {P : Type 0} → Why → W → Option P → (P → Entry) → Came W
   at_fit why before (Some place) entry = Lets (Log (entry place))
   at_fit why before None entry = Stops why before
 
-  -- an image's, which is one in core
+  -- an image's; one that finds none, neither in core nor in the swap area, is a panic
   abbrev pub image_at : W → Option Place → (Place → Entry) → Came W
-  image_at before place entry = at_fit (Unbuilt panic.Swap) before (in_core place) entry
+  image_at before place entry = at_fit (Panicked panic.Swap) before place entry
 
   unfoldable pub came : Board → Effect W → Came W
   came b (Show item) = Lets item

@@ -66,16 +66,18 @@ fn wake_swapper(table: &mut Table, chan: Chan)
     }
 }
 
-/// Tells the swapper that somebody out of core can run, where it waits for that.
-#[tactic(auto, unfolding(crate::specs::Sleepers::runout_told))]
-fn tell_runout(table: &mut Table)
-    requires { IsTable table.old }
-    ensures table { table.new ≡ runout_told table.old }
-    ensures good { IsTable table.new }
-{
-    if table.runout {
-        table.runout = false;
-        wake_swapper(table, Chan::RunOut);
+impl Table {
+    /// Tells the swapper that somebody is out of core, where it waits for that: `runout` in Lions' Commentary, `slp.c`.
+    #[tactic(auto, unfolding(crate::specs::Sleepers::runout_told))]
+    pub fn tell_swapper(&mut self)
+        requires { IsTable self.old }
+        ensures table { self.new ≡ runout_told self.old }
+        ensures good { IsTable self.new }
+    {
+        if self.runout {
+            self.runout = false;
+            wake_swapper(self, Chan::RunOut);
+        }
     }
 }
 
@@ -103,7 +105,7 @@ pub(crate) fn make_ready(table: &mut Table, s: Slot)
     let loaded = s == 0 || is_in_core(table.rows[s as usize].place);
     wake_plainly(table, s);
     if !loaded {
-        tell_runout(table);
+        table.tell_swapper();
     }
 }
 

@@ -24,11 +24,11 @@ abbrev pub untimed : Table → Table
 untimed t = record t { tout = 0 }
 
 -- what a change does to a choice of two
-either : {A B : Type 0} (f : A → B) (b : Bool) (x y : A) → f (cond b x y) ≡ cond b (f x) (f y)
+pub either : {A B : Type 0} (f : A → B) (b : Bool) (x y : A) → f (cond b x y) ≡ cond b (f x) (f y)
 either f true x y = refl
 either f false x y = refl
 
-untimed_ready : (t : Table) (s : ℕ) → untimed (made_ready t s) ≡ made_ready (untimed t) s
+pub untimed_ready : (t : Table) (s : ℕ) → untimed (made_ready t s) ≡ made_ready (untimed t) s
 unfolding made_ready
 untimed_ready t s = refl
 

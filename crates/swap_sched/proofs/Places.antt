@@ -17,7 +17,7 @@ use Rattle.swap_sched.specs.Match.{IsRowOf, Matches, text_place, board_of}
 use Rattle.swap_sched.proofs.Texts.{text_at_map, need_same}
 
 -- what two lists give, element by element
-same_ranges : {A B C : Type 0} (f : A → List C) (g : B → List C) (a : A) (b : B) (xs : List A) (ys : List B) → length xs ≡ length ys
+pub same_ranges : {A B C : Type 0} (f : A → List C) (g : B → List C) (a : A) (b : B) (xs : List A) (ys : List B) → length xs ≡ length ys
     → ((i : ℕ) → i < length xs → f (get_or xs i a) ≡ g (get_or ys i b)) → flat_map f xs ≡ flat_map g ys
 same_ranges f g a b [] [] e h = refl
 same_ranges f g a b [] (y ∷ ys) e h = absurd (omega (arith, e))
@@ -53,23 +53,23 @@ swap_same row user (Grave u block) a =
     ∙ ap (λ b. swap_range (Some (Swap block)) (cond b 1 (blocks row.size))) a.zombie
 
 -- Of the texts.
-core_texts : (texts : List (Option Shared)) → flat_map board.core_of_text (map text_place texts) ≡ flat_map core_of_text texts
+pub core_texts : (texts : List (Option Shared)) → flat_map board.core_of_text (map text_place texts) ≡ flat_map core_of_text texts
 core_texts [] = refl
 core_texts (None ∷ texts) = core_texts texts
 core_texts (Some x ∷ texts) = ap (λ l. core_of_text (Some x) ++ l) (core_texts texts)
 
-swap_texts : (texts : List (Option Shared)) → flat_map board.swap_of_text (map text_place texts) ≡ flat_map swap_of_text texts
+pub swap_texts : (texts : List (Option Shared)) → flat_map board.swap_of_text (map text_place texts) ≡ flat_map swap_of_text texts
 swap_texts [] = refl
 swap_texts (None ∷ texts) = swap_texts texts
 swap_texts (Some x ∷ texts) = ap (λ l. swap_of_text (Some x) ++ l) (swap_texts texts)
 
 -- Of all slots.
 module _ (t : Table) (k : Kept) (a : Matches t k) (long : length k.slots ≡ 50) where
-  core_at : (i : ℕ) → i < length t.rows → core_of_row (row_at t i) ≡ core_of (keeping k i)
+  pub core_at : (i : ℕ) → i < length t.rows → core_of_row (row_at t i) ≡ core_of (keeping k i)
   core_at zero l = ap (λ p. core_range p (row_at t 0).size) a.kernel ∙ ap core_of (sym a.images)
   core_at (suc i) l = core_same (row_at t (suc i)) (text_of k (suc i)) (keeping k (suc i)) (a.each (suc i) (omega arith) (omega (arith, l, a.rows)))
 
-  swap_at : (i : ℕ) → i < length t.rows → swap_of_row (row_at t i) ≡ swap_of (keeping k i)
+  pub swap_at : (i : ℕ) → i < length t.rows → swap_of_row (row_at t i) ≡ swap_of (keeping k i)
   swap_at zero l = ap (λ p. swap_range p (cond (is_zombie (row_at t 0).stat) 1 (blocks (row_at t 0).size))) a.kernel ∙ ap swap_of (sym a.images)
   swap_at (suc i) l = swap_same (row_at t (suc i)) (text_of k (suc i)) (keeping k (suc i)) (a.each (suc i) (omega arith) (omega (arith, l, a.rows)))
 

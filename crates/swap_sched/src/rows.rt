@@ -1,34 +1,10 @@
 //! What a move of process 0 makes of the row of a slot: `sched` and `xswap` in Lions' Commentary, `slp.c` and `text.c`.
 ghost use Rattle.std.specs.Prelude.{◌≡◌, ◌<◌, Some};
-ghost use Rattle.v6_base.specs.declared.entry.Chan.TheVariants as chan;
-ghost use Rattle.pick_rules.specs.Table.{IsTable, is_on, row_at, with_row};
+ghost use Rattle.pick_rules.specs.Table.{IsTable, row_at, with_row};
 ghost use Rattle.pick_rules.specs.Sleepers.{runout_told};
 
 use pick_rules::Table;
-use v6_base::{Chan, Place, Slot};
-
-/// Whether a process sleeps until somebody out of core can run.
-fn waits_for_work(channel: Option<Chan>) -> bool
-    ensures { result ≡ is_on channel chan.RunOut }
-{
-    matches!(channel, Some(Chan::RunOut))
-}
-
-/// Tells the swapper that somebody is out of core, where it waits for that.
-#[tactic(auto, unfolding(pick_rules::specs::Sleepers::runout_told, pick_rules::specs::Sleepers::setrun))]
-fn tell_swapper(table: &mut Table)
-    requires { IsTable table.old }
-    ensures table { table.new ≡ runout_told table.old }
-    ensures good { IsTable table.new }
-{
-    if table.runout {
-        table.runout = false;
-        let swapper = table.rows[0];
-        if waits_for_work(swapper.channel) {
-            table.setrun(0);
-        }
-    }
-}
+use v6_base::{Place, Slot};
 
 /// The image of a slot stands at another place, and its time there begins.
 pub(crate) fn put(table: &mut Table, s: Slot, place: Option<Place>)
@@ -53,5 +29,5 @@ pub(crate) fn put_out(table: &mut Table, s: Slot, block: u16)
     ensures good { IsTable table.new }
 {
     put(table, s, Some(Place::Swap(block)));
-    tell_swapper(table);
+    table.tell_swapper();
 }
