@@ -1,6 +1,5 @@
 -- The registers are written at the front of a u area, where it stands: the u area is then the one with these registers.
 use Rattle.std.proofs.Common.{◌≡◌, ℕ, ◌+◌, ◌-◌, ◌*◌, ◌%◌, ◌<◌, ◌≤◌, ◌⊎◌, inl, inr, List, [], ◌∷◌, ◌++◌, length, take, drop, slice_index, refl, sym, ap, subst, ◌∙◌, arith, append_assoc, length-append, length-drop}
-use Rattle.std.specs.Prelude.{replicate}
 use Rattle.std.proofs.Math.Seq.{drop-append_seam}
 use Rattle.std.proofs.lemmas.Bool.{cases_lt}
 use Rattle.std.proofs.lemmas.List.{take_rest, get_or_past}
@@ -12,14 +11,13 @@ use Rattle.fs_codec.specs.Bytes.{bytes_of}
 use Rattle.fs_codec.specs.Words.{word, words}
 use Rattle.fs_codec.proofs.BytesLemmas.{length-bytes_of, bytes_of_words, bytes_of_word, part_join, part_whole}
 use Rattle.u_area.specs.declared.area.UArea.{UArea}
-use Rattle.u_area.specs.Area.{laid, fields, status_word, area_bytes, fetched, IsSized, IsStored}
+use Rattle.u_area.specs.Area.{laid, fields, status_word, area_bytes, fetched, IsSized}
 use Rattle.u_area.proofs.AreaLemmas.{fetched_is, one_area}
 use Rattle.v6_base.specs.declared.entry.Place.{Place}
 use Rattle.v6_base.specs.declared.entry.Place.TheVariants.{Core, Swap}
 use Rattle.image_keep.specs.declared.starts.Starts.{Starts}
 use Rattle.image_keep.specs.declared.row.Row.{Row}
 use Rattle.image_keep.specs.Kept.{Kept, Keeping, Nothing, Alive, Grave, keeping, HasImage, HasSizes, image_of, area_of, described, with_area}
-use Rattle.image_keep.specs.Areas.{area_at}
 use Rattle.image_keep.specs.Memory.{Stock, row_at, place_at, clicks_in, kept_of, IsIn, IsAlive, HoldsBy, IsSound}
 use Rattle.image_keep.specs.Counts.{IsCounted}
 use Rattle.image_keep.specs.Starts.{data_start, AreStarts}

@@ -36,7 +36,7 @@ use Rattle.fs_nodes.specs.FileSystem.{FileSystem}
 use Rattle.fs_tree.specs.Finding.{Inodes, inodes_of}
 use Rattle.sys_procs.specs.declared.procs.Procs.{Procs}
 use Rattle.sys_procs.specs.Process.{Process, no_process, process_by, process_in}
-use Rattle.sys_procs.specs.World.{World, Clock, clock_of, process_of, processes_in, world_in}
+use Rattle.sys_procs.specs.World.{World, clock_of, process_of, processes_in, world_in}
 use Rattle.sys_procs.specs.Exit.{adopted}
 use Rattle.sys_procs.specs.Exit as exit
 use Rattle.sys_procs.specs.Texts.{xfree}

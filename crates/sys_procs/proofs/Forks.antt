@@ -11,13 +11,12 @@ use Rattle.u_area.specs.declared.area.UArea.{UArea}
 use Rattle.pick_rules.specs.declared.row.TableRow.{TableRow}
 use Rattle.pick_rules.specs.declared.table.Table.{Table}
 use Rattle.pick_rules.specs.Table.{row_at, with_row, IsTable, empty_row, child_row}
-use Rattle.pick_rules.specs.Sleepers.{made_ready, runout_told}
+use Rattle.pick_rules.specs.Sleepers.{runout_told}
 use Rattle.pick_rules.specs.Board.{Board, placed}
 use Rattle.pick_rules.specs.Apply.{applied, at_place, joins, in_table, change_row, enters_core}
 use Rattle.pick_rules.specs.Effects.{Fork}
 use Rattle.pick_rules.specs.Effects as effects
 use Rattle.pick_rules.specs.Logged.{logged, log_one}
-use Rattle.pick_rules.proofs.Laws.{Stays, runout_stays}
 use Rattle.proc_tab.specs.declared.row.Row.{Row}
 use Rattle.proc_tab.specs.declared.member.Member.{Member}
 use Rattle.proc_tab.specs.Processes.{Processes, member_at, lowest, IsLowest, Finds}
@@ -30,27 +29,32 @@ use Rattle.fs_nodes.specs.FileSystem.{FileSystem}
 use Rattle.fs_tree.specs.Finding.{with_reference}
 use Rattle.sys_procs.specs.declared.procs.Procs.{Procs}
 use Rattle.sys_procs.specs.Process.{Process, no_process, process_by, process_in, register, with_register}
-use Rattle.sys_procs.specs.World.{World, Clock, clock_of, process_of, with_process, change, processes_in}
+use Rattle.sys_procs.specs.World.{World, Clock, process_of, with_process, change, processes_in}
 use Rattle.sys_procs.specs.Texts.{joined_by_child}
 use Rattle.sys_procs.specs.Fork.{copied, past_word, next_pid, with_child, fork_into, fork_one}
 use Rattle.sys_procs.specs.Seats.{with_image_row}
-use Rattle.sys_procs.specs.Agree.{Free, kind_of_member, kind_of_keeping, Agrees, Agree, board_of, untimed}
+use Rattle.sys_procs.specs.Agree.{Free, kind_of_member, kind_of_keeping, Agrees, board_of}
 use Rattle.sys_procs.specs.Handed.{AreProcs, IsAlive, handed, board, process_here}
 use Rattle.sys_procs.proofs.Slots.{fifty_processes, one_changed, members_are}
-use Rattle.sys_procs.proofs.Tables.{untimed_runout}
-use Rattle.sys_procs.proofs.Agreement.{agree_but, agree_like, runout_like, same_texts, no_text_of}
+use Rattle.swap_sched.proofs.Boards.{untimed, untimed_runout}
+use Rattle.sys_procs.proofs.Agreement.{agree_but, same_texts, no_text_of}
 use Rattle.sys_procs.proofs.Alive.{IsHere, is_here, no_text_row}
+use Rattle.sys_procs.proofs.PlacingRows.{clock_told, agree_told}
 
 -- What the log says of a fork.
 pub logged_fork : (b : Board) (s child : ℕ) (w : World) (place : Place)
-    → effects.in_core (placed b s (row_at b.table s).size) ≡ Some place
+    → placed b s (row_at b.table s).size ≡ Some place
     → logged b (Fork s child w ∷ []) ≡ record { items = Log (line.Fork s child place) ∷ []; board = applied b (line.Fork s child place); stop = None }
 unfolding log_one effects.came
 logged_fork b s child w place fit = rw fit refl
 
-pub logged_no_fork : (b : Board) (s child : ℕ) (w : World) → effects.in_core (placed b s (row_at b.table s).size) ≡ None
-    → logged b (Fork s child w ∷ []) ≡ record { items = []; board = b; stop = Some (record { why = effects.Unbuilt panic.Swap; before = w }) }
-unfolding log_one effects.came
+pub logged_no_fork : (b : Board) (s child : ℕ) (w : World) → placed b s (row_at b.table s).size ≡ None
+    → logged b (Fork s child w ∷ []) ≡ record {
+      items = Log (line.Panic panic.Swap) ∷ [];
+      board = b;
+      stop = Some (record { why = effects.Panicked panic.Swap; before = w });
+    }
+unfolding log_one effects.came applied
 logged_no_fork b s child w fit = rw fit refl
 
 -- A free slot.
@@ -117,22 +121,6 @@ board_forked t k s child (Swap block) low none =
     ∙ ap (λ (u : Table). record (board_of t k) { table = runout_told u })
     (twice (untimed t) child row (λ r. record r { size = (row_at t s).size; place = Some (Swap block); time = 0 }) low))
 
-clock_told : (t : Table) → clock_of (runout_told t) ≡ clock_of t
-unfolding made_ready
-clock_told t = runout_stays (λ u. clock_of u ≡ clock_of t) same t refl
-  where
-    same : Stays (λ u. clock_of u ≡ clock_of t)
-    same = record { woken = λ u s w on e. e; runout = λ u e. e; runin = λ u e. e }
-
-clock_forked : (t : Table) (child : ℕ) (row : TableRow) (place : Place) → clock_of (with_image_row t child row place) ≡ clock_of t
-clock_forked t child row (Core c) = refl
-clock_forked t child row (Swap block) = clock_told (with_row t child row)
-
-agree_seated : (v : Processes) (t : Table) (k : Kept) (child : ℕ) (row : TableRow) (place : Place) → IsTable (with_image_row t child row place)
-    → Agree v (with_row t child row) k → Agree v (with_image_row t child row place) k
-agree_seated v t k child row (Core c) good a = a
-agree_seated v t k child row (Swap block) good a = agree_like v (with_row t child row) (runout_told (with_row t child row)) k a good (runout_like (with_row t child row))
-
 -- The child in its slot.
 abbrev pub child_pid : Procs → ℕ
 child_pid p = fresh_pid p.rows.slots p.rows.last_pid
@@ -195,7 +183,7 @@ module _ (p : Procs) (s child : ℕ) (place : Place) (alive : IsAlive p s) (slot
   pub state_seated : (fs : FileSystem) → handed (seated p s child place) fs ≡ record (with_process (handed p fs) child (copy_of p s)) { last_pid = child_pid p }
   state_seated fs =
       ap (λ (c : Clock). record (handed p fs) { processes = processes_in (set p.rows.slots child (Some new_member)) new_images; last_pid = child_pid p; clock = c })
-      (clock_forked p.table child (row_of_child p.table s place) place)
+      (clock_told p.table child (row_of_child p.table s place) place)
       ∙ ap (λ (ps : List (Option Process)). record (handed p fs) { processes = ps; last_pid = child_pid p }) processes_seated
 
   pub board_seated : board (seated p s child place) ≡ applied (board p) (line.Fork s child place)
@@ -217,7 +205,7 @@ module _ (p : Procs) (s child : ℕ) (place : Place) (alive : IsAlive p s) (slot
   agree_forked good =
       let row : TableRow = row_of_child p.table s place in
       let a : AreProcs p = alive.agree in
-      agree_seated (forked p.rows s (Some child)) p.table new_images child row place good
+      agree_told (forked p.rows s (Some child)) p.table new_images child row place good
       (agree_but p.rows (forked p.rows s (Some child)) p.table (with_row p.table child row) p.images new_images child a free.above
       (record { last = a.table.last; running = a.table.running; ticks = a.table.ticks })
       (length-set p.table.rows child row)
@@ -251,9 +239,11 @@ module _ (p : Procs) (s child : ℕ) (place : Place) (alive : IsAlive p s) (slot
 -- what the code makes of the three
 pub is_seated : (p : Procs) (s child : ℕ) (place : Place) (v : Processes) (t : Table) (k : Kept) → v ≡ forked p.rows s (Some child)
     → t ≡ with_image_row p.table child (row_of_child p.table s place) place
-    → k ≡ images_of.with_image_at p.images child (area_of p.images s) (image_of p.images s) (Some place)
+    → {o : Option Place} → o ≡ Some place → k ≡ images_of.with_image_at p.images child (area_of p.images s) (image_of p.images s) o
     → ◌≡◌ {A = Procs} (record p { rows = v; table = t; images = k }) (seated p s child place)
-is_seated p s child place v t k e f g = λ i. record p { rows = e i; table = f i; images = g i }
+is_seated p s child place v t k e f {o} found g =
+    let at : Option Place → Kept = λ q. images_of.with_image_at p.images child (area_of p.images s) (image_of p.images s) q in
+    λ i. record p { rows = e i; table = f i; images = (g ∙ ap at found) i }
 
 -- What becomes of a child and its parent as they go on.
 abbrev pub begun_by : ℕ → Process → Process

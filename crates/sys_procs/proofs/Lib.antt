@@ -11,6 +11,8 @@ pub mod MemoryLemmas
 pub mod Places
 pub mod Ends
 pub mod Graves
+pub mod PlacingRows
+pub mod Seats
 pub mod Forks
 pub mod ForkPlaces
 pub mod ResumeLemmas
@@ -18,7 +20,6 @@ pub mod StackRows
 pub mod BreakRows
 pub mod ExecRows
 pub mod TestedSlots
-pub mod PlacingRows
 pub mod GrowLemmas
 pub mod PlacingLemmas
 pub mod GrowCalls

@@ -13,13 +13,14 @@ use Rattle.fs_codec.specs.declared.modes.TheConstants.{ISUID, ISGID}
 use Rattle.fs_laws.specs.Pieces.{Moving, read_file}
 use Rattle.fs_nodes.specs.Copy.{put_into}
 use Rattle.fs_tree.specs.Finding.{put_back}
+use Rattle.v6_base.specs.declared.entry.Place.{Place}
 use Rattle.v6_base.specs.declared.entry.PanicKind.{PanicKind}
 use Rattle.v6_base.specs.declared.entry.PanicKind.TheVariants as panic
 use Rattle.v6_base.specs.declared.errno.Errno.{Errno}
 use Rattle.aout_head.specs.declared.parts.Plan.{Plan}
 use Rattle.pick_rules.specs.Effects.{Show}
 use Rattle.pick_rules.specs.Effects as effect
-use Rattle.pick_rules.specs.Board.{Board, core_fit}
+use Rattle.pick_rules.specs.Board.{Board, placed}
 use Rattle.pick_rules.specs.Logged.{logged}
 use Rattle.fs_nodes.specs.FileSystem.{FileSystem}
 use Rattle.sys_procs.specs.declared.procs.Procs.{Procs}
@@ -157,19 +158,19 @@ module _ (w : World) (s : ℕ) (program : Program) (alone : (process_of w s).tex
         ∙ ap (λ (v : World). Ret (register (process_of v s) 0) (register (process_of v s) 1)) state_is
         ∙ ap (λ (p : Process). Ret (register p 0) (register p 1)) (last_process low)
 
--- Where nothing stands against it, core has a place for the new image.
-abbrev unplaced_by : Bool → Option ℕ → Option PanicKind
-unplaced_by no_text core = cond (not no_text) (Some panic.Text) (cond (is_some core) None (Some panic.Swap))
+-- Where nothing stands against it, there is a place for the new image.
+abbrev unplaced_by : Bool → Option Place → Option PanicKind
+unplaced_by no_text place = cond (not no_text) (Some panic.Text) (cond (is_some place) None (Some panic.Swap))
 
-room_by : (no_text : Bool) (core : Option ℕ) → unplaced_by no_text core ≡ None → is_some core ≡ true
-room_by false core none = absurd (cc none)
-room_by true (Some c) none = refl
-room_by true None none = absurd (cc none)
+place_by : (no_text : Bool) (place : Option Place) → unplaced_by no_text place ≡ None → is_some place ≡ true
+place_by false place none = absurd (cc none)
+place_by true (Some at) none = refl
+place_by true None none = absurd (cc none)
 
-pub has_room_then : (b : Board) (s : ℕ) (program : Program) → unplaced b s program ≡ None
-    → is_some (core_fit (bare_board b s) (image_clicks program.plan)) ≡ true
-has_room_then b s program none =
-    room_by (text_clicks program.plan == 0) (core_fit (bare_board b s) (image_clicks program.plan)) none
+pub has_place_then : (b : Board) (s : ℕ) (program : Program) → unplaced b s program ≡ None
+    → is_some (placed (bare_board b s) s (image_clicks program.plan)) ≡ true
+has_place_then b s program none =
+    place_by (text_clicks program.plan == 0) (placed (bare_board b s) s (image_clicks program.plan)) none
 
 -- no text is in an entry
 pub no_entry : (k : Kept) (ino : ℕ) → HasNoText k → entry_of (texts_in k) ino ≡ None
@@ -181,25 +182,25 @@ module _ (p : Procs) (s : ℕ) (alive : IsAlive p s) (long : length p.images.slo
   abbrev w : World
   w = handed p fs
 
-  stops_by : (kind : PanicKind) (no_text : Bool) (core : Option ℕ) → (text_clicks program.plan == 0) ≡ no_text
-      → core_fit (bare_board (board p) s) (image_clicks program.plan) ≡ core → Some kind ≡ unplaced_by no_text core
+  stops_by : (kind : PanicKind) (no_text : Bool) (place : Option Place) → (text_clicks program.plan == 0) ≡ no_text
+      → placed (bare_board (board p) s) s (image_clicks program.plan) ≡ place → Some kind ≡ unplaced_by no_text place
       → came p (loads w s program) ≡ left_bare (board p) s kind w
-  stops_by kind false core text room is =
+  stops_by kind false place text found is =
       let same : panic.Text ≡ kind = cc is in
       let later : Comes = next w s program (no_text_here p s alive) (makes_text w s program.ino (text_clicks program.plan)) true in
       ap (λ (c : Comes). came p c) (loads_shares w s program (no_text_here p s alive) text (no_entry p.images program.ino alive.agree.no_text))
       ∙ (logged_text (board p) s (text_clicks program.plan) w later.effects ∙ ap (λ k. left_bare (board p) s k w) same)
-  stops_by kind true (Some c) text room is = absurd (cc is)
-  stops_by kind true None text room is =
+  stops_by kind true (Some at) text found is = absurd (cc is)
+  stops_by kind true None text found is =
       let same : panic.Swap ≡ kind = cc is in
       ap (λ es. logged (board p) es)
       (loads_effects w s program (no_text_here p s alive) (eqb-true (text_clicks program.plan) 0 text))
-      ∙ (log_unplaced p s alive long (image_clicks program.plan) w room ∙ ap (λ k. left_bare (board p) s k w) same)
+      ∙ (log_unplaced p s alive long (image_clicks program.plan) w found ∙ ap (λ k. left_bare (board p) s k w) same)
 
   pub unplaced_stops : (kind : PanicKind) → Some kind ≡ unplaced (board p) s program
       → came p (loads w s program) ≡ left_bare (board p) s kind w
   unplaced_stops kind is = stops_by kind (text_clicks program.plan == 0)
-      (core_fit (bare_board (board p) s) (image_clicks program.plan)) refl refl is
+      (placed (bare_board (board p) s) s (image_clicks program.plan)) refl refl is
 
 -- What the call comes to when the tests have come to this.
 module _ (w : World) (s name list : ℕ) where

@@ -1,33 +1,33 @@
 -- A slot's image is given back, and has a place again: what becomes of its row, and of the board.
-use Rattle.std.proofs.Common.{◌≡◌, ◌∙◌, ℕ, ◌<◌, Bool, true, false, cond, List, length, set, Option, Some, None, refl, sym, ap, subst, arith}
-use Rattle.std.proofs.lemmas.List.{get_or-set_same, get_or-set_other, set-set, length-set}
+use Rattle.std.proofs.Common.{◌≡◌, ◌∙◌, ℕ, ◌<◌, Bool, true, false, cond, List, length, set, Some, None, refl, sym, ap, arith}
+use Rattle.std.proofs.lemmas.List.{get_or-set_same, set-set}
 use Rattle.v6_base.specs.declared.entry.Place.{Place}
-use Rattle.v6_base.specs.declared.entry.Place.TheVariants.{Core}
+use Rattle.v6_base.specs.declared.entry.Place.TheVariants.{Core, Swap}
 use Rattle.v6_base.specs.declared.entry.Entry.TheVariants as line
 use Rattle.pick_rules.specs.declared.row.TableRow.{TableRow}
 use Rattle.pick_rules.specs.declared.table.Table.{Table}
-use Rattle.pick_rules.specs.Table.{row_at, with_row, empty_row, is_loaded}
+use Rattle.pick_rules.specs.Table.{IsTable, row_at, with_row, empty_row, is_loaded}
+use Rattle.pick_rules.specs.Sleepers.{made_ready, runout_told}
 use Rattle.pick_rules.specs.Board.{Board}
 use Rattle.pick_rules.specs.Apply.{applied, in_table, change_row, at_place, without_place, leaves_core, enters_core}
+use Rattle.pick_rules.proofs.Laws.{Stays, runout_stays}
 use Rattle.proc_tab.specs.declared.member.Member.{Member}
-use Rattle.proc_tab.specs.Processes.{member_at}
+use Rattle.proc_tab.specs.Processes.{Processes, member_at}
 use Rattle.image_keep.specs.Kept.{Held, Alive, Kept, keeping, with_keeping, text_of, clicks_of, area_in, place_of, area_of}
 use Rattle.image_keep.proofs.Frames.{keeping_same, keeping_other}
 use Rattle.sys_procs.specs.declared.procs.Procs.{Procs}
 use Rattle.sys_procs.specs.Process.{process_by, process_in}
-use Rattle.sys_procs.specs.World.{processes_in}
-use Rattle.sys_procs.specs.Agree.{Agrees}
+use Rattle.sys_procs.specs.World.{clock_of, processes_in}
+use Rattle.sys_procs.specs.Agree.{Agree}
+use Rattle.sys_procs.specs.Seats.{with_image_row, placed_row, with_place}
 use Rattle.sys_procs.specs.Handed.{IsAlive}
-use Rattle.sys_procs.proofs.Agreement.{agree_but, same_texts}
+use Rattle.sys_procs.proofs.Agreement.{agree_like, runout_like}
 use Rattle.sys_procs.proofs.Alive.{IsHere, is_here, no_text_row}
 use Rattle.sys_procs.proofs.Slots.{one_changed}
 
--- A row without a place, and one with a size and a place.
+-- A row without a place.
 abbrev pub bared_row : TableRow → TableRow
 bared_row row = record row { size = 0; place = None }
-
-abbrev pub seat : ℕ → Place → TableRow → TableRow
-seat n place row = record row { size = n; place = Some place }
 
 -- a row is changed twice
 pub twice : (t : Table) (s : ℕ) (f g : TableRow → TableRow) → s < length t.rows
@@ -47,31 +47,54 @@ without b s none =
     let rest : Board → Board = λ left. in_table left (λ t. change_row t s (λ row. record row { place = None })) in
     ap (λ x. rest (cond (is_loaded b.table s) (leaves_core b x) b)) none ∙ ap rest (either (is_loaded b.table s) b)
 
-pub board_at : (b : Board) (s n c : ℕ) → (row_at b.table s).text ≡ None
-    → at_place b s n (Core c) ≡ in_table b (λ t. change_row t s (seat n (Core c)))
-board_at b s n c none = ap (λ x. in_table (enters_core b x) (λ t. change_row t s (seat n (Core c)))) none
+pub board_at : (b : Board) (s n : ℕ) (place : Place) → (row_at b.table s).text ≡ None
+    → at_place b s n place ≡ in_table b (λ t. with_place t s n place)
+board_at b s n (Core c) none = ap (λ x. in_table (enters_core b x) (λ t. change_row t s (placed_row n (Core c)))) none
+board_at b s n (Swap block) none = refl
 
 text_left : (t : Table) (s : ℕ) (f : TableRow → TableRow) → s < length t.rows → (f (row_at t s)).text ≡ None
     → (row_at (change_row t s f) s).text ≡ None
 text_left t s f low none =
     ap (λ (row : TableRow). row.text) (get_or-set_same t.rows s (f (row_at t s)) empty_row low) ∙ none
 
-pub board_grown : (b : Board) (s n c : ℕ) → s < length b.table.rows → (row_at b.table s).text ≡ None
-    → applied b (line.Size s n (Core c)) ≡ in_table b (λ t. change_row t s (seat n (Core c)))
+-- a row whose place has gone takes another
+over_out : (n : ℕ) (place : Place) (row : TableRow) → placed_row n place (record row { place = None }) ≡ placed_row n place row
+over_out n (Core c) row = refl
+over_out n (Swap block) row = refl
+
+over_bared : (n : ℕ) (place : Place) (row : TableRow) → placed_row n place (bared_row row) ≡ placed_row n place row
+over_bared n (Core c) row = refl
+over_bared n (Swap block) row = refl
+
+placed_after : (t : Table) (s n : ℕ) (place : Place) (f : TableRow → TableRow) → s < length t.rows
+    → placed_row n place (f (row_at t s)) ≡ placed_row n place (row_at t s)
+    → with_place (change_row t s f) s n place ≡ with_place t s n place
+placed_after t s n (Core c) f low same =
+    twice t s f (placed_row n (Core c)) low ∙ ap (λ (row : TableRow). with_row t s row) same
+placed_after t s n (Swap block) f low same =
+    ap runout_told (twice t s f (placed_row n (Swap block)) low ∙ ap (λ (row : TableRow). with_row t s row) same)
+
+pub placed_bare : (t : Table) (s n : ℕ) (place : Place) → s < length t.rows
+    → with_place (change_row t s bared_row) s n place ≡ with_place t s n place
+placed_bare t s n place low = placed_after t s n place bared_row low (over_bared n place (row_at t s))
+
+pub board_grown : (b : Board) (s n : ℕ) (place : Place) → s < length b.table.rows → (row_at b.table s).text ≡ None
+    → applied b (line.Size s n place) ≡ in_table b (λ t. with_place t s n place)
 unfolding applied
-board_grown b s n c low none =
+board_grown b s n place low none =
     let out : TableRow → TableRow = λ row. record row { place = None } in
     let left : Board = in_table b (λ t. change_row t s out) in
-    ap (λ (x : Board). at_place x s n (Core c)) (without b s none)
-    ∙ (board_at left s n c (text_left b.table s out low none)
-    ∙ ap (λ (t : Table). record b { table = t }) (twice b.table s out (seat n (Core c)) low))
+    ap (λ (x : Board). at_place x s n place) (without b s none)
+    ∙ (board_at left s n place (text_left b.table s out low none)
+    ∙ ap (λ (t : Table). record b { table = t }) (placed_after b.table s n place out low (over_out n place (row_at b.table s))))
 
-pub board_kept : (b : Board) (s n : ℕ) (place : Place) → (row_at b.table s).place ≡ Some place
-    → applied b (line.SizeKeep s n) ≡ in_table b (λ t. change_row t s (seat n place))
+-- an image that doesn't grow stays where it is
+abbrev pub sized_row : ℕ → TableRow → TableRow
+sized_row n row = record row { size = n }
+
+pub board_kept : (b : Board) (s n : ℕ) → applied b (line.SizeKeep s n) ≡ in_table b (λ t. change_row t s (sized_row n))
 unfolding applied
-board_kept b s n place is =
-    let row : TableRow = row_at b.table s in
-    ap (λ (o : Option Place). record b { table = with_row b.table s (record row { size = n; place = o }) }) is
+board_kept b s n = refl
 
 pub board_bared : (b : Board) (s : ℕ) → s < length b.table.rows → (row_at b.table s).text ≡ None
     → applied b (line.Bare s) ≡ in_table b (λ t. change_row t s bared_row)
@@ -81,20 +104,32 @@ board_bared b s low none =
     ∙ ap (λ (t : Table). record b { table = t })
     (twice b.table s (λ row. record row { place = None }) (λ row. record row { size = 0 }) low)
 
-pub board_placed : (b : Board) (s n c : ℕ) → s < length b.table.rows → (row_at b.table s).text ≡ None
-    → applied (in_table b (λ t. change_row t s bared_row)) (line.Image s n (Core c))
-    ≡ in_table b (λ t. change_row t s (seat n (Core c)))
+pub board_placed : (b : Board) (s n : ℕ) (place : Place) → s < length b.table.rows → (row_at b.table s).text ≡ None
+    → applied (in_table b (λ t. change_row t s bared_row)) (line.Image s n place)
+    ≡ in_table b (λ t. with_place t s n place)
 unfolding applied
-board_placed b s n c low none =
-    board_at (in_table b (λ t. change_row t s bared_row)) s n c (text_left b.table s bared_row low none)
-    ∙ ap (λ (t : Table). record b { table = t }) (twice b.table s bared_row (seat n (Core c)) low)
+board_placed b s n place low none =
+    board_at (in_table b (λ t. change_row t s bared_row)) s n place (text_left b.table s bared_row low none)
+    ∙ ap (λ (t : Table). record b { table = t }) (placed_bare b.table s n place low)
 
--- A process has this image, and its row the size and the place.
-abbrev pub seated : Procs → ℕ → ℕ → Held → Procs
-seated p s n held = record p {
-  table = change_row p.table s (seat n held.place);
-  images = with_keeping p.images s (Alive held);
-}
+-- Process 0 is told, or not: the clock stays, and who agreed agrees.
+clock_stays : (t : Table) → clock_of (runout_told t) ≡ clock_of t
+unfolding made_ready
+clock_stays t = runout_stays (λ u. clock_of u ≡ clock_of t) same t refl
+  where
+    same : Stays (λ u. clock_of u ≡ clock_of t)
+    same = record { woken = λ u s w on e. e; runout = λ u e. e; runin = λ u e. e }
+
+pub clock_told : (t : Table) (s : ℕ) (row : TableRow) (place : Place)
+    → clock_of (with_image_row t s row place) ≡ clock_of t
+clock_told t s row (Core c) = refl
+clock_told t s row (Swap block) = clock_stays (with_row t s row)
+
+pub agree_told : (v : Processes) (t : Table) (k : Kept) (s : ℕ) (row : TableRow) (place : Place)
+    → IsTable (with_image_row t s row place) → Agree v (with_row t s row) k → Agree v (with_image_row t s row place) k
+agree_told v t k s row (Core c) good a = a
+agree_told v t k s row (Swap block) good a =
+    agree_like v (with_row t s row) (runout_told (with_row t s row)) k a good (runout_like (with_row t s row))
 
 module _ (p : Procs) (s : ℕ) (alive : IsAlive p s) where
   pub row_low : s < length p.table.rows
@@ -112,12 +147,12 @@ module _ (p : Procs) (s : ℕ) (alive : IsAlive p s) where
   pub place_is : (row_at p.table s).place ≡ place_of p.images s
   place_is = (alive.agree.each s alive.above alive.below).place
 
-  module _ (long : length p.images.slots ≡ 50) (n : ℕ) (held : Held) where
+  module _ (long : length p.images.slots ≡ 50) (held : Held) where
     low : s < length p.images.slots
     low = omega (arith, alive.below, long)
 
-    now : keeping (with_keeping p.images s (Alive held)) s ≡ Alive held
-    now = keeping_same p.images s (Alive held) low
+    pub image_now : keeping (with_keeping p.images s (Alive held)) s ≡ Alive held
+    image_now = keeping_same p.images s (Alive held) low
 
     pub processes_seated : (m : Member) → member_at p.rows.slots s ≡ Some m
         → processes_in p.rows.slots (with_keeping p.images s (Alive held))
@@ -125,43 +160,5 @@ module _ (p : Procs) (s : ℕ) (alive : IsAlive p s) where
     processes_seated m is =
         let k : Kept = with_keeping p.images s (Alive held) in
         one_changed p.rows.slots p.rows.slots p.images k s (Some (process_by m (Alive held) (text_of p.images s))) alive.below
-        (ap (λ x. process_in (member_at p.rows.slots s) x (text_of p.images s)) now ∙ ap (λ o. process_in o (Alive held) (text_of p.images s)) is)
+        (ap (λ x. process_in (member_at p.rows.slots s) x (text_of p.images s)) image_now ∙ ap (λ o. process_in o (Alive held) (text_of p.images s)) is)
         (λ r below other. ap (λ x. process_in (member_at p.rows.slots r) x (text_of p.images r)) (keeping_other p.images s r (Alive held) other))
-
-    pub seated_alive : clicks_of held.u ≡ n → IsAlive (seated p s n held) s
-    seated_alive size =
-        let here : IsHere p s = is_here p s alive in
-        let row : TableRow = seat n held.place (row_at p.table s) in
-        let old : Agrees (member_at p.rows.slots s) (row_at p.table s) (Alive here.held) =
-        subst (λ x. Agrees (member_at p.rows.slots s) (row_at p.table s) x) here.image_is
-        (alive.agree.each s alive.above alive.below) in
-        let new : Agrees (member_at p.rows.slots s) row (Alive held) = record {
-          stat = old.stat;
-          image = old.image;
-          place = refl;
-          size = λ other is. sym size ∙ ap (λ x. clicks_of (area_in x)) is;
-          quiet = old.quiet;
-        } in
-        record {
-          agree = agree_but p.rows p.rows p.table (change_row p.table s (seat n held.place)) p.images
-              (with_keeping p.images s (Alive held)) s alive.agree alive.above
-              (record {
-                last = alive.agree.table.last;
-                running = alive.agree.table.running;
-                ticks = alive.agree.table.ticks;
-              })
-              (length-set p.table.rows s row)
-              (subst (λ (r : TableRow).
-              Agrees (member_at p.rows.slots s) r (keeping (with_keeping p.images s (Alive held)) s))
-              (sym (get_or-set_same p.table.rows s row empty_row row_low))
-              (subst (λ x. Agrees (member_at p.rows.slots s) row x) (sym now) new))
-              (ap (λ (r : TableRow). r.text) (get_or-set_same p.table.rows s row empty_row row_low)
-              ∙ alive.agree.text s alive.above alive.below)
-              (same_texts p.images s (Alive held))
-              (λ r other. refl)
-              (λ r other. get_or-set_other p.table.rows s r row empty_row other)
-              (λ r other. keeping_other p.images s r (Alive held) other);
-          above = alive.above;
-          below = alive.below;
-          image = (held, now);
-        }

@@ -1,45 +1,28 @@
 -- The board of the log doesn't tell when sleepers are woken: what is done to the table is done to the board.
-use Rattle.std.proofs.Common.{◌≡◌, ◌∙◌, ℕ, Bool, true, false, cond, if◌then◌else◌, List, [], ◌∷◌, fold, None, refl, ap}
+use Rattle.std.proofs.Common.{◌≡◌, ◌∙◌, ℕ, cond, if◌then◌else◌, List, [], ◌∷◌, fold, None, refl, ap}
 use Rattle.v6_base.specs.Trace.{Log}
 use Rattle.v6_base.specs.declared.entry.Chan.{Chan}
-use Rattle.v6_base.specs.declared.entry.Chan.TheVariants.{RunOut}
 use Rattle.v6_base.specs.declared.entry.Entry.{Entry}
 use Rattle.v6_base.specs.declared.entry.Entry.TheVariants as line
 use Rattle.pick_rules.specs.declared.table.Table.{Table}
 use Rattle.pick_rules.specs.Search.{slots}
 use Rattle.pick_rules.specs.Table.{is_loaded}
 use Rattle.pick_rules.specs.Priority.{setpri}
-use Rattle.pick_rules.specs.Sleepers.{made_ready, sleeps_on, process_0_woken, runout_told, setrun, wakeup}
+use Rattle.pick_rules.specs.Sleepers.{made_ready, sleeps_on, runout_told, setrun, wakeup}
 use Rattle.pick_rules.specs.Board.{Board}
 use Rattle.pick_rules.specs.Apply.{applied}
 use Rattle.pick_rules.specs.Effects.{Show, came}
 use Rattle.pick_rules.specs.Logged.{logged, log_one}
 use Rattle.image_keep.specs.Kept.{Kept}
 use Rattle.sys_procs.specs.World.{World}
-use Rattle.sys_procs.specs.Agree.{untimed, board_of}
-
--- what a change does to a choice of two
-either : {A B : Type 0} (f : A → B) (b : Bool) (x y : A) → f (cond b x y) ≡ cond b (f x) (f y)
-either f true x y = refl
-either f false x y = refl
+use Rattle.swap_sched.proofs.Boards.{either}
+pub use Rattle.swap_sched.proofs.Boards.{untimed, untimed_ready, untimed_runout}
+use Rattle.sys_procs.specs.Agree.{board_of}
 
 -- a change commutes with a rule for each of some, where it does with the rule
 fold_commutes : {A X : Type 0} (f : A → A) (rule : A → X → A) → ((a : A) (x : X) → f (rule a x) ≡ rule (f a) x) → (xs : List X) (a : A) → f (fold rule a xs) ≡ fold rule (f a) xs
 fold_commutes f rule step [] a = refl
 fold_commutes f rule step (x ∷ xs) a = fold_commutes f rule step xs (rule a x) ∙ ap (λ b. fold rule b xs) (step a x)
-
-pub untimed_ready : (t : Table) (s : ℕ) → untimed (made_ready t s) ≡ made_ready (untimed t) s
-unfolding made_ready
-untimed_ready t s = refl
-
-untimed_zero : (t : Table) (w : Chan) → untimed (process_0_woken t w) ≡ process_0_woken (untimed t) w
-untimed_zero t w = either untimed (sleeps_on t 0 w) (made_ready t 0) t ∙ ap (λ u. cond (sleeps_on t 0 w) u (untimed t)) (untimed_ready t 0)
-
-pub untimed_runout : (t : Table) → untimed (runout_told t) ≡ runout_told (untimed t)
-unfolding runout_told
-untimed_runout t =
-    either untimed t.runout (process_0_woken (record t { runout = false }) RunOut) t
-    ∙ ap (λ u. cond t.runout u (untimed t)) (untimed_zero (record t { runout = false }) RunOut)
 
 pub untimed_setrun : (t : Table) (s : ℕ) → untimed (setrun t s) ≡ setrun (untimed t) s
 unfolding setrun

@@ -1,36 +1,20 @@
 -- How the table of processes, the table of slots and what is kept of images belong together.
-use Rattle.std.specs.Prelude.{◌≡◌, ◌≢◌, ℕ, ◌<◌, ◌≤◌, Bool, true, false, map, length, Option, Some, None, Result, Ok, Err}
+use Rattle.std.specs.Prelude.{◌≡◌, ◌≢◌, ℕ, ◌<◌, ◌≤◌, Bool, true, false, length, Option, Some, None, Result, Ok, Err}
 use Rattle.v6_base.specs.declared.entry.PanicKind.{PanicKind}
 use Rattle.v6_base.specs.declared.answer.Answer.{Answer}
 use Rattle.pick_rules.specs.declared.row.Stat.{Stat}
 use Rattle.pick_rules.specs.declared.row.Stat.TheVariants.{Empty, Sleeping, Waiting, Ready, Zombie}
 use Rattle.pick_rules.specs.declared.row.TableRow.{TableRow}
 use Rattle.pick_rules.specs.declared.table.Table.{Table}
-use Rattle.pick_rules.specs.Table.{row_at, is_loaded, IsTable}
-use Rattle.pick_rules.specs.Board.{Board, TextPlace}
+use Rattle.pick_rules.specs.Table.{row_at, IsTable}
 use Rattle.pick_rules.specs.Effects.{kind_of}
 use Rattle.pick_rules.specs.Logged.{Stop}
 use Rattle.proc_tab.specs.declared.member.Member.{Member}
 use Rattle.proc_tab.specs.Processes.{Processes, member_at}
-use Rattle.image_keep.specs.Kept.{Held, Keeping, Nothing, Alive, Grave, Shared, Kept, no_texts, no_users, text_of, Has, HasImage, keeping, place_in, clicks_of}
+use Rattle.image_keep.specs.Kept.{Held, Keeping, Nothing, Alive, Grave, Kept, no_texts, no_users, text_of, Has, HasImage, keeping, place_in, clicks_of}
 use Rattle.sys_procs.specs.World.{World}
-
--- The board of the log: it doesn't tell the time at which sleepers are woken.
-abbrev pub untimed : Table → Table
-untimed t = record t { tout = 0 }
-
-abbrev pub text_place : Option Shared → Option TextPlace
-text_place None = None
-text_place (Some x) = Some (record {
-  clicks = x.row.clicks;
-  users = x.row.users;
-  loaded = x.row.loaded;
-  click = x.row.at;
-  block = x.row.block;
-})
-
-abbrev pub board_of : Table → Kept → Board
-board_of t k = record { table = untimed t; texts = map text_place k.texts; core = k.core }
+-- The board of the log.
+pub use Rattle.swap_sched.specs.Match.{text_place, board_of}
 
 -- whether a slot is free, has a process, or one that has ended
 pub data Kind : Type 0 where
@@ -80,13 +64,12 @@ pub record Agree (v : Processes) (t : Table) (k : Kept) : Type 0 where
   pub text : (s : ℕ) → 0 < s → s < 50 → (row_at t s).text ≡ text_of k s
   pub no_text : HasNoText k
 
--- A process calls: it runs, and its image is in core.
+-- A process calls: it runs, and it has an image.
 pub record IsCalling (v : Processes) (t : Table) (k : Kept) (references : ℕ → ℕ) (s : ℕ) : Type 0 where
   pub agree : Agree v t k
   pub runs : t.running ≡ Some s
   pub user : 0 < s
   pub image : HasImage k s
-  pub loaded : is_loaded t s ≡ true
   pub directory : (held : Held) → Has k s held → 0 < references held.u.dir
   pub few : (ino : ℕ) → references ino ≤ 65500
 

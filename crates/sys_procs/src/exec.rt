@@ -3,19 +3,19 @@ ghost use Rattle.std.specs.Prelude.{◌≡◌, ◌≤◌, ◌<◌, true, false, 
 ghost use Rattle.v6_base.specs.Trace.{Took};
 ghost use Rattle.fs_nodes.specs.FileSystem.{FileSystem, SameRest};
 ghost use Rattle.seg_regs.specs.Sizes.{is_refused};
-ghost use Rattle.pick_rules.specs.Board.{core_fit};
+ghost use Rattle.pick_rules.specs.Board.{placed};
 ghost use Rattle.pick_rules.specs.Apply.{change_row};
 ghost use Rattle.image_keep.specs.Kept.{image_of};
 ghost use Rattle.image_keep.specs.Places.{cleared};
 ghost use Rattle.sys_procs.specs.World.{World, with_process};
 ghost use Rattle.sys_procs.specs.Tests.{node_in};
 ghost use Rattle.sys_procs.specs.ExecFile.{exec_file, loads, text_clicks, data_clicks, image_clicks, bare_board, kept_handler, begun_area, IsTested};
-ghost use Rattle.sys_procs.specs.inside.Begun.{unplaced, placing, sized, store_after, filled_image, filled, user_in, group_in, row_in, area_in};
+ghost use Rattle.sys_procs.specs.inside.Begun.{unplaced, unplaced_lines, placing, sized, store_after, filled_image, filled, user_in, group_in, row_in, area_in};
 ghost use Rattle.sys_procs.specs.Handed.{AreProcs, Calls, IsAlive, board, handed, process_here};
 ghost use Rattle.sys_procs.specs.Done.{HasDone};
 
 use crate::inodes::let_go;
-use crate::placing::{AREA, STACK, has_room, leave_place, place_image};
+use crate::placing::{AREA, STACK, has_place, leave_place, place_image};
 use crate::procs::Procs;
 use crate::program::Program;
 use crate::seen::see;
@@ -27,7 +27,7 @@ use fs_nodes::Nodes;
 use fs_tree::Tree;
 use proc_tab::Row;
 use u_area::UArea;
-use v6_base::{Answer, PanicKind, Slot, Space, Trace};
+use v6_base::{Answer, Entry, PanicKind, Slot, Space, Trace};
 
 /// Where text and data begin in a file: a.out(V).
 const HEADER: u32 = 16;
@@ -129,7 +129,7 @@ fn make_room<T: Trace>(p: &mut Procs, s: Slot, plan: &Plan, trace: &mut T)
     requires alive { IsAlive p.old s }
     requires init { plan.now.init ≤ 131070 }
     requires sizes { (fs : FileSystem) → is_refused 0 (data_clicks plan.now) 20 (handed p.old fs).limit ≡ false }
-    requires room { is_some (core_fit (bare_board (board p.old) s) (image_clicks plan.now)) ≡ true }
+    requires place { is_some (placed (bare_board (board p.old) s) s (image_clicks plan.now)) ≡ true }
     ensures state { (fs : FileSystem) → handed p.new fs
         ≡ with_process (handed p.old fs) s (sized (process_here p.old s) (data_clicks plan.now)) }
     ensures image { image_of p.new.images s ≡ cleared (data_clicks plan.now) 20 }
@@ -142,7 +142,7 @@ fn make_room<T: Trace>(p: &mut Procs, s: Slot, plan: &Plan, trace: &mut T)
     ensures alive { IsAlive p.new s }
 {
     see(p, s);
-    place_image(p, s, data_clicks(plan), trace);
+    let _place = place_image(p, s, data_clicks(plan), trace);
 }
 
 /// Fills the memory of a program without a text, which is cleared: its data are read, and its arguments stand at the
@@ -201,7 +201,7 @@ fn begin(p: &mut Procs, s: Slot, row: Row, u: &UArea)
     p.put_area(s, u);
 }
 
-/// Replaces the program of a process by another without a text of its own, for which core has a place.
+/// Replaces the program of a process by another without a text of its own, for whose image there is a place.
 fn replace<T: Trace>(
     p: &mut Procs,
     tree: &mut Tree,
@@ -212,7 +212,7 @@ fn replace<T: Trace>(
     requires alive { IsAlive p.old s }
     requires tested { IsTested (handed p.old tree.old.nodes) program.now }
     requires no_text { text_clicks program.now.plan ≡ 0 }
-    requires room { is_some (core_fit (bare_board (board p.old) s) (image_clicks program.now.plan)) ≡ true }
+    requires place { is_some (placed (bare_board (board p.old) s) s (image_clicks program.now.plan)) ≡ true }
     ensures does { HasDone p.old p.new tree.new.nodes (Ok result) (T.taken trace.old) (T.taken trace.new)
         (loads (handed p.old tree.old.nodes) s program.now) }
     ensures frame { T.leads_to trace.old trace.new }
@@ -243,10 +243,21 @@ fn unplaced(p: &mut Procs, s: Slot, program: &Program) -> Option<PanicKind>
         return Some(PanicKind::Text);
     }
     let clicks = AREA + data_clicks(&program.plan) + STACK;
-    if has_room(p, s, clicks) {
+    if has_place(p, s, clicks) {
         None
     } else {
         Some(PanicKind::Swap)
+    }
+}
+
+/// Logs that a demand finds no place, where that is a panic.
+fn log_unplaced<T: Trace>(kind: PanicKind, trace: &mut T)
+    ensures items { Took (T.taken trace.old) (unplaced_lines kind) (T.taken trace.new) }
+    ensures frame { T.leads_to trace.old trace.new }
+{
+    match kind {
+        PanicKind::Swap | PanicKind::Zombie => trace.entry(Entry::Panic(kind)),
+        PanicKind::Text => {}
     }
 }
 
@@ -254,7 +265,7 @@ fn unplaced(p: &mut Procs, s: Slot, program: &Program) -> Option<PanicKind>
 ///
 /// # Errors
 ///
-/// `Text`: the program would share its text. `Swap`: core has no place for its image. The image is there still then, and
+/// `Text`: the program would share its text. `Swap`: there is no place for its image. The old image is there still then, and
 /// has no place.
 fn load<T: Trace>(
     p: &mut Procs,
@@ -279,6 +290,7 @@ fn load<T: Trace>(
     match unplaced(p, s, program) {
         Some(kind) => {
             leave_place(p, s, trace);
+            log_unplaced(kind, trace);
             Err(kind)
         }
         None => Ok(replace(p, tree, s, program, trace)),
@@ -296,7 +308,7 @@ fn load<T: Trace>(
 /// more than 510 bytes. `ENOSPC`: no block is free for a hole in the header. `ENOEXEC`: the file has no header of a
 /// program. `ETXTBSY`: its text would be shared, and others use the file. `ENOMEM`: the sizes are refused.
 /// The system stops where the old image has been given back, and one of these finds no place: `Text`, the program's
-/// text, since none is shared yet; `Swap`, its image, where core has no room, since none goes to the swap area yet. Then
+/// text, since none is shared yet; `Swap`, its image, where neither core nor the swap area has room, which is a panic. Then
 /// the process has no place, and is else as it was.
 #[tactic(auto, using(crate::proofs::Alive::calls))]
 pub fn exec_file<T: Trace>(

@@ -1,10 +1,9 @@
 //! fork(II).
-ghost use Rattle.std.specs.Prelude.{◌≡◌, ◌≢◌, ◌+◌, ◌%◌, ◌<◌, ◌≤◌, ℕ, true, is_none, is_some, slice_index, slice_set, Some};
+ghost use Rattle.std.specs.Prelude.{◌≡◌, ◌≢◌, ◌+◌, ◌%◌, ◌<◌, ◌≤◌, ℕ, is_none, slice_index, slice_set, None, Some, MatchResult};
 ghost use Rattle.v6_base.specs.Trace.{Took};
 ghost use Rattle.fs_nodes.specs.FileSystem.{SameRest};
 ghost use Rattle.fs_tree.specs.Finding.{inodes_of, with_reference};
-ghost use Rattle.pick_rules.specs.Table.{IsTable, row_at, child_row, is_on};
-ghost use Rattle.pick_rules.specs.Sleepers.{runout_told};
+ghost use Rattle.pick_rules.specs.Table.{IsTable, row_at, child_row};
 ghost use Rattle.image_keep.specs.Kept.{HasImage, Nothing, keeping, area_of, image_of, clicks_of, text_of};
 ghost use Rattle.image_keep.specs.Places.{placed, with_image_at};
 ghost use Rattle.proc_tab.specs.Processes.{lowest};
@@ -20,11 +19,11 @@ use crate::inodes::refer_again;
 use crate::procs::Procs;
 use crate::seen::see;
 use fs_tree::Tree;
-use image_keep::Images;
+use image_keep::{Images, NoSwap};
 use pick_rules::{Stat, Table, TableRow};
 use proc_tab::Rows;
 use u_area::UArea;
-use v6_base::{Answer, Chan, Entry, Errno, PanicKind, Pid, Place, Slot, Trace};
+use v6_base::{Answer, Entry, Errno, PanicKind, Pid, Place, Slot, Trace};
 
 /// The u area of a child as it begins: R0 is the pid of its parent, and it has used no time.
 fn begun(u: UArea, parent: Pid) -> UArea
@@ -52,29 +51,6 @@ fn past_word(u: UArea) -> UArea
     let mut u = u;
     u.r[7] = u.r[7].wrapping_add(2);
     u
-}
-
-/// Whether a process sleeps until somebody out of core can run.
-fn waits_for_work(channel: Option<Chan>) -> bool
-    ensures { result ≡ is_on channel Chan.RunOut }
-{
-    matches!(channel, Some(Chan::RunOut))
-}
-
-/// Tells the swapper that somebody out of core can run, where it waits for that: `setrun` in Lions' Commentary.
-#[tactic(auto, unfolding(pick_rules::specs::Sleepers::runout_told, pick_rules::specs::Sleepers::setrun))]
-fn tell_swapper(table: &mut Table)
-    requires { IsTable table.old }
-    ensures table { table.new ≡ runout_told table.old }
-    ensures good { IsTable table.new }
-{
-    if table.runout {
-        table.runout = false;
-        let swapper = table.rows[0];
-        if waits_for_work(swapper.channel) {
-            table.setrun(0);
-        }
-    }
 }
 
 /// The row of a new child, whose image stands at a place: it can run, and has its parent's nice, text and size.
@@ -107,7 +83,7 @@ fn add_row(table: &mut Table, s: Slot, child: Slot, place: Place)
     let parent = table.rows[s as usize];
     table.rows[child as usize] = child_row(parent, place);
     if let Place::Swap(_) = place {
-        tell_swapper(table);
+        table.tell_swapper();
     }
 }
 
@@ -146,30 +122,32 @@ fn go_on(p: &mut Procs, tree: &mut Tree, s: Slot, child: Slot) -> Answer
     Answer::Ret { r0, r1: u.r[1] }
 }
 
-/// Copies the image of a process into the slot of its child, where there is a place for it. The answer is that place.
+/// Copies the image of a process into the slot of its child. The answer is the copy's place.
+///
+/// # Errors
+///
+/// `NoSwap`: neither core nor the swap area has room. Nothing has changed then.
 #[tactic(auto, using(image_keep::proofs::PlaceFrames::bare_forked))]
-fn copy_image(images: &mut Images, from: Slot, to: Slot) -> Place
+fn copy_image(images: &mut Images, from: Slot, to: Slot) -> Result<Place, NoSwap>
     requires image { HasImage images.old from }
     requires no_text { text_of images.old from ≡ None }
     requires no_text_there { text_of images.old to ≡ None }
     requires slot { to < 50 }
     requires nothing { keeping images.old to ≡ Nothing }
-    requires place { is_some (placed images.old from (clicks_of (area_of images.old from))) ≡ true }
-    ensures place { placed images.old from (clicks_of (area_of images.old from)) ≡ Some result }
-    ensures images { images.new
-        ≡ with_image_at images.old to (area_of images.old from) (image_of images.old from) (Some result) }
+    ensures place { MatchResult result
+        (λ place. placed images.old from (clicks_of (area_of images.old from)) ≡ Some place)
+        (λ _. placed images.old from (clicks_of (area_of images.old from)) ≡ None) }
+    ensures images { images.new ≡ with_image_at images.old to (area_of images.old from) (image_of images.old from)
+        (placed images.old from (clicks_of (area_of images.old from))) }
 {
-    match images.copy_for_fork(from, to) {
-        Ok(place) => place,
-        Err(_) => unreachable!(),
-    }
+    images.copy_for_fork(from, to)
 }
 
 /// Makes a child in a free slot, with the rows that it gives.
 ///
 /// # Errors
 ///
-/// `Swap`: core has no room for it. Nothing changes then.
+/// `Swap`: neither core nor the swap area has room for it. Nothing but the log changes then.
 #[tactic(auto, using(v6_base::proofs::Took::takes))]
 fn fork_into<T: Trace>(
     p: &mut Procs,
@@ -190,18 +168,22 @@ fn fork_into<T: Trace>(
     ensures blocks { SameRest tree.old.nodes.blocks tree.new.nodes.blocks }
 {
     see(p, s);
-    if !p.images.has_room(p.table.rows[s as usize].size) {
-        return Err(PanicKind::Swap);
+    match copy_image(&mut p.images, s, child) {
+        Ok(place) => {
+            add_row(&mut p.table, s, child, place);
+            p.rows = *rows;
+            trace.entry(Entry::Fork {
+                slot: s,
+                child,
+                place,
+            });
+            Ok(go_on(p, tree, s, child))
+        }
+        Err(_) => {
+            trace.entry(Entry::Panic(PanicKind::Swap));
+            Err(PanicKind::Swap)
+        }
     }
-    let place = copy_image(&mut p.images, s, child);
-    add_row(&mut p.table, s, child, place);
-    p.rows = *rows;
-    trace.entry(Entry::Fork {
-        slot: s,
-        child,
-        place,
-    });
-    Ok(go_on(p, tree, s, child))
 }
 
 /// fork(II): makes a copy of the process in the lowest free slot. R0 is the child's pid for the parent, which passes the
@@ -210,8 +192,8 @@ fn fork_into<T: Trace>(
 ///
 /// # Errors
 ///
-/// `EAGAIN`: all slots are used; the parent passes the word all the same. `Swap`: core has no place for the child, and no
-/// image goes to the swap area yet. The system stops.
+/// `EAGAIN`: all slots are used; the parent passes the word all the same. `Swap`: neither core nor the swap area has room for the
+/// child. The system stops with a panic.
 pub fn fork_one<T: Trace>(
     p: &mut Procs,
     tree: &mut Tree,

@@ -1,21 +1,24 @@
 //! break(II), and the growth of a stack.
-ghost use Rattle.std.specs.Prelude.{◌≡◌, ◌+◌, ◌<◌, ◌≤◌, ◌||◌, nat_le, is_some, true, false, None, Some, if◌then◌else◌, slice_index};
+ghost use Rattle.std.specs.Prelude.{◌≡◌, ◌+◌, ◌<◌, ◌≤◌, nat_le, true, false, None, Some, if◌then◌else◌, MatchResult, slice_index};
 ghost use Rattle.v6_base.specs.Image.{nseg};
 ghost use Rattle.fs_nodes.specs.FileSystem.{FileSystem, SameRest};
-ghost use Rattle.image_keep.specs.Kept.{HasImage, Alive, with_keeping, text_of, area_of, image_of};
+ghost use Rattle.image_keep.specs.Kept.{HasImage, text_of, area_of, image_of};
 ghost use Rattle.image_keep.specs.Growth.{most_clicks, area_resized, image_resized, expanded};
-ghost use Rattle.image_keep.specs.Places.{core_fit};
-ghost use Rattle.pick_rules.specs.Table.{row_at};
+ghost use Rattle.image_keep.specs.Places.{with_image_at};
+ghost use Rattle.pick_rules.specs.Apply.{change_row};
+ghost use Rattle.pick_rules.specs.Table.{IsTable, row_at};
 ghost use Rattle.seg_regs.specs.Sizes.{is_refused};
 ghost use Rattle.sys_procs.specs.Break.{expands, clicks_up_to, grown_stack, break_at, grow};
 ghost use Rattle.sys_procs.specs.Handed.{AreProcs, Calls, IsAlive, handed, process_here};
 ghost use Rattle.sys_procs.specs.Done.{HasDone, HasEnded, HasGrown};
+ghost use Rattle.sys_procs.specs.Seats.{with_place};
 
 use crate::placing::{AREA, put_place};
 use crate::procs::Procs;
 use crate::seen::see;
 use fs_tree::Tree;
-use image_keep::Images;
+use image_keep::{Images, NoSwap};
+use pick_rules::Table;
 use seg_regs::Proto;
 use v6_base::{Answer, Entry, Errno, PanicKind, Place, Slot, Trace};
 
@@ -28,34 +31,41 @@ const SEGMENTS: u32 = 65536;
 /// The bytes of a click.
 const CLICK: u32 = 64;
 
-/// Gives an image other sizes of data and stack, where it keeps its place or there is another. The answer is its place.
+/// Gives an image other sizes of data and stack. The answer is its place: the one that it has, where it doesn't grow.
+///
+/// # Errors
+///
+/// `NoSwap`: it grows, and neither core nor the swap area has room. Nothing has changed then.
 #[tactic(auto, using(image_keep::proofs::PlaceFrames::bare_moved))]
-fn resize(images: &mut Images, s: Slot, d: u16, stack: u16) -> Place
+fn resize(images: &mut Images, s: Slot, d: u16, stack: u16) -> Result<Place, NoSwap>
     requires image { HasImage images.old s }
     requires no_text { text_of images.old s ≡ None }
     requires segments { nseg (area_of images.old s).text_size + nseg d + nseg stack ≤ 8 }
-    requires place { is_some (expanded images.old s (16 + d + stack)) ≡ true }
-    ensures place { expanded images.old s (16 + d + stack) ≡ Some result }
-    ensures images { images.new ≡ with_keeping images.old s (Alive (record {
-      u = area_resized (area_of images.old s) d stack;
-      image = image_resized (image_of images.old s) d stack;
-      place = result;
-    })) }
+    ensures place { MatchResult result
+        (λ place. expanded images.old s (16 + d + stack) ≡ Some place)
+        (λ _. expanded images.old s (16 + d + stack) ≡ None) }
+    ensures images { images.new ≡ with_image_at images.old s (area_resized (area_of images.old s) d stack)
+        (image_resized (image_of images.old s) d stack) (expanded images.old s (16 + d + stack)) }
 {
-    match images.resize(s, d, stack) {
-        Ok(place) => place,
-        Err(_) => unreachable!(),
-    }
+    images.resize(s, d, stack)
 }
 
-/// The line of the log for a slot whose image had so many clicks, and gets these. It names the place where the image
-/// grows.
-fn size_line(old: u16, s: Slot, clicks: u16, place: Place) -> Entry
-    ensures { result ≡ (if nat_le clicks old then Entry.SizeKeep s clicks else Entry.Size s clicks place) }
+/// Gives the row of a slot the size of its image, and the place that it has taken where it has grown. The answer is the line
+/// of the log.
+fn put_size(table: &mut Table, s: Slot, clicks: u16, place: Place) -> Entry
+    requires table { IsTable table.old }
+    requires slot { s < 50 }
+    ensures line { result ≡ (if nat_le clicks (row_at table.old s).size then Entry.SizeKeep s clicks else Entry.Size s clicks place) }
+    ensures table { table.new ≡ (if nat_le clicks (row_at table.old s).size
+        then change_row table.old s (λ row. record row { size = clicks })
+        else with_place table.old s clicks place) }
+    ensures good { IsTable table.new }
 {
-    if clicks <= old {
+    if clicks <= table.rows[s as usize].size {
+        table.rows[s as usize].size = clicks;
         Entry::SizeKeep { slot: s, clicks }
     } else {
+        put_place(table, s, clicks, place);
         Entry::Size {
             slot: s,
             clicks,
@@ -64,20 +74,11 @@ fn size_line(old: u16, s: Slot, clicks: u16, place: Place) -> Entry
     }
 }
 
-/// Whether an image of so many clicks finds a place for a process: one that doesn't grow keeps its own, and for another
-/// core needs room, since none goes to the swap area yet.
-fn finds_place(p: &Procs, s: Slot, clicks: u16) -> bool
-    requires { s < 50 }
-    ensures { result ≡ (nat_le clicks (row_at p.now.table s).size || is_some (core_fit p.now.images clicks)) }
-{
-    clicks <= p.table.rows[s as usize].size || p.images.has_room(clicks)
-}
-
 /// Gives the image of a process other sizes of data and stack.
 ///
 /// # Errors
 ///
-/// `Swap`: it finds no place. Nothing changes then.
+/// `Swap`: it grows, and neither core nor the swap area has room. Nothing but the log changes then.
 fn expand<T: Trace>(
     p: &mut Procs,
     s: Slot,
@@ -93,15 +94,17 @@ fn expand<T: Trace>(
     ensures agree { AreProcs p.new }
 {
     see(p, s);
-    let clicks = AREA + d + stack;
-    if !finds_place(p, s, clicks) {
-        return Err(PanicKind::Swap);
+    match resize(&mut p.images, s, d, stack) {
+        Ok(place) => {
+            let line = put_size(&mut p.table, s, AREA + d + stack, place);
+            trace.entry(line);
+            Ok(())
+        }
+        Err(_) => {
+            trace.entry(Entry::Panic(PanicKind::Swap));
+            Err(PanicKind::Swap)
+        }
     }
-    let place = resize(&mut p.images, s, d, stack);
-    let line = size_line(p.table.rows[s as usize].size, s, clicks, place);
-    put_place(&mut p.table, s, clicks, Some(place));
-    trace.entry(line);
-    Ok(())
 }
 
 /// The clicks of data up to an address, after a text of so many clicks, which takes whole segments. The address is
@@ -135,8 +138,8 @@ fn grown_stack(text: u16, d: u16, stack: u16, most: u16, sp: u16) -> Option<u16>
 ///
 /// # Errors
 ///
-/// `ENOMEM`: the sizes are refused, and nothing changes. `Swap`: core has no place for the image, and none goes to the
-/// swap area yet. The system stops.
+/// `ENOMEM`: the sizes are refused, and nothing changes. `Swap`: the image grows, and neither core nor the swap area has room for
+/// it. The system stops with a panic.
 pub fn break_at<T: Trace>(
     p: &mut Procs,
     tree: &mut Tree,
@@ -171,7 +174,7 @@ pub fn break_at<T: Trace>(
 ///
 /// # Errors
 ///
-/// `Swap`: core has no place for the image, and none goes to the swap area yet. The system stops.
+/// `Swap`: neither core nor the swap area has room for the image. The system stops with a panic.
 pub fn grow<T: Trace>(
     p: &mut Procs,
     tree: &mut Tree,

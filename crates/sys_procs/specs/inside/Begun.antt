@@ -1,8 +1,9 @@
 -- How a program begins that has no text of its own: the parts of exec(II). Lions' Commentary, `exec` in `sys1.c`.
-use Rattle.std.specs.Prelude.{ℕ, ◌==◌, ◌&&◌, not, if◌then◌else◌, [], ◌∷◌, bit_and, Option, Some, None, is_some}
+use Rattle.std.specs.Prelude.{ℕ, ◌==◌, ◌&&◌, not, if◌then◌else◌, List, [], ◌∷◌, bit_and, Option, Some, None, is_some}
 use Rattle.v6_base.specs.Image.{Image}
-use Rattle.v6_base.specs.Trace.{Log}
+use Rattle.v6_base.specs.Trace.{Item, Log}
 use Rattle.v6_base.specs.declared.entry.Entry.TheVariants.{Bare}
+use Rattle.v6_base.specs.declared.entry.Entry.TheVariants as line
 use Rattle.v6_base.specs.declared.entry.PanicKind.{PanicKind}
 use Rattle.v6_base.specs.declared.entry.PanicKind.TheVariants as panic
 use Rattle.fs_codec.specs.Store.{Node, Store}
@@ -15,7 +16,7 @@ use Rattle.image_keep.specs.Places.{cleared}
 use Rattle.u_area.specs.declared.area.UArea.{UArea}
 use Rattle.proc_tab.specs.declared.row.Row.{Row}
 use Rattle.aout_head.specs.declared.parts.Plan.{Plan}
-use Rattle.pick_rules.specs.Board.{Board, core_fit}
+use Rattle.pick_rules.specs.Board.{Board, placed}
 use Rattle.pick_rules.specs.Effects.{Show}
 use Rattle.pick_rules.specs.Effects as effect
 use Rattle.pick_rules.specs.Logged.{Logged, logged}
@@ -27,11 +28,17 @@ use Rattle.sys_procs.specs.Stack.{first_stack}
 use Rattle.sys_procs.specs.ExecFile.{text_clicks, data_clicks, image_clicks, bare_board, begun_area}
 
 -- Which demand of a program finds no place when the old image has been given back: that for a text to share, since none is
--- shared yet, or that for an image, where core has no room.
+-- shared yet, or that for an image, where neither core nor the swap area has room.
 abbrev pub unplaced : Board → ℕ → Program → Option PanicKind
 unplaced b s program =
     if not (text_clicks program.plan == 0) then Some panic.Text
-    else (if is_some (core_fit (bare_board b s) (image_clicks program.plan)) then None else Some panic.Swap)
+    else (if is_some (placed (bare_board b s) s (image_clicks program.plan)) then None else Some panic.Swap)
+
+-- what the log says of a demand that finds no place: a panic is a line, and what isn't built is none
+abbrev pub unplaced_lines : PanicKind → List Item
+unplaced_lines panic.Swap = Log (line.Panic panic.Swap) ∷ []
+unplaced_lines panic.Zombie = Log (line.Panic panic.Zombie) ∷ []
+unplaced_lines panic.Text = []
 
 -- The old image goes, and the new one comes.
 abbrev pub placing : Board → ℕ → Plan → World → Logged World

@@ -1,4 +1,4 @@
-use Rattle.std.proofs.Common.{◌≡◌, ◌∙◌, [], ◌∷◌, Option, Some, None, ℕ, refl, ap}
+use Rattle.std.proofs.Common.{◌≡◌, ◌∙◌, [], ◌∷◌, Some, None, refl, ap}
 use Rattle.std.specs.Option.{unwrap_or}
 use Rattle.v6_base.specs.Trace.{Log}
 use Rattle.v6_base.specs.declared.entry.Chan.TheVariants.{Wait}

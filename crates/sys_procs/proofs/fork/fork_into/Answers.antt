@@ -1,11 +1,12 @@
-use Rattle.std.proofs.Common.{◌≡◌, ◌∙◌, ◌<◌, ℕ, Result, Ok, slice_index, length, refl, ap, sym, subst, arith}
-use Rattle.v6_base.proofs.Took.{took_none}
+use Rattle.std.proofs.Common.{◌≡◌, ◌∙◌, ◌<◌, ℕ, Option, Result, Ok, slice_index, length, refl, ap, sym, subst, arith}
 use Rattle.v6_base.specs.declared.entry.Place.{Place}
 use Rattle.v6_base.specs.declared.answer.Answer.{Answer}
 use Rattle.v6_base.specs.declared.answer.Answer.TheVariants.{Ret}
 use Rattle.v6_base.specs.declared.entry.PanicKind.{PanicKind}
 use Rattle.pick_rules.specs.declared.table.Table.{Table}
 use Rattle.pick_rules.specs.Table.{IsTable}
+use Rattle.image_keep.specs.Kept.{Kept, area_of, image_of}
+use Rattle.image_keep.specs.Places.{with_image_at}
 use Rattle.fs_nodes.specs.FileSystem.{FileSystem}
 use Rattle.sys_procs.specs.declared.procs.Procs.{Procs}
 use Rattle.sys_procs.specs.Process.{Process, register}
@@ -16,40 +17,42 @@ use Rattle.sys_procs.proofs.Agreement.{no_text_of}
 use Rattle.sys_procs.proofs.Slots.{fifty_processes}
 use Rattle.sys_procs.proofs.Alive.{calls_alive, is_here, no_text_here}
 use Rattle.sys_procs.proofs.Dones.{done_logged}
-use Rattle.sys_procs.proofs.ForkPlaces.{fork_fits, fork_finds, fork_stops}
+use Rattle.sys_procs.proofs.ForkPlaces.{fork_place}
 use Rattle.sys_procs.proofs.Forks.{IsFreeSlot, free_slot, is_seated, seated, child_pid, gone_on, state_seated, board_seated, parent_alive, child_alive, parent_stays, child_is, world_forked, register_forked, next_is, logged_fork, logged_no_fork}
 use Rattle.sys_procs.proofs.fork.fork_into.Goals as goal
 
--- Core has no room.
-pub returns-then-not-has_room-clause-does : goal.returns-then-not-has_room-clause-does
-returns-then-not-has_room-clause-does g c =
+-- It finds no place.
+pub returns-in-Err-clause-does : goal.returns-in-Err-clause-does
+returns-in-Err-clause-does g c =
     let p : Procs = c.args.p.now in
+    let s : ℕ = c.args.s in
+    let child : ℕ = c.args.child in
     let fs : FileSystem = c.args.tree.now.nodes in
-    done_logged (logged_no_fork (board p) c.args.s c.args.child (handed p fs)
-    (fork_stops p c.args.s (calls_alive p fs c.args.s c.requires.calls) c.see.ensures.images.slots
-    (sym c.has_room.ensures ∙ c.if-not-has_room.true))) refl refl refl (took_none _)
+    let alive : IsAlive p s = calls_alive p fs s c.requires.calls in
+    let is : c.copy_image.new.images ≡ p.images =
+    c.copy_image.ensures.images
+    ∙ ap (λ (o : Option Place). with_image_at p.images child (area_of p.images s) (image_of p.images s) o) c.in-Err.ensures.place in
+    done_logged (logged_no_fork (board p) s child (handed p fs)
+    (fork_place p s alive c.see.ensures.images.slots ∙ c.in-Err.ensures.place)) refl
+    (ap (λ (k : Kept). handed (record p { images = k }) fs) is) (ap (λ (k : Kept). board (record p { images = k })) is)
+    c.entry-in-Err.ensures.took
 
--- It has.
-pub copy_image-place-requires-clause-slot : goal.copy_image-place-requires-clause-slot
-copy_image-place-requires-clause-slot g c =
+-- It finds one.
+pub copy_image-requires-clause-slot : goal.copy_image-requires-clause-slot
+copy_image-requires-clause-slot g c =
     (free_slot c.args.p.now c.args.s c.args.child (calls_alive c.args.p.now c.args.tree.now.nodes c.args.s c.requires.calls) c.requires.free).low
 
-pub copy_image-place-requires-clause-nothing : goal.copy_image-place-requires-clause-nothing
-copy_image-place-requires-clause-nothing g c =
+pub copy_image-requires-clause-nothing : goal.copy_image-requires-clause-nothing
+copy_image-requires-clause-nothing g c =
     (free_slot c.args.p.now c.args.s c.args.child (calls_alive c.args.p.now c.args.tree.now.nodes c.args.s c.requires.calls) c.requires.free).image
 
-pub copy_image-place-requires-clause-no_text : goal.copy_image-place-requires-clause-no_text
-copy_image-place-requires-clause-no_text g c =
+pub copy_image-requires-clause-no_text : goal.copy_image-requires-clause-no_text
+copy_image-requires-clause-no_text g c =
     no_text_of c.args.p.now.images c.args.s (calls_alive c.args.p.now c.args.tree.now.nodes c.args.s c.requires.calls).agree.no_text
 
-pub copy_image-place-requires-clause-no_text_there : goal.copy_image-place-requires-clause-no_text_there
-copy_image-place-requires-clause-no_text_there g c =
+pub copy_image-requires-clause-no_text_there : goal.copy_image-requires-clause-no_text_there
+copy_image-requires-clause-no_text_there g c =
     no_text_of c.args.p.now.images c.args.child (calls_alive c.args.p.now c.args.tree.now.nodes c.args.s c.requires.calls).agree.no_text
-
-pub copy_image-place-requires-clause-place : goal.copy_image-place-requires-clause-place
-copy_image-place-requires-clause-place g c =
-    fork_finds c.args.p.now c.args.s (calls_alive c.args.p.now c.args.tree.now.nodes c.args.s c.requires.calls) c.see.ensures.images.slots
-    (sym c.has_room.ensures ∙ c.if-not-has_room.false)
 
 pub add_row-requires-clause-child : goal.add_row-requires-clause-child
 add_row-requires-clause-child g c =
@@ -60,9 +63,9 @@ go_on-requires-clause-parent g c =
     let p : Procs = c.args.p.now in
     let alive : IsAlive p c.args.s = calls_alive p c.args.tree.now.nodes c.args.s c.requires.calls in
     subst (λ (q : Procs). IsAlive q c.args.s)
-    (sym (is_seated p c.args.s c.args.child c.copy_image-place.result c.args.rows.now c.add_row.new.table c.copy_image-place.new.images
-    c.requires.rows c.add_row.ensures.table c.copy_image-place.ensures.images))
-    (parent_alive p c.args.s c.args.child c.copy_image-place.result alive c.see.ensures.rows.long c.see.ensures.images.slots
+    (sym (is_seated p c.args.s c.args.child c.in-Ok.place c.args.rows.now c.add_row.new.table c.copy_image.new.images
+    c.requires.rows c.add_row.ensures.table c.in-Ok.ensures.place c.copy_image.ensures.images))
+    (parent_alive p c.args.s c.args.child c.in-Ok.place alive c.see.ensures.rows.long c.see.ensures.images.slots
     (free_slot p c.args.s c.args.child alive c.requires.free) (subst (λ (t : Table). IsTable t) c.add_row.ensures.table c.add_row.ensures.good))
 
 pub go_on-requires-clause-child : goal.go_on-requires-clause-child
@@ -70,9 +73,9 @@ go_on-requires-clause-child g c =
     let p : Procs = c.args.p.now in
     let alive : IsAlive p c.args.s = calls_alive p c.args.tree.now.nodes c.args.s c.requires.calls in
     subst (λ (q : Procs). IsAlive q c.args.child)
-    (sym (is_seated p c.args.s c.args.child c.copy_image-place.result c.args.rows.now c.add_row.new.table c.copy_image-place.new.images
-    c.requires.rows c.add_row.ensures.table c.copy_image-place.ensures.images))
-    (child_alive p c.args.s c.args.child c.copy_image-place.result alive c.see.ensures.rows.long c.see.ensures.images.slots
+    (sym (is_seated p c.args.s c.args.child c.in-Ok.place c.args.rows.now c.add_row.new.table c.copy_image.new.images
+    c.requires.rows c.add_row.ensures.table c.in-Ok.ensures.place c.copy_image.ensures.images))
+    (child_alive p c.args.s c.args.child c.in-Ok.place alive c.see.ensures.rows.long c.see.ensures.images.slots
     (free_slot p c.args.s c.args.child alive c.requires.free) (subst (λ (t : Table). IsTable t) c.add_row.ensures.table c.add_row.ensures.good))
 
 pub go_on-requires-clause-apart : goal.go_on-requires-clause-apart
@@ -86,19 +89,19 @@ go_on-requires-clause-referenced g c =
     let here = is_here p c.args.s alive in
     subst (λ (q : Process). 0 < slice_index c.args.tree.now.nodes.references q.u.dir)
     (sym (ap (λ (q : Procs). process_here q c.args.s)
-    (is_seated p c.args.s c.args.child c.copy_image-place.result c.args.rows.now c.add_row.new.table c.copy_image-place.new.images
-    c.requires.rows c.add_row.ensures.table c.copy_image-place.ensures.images)
-    ∙ (parent_stays p c.args.s c.args.child c.copy_image-place.result alive c.see.ensures.rows.long c.see.ensures.images.slots
+    (is_seated p c.args.s c.args.child c.in-Ok.place c.args.rows.now c.add_row.new.table c.copy_image.new.images
+    c.requires.rows c.add_row.ensures.table c.in-Ok.ensures.place c.copy_image.ensures.images)
+    ∙ (parent_stays p c.args.s c.args.child c.in-Ok.place alive c.see.ensures.rows.long c.see.ensures.images.slots
     (free_slot p c.args.s c.args.child alive c.requires.free) ∙ here.process_is)))
     (c.requires.calls.directory here.held here.image_is)
 
-pub returns-clause-does : goal.returns-clause-does
-returns-clause-does g c =
+pub returns-in-Ok-clause-does : goal.returns-in-Ok-clause-does
+returns-in-Ok-clause-does g c =
     let p : Procs = c.args.p.now in
     let fs : FileSystem = c.args.tree.now.nodes in
     let s : ℕ = c.args.s in
     let child : ℕ = c.args.child in
-    let place : Place = c.copy_image-place.result in
+    let place : Place = c.in-Ok.place in
     let w : World = handed p fs in
     let alive : IsAlive p s = calls_alive p fs s c.requires.calls in
     let free : IsFreeSlot p s child = free_slot p s child alive c.requires.free in
@@ -107,14 +110,14 @@ returns-clause-does g c =
     let done : Answer → Result Answer PanicKind = λ a. Ok a in
     let low : s < length w.processes = let below = alive.below in omega (arith, below, fifty_processes p.rows.slots p.images) in
     let child_low : child < length w.processes = let below = free.low in omega (arith, below, fifty_processes p.rows.slots p.images) in
-    let now : ◌≡◌ {A = Procs} (record p { rows = c.args.rows.now; table = c.add_row.new.table; images = c.copy_image-place.new.images }) (seated p s child place) =
-    is_seated p s child place c.args.rows.now c.add_row.new.table c.copy_image-place.new.images c.requires.rows c.add_row.ensures.table c.copy_image-place.ensures.images in
+    let now : ◌≡◌ {A = Procs} (record p { rows = c.args.rows.now; table = c.add_row.new.table; images = c.copy_image.new.images }) (seated p s child place) =
+    is_seated p s child place c.args.rows.now c.add_row.new.table c.copy_image.new.images c.requires.rows c.add_row.ensures.table c.in-Ok.ensures.place c.copy_image.ensures.images in
     let pid : (process_here (seated p s child place) child).row.pid ≡ next_pid w =
     ap (λ (q : Process). q.row.pid) (child_is p s child place alive fifty images free) ∙ next_is p fs fifty in
     let r1 : register (process_here (seated p s child place) s) 1 ≡ register (process_here p s) 1 =
     ap (λ (q : Process). register q 1) (parent_stays p s child place alive fifty images free) in
     done_logged (logged_fork (board p) s child w place
-    (fork_fits p s alive images place (sym c.has_room.ensures ∙ c.if-not-has_room.false) c.copy_image-place.ensures.place))
+    (fork_place p s alive images ∙ c.in-Ok.ensures.place))
     (ap done (c.go_on.ensures.answer
     ∙ (ap (λ (q : Procs). Ret (process_here q child).row.pid (register (process_here q s) 1)) now
     ∙ (ap (λ (n : ℕ). Ret n (register (process_here (seated p s child place) s) 1)) pid

@@ -1,11 +1,9 @@
-use Rattle.std.proofs.Common.{◌≡◌, ◌+◌, [], Some, None, sym, ap, ◌∙◌}
-use Rattle.std.specs.Option.{unwrap_or}
-use Rattle.v6_base.specs.declared.entry.Place.TheVariants.{Core}
+use Rattle.std.proofs.Common.{◌≡◌, ◌+◌, [], false, is_some, Option, sym, ap, ◌∙◌}
+use Rattle.v6_base.specs.declared.entry.Place.{Place}
 use Rattle.image_keep.specs.Kept.{Alive, with_keeping}
 use Rattle.image_keep.specs.Area.{made_area}
-use Rattle.image_keep.specs.Places.{core_fit, placed, made_image, with_image_at}
+use Rattle.image_keep.specs.Places.{placed, made_image, with_image_at}
 use Rattle.image_keep.proofs.PlaceFrames.{bare_moved}
-use Rattle.sys_procs.proofs.PlacingLemmas.{place_in_core}
 use Rattle.sys_procs.proofs.placing.new_image.Goals as goal
 
 pub unreachable-requires-in-Err : goal.unreachable-requires-in-Err
@@ -13,21 +11,16 @@ unreachable-requires-in-Err c =
     let proto = c.in-Ok.proto in
     let clicks : 16 + c.args.d + 20 ≡ 16 + proto.data_size + proto.stack_size =
     λ i. 16 + sym c.in-Ok.ensures.2 i + sym c.in-Ok.ensures.3 i in
-    let none : Some (Core (unwrap_or (core_fit c.args.images.now (16 + c.args.d + 20)) 0)) ≡ None =
-    sym (place_in_core c.args.images.now c.args.s (16 + c.args.d + 20) c.requires.no_text c.requires.room)
-    ∙ (ap (placed c.args.images.now c.args.s) clicks ∙ c.in-Err.ensures.place) in
-    cc none
+    let none : is_some (placed c.args.images.now c.args.s (16 + c.args.d + 20)) ≡ false =
+    ap (λ (o : Option Place). is_some o) (ap (placed c.args.images.now c.args.s) clicks ∙ c.in-Err.ensures.place) in
+    cc (none, c.requires.place)
 
 pub returns-clause-place : goal.returns-clause-place
 returns-clause-place c =
     let proto = c.in-Ok.proto in
-    let clicks : 16 + proto.data_size + proto.stack_size ≡ 16 + c.args.d + 20 =
-    λ i. 16 + c.in-Ok.ensures.2 i + c.in-Ok.ensures.3 i in
-    let same : Some c.in-Ok-replace.place
-    ≡ Some (Core (unwrap_or (core_fit c.args.images.now (16 + c.args.d + 20)) 0)) =
-    sym c.in-Ok-replace.ensures.place
-    ∙ (ap (placed c.args.images.now c.args.s) clicks ∙ place_in_core c.args.images.now c.args.s (16 + c.args.d + 20) c.requires.no_text c.requires.room) in
-    cc same
+    let clicks : 16 + c.args.d + 20 ≡ 16 + proto.data_size + proto.stack_size =
+    λ i. 16 + sym c.in-Ok.ensures.2 i + sym c.in-Ok.ensures.3 i in
+    ap (placed c.args.images.now c.args.s) clicks ∙ c.in-Ok-replace.ensures.place
 
 pub replace-requires-clause-text : goal.replace-requires-clause-text
 replace-requires-clause-text c = sym c.requires.no_text

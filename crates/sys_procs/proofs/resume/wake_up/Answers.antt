@@ -1,7 +1,6 @@
 use Rattle.std.proofs.Common.{◌≡◌, ◌∙◌, ℕ, ◌<◌, replicate, slice_index, ap, subst, sym}
 use Rattle.u_area.specs.declared.area.UArea.{UArea}
 use Rattle.pick_rules.specs.declared.table.Table.{Table}
-use Rattle.pick_rules.specs.Table.{is_loaded}
 use Rattle.image_keep.specs.Kept.{Held, Has, area_in}
 use Rattle.sys_procs.specs.declared.procs.Procs.{Procs}
 use Rattle.sys_procs.specs.Process.{Process}
@@ -37,7 +36,6 @@ returns-clause-calls c = λ fs calls.
       runs = ap (λ (t : Table). t.running) same ∙ calls.runs;
       user = calls.user;
       image = c.put_area.ensures.alive.image;
-      loaded = ap (λ (t : Table). is_loaded t c.args.s) same ∙ calls.loaded;
       directory = λ held has. subst (λ ino. 0 < slice_index fs.references ino) (sym (same_dir c held has ∙ old)) (calls.directory here.held here.image_is);
       few = calls.few;
     }

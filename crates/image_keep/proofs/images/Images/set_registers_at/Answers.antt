@@ -1,17 +1,17 @@
-use Rattle.std.proofs.Common.{◌≡◌, ◌+◌, ◌-◌, ◌≤◌, ◌∙◌, ℕ, length, slice_set, rules, ap, sym, subst, arith}
+use Rattle.std.proofs.Common.{◌≡◌, ◌-◌, ◌∙◌, length, slice_set, rules, ap, sym, subst, arith}
 use Rattle.u_area.specs.declared.area.UArea.{UArea}
 use Rattle.core_mem.specs.Bytes.{over}
 use Rattle.image_keep.specs.Kept.{Kept, HasImage, HasSizes, IsKept, area_of, image_of}
 use Rattle.image_keep.specs.Inside.{stock_in}
 use Rattle.image_keep.specs.Line.{line_of}
 use Rattle.image_keep.specs.Starts.{AreStarts}
-use Rattle.image_keep.specs.Running.{IsFixed, with_state, state_bytes}
+use Rattle.image_keep.specs.Running.{with_state, state_bytes}
 use Rattle.image_keep.proofs.Frames.{alive_image}
 use Rattle.image_keep.proofs.AreaSet.{AreaSet}
 use Rattle.image_keep.proofs.KeptForm.{kept_holds}
 use Rattle.image_keep.proofs.Told.{area_told}
 use Rattle.image_keep.proofs.AreasKept.{image_low, seat, area_known, areas_described}
-use Rattle.image_keep.proofs.Registers.{area_before, stands, state_side, state_set, state_sizes, starts_described}
+use Rattle.image_keep.proofs.Registers.{stands, state_side, state_set, state_sizes, starts_described}
 use Rattle.std.specs.Vec.{with_items}
 use Rattle.std.proofs.lemmas.List.{with_items_is}
 use Rattle.image_keep.proofs.images.Images.set_registers_at.Goals as goal
