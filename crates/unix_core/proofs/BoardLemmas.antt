@@ -15,7 +15,8 @@ use Rattle.pick_rules.specs.Apply.{applied}
 use Rattle.pick_rules.specs.Effects.{Show, came}
 use Rattle.pick_rules.specs.Logged.{logged, log_one}
 use Rattle.image_keep.specs.Kept.{Kept}
-use Rattle.sys_procs.specs.Agree.{untimed, board_of}
+use Rattle.sys_procs.specs.Agree.{board_of}
+use Rattle.swap_sched.proofs.Boards.{untimed}
 use Rattle.sys_procs.proofs.Tables.{untimed_ready, untimed_wakeup}
 use Rattle.abstract_unix.specs.Unix.{Unix}
 use Rattle.unix_core.specs.Passing.{trapped}

@@ -1,5 +1,5 @@
 -- A kernel that is about to execute `/etc/init`: nothing but process 1 is there yet.
-use Rattle.std.proofs.Common.{◌≡◌, ◌≢◌, ◌<◌, ◌≤◌, ◌+◌, ◌*◌, ◌==◌, if◌then◌else◌, cond, ℕ, zero, suc, Bool, true, false, List, [], ◌∷◌, length, replicate, get_or, min, count_by, sum_by, Option, Some, None, slice_index, refl, sym, ap, ◌∙◌, subst, arith, inl, inr, map}
+use Rattle.std.proofs.Common.{◌≡◌, ◌≢◌, ◌<◌, ◌≤◌, ◌+◌, ◌*◌, ◌==◌, if◌then◌else◌, cond, ℕ, zero, suc, Bool, false, List, [], ◌∷◌, length, replicate, get_or, min, count_by, sum_by, Option, Some, None, slice_index, refl, sym, ap, ◌∙◌, subst, arith, inl, inr, map}
 use Rattle.std.proofs.lemmas.Bool.{eq-eqb, ne_eqb, cases_lt, cases_eq}
 use Rattle.std.proofs.lemmas.Bool.Decides.{eqb_tells}
 use Rattle.std.proofs.lemmas.List.{get_or-replicate, get_or_past, length-replicate}
@@ -9,12 +9,14 @@ use Rattle.open_files.specs.declared.file.OpenFile.{OpenFile}
 use Rattle.open_files.specs.Files.{file_at}
 use Rattle.tty_line.specs.Terminal.{first_terminal}
 use Rattle.pick_rules.specs.declared.table.Table.{Table}
-use Rattle.pick_rules.specs.Table.{empty_row, row_at, first_table, is_in_core, IsTable}
+use Rattle.pick_rules.specs.Table.{empty_row, row_at, first_table, IsTable}
+use Rattle.pick_rules.specs.Search.{least}
+use Rattle.pick_rules.specs.Swapper.{candidate}
 use Rattle.fs_nodes.specs.FileSystem.{FileSystem}
 use Rattle.fs_tree.specs.Marks.{no_marks}
 use Rattle.sys_files.specs.Sound.{is_of, numbers_of}
 use Rattle.proc_tab.specs.Processes.{first_processes, member_at}
-use Rattle.image_keep.specs.Kept.{Held, Keeping, Nothing, Alive, Grave, Kept, Has, keeping, first_kept, with_keeping, area_in, clicks_of, text_of}
+use Rattle.image_keep.specs.Kept.{Keeping, Nothing, Alive, Kept, Has, keeping, first_kept, with_keeping, area_in, clicks_of, text_of}
 use Rattle.image_keep.proofs.Frames.{keeping_same, keeping_other}
 use Rattle.sys_procs.specs.Process.{Process, process_in}
 use Rattle.sys_procs.specs.World.{processes_in, clock_of, texts_in}
@@ -29,7 +31,7 @@ use Rattle.unix_core.specs.declared.machine.Stage.TheVariants as stage
 use Rattle.abstract_unix.specs.Unix.{no_texts}
 use Rattle.abstract_unix.specs.References.{is_text_of}
 use Rattle.abstract_unix.specs.Runs.{first_process, first_unix, system_with}
-use Rattle.unix_core.specs.Parts.{unix_of, system_at, first_held, IsGood, IsKernel}
+use Rattle.unix_core.specs.Parts.{unix_of, system_at, first_held, IsGood, IsNew, IsKernel}
 use Rattle.unix_core.proofs.GoodLemmas.{texts_none, owed_so}
 use Rattle.abstract_unix.specs.Whole.{Told, told_of, told_in, names, stands, all_names, all_stand, refer, Owes}
 
@@ -117,17 +119,6 @@ first_image core = keeping_same (first_kept core) 1 (Alive first_held) (let long
 first_alone : (core s : ℕ) → s ≢ 1 → keeping (first_images core) s ≡ Nothing
 first_alone core s other = keeping_other (first_kept core) 1 s (Alive first_held) other ∙ everywhere 50 Nothing s
 
-abbrev held_in : Held → Keeping → Held
-held_in other Nothing = other
-held_in other (Alive held) = held
-held_in other (Grave u block) = other
-
-first_each : (core : ℕ) (P : Held → Type 0) → P first_held → (s : ℕ) (held : Held) → Has (first_images core) s held → P held
-first_each core P own s held has = elim (cases_eq s 1) [
-  | inl here ↦ subst P (ap (held_in first_held) (sym (first_image core) ∙ ap (keeping (first_images core)) (sym here) ∙ has)) own
-  | inr other ↦ absurd (let none = first_alone core s other in cc (none, has))
-]
-
 first_free : (time s : ℕ) → 2 ≤ s → row_at (first_table time) s ≡ empty_row
 first_free time zero high = absurd (omega (arith, high))
 first_free time (suc zero) high = absurd (omega (arith, high))
@@ -202,6 +193,11 @@ no_places : map text_place kept.no_texts ≡ replicate 40 None
 unfolding kept.no_texts
 no_places = refl
 
+-- process 1 is in core, and nobody else is there
+nobody_out : (time : ℕ) → candidate (first_table time) ≡ None
+unfolding least
+nobody_out time = refl
+
 -- The world that a kernel begins with.
 module _ (fs : FileSystem) (core : ℕ) (referred : (ino : ℕ) → slice_index fs.references ino ≡ (if ino == 1 then 2 else 0))
     (w : World) (nodes : w.files.tree.nodes ≡ fs) (marks : w.files.tree.marks ≡ no_marks) (table : w.files.table ≡ no_files) (line : w.files.line ≡ first_terminal)
@@ -237,7 +233,6 @@ module _ (fs : FileSystem) (core : ℕ) (referred : (ino : ℕ) → slice_index 
   first_good : IsGood w
   first_good = record {
     agree = begun_agree;
-    in_core = λ s above low held has. first_each core (λ h. is_in_core (Some h.place) ≡ true) refl s held (ap (λ k. keeping k s) (sym images) ∙ has);
     owed = owed_so w begun_agree (subst (λ (files : List (Option OpenFile)). Owes w.files.tree.nodes.references files no_texts (told_in (unix_of w).processes)) (sym table)
         (subst (Owes w.files.tree.nodes.references no_files no_texts) (sym (ap told_in processes_are ∙ told_is)) (record {
           numbers = λ entry. ap numbers_of (none_open entry) ∙ sym (none_named entry);
@@ -252,9 +247,18 @@ module _ (fs : FileSystem) (core : ℕ) (referred : (ino : ℕ) → slice_index 
     core = clicks ∙ sym (ap (λ (k : Kept). k.core) images);
   }
 
+  first_new : IsNew w
+  first_new = record {
+    good = first_good;
+    runs = ap (λ (t : Table). t.running) slots;
+    nobody_out = ap (λ t. candidate t) slots ∙ nobody_out fs.store.stamp;
+  }
+
   pub first_kernel : IsKernel stage.New w
   first_kernel = record {
-    new = λ e. first_good;
+    new = λ e. first_new;
+    stopped = λ e. absurd (cc e);
+    finished = λ e. absurd (cc e);
     running = λ s e. absurd (cc e);
     resting = λ e. absurd (cc e);
   }

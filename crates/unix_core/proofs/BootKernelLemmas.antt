@@ -1,5 +1,5 @@
 -- What a kernel is beside its events: the start of its run, the switches, and the end.
-use Rattle.std.proofs.Common.{◌≡◌, ℕ, [], ◌∷◌, refl, sym, ap}
+use Rattle.std.proofs.Common.{◌≡◌, ℕ, [], ◌∷◌, refl, ap}
 use Rattle.v6_base.specs.Trace.{Log, Took, Taken}
 use Rattle.v6_base.specs.declared.entry.Entry.TheVariants.{Boot}
 use Rattle.v6_base.proofs.Took.{took_then}
@@ -8,13 +8,14 @@ use Rattle.fs_nodes.specs.FileSystem.{FileSystem}
 use Rattle.unix_core.specs.declared.world.World.{World}
 use Rattle.unix_core.specs.declared.machine.Stage.{Stage}
 use Rattle.unix_core.specs.declared.machine.Stage.TheVariants as stage
-use Rattle.abstract_unix.specs.Unix.{Unix, New, Started}
+use Rattle.abstract_unix.specs.Unix.{New, Started}
 use Rattle.abstract_unix.specs.Turn.{pass_of, settled_after}
 use Rattle.abstract_unix.specs.Runs.{start_of, event_of, Switch, finished}
-use Rattle.unix_core.specs.Parts.{unix_of, board_in, system_at, phase_of, IsGood, IsUser, IsKernel}
+use Rattle.unix_core.specs.Memory.{kept_in}
+use Rattle.unix_core.specs.Parts.{unix_of, board_in, system_at, phase_of, IsGood, IsUser, IsCovered, IsKernel}
 
 pub kernel_good : (at : Stage) (w : World) → phase_of at ≡ Started → IsKernel at w → IsGood w
-kernel_good stage.New w started kernel = kernel.new refl
+kernel_good stage.New w started kernel = (kernel.new refl).good
 kernel_good (stage.Running f) w started kernel = (kernel.running f refl).user.ready.good
 kernel_good stage.Resting w started kernel = (kernel.resting refl).good
 kernel_good stage.Stopped w started kernel = absurd (cc started)
@@ -36,7 +37,6 @@ module _ (w : World) (word : ℕ) where
   switched_good : IsGood w → IsGood switched
   switched_good good = record {
     agree = good.agree;
-    in_core = good.in_core;
     owed = good.owed;
     marks = good.marks;
     running = good.running;
@@ -51,9 +51,16 @@ module _ (w : World) (word : ℕ) where
     settled = user.settled;
   }
 
+  -- and nothing that is kept
+  switched_covered : IsCovered w → IsCovered switched
+  unfolding kept_in
+  switched_covered covered = covered
+
   pub switched_kernel : (at : Stage) → IsKernel at w → IsKernel at switched
   switched_kernel at kernel = record {
-    new = λ e. switched_good (kernel.new e);
+    new = λ e. let was = kernel.new e in record { good = switched_good was.good; runs = was.runs; nobody_out = was.nobody_out };
+    stopped = λ e. switched_covered (kernel.stopped e);
+    finished = λ e. switched_covered (kernel.finished e);
     running = λ f e. let was = kernel.running f e in record { user = switched_user f.slot was.user; fixed = was.fixed };
     resting = λ e. let was = kernel.resting e in record {
       good = switched_good was.good;
@@ -75,9 +82,29 @@ module _ (w : World) (new : FileSystem) (store : new.store ≡ synced w.files.tr
   updated_system =
       ap (λ s. record { unix = record (unix_of w) { store = s }; board = board_in w }) store
 
--- A run that is finished keeps nothing together but its files.
-pub finished_kernel : (w : World) → IsKernel stage.Finished w
-finished_kernel w = record { new = λ e. absurd (cc e); running = λ s e. absurd (cc e); resting = λ e. absurd (cc e) }
+  -- what is kept knows nothing of the disk
+  pub updated_covered : IsCovered w → IsCovered updated
+  unfolding kept_in
+  updated_covered covered = covered
+
+-- A run that has stopped keeps nothing together but its images, and one that is finished its files beside.
+pub stopped_kernel : (w : World) → IsCovered w → IsKernel stage.Stopped w
+stopped_kernel w covered = record {
+  new = λ e. absurd (cc e);
+  stopped = λ e. covered;
+  finished = λ e. absurd (cc e);
+  running = λ f e. absurd (cc e);
+  resting = λ e. absurd (cc e);
+}
+
+pub finished_kernel : (w : World) → IsCovered w → IsKernel stage.Finished w
+finished_kernel w covered = record {
+  new = λ e. absurd (cc e);
+  stopped = λ e. absurd (cc e);
+  finished = λ e. covered;
+  running = λ f e. absurd (cc e);
+  resting = λ e. absurd (cc e);
+}
 
 -- the stage of a run that hasn't been started
 pub new_stage : (at : Stage) → phase_of at ≡ New → at ≡ stage.New

@@ -1,16 +1,13 @@
 -- A call on processes: what the process that calls has for it, what it has come to, and what the world is then.
-use Rattle.std.proofs.Common.{◌≡◌, ◌∙◌, ℕ, Bool, true, false, ◌||◌, if◌then◌else◌, List, length, get_or, map, Option, Some, None, slice_index, refl, sym, ap, subst, inl, arith}
+use Rattle.std.proofs.Common.{◌≡◌, ◌∙◌, ℕ, Bool, true, false, if◌then◌else◌, List, length, get_or, map, Option, Some, None, slice_index, refl, sym, ap, subst, arith}
 use Rattle.std.specs.Prelude.{Result, Ok, Err}
-use Rattle.std.proofs.lemmas.Bool.{ne_eqb}
 use Rattle.v6_base.specs.Trace.{Taken, Took}
 use Rattle.v6_base.specs.declared.answer.Answer.{Answer}
 use Rattle.v6_base.specs.declared.entry.PanicKind.{PanicKind}
 use Rattle.v6_base.specs.declared.entry.PanicKind.TheVariants as panic
-use Rattle.pick_rules.specs.Table.{row_at, is_in_core}
 use Rattle.pick_rules.specs.Board.{Board}
 use Rattle.pick_rules.specs.Effects.{kind_of, lifted}
 use Rattle.pick_rules.specs.Logged.{Logged, Stop, logged, left_by}
-use Rattle.image_keep.specs.Kept.{place_in}
 use Rattle.open_files.specs.declared.file.OpenFile.{OpenFile}
 use Rattle.fs_nodes.specs.FileSystem.{IsFileSystem}
 use Rattle.fs_tree.specs.declared.tree.Tree.{Tree}
@@ -20,7 +17,6 @@ use Rattle.sys_procs.specs.Comes.{Comes, comes}
 use Rattle.sys_procs.specs.Agree.{answered}
 use Rattle.sys_procs.specs.Handed.{AreProcs, Calls, handed, board, came}
 use Rattle.sys_procs.specs.Done.{HasDone, HasLeft}
-use Rattle.sys_procs.proofs.Alive.{is_here}
 use Rattle.unix_core.specs.declared.world.World.{World}
 use Rattle.abstract_unix.specs.declared.ending.Ending.{Ending}
 use Rattle.abstract_unix.specs.Unix.{Unix, no_texts}
@@ -29,7 +25,7 @@ use Rattle.abstract_unix.specs.Calls.{answers, came_by, with_world, world_of}
 use Rattle.unix_core.specs.Parts.{unix_of, board_in, IsReady, HasCome, unmet_as, ended_as, is_over}
 use Rattle.abstract_unix.specs.Whole.{told_in, Owes}
 use Rattle.abstract_unix.proofs.Owing.{dir_referred, few_references, owes_refs}
-use Rattle.unix_core.proofs.GoodLemmas.{told_of_slot, owed_none, owed_so, fifty_told, told_of_image, core_moved, still_runs, Rests, moved_unix, good_then}
+use Rattle.unix_core.proofs.GoodLemmas.{told_of_slot, owed_none, owed_so, fifty_told, told_of_image, still_runs, Rests, moved_unix, good_then}
 use Rattle.unix_core.proofs.WorldLemmas.{ready_alive, slot_is, is_living, forty, references_in}
 use Rattle.unix_core.proofs.LoggedLemmas.{over, stop_of, logged_over}
 use Rattle.abstract_unix.proofs.Moved.{MovedBoard, AreTamed, Moves, tamed_moves, tamed_mild}
@@ -39,17 +35,12 @@ use Rattle.abstract_unix.proofs.Mild.{IsMild, IsNear}
 pub ready_calls : (w : World) (s : ℕ) → IsReady w s → length w.files.table ≡ 100 → Calls w.procs w.files.tree.nodes s
 ready_calls w s ready long =
     let alive = ready_alive w s ready in
-    let here = is_here w.procs s alive in
     let u : Unix = unix_of w in
-    let place : (row_at w.procs.table s).place ≡ Some here.held.place = (alive.agree.each s alive.above alive.below).place ∙ ap place_in here.image_is in
     record {
       agree = alive.agree;
       runs = ready.runs;
       user = ready.user;
       image = alive.image;
-      loaded =
-          ap (λ b. b || is_in_core (row_at w.procs.table s).place) (ne_eqb s 0 (λ zero. omega (arith, zero, ready.user)))
-          ∙ ap is_in_core place ∙ ready.good.in_core s alive.above alive.below here.held here.image_is;
       directory = λ held has.
           dir_referred w.files.tree.nodes.references w.files.table u.texts (told_in u.processes) ready.good.owed s (record { files = held.u.files; dir = held.u.dir })
           (told_of_image w alive.agree s alive.above alive.below held has);
@@ -94,7 +85,7 @@ pub record IsLike (w : World) (x : its.World) : Type 0 where
   pub refs : (ino : ℕ) → slice_index x.inodes.references ino ≡ slice_index w.files.tree.nodes.references ino
   pub told : told_in x.processes ≡ told_in (unix_of w).processes
 
--- The world after a call that leaves to each its files and its directory, and to whoever has an image a place in core.
+-- The world after a call that leaves to each its files and its directory.
 module _ (w now : World) (s : ℕ) (ready : IsReady w s) (x : its.World) (agree : AreProcs now.procs)
     (state : handed now.procs now.files.tree.nodes ≡ x) (like : IsLike w x) (after : MovedBoard (board w.procs) (board now.procs)) (stays : StaysBeside w now) where
   told : (r : ℕ) → told_of_slot now r ≡ told_of_slot w r
@@ -102,7 +93,7 @@ module _ (w now : World) (s : ℕ) (ready : IsReady w s) (x : its.World) (agree 
 
   moved_ready : IsReady now s
   moved_ready = record {
-    good = good_then w now stays.rests after.core ready.good agree (core_moved w now ready.good agree after (λ r t is. inl (sym (told r) ∙ is)))
+    good = good_then w now stays.rests after.core ready.good agree
         (still_runs w now ready.good agree (λ r is. sym after.running ∙ is) (λ r t was is. told r ∙ is))
         (let refs : List ℕ = now.files.tree.nodes.references in
         owed_so now agree (subst (λ (files : List (Option OpenFile)). Owes refs files no_texts (told_in (unix_of now).processes)) (sym stays.table)

@@ -1,5 +1,5 @@
 -- A turn ends: what belongs together still does, whether the process goes on, sleeps or has exited.
-use Rattle.std.proofs.Common.{◌≡◌, ◌≢◌, ◌<◌, ◌==◌, ◌++◌, cond, ℕ, Bool, true, false, ℤ, int_lt, pos, [], Option, Some, None, refl, sym, ap, ◌∙◌, subst, arith}
+use Rattle.std.proofs.Common.{◌≡◌, ◌≢◌, ◌<◌, ◌==◌, ◌++◌, cond, ℕ, Bool, true, false, ℤ, int_lt, pos, [], Some, refl, sym, ap, ◌∙◌, subst, arith}
 use Rattle.std.proofs.lemmas.List.{get_or-set_same, get_or-set_other, length-set}
 use Rattle.v6_base.specs.Trace.{Took, Taken}
 use Rattle.v6_base.proofs.Took.{took_then}
@@ -31,7 +31,8 @@ use Rattle.abstract_unix.specs.Unix.{Unix, System, Started}
 use Rattle.unix_core.specs.Passing.{trapped, ended_table}
 use Rattle.abstract_unix.specs.Endings.{is_early}
 use Rattle.abstract_unix.specs.Turn.{Turn, end_effects, ending_at, settled, settled_after, turned_by, turned}
-use Rattle.unix_core.specs.Parts.{unix_of, board_in, system_at, turn_end, phase_of, is_over, IsGood, IsKernel, Takes}
+use Rattle.unix_core.specs.Parts.{unix_of, board_in, system_at, turn_end, phase_of, is_over, IsGood, IsCovered, IsKernel, Takes}
+use Rattle.unix_core.proofs.BootKernelLemmas.{stopped_kernel}
 use Rattle.unix_core.proofs.TableLemmas.{RunsImage, with_table, good_table}
 use Rattle.unix_core.proofs.TickLemmas.{trapped_like, runin_like}
 
@@ -94,8 +95,8 @@ module _ (v : Processes) (k : Kept) (t : Table) (s : ℕ) (agree : Agree v t k) 
   ended_agree u (ending.Slept pri chan) is good has =
       agree_like v (asleep t s pri chan) u k (lain_agree pri chan (has (λ e. cc e))) good (subst (AreLike (asleep t s pri chan)) (sym is) (lain_like t s pri chan))
   ended_agree u ending.Ended is good has = subst (λ x. Agree v x k) (sym is) agree
-  ended_agree u ending.NoRoom is good has = subst (λ x. Agree v x k) (sym is) agree
   ended_agree u ending.NotBuilt is good has = subst (λ x. Agree v x k) (sym is) agree
+  ended_agree u (ending.Panic kind) is good has = subst (λ x. Agree v x k) (sym is) agree
 
 -- a turn with which the run doesn't end
 pub not_over : (e : Ending) (pc : ℕ) → ending_at pc e ≡ AtEnd → is_over e ≡ false
@@ -103,8 +104,8 @@ not_over ending.Next pc goes = refl
 not_over ending.Trapped pc goes = refl
 not_over (ending.Slept pri chan) pc goes = refl
 not_over ending.Ended pc goes = refl
-not_over ending.NoRoom pc goes = absurd (cc goes)
 not_over ending.NotBuilt pc goes = absurd (cc goes)
+not_over (ending.Panic kind) pc goes = absurd (cc goes)
 
 trapped_running : (t : Table) (s : ℕ) → (trapped t s).running ≡ t.running
 unfolding setpri
@@ -120,8 +121,8 @@ ended_runs t s ending.Next r is = is
 ended_runs t s ending.Trapped r is = sym (trapped_running t s) ∙ is
 ended_runs t s (ending.Slept pri chan) r is = absurd (let none = sleep_running t s pri chan in cc (none, is))
 ended_runs t s ending.Ended r is = is
-ended_runs t s ending.NoRoom r is = is
 ended_runs t s ending.NotBuilt r is = is
+ended_runs t s (ending.Panic kind) r is = is
 
 pub ended_image : (k : Kept) (t u : Table) (s : ℕ) (e : Ending) → u ≡ ended_table t s e → RunsImage t k → RunsImage u k
 ended_image k t u s e is runs r now above = runs r (ended_runs t s e r (ap (λ (x : Table). x.running) (sym is) ∙ now)) above
@@ -131,8 +132,8 @@ ended_clock t s ending.Next = refl
 ended_clock t s ending.Trapped = trapped_clock t s
 ended_clock t s (ending.Slept pri chan) = λ i. record { time = sleep_now t s pri chan i; ticks = sleep_ticks t s pri chan i; tout = sleep_tout t s pri chan i }
 ended_clock t s ending.Ended = refl
-ended_clock t s ending.NoRoom = refl
 ended_clock t s ending.NotBuilt = refl
+ended_clock t s (ending.Panic kind) = refl
 
 module _ (w : World) (good : IsGood w) (s : ℕ) (above : 0 < s) (low : s < 50) (e : Ending) (runs : e ≢ ending.Ended → w.procs.table.running ≡ Some s)
     (t : Table) (is : t ≡ ended_table w.procs.table s e) (table : IsTable t) where
@@ -171,25 +172,22 @@ module _ (w : World) (good : IsGood w) (s : ℕ) (above : 0 < s) (low : s < 50) 
         (took_then a b c _ _ _ one two (ap (λ (x : Board). (logged {W = Unix} (board_in w) (end_effects s e)).items ++ (settled x).items) board))
 
 -- The run ends.
-pub stopped_kernel : (w : World) → IsKernel stage.Stopped w
-stopped_kernel w = record { new = λ f. absurd (cc f); running = λ s f. absurd (cc f); resting = λ f. absurd (cc f) }
-
 module _ (w : World) (s pc : ℕ) where
-  pub stopped_takes : (e : Ending) → is_early (ending_at pc e) ≡ true → Takes (turn_end w s pc e) stage.Stopped w
-  stopped_takes ending.Next f = absurd (cc f)
-  stopped_takes ending.Trapped f = absurd (cc f)
-  stopped_takes (ending.Slept pri chan) f = absurd (cc f)
-  stopped_takes ending.Ended f = absurd (cc f)
-  stopped_takes ending.NoRoom f = record { kernel = stopped_kernel w; system = refl; phase = refl }
-  stopped_takes ending.NotBuilt f = record { kernel = stopped_kernel w; system = refl; phase = refl }
+  pub stopped_takes : (e : Ending) → is_early (ending_at pc e) ≡ true → (is_over e ≡ true → IsCovered w) → Takes (turn_end w s pc e) stage.Stopped w
+  stopped_takes ending.Next f covered = absurd (cc f)
+  stopped_takes ending.Trapped f covered = absurd (cc f)
+  stopped_takes (ending.Slept pri chan) f covered = absurd (cc f)
+  stopped_takes ending.Ended f covered = absurd (cc f)
+  stopped_takes ending.NotBuilt f covered = record { kernel = stopped_kernel w (covered refl); system = refl; phase = refl }
+  stopped_takes (ending.Panic kind) f covered = record { kernel = stopped_kernel w (covered refl); system = refl; phase = refl }
 
   pub stopped_items : (e : Ending) → is_early (ending_at pc e) ≡ true → (turn_end w s pc e).items ≡ []
   stopped_items ending.Next f = absurd (cc f)
   stopped_items ending.Trapped f = absurd (cc f)
   stopped_items (ending.Slept pri chan) f = absurd (cc f)
   stopped_items ending.Ended f = absurd (cc f)
-  stopped_items ending.NoRoom f = refl
   stopped_items ending.NotBuilt f = refl
+  stopped_items (ending.Panic kind) f = refl
 
   -- what is answered of it
   pub end_answer : (e : Ending) → turned_by (ending_at pc e) false ≡ turned (turn_end w s pc e)
@@ -199,3 +197,4 @@ module _ (w : World) (s pc : ℕ) where
           ≡ turned (settled_after (record { unix = unix_of w; log = logged (board_in w) (end_effects s e); is_idle = false; ending = o }))
       by AtEnd = refl
       by (ends.NotBuilt place) = refl
+      by (ends.Panic kind) = refl

@@ -1,16 +1,12 @@
--- What comes from outside, and the pass of the swapper: what they leave of the table, and of the log.
-use Rattle.std.proofs.Common.{◌≡◌, ◌<◌, ℕ, Bool, true, false, List, [], ◌∷◌, ◌++◌, length, get_or, set, map, fold, Some, None, refl, sym, ap, ◌∙◌, subst, arith}
-use Rattle.std.proofs.lemmas.List.{get_or-set_same, get_or-set_other, length-set}
+-- What comes from outside: what it leaves of the table, and of the log.
+use Rattle.std.proofs.Common.{◌≡◌, ℕ, Bool, true, false, List, [], ◌∷◌, ◌++◌, map, fold, None, refl, sym, ap, ◌∙◌, subst}
 use Rattle.v6_base.specs.Trace.{sent, Took, Taken}
 use Rattle.v6_base.proofs.Took.{took_then}
 use Rattle.v6_base.specs.declared.entry.Chan.{Chan}
-use Rattle.v6_base.specs.declared.entry.Chan.TheVariants.{RunOut, Keys}
+use Rattle.v6_base.specs.declared.entry.Chan.TheVariants.{Keys}
 use Rattle.v6_base.specs.declared.entry.Entry.TheVariants as line
-use Rattle.pick_rules.specs.declared.row.TableRow.{TableRow}
 use Rattle.pick_rules.specs.declared.table.Table.{Table}
-use Rattle.pick_rules.specs.Table.{empty_row, row_at, IsTable}
-use Rattle.pick_rules.specs.Priority.{pswp}
-use Rattle.pick_rules.specs.Sleepers.{fall_asleep, sleep_stat}
+use Rattle.pick_rules.specs.Table.{IsTable}
 use Rattle.pick_rules.specs.Board.{Board}
 use Rattle.pick_rules.specs.Effects.{Effect, Show}
 use Rattle.pick_rules.specs.Logged.{Logged, logged, left_by, board_after}
@@ -20,19 +16,18 @@ use Rattle.tty_line.specs.Input.{typed}
 use Rattle.image_keep.specs.Kept.{Kept}
 use Rattle.proc_tab.specs.Processes.{Processes}
 use Rattle.sys_procs.specs.World.{clock_of}
-use Rattle.sys_procs.specs.Agree as kind
 use Rattle.sys_procs.specs.Agree.{Agree, board_of}
 use Rattle.sys_procs.proofs.Agreement.{AreLike, agree_like, tables_same, wakeup_like}
 use Rattle.unix_core.specs.declared.world.World.{World}
 use Rattle.abstract_unix.specs.Unix.{Unix, System}
 use Rattle.unix_core.specs.Passing.{called_table}
-use Rattle.abstract_unix.specs.Turn.{Happened, happens, settled, settled_after, pass_effects, pass_of}
+use Rattle.abstract_unix.specs.Turn.{happens, settled, settled_after}
 use Rattle.abstract_unix.specs.Outside as outside
 use Rattle.abstract_unix.specs.Outside.{wakes, typed_of}
 use Rattle.unix_core.specs.Parts.{unix_of, board_in, system_at, IsGood}
 use Rattle.unix_core.proofs.BoardLemmas.{logged_line}
 use Rattle.unix_core.proofs.LoggedLemmas.{after_items, logged_shown, logged_after}
-use Rattle.unix_core.proofs.TableLemmas.{RunsImage, with_table, good_table, table_system}
+use Rattle.unix_core.proofs.TableLemmas.{RunsImage, with_table, good_table}
 
 -- An event has left this Unix and this log, and the kernel has settled.
 module _ (was now : System) (u : Unix) (l : Logged Unix) (stop : l.stop ≡ None) (is : was ≡ record { unix = u; board = l.board }) where
@@ -44,47 +39,6 @@ module _ (was now : System) (u : Unix) (l : Logged Unix) (stop : l.stop ≡ None
   pub settles_items : (a b c : Taken) → Took a l.items b → Took b (settled was.board).items c → Took a (settled_after (happens u l)).items c
   settles_items a b c first second =
       took_then a b c l.items (settled was.board).items (settled_after (happens u l)).items first second (ap (λ (s : System). l.items ++ (settled s.board).items) is)
-
--- The pass of the swapper.
-pub pass_stop : (b : Board) → (logged {W = Unix} b pass_effects).stop ≡ None
-pass_stop b = ap (λ (l : Logged Unix). l.stop) (logged_line b (line.Sleep 0 pswp RunOut))
-
-pub pass_clock : (t : Table) → clock_of (fall_asleep t 0 pswp RunOut) ≡ clock_of t
-unfolding fall_asleep
-pass_clock t = refl
-
-pub pass_nobody : (t : Table) → (fall_asleep t 0 pswp RunOut).running ≡ None
-unfolding fall_asleep
-pass_nobody t = refl
-
-pass_rows : (t : Table) → (row : TableRow) × (((fall_asleep t 0 pswp RunOut).rows ≡ set t.rows 0 row) × (row.place ≡ (row_at t 0).place))
-unfolding fall_asleep
-pass_rows t = (record (row_at t 0) { stat = sleep_stat pswp; pri = pswp; channel = Some RunOut; calling = true }, (refl, refl))
-
-pub pass_agree : (v : Processes) (k : Kept) (t u : Table) → u ≡ fall_asleep t 0 pswp RunOut → IsTable u → Agree v t k → Agree v u k
-pass_agree v k t u is good a =
-    let rows = pass_rows t in
-    let all : u.rows ≡ set t.rows 0 rows.0 = ap (λ (x : Table). x.rows) is ∙ rows.1.0 in
-    let low : 0 < length t.rows = let long = a.rows in omega (arith, long) in
-    record {
-      table = good;
-      rows = ap length all ∙ length-set t.rows 0 rows.0 ∙ a.rows;
-      kernel = ap (λ l. (get_or l 0 empty_row).place) all ∙ ap (λ (row : TableRow). row.place) (get_or-set_same t.rows 0 rows.0 empty_row low) ∙ rows.1.1 ∙ a.kernel;
-      images = a.images;
-      each = λ s above below.
-          let same : row_at u s ≡ row_at t s = ap (λ l. get_or l s empty_row) all ∙ get_or-set_other t.rows 0 s rows.0 empty_row (λ e. omega (arith, e, above)) in
-          let old = a.each s above below in record {
-            stat = ap (λ (row : TableRow). kind.kind_of_stat row.stat) same ∙ old.stat;
-            image = old.image;
-            place = ap (λ (row : TableRow). row.place) same ∙ old.place;
-            size = λ held e. ap (λ (row : TableRow). row.size) same ∙ old.size held e;
-            quiet = λ f. ap (λ (row : TableRow). row.channel) same ∙ old.quiet f;
-          };
-      text = λ s above below.
-          let same : row_at u s ≡ row_at t s = ap (λ l. get_or l s empty_row) all ∙ get_or-set_other t.rows 0 s rows.0 empty_row (λ e. omega (arith, e, above)) in
-          ap (λ (row : TableRow). row.text) same ∙ a.text s above below;
-      no_text = a.no_text;
-    }
 
 -- Sleepers are woken.
 pub wakes_stop : (b : Board) (called : Bool) (chan : Chan) → (logged {W = Unix} b (wakes called chan)).stop ≡ None
@@ -129,7 +83,6 @@ module _ (w : World) (byte : ℕ) (was : IsGood w) (line : Terminal) (line_is : 
   pub typed_good : IsGood w1
   typed_good = record {
     agree = was.agree;
-    in_core = was.in_core;
     running = was.running;
     owed = was.owed;
     marks = was.marks;
@@ -177,28 +130,3 @@ module _ (w : World) (byte : ℕ) (was : IsGood w) (line : Terminal) (line_is : 
         subst (λ x. Took a (settled_after (typed_of x byte)).items d) same
         (settles_items (system_at (with_table w1 t)) (system_at (with_table w1 t)) (record m.unix { line = (typed w.files.line byte).terminal }) l typed_stop typed_is a c d
         (took_then a b c (sent 0 shown) (logged {W = Unix} (board_in w) (wakes called Keys)).items l.items one two (ap (λ (x : Logged Unix). x.items) (sym l_is))) three)
-
--- The pass of the swapper.
-module _ (w : World) (was : IsGood w) (t : Table) (table_is : t ≡ fall_asleep w.procs.table 0 pswp RunOut) (good : IsTable t)
-    (board_is : board_of t w.procs.images ≡ (logged {W = Unix} (board_in w) pass_effects).board) where
-  pub pass_good : IsGood (with_table w t)
-  pass_good =
-      good_table w t (pass_agree w.procs.rows w.procs.images w.procs.table t table_is good was.agree)
-      (λ s e above. let none : t.running ≡ None = ap (λ (x : Table). x.running) table_is ∙ pass_nobody w.procs.table in absurd (cc (none, e))) was
-
-  abbrev began : System
-  began = system_at w
-
-  pass_is : system_at (with_table w t) ≡ record { unix = began.unix; board = (logged {W = Unix} began.board pass_effects).board }
-  pass_is =
-      table_system w t (ap clock_of table_is ∙ pass_clock w.procs.table)
-      ∙ ap (λ (b : Board). record began { board = b }) board_is
-
-  pub pass_next : (now : System) → now ≡ record (system_at (with_table w t)) { board = (settled (board_in (with_table w t))).board } → now ≡ (settled_after (pass_of began)).next
-  pass_next now final = settles_next (system_at (with_table w t)) now began.unix (logged began.board pass_effects) (pass_stop began.board) pass_is final
-
-  pub pass_items : (n : System) → began ≡ n → (a b c : Taken) → Took a (logged {W = Unix} (board_in w) pass_effects).items b → Took b (settled (board_in (with_table w t))).items c
-      → Took a (settled_after (pass_of n)).items c
-  pass_items n same a b c one two =
-      subst (λ (s : System). Took a (settled_after (pass_of s)).items c) same
-      (settles_items (system_at (with_table w t)) (system_at (with_table w t)) began.unix (logged began.board pass_effects) (pass_stop began.board) pass_is a b c one two)

@@ -1,26 +1,25 @@
--- exit(II): what its log is, and what the Unix is then.
-use Rattle.std.proofs.Common.{◌≡◌, ◌∙◌, ◌<◌, ◌*◌, ◌%◌, ℕ, length, slice_index, List, [], ◌∷◌, map, Option, Some, None, IsSome, refl, sym, ap, subst}
-use Rattle.std.specs.Prelude.{Result, Ok, unwrap_or}
+-- exit(II): what its log is, and what it has come to, whether the process has ended or the run stops.
+use Rattle.std.proofs.Common.{◌≡◌, ◌∙◌, ◌<◌, ◌*◌, ◌%◌, ℕ, length, slice_index, List, [], ◌∷◌, map, Option, Some, None, refl, sym, ap, subst, ◌⊎◌, inl, inr}
+use Rattle.std.specs.Prelude.{unwrap_or}
 use Rattle.std.proofs.lemmas.List.{get_or-set_same}
 use Rattle.v6_base.specs.Trace.{Item, Log, Taken, Took}
 use Rattle.v6_base.proofs.Took.{took_more}
 use Rattle.v6_base.specs.declared.entry.Chan.TheVariants.{Wait}
 use Rattle.v6_base.specs.declared.entry.Entry.TheVariants as line
-use Rattle.v6_base.specs.declared.answer.Answer.{Answer}
-use Rattle.v6_base.specs.declared.entry.PanicKind.{PanicKind}
+use Rattle.v6_base.specs.declared.entry.PanicKind.TheVariants as panic
 use Rattle.pick_rules.specs.Board.{Board, swap_fit}
 use Rattle.pick_rules.specs.Apply.{applied}
-use Rattle.pick_rules.specs.Effects.{Show, Exit}
+use Rattle.pick_rules.specs.Effects.{Show, Exit, Panicked, kind_of}
 use Rattle.pick_rules.specs.Effects as effects
-use Rattle.pick_rules.specs.Logged.{Logged, logged, log_one, left_by}
+use Rattle.pick_rules.specs.Logged.{Logged, Stop, logged, log_one, left_by}
 use Rattle.sys_procs.specs.World as its
 use Rattle.sys_procs.specs.Comes.{Comes}
 use Rattle.sys_procs.specs.Exit.{leaves, dies, exit_status, end_proc, exit_now}
-use Rattle.sys_procs.specs.Agree.{answered}
 use Rattle.sys_procs.specs.Handed.{handed, board, came}
 use Rattle.fs_nodes.specs.FileSystem.{IsFileSystem}
 use Rattle.unix_core.specs.declared.world.World.{World}
 use Rattle.abstract_unix.specs.declared.ending.Ending.TheVariants.{Ended}
+use Rattle.abstract_unix.specs.declared.ending.Ending.{Ending}
 use Rattle.abstract_unix.specs.Unix.{Unix, process_of}
 use Rattle.sys_procs.specs.Process.{Process, no_process}
 use Rattle.sys_files.specs.Handed.{Handed}
@@ -29,10 +28,9 @@ use Rattle.sys_procs.proofs.Ends.{end_alone}
 use Rattle.sys_procs.proofs.Alive.{no_text_here}
 use Rattle.unix_core.proofs.WorldLemmas.{ready_alive}
 use Rattle.abstract_unix.specs.Calls.{handed_of, exits, closes_all, with_handed, with_world, world_of}
-use Rattle.unix_core.specs.Parts.{unix_of, board_in, IsReady, HasCome, ended_as}
-use Rattle.unix_core.proofs.LoggedLemmas.{over, after_items, logged_both}
+use Rattle.unix_core.specs.Parts.{unix_of, board_in, IsReady, HasCome, unmet_as, ended_as}
+use Rattle.unix_core.proofs.LoggedLemmas.{over, stop_of, after_items, logged_both}
 use Rattle.unix_core.proofs.CameLemmas.{world_is}
-use Rattle.unix_core.proofs.DyingLemmas.{swap_free}
 
 -- What the log says of an end.
 abbrev pub of_end : {W : Type 0} → Board → ℕ → ℕ → ℕ → Logged W
@@ -47,9 +45,18 @@ logged_exit : {W : Type 0} (b : Board) (s block parent : ℕ) (w : W) → swap_f
 unfolding log_one effects.came
 logged_exit b s block parent w fit = rw fit refl
 
-found : (o : Option ℕ) → IsSome o → (x : ℕ) × (o ≡ Some x)
-found None some = absurd (cc some)
-found (Some x) some = (x, refl)
+-- What it says where the swap area has no block for what is kept.
+abbrev pub of_panic : {W : Type 0} → Board → W → Logged W
+of_panic b before = record {
+  items = Log (line.Panic panic.Zombie) ∷ [];
+  board = b;
+  stop = Some (record { why = Panicked panic.Zombie; before = before });
+}
+
+logged_panic : {W : Type 0} (b : Board) (s parent : ℕ) (w : W) → swap_fit b 1 ≡ None
+    → logged b (Exit s w ∷ Show (Log (line.Wake (Wait 1))) ∷ Show (Log (line.Wake (Wait parent))) ∷ []) ≡ of_panic b w
+unfolding log_one effects.came applied
+logged_panic b s parent w none = rw none refl
 
 module _ (w1 : World) (s : ℕ) (ready : IsReady w1 s) where
   abbrev pub ends : Comes
@@ -60,17 +67,36 @@ module _ (w1 : World) (s : ℕ) (ready : IsReady w1 s) where
   unfolding exit_now
   ends_is = end_alone (handed w1.procs w1.files.tree.nodes) s (exit_status (process_of (unix_of w1) s)) (no_text_here w1.procs s (ready_alive w1 s ready))
 
-  -- an end never panics
-  pub end_log : (block : ℕ) × ((parent : ℕ) × (came w1.procs ends ≡ of_end (board_in w1) s block parent))
-  end_log =
-      let fit = found (swap_fit (board_in w1) 1) (swap_free w1 ready.good) in
-      (fit.0, (_, ap (λ (c : Comes). came w1.procs c) ends_is ∙ logged_exit (board_in w1) s fit.0 _ _ fit.1))
+  -- the process has left its directory
+  abbrev pub has_left : its.World
+  has_left = leaves (handed w1.procs w1.files.tree.nodes) s (exit_status (process_of (unix_of w1) s))
 
-  pub end_answer : (r : Result Answer PanicKind) → r ≡ answered (came w1.procs ends).stop ends.answer → r ≡ Ok ends.answer
-  end_answer r e = e ∙ ap (λ (l : Logged its.World). answered l.stop ends.answer) end_log.1.1
+  -- a block of the swap area is there for it, or the run stops
+  end_log : ((block : ℕ) × ((parent : ℕ) × (came w1.procs ends ≡ of_end (board_in w1) s block parent)))
+      ⊎ (came w1.procs ends ≡ of_panic (board_in w1) has_left)
+  end_log = by (swap_fit (board_in w1) 1) refl
+    where
+      by : (o : Option ℕ) → swap_fit (board_in w1) 1 ≡ o
+          → ((block : ℕ) × ((parent : ℕ) × (came w1.procs ends ≡ of_end (board_in w1) s block parent)))
+          ⊎ (came w1.procs ends ≡ of_panic (board_in w1) has_left)
+      by (Some block) fit = inl (block, (_, ap (λ (c : Comes). came w1.procs c) ends_is ∙ logged_exit (board_in w1) s block _ _ fit))
+      by None fit = inr (ap (λ (c : Comes). came w1.procs c) ends_is ∙ logged_panic (board_in w1) s _ _ fit)
 
-  pub end_state : (x : its.World) → x ≡ left_by (came w1.procs ends).stop ends.state → x ≡ ends.state
-  end_state x e = e ∙ ap (λ (l : Logged its.World). left_by l.stop ends.state) end_log.1.1
+  pub end_goes : (came w1.procs ends).stop ≡ None
+      → (block : ℕ) × ((parent : ℕ) × (came w1.procs ends ≡ of_end (board_in w1) s block parent))
+  end_goes none = elim end_log [
+    | inl there ↦ there
+    | inr full ↦ absurd (let some = sym none ∙ ap (λ (l : Logged its.World). l.stop) full in cc some)
+  ]
+
+  pub end_stops : (stop : Stop its.World) → (came w1.procs ends).stop ≡ Some stop → came w1.procs ends ≡ of_panic (board_in w1) has_left
+  end_stops stop some = elim end_log [
+    | inl there ↦ absurd (let none = sym some ∙ ap (λ (l : Logged its.World). l.stop) there.1.1 in cc none)
+    | inr full ↦ full
+  ]
+
+  pub end_state : (x : its.World) → (came w1.procs ends).stop ≡ None → x ≡ left_by (came w1.procs ends).stop ends.state → x ≡ ends.state
+  end_state x none e = e ∙ ap (λ o. left_by o ends.state) none
 
 -- The whole of exit(II).
 module _ (w w1 now : World) (s : ℕ) (ready : IsReady w1 s) (low : s < length (unix_of w).processes) (form : IsFileSystem w1.files.tree.nodes)
@@ -114,13 +140,27 @@ module _ (w w1 now : World) (s : ℕ) (ready : IsReady w1 s) (low : s < length (
       subst (λ (l : List Item). Took a l c) (ap (λ (l : Logged Unix). l.items) (sym whole))
       (took_more a b c items (came w1.procs (ends w1 s ready)).items first second)
 
-  pub exit_come : unix_of now ≡ with_world (unix_of w1) (ends w1 s ready).state → board now.procs ≡ (came w1.procs (ends w1 s ready)).board
-      → HasCome (board_in w) (exits (unix_of w) s) Ended now
-  exit_come is board_is =
-      let log = end_log w1 s ready in
-      let all = whole ∙ ap (λ l. after_items items (over (with_world u1) l)) log.1.1 in
-      record {
-        ending = ap (λ (l : Logged Unix). ended_as l.stop Ended) (sym all);
-        unix = is ∙ (λ i. with_world (unix i) (ends_are i).state) ∙ ap (λ (l : Logged Unix). left_by l.stop (with_world u1 (end_proc (world_of u1) s status).state)) (sym all);
-        board = board_is ∙ ap (λ (l : Logged Unix). l.board) (sym whole);
-      }
+  -- it stops where the end does
+  halts : (o : Option (Stop its.World)) → (came w1.procs (ends w1 s ready)).stop ≡ o
+      → (logged (board_in w) (exits (unix_of w) s).effects).stop ≡ stop_of (with_world u1) o
+  halts o is = ap (λ (l : Logged Unix). l.stop) whole ∙ ap (stop_of (with_world u1)) is
+
+  pub exit_come : (came w1.procs (ends w1 s ready)).stop ≡ None → unix_of now ≡ with_world (unix_of w1) (ends w1 s ready).state
+      → board now.procs ≡ (came w1.procs (ends w1 s ready)).board → HasCome (board_in w) (exits (unix_of w) s) Ended now
+  exit_come none is board_is = record {
+    ending = ap (λ (o : Option (Stop Unix)). ended_as o Ended) (sym (halts None none));
+    unix = is ∙ (λ i. with_world (unix i) (ends_are i).state)
+        ∙ ap (λ (o : Option (Stop Unix)). left_by o (with_world u1 (end_proc (world_of u1) s status).state)) (sym (halts None none));
+    board = board_is ∙ ap (λ (l : Logged Unix). l.board) (sym whole);
+  }
+
+  -- The run has stopped, since the swap area has no block.
+  pub exit_stops : (stop : Stop its.World) → (came w1.procs (ends w1 s ready)).stop ≡ Some stop → (e : Ending) → e ≡ unmet_as (kind_of stop.why)
+      → unix_of now ≡ with_world (unix_of w1) stop.before → board now.procs ≡ (came w1.procs (ends w1 s ready)).board
+      → HasCome (board_in w) (exits (unix_of w) s) e now
+  exit_stops stop some e ended is board_is = record {
+    ending = ended ∙ ap (λ (o : Option (Stop Unix)). ended_as o Ended) (sym (halts (Some stop) some));
+    unix = is ∙ ap (λ (u : Unix). with_world u stop.before) unix
+        ∙ ap (λ (o : Option (Stop Unix)). left_by o (with_world u1 (end_proc (world_of u1) s status).state)) (sym (halts (Some stop) some));
+    board = board_is ∙ ap (λ (l : Logged Unix). l.board) (sym whole);
+  }

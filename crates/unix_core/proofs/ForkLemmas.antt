@@ -1,30 +1,24 @@
 -- fork(II): the slot of the child, the world then, and that the call has come to its row.
-use Rattle.std.proofs.Common.{◌≡◌, ◌≢◌, ◌∙◌, ◌<◌, ◌+◌, ◌⊎◌, ℕ, Bool, true, false, nat_lt, cond, if◌then◌else◌, List, get_or, set, map, Option, Some, None, slice_index, is_none, refl, sym, ap, subst, inl, inr, arith}
+use Rattle.std.proofs.Common.{◌≡◌, ◌≢◌, ◌∙◌, ◌<◌, ◌+◌, ℕ, Bool, true, false, nat_lt, cond, if◌then◌else◌, List, get_or, set, map, Option, Some, None, slice_index, is_none, refl, sym, ap, subst, arith}
 use Rattle.std.specs.Prelude.{Result, Ok, Err, unwrap_or}
-use Rattle.std.proofs.lemmas.Bool.{cases_eq}
 use Rattle.std.proofs.lemmas.List.{get_or-set_other, map-set}
 use Rattle.std.proofs.Math.ListN.{get_or-map}
 use Rattle.v6_base.specs.Trace.{Taken, Took}
 use Rattle.v6_base.specs.declared.answer.Answer.{Answer}
 use Rattle.v6_base.specs.declared.answer.Answer.TheVariants.{Ret, Fail, Sleep}
 use Rattle.v6_base.specs.declared.entry.PanicKind.{PanicKind}
-use Rattle.pick_rules.specs.Table.{row_at}
 use Rattle.pick_rules.specs.Logged.{logged, left_by}
-use Rattle.proc_tab.specs.declared.member.Member.{Member}
-use Rattle.proc_tab.specs.Processes.{Finds, IsLowest, lowest, member_at}
+use Rattle.proc_tab.specs.Processes.{Finds, IsLowest, lowest}
 use Rattle.proc_tab.proofs.SearchLemmas.{lowest_finds}
-use Rattle.image_keep.specs.Kept.{Keeping, Nothing, Alive, Grave, keeping, place_in, text_of}
 use Rattle.open_files.specs.declared.file.OpenFile.{OpenFile}
 use Rattle.fs_nodes.specs.FileSystem.{IsFileSystem}
-use Rattle.sys_procs.specs.Process.{Process, no_process, process_in, member_of}
+use Rattle.sys_procs.specs.Process.{Process, no_process, member_of}
 use Rattle.sys_procs.specs.World as its
 use Rattle.sys_procs.specs.World.{members}
 use Rattle.sys_procs.specs.Comes.{Comes}
 use Rattle.sys_procs.specs.Fork.{copied, past_word, next_pid, fork_into, fork_one}
-use Rattle.sys_procs.specs.Agree.{kind_of_member, kind_of_keeping}
 use Rattle.sys_procs.specs.Handed.{AreProcs, handed, board, came}
 use Rattle.sys_procs.specs.Done.{HasDone, HasLeft}
-use Rattle.sys_procs.proofs.Slots.{process_in_slot}
 use Rattle.abstract_unix.specs.declared.ending.Ending.{Ending}
 use Rattle.abstract_unix.specs.Unix.{Unix, no_texts, process_of}
 use Rattle.abstract_unix.specs.Whole.{Told, told_of, told_by, told_in, Owes}
@@ -36,7 +30,7 @@ use Rattle.abstract_unix.proofs.Sharing.{child_owes}
 use Rattle.abstract_unix.proofs.Moved.{MovedBoard}
 use Rattle.unix_core.specs.declared.world.World.{World}
 use Rattle.unix_core.specs.Parts.{unix_of, board_in, IsReady, HasCome, unmet_as}
-use Rattle.unix_core.proofs.GoodLemmas.{told_of_slot, owed_none, owed_so, fifty_told, core_moved, still_runs, Rests, moved_unix, good_then}
+use Rattle.unix_core.proofs.GoodLemmas.{told_of_slot, owed_none, owed_so, fifty_told, still_runs, Rests, moved_unix, good_then}
 use Rattle.unix_core.proofs.WorldLemmas.{slot_is, is_living, told_here}
 use Rattle.unix_core.proofs.CameLemmas.{IsStill, StaysBeside, given, world_is, goes_on, stops, gone_moved, left_took, gone_come, stopped_come}
 
@@ -52,40 +46,27 @@ fork_still : (w : World) (s : ℕ) → IsStill w (call w s)
 unfolding fork_one
 fork_still w s = still_by w s (lowest is_none (members (given w)))
 
--- The slot of a child is free, and has no place.
+-- The slot of a child is free.
 nobody : (o : Option Process) → is_none (member_of o) ≡ true → o ≡ None
 nobody None e = refl
 nobody (Some p) e = absurd (cc e)
 
-no_place : (m : Option Member) (x : Keeping) (text : Option ℕ) → process_in m x text ≡ None → kind_of_keeping x ≡ kind_of_member m → place_in x ≡ None
-no_place None Nothing text is kind = refl
-no_place None (Alive held) text is kind = absurd (cc kind)
-no_place None (Grave u block) text is kind = absurd (cc kind)
-no_place (Some m) Nothing text is kind = absurd (cc is)
-no_place (Some m) (Alive held) text is kind = absurd (cc is)
-no_place (Some m) (Grave u block) text is kind = absurd (cc is)
-
 record IsFree (w : World) (child : ℕ) : Type 0 where
   low : child < 50
   empty : get_or (unix_of w).processes child None ≡ None
-  place : (row_at w.procs.table child).place ≡ None
 
-free_slot : (w : World) (child : ℕ) → AreProcs w.procs → lowest is_none (members (given w)) ≡ Some child → IsFree w child
-free_slot w child agree free =
+free_slot : (w : World) (child : ℕ) → lowest is_none (members (given w)) ≡ Some child → IsFree w child
+free_slot w child free =
     let ps : List (Option Process) = (unix_of w).processes in
     let found : IsLowest is_none (map member_of ps) child = subst (λ o. Finds is_none (map member_of ps) o) free (lowest_finds is_none (map member_of ps)) in
     let none : get_or ps child None ≡ None = nobody (get_or ps child None) (ap is_none (sym (get_or-map member_of ps child None)) ∙ found.passes) in
-    let at = agree.each child found.above found.low in
     record {
       low = found.low;
       empty = none;
-      place = at.place ∙ no_place (member_at w.procs.rows.slots child) (keeping w.procs.images child) (text_of w.procs.images child)
-          (sym (process_in_slot w.procs.rows.slots w.procs.images child found.low) ∙ none) at.image;
     }
 
 -- Who is told of then, and what is owed when the files are shared.
 record ForkOwes (w : World) (s : ℕ) (c : Comes) : Type 0 where
-  new : (r : ℕ) (t : Told) → get_or (told_in c.state.processes) r None ≡ Some t → (told_of_slot w r ≡ Some t) ⊎ ((row_at w.procs.table r).place ≡ None)
   stays : (t : Told) → told_of_slot w s ≡ Some t → get_or (told_in c.state.processes) s None ≡ Some t
   owed : Owes c.state.inodes.references (shares w.files.table (process_of (unix_of w) s).u.files c.answer) no_texts (told_in c.state.processes)
 
@@ -106,12 +87,11 @@ module _ (w : World) (s : ℕ) (ready : IsReady w s) where
   fork_by None full =
       let same : told_in (set ps s (Some (past_word p))) ≡ ts = told_change ps s p (past_word p) (slot_is w s ready) refl in
       record {
-        new = λ r t is. inl (ap (λ l. get_or l r None) (sym same) ∙ is);
         stays = λ t is. ap (λ l. get_or l s None) same ∙ is;
         owed = subst (Owes refs w.files.table no_texts) (sym same) (owed_none w ready.good);
       }
   fork_by (Some child) found =
-      let free = free_slot w child ready.good.agree found in
+      let free = free_slot w child found in
       let q : Process = copied p (next_pid (given w)) in
       let born : List (Option Process) = set ps child (Some q) in
       let apart : s ≢ child = λ same.
@@ -120,13 +100,8 @@ module _ (w : World) (s : ℕ) (ready : IsReady w s) where
       let put : set ts child (Some (told_of p)) ≡ told_in (set born s (Some (past_word (unwrap_or (get_or born s None) no_process)))) =
       sym (ap (λ o. told_in (set born s (Some (past_word (unwrap_or o no_process))))) parent ∙ told_change born s p (past_word p) parent refl
       ∙ map-set told_by ps child (Some q) ∙ ap (λ b. set ts child (cond b None (Some (told_of p)))) (is_living w s ready)) in
-      let P : List (Option Told) → Type 0 = λ l. (r : ℕ) (t : Told) → get_or l r None ≡ Some t → (told_of_slot w r ≡ Some t) ⊎ ((row_at w.procs.table r).place ≡ None) in
       let Q : List (Option Told) → Type 0 = λ l. (t : Told) → told_of_slot w s ≡ Some t → get_or l s None ≡ Some t in
       record {
-        new = subst P put (λ r t is. elim (cases_eq r child) [
-          | inl here ↦ inr (ap (λ n. (row_at w.procs.table n).place) here ∙ free.place)
-          | inr other ↦ inl (sym (get_or-set_other ts child r (Some (told_of p)) None other) ∙ is)
-        ]);
         stays = subst Q put (λ t is. get_or-set_other ts child s (Some (told_of p)) None apart ∙ is);
         owed = subst (Owes (set refs p.u.dir (slice_index refs p.u.dir + 1)) (shares w.files.table p.u.files (fork_into (given w) s (Some child)).answer) no_texts) put
             (child_owes refs w.files.table no_texts ts s child (told_of p) (owed_none w ready.good) (told_here w s ready) (told_none ps child free.empty)
@@ -152,7 +127,7 @@ module _ (w now : World) (s : ℕ) (ready : IsReady w s) (agree : AreProcs now.p
       let owes = fork_owes w s ready in
       let P : its.World → Type 0 = λ x. Owes x.inodes.references (shares w.files.table (process_of (unix_of w) s).u.files (call w s).answer) no_texts (told_in x.processes) in
       record {
-        good = good_then w now rests moved.core ready.good agree (core_moved w now ready.good agree moved (λ r t is. owes.new r t (sym (told r) ∙ is)))
+        good = good_then w now rests moved.core ready.good agree
             (still_runs w now ready.good agree (λ r is. sym moved.running ∙ is) (λ r t was is.
             let same : s ≡ r = ap (λ o. unwrap_or o 0) (sym ready.runs ∙ was) in
             subst (λ n. told_of_slot now n ≡ Some t) same (told s ∙ owes.stays t (subst (λ n. told_of_slot w n ≡ Some t) (sym same) is))))

@@ -1,13 +1,12 @@
 -- What is so of a good world: who has an image is told by the counts, and who is told has an image.
-use Rattle.std.proofs.Common.{◌≡◌, ◌<◌, ◌∙◌, ◌⊎◌, ℕ, true, false, List, [], map, min, get_or, length, Option, Some, None, refl, sym, ap, subst, inl, inr}
+use Rattle.std.proofs.Common.{◌≡◌, ◌<◌, ◌∙◌, ℕ, false, List, [], map, min, get_or, length, Option, Some, None, refl, sym, ap, subst}
 use Rattle.std.specs.Prelude.{⊤, MatchOption, unwrap_or}
 use Rattle.std.proofs.lemmas.List.{length-map}
-use Rattle.v6_base.specs.declared.entry.Place.{Place}
 use Rattle.pick_rules.specs.declared.table.Table.{Table}
-use Rattle.pick_rules.specs.Table.{row_at, is_in_core}
+use Rattle.pick_rules.specs.Table.{row_at}
 use Rattle.proc_tab.specs.declared.member.Member.{Member}
 use Rattle.proc_tab.specs.Processes.{member_at}
-use Rattle.image_keep.specs.Kept.{Held, Keeping, Nothing, Alive, Grave, Kept, Has, HasImage, keeping, place_in, text_of}
+use Rattle.image_keep.specs.Kept.{Held, Keeping, Nothing, Alive, Grave, Kept, Has, HasImage, keeping, text_of}
 use Rattle.image_keep.specs.Kept as kept
 use Rattle.sys_procs.specs.Process.{Process, no_process, process_by, process_in}
 use Rattle.sys_procs.specs.Agree.{Lives, HasNoText, kind_by, kind_of_stat, kind_of_member, kind_of_keeping}
@@ -21,7 +20,6 @@ use Rattle.sys_procs.proofs.Slots.{process_in_slot, fifty_processes}
 use Rattle.sys_procs.proofs.Agreement.{is_there}
 use Rattle.unix_core.specs.declared.world.World.{World}
 use Rattle.abstract_unix.specs.Whole.{Told, told_by, told_in, Owes, Owed}
-use Rattle.abstract_unix.proofs.Moved.{MovedBoard}
 use Rattle.abstract_unix.proofs.Owing.{told_at, living}
 use Rattle.unix_core.specs.Parts.{unix_of, IsGood}
 
@@ -80,39 +78,8 @@ module _ (w : World) (agree : AreProcs w.procs) (s : ℕ) (above : 0 < s) (low :
       (process_in_slot w.procs.rows.slots w.procs.images s low
       ∙ (ap (λ o. process_in o (keeping w.procs.images s) text) there.1 ∙ ap (λ x. process_in (Some there.0) x text) has)) there.2
 
--- A world after a good one. What its board says of each process that lives tells that all images are in core, and who runs.
+-- A world after a good one: who runs still has an image.
 module _ (w now : World) (good : IsGood w) (agree : AreProcs now.procs) where
-  pub core_stays : ((s : ℕ) (t : Told) → told_of_slot now s ≡ Some t → ((row_at now.procs.table s).place ≡ None)
-      ⊎ ((((row_at now.procs.table s).place ≡ (row_at w.procs.table s).place) × (told_of_slot w s ≡ Some t)) ⊎ (is_in_core (row_at now.procs.table s).place ≡ true)))
-      → (s : ℕ) → 0 < s → s < 50 → (held : Held) → Has now.procs.images s held → is_in_core (Some held.place) ≡ true
-  core_stays each s above low held has =
-      let t : Told = record { files = held.u.files; dir = held.u.dir } in
-      let place : (row_at now.procs.table s).place ≡ Some held.place = (agree.each s above low).place ∙ ap place_in has in
-      elim (each s t (told_of_image now agree s above low held has)) [
-        | inl none ↦ absurd (let never : ◌≡◌ {A = Option Place} None (Some held.place) = sym none ∙ place in cc never)
-        | inr there ↦ elim there [
-          | inl same ↦
-              let image = image_of_told w good.agree s above low t same.1 in
-              ap is_in_core (sym place ∙ same.0 ∙ (good.agree.each s above low).place ∙ ap place_in image.1) ∙ good.in_core s above low image.0 image.1
-          | inr inside ↦ ap is_in_core (sym place) ∙ inside
-        ]
-      ]
-
-  -- of a board on which places stay, or images come into core
-  pub core_moved : MovedBoard (board w.procs) (board now.procs)
-      → ((s : ℕ) (t : Told) → told_of_slot now s ≡ Some t → (told_of_slot w s ≡ Some t) ⊎ ((row_at w.procs.table s).place ≡ None))
-      → (s : ℕ) → 0 < s → s < 50 → (held : Held) → Has now.procs.images s held → is_in_core (Some held.place) ≡ true
-  core_moved moved before = core_stays (λ s t is. elim (moved.places s) [
-    | inl none ↦ inl none
-    | inr there ↦ elim there [
-      | inl same ↦ elim (before s t is) [
-        | inl told ↦ inr (inl (same, told))
-        | inr none ↦ inl (same ∙ none)
-      ]
-      | inr inside ↦ inr (inr inside)
-    ]
-  ])
-
   pub still_runs : ((s : ℕ) → now.procs.table.running ≡ Some s → w.procs.table.running ≡ Some s)
       → ((s : ℕ) (t : Told) → w.procs.table.running ≡ Some s → told_of_slot w s ≡ Some t → told_of_slot now s ≡ Some t)
       → (s : ℕ) → now.procs.table.running ≡ Some s → 0 < s → HasImage now.procs.images s
@@ -122,19 +89,13 @@ module _ (w now : World) (good : IsGood w) (agree : AreProcs now.procs) where
       let image = good.running s was above in
       image_of_told now agree s above low _ (stays s _ was (told_of_image w good.agree s above low image.0 image.1))
 
--- With the same table, whoever had an image has one in the same place.
+-- With the same table, whoever had an image has one.
 module _ (w now : World) (good : IsGood w) (agree : AreProcs now.procs) (table : now.procs.table ≡ w.procs.table) where
   same_kind : (s : ℕ) → 0 < s → s < 50 → kind_of_keeping (keeping now.procs.images s) ≡ kind_of_keeping (keeping w.procs.images s)
   same_kind s above low =
       let new = agree.each s above low in
       let old = good.agree.each s above low in
       new.image ∙ sym new.stat ∙ ap (λ (t : Table). kind_of_stat (row_at t s).stat) table ∙ old.stat ∙ sym old.image
-
-  pub core_same : (s : ℕ) → 0 < s → s < 50 → (held : Held) → Has now.procs.images s held → is_in_core (Some held.place) ≡ true
-  core_same s above low held has =
-      let image = held_alive (keeping w.procs.images s) (sym (same_kind s above low) ∙ ap kind_of_keeping has) in
-      ap is_in_core (sym ((agree.each s above low).place ∙ ap place_in has) ∙ ap (λ (t : Table). (row_at t s).place) table
-      ∙ (good.agree.each s above low).place ∙ ap place_in image.1) ∙ good.in_core s above low image.0 image.1
 
   pub runs_same : (s : ℕ) → now.procs.table.running ≡ Some s → 0 < s → HasImage now.procs.images s
   runs_same s runs above =
@@ -167,11 +128,9 @@ module _ (w now : World) (rests : Rests w now) (clicks : (board now.procs).core 
         limit = min (clicks i) 2048;
       }
 
-  pub good_then : IsGood w → AreProcs now.procs → ((s : ℕ) → 0 < s → s < 50 → (held : Held) → Has now.procs.images s held → is_in_core (Some held.place) ≡ true)
-      → ((s : ℕ) → now.procs.table.running ≡ Some s → 0 < s → HasImage now.procs.images s) → Owed now.files.tree.nodes.references (unix_of now) → IsGood now
-  good_then good agree in_core running owed = record {
+  pub good_then : IsGood w → AreProcs now.procs → ((s : ℕ) → now.procs.table.running ≡ Some s → 0 < s → HasImage now.procs.images s) → Owed now.files.tree.nodes.references (unix_of now) → IsGood now
+  good_then good agree running owed = record {
     agree = agree;
-    in_core = in_core;
     running = running;
     owed = owed;
     marks = rests.marks ∙ good.marks;

@@ -39,6 +39,7 @@ nobody_can t last rows none s loaded = by (nat_lt s 50) refl
 never_idle : (o : Ends) → turned_by o false ≡ Idle → ⊥
 never_idle AtEnd idle = cc idle
 never_idle (ends.NotBuilt place) idle = cc idle
+never_idle (ends.Panic kind) idle = cc idle
 
 settled_answer : (h : Happened) → turned (settled_after h) ≡ turned_by h.ending h.is_idle
 settled_answer h = by (calls_for_settling h)
@@ -49,7 +50,7 @@ settled_answer h = by (calls_for_settling h)
 
 nobody_by : (m : System) (runs : Option ℕ) → turned (settled_after (slot_of m runs)) ≡ Idle → runs ≡ None
 nobody_by m None idle = refl
-nobody_by m (Some zero) idle = absurd (never_idle (slot_of m (Some zero)).ending idle)
+nobody_by m (Some zero) idle = absurd (never_idle (slot_of m (Some zero)).ending (sym (settled_answer (slot_of m (Some zero))) ∙ idle))
 nobody_by m (Some (suc s)) idle =
     absurd (never_idle (slot_of m (Some (suc s))).ending (sym (settled_answer (slot_of m (Some (suc s)))) ∙ idle))
 

@@ -8,7 +8,7 @@ use Rattle.v6_base.specs.declared.entry.Entry.{Entry}
 use Rattle.v6_base.specs.declared.entry.Entry.TheVariants as line
 use Rattle.pick_rules.specs.Table.{row_at}
 use Rattle.pick_rules.specs.Board.{Board, placed, swap_fit}
-use Rattle.pick_rules.specs.Effects.{Effect, Show, Size, Fork, Text, Image, Exit, Why, Panicked, Unbuilt, Came, Lets, Stops, in_core, at_fit, image_at, came, lifted}
+use Rattle.pick_rules.specs.Effects.{Effect, Show, Size, Fork, Text, Image, Exit, Why, Panicked, Unbuilt, Came, Lets, Stops, at_fit, image_at, came, lifted}
 use Rattle.pick_rules.specs.Logged.{Logged, Stop, logged, log_one, left_by, board_after, with_what_came, unless_stopped}
 
 -- What effects over another state leave is the same, over that state.
@@ -32,15 +32,15 @@ module _ {V W : Type 0} (f : V → W) where
       → cond keeps (Lets (Log (line.SizeKeep s clicks))) (image_at (f before) (placed b s clicks) (λ place. line.Size s clicks place))
       ≡ came_over (cond keeps (Lets (Log (line.SizeKeep s clicks))) (image_at before (placed b s clicks) (λ place. line.Size s clicks place)))
   size_over b s clicks before true = refl
-  size_over b s clicks before false = at_fit_over (Unbuilt panic.Swap) before (in_core (placed b s clicks)) (λ place. line.Size s clicks place)
+  size_over b s clicks before false = at_fit_over (Panicked panic.Swap) before (placed b s clicks) (λ place. line.Size s clicks place)
 
   came_lifted : (b : Board) (e : Effect V) → came b (lifted f e) ≡ came_over (came b e)
   unfolding came
   came_lifted b (Show item) = refl
   came_lifted b (Size s clicks before) = size_over b s clicks before (nat_le clicks (row_at b.table s).size)
-  came_lifted b (Fork s child before) = at_fit_over (Unbuilt panic.Swap) before (in_core (placed b s (row_at b.table s).size)) (λ place. line.Fork s child place)
+  came_lifted b (Fork s child before) = at_fit_over (Panicked panic.Swap) before (placed b s (row_at b.table s).size) (λ place. line.Fork s child place)
   came_lifted b (Text s clicks before) = refl
-  came_lifted b (Image s clicks before) = at_fit_over (Unbuilt panic.Swap) before (in_core (placed b s clicks)) (λ place. line.Image s clicks place)
+  came_lifted b (Image s clicks before) = at_fit_over (Panicked panic.Swap) before (placed b s clicks) (λ place. line.Image s clicks place)
   came_lifted b (Exit s before) = at_fit_over (Panicked panic.Zombie) before (swap_fit b 1) (λ block. line.Exit s block)
 
   what_came_over : (l : Logged V) (c : Came V) → with_what_came (over l) (came_over c) ≡ over (with_what_came l c)

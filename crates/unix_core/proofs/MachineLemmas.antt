@@ -1,5 +1,5 @@
 -- What the next slot finds, and what a tick does to the process that runs.
-use Rattle.std.proofs.Common.{◌≡◌, ◌<◌, ◌==◌, if◌then◌else◌, ℕ, Bool, false, map, set, Option, Some, None, refl, sym, ap, ◌∙◌, subst, arith}
+use Rattle.std.proofs.Common.{◌≡◌, ◌<◌, ◌==◌, if◌then◌else◌, ℕ, Bool, false, map, Option, Some, None, refl, sym, ap, ◌∙◌, subst, arith}
 use Rattle.std.proofs.lemmas.Bool.{ne_eqb}
 use Rattle.u_area.specs.declared.area.UArea.{UArea}
 use Rattle.pick_rules.specs.declared.row.Mode.{Mode}
@@ -30,6 +30,8 @@ fixed_or f at = f
 pub runs_kernel : (w : World) (f : Fixed) → IsRunning f w → IsKernel (stage.Running f) w
 runs_kernel w f running = record {
   new = λ e. absurd (cc e);
+  stopped = λ e. absurd (cc e);
+  finished = λ e. absurd (cc e);
   running = λ g e. subst (λ x. IsRunning x w) (ap (fixed_or f) e) running;
   resting = λ e. absurd (cc e);
 }
@@ -44,6 +46,8 @@ one_of (Some s) = s
 pub calls_kernel : (w : World) (s : ℕ) → IsReady w s → settle w.procs.table ≡ None → is_user (process_of (unix_of w) s) ≡ false → IsKernel stage.Resting w
 calls_kernel w s ready settled calls = record {
   new = λ e. absurd (cc e);
+  stopped = λ e. absurd (cc e);
+  finished = λ e. absurd (cc e);
   running = λ f e. absurd (cc e);
   resting = λ e. record {
     good = ready.good;

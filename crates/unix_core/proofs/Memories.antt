@@ -1,8 +1,8 @@
 -- What is kept of a system is what its parts keep: Unix and board tell all of it.
-use Rattle.std.specs.Prelude.{◌<◌, nat_lt}
+use Rattle.std.specs.Prelude.{◌<◌}
 use Rattle.std.specs.List.{range_with_len}
 use Rattle.std.specs.Option.{unwrap_or}
-use Rattle.std.proofs.Common.{◌≡◌, ◌∙◌, ◌+◌, ℕ, zero, suc, Bool, true, false, List, [], ◌∷◌, length, map, replicate, Option, Some, None, get_or, refl, sym, ap, arith}
+use Rattle.std.proofs.Common.{◌≡◌, ◌∙◌, ℕ, zero, suc, Bool, true, false, List, map, Option, Some, None, get_or, refl, sym, ap, inl, arith}
 use Rattle.std.proofs.Math.ListN.{get_or-map}
 use Rattle.std.proofs.lemmas.List.{same_lists, get_or_default, get_or-replicate}
 use Rattle.std.proofs.lemmas.List.FromFn.{length-map-range_with_len, get_or-map-range_with_len}
@@ -15,16 +15,16 @@ use Rattle.proc_tab.specs.declared.member.Member.{Member}
 use Rattle.proc_tab.specs.Processes.{Processes, AreProcesses, member_at}
 use Rattle.image_keep.specs.Kept.{Held, Keeping, Nothing, Alive, Grave, Shared, Kept, IsKept, keeping, text_of, no_users}
 use Rattle.image_keep.specs.Kept as kept
-use Rattle.sys_procs.specs.Process.{Process, process_by, process_in}
+use Rattle.sys_procs.specs.Process.{process_by, process_in}
 use Rattle.sys_procs.specs.TextTable.{Text, no_text, text_bytes}
 use Rattle.sys_procs.specs.World.{processes_in, text_in, texts_in}
 use Rattle.sys_procs.specs.Agree.{Free, Lives, Died, kind_by, text_place, Agrees, Agree, board_of}
-use Rattle.abstract_unix.specs.Unix.{System, Started, process_at}
+use Rattle.abstract_unix.specs.Unix.{System, Started}
 use Rattle.unix_core.specs.declared.world.World.{World}
 use Rattle.unix_core.specs.declared.machine.Stage.{Stage}
 use Rattle.unix_core.specs.Parts.{system_at, phase_of, IsKernel}
 use Rattle.unix_core.proofs.BootKernelLemmas.{kernel_good}
-use Rattle.unix_core.specs.Memory.{shared_by, kept_at, kept_by, text_by, kept_in}
+use Rattle.unix_core.specs.Memory.{shared_by, kept_at, kept_by, text_by, Covers, kept_in}
 
 -- a slot
 slot_kept : (texts : List (Option Text)) (o : Option Member) (row : TableRow) (x : Keeping) (text : Option ℕ) → Agrees o row x
@@ -132,3 +132,12 @@ pub told : (at : Stage) (w : World) → IsKernel at w → phase_of at ≡ Starte
     → w.procs.images ≡ kept_in (system_at w)
 told at w kernel started processes holds =
     sym (kept_is w.procs.rows w.procs.table w.procs.images processes (kernel_good at w started kernel).agree holds (system_at w) refl refl refl)
+
+-- what is kept covers what is told where it is that
+pub covers_same : (k : Kept) (m : System) → kept_in m ≡ k → Covers k (kept_in m)
+covers_same k m is = record {
+  core = ap (λ (x : Kept). x.core) is;
+  texts = ap (λ (x : Kept). x.texts) is;
+  users = ap (λ (x : Kept). x.users) is;
+  slots = λ s. inl (ap (λ x. keeping x s) is);
+}

@@ -13,6 +13,8 @@ use Rattle.pdp_step.specs.declared.outcome.Kind.{Kind}
 use Rattle.pdp_step.specs.declared.outcome.Kind.TheVariants as kind
 use Rattle.pick_rules.specs.declared.row.Mode.{Mode}
 use Rattle.pick_rules.specs.Effects.{Show}
+use Rattle.pick_rules.specs.Logged.{Stop, left_by}
+use Rattle.swap_sched.specs.Pass.{pass, stop_over}
 use Rattle.sys_files.specs.Did.{Did}
 use Rattle.sys_files.specs.Descriptors.{Closing}
 use Rattle.sys_files.specs.Moving.{resume_read}
@@ -36,7 +38,7 @@ use Rattle.abstract_unix.specs.Unix.{Unix, System, process_of, with_process}
 use Rattle.abstract_unix.specs.Steps.{Steps, quietly, returns, not_built}
 use Rattle.abstract_unix.specs.Errors.{error_number}
 use Rattle.abstract_unix.specs.Calls.{handed_of, with_handed, world_of, with_world, with_area, entered_area, words_passed, asked, given_area, refused_area, answers, file_row, process_row, did_by, came_by, forks, closes_all, exits_with, grows, grown_by, does_call, sysent_of, does_if_built, pending_read, resumed}
-use Rattle.abstract_unix.specs.Turn.{Happened, stays, settles, calls_for_settling, settled_after, machine_of, with_machine, faults, comes_to, instruction, is_user, turn, end_effects, turn_of, pass_effects, pass_of, slot_of}
+use Rattle.abstract_unix.specs.Turn.{Happened, stays, settles, calls_for_settling, settled_after, machine_of, with_machine, faults, comes_to, instruction, is_user, turn, end_effects, turn_of, pass_of, slot_of}
 use Rattle.abstract_unix.specs.Outside.{mode_of, timed, charged, ticked, is_due, wakes, tick_entry, tick_of, calls, typed_of}
 use Rattle.abstract_unix.specs.Runs.{Slot, Tick, Byte, Switch, event_of, start_of}
 use Rattle.abstract_unix.specs.Private.{IsUndisturbed, AllUndisturbed, OthersUndisturbed}
@@ -170,8 +172,8 @@ module _ (ps : List (Option Process)) (r s : ℕ) (other : r ≢ s) where
   carry_end ending.Trapped = (tt, tt)
   carry_end (ending.Slept pri chan) = (tt, tt)
   carry_end ending.Ended = tt
-  carry_end ending.NoRoom = tt
   carry_end ending.NotBuilt = tt
+  carry_end (ending.Panic kind) = tt
 
 module _ (m : System) (r : ℕ) where
   -- the processes as they were
@@ -190,8 +192,13 @@ module _ (m : System) (r : ℕ) where
       (carry_both (HasSpared before r) done.effects (end_effects s done.ending) h.effects
       (carry_end before r s other done.ending)) h.unix
 
+  -- a pass of the swapper changes no process
   spared_pass : IsUndisturbed m.unix (pass_of m).unix r
-  spared_pass = left_carried (HasSpared before r) m.board pass_effects m.unix (tt, tt) (spared_same before r)
+  spared_pass = by (pass m.board).stop
+    where
+      by : (o : Option (Stop (Unit {0}))) → IsUndisturbed m.unix (left_by (stop_over m.unix o) m.unix) r
+      by None = spared_same before r
+      by (Some stop) = spared_same before r
 
   spared_slot : (o : Option ℕ) → o ≢ Some r → IsUndisturbed m.unix (slot_of m o).unix r
   spared_slot None other = spared_same before r
@@ -236,7 +243,7 @@ settled_unix h = by (calls_for_settling h)
 
 -- The law, event by event: at the start,
 pub start_private : (m : System) → AllUndisturbed m (start_of m).next
-start_private m r = spared_pass m r
+start_private m r = subst (λ (u : Unix). IsUndisturbed m.unix u r) (sym (settled_unix (pass_of m))) (spared_pass m r)
 
 -- by a slot,
 pub slot_private : (m : System) → OthersUndisturbed m (event_of Slot m).next

@@ -1,5 +1,5 @@
 -- What a change of one slot leaves of the others, and what is so of every Unix that effects leave, stopped or not.
-use Rattle.std.proofs.Common.{◌≡◌, ◌≢◌, ◌∙◌, ℕ, Bool, true, false, cond, nat_le, List, [], ◌∷◌, ◌++◌, get_or, set, map, fold, Option, Some, None, is_none, refl, sym, ap, inl, inr}
+use Rattle.std.proofs.Common.{◌≡◌, ◌≢◌, ◌∙◌, ℕ, Bool, true, false, cond, nat_le, List, [], ◌∷◌, ◌++◌, get_or, set, map, fold, Option, Some, None, refl, sym, ap, inl, inr}
 use Rattle.std.specs.Prelude.{⊤, ◌==◌, unwrap_or}
 use Rattle.std.proofs.lemmas.Bool.{cases_eq}
 use Rattle.std.proofs.lemmas.List.{get_or-map, get_or-set_same, get_or-set_other}
@@ -11,7 +11,7 @@ use Rattle.pick_rules.specs.declared.row.Mode.{Mode}
 use Rattle.pick_rules.specs.declared.row.Mode.TheVariants.{User, Kernel, Idle}
 use Rattle.pick_rules.specs.Table.{row_at}
 use Rattle.pick_rules.specs.Board.{Board, placed, swap_fit}
-use Rattle.pick_rules.specs.Effects.{Effect, Show, Size, Fork, Text, Image, Exit, Why, Panicked, Unbuilt, Came, Lets, Stops, in_core, at_fit, image_at, came, lifted}
+use Rattle.pick_rules.specs.Effects.{Effect, Show, Size, Fork, Text, Image, Exit, Why, Panicked, Came, Lets, Stops, at_fit, image_at, came, lifted}
 use Rattle.pick_rules.specs.Logged.{Logged, Stop, logged, log_one, left_by, with_what_came, unless_stopped}
 use Rattle.sys_procs.specs.Process.{Process, no_process}
 use Rattle.sys_procs.specs.Exit.{adopted}
@@ -147,17 +147,16 @@ module _ {W : Type 0} (P : W → Type 0) where
       → CameIn (cond keeps (Lets (Log (line.SizeKeep s clicks)))
       (image_at before (placed b s clicks) (λ place. line.Size s clicks place)))
   size_in b s clicks before true h = tt
-  size_in b s clicks before false h = fit_in (Unbuilt panic.Swap) before (in_core (placed b s clicks)) (λ place. line.Size s clicks place) h
+  size_in b s clicks before false h = fit_in (Panicked panic.Swap) before (placed b s clicks) (λ place. line.Size s clicks place) h
 
   came_in : (b : Board) (e : Effect W) → Carries e → CameIn (came b e)
   unfolding came
   came_in b (Show item) h = tt
   came_in b (Size s clicks before) h = size_in b s clicks before (nat_le clicks (row_at b.table s).size) h
   came_in b (Fork s child before) h =
-      fit_in (Unbuilt panic.Swap) before (in_core (placed b s (row_at b.table s).size)) (λ place. line.Fork s child place) h
+      fit_in (Panicked panic.Swap) before (placed b s (row_at b.table s).size) (λ place. line.Fork s child place) h
   came_in b (Text s clicks before) h = h
-  came_in b (Image s clicks before) h =
-      fit_in (Unbuilt panic.Swap) before (in_core (placed b s clicks)) (λ place. line.Image s clicks place) h
+  came_in b (Image s clicks before) h = fit_in (Panicked panic.Swap) before (placed b s clicks) (λ place. line.Image s clicks place) h
   came_in b (Exit s before) h = fit_in (Panicked panic.Zombie) before (swap_fit b 1) (λ block. line.Exit s block) h
 
   what_in : (l : Logged W) (c : Came W) → StopsIn l.stop → CameIn c → StopsIn (with_what_came l c).stop

@@ -20,7 +20,7 @@ use Rattle.abstract_unix.specs.Unix.{no_texts, process_of, with_process}
 use Rattle.unix_core.specs.Parts.{unix_of, board_in, IsGood}
 use Rattle.abstract_unix.specs.Whole.{told_in, Owes}
 use Rattle.abstract_unix.proofs.Owing.{told_change}
-use Rattle.unix_core.proofs.GoodLemmas.{runs_low, owed_none, owed_so, core_same, runs_same}
+use Rattle.unix_core.proofs.GoodLemmas.{runs_low, owed_none, owed_so, runs_same}
 use Rattle.unix_core.proofs.LoanLemmas.{area_now, area_other, area_core}
 
 pub record IsLikeArea (u v : UArea) : Type 0 where
@@ -125,7 +125,6 @@ module _ (w : World) (s : ℕ) (u : UArea) (alive : IsAlive w.procs s) where
     pub good_put : IsGood w → IsGood w'
     good_put good = record {
       agree = agree_area;
-      in_core = core_same w w' good agree_area refl;
       running = runs_same w w' good agree_area refl;
       owed = owed_so w' agree_area (subst (Owes w.files.tree.nodes.references w.files.table no_texts) (sym told_put) (owed_none w good));
       marks = good.marks;

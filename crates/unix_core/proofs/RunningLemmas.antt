@@ -1,8 +1,7 @@
 -- The process that executes instructions does one: its memory was lent and has come back, and its registers are put back.
-use Rattle.std.proofs.Common.{◌≡◌, ◌∙◌, ◌<◌, ℕ, length, List, sym, ap, subst}
+use Rattle.std.proofs.Common.{◌≡◌, ◌∙◌, ℕ, length, List, sym, ap, subst}
 use Rattle.std.specs.Borrow.{GName}
 use Rattle.v6_base.specs.Image.{Image}
-use Rattle.v6_base.proofs.Copies.{SameLengths}
 use Rattle.u_area.specs.declared.area.UArea.{UArea}
 use Rattle.pdp_step.specs.declared.outcome.Outcome.{Outcome}
 use Rattle.pdp_step.specs.declared.regs.Regs.{Regs}

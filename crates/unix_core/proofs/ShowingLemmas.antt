@@ -13,7 +13,7 @@ use Rattle.pick_rules.specs.Effects.{Show}
 use Rattle.pick_rules.specs.Logged.{Logged, logged, left_by}
 use Rattle.pick_rules.proofs.Laws as law
 use Rattle.sys_files.specs.Did.{Did}
-use Rattle.sys_procs.specs.Agree.{Lives, kind_of_stat, untimed}
+use Rattle.sys_procs.specs.Agree.{Lives, kind_of_stat}
 use Rattle.sys_procs.proofs.Agreement.{IsLike, AreLike, tables_same, wakeup_like, agree_like}
 use Rattle.sys_procs.specs.Agree.{text_place}
 use Rattle.unix_core.specs.declared.world.World.{World}
@@ -102,7 +102,6 @@ module _ (w : World) (entries : List Entry) where
       record {
         good = record {
           agree = agree_like w.procs.rows w.procs.table (all_woken w.procs.table entries) w.procs.images ready.good.agree good (woken_like w.procs.table entries);
-          in_core = ready.good.in_core;
           running = λ r is above. ready.good.running r (sym kept.running ∙ is) above;
           owed = ready.good.owed;
           marks = ready.good.marks;
@@ -119,7 +118,7 @@ pub shown_board : (w new : World) (s : ℕ) (items : List Item) → IsReadyToSho
 shown_board w new s items shown =
     sym (shown.wakes new.procs.table new.procs.images)
     ∙ ap (λ (b : Board). (logged {W = Unix} b (map Show items)).board)
-    (λ i. record { table = untimed (shown.table i); texts = map text_place (shown.texts i); core = shown.core i })
+    (λ i. record { table = record (shown.table i) { tout = 0 }; texts = map text_place (shown.texts i); core = shown.core i })
 
 -- A call on files has come to its row, when what it shows has been passed on and its answer concluded.
 pub shown_come : (w new now : World) (s : ℕ) (did : Did) (e : Ending) → IsReadyToShow w new s did.items

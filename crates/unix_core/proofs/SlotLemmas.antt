@@ -1,5 +1,5 @@
 -- A slot in which no process just executes an instruction: what goes on, where its PC stands, and what the turn comes to.
-use Rattle.std.proofs.Common.{◌≡◌, ◌≢◌, ◌<◌, ◌∙◌, if◌then◌else◌, ℕ, false, Option, Some, None, slice_index, refl, sym, ap, subst, arith}
+use Rattle.std.proofs.Common.{◌≡◌, ◌<◌, ◌∙◌, if◌then◌else◌, ℕ, false, Option, Some, None, slice_index, refl, sym, ap, subst, arith}
 use Rattle.std.specs.Prelude.{unwrap_or}
 use Rattle.u_area.specs.declared.area.UArea.{UArea}
 use Rattle.v6_base.specs.Trace.{Took, Taken}

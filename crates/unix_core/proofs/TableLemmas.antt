@@ -27,7 +27,6 @@ module _ (w : World) (t : Table) (agree : Agree w.procs.rows t w.procs.images) (
   pub good_table : IsGood w → IsGood (with_table w t)
   good_table good = record {
     agree = agree;
-    in_core = good.in_core;
     owed = good.owed;
     marks = good.marks;
     running = runs;

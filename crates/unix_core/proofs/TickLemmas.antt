@@ -23,8 +23,9 @@ use Rattle.pick_rules.specs.Logged.{Logged, logged}
 use Rattle.pick_rules.proofs.Laws.{set_each, timed, tick_kept}
 use Rattle.image_keep.specs.Kept.{Kept}
 use Rattle.sys_procs.specs.World.{clock_of}
-use Rattle.sys_procs.specs.Agree.{kind_of_stat, untimed, board_of}
+use Rattle.sys_procs.specs.Agree.{kind_of_stat, board_of}
 use Rattle.sys_procs.proofs.Agreement.{IsLike, AreLike, agree_like, tables_same}
+use Rattle.swap_sched.proofs.Boards.{untimed}
 use Rattle.sys_procs.proofs.Tables.{untimed_setpri}
 use Rattle.unix_core.specs.declared.world.World.{World}
 use Rattle.abstract_unix.specs.Unix.{Unix, System}

@@ -68,8 +68,8 @@ end_log l s ending.Next is = nothing_more l
 end_log l s ending.Trapped is = one_more_line l (line.Trap s) is
 end_log l s (ending.Slept pri chan) is = one_more_line l (line.Sleep s pri chan) is
 end_log l s ending.Ended is = nothing_more l
-end_log l s ending.NoRoom is = nothing_more l
 end_log l s ending.NotBuilt is = nothing_more l
+end_log l s (ending.Panic kind) is = nothing_more l
 
 -- The log of both.
 pub turn_log : (b : Board) (es : List (Effect Unix)) (s : ℕ) (own e : Ending) → e ≡ ended_as (logged b es).stop own
@@ -151,6 +151,7 @@ module _ (m : System) (s : ℕ) (steps : Steps) (e : Ending) (w : World) (come :
         ending = AtEnd;
       })
   ended_is (ends.NotBuilt place) = ap (λ b. settled_after (with_last (ends.NotBuilt place) b)) (sym come.board)
+  ended_is (ends.Panic kind) = ap (λ b. settled_after (with_last (ends.Panic kind) b)) (sym come.board)
 
   pub turn_is : settled_after (turn_of m s steps) ≡ shown_before taken.items (turn_end w s pc e)
   turn_is = ap settled_after left_is ∙ ended_is (ending_at pc e)

@@ -29,7 +29,7 @@ use Rattle.abstract_unix.specs.Runs.{Slot, event_of}
 use Rattle.unix_core.specs.Parts.{unix_of, board_in, system_at, machine_in, with_machine_in, IsReady, IsUser, HasStepped}
 use Rattle.abstract_unix.specs.Whole.{told_in, Owes}
 use Rattle.abstract_unix.proofs.Owing.{told_change, some_within}
-use Rattle.unix_core.proofs.GoodLemmas.{owed_none, owed_so, core_same, runs_same}
+use Rattle.unix_core.proofs.GoodLemmas.{owed_none, owed_so, runs_same}
 use Rattle.sys_procs.specs.Handed.{AreProcs}
 use Rattle.unix_core.proofs.WorldLemmas.{ready_alive, slot_is}
 use Rattle.unix_core.proofs.LoanLemmas.{image_now, image_other, image_core}
@@ -79,7 +79,6 @@ module _ (w : World) (s : ℕ) (ready : IsReady w s) (image : Image) where
   memory_ready = record {
     good = record {
       agree = memory_agree;
-      in_core = core_same w with_memory ready.good memory_agree refl;
       running = runs_same w with_memory ready.good memory_agree refl;
       owed = owed_so with_memory memory_agree (subst (Owes w.files.tree.nodes.references w.files.table no_texts)
           (sym (ap (λ (x : Unix). told_in x.processes) memory_unix ∙ told_change (unix_of w).processes s p q (slot_is w s ready) refl)) (owed_none w ready.good));

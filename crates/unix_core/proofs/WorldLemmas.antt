@@ -35,7 +35,7 @@ use Rattle.abstract_unix.specs.Calls.{marks_of, handed_of, with_handed}
 use Rattle.unix_core.specs.Passing.{all_woken}
 use Rattle.unix_core.specs.Parts.{unix_of, IsGood, IsReady, IsReadyToShow}
 use Rattle.unix_core.proofs.PutLemmas.{good_alive, alive_slot, slot_put, agree_put}
-use Rattle.unix_core.proofs.GoodLemmas.{told_of_slot, fifty_told, texts_none, owed_none, core_same, runs_same}
+use Rattle.unix_core.proofs.GoodLemmas.{told_of_slot, fifty_told, texts_none, owed_none, runs_same}
 use Rattle.std.proofs.lemmas.List.FromFn.{fill_by_all}
 use Rattle.abstract_unix.specs.Whole.{Told, told_of, told_in, Owes, Owed}
 use Rattle.abstract_unix.proofs.Owing.{told_at, refer_told, sound_by, file_owes}
@@ -175,7 +175,6 @@ module _ (w w' : World) (s : ℕ) (ready : IsReady w s) (u : UArea) (row : Row) 
       let agree : Agree w'.procs.rows w'.procs.table w'.procs.images = subst (λ (t : Table). Agree w'.procs.rows t w'.procs.images) (sym after.table) agrees in
       record {
         agree = agree;
-        in_core = core_same w w' ready.good agree after.table;
         running = runs_same w w' ready.good agree after.table;
         owed = subst (Owed w'.files.tree.nodes.references) (sym unix_after)
             (file_owes w.files.tree.nodes.references (unix_of w) s h ready.good.owed (slot_is w s ready) (is_living w s ready) (references_in w s ready form) after.kept after.fifteen);

@@ -5,8 +5,8 @@ use Rattle.pdp_step.specs.declared.outcome.Outcome.{Outcome}
 use Rattle.pdp_step.specs.Machine.{Machine}
 use Rattle.pdp_step.specs.Instruction.{instr}
 use Rattle.pick_rules.specs.declared.table.Table.{Table}
-use Rattle.pick_rules.specs.Table.{is_in_core}
 use Rattle.pick_rules.specs.Choice.{chosen, settle}
+use Rattle.pick_rules.specs.Swapper.{candidate}
 use Rattle.pick_rules.specs.Board.{Board}
 use Rattle.v6_base.specs.Trace.{Item}
 use Rattle.v6_base.specs.declared.entry.PanicKind.{PanicKind}
@@ -16,21 +16,21 @@ use Rattle.pick_rules.specs.Logged.{Stop, logged, left_by}
 use Rattle.v6_base.specs.declared.entry.Place.TheVariants.{Core}
 use Rattle.image_keep.specs.Area.{sized_area}
 use Rattle.image_keep.specs.Places.{cleared}
-use Rattle.image_keep.specs.Kept.{Held, Kept, Has, HasImage, image_of, area_of, with_image, with_area}
+use Rattle.image_keep.specs.Kept.{Held, Kept, HasImage, image_of, area_of, with_image, with_area}
 use Rattle.image_keep.specs.declared.running.Fixed.{Fixed}
 use Rattle.image_keep.specs.Running.{IsFixed, with_state}
-use Rattle.sys_procs.specs.Process.{Process, register}
+use Rattle.sys_procs.specs.Process.{register}
 use Rattle.sys_procs.specs.World.{clock_of, processes_in, texts_in}
 use Rattle.sys_procs.specs.Agree.{board_of}
 use Rattle.sys_procs.specs.Handed.{AreProcs}
 use Rattle.unix_core.specs.declared.world.World as parts
 use Rattle.abstract_unix.specs.declared.ending.Ending.{Ending}
-use Rattle.abstract_unix.specs.declared.ending.Ending.TheVariants.{NoRoom, NotBuilt}
+use Rattle.abstract_unix.specs.declared.ending.Ending.TheVariants.{NotBuilt, Panic}
 use Rattle.unix_core.specs.declared.machine.Went.{Went}
 use Rattle.unix_core.specs.declared.machine.Went.TheVariants as went
 use Rattle.abstract_unix.specs.declared.turned.Turned.{Turned}
 use Rattle.abstract_unix.specs.declared.turned.Turned.TheVariants as turned
-use Rattle.abstract_unix.specs.declared.turned.Unbuilt.TheVariants.{At, Room}
+use Rattle.abstract_unix.specs.declared.turned.Unbuilt.TheVariants.{At}
 use Rattle.unix_core.specs.declared.machine.Stage.{Stage}
 use Rattle.unix_core.specs.declared.machine.Stage.TheVariants as stage
 use Rattle.abstract_unix.specs.Unix.{Unix, System, Phase, New, Started, Stopped, Finished, process_of, with_process}
@@ -39,6 +39,7 @@ use Rattle.abstract_unix.specs.Init.{init_data}
 use Rattle.abstract_unix.specs.Whole.{Owed}
 use Rattle.abstract_unix.specs.Steps.{Steps}
 use Rattle.unix_core.specs.Passing.{shown_by, all_woken}
+use Rattle.unix_core.specs.Memory.{Covers, kept_in}
 use Rattle.abstract_unix.specs.Turn.{Turn, machine_of, with_machine, is_user, end_effects, ending_at, settled_after, slot_of}
 
 -- the Unix of a world
@@ -101,7 +102,6 @@ first_held = record {
 -- What is so of a world between two things that the kernel does.
 pub record IsGood (w : parts.World) : Type 0 where
   pub agree : AreProcs w.procs
-  pub in_core : (s : ℕ) → 0 < s → s < 50 → (held : Held) → Has w.procs.images s held → is_in_core (Some held.place) ≡ true
   pub running : (s : ℕ) → w.procs.table.running ≡ Some s → 0 < s → HasImage w.procs.images s
   pub owed : Owed w.files.tree.nodes.references (unix_of w)
   pub marks : w.files.tree.marks ≡ no_marks
@@ -125,8 +125,8 @@ pub record IsReadyToShow (old new : parts.World) (s : ℕ) (items : List Item) :
 
 -- How a turn ends in which a demand finds no place.
 abbrev pub unmet_as : PanicKind → Ending
-unmet_as panic.Swap = NoRoom
-unmet_as panic.Zombie = NotBuilt
+unmet_as panic.Swap = Panic panic.Swap
+unmet_as panic.Zombie = Panic panic.Zombie
 unmet_as panic.Text = NotBuilt
 
 abbrev pub ended_as : Option (Stop Unix) → Ending → Ending
@@ -135,8 +135,8 @@ ended_as (Some stop) e = unmet_as (kind_of stop.why)
 
 -- whether a turn that ends so ends the run
 abbrev pub is_over : Ending → Bool
-is_over NoRoom = true
 is_over NotBuilt = true
+is_over (Panic kind) = true
 is_over e = false
 
 -- The world has taken these steps of a turn, and the turn has ended so.
@@ -170,9 +170,21 @@ phase_of stage.Resting = Started
 phase_of stage.Stopped = Stopped
 phase_of stage.Finished = Finished
 
+-- The swapper runs, and nobody is out of core: its first pass finds nothing to do.
+pub record IsNew (w : parts.World) : Type 0 where
+  pub good : IsGood w
+  pub runs : w.procs.table.running ≡ Some 0
+  pub nobody_out : candidate w.procs.table ≡ None
+
+-- what is kept covers what the system tells
+abbrev pub IsCovered : parts.World → Type 0
+IsCovered w = Covers w.procs.images (kept_in (system_at w))
+
 -- what is so of every kernel
 pub record IsKernel (at : Stage) (w : parts.World) : Type 0 where
-  pub new : at ≡ stage.New → IsGood w
+  pub new : at ≡ stage.New → IsNew w
+  pub stopped : at ≡ stage.Stopped → IsCovered w
+  pub finished : at ≡ stage.Finished → IsCovered w
   pub running : (f : Fixed) → at ≡ stage.Running f → IsRunning f w
   pub resting : at ≡ stage.Resting → IsPaused w
 
@@ -194,5 +206,5 @@ pub record Takes (turn : Turn) (at : Stage) (w : parts.World) : Type 0 where
 abbrev pub turned_at : ℕ → Went → Turned
 turned_at at went.Ran = turned.Ran
 turned_at at went.Idle = turned.Idle
-turned_at at went.NoRoom = turned.NotBuilt Room
 turned_at at went.NotBuilt = turned.NotBuilt (At at)
+turned_at at (went.Panic kind) = turned.Panic kind

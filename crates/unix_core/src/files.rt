@@ -6,7 +6,10 @@ ghost use Rattle.fs_nodes.specs.FileSystem.{IsFileSystem};
 ghost use Rattle.fs_tree.specs.Finding.{inodes_of, put_back};
 ghost use Rattle.image_keep.specs.Kept.{IsKept};
 ghost use Rattle.proc_tab.specs.Processes.{AreProcesses};
+ghost use Rattle.sys_procs.specs.Handed.{AreProcs};
+ghost use Rattle.unix_core.specs.Parts.{IsCovered};
 
+use crate::world::World;
 use fs_nodes::Nodes;
 use image_keep::Images;
 use open_files::OpenTable;
@@ -43,6 +46,15 @@ pub(crate) fn see_procs(procs: &Procs)
 {
     let _used = procs.rows.in_use(0);
     see_kept(&procs.images);
+}
+
+/// Sees that core and the swap area keep what the world tells.
+#[tactic(auto, using(crate::proofs::CoverLemmas::agree_covered))]
+pub(crate) fn see_covered(world: &World)
+    requires { AreProcs world.now.procs }
+    ensures { IsCovered world.now }
+{
+    see_procs(&world.procs);
 }
 
 /// Sees how many numbers a process has for its files.

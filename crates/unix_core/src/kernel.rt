@@ -8,6 +8,7 @@ ghost use Rattle.buf_cache.specs.Blocks.{block_at, IsDisk};
 ghost use Rattle.fs_laws.specs.Rest.{SameRest};
 ghost use Rattle.image_keep.specs.Kept.{Alive, first_kept, with_keeping};
 ghost use Rattle.unix_core.specs.Parts.{first_held};
+ghost use Rattle.abstract_unix.specs.declared.ends.Ends.TheVariants.{AtEnd};
 ghost use Rattle.abstract_unix.specs.Turn.{turned, NobodyCanRun};
 ghost use Rattle.abstract_unix.specs.Outside.{is_signal_key};
 ghost use Rattle.abstract_unix.specs.Private.{AllUndisturbed, TickUndisturbed, OthersUndisturbed};
@@ -16,7 +17,7 @@ use crate::files::{ROOT, see_kept, see_nodes, see_procs};
 use crate::init::put_program;
 use crate::machine::{Machine, Stage, execute, turned_at};
 use crate::world::World;
-use abstract_unix::{Turned, Unbuilt};
+use abstract_unix::Turned;
 use fs_codec::DISK_BLOCKS;
 use fs_nodes::Nodes;
 use fs_tree::Tree;
@@ -30,7 +31,7 @@ use std::marker::Model;
 use sys_files::Files;
 use sys_procs::Procs;
 use tty_line::Line;
-use v6_base::{Entry, Slot, Tape, Trace};
+use v6_base::{Entry, PanicKind, Slot, Tape, Trace};
 
 /// The slot of process 1.
 const SLOT: Slot = 1;
@@ -81,7 +82,7 @@ impl Model for Kernel {
 impl Kernel {
     ghost use Rattle.abstract_unix.specs.Unix.{New, Started, Stopped, Finished};
     ghost use Rattle.abstract_unix.specs.Endings.{phase_after};
-    ghost use Rattle.unix_core.specs.Memory.{kept_in};
+    ghost use Rattle.unix_core.specs.Memory.{Covers, kept_in};
     ghost use Rattle.abstract_unix.specs.Runs.{Slot, Tick, Byte, Switch, start_of, event_of, system_with, finished};
 
     /// A kernel with a file system, whose process 1 is about to execute `/etc/init`, with images and a tape of which nothing
@@ -130,6 +131,7 @@ impl Kernel {
         requires { self.old.phase ≡ New }
         ensures phase { self.new.phase ≡ Started }
         ensures next { self.new.system ≡ (start_of self.old.system).next }
+        ensures goes { (start_of self.old.system).ending ≡ AtEnd }
         ensures private { AllUndisturbed self.old.system self.new.system }
         ensures rest { SameRest self.old.blocks self.new.blocks }
         ensures items { Took (T.taken trace.old) (start_of self.old.system).items (T.taken trace.new) }
@@ -140,11 +142,11 @@ impl Kernel {
             time: self.machine.world.procs.table.now,
         });
         self.machine.stage = Stage::Resting;
-        self.machine.pass(trace);
+        let _ran = self.machine.pass(trace);
     }
 
     /// Takes one slot: the turn of the running process, which is one instruction with its call, or the rest of a call in which
-    /// it slept. Where it comes to what isn't built, the run has stopped: no event is taken any more.
+    /// it slept. Where it comes to what isn't built, or to a panic, the run has stopped: no event is taken any more.
     pub fn turn<T: Trace>(&mut self, trace: &mut T) -> Turned
         requires { self.old.phase ≡ Started }
         ensures phase { self.new.phase ≡ phase_after (event_of Slot self.old.system).ending }
@@ -176,9 +178,8 @@ impl Kernel {
         }
     }
 
-    /// Takes one tick of the clock, a sixtieth of a second: `clock` in Lions' Commentary, `clock.c`. What isn't built never
-    /// comes of it yet.
-    pub fn tick<T: Trace>(&mut self, trace: &mut T) -> Result<(), Unbuilt>
+    /// Takes one tick of the clock, a sixtieth of a second: `clock` in Lions' Commentary, `clock.c`. No panic comes of it yet.
+    pub fn tick<T: Trace>(&mut self, trace: &mut T) -> Result<(), PanicKind>
         requires { self.old.phase ≡ Started }
         ensures phase { self.new.phase ≡ Started }
         ensures answer { result ≡ Ok tt }
@@ -220,13 +221,14 @@ impl Kernel {
 
     /// Ends a run: writes to the disk what has changed, and the super-block with the time where that has. A file system that
     /// keeps clear of the swap area, as each that was booted does, is without a fault there too. sync(II) of the manual;
-    /// `update` in Lions' Commentary, `alloc.c`. Core and the swap area then keep what the system tells, where the run has not
-    /// stopped before.
+    /// `update` in Lions' Commentary, `alloc.c`. Core and the swap area then keep what the system tells; where the run has
+    /// stopped before, they may keep one image more, of a process without a place.
     pub fn finish(&mut self)
         requires { self.old.phase ≡ Started ⊎ self.old.phase ≡ Stopped }
         ensures phase { self.new.phase ≡ Finished }
         ensures system { self.new.system ≡ finished self.old.system }
         ensures kept { self.old.phase ≡ Started → self.new.kept ≡ kept_in self.new.system }
+        ensures covered { Covers self.new.kept (kept_in self.new.system) }
         ensures stored { self.new.stored ≡ self.new.blocks }
         ensures stands { StandsFor DISK_BLOCKS (block_at self.new.stored) self.new.system.unix.store }
         ensures below { (head (block_at self.old.blocks)).f_size ≤ SWAP_START

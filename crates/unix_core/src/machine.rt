@@ -12,19 +12,21 @@ ghost use Rattle.abstract_unix.specs.Unix.{Unix, System, Started, process_of};
 ghost use Rattle.abstract_unix.specs.Endings.{is_early};
 ghost use Rattle.abstract_unix.specs.Turn.{turned, turned_by, ending_at, turn, turn_of, settled, settled_after, pass_of};
 ghost use Rattle.abstract_unix.specs.Outside.{calls, charged, mode_of, tick_entry, timed_area, tick_of, typed_of};
-ghost use Rattle.unix_core.specs.Parts.{unix_of, board_in, system_at, turn_at, turned_at, turn_end, pc_at, phase_of, machine_in, with_machine_in, is_over, IsGood, IsReady, IsUser, IsKernel, HasCome, HasStepped, Takes};
+ghost use Rattle.unix_core.specs.Parts.{unix_of, board_in, system_at, turn_at, turned_at, turn_end, pc_at, phase_of, machine_in, with_machine_in, is_over, IsGood, IsReady, IsUser, IsCovered, IsKernel, HasCome, HasStepped, Takes};
 
+use crate::files::see_procs;
 use crate::process::{come_to, resume};
-use crate::settling::{end_turn, pass, settle, wake};
+use crate::settling::{end_turn, settle, wake};
 use crate::world::World;
 use abstract_unix::{Ending, Turned, Unbuilt};
 use image_keep::Fixed;
 use pdp_step::{Outcome, Regs, step};
 use pick_rules::{Mode, Second};
+use swap_sched::pass;
 use sys_procs::Procs;
 use tty_line::Keyed;
 use u_area::UArea;
-use v6_base::{Chan, Entry, Slot, Trace};
+use v6_base::{Chan, Entry, PanicKind, Slot, Trace};
 
 /// How far a run has come, and what the next slot finds.
 #[derive(Clone, Copy)]
@@ -35,22 +37,22 @@ pub enum Stage {
     Running(Fixed),
     /// A process goes on with a call, or nobody runs but the swapper, or nobody.
     Resting,
-    /// The run has come to what isn't built, and takes no event any more.
+    /// The run has come to what isn't built, or to a panic, and takes no event any more.
     Stopped,
     /// All that has changed is on the disk.
     Finished,
 }
 
-/// How a slot went. It is one byte, so that a slot's answer stays in a register.
+/// How a slot went. It is two bytes at most, so that a slot's answer stays in a register.
 #[derive(Clone, Copy)]
 pub(crate) enum Went {
     Ran,
     /// Nobody ran.
     Idle,
-    /// An image wants a place in core, and there is none.
-    NoRoom,
     /// It came to what isn't built.
     NotBuilt,
+    /// A demand for a place couldn't be met.
+    Panic(PanicKind),
 }
 
 /// The parts of a kernel.
@@ -118,8 +120,8 @@ fn went_by(ending: Ending) -> Went
     ensures stops { result ≢ Went.Ran → (pc : ℕ) → is_early (ending_at pc ending) ≡ true }
 {
     match ending {
-        Ending::NoRoom => Went::NoRoom,
         Ending::NotBuilt => Went::NotBuilt,
+        Ending::Panic(kind) => Went::Panic(kind),
         Ending::Next | Ending::Trapped | Ending::Slept { .. } | Ending::Ended => Went::Ran,
     }
 }
@@ -153,8 +155,8 @@ pub(crate) fn turned_at(went: Went, at: u16) -> Turned
     match went {
         Went::Ran => Turned::Ran,
         Went::Idle => Turned::Idle,
-        Went::NoRoom => Turned::NotBuilt(Unbuilt::Room),
         Went::NotBuilt => Turned::NotBuilt(Unbuilt::At(at)),
+        Went::Panic(kind) => Turned::Panic(kind),
     }
 }
 
@@ -203,17 +205,33 @@ impl Machine {
         self.refresh();
     }
 
-    /// Takes a pass of the swapper.
-    pub(crate) fn pass<T: Trace>(&mut self, trace: &mut T)
-        requires { IsGood self.old.world }
+    /// Takes a pass of the swapper: the kernel settles, unless it ends with a panic.
+    pub(crate) fn pass<T: Trace>(&mut self, trace: &mut T) -> Went
+        requires good { IsGood self.old.world }
+        requires runs { self.old.world.procs.table.running ≡ Some 0 }
+        ensures answer { (pc : ℕ) → turned_at pc result ≡ turned (settled_after (pass_of (system_at self.old.world))) }
         ensures takes { Takes (settled_after (pass_of (system_at self.old.world))) self.new.stage self.new.world }
         ensures rest { SameRest self.old.world.files.tree.nodes.blocks self.new.world.files.tree.nodes.blocks }
         ensures items { Took (T.taken trace.old)
             (settled_after (pass_of (system_at self.old.world))).items (T.taken trace.new) }
         ensures frame { T.leads_to trace.old trace.new }
     {
-        pass(&mut self.world.procs.table, trace);
-        self.settle(trace);
+        let passed = pass(
+            &mut self.world.procs.table,
+            &mut self.world.procs.images,
+            trace,
+        );
+        see_procs(&self.world.procs);
+        match passed {
+            Ok(()) => {
+                self.settle(trace);
+                Went::Ran
+            }
+            Err(kind) => {
+                self.stage = Stage::Stopped;
+                Went::Panic(kind)
+            }
+        }
     }
 
     /// Takes a turn of a process that goes on with a call in which it slept.
@@ -225,6 +243,7 @@ impl Machine {
         ensures come { HasCome (board_in self.old.world)
             (turn (system_at self.old.world) s) result self.new.world }
         ensures good { IsGood self.new.world }
+        ensures covered { is_over result ≡ true → IsCovered self.new.world }
         ensures runs { result ≢ Ending.Ended → self.new.world.procs.table.running ≡ Some s }
         ensures rest { SameRest self.old.world.files.tree.nodes.blocks self.new.world.files.tree.nodes.blocks }
         ensures items { Took (T.taken trace.old) (logged (board_in self.old.world)
@@ -239,6 +258,7 @@ impl Machine {
     #[inline(never)]
     fn end<T: Trace>(&mut self, s: Slot, ending: Ending, trace: &mut T) -> Went
         requires good { is_over ending ≡ false → IsGood self.old.world }
+        requires covered { is_over ending ≡ true → IsCovered self.old.world }
         requires user { 0 < s }
         requires slot { s < 50 }
         requires runs { is_over ending ≡ false → ending ≢ Ending.Ended → self.old.world.procs.table.running ≡ Some s }
@@ -296,10 +316,7 @@ impl Machine {
     {
         match self.world.procs.table.running {
             None => Went::Idle,
-            Some(0) => {
-                self.pass(trace);
-                Went::Ran
-            }
+            Some(0) => self.pass(trace),
             Some(s) => {
                 let ending = self.go_on(s, trace);
                 self.end(s, ending, trace)

@@ -11,10 +11,10 @@ ghost use Rattle.abstract_unix.specs.Unix.{process_of};
 ghost use Rattle.abstract_unix.specs.Calls.{world_of, words_passed, entered_area, given_area, refused_area, system_call, does_call, did_by, came_by, shares, forks, exits, grows_to, resumed, answers, handed_of, file_row, process_row};
 ghost use Rattle.abstract_unix.specs.Errors.{error_number};
 ghost use Rattle.abstract_unix.specs.Turn.{faults, comes_to};
-ghost use Rattle.unix_core.specs.Parts.{unix_of, board_in, IsGood, IsReady, HasCome, unmet_as, is_over};
+ghost use Rattle.unix_core.specs.Parts.{unix_of, board_in, IsGood, IsReady, HasCome, IsCovered, unmet_as, is_over};
 
 use crate::asked::ask;
-use crate::files::{see_nodes, see_table};
+use crate::files::{see_covered, see_nodes, see_procs, see_table};
 use crate::onfiles::{close_files, do_on_files, read_on};
 use crate::passing::pass_on;
 use crate::world::World;
@@ -82,6 +82,7 @@ fn conclude(world: &mut World, s: Slot, answer: Answer) -> Ending
     ensures unix { unix_of world.new ≡ (answers (unix_of world.old) s answer).unix }
     ensures board { board_in world.new ≡ board_in world.old }
     ensures ready { IsReady world.new s }
+    ensures covered { is_over result ≡ true → IsCovered world.new }
     ensures blocks { world.new.files.tree.nodes.blocks ≡ world.old.files.tree.nodes.blocks }
 {
     match answer {
@@ -92,6 +93,7 @@ fn conclude(world: &mut World, s: Slot, answer: Answer) -> Ending
         Answer::Fail(error) => {
             let number = error_number(error);
             if number >= FIRST_SIGNAL {
+                see_covered(world);
                 return Ending::NotBuilt;
             }
             refuse(&mut world.procs.images, s, number);
@@ -106,8 +108,8 @@ fn unmet_as(kind: PanicKind) -> Ending
     ensures { result ≡ unmet_as kind }
 {
     match kind {
-        PanicKind::Swap => Ending::NoRoom,
-        PanicKind::Zombie | PanicKind::Text => Ending::NotBuilt,
+        PanicKind::Swap | PanicKind::Zombie => Ending::Panic(kind),
+        PanicKind::Text => Ending::NotBuilt,
     }
 }
 
@@ -123,6 +125,7 @@ fn call_files<T: Trace>(
     ensures come { HasCome (board_in world.old) (did_by (unix_of world.old) s (file_row call
         (handed_of (unix_of world.old) (process_of (unix_of world.old) s)) args world.old.procs.table.now)) result world.new }
     ensures ready { IsReady world.new s }
+    ensures covered { is_over result ≡ true → IsCovered world.new }
     ensures items { Took (T.taken trace.old) (logged (board_in world.old) (did_by (unix_of world.old) s (file_row call
         (handed_of (unix_of world.old) (process_of (unix_of world.old) s)) args world.old.procs.table.now)).effects).items
         (T.taken trace.new) }
@@ -146,6 +149,7 @@ fn call_processes<T: Trace>(
     ensures come { HasCome (board_in world.old) (came_by (unix_of world.old) s
         (process_row call (world_of (unix_of world.old)) s args)) result world.new }
     ensures ready { is_over result ≡ false → IsReady world.new s }
+    ensures covered { is_over result ≡ true → IsCovered world.new }
     ensures items { Took (T.taken trace.old) (logged (board_in world.old) (came_by (unix_of world.old) s
         (process_row call (world_of (unix_of world.old)) s args)).effects).items (T.taken trace.new) }
     ensures frame { T.leads_to trace.old trace.new }
@@ -162,7 +166,10 @@ fn call_processes<T: Trace>(
         trace,
     ) {
         Ok(answer) => conclude(world, s, answer),
-        Err(kind) => unmet_as(kind),
+        Err(kind) => {
+            see_procs(&world.procs);
+            unmet_as(kind)
+        }
     }
 }
 
@@ -182,6 +189,7 @@ fn fork<T: Trace>(world: &mut World, s: Slot, trace: &mut T) -> Ending
     requires { IsReady world.old s }
     ensures come { HasCome (board_in world.old) (forks (unix_of world.old) s) result world.new }
     ensures ready { is_over result ≡ false → IsReady world.new s }
+    ensures covered { is_over result ≡ true → IsCovered world.new }
     ensures items { Took (T.taken trace.old) (logged (board_in world.old) (forks (unix_of world.old) s).effects).items
         (T.taken trace.new) }
     ensures frame { T.leads_to trace.old trace.new }
@@ -195,7 +203,10 @@ fn fork<T: Trace>(world: &mut World, s: Slot, trace: &mut T) -> Ending
             share_files(&mut world.files.table, &u.files, answer);
             conclude(world, s, answer)
         }
-        Err(kind) => unmet_as(kind),
+        Err(kind) => {
+            see_covered(world);
+            unmet_as(kind)
+        }
     }
 }
 
@@ -203,7 +214,8 @@ fn fork<T: Trace>(world: &mut World, s: Slot, trace: &mut T) -> Ending
 fn exit<T: Trace>(world: &mut World, s: Slot, trace: &mut T) -> Ending
     requires { IsReady world.old s }
     ensures come { HasCome (board_in world.old) (exits (unix_of world.old) s) result world.new }
-    ensures good { IsGood world.new }
+    ensures good { is_over result ≡ false → IsGood world.new }
+    ensures covered { is_over result ≡ true → IsCovered world.new }
     ensures runs { result ≢ Ending.Ended → world.new.procs.table.running ≡ Some s }
     ensures items { Took (T.taken trace.old) (logged (board_in world.old) (exits (unix_of world.old) s).effects).items
         (T.taken trace.new) }
@@ -214,7 +226,9 @@ fn exit<T: Trace>(world: &mut World, s: Slot, trace: &mut T) -> Ending
     pass_on(&world.tape, &mut world.procs.table, trace);
     see_nodes(&world.files.tree.nodes);
     see_table(&world.files.table);
-    match exit_now(&mut world.procs, &mut world.files.tree, s, [0; 4], trace) {
+    let ended = exit_now(&mut world.procs, &mut world.files.tree, s, [0; 4], trace);
+    see_covered(world);
+    match ended {
         Ok(_) => Ending::Ended,
         Err(kind) => unmet_as(kind),
     }
@@ -225,6 +239,7 @@ fn grow_stack<T: Trace>(world: &mut World, s: Slot, sp: u16, trace: &mut T) -> E
     requires { IsReady world.old s }
     ensures come { HasCome (board_in world.old) (grows_to (unix_of world.old) s sp) result world.new }
     ensures ready { is_over result ≡ false → IsReady world.new s }
+    ensures covered { is_over result ≡ true → IsCovered world.new }
     ensures call { result ≢ Ending.Next }
     ensures items { Took (T.taken trace.old) (logged (board_in world.old) (grows_to (unix_of world.old) s sp).effects).items
         (T.taken trace.new) }
@@ -234,6 +249,7 @@ fn grow_stack<T: Trace>(world: &mut World, s: Slot, sp: u16, trace: &mut T) -> E
     see_nodes(&world.files.tree.nodes);
     see_table(&world.files.table);
     let grown = grow(&mut world.procs, &mut world.files.tree, s, sp, trace);
+    see_covered(world);
     match grown {
         Ok(true) => Ending::Trapped,
         Ok(false) => Ending::NotBuilt,
@@ -252,6 +268,7 @@ fn does_call<T: Trace>(
     requires { IsReady world.old s }
     ensures come { HasCome (board_in world.old) (does_call (unix_of world.old) s call args) result world.new }
     ensures good { is_over result ≡ false → IsGood world.new }
+    ensures covered { is_over result ≡ true → IsCovered world.new }
     ensures runs { is_over result ≡ false → result ≢ Ending.Ended → world.new.procs.table.running ≡ Some s }
     ensures call { result ≢ Ending.Next }
     ensures items { Took (T.taken trace.old) (logged (board_in world.old)
@@ -282,6 +299,7 @@ fn call<T: Trace>(world: &mut World, s: Slot, number: u8, trace: &mut T) -> Endi
     requires { IsReady world.old s }
     ensures come { HasCome (board_in world.old) (system_call number (unix_of world.old) s) result world.new }
     ensures good { is_over result ≡ false → IsGood world.new }
+    ensures covered { is_over result ≡ true → IsCovered world.new }
     ensures runs { is_over result ≡ false → result ≢ Ending.Ended → world.new.procs.table.running ≡ Some s }
     ensures call { result ≢ Ending.Next }
     ensures items { Took (T.taken trace.old) (logged (board_in world.old)
@@ -299,7 +317,10 @@ fn call<T: Trace>(world: &mut World, s: Slot, number: u8, trace: &mut T) -> Endi
             );
             does_call(world, s, entry.call, asked.args, trace)
         }
-        None => Ending::NotBuilt,
+        None => {
+            see_covered(world);
+            Ending::NotBuilt
+        }
     }
 }
 
@@ -308,6 +329,7 @@ fn fault<T: Trace>(world: &mut World, s: Slot, kind: Kind, trace: &mut T) -> End
     requires { IsReady world.old s }
     ensures come { HasCome (board_in world.old) (faults (unix_of world.old) s kind) result world.new }
     ensures ready { is_over result ≡ false → IsReady world.new s }
+    ensures covered { is_over result ≡ true → IsCovered world.new }
     ensures items { Took (T.taken trace.old) (logged (board_in world.old)
         (faults (unix_of world.old) s kind).effects).items (T.taken trace.new) }
     ensures frame { T.leads_to trace.old trace.new }
@@ -315,7 +337,10 @@ fn fault<T: Trace>(world: &mut World, s: Slot, kind: Kind, trace: &mut T) -> End
 {
     match kind {
         Kind::Segment { sp } => grow_stack(world, s, sp, trace),
-        _ => Ending::NotBuilt,
+        _ => {
+            see_covered(world);
+            Ending::NotBuilt
+        }
     }
 }
 
@@ -330,6 +355,7 @@ pub(crate) fn come_to<T: Trace>(
     requires { IsReady world.old s }
     ensures come { HasCome (board_in world.old) (comes_to (unix_of world.old) s outcome) result world.new }
     ensures good { is_over result ≡ false → IsGood world.new }
+    ensures covered { is_over result ≡ true → IsCovered world.new }
     ensures runs { is_over result ≡ false → result ≢ Ending.Ended → world.new.procs.table.running ≡ Some s }
     ensures items { Took (T.taken trace.old) (logged (board_in world.old)
         (comes_to (unix_of world.old) s outcome).effects).items (T.taken trace.new) }
@@ -358,6 +384,7 @@ fn go_on_reading<T: Trace>(world: &mut World, s: Slot, trace: &mut T) -> Ending
     ensures come { HasCome (board_in world.old) (did_by (unix_of world.old) s
         (resume_read (handed_of (unix_of world.old) (process_of (unix_of world.old) s)))) result world.new }
     ensures ready { IsReady world.new s }
+    ensures covered { is_over result ≡ true → IsCovered world.new }
     ensures items { Took (T.taken trace.old) (logged (board_in world.old) (did_by (unix_of world.old) s
         (resume_read (handed_of (unix_of world.old) (process_of (unix_of world.old) s)))).effects).items
         (T.taken trace.new) }
@@ -375,6 +402,7 @@ fn go_on_waiting<T: Trace>(world: &mut World, s: Slot, trace: &mut T) -> Ending
     ensures come { HasCome (board_in world.old) (came_by (unix_of world.old) s
         (resume_proc (world_of (unix_of world.old)) s)) result world.new }
     ensures ready { IsReady world.new s }
+    ensures covered { is_over result ≡ true → IsCovered world.new }
     ensures items { Took (T.taken trace.old) (logged (board_in world.old) (came_by (unix_of world.old) s
         (resume_proc (world_of (unix_of world.old)) s)).effects).items (T.taken trace.new) }
     ensures frame { T.leads_to trace.old trace.new }
@@ -394,6 +422,7 @@ pub(crate) fn resume<T: Trace>(world: &mut World, s: Slot, trace: &mut T) -> End
     requires { IsReady world.old s }
     ensures come { HasCome (board_in world.old) (resumed (unix_of world.old) s) result world.new }
     ensures good { IsGood world.new }
+    ensures covered { is_over result ≡ true → IsCovered world.new }
     ensures runs { world.new.procs.table.running ≡ Some s }
     ensures alive { result ≢ Ending.Ended }
     ensures items { Took (T.taken trace.old) (logged (board_in world.old) (resumed (unix_of world.old) s).effects).items
@@ -411,5 +440,6 @@ pub(crate) fn resume<T: Trace>(world: &mut World, s: Slot, trace: &mut T) -> End
     if pending == PENDING_WAIT {
         return go_on_waiting(world, s, trace);
     }
+    see_covered(world);
     Ending::NotBuilt
 }

@@ -10,18 +10,13 @@ ghost use Rattle.pick_rules.specs.Logged.{logged};
 ghost use Rattle.image_keep.specs.Kept.{Kept};
 ghost use Rattle.sys_procs.specs.Agree.{board_of};
 ghost use Rattle.abstract_unix.specs.Unix.{Unix};
-ghost use Rattle.abstract_unix.specs.Turn.{end_effects, settled, pass_effects};
+ghost use Rattle.abstract_unix.specs.Turn.{end_effects, settled};
 ghost use Rattle.abstract_unix.specs.Outside.{wakes};
-ghost use Rattle.pick_rules.specs.Priority.{pswp};
-ghost use Rattle.pick_rules.specs.Sleepers.{fall_asleep};
 ghost use Rattle.unix_core.specs.Passing.{trapped, ended_table, called_table, settled_table};
 
 use abstract_unix::Ending;
 use pick_rules::{Table, TableRow};
 use v6_base::{Chan, Entry, Place, Slot, Trace};
-
-/// The priority of the swapper: `PSWP` in Lions' Commentary, `param.h`.
-const PSWP: i8 = -100;
 
 /// A process comes out of its call.
 fn trap(table: &mut Table, s: Slot)
@@ -45,7 +40,7 @@ pub(crate) fn end_turn<T: Trace>(table: &mut Table, s: Slot, ending: Ending, tra
     ensures frame { T.leads_to trace.old trace.new }
 {
     match ending {
-        Ending::Next | Ending::Ended | Ending::NoRoom | Ending::NotBuilt => {}
+        Ending::Next | Ending::Ended | Ending::NotBuilt | Ending::Panic(_) => {}
         Ending::Trapped => {
             trace.entry(Entry::Trap(s));
             trap(table, s);
@@ -55,23 +50,6 @@ pub(crate) fn end_turn<T: Trace>(table: &mut Table, s: Slot, ending: Ending, tra
             table.sleep(s, pri, chan);
         }
     }
-}
-
-/// The swapper finds nobody out of core, and sleeps: `sched` in Lions' Commentary, `slp.c`.
-pub(crate) fn pass<T: Trace>(table: &mut Table, trace: &mut T)
-    requires { IsTable table.old }
-    ensures board { (k : Kept) → board_of table.new k ≡ (logged {W = Unix} (board_of table.old k) pass_effects).board }
-    ensures table { table.new ≡ fall_asleep table.old 0 pswp Chan.RunOut }
-    ensures good { IsTable table.new }
-    ensures items { (b : Board) → Took (T.taken trace.old) (logged {W = Unix} b pass_effects).items (T.taken trace.new) }
-    ensures frame { T.leads_to trace.old trace.new }
-{
-    trace.entry(Entry::Sleep {
-        slot: 0,
-        pri: PSWP,
-        chan: Chan::RunOut,
-    });
-    table.sleep(0, PSWP, Chan::RunOut);
 }
 
 /// Wakes those who sleep for a channel, where that is called for.

@@ -3,6 +3,7 @@ use Rattle.v6_base.specs.Trace.{Took}
 use Rattle.v6_base.proofs.Took.{took_nothing}
 use Rattle.pick_rules.specs.Logged.{logged}
 use Rattle.image_keep.specs.Kept.{Kept, HasImage}
+use Rattle.sys_procs.specs.Handed.{AreProcs}
 use Rattle.unix_core.specs.declared.world.World.{World}
 use Rattle.abstract_unix.specs.declared.asked.Asked.{Asked}
 use Rattle.abstract_unix.specs.declared.ending.Ending.TheVariants.{NotBuilt}
@@ -89,3 +90,8 @@ returns-in-None-clause-items g c =
     let steps = system_is_not c.args.number (unix_of w) s a asks
     (sym c.sysent_of.ensures ∙ c.in-None.is) in
     took_nothing _ _ (ap (λ (x : Steps). (logged (board_in w) x.effects).items) (sym steps))
+
+pub see_covered-requires : goal.see_covered-requires
+see_covered-requires g c =
+    let w : World = c.args.world.now in
+    subst (λ (k : Kept). AreProcs (with_images w k).procs) (sym c.ask-asked.ensures.same) c.requires.good.agree

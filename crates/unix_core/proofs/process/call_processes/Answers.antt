@@ -1,7 +1,8 @@
-use Rattle.std.proofs.Common.{ℕ, List, sym, subst}
-use Rattle.std.proofs.lemmas.Result.{IfOk-at_ok}
+use Rattle.std.proofs.Common.{◌≡◌, ◌⊎◌, ℕ, List, sym, subst}
+use Rattle.std.proofs.lemmas.Result.{IfOk-at_ok, IfErr-at_err}
 use Rattle.v6_base.specs.Trace.{Took}
 use Rattle.v6_base.specs.declared.answer.Answer.{Answer}
+use Rattle.v6_base.specs.declared.entry.PanicKind.{PanicKind}
 use Rattle.fs_laws.specs.Rest.{SameRest}
 use Rattle.pick_rules.specs.Logged.{logged}
 use Rattle.sys_procs.specs.Comes.{Comes}
@@ -11,6 +12,7 @@ use Rattle.abstract_unix.specs.declared.calls.ProcessCall.{ProcessCall}
 use Rattle.abstract_unix.specs.Calls.{came_by, process_row}
 use Rattle.unix_core.specs.Parts.{unix_of, board_in, HasCome, IsReady}
 use Rattle.unix_core.proofs.CameLemmas.{given, IsTame, after, beside, world_is, ready_calls, over_then, call_took, call_stops, call_ready, call_come}
+use Rattle.unix_core.proofs.CoverLemmas.{bare, stopped_covered}
 use Rattle.unix_core.proofs.TameRows.{tame_row}
 use Rattle.unix_core.proofs.process.call_processes.Goals as goal
 
@@ -83,3 +85,11 @@ returns-in-Err-clause-items g c =
     (world_is w s c.requires c.see_nodes.ensures)
     (call_took w (after w c.do_process_call.new.tree c.do_process_call.new.p) s (row w c.args.call s c.args.args)
     (tame w c.args.call s c.args.args c.requires) (beside w c.do_process_call.new.tree c.do_process_call.new.p e.marks) e.does)
+
+pub returns-in-Err-clause-covered : goal.returns-in-Err-clause-covered
+returns-in-Err-clause-covered g c ends =
+    let w : World = c.args.world.now in
+    let e = c.do_process_call.ensures in
+    stopped_covered w (after w c.do_process_call.new.tree c.do_process_call.new.p) c.args.s c.requires.good.agree
+    (IfErr-at_err (λ (kind : PanicKind). AreProcs c.do_process_call.new.p ⊎ (c.do_process_call.new.p ≡ bare w.procs c.args.s)) c.in-Err.is e.left)
+    c.see_procs.ensures.rows c.see_procs.ensures.images

@@ -79,3 +79,15 @@ returns-else-number-ge-FIRST_SIGNAL-clause-ready c =
     let u : UArea = refused_area c.error_number-number.result (process_of (unix_of w) c.args.s).u in
     subst (λ k. IsReady (with_images w k) c.args.s) (sym (refused c))
     (area_ready w c.args.s c.requires u (record { clicks = refl; files = refl; dir = refl }))
+
+pub see_covered-requires : goal.see_covered-requires
+see_covered-requires c = c.requires.good.agree
+
+pub returns-in-Ret-clause-covered : goal.returns-in-Ret-clause-covered
+returns-in-Ret-clause-covered c ends = absurd (cc ends)
+
+pub returns-else-number-ge-FIRST_SIGNAL-clause-covered : goal.returns-else-number-ge-FIRST_SIGNAL-clause-covered
+returns-else-number-ge-FIRST_SIGNAL-clause-covered c ends = absurd (cc ends)
+
+pub returns-in-Sleep-clause-covered : goal.returns-in-Sleep-clause-covered
+returns-in-Sleep-clause-covered c ends = absurd (cc ends)

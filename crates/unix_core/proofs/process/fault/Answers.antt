@@ -28,3 +28,6 @@ returns-in_default-clause-items g c =
     let w : World = c.args.world.now in
     took_nothing _ _ (ap (λ (x : Steps). (logged (board_in w) x.effects).items)
     (sym (no_growth (unix_of w) c.args.s c.args.kind c.in_default.not-Segment)))
+
+pub see_covered-requires : goal.see_covered-requires
+see_covered-requires g c = c.requires.good.agree

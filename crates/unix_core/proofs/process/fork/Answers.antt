@@ -97,3 +97,6 @@ returns-in-Err-clause-items g c =
     let e = c.fork_one.ensures in
     fork_took w (after w c.fork_one.new.tree c.fork_one.new.p) c.args.s c.requires c.see_nodes.ensures
     (beside w c.fork_one.new.tree c.fork_one.new.p e.marks) e.does
+
+pub see_covered-requires : goal.see_covered-requires
+see_covered-requires g c = c.fork_one.ensures.agree

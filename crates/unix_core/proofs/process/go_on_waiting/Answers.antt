@@ -85,3 +85,7 @@ returns-in-Err-clause-ready g c =
 pub returns-in-Err-clause-items : goal.returns-in-Err-clause-items
 returns-in-Err-clause-items g c =
     absurd (never c.args.world.now c.args.s c.in-Err.kind _ c.requires c.resume_proc.ensures.does.answer c.in-Err.is)
+
+pub returns-in-Err-clause-covered : goal.returns-in-Err-clause-covered
+returns-in-Err-clause-covered g c ends =
+    absurd (never c.args.world.now c.args.s c.in-Err.kind _ c.requires c.resume_proc.ensures.does.answer c.in-Err.is)

@@ -128,3 +128,6 @@ returns-clause-items g c =
     (sym (resumes_nothing (unix_of w) c.args.s (λ e. c.if-pending-eq-PENDING_READ.false (sym here ∙ e))
     (λ e. c.if-pending-eq-PENDING_SLEEP.false (sym here ∙ e))
     (λ e. c.if-pending-eq-PENDING_WAIT.false (sym here ∙ e)))))
+
+pub see_covered-requires : goal.see_covered-requires
+see_covered-requires g c = c.requires.good.agree

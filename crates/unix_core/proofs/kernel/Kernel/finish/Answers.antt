@@ -1,16 +1,23 @@
-use Rattle.std.proofs.Common.{◌≡◌, ◌∙◌, refl, ap, sym, arith}
+use Rattle.std.proofs.Common.{◌≡◌, ◌⊎◌, ◌∙◌, refl, ap, sym, subst, arith}
 use Rattle.fs_codec.specs.Disk.{head}
 use Rattle.buf_cache.specs.Blocks.{block_at}
 use Rattle.unix_core.specs.State.{KernelState}
 use Rattle.unix_core.proofs.Memories.{kept_is}
+use Rattle.abstract_unix.specs.Unix.{Phase, Started, Stopped}
 use Rattle.abstract_unix.specs.Runs.{finished}
 use Rattle.unix_core.specs.Parts.{system_at, IsGood}
 use Rattle.unix_core.proofs.BootLemmas.{stands_below}
-use Rattle.unix_core.proofs.BootKernelLemmas.{kernel_good, updated, finished_kernel, updated_system}
+use Rattle.unix_core.proofs.BootKernelLemmas.{kernel_good, updated, finished_kernel, updated_system, updated_covered}
+use Rattle.unix_core.proofs.CoverLemmas.{kernel_covered}
 use Rattle.unix_core.proofs.kernel.Kernel.finish.Goals as goal
 
 pub invariant_of-self : goal.invariant_of-self
-invariant_of-self c = finished_kernel (updated c.self.inside.machine.world c.update_all.new.self c.update_all.ensures.store)
+invariant_of-self c =
+    let m = c.self.inside.machine in
+    finished_kernel (updated m.world c.update_all.new.self c.update_all.ensures.store)
+    (updated_covered m.world c.update_all.new.self c.update_all.ensures.store
+    (kernel_covered m.stage m.world c.self.invariant (subst (λ (p : Phase). (p ≡ Started) ⊎ (p ≡ Stopped)) (ap (λ (v : KernelState). v.phase) (sym c.self.view_is)) c.requires)
+    c.see_procs.ensures.rows c.see_procs.ensures.images))
 
 pub returns-clause-system : goal.returns-clause-system
 returns-clause-system c =
@@ -35,3 +42,11 @@ returns-clause-kept c = λ started.
     let good : IsGood m.world = kernel_good m.stage m.world (ap (λ (v : KernelState). v.phase) c.self.view_is ∙ started) c.self.invariant in
     sym (kept_is m.world.procs.rows m.world.procs.table m.world.procs.images c.see_procs.ensures.rows good.agree c.see_procs.ensures.images
     (system_at w) refl refl refl)
+
+-- and covers it, where the run has stopped before
+pub returns-clause-covered : goal.returns-clause-covered
+returns-clause-covered c =
+    let m = c.self.inside.machine in
+    updated_covered m.world c.update_all.new.self c.update_all.ensures.store
+    (kernel_covered m.stage m.world c.self.invariant (subst (λ (p : Phase). (p ≡ Started) ⊎ (p ≡ Stopped)) (ap (λ (v : KernelState). v.phase) (sym c.self.view_is)) c.requires)
+    c.see_procs.ensures.rows c.see_procs.ensures.images)

@@ -37,7 +37,7 @@ returns-in_default-clause-answer g c pc = c.went_by.ensures.went pc ∙ end_answ
 pub returns-in_default-clause-takes : goal.returns-in_default-clause-takes
 returns-in_default-clause-takes g c pc =
     let m = c.args.self.now in
-    stopped_takes m.world c.args.s pc c.args.ending (c.went_by.ensures.stops c.in_default.not-Ran pc)
+    stopped_takes m.world c.args.s pc c.args.ending (c.went_by.ensures.stops c.in_default.not-Ran pc) c.requires.covered
 
 pub returns-in_default-clause-items : goal.returns-in_default-clause-items
 returns-in_default-clause-items g c pc =

@@ -13,6 +13,7 @@ returns g c =
     record {
       come = later_come (system_at w) c.args.s calls c.resume.result c.resume.new.world c.resume.ensures.come;
       good = c.resume.ensures.good;
+      covered = c.resume.ensures.covered;
       runs = λ alive. c.resume.ensures.runs;
       rest = c.resume.ensures.rest;
       items = later_took (system_at w) c.args.s calls _ _ c.resume.ensures.items;

@@ -1,26 +1,37 @@
-use Rattle.std.proofs.Common.{refl}
-use Rattle.unix_core.proofs.EventLemmas.{pass_good, pass_next, pass_items}
+use Rattle.unix_core.specs.declared.world.World.{World}
+use Rattle.sys_procs.proofs.Places.{agree_matches}
+use Rattle.unix_core.proofs.SwapLemmas.{after_good, after_takes, after_items, panic_takes}
 use Rattle.unix_core.proofs.machine.Machine.pass.Goals as goal
 
-pub pass-requires : goal.pass-requires
-pass-requires g c = c.requires.agree.table
+pub pass-passed-requires-clause-matches : goal.pass-passed-requires-clause-matches
+pass-passed-requires-clause-matches g c =
+    let w : World = c.args.self.now.world in agree_matches w.procs.rows w.procs.table w.procs.images c.requires.good.agree
 
 pub settle-requires : goal.settle-requires
 settle-requires g c =
-    let m = c.args.self.now in
-    pass_good m.world c.requires c.pass.new.table c.pass.ensures.table c.pass.ensures.good (c.pass.ensures.board m.world.procs.images)
+    let w : World = c.args.self.now.world in
+    let passed = c.pass-passed in
+    after_good w passed.new.table passed.new.images _ _ c.requires.good passed.ensures.does passed.ensures.same c.see_procs.ensures.images
+    (c.in-Ok.ensures.sleeps)
 
-pub returns-clause-takes : goal.returns-clause-takes
-returns-clause-takes g c =
-    let m = c.args.self.now in record {
-      kernel = c.settle.ensures.kernel;
-      system = pass_next m.world c.requires c.pass.new.table c.pass.ensures.table c.pass.ensures.good (c.pass.ensures.board m.world.procs.images)
-          _ c.settle.ensures.system;
-      phase = c.settle.ensures.started;
-    }
+pub returns-in-Ok-clause-takes : goal.returns-in-Ok-clause-takes
+returns-in-Ok-clause-takes g c =
+    let w : World = c.args.self.now.world in
+    let passed = c.pass-passed in
+    let last = c.settle.new.self in
+    after_takes w passed.new.table passed.new.images _ _ c.requires.good passed.ensures.does passed.ensures.same c.see_procs.ensures.images
+    c.in-Ok.ensures.answer last.stage last.world c.settle.ensures.kernel c.settle.ensures.started c.settle.ensures.system
 
-pub returns-clause-items : goal.returns-clause-items
-returns-clause-items g c =
-    let m = c.args.self.now in
-    pass_items m.world c.requires c.pass.new.table c.pass.ensures.table c.pass.ensures.good (c.pass.ensures.board m.world.procs.images)
-    _ refl _ _ _ (c.pass.ensures.items _) c.settle.ensures.items
+pub returns-in-Ok-clause-items : goal.returns-in-Ok-clause-items
+returns-in-Ok-clause-items g c =
+    let w : World = c.args.self.now.world in
+    let passed = c.pass-passed in
+    after_items w passed.new.table passed.new.images _ _ c.requires.good passed.ensures.does passed.ensures.same c.see_procs.ensures.images
+    c.in-Ok.ensures.answer _ _ passed.ensures.does.items c.settle.ensures.items
+
+pub returns-in-Err-clause-takes : goal.returns-in-Err-clause-takes
+returns-in-Err-clause-takes g c =
+    let w : World = c.args.self.now.world in
+    let passed = c.pass-passed in
+    panic_takes w passed.new.table passed.new.images _ _ c.requires.good passed.ensures.does passed.ensures.same c.see_procs.ensures.images
+    c.in-Err.kind c.in-Err.ensures.answer c.see_procs.ensures.rows
