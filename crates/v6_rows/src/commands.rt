@@ -6,7 +6,7 @@ use run_fixtures::{
 use std::alloc::{AllocError, Global};
 use std::test::Fail;
 use v6_port::{InPort, OutPort};
-use v6_run::{ImageFault, ScriptFault, Status, Unbuilt};
+use v6_run::{ImageFault, PanicKind, ScriptFault, Status, Unbuilt};
 
 /// The least disk without a fault: a block of inodes of which the first is a directory, and one data block.
 const LEAST_DISK: [Piece<'static>; 2] = [(512, b"\x01\x00\x04\x00"), (1024, b"\xed\xc1")];
@@ -114,9 +114,9 @@ const NUMBERS: [(Status, u8); 10] = [
     (Status::CoreSize, 4),
     (Status::ScriptFault(ScriptFault::TooLong), 5),
     (Status::ImageFault(ImageFault::TooLong), 6),
+    (Status::Panic(PanicKind::Swap), 7),
     (Status::NoMemory, 8),
     (Status::NotBuilt(Unbuilt::At(2)), 11),
-    (Status::NotBuilt(Unbuilt::Room), 11),
 ];
 
 #[test]

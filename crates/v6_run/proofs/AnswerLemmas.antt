@@ -10,12 +10,12 @@ use Rattle.fs_codec.specs.Faults.{image_fault}
 use Rattle.fs_codec.specs.declared.fault.ImageFault as fault
 use Rattle.v6_run.specs.declared.image.TheConstants.{IMAGE_LIMIT}
 use Rattle.v6_run.specs.declared.status.Status.{Status}
-use Rattle.v6_run.specs.declared.status.Status.TheVariants.{Done, ReadFault, WriteFault, ImageFault, NoMemory}
+use Rattle.v6_run.specs.declared.status.Status.TheVariants.{Done, ReadFault, WriteFault, Panic, ImageFault, NoMemory}
 use Rattle.v6_run.specs.declared.files.ReadError.TheVariants as reading
 use Rattle.v6_run.specs.declared.image.ImageError.{ImageError}
 use Rattle.v6_run.specs.declared.image.ImageError.TheVariants as image
 use Rattle.v6_run.specs.Words.{Command}
-use Rattle.v6_run.specs.Status.{is_decided, has_written, is_unfinished}
+use Rattle.v6_run.specs.Status.{is_decided, has_written, is_closed, is_unfinished}
 use Rattle.v6_run.specs.Errors.{image_status}
 use Rattle.v6_run.specs.Causes.{IsCaused}
 use Rattle.v6_run.specs.Steps.{StopsImage}
@@ -33,7 +33,13 @@ no_file s t before after is = let both : has_written s ≡ true = ap has_written
 written_by : (s : Status) → is_unfinished s ≡ true → has_written s ≡ true
 written_by Done is = refl
 written_by (WriteFault port) is = refl
+written_by (Panic kind) is = refl
 written_by _ is = is
+
+closed_by : (s : Status) → is_closed s ≡ true → has_written s ≡ true
+closed_by Done is = refl
+closed_by (Panic kind) is = refl
+closed_by _ is = not_so _ is
 
 pub unwritten : (command : Command) (s : Status) (old new : Outside) → OnlyAt (is_named command) old new → may_end command s ≡ true → has_written s ≡ false
     → ((p : OutPort) → new.port (Out p) ≡ old.port (Out p)) → (s ≡ ReadFault in_port.Script → Tells old → IsImageGood (Some command) old.fixed)
@@ -47,7 +53,7 @@ unwritten command s old new only ends before none order complete cause = record 
   partial = λ p is. absurd (no_file s _ before refl is);
   order = order;
   none = λ _. none;
-  closed = λ is. absurd (no_file s Done before refl is);
+  closed = λ is. not_so _ (sym before ∙ closed_by s is);
   unfinished = λ is. not_so _ (sym before ∙ written_by s is);
   cause = cause;
 }

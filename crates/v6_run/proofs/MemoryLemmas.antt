@@ -48,6 +48,7 @@ module _ (run : Course) (a b : Outside) (opens : OnlyAt (same (Out out_port.Fina
     leaves_none : (e : Ends) → is_finished e ≡ false → memory_writes e run.system []
     leaves_none AtEnd f = absurd (cc f)
     leaves_none (ends.NotBuilt place) f = refl
+    leaves_none (ends.Panic kind) f = refl
 
     none : memory_writes run.ending run.system []
     none = subst (λ e. memory_writes e run.system []) last (leaves_none ended is)
@@ -64,10 +65,10 @@ module _ (run : Course) (a b : Outside) (opens : OnlyAt (same (Out out_port.Fina
     still out_port.Final out = unclosed ∙ sym (ap not is)
     still out_port.Report out = absurd (let no : false ≡ true = out in cc)
 
-  -- the run has come to its end, and its memory is written
-  module _ (last : AtEnd ≡ run.ending) (core swap : List ℕ) (holds : MemoryHolds core swap (kept_in run.system)) (c : Outside) (writes : OnlyAt (same (Out out_port.Final)) b c) where
-    is_memory : memory_writes run.ending run.system (core ++ swap)
-    is_memory = subst (λ e. memory_writes e run.system (core ++ swap)) last (let m : IsMemory run.system (core ++ swap) = record { core = core; swap = swap; split = refl; holds = holds } in m)
+  -- the run has ended, and what it leaves is written
+  module _ (ended : Ends) (last : ended ≡ run.ending) (is : is_finished ended ≡ true) (text : List ℕ) (leaves : memory_writes ended run.system text) (c : Outside) (writes : OnlyAt (same (Out out_port.Final)) b c) where
+    is_memory : memory_writes run.ending run.system text
+    is_memory = subst (λ e. memory_writes e run.system text) last leaves
 
     tells_b : Tells a → Tells b
     tells_b told = still_tells _ _ _ opens told
@@ -75,23 +76,23 @@ module _ (run : Course) (a b : Outside) (opens : OnlyAt (same (Out out_port.Fina
     others_then : (p : OutPort) → same (Out out_port.Final) (Out p) ≡ false → (c.port (Out p)).bytes ≡ (a.port (Out p)).bytes
     others_then p other = ap (λ (state : PortState). state.bytes) (writes.others (Out p) other) ∙ others_same p other
 
-    pub memory_stopped : (known : Bool) → (Tells b → HoldsFront (final_of b).bytes (core ++ swap) (final_of c).bytes) → Calm a b → FaultAt (Out out_port.Final) true b c
+    pub memory_stopped : (known : Bool) → (Tells b → HoldsFront (final_of b).bytes text (final_of c).bytes) → Calm a b → FaultAt (Out out_port.Final) true b c
         → StopsRun (same (Out out_port.Final)) (core_writes run) Final known a c
     memory_stopped known front calm fault = record { named = refl; written = at; fault = fault_any _ known _ _ (fault_then _ _ a b c opens.fixed calm fault) } where
       at : Tells a → (p : OutPort) → HoldsFrontOfSome (core_writes run p) (a.port (Out p)).bytes (c.port (Out p)).bytes
       at told out_port.Term = nothing_of _ _ _ (others_then out_port.Term refl)
       at told out_port.Log = nothing_of _ _ _ (others_then out_port.Log refl)
-      at told out_port.Final = record { text = core ++ swap; fits = λ _. is_memory; front = subst (λ l. HoldsFront l (core ++ swap) (final_of c).bytes) opened (front (tells_b told)) }
+      at told out_port.Final = record { text = text; fits = λ _. is_memory; front = subst (λ l. HoldsFront l text (final_of c).bytes) opened (front (tells_b told)) }
       at told out_port.Report = nothing_of _ _ _ (others_then out_port.Report refl)
 
-    module _ (whole : Tells b → (final_of c).bytes ≡ (final_of b).bytes ++ (core ++ swap)) (d : Outside) (finishes : OnlyAt (same (Out out_port.Final)) c d) (finished : (final_of d).bytes ≡ (final_of c).bytes) where
+    module _ (whole : Tells b → (final_of c).bytes ≡ (final_of b).bytes ++ text) (d : Outside) (finishes : OnlyAt (same (Out out_port.Final)) c d) (finished : (final_of d).bytes ≡ (final_of c).bytes) where
       others_last : (p : OutPort) → same (Out out_port.Final) (Out p) ≡ false → (d.port (Out p)).bytes ≡ (a.port (Out p)).bytes
       others_last p other = ap (λ (state : PortState). state.bytes) (finishes.others (Out p) other) ∙ others_then p other
 
       all_written : Tells a → (p : OutPort) → HoldsSome (core_writes run p) (a.port (Out p)).bytes (d.port (Out p)).bytes
       all_written told out_port.Term = empty_of _ _ _ refl (others_last out_port.Term refl)
       all_written told out_port.Log = empty_of _ _ _ refl (others_last out_port.Log refl)
-      all_written told out_port.Final = record { text = core ++ swap; fits = is_memory; holds = finished ∙ whole (tells_b told) ∙ ap (λ l. l ++ (core ++ swap)) opened }
+      all_written told out_port.Final = record { text = text; fits = is_memory; holds = finished ∙ whole (tells_b told) ∙ ap (λ l. l ++ text) opened }
       all_written told out_port.Report = empty_of _ _ _ refl (others_last out_port.Report refl)
 
       pub memory_unfinished : (known : Bool) → Calm a b → Calm b c → FaultAt (Out out_port.Final) true c d → StopsRun (same (Out out_port.Final)) (core_writes run) Final known a d
@@ -101,11 +102,11 @@ module _ (run : Course) (a b : Outside) (opens : OnlyAt (same (Out out_port.Fina
         fault = fault_any _ known _ _ (fault_then _ _ a c d (writes.fixed ∙ opens.fixed) (calm_then _ _ _ calm calm_too) fault);
       }
 
-      pub memory_left : (final_of d).is_open ≡ false → Calm a b → Calm b c → Calm c d → EndsRun (same (Out out_port.Final)) (core_writes run) run AtEnd a d
+      pub memory_left : (final_of d).is_open ≡ false → Calm a b → Calm b c → Calm c d → EndsRun (same (Out out_port.Final)) (core_writes run) run ended a d
       memory_left closed calm calm_too calm_last = record {
         ended = last;
         written = all_written;
-        is_open = shut;
+        is_open = λ p out. shut p out ∙ sym (ap not is);
         calm = calm_then _ _ _ (calm_then _ _ _ calm calm_too) calm_last;
       } where
         shut : (p : OutPort) → same (Out out_port.Final) (Out p) ≡ true → (d.port (Out p)).is_open ≡ false

@@ -1,5 +1,5 @@
 -- What has been written to the files of a run, step by step.
-use Rattle.std.proofs.Common.{◌≡◌, ◌<◌, ◌≤◌, ℕ, Bool, true, false, not, Result, Ok, Err, is_err, OnOk, MatchResult, List, [], ◌++◌, refl, sym, ◌∙◌, ap, subst}
+use Rattle.std.proofs.Common.{◌≡◌, ◌≢◌, ◌<◌, ◌≤◌, ◌⊎◌, inl, inr, ℕ, Bool, true, false, not, None, Result, Ok, Err, is_err, OnOk, MatchResult, List, [], ◌++◌, slice_index_or, refl, sym, ◌∙◌, ap, subst}
 use Rattle.std.proofs.lemmas.List.{append-nil}
 use Rattle.v6_base.specs.Trace.{line_bytes, text_of}
 use Rattle.v6_port.specs.declared.host.OutPort.{OutPort}
@@ -15,10 +15,12 @@ use Rattle.fs_laws.proofs.RestLemmas.{rest_then}
 use Rattle.abstract_unix.specs.declared.ends.Ends.{Ends}
 use Rattle.abstract_unix.specs.declared.ends.Ends.TheVariants as ends
 use Rattle.abstract_unix.specs.declared.ends.Ends.TheVariants.{AtEnd}
+use Rattle.image_keep.specs.Kept.{Keeping, Nothing, Kept}
 use Rattle.image_keep.specs.Holds.{SwapHolds}
-use Rattle.abstract_unix.specs.Unix.{System}
+use Rattle.abstract_unix.specs.Unix.{System, Phase, Started, Stopped}
+use Rattle.abstract_unix.specs.Endings.{phase_after}
 use Rattle.unix_core.specs.State.{KernelState}
-use Rattle.unix_core.specs.Memory.{kept_in}
+use Rattle.unix_core.specs.Memory.{Covers, kept_in}
 use Rattle.abstract_unix.specs.Runs.{Course, shown_by, finished}
 use Rattle.fs_laws.proofs.ImageLemmas.{block_of_image}
 use Rattle.v6_run.specs.declared.outputs.Output.{Output}
@@ -98,6 +100,7 @@ module _ (first : Disk) (run : Course) (a b c : Outside) (opens : OnlyAt is_disk
       leaves_none : (e : Ends) → is_finished e ≡ false → final_writes first e run.system []
       leaves_none AtEnd f = absurd (cc f)
       leaves_none (ends.NotBuilt place) f = refl
+      leaves_none (ends.Panic kind) f = absurd (cc f)
 
       no_disk : final_writes first run.ending run.system []
       no_disk = subst (λ e. final_writes first e run.system []) last (leaves_none ended is)
@@ -114,10 +117,15 @@ module _ (first : Disk) (run : Course) (a b c : Outside) (opens : OnlyAt is_disk
       still out_port.Final out = ap (λ (state : PortState). state.is_open) (plays.others (Out out_port.Final) refl) ∙ open_b out_port.Final refl
       still out_port.Report out = absurd (let no : false ≡ true = out in cc)
 
-    -- the run has come to its end, and its disk is written
-    module _ (last : AtEnd ≡ run.ending) (text : List ℕ) (final : IsFinal first (finished run.system) text) (d : Outside) (writes : OnlyAt (same (Out out_port.Final)) c d) where
+    -- the run has ended, and its disk is written
+    module _ (ended : Ends) (last : ended ≡ run.ending) (is : is_finished ended ≡ true) (text : List ℕ) (final : IsFinal first (finished run.system) text) (d : Outside) (writes : OnlyAt (same (Out out_port.Final)) c d) where
       fits : final_writes first run.ending run.system text
-      fits = subst (λ e. final_writes first e run.system text) last final
+      fits = subst (λ e. final_writes first e run.system text) last (leaves ended is)
+        where
+          leaves : (e : Ends) → is_finished e ≡ true → final_writes first e run.system text
+          leaves AtEnd f = final
+          leaves (ends.NotBuilt place) f = absurd (cc f)
+          leaves (ends.Panic kind) f = final
 
       unwritten_by : (p : OutPort) → same (Out out_port.Final) (Out p) ≡ false → (d.port (Out p)).bytes ≡ (c.port (Out p)).bytes
       unwritten_by p other = ap (λ (state : PortState). state.bytes) (writes.others (Out p) other)
@@ -161,15 +169,15 @@ module _ (first : Disk) (run : Course) (a b c : Outside) (opens : OnlyAt is_disk
           fault = fault_any _ known _ _ (fault_then _ _ a d e (writes.fixed ∙ plays.fixed ∙ opens.fixed) (calm_then _ _ _ (calm_c calm calm_too) calm_still) fault);
         }
 
-        pub came_to_end : ((p : OutPort) → is_disk_output (Out p) ≡ true → (e.port (Out p)).is_open ≡ false) → Calm a b → Calm b c → Calm c d → Calm d e → EndsRun is_disk_output (disk_writes first run) run AtEnd a e
+        pub came_to_end : ((p : OutPort) → is_disk_output (Out p) ≡ true → (e.port (Out p)).is_open ≡ false) → Calm a b → Calm b c → Calm c d → Calm d e → EndsRun is_disk_output (disk_writes first run) run ended a e
         came_to_end closed calm calm_too calm_still calm_last = record {
           ended = last;
           written = written_e;
-          is_open = closed;
+          is_open = λ p out. closed p out ∙ sym (ap not is);
           calm = calm_then _ _ _ (calm_then _ _ _ (calm_c calm calm_too) calm_still) calm_last;
         }
 
--- the disk that a run leaves, where it has come to its end
+-- the disk that a run leaves, where it has ended
 pub run_leaves : (old played ended : KernelState) (run : Course) → (head (block_at old.blocks)).f_size ≤ SWAP_START → played.system ≡ run.system → SameRest old.blocks played.blocks
     → ended.system ≡ finished played.system → StandsFor DISK_BLOCKS (block_at ended.stored) ended.system.unix.store → SameRest played.blocks ended.stored → IsDisk ended.stored
     → (swap : List ℕ) → SwapHolds swap (kept_in ended.system)
@@ -178,9 +186,24 @@ run_leaves old played ended run low plays first finishes stands second form swap
     subst (λ (m : System). IsFinal (block_at old.blocks) m (disk_text ended.stored ++ swap)) (finishes ∙ ap finished plays)
     (final_is old.blocks ended.stored ended.system low (rest_then _ _ _ first second) form stands swap holds)
 
-pub came_through : (ended : Ends) → is_finished ended ≡ true → ended ≡ AtEnd
-came_through AtEnd is = refl
-came_through (ends.NotBuilt place) is = absurd (cc is)
+-- such a run can be finished
+pub phase_ended : (ended : Ends) (phase : Phase) → phase ≡ phase_after ended → (phase ≡ Started) ⊎ (phase ≡ Stopped)
+phase_ended AtEnd phase is = inl is
+phase_ended (ends.NotBuilt place) phase is = inr is
+phase_ended (ends.Panic kind) phase is = inr is
+
+-- A swap area that holds what is kept holds what that covers.
+covered : (x y z : Keeping) → (x ≡ y) ⊎ (x ≡ Nothing) → x ≡ z → z ≢ Nothing → y ≡ z
+covered x y z (inl same) is some = sym same ∙ is
+covered x y z (inr none) is some = absurd (some (sym is ∙ none))
+
+pub held_covered : (swap : List ℕ) (k told : Kept) → SwapHolds swap k → Covers k told → SwapHolds swap told
+held_covered swap k told holds covers = record {
+  size = holds.size;
+  images = λ s held block has out. holds.images s held block (covered _ _ _ (covers.slots s) has (λ is. cc is)) out;
+  graves = λ s u block has. holds.graves s u block (covered _ _ _ (covers.slots s) has (λ is. cc is));
+  texts = λ t x has. holds.texts t x (ap (λ l. slice_index_or l t None) (sym covers.texts) ∙ has);
+}
 
 pub fault_where_err : {T E : Type 0} (r : Result T E) (P Q : Type 0) → true ≡ is_err r → MatchResult r (λ _. P) (λ _. Q) → Q
 fault_where_err (Ok x) P Q is holds = absurd (cc)
@@ -202,6 +225,7 @@ module _ (d e : Disk) (same_disk : (n : ℕ) → n < DISK_BLOCKS → e n ≡ d n
   final_over : (ending : Ends) (m : System) (text : List ℕ) → final_writes e ending m text → final_writes d ending m text
   final_over AtEnd m text final = final_same d e (finished m) text same_disk final
   final_over (ends.NotBuilt place) m text none = none
+  final_over (ends.Panic kind) m text final = final_same d e (finished m) text same_disk final
 
   writes_over : (outputs : Outputs) (run : Course) (p : OutPort) (text : List ℕ) → run_writes outputs e run p text → run_writes outputs d run p text
   writes_over (ToDisk files) run out_port.Term text fits = fits

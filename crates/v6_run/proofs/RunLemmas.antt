@@ -11,12 +11,12 @@ use Rattle.fs_codec.specs.Disk.{disk_of}
 use Rattle.fs_codec.specs.Faults.{image_fault}
 use Rattle.fs_codec.specs.declared.fault.ImageFault as codec
 use Rattle.abstract_unix.specs.Unix.{System}
-use Rattle.abstract_unix.proofs.RunsLemmas.{IsMet, course_is}
+use Rattle.abstract_unix.proofs.RunsLemmas.{IsMet, started_is, course_is}
 use Rattle.abstract_unix.specs.Runs.{Course, system_of, started, boots, course}
 use Rattle.v6_run.specs.declared.image.TheConstants.{IMAGE_LIMIT}
 use Rattle.v6_run.specs.declared.run.TheConstants.{SCRIPT_LIMIT}
 use Rattle.v6_run.specs.declared.status.Status.{Status}
-use Rattle.v6_run.specs.declared.status.Status.TheVariants.{ReadFault, WriteFault, ScriptFault, NoMemory, NotBuilt}
+use Rattle.v6_run.specs.declared.status.Status.TheVariants.{ReadFault, WriteFault, ScriptFault, Panic, NoMemory, NotBuilt}
 use Rattle.abstract_unix.specs.declared.ends.Ends.{Ends}
 use Rattle.abstract_unix.specs.declared.ends.Ends.TheVariants as ends
 use Rattle.abstract_unix.specs.declared.ends.Ends.TheVariants.{AtEnd}
@@ -103,7 +103,7 @@ has_begun : (ended : Ends) → IsMet ended → has_written (status_at ended) ≡
 has_begun AtEnd met = refl
 has_begun (ends.NotBuilt (unbuilt.Line n)) met = absurd met
 has_begun (ends.NotBuilt (unbuilt.At pc)) met = refl
-has_begun (ends.NotBuilt unbuilt.Room) met = refl
+has_begun (ends.Panic kind) met = refl
 
 -- the files that a run writes are those for writing that its words name
 named_output : (words : RunWords) (p : OutPort) → is_named (Run words) (Out p) ≡ true → is_output words.outputs (Out p) ≡ true
@@ -174,7 +174,7 @@ module _ (words : RunWords) (image bytes : List ℕ) (old middle : Outside) (fil
       run_completion told = run_is told ∙ ap Known (boots_as system boots_is)
 
       run_is_met : IsMet run.ending
-      run_is_met = course_is (started system) (events_of events) tt
+      run_is_met = course_is (started system) (events_of events) (started_is system)
 
       only_run : OnlyAt (is_named (Run words)) old new
       only_run = only_then _ _ _ _ files.only (only_within _ _ _ _ (names_outputs words) only)
@@ -198,7 +198,7 @@ module _ (words : RunWords) (image bytes : List ℕ) (old middle : Outside) (fil
         partial = λ p is. absurd (cc);
         order = λ is. absurd (cc);
         none = λ before. not_so _ (sym before ∙ begun);
-        closed = λ is. absurd (cc);
+        closed = λ is. not_so _ is;
         unfinished = λ _ p named. ended.is_open p (named_output words p named);
         cause = calm_then _ _ _ files.calm ended.calm;
       }
@@ -218,7 +218,18 @@ module _ (words : RunWords) (image bytes : List ℕ) (old middle : Outside) (fil
       }
       run_ended (ends.NotBuilt (unbuilt.Line n)) ended = absurd (subst IsMet (sym ended.ended) run_is_met)
       run_ended (ends.NotBuilt (unbuilt.At pc)) ended = unbuilt_at (unbuilt.At pc) refl ended
-      run_ended (ends.NotBuilt unbuilt.Room) ended = unbuilt_at unbuilt.Room refl ended
+      run_ended (ends.Panic kind) ended = record {
+        only = only_run;
+        ends = refl;
+        unreported = λ is. cc;
+        complete = λ _. run_complete (ends.Panic kind) ended;
+        partial = λ p is. absurd (cc);
+        order = λ is. absurd (cc);
+        none = λ before. not_so _ (sym before);
+        closed = λ _ p named. ended.is_open p (named_output words p named);
+        unfinished = λ is. not_so _ is;
+        cause = calm_then _ _ _ files.calm ended.calm;
+      }
 
       run_partial : (output : Output) (known : Bool) → StopsRun (is_output words.outputs) (run_writes words.outputs (disk_of image) run) output known middle new → Tells old
           → IsKnownAnd (command_completion (Run words) old.fixed) (IsPartial old new)

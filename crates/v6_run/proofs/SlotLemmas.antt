@@ -21,8 +21,8 @@ pub run_event : (m next : System) (event : Event) (ending : Ends) (old new : Tak
 run_event m next event ending old new goes took ends = record { ends = sym ends; system_is = goes; items = took }
 
 -- a run that has started
-pub run_started : (m next : System) (old new : Taken) → next ≡ (start_of m).next → Took old (start_of m).items new → HasRun (started m) [] AtEnd next old new
-run_started m next old new goes took = record { ends = refl; system_is = goes; items = took }
+pub run_started : (m next : System) (old new : Taken) → (start_of m).ending ≡ AtEnd → next ≡ (start_of m).next → Took old (start_of m).items new → HasRun (started m) [] AtEnd next old new
+run_started m next old new on goes took = record { ends = sym on; system_is = goes; items = took }
 
 -- a run goes on with the next events
 pub run_more : (c : Course) (m next : System) (ending : Ends) (a b d : Taken) (xs ys all : List Event) → HasRun c xs AtEnd m a b

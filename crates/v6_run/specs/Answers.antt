@@ -14,7 +14,7 @@ use Rattle.v6_run.specs.declared.status.Status.{Status}
 use Rattle.v6_run.specs.declared.status.Status.TheVariants.{Done, ReadFault, WriteFault}
 use Rattle.v6_run.specs.declared.error.CommandError.{CommandError}
 use Rattle.v6_run.specs.Words.{RunWords, Command, Run}
-use Rattle.v6_run.specs.Status.{is_decided, has_written, is_unfinished}
+use Rattle.v6_run.specs.Status.{is_decided, has_written, is_closed, is_unfinished}
 use Rattle.v6_run.specs.Errors.{command_status, end_of}
 use Rattle.v6_run.specs.Report.{report, answer_line}
 use Rattle.v6_run.specs.Fronts.{HoldsFront}
@@ -30,7 +30,7 @@ pub record Answers (command : Command) (status : Status) (old new : Outside) : T
   pub partial : (p : OutPort) → status ≡ WriteFault p → Tells old → IsKnownAnd (command_completion command old.fixed) (IsPartial old new)
   pub order : status ≡ ReadFault in_port.Script → Tells old → IsImageGood (Some command) old.fixed
   pub none : has_written status ≡ false → (p : OutPort) → new.port (Out p) ≡ old.port (Out p)
-  pub closed : status ≡ Done → (p : OutPort) → is_named command (Out p) ≡ true → (new.port (Out p)).is_open ≡ false
+  pub closed : is_closed status ≡ true → (p : OutPort) → is_named command (Out p) ≡ true → (new.port (Out p)).is_open ≡ false
   pub unfinished : is_unfinished status ≡ true → (p : OutPort) → is_named command (Out p) ≡ true
       → (new.port (Out p)).is_open ≡ true
   pub cause : IsCaused (is_known (Some command) old.fixed) status old new

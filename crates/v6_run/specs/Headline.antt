@@ -22,7 +22,7 @@ use Rattle.v6_run.specs.declared.run.TheConstants.{SCRIPT_LIMIT}
 use Rattle.v6_run.specs.declared.status.Status.{Status}
 use Rattle.v6_run.specs.declared.status.Status.TheVariants as status
 use Rattle.abstract_unix.specs.declared.ends.Ends.{Ends}
-use Rattle.abstract_unix.specs.declared.ends.Ends.TheVariants.{AtEnd, NotBuilt}
+use Rattle.abstract_unix.specs.declared.ends.Ends.TheVariants.{AtEnd, NotBuilt, Panic}
 use Rattle.abstract_unix.specs.declared.turned.Unbuilt.TheVariants as unbuilt
 use Rattle.v6_run.specs.Words.{Outputs, ToDisk, ToMemory, RunWords, Command, Run, Check, Make}
 use Rattle.v6_run.specs.Events.{events_of}
@@ -69,6 +69,7 @@ only_to port text q = exactly (if same (Out port) (Out q) then text else [])
 abbrev pub status_at : Ends → Status
 status_at AtEnd = status.Done
 status_at (NotBuilt place) = status.NotBuilt place
+status_at (Panic kind) = status.Panic kind
 
 -- Of `run` the terminal and LOG get what the run shows, and FINAL the disk that it leaves. Of `memory` FINAL gets core and the
 -- swap area.
@@ -171,6 +172,7 @@ may_end command (status.WriteFault port) = is_named command (Out port) || (is_re
 may_end command (status.ScriptFault fault) = is_run command && is_script_fault fault
 may_end command (status.ImageFault fault) = is_named command (In in_port.Image)
 may_end command status.NoMemory = true
+may_end command (status.Panic kind) = is_run command
 may_end command (status.NotBuilt place) = is_run command
 may_end command _ = false
 

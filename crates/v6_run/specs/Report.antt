@@ -13,8 +13,10 @@ use Rattle.fs_codec.specs.Store.{Store}
 use Rattle.fs_check.specs.declared.counts.Tally.{Tally}
 use Rattle.v6_run.specs.declared.status.Status.{Status}
 use Rattle.v6_run.specs.declared.status.Status.TheVariants as status
+use Rattle.v6_base.specs.declared.entry.PanicKind.{PanicKind}
+use Rattle.v6_base.specs.declared.entry.PanicKind.TheVariants as panic
 use Rattle.abstract_unix.specs.declared.turned.Unbuilt.{Unbuilt}
-use Rattle.abstract_unix.specs.declared.turned.Unbuilt.TheVariants.{Line, At, Room}
+use Rattle.abstract_unix.specs.declared.turned.Unbuilt.TheVariants.{Line, At}
 use Rattle.v6_run.specs.declared.error.CommandError.{CommandError}
 use Rattle.v6_run.specs.Errors.{command_status}
 
@@ -52,7 +54,12 @@ fault_line NoRoot = line_of (codes "image: no root")
 abbrev pub unbuilt_line : Unbuilt → List ℕ
 unbuilt_line (Line n) = line_of (codes "not built: line " ++ decimal n)
 unbuilt_line (At pc) = line_of (codes "not built: pc " ++ decimal pc)
-unbuilt_line Room = line_of (codes "not built: room")
+
+-- what a panic in Lions' book says
+abbrev pub panic_line : PanicKind → List ℕ
+panic_line panic.Swap = line_of (codes "panic: out of swap space")
+panic_line panic.Zombie = line_of (codes "panic: out of swap")
+panic_line panic.Text = line_of (codes "panic: out of text")
 
 abbrev pub usage : List ℕ
 usage = codes "usage: v6 run IMAGE CORE SCRIPT TERM LOG FINAL, memory IMAGE CORE SCRIPT FINAL, check IMAGE, make N FINAL, demo N"
@@ -66,6 +73,7 @@ status_line (status.WriteFault port) = line_of (codes "write fault: " ++ out_nam
 status_line status.CoreSize = line_of (codes "core size")
 status_line (status.ScriptFault fault) = script_line fault
 status_line (status.ImageFault fault) = fault_line fault
+status_line (status.Panic kind) = panic_line kind
 status_line status.NoMemory = line_of (codes "no memory")
 status_line (status.NotBuilt place) = unbuilt_line place
 

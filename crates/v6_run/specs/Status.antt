@@ -2,7 +2,7 @@
 use Rattle.std.specs.Prelude.{ℕ, Bool, true, false, Option, Some, None}
 use Rattle.v6_port.specs.Outside.{Port, In, Out}
 use Rattle.v6_run.specs.declared.status.Status.{Status}
-use Rattle.v6_run.specs.declared.status.Status.TheVariants.{Done, Usage, ReadFault, WriteFault, CoreSize, ScriptFault, ImageFault, NoMemory, NotBuilt}
+use Rattle.v6_run.specs.declared.status.Status.TheVariants.{Done, Usage, ReadFault, WriteFault, CoreSize, ScriptFault, ImageFault, Panic, NoMemory, NotBuilt}
 use Rattle.abstract_unix.specs.declared.turned.Unbuilt.TheVariants as unbuilt
 
 abbrev pub status_number : Status → ℕ
@@ -13,6 +13,7 @@ status_number (WriteFault port) = 3
 status_number CoreSize = 4
 status_number (ScriptFault fault) = 5
 status_number (ImageFault fault) = 6
+status_number (Panic kind) = 7
 status_number NoMemory = 8
 status_number (NotBuilt place) = 11
 
@@ -27,17 +28,24 @@ abbrev pub is_decided : Status → Bool
 is_decided Done = true
 is_decided (ScriptFault fault) = true
 is_decided (ImageFault fault) = true
+is_decided (Panic kind) = true
 is_decided (NotBuilt place) = true
 is_decided _ = false
 
 -- whether it is a run that ends so before its last event, at what isn't built
 abbrev pub is_unfinished : Status → Bool
 is_unfinished (NotBuilt (unbuilt.At pc)) = true
-is_unfinished (NotBuilt unbuilt.Room) = true
 is_unfinished _ = false
+
+-- whether the files that the command writes are finished then
+abbrev pub is_closed : Status → Bool
+is_closed Done = true
+is_closed (Panic kind) = true
+is_closed _ = false
 
 -- whether the command has come to write its files
 abbrev pub has_written : Status → Bool
 has_written Done = true
 has_written (WriteFault port) = true
+has_written (Panic kind) = true
 has_written status = is_unfinished status

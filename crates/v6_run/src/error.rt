@@ -72,6 +72,7 @@ fn run_status(error: RunError) -> Status
         RunError::Refused(error) => script_status(error),
         RunError::NoMemory => Status::NoMemory,
         RunError::Write(output) => Status::WriteFault(output.port()),
+        RunError::Panic(kind) => Status::Panic(kind),
         RunError::NotBuilt(place) => Status::NotBuilt(place),
     }
 }

@@ -15,7 +15,7 @@ ghost use Rattle.v6_run.specs.Events.{events_of};
 ghost use Rattle.v6_run.specs.Words.{ToMemory};
 ghost use Rattle.v6_run.specs.Ports.{final_of};
 ghost use Rattle.v6_run.specs.Fronts.{HoldsFront};
-ghost use Rattle.v6_run.specs.Outputs.{port_of, core_writes, EndsRun, StopsRun};
+ghost use Rattle.v6_run.specs.Outputs.{port_of, is_finished, memory_writes, core_writes, EndsRun, StopsRun};
 ghost use Rattle.v6_run.specs.Headline.{outputs_know};
 
 use crate::files::write_all;
@@ -57,7 +57,7 @@ fn write_both<H: Host>(first: &[u8], second: &[u8], host: &mut H) -> Result<(), 
 }
 
 /// Finishes the run, and writes the bytes of core and then those of the swap area.
-fn leave_memory<H: Host>(kernel: &mut Kernel, host: &mut H) -> Result<(), Failed>
+fn write_memory<H: Host>(kernel: &mut Kernel, host: &mut H) -> Result<(), Failed>
     requires started { kernel.old.phase ≡ Started }
     requires is_open { IsOpen (H.outside host.old) (Out out_port.Final) }
     ensures only { OnlyAt (same (Out out_port.Final)) (H.outside host.old) (H.outside host.new) }
@@ -74,6 +74,27 @@ fn leave_memory<H: Host>(kernel: &mut Kernel, host: &mut H) -> Result<(), Failed
     let core = kernel.core();
     let swap = kernel.swap();
     write_both(core, swap, host)
+}
+
+/// Writes what a run leaves that ends so: after a panic it leaves nothing.
+fn leave_memory<H: Host>(kernel: &mut Kernel, ends: Ends, host: &mut H) -> Result<(), Failed>
+    requires phase { kernel.old.phase ≡ phase_after ends }
+    requires finished { is_finished ends ≡ true }
+    requires is_open { IsOpen (H.outside host.old) (Out out_port.Final) }
+    ensures only { OnlyAt (same (Out out_port.Final)) (H.outside host.old) (H.outside host.new) }
+    ensures is_open { IsOpen (H.outside host.new) (Out out_port.Final) }
+    ensures written { (text : List ℕ) × memory_writes ends kernel.old.system text
+        × OnOk result (Tells (H.outside host.old) → (final_of (H.outside host.new)).bytes
+        ≡ (final_of (H.outside host.old)).bytes ++ text)
+        × (Tells (H.outside host.old) → HoldsFront (final_of (H.outside host.old)).bytes text
+        (final_of (H.outside host.new)).bytes) }
+    ensures cause { MatchResult result (λ _. Calm (H.outside host.old) (H.outside host.new))
+        (λ _. FaultAt (Out out_port.Final) true (H.outside host.old) (H.outside host.new)) }
+{
+    match ends {
+        Ends::AtEnd => write_memory(kernel, host),
+        Ends::NotBuilt(_) | Ends::Panic(_) => Ok(()),
+    }
 }
 
 /// Opens the one file of `memory`.
@@ -102,7 +123,7 @@ fn finish_final<H: Host>(host: &mut H) -> Result<(), Failed>
 }
 
 /// Runs the kernel with the one file of `memory` opened, and tells how the run ends. Where it comes to its end, its core and its
-/// swap area are written, and the file is finished.
+/// swap area are written; there, and after a panic, the file is finished.
 pub(crate) fn run_to_memory<H: Host>(
     kernel: &mut Kernel,
     events: &[Event],
@@ -129,7 +150,7 @@ pub(crate) fn run_to_memory<H: Host>(
     if !is_finished(ends) {
         return Ok(ends);
     }
-    if leave_memory(kernel, host).is_err() {
+    if leave_memory(kernel, ends, host).is_err() {
         return Err(Output::Final);
     }
     if finish_final(host).is_err() {

@@ -1,5 +1,5 @@
 //! The files that `run` writes.
-ghost use Rattle.std.specs.Prelude.{◌≡◌, ℕ, List, true, false, ◌++◌, OnOk, MatchResult};
+ghost use Rattle.std.specs.Prelude.{◌≡◌, ◌⊎◌, ℕ, List, true, false, ◌++◌, OnOk, MatchResult};
 ghost use Rattle.v6_port.specs.declared.host.OutPort.{OutPort};
 ghost use Rattle.v6_port.specs.declared.host.OutPort.TheVariants as out_port;
 ghost use Rattle.v6_port.specs.Outside.{Out, IsOpen, OnlyAt, Tells, same};
@@ -8,7 +8,7 @@ ghost use Rattle.fs_codec.specs.Stands.{StandsFor};
 ghost use Rattle.fs_codec.specs.declared.layout.TheConstants.{DISK_BLOCKS};
 ghost use Rattle.buf_cache.specs.Blocks.{block_at, IsDisk};
 ghost use Rattle.fs_laws.specs.Rest.{SameRest};
-ghost use Rattle.abstract_unix.specs.Unix.{Started, Finished};
+ghost use Rattle.abstract_unix.specs.Unix.{Started, Stopped, Finished};
 ghost use Rattle.image_keep.specs.Holds.{SwapHolds};
 ghost use Rattle.unix_core.specs.Memory.{kept_in};
 ghost use Rattle.abstract_unix.specs.Runs.{finished};
@@ -110,7 +110,7 @@ fn write_disk<H: Host>(kernel: &Kernel, swap: &[u8], host: &mut H) -> Result<(),
 
 /// Finishes the run, and writes the disk that it leaves.
 pub(crate) fn leave_disk<H: Host>(kernel: &mut Kernel, host: &mut H) -> Result<(), Failed>
-    requires started { kernel.old.phase ≡ Started }
+    requires ended { kernel.old.phase ≡ Started ⊎ kernel.old.phase ≡ Stopped }
     requires is_open { IsOpen (H.outside host.old) (Out out_port.Final) }
     ensures system { kernel.new.system ≡ finished kernel.old.system }
     ensures stands { StandsFor DISK_BLOCKS (block_at kernel.new.stored) kernel.new.system.unix.store }

@@ -4,7 +4,7 @@ ghost use Rattle.v6_port.specs.Outside.{Out, OnlyAt, Tells, same};
 ghost use Rattle.v6_port.specs.declared.host.OutPort.TheVariants.{Report};
 ghost use Rattle.v6_port.specs.Causes.{Calm, FaultAt};
 ghost use Rattle.v6_run.specs.Fronts.{HoldsFront};
-ghost use Rattle.v6_run.specs.Report.{report, status_line, unbuilt_line, script_line, fault_line, ok_line};
+ghost use Rattle.v6_run.specs.Report.{report, status_line, unbuilt_line, panic_line, script_line, fault_line, ok_line};
 ghost use Rattle.v6_run.specs.Answers.{Reports};
 
 use crate::error::CommandError;
@@ -14,6 +14,7 @@ use crate::status::Status;
 use fs_check::{ImageFault, Tally};
 use script_text::ScriptFault;
 use unix_core::Unbuilt;
+use v6_base::PanicKind;
 use v6_port::{Failed, Host, InPort, OutPort};
 
 const USAGE: &str =
@@ -55,7 +56,17 @@ fn unbuilt_line(place: Unbuilt) -> Line
     match place {
         Unbuilt::Line(line) => numbered("not built: line ", line, ""),
         Unbuilt::At(pc) => numbered("not built: pc ", u32::from(pc), ""),
-        Unbuilt::Room => plain("not built: room"),
+    }
+}
+
+/// What a panic in Lions' book says.
+fn panic_line(kind: PanicKind) -> Line
+    ensures { result.bytes ≡ panic_line kind }
+{
+    match kind {
+        PanicKind::Swap => plain("panic: out of swap space"),
+        PanicKind::Zombie => plain("panic: out of swap"),
+        PanicKind::Text => plain("panic: out of text"),
     }
 }
 
@@ -76,6 +87,7 @@ fn status_line(status: Status) -> Line
         Status::CoreSize => plain("core size"),
         Status::ScriptFault(fault) => script_line(fault),
         Status::ImageFault(fault) => fault_line(fault),
+        Status::Panic(kind) => panic_line(kind),
         Status::NoMemory => plain("no memory"),
         Status::NotBuilt(place) => unbuilt_line(place),
     }

@@ -33,6 +33,7 @@ use fs_codec::SWAP_START;
 use script_text::{Event, MAX_BYTES};
 use std::alloc::Global;
 use unix_core::{BootFault, Ends, Kernel, Unbuilt};
+use v6_base::PanicKind;
 use v6_port::{Host, InPort};
 
 /// The most bytes of a script that are read: one more than a script may have.
@@ -51,6 +52,8 @@ pub(crate) enum RunError {
     NoMemory,
     /// A file could not be opened, written or finished.
     Write(Output),
+    /// The run came to a panic.
+    Panic(PanicKind),
     /// The run comes to what is not built.
     NotBuilt(Unbuilt),
 }
@@ -136,12 +139,12 @@ fn play<H: Host>(kernel: &mut Kernel, events: &[Event], host: &mut H) -> Result<
     }
 }
 
-/// Whether a run that ends so leaves its disk, or its memory, and its files finished.
+/// Whether a run that ends so leaves its files finished.
 pub(crate) fn is_finished(ends: Ends) -> bool
     ensures { result ≡ is_finished ends }
 {
     match ends {
-        Ends::AtEnd => true,
+        Ends::AtEnd | Ends::Panic(_) => true,
         Ends::NotBuilt(_) => false,
     }
 }
@@ -248,6 +251,7 @@ pub(crate) fn run<H: Host>(
     match run_with_outputs(&mut kernel, &script.events, words, host) {
         Ok(Ends::AtEnd) => Ok(()),
         Ok(Ends::NotBuilt(place)) => Err(RunError::NotBuilt(place)),
+        Ok(Ends::Panic(kind)) => Err(RunError::Panic(kind)),
         Err(output) => Err(RunError::Write(output)),
     }
 }

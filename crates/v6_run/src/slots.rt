@@ -14,8 +14,8 @@ ghost use Rattle.v6_run.specs.Courses.{HasRun};
 
 use crate::clock::{Clock, since_after, since_next};
 use script_text::Event;
-use unix_core::{Ends, Kernel, Turned, Unbuilt};
-use v6_base::{Entry, Trace};
+use unix_core::{Ends, Kernel, Turned};
+use v6_base::{Entry, PanicKind, Trace};
 
 /// Takes so many slots, or those up to the first that ends the run, and tells how. It stands by itself, so that its loop has
 /// all registers.
@@ -29,21 +29,23 @@ fn run_slots<T: Trace>(kernel: &mut Kernel, count: u32, trace: &mut T) -> Ends
     ensures frame { T.leads_to trace.old trace.new }
 {
     'slots: for _ in 0..count {
-        if let Turned::NotBuilt(place) = kernel.turn(trace) {
-            return Ends::NotBuilt(place);
+        match kernel.turn(trace) {
+            Turned::Ran | Turned::Idle => {}
+            Turned::NotBuilt(place) => return Ends::NotBuilt(place),
+            Turned::Panic(kind) => return Ends::Panic(kind),
         }
     }
     Ends::AtEnd
 }
 
 /// How a run ends after a tick.
-fn ends_by(ticked: Result<(), Unbuilt>) -> Ends
+fn ends_by(ticked: Result<(), PanicKind>) -> Ends
     ensures goes { ticked ≡ Ok tt → result ≡ AtEnd }
-    ensures stops { (place : Unbuilt) → ticked ≡ Err place → result ≡ Ends.NotBuilt place }
+    ensures stops { (kind : PanicKind) → ticked ≡ Err kind → result ≡ Ends.Panic kind }
 {
     match ticked {
         Ok(()) => Ends::AtEnd,
-        Err(place) => Ends::NotBuilt(place),
+        Err(kind) => Ends::Panic(kind),
     }
 }
 
@@ -187,7 +189,7 @@ fn last_line<T: Trace>(ends: Ends, trace: &mut T)
 {
     match ends {
         Ends::AtEnd => trace.entry(Entry::End),
-        Ends::NotBuilt(_) => {}
+        Ends::NotBuilt(_) | Ends::Panic(_) => {}
     }
 }
 

@@ -5,6 +5,7 @@ ghost use Rattle.v6_run.specs.Status.{status_number};
 use fs_check::ImageFault;
 use script_text::ScriptFault;
 use unix_core::Unbuilt;
+use v6_base::PanicKind;
 use v6_port::{InPort, OutPort};
 
 /// How a command ended.
@@ -24,6 +25,8 @@ pub enum Status {
     ScriptFault(ScriptFault),
     /// The disk image has this first fault.
     ImageFault(ImageFault),
+    /// The run came to a panic: a demand for a place in the swap area, or for a text, can't be met.
+    Panic(PanicKind),
     /// There was no memory, before the first slot of a run and before anything else is written.
     NoMemory,
     /// The run comes to something that is not built yet.
@@ -43,6 +46,7 @@ impl Status {
             Status::CoreSize => 4,
             Status::ScriptFault(_) => 5,
             Status::ImageFault(_) => 6,
+            Status::Panic(_) => 7,
             Status::NoMemory => 8,
             Status::NotBuilt(_) => 11,
         }

@@ -1,12 +1,11 @@
-use Rattle.std.proofs.Common.{◌∙◌, subst, ap}
-use Rattle.image_keep.specs.Kept.{Kept}
-use Rattle.image_keep.specs.Holds.{MemoryHolds}
-use Rattle.v6_run.proofs.MemoryLemmas.{kept_finished, memory_held}
+use Rattle.std.proofs.Common.{◌++◌, refl, sym, subst}
+use Rattle.v6_run.specs.Final.{IsMemory}
+use Rattle.v6_run.specs.Outputs.{memory_writes}
 use Rattle.v6_run.proofs.memory.leave_memory.Goals as goal
 
-pub returns-clause-written : goal.returns-clause-written
-returns-clause-written g c =
-    let core = c.core-core.result.now in
-    let swap = c.swap-swap.result.now in
-    let is = c.finish.ensures.kept c.requires.started ∙ kept_finished _ _ c.finish.ensures.system in
-    (core, swap, subst (MemoryHolds core swap) is (memory_held core swap _ c.core-core.ensures.holds c.swap-swap.ensures.holds c.core-core.ensures.apart), c.write_both.ensures.whole, c.write_both.ensures.front)
+pub returns-in-AtEnd-clause-written : goal.returns-in-AtEnd-clause-written
+returns-in-AtEnd-clause-written g c =
+    let w = c.write_memory.ensures.written in
+    let system = c.args.kernel.now.system in
+    let both : IsMemory system (w.0 ++ w.1) = record { core = w.0; swap = w.1; split = refl; holds = w.2 } in
+    (w.0 ++ w.1, subst (λ e. memory_writes e system (w.0 ++ w.1)) (sym c.in-AtEnd.is) both, w.3, w.4)

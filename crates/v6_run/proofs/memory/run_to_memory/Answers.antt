@@ -2,15 +2,12 @@ use Rattle.std.proofs.Common.{◌≡◌, ◌∙◌, sym, subst, ap}
 use Rattle.v6_port.specs.declared.host.OutPort.TheVariants as out_port
 use Rattle.v6_port.specs.Outside.{Out, same, Outside, OnlyAt}
 use Rattle.v6_port.specs.Causes.{Calm}
-use Rattle.abstract_unix.specs.declared.ends.Ends.{Ends}
 use Rattle.abstract_unix.specs.Unix.{System}
 use Rattle.abstract_unix.specs.Runs.{started, course}
-use Rattle.image_keep.specs.Holds.{MemoryHolds}
-use Rattle.unix_core.specs.Memory.{kept_in}
 use Rattle.v6_run.specs.Events.{events_of}
 use Rattle.v6_run.specs.Ports.{final_of}
-use Rattle.v6_run.specs.Outputs.{core_writes, EndsRun}
-use Rattle.v6_run.proofs.OutputLemmas.{came_through, fault_where_err, calm_where_ok, told_where_ok}
+use Rattle.v6_run.specs.Outputs.{memory_writes}
+use Rattle.v6_run.proofs.OutputLemmas.{fault_where_err, calm_where_ok, told_where_ok}
 use Rattle.v6_run.proofs.MemoryLemmas.{memory_unopened, memory_stopped, memory_unfinished, memory_left}
 use Rattle.v6_run.proofs.memory.run_to_memory.Goals as goal
 
@@ -28,10 +25,10 @@ returns-then-is_err-2-clause-outcome g c =
     let opens = subst (λ (o : Outside). OnlyAt (same (Out out_port.Final)) a o) (sym played.outside) c.open_final.ensures.only in
     let opened = ap (λ (o : Outside). (final_of o).bytes) played.outside ∙ c.open_final.ensures.bytes in
     let calm = subst (λ (o : Outside). Calm a o) (sym played.outside) (calm_where_ok c.open_final.result _ _ c.if-is_err.ensures.value c.open_final.ensures.cause) in
-    let whole = came_through _ (sym c.is_finished.ensures ∙ c.if-not-is_finished.false) in
+    let is = sym c.is_finished.ensures ∙ c.if-not-is_finished.false in
     let left = c.leave_memory.ensures in
-    let holds = subst (λ (m : System). MemoryHolds left.written.0 left.written.1 (kept_in m)) played.system left.written.2 in
-    memory_stopped run a _ opens opened (sym whole ∙ played.ending) left.written.0 left.written.1 holds _ left.only _ left.written.4 calm
+    let leaves = subst (λ (m : System). memory_writes c.play_unshown-ends.result m left.written.0) played.system left.written.1 in
+    memory_stopped run a _ opens opened c.play_unshown-ends.result played.ending is left.written.0 leaves _ left.only _ left.written.3 calm
     (fault_where_err c.leave_memory.result _ _ c.if-is_err-2.ensures.value left.cause)
 
 pub returns-then-is_err-3-clause-outcome : goal.returns-then-is_err-3-clause-outcome
@@ -42,11 +39,11 @@ returns-then-is_err-3-clause-outcome g c =
     let opens = subst (λ (o : Outside). OnlyAt (same (Out out_port.Final)) a o) (sym played.outside) c.open_final.ensures.only in
     let opened = ap (λ (o : Outside). (final_of o).bytes) played.outside ∙ c.open_final.ensures.bytes in
     let calm = subst (λ (o : Outside). Calm a o) (sym played.outside) (calm_where_ok c.open_final.result _ _ c.if-is_err.ensures.value c.open_final.ensures.cause) in
-    let whole = came_through _ (sym c.is_finished.ensures ∙ c.if-not-is_finished.false) in
+    let is = sym c.is_finished.ensures ∙ c.if-not-is_finished.false in
     let left = c.leave_memory.ensures in
-    let holds = subst (λ (m : System). MemoryHolds left.written.0 left.written.1 (kept_in m)) played.system left.written.2 in
-    memory_unfinished run a _ opens opened (sym whole ∙ played.ending) left.written.0 left.written.1 holds _ left.only
-    (told_where_ok c.leave_memory.result _ c.if-is_err-2.ensures.value left.written.3) _ c.finish_final.ensures.only c.finish_final.ensures.bytes _ calm
+    let leaves = subst (λ (m : System). memory_writes c.play_unshown-ends.result m left.written.0) played.system left.written.1 in
+    memory_unfinished run a _ opens opened c.play_unshown-ends.result played.ending is left.written.0 leaves _ left.only
+    (told_where_ok c.leave_memory.result _ c.if-is_err-2.ensures.value left.written.2) _ c.finish_final.ensures.only c.finish_final.ensures.bytes _ calm
     (calm_where_ok c.leave_memory.result _ _ c.if-is_err-2.ensures.value left.cause)
     (fault_where_err c.finish_final.result _ _ c.if-is_err-3.ensures.value c.finish_final.ensures.cause)
 
@@ -58,12 +55,11 @@ returns-clause-outcome g c =
     let opens = subst (λ (o : Outside). OnlyAt (same (Out out_port.Final)) a o) (sym played.outside) c.open_final.ensures.only in
     let opened = ap (λ (o : Outside). (final_of o).bytes) played.outside ∙ c.open_final.ensures.bytes in
     let calm = subst (λ (o : Outside). Calm a o) (sym played.outside) (calm_where_ok c.open_final.result _ _ c.if-is_err.ensures.value c.open_final.ensures.cause) in
-    let whole = came_through _ (sym c.is_finished.ensures ∙ c.if-not-is_finished.false) in
+    let is = sym c.is_finished.ensures ∙ c.if-not-is_finished.false in
     let left = c.leave_memory.ensures in
-    let holds = subst (λ (m : System). MemoryHolds left.written.0 left.written.1 (kept_in m)) played.system left.written.2 in
-    subst (λ (e : Ends). EndsRun (same (Out out_port.Final)) (core_writes run) run e a (g.H.Host.outside c.finish_final.new.host)) (sym whole)
-    (memory_left run a _ opens opened (sym whole ∙ played.ending) left.written.0 left.written.1 holds _ left.only
-    (told_where_ok c.leave_memory.result _ c.if-is_err-2.ensures.value left.written.3) _ c.finish_final.ensures.only c.finish_final.ensures.bytes
+    let leaves = subst (λ (m : System). memory_writes c.play_unshown-ends.result m left.written.0) played.system left.written.1 in
+    memory_left run a _ opens opened c.play_unshown-ends.result played.ending is left.written.0 leaves _ left.only
+    (told_where_ok c.leave_memory.result _ c.if-is_err-2.ensures.value left.written.2) _ c.finish_final.ensures.only c.finish_final.ensures.bytes
     (told_where_ok c.finish_final.result _ c.if-is_err-3.ensures.value c.finish_final.ensures.is_open) calm
     (calm_where_ok c.leave_memory.result _ _ c.if-is_err-2.ensures.value left.cause)
-    (calm_where_ok c.finish_final.result _ _ c.if-is_err-3.ensures.value c.finish_final.ensures.cause))
+    (calm_where_ok c.finish_final.result _ _ c.if-is_err-3.ensures.value c.finish_final.ensures.cause)

@@ -5,4 +5,4 @@ use Rattle.v6_run.proofs.slots.run_script.Goals as goal
 pub returns-clause-run : goal.returns-clause-run
 returns-clause-run g c =
     let start = c.start.ensures in
-    run_more _ _ _ _ _ _ _ [] _ _ (run_started c.args.kernel.now.system _ _ _ start.next start.items) c.run_events.ensures.run refl
+    run_more _ _ _ _ _ _ _ [] _ _ (run_started c.args.kernel.now.system _ _ _ start.goes start.next start.items) c.run_events.ensures.run refl
