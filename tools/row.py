@@ -81,7 +81,7 @@ def differences(row, image, came):
     if row.lines["check"] is not None:
         wanted["check"] = row.lines["check"]
     left = came["final"]
-    if disk is not None or wanted["status"]:
+    if disk is not None or not row.leaves_disk():
         wanted["final"], came["final"] = before_swap(disk or b""), before_swap(left)
     found = [(what, value, came[what]) for what, value in wanted.items() if came[what] != value]
     if log is None and came["log"].endswith(b"end\n") != row.ends():

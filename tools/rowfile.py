@@ -11,6 +11,7 @@ DISK_BYTES = 2494464  # of a disk that a run leaves
 SWAP_AT = 2048000  # where its swap area begins
 INODE_7, HEADER, TEXT = 1216, 33792, 33808  # of /etc/init on the disk of examples/hi
 SECTIONS = ("init", "before", "after", "over", "disk", "left", "script", "term", "log")
+PANIC = 7  # the status of a run that comes to a panic
 NUMBERS = ("size", "made", "core", "clicks", "fill", "status", "shown")
 LINES = ("report", "check", "command")
 ESCAPES = {"n": b"\n", "r": b"\r", "t": b"\t", "\\": b"\\", '"': b'"'}
@@ -215,6 +216,10 @@ class Row:
     def ends(self):
         """Whether the log's last line is `end`: where a run is done."""
         return self.numbers["status"] == 0 and self.lines["command"] is None
+
+    def leaves_disk(self):
+        """Whether a disk is left: where a run is done, or comes to a panic and isn't `memory`."""
+        return self.numbers["status"] == 0 or (self.numbers["status"] == PANIC and self.lines["command"] is None)
 
     def wanted_disk(self, image):
         """The whole disk that is left, or None where pieces of it count."""

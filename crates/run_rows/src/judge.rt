@@ -108,7 +108,12 @@ fn before_swap(disk: &[u8]) -> &[u8] {
     }
 }
 
-/// The disk that is left: nothing where the run isn't done; the image with zeros behind it, but for some pieces, up to the swap
+/// Whether a run that comes to this leaves a disk: one that is done, and one that comes to a panic, where it isn't `memory`.
+fn leaves_disk(row: &Row) -> bool {
+    row.numbers.status == 0 || (row.numbers.status == 7 && row.command.is_none())
+}
+
+/// The disk that is left: nothing where the run leaves none; the image with zeros behind it, but for some pieces, up to the swap
 /// area, and these pieces; or these pieces alone.
 fn disk_differs(
     alloc: Global,
@@ -116,7 +121,7 @@ fn disk_differs(
     image: &[u8],
     left: &[u8],
 ) -> Result<Option<Difference>, AllocError> {
-    if row.numbers.status != 0 {
+    if !leaves_disk(row) {
         return compared(alloc, "final disk", b"", left.get(..16).unwrap_or(left));
     }
     if row.left_all {
