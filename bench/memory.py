@@ -3,11 +3,11 @@
 
     bench/memory.py COMMAND COUNT [FIRST]
 
-COMMAND is a built v6. The runs are those of bench/processes.py and, by turns, of bench/processes.py execs, COUNT seeds from FIRST
-on (0 where it isn't given). Compared are the status, the report, the number of bytes, and each byte of core and of the
+COMMAND is a built v6. The runs are by turns those of bench/processes.py, those with the word `execs`, and both with the word
+`small`, COUNT seeds from FIRST on (0 where it isn't given). Compared are the status, the report, the number of bytes, and each byte of core and of the
 swap area that is prescribed: u areas, data and stacks of processes that live, half of the u area of each that has ended,
 and texts; and the same of the swap area of the disk that `v6 run` leaves. Where a run comes to what isn't built, nothing may be
-written, and nothing is compared.
+written, and nothing is compared; where it comes to a panic `memory` may write nothing, and the disk alone is compared.
 
 The reference is the Python module `abstract_unix`; the environment variable ABSTRACT_UNIX names the folder in which it is.
 It writes beside its FINAL a mask, with 1 for each byte that is prescribed.
@@ -21,7 +21,9 @@ import sys
 import tempfile
 
 from file_calls import NOT_BUILT, SWAP_AT
-from processes import Case, ExecCase
+from processes import PANIC, Case, ExecCase, in_small_core
+
+KINDS = (Case, ExecCase, in_small_core(Case), in_small_core(ExecCase))
 
 
 def read(name):
@@ -50,6 +52,10 @@ def differences(command, oracle, case, folder):
     if len(came) != len(wanted):
         return True, 0, [f"{len(came)} bytes, and not {len(wanted)}"]
     disk = left_by(command, case, folder)
+    if status == PANIC:
+        wanted, mask = swap_area(oracle, words[1:], f"{folder}/swap")
+        found = told("the disk's swap area", disk[SWAP_AT:], wanted, mask)
+        return True, sum(1 for is_said in mask if is_said), found
     swap = len(wanted) - len(disk) + SWAP_AT
     found = [*told("memory", came, wanted, mask), *told("the disk's swap area", disk[SWAP_AT:], wanted[swap:], mask[swap:])]
     return True, sum(1 for is_said in mask if is_said), found
@@ -60,6 +66,13 @@ def left_by(command, case, folder):
     names = [f"{folder}/{name}" for name in ("script", "term", "log", "disk")]
     subprocess.run([*command, "run", f"{folder}/image", str(case.core), *names], capture_output=True, check=False)
     return read(names[-1])
+
+
+def swap_area(oracle, words, name):
+    """What a run leaves in the swap area by the reference, with its mask."""
+    with contextlib.redirect_stdout(io.StringIO()):
+        oracle(["run", *words, *(f"{name}.{end}" for end in ("term", "log", "final")), "--swap", name])
+    return read(name), read(f"{name}.mask")
 
 
 def told(what, came, wanted, mask):
@@ -75,7 +88,7 @@ def main(words):
     command, first = shlex.split(words[0]), int(words[2]) if len(words) == 3 else 0
     done = wrong = prescribed = 0
     for seed in range(first, first + int(words[1])):
-        case = ExecCase(seed) if seed % 2 else Case(seed)
+        case = KINDS[seed % len(KINDS)](seed)
         with tempfile.TemporaryDirectory() as folder:
             is_done, count, found = differences(command, oracle, case, folder)
         done, prescribed = done + is_done, prescribed + count

@@ -2,7 +2,7 @@
 """Compares what tools/look.py shows at random moments of random runs with what a reference has then.
 
     bench/moments.py COMMAND RUNS MOMENTS [FIRST] [SLOTS]
-    bench/moments.py execs COMMAND RUNS MOMENTS [FIRST] [SLOTS]
+    bench/moments.py [small] [execs] COMMAND RUNS MOMENTS [FIRST] [SLOTS]
 
 The runs are those of bench/processes.py, cut after SLOTS slots (1,000): a seed gives a disk, a size of core and a script. In each
 run so many MOMENTS are drawn. COMMAND is a built v6. Compared are the rows of `ps`: state, number, parent, user, place, size, text
@@ -19,7 +19,7 @@ import re
 import sys
 import tempfile
 
-from processes import Case, ExecCase
+from processes import kind_of
 from traces import ReferenceRun
 
 from history import History
@@ -175,9 +175,7 @@ def compare(command, runs, moments, first, slots, kind):
 
 
 if __name__ == "__main__":
-    words = sys.argv[1:]
-    case = ExecCase if words[:1] == ["execs"] else Case
-    words = words[case is ExecCase :]
+    case, words = kind_of(sys.argv[1:])
     if not 3 <= len(words) <= 5 or not all(word.isdecimal() for word in words[1:]):
         sys.exit(__doc__)
     if "ABSTRACT_UNIX" not in os.environ:

@@ -6,6 +6,7 @@
     bench/processes.py alone COUNT [FIRST]
     bench/processes.py smallest COMMAND SEED FOLDER
     bench/processes.py execs make SEED FOLDER, or one of the others
+    bench/processes.py small [execs] make SEED FOLDER, or one of the others
 
 A seed gives a small disk made at random, whose /etc/init makes processes, which make calls on processes and on files
 that they share, read what is typed and compute; a size of core; and a script with many ticks. `make` writes them
@@ -14,12 +15,13 @@ runs COMMAND, a built v6, and the reference over COUNT seeds from FIRST on (0 wh
 difference in status, report, bytes of the terminal, lines of the log and what the final disk stands for; then what
 the programs came to. `alone` does the same with the reference alone. `smallest` leaves out lines of a script and
 steps of a program as long as there is a difference, and makes what is left. With the word `execs` the disks hold more
-programs, which execute one another, move the end of their data and let their stacks grow, as random_execs has them.
+programs, which execute one another, move the end of their data and let their stacks grow, as random_execs has them. With
+the word `small` core has from 64 to 163 clicks, so that most images are out of it.
 
 The reference is the Python module `abstract_unix`, of which this uses `runs`, `script`, `disk` and `errors`; the
 environment variable ABSTRACT_UNIX names the folder in which it is. Where a run comes to what isn't built (a signal,
-as by a fault or a bad address, or an image for which there is no place in core), a v6 ends with status 11; the
-terminal and the log until then are compared, and no final disk is written.
+as by a fault or a bad address), a v6 ends with status 11; the terminal and the log until then are compared, and no final
+disk is written. A run that comes to a panic ends with status 7, and its disk is compared as that of one that is done.
 """
 import collections
 import copy
@@ -36,6 +38,10 @@ from file_calls import DISK_BYTES, NOT_BUILT, SWAP_AT, by_command, first_differe
 from random_disk import Tree
 from random_execs import Programs
 from random_processes import assembled, init_of, listed, random_program, random_script
+
+PANIC = 7
+PANICS = {"panic swap": b"panic: out of swap space\n", "panic zombie": b"panic: out of swap\n",
+          "panic text": b"panic: out of text\n"}
 
 Outcome = collections.namedtuple("Outcome", "status report term log store")
 
@@ -85,6 +91,25 @@ class ExecCase(Case):
         return super().listing() + "\n".join(lines) + "\n"
 
 
+def in_small_core(kind):
+    """The same cases in less core."""
+
+    class Small(kind):
+        def __init__(self, seed, script=None, program=None):
+            super().__init__(seed, script, program)
+            self.core = random.Random(f"small {seed}").randrange(64, 164)
+
+    return Small
+
+
+def kind_of(words):
+    """The kind of cases that the first of these words ask for, and the others."""
+    is_small = words[:1] == ["small"]
+    words = words[is_small:]
+    kind = ExecCase if words[:1] == ["execs"] else Case
+    return (in_small_core(kind) if is_small else kind), words[kind is ExecCase :]
+
+
 # the reference
 
 class Stop(Exception):
@@ -106,8 +131,6 @@ def reference_run(case):
             """What isn't built is met at the line that it would log; what comes before it in the turn stands."""
             if e[0] in ("signal", "text", "share"):
                 self.report = b"not built: pc %d\n" % self.pc
-            elif e[0] in ("fork", "size", "image") and e[3] and e[3][0] == "swap":
-                self.report = b"not built: room\n"
             if self.report:
                 raise Stop
             super().entry(e)
@@ -125,7 +148,8 @@ def outcome_of(run):
     term, log = bytes(run.u.lines[0].shown), "".join(line + "\n" for line in run.log).encode()
     if run.report:
         return Outcome(NOT_BUILT, run.report, term, log, None)
-    return Outcome(0, b"", term, log, json.loads(json.dumps(run.u.stores[0].dump())))
+    report = PANICS.get(run.log[-1], b"")
+    return Outcome(PANIC if report else 0, report, term, log, json.loads(json.dumps(run.u.stores[0].dump())))
 
 
 # differences
@@ -180,7 +204,7 @@ def differences(command, case):
 def count(want, counts):
     log = want.log.decode()
     counts["runs to what isn't built"] += want.report.startswith(b"not built: pc")
-    counts["runs to an image without room"] += want.report == b"not built: room\n"
+    counts["runs to a panic"] += want.status == PANIC
     counts["runs in which nobody is left to run"] += log.endswith("idle\nend\n")
     counts["results told"] += len(re.findall(rb"[01][0-7]{6}\r?\n", want.term))
     counts["most processes of a run"] = max(counts["most processes of a run"], most_processes(log))
@@ -189,6 +213,8 @@ def count(want, counts):
                        ("sleeps for keys", r"^sleep \d+ 10"), ("times set", r"^time"), ("priorities set", r"^nice"),
                        ("execs", r"^bare"), ("images that grow", r"^size .* at"),
                        ("images that keep their place", r"^size .* keep"),
+                       ("images made in the swap area", r"^(?:fork|size|image) .* swap"),
+                       ("images that come in", r"^in "), ("images that go out", r"^out "),
                        ("wakes by time", r"^wake tout"), ("wakes of keys", r"^wake keys"), ("ticks", r"^tick"),
                        ("choices", r"^go"), ("choices after a tick", r"^tick.\w\n(?:wake .*\n)*go"), ("lines", r"^")):
         counts[name] += len(re.findall(text, log, re.MULTILINE))
@@ -260,8 +286,7 @@ def smallest(command, seed, folder, kind=Case):
 
 
 def main(words):
-    kind = ExecCase if words[:1] == ["execs"] else Case
-    words = words[kind is ExecCase :]
+    kind, words = kind_of(words)
     if words and words[0] in ("compare", "alone", "smallest") and "ABSTRACT_UNIX" not in os.environ:
         sys.exit("ABSTRACT_UNIX: the folder of the reference")
     match words:

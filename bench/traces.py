@@ -2,7 +2,7 @@
 """Compares what tools/trace.py tells of runs of random programs with the turns that a reference takes.
 
     bench/traces.py COMMAND COUNT [FIRST] [SLOTS]
-    bench/traces.py execs COMMAND COUNT [FIRST] [SLOTS]
+    bench/traces.py [small] [execs] COMMAND COUNT [FIRST] [SLOTS]
 
 The runs are those of bench/processes.py, cut after SLOTS slots (1,000): a seed gives a disk, a size of core and a script.
 COMMAND is a built v6. Compared are, turn by turn in the kernel, the slot of the run, the number of the process, the name of the
@@ -20,7 +20,7 @@ import sys
 import tempfile
 import types
 
-from processes import Case, ExecCase
+from processes import kind_of
 
 TOOLS = os.path.join(os.path.dirname(os.path.dirname(os.path.abspath(__file__))), "tools")
 sys.path.insert(0, TOOLS)
@@ -135,9 +135,7 @@ def compare(command, count, first, slots, kind):
 
 
 if __name__ == "__main__":
-    words = sys.argv[1:]
-    case = ExecCase if words[:1] == ["execs"] else Case
-    words = words[case is ExecCase :]
+    case, words = kind_of(sys.argv[1:])
     if not 2 <= len(words) <= 4 or not all(word.isdecimal() for word in words[1:]):
         sys.exit(__doc__)
     if "ABSTRACT_UNIX" not in os.environ:
