@@ -5,9 +5,9 @@
     bench/moments.py [small] [execs] COMMAND RUNS MOMENTS [FIRST] [SLOTS]
 
 The runs are those of bench/processes.py, cut after SLOTS slots (1,000): a seed gives a disk, a size of core and a script. In each
-run so many MOMENTS are drawn. COMMAND is a built v6. Compared are the rows of `ps`: state, number, parent, user, place, size, text
-and what is waited for; of each process its registers and condition codes, as `process` shows them, its signals' handlers and open
-files, and 64 words of its memory from a random address on; and the tables of `core`, `swap` and `texts`.
+run so many MOMENTS are drawn. COMMAND is a built v6. Compared are the rows of `ps`: state, number, parent, user, place, time,
+size, text and what is waited for; of each process its registers and condition codes, as `process` shows them, its signals' handlers
+and open files, and 64 words of its memory from a random address on; and the tables of `core`, `swap` and `texts`.
 
 The reference is the Python module `abstract_unix`; the environment variable ABSTRACT_UNIX names the folder in which it is. Of a v6
 without the command `memory`, the memory of each moment is the reference's too: then the moments, the table and the reading of
@@ -31,7 +31,7 @@ from symbols import Programs
 
 LETTERS = {"srun": ("r", "o"), "swait": ("w", "W"), "ssleep": ("s", "S"), "szomb": ("z", "z")}
 WORDS = 64
-ROW = re.compile(r"(\S) +(\d+) +(\d+) +(\d+) +(\S+) +(\S+) (.{10}) +(\S+) +(\S+) (\S+)")
+ROW = re.compile(r"(\S) +(\d+) +(\d+) +(\d+) +(\S+) +(\S+) (.{10}) +(\d+) +(\S+) +(\S+) (\S+)")
 
 
 class Wanted:
@@ -56,7 +56,7 @@ class Wanted:
             letter = LETTERS[row.state][not is_inside]
             letter = "R" if letter in "ro" and slot == self.table.running else letter
             found.append((letter, slot, process.pid if slot else 0, process.ppid if slot else 0,
-                          str(process.uid) if slot and row.place else "-", self.place(row), str(row.size) if slot else "-",
+                          str(process.uid) if slot and row.place else "-", self.place(row), row.time, str(row.size) if slot else "-",
                           "-" if row.text is None else str(row.text), channel or "-"))
         return found
 
@@ -101,8 +101,8 @@ class Wanted:
 def rows_of(lines):
     found = []
     for line in lines[1:]:
-        letter, slot, number, parent, user, _, place, size, text, waits = ROW.match(line.ljust(80)).groups()
-        found.append((letter, int(slot), int(number), int(parent), user, place.strip(), size, text, waits))
+        letter, slot, number, parent, user, _, place, time, size, text, waits = ROW.match(line.ljust(80)).groups()
+        found.append((letter, int(slot), int(number), int(parent), user, place.strip(), int(time), size, text, waits))
     return found
 
 

@@ -1,5 +1,6 @@
 """The moments of a run, one by one: the table of processes by the log, and core and the swap area by the program's command."""
 import copy
+import functools
 import threading
 from collections import OrderedDict
 from concurrent.futures import ThreadPoolExecutor
@@ -14,11 +15,18 @@ KEPT = 48  # moments whose memory is kept
 class Moment:
     """What is there after so many slots, and after all of the script that comes before the next one.
 
-    `lines` of the log have come until then, those from `first` on with this moment's slot and behind it."""
+    `lines` of the log have come until then, those from `first` on with this moment's slot and behind it. The table is the one after
+    `at` lines: after all of them, or after one within the moment. Memory is known of the whole moment alone."""
 
-    def __init__(self, history, slots, lines):
+    def __init__(self, history, slots, lines, at=None):
         self.history, self.slots, self.lines = history, slots, lines
-        self.table = history.table(lines)
+        self.at = lines if at is None else at
+        self.table = history.table(self.at)
+
+    @functools.cached_property
+    def whole(self):
+        """The moment after all of its lines."""
+        return self if self.at == self.lines else Moment(self.history, self.slots, self.lines)
 
     @property
     def first(self):
@@ -32,12 +40,12 @@ class Moment:
         return next((slot for slot, row in self.table.rows.items() if row.number == number), None)
 
     def process(self, number):
-        """What the process of this number has, or None where it isn't there or has no image."""
-        slot = self.slot_of(number)
-        row = self.table.rows.get(slot)
+        """What the process of this number has after the whole moment, or None where it isn't there or has no image."""
+        table = self.whole.table
+        row = table.rows.get(self.whole.slot_of(number))
         if row is None or row.place is None:
             return None
-        return self.memory().process(row, None if row.text is None else self.table.texts.get(row.text))
+        return self.memory().process(row, None if row.text is None else table.texts.get(row.text))
 
     def running(self):
         """The number of the process that runs, or None."""
@@ -57,16 +65,21 @@ class History:
         """The table after so many lines of the log."""
         with self.guard:
             while self.built.lines < lines and len(self.tables) <= lines // APART:
-                self.built.take(self.run.lines[self.built.lines])
+                self.built.take(self.run.log[self.built.lines])
                 if self.built.lines % APART == 0:
                     self.tables.append(copy.deepcopy(self.built))
             table = copy.deepcopy(self.tables[lines // APART])
-        for line in self.run.lines[table.lines : lines]:
+        for line in self.run.log[table.lines : lines]:
             table.take(line)
         return table
 
     def count(self, slots):
-        """How many lines have come until a moment. Between two moments with the same count nothing is run for it."""
+        """How many lines have come until a moment; with the last one comes `end`."""
+        ended = slots == self.last and len(self.run.log) > len(self.run.lines)
+        return self.counted(slots) + ended
+
+    def counted(self, slots):
+        """How many lines but `end` have come until a moment. Between two moments with the same count nothing is run for it."""
         known = self.run.known(True)
         below = max((one for one in known if one[0] <= slots), default=None)
         above = min((one for one in known if one[0] >= slots), default=None)
@@ -74,10 +87,11 @@ class History:
             return below[1]
         return self.run.count(slots, True)
 
-    def moment(self, slots):
+    def moment(self, slots, at=None):
+        """The moment after so many slots; its table is the one after `at` lines, where such a line of it is named."""
         if not 0 <= slots <= self.last:
             raise MomentError(f"slot {slots}: the run has {self.last}, and 0 is before the first")
-        return Moment(self, slots, self.count(slots))
+        return Moment(self, slots, self.count(slots), at)
 
     def memory(self, slots):
         """Core and the swap area at a moment; those asked for last are kept."""

@@ -77,7 +77,7 @@ def show(options):
     story = story_of(options, options.log)
     width = story.width()
     number_width = max(len(str(len(story.lines))), 4)
-    moment = "  passed " if options.script else " "
+    moment = "    slots" if options.script else " "
     for part in (str(slot // 10 or " ") for slot in range(width)), (str(slot % 10) for slot in range(width)):
         head = "".join(part)
         if head.strip():

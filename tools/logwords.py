@@ -1,4 +1,6 @@
 """What the lines of a log tell, in words: docs/manual/log.md."""
+from proctable import TICKS_OF_A_SECOND
+
 CHANNELS = {"keys": "for keys", "tout": "for a time", "runin": "until somebody may go out of core",
             "runout": "until somebody out of core can run"}
 TICKS = {"u": "in a program", "k": "in the kernel", "i": "while nobody ran"}
@@ -54,7 +56,8 @@ class Teller:
         return f"{self.who(entry['S'])} has left the kernel"
 
     def tell_tick(self, entry):
-        return f"a tick {TICKS[entry['mode']]}"
+        is_last = (self.table.ticks + 1) % TICKS_OF_A_SECOND == 0
+        return f"a tick {TICKS[entry['mode']]}" + (f"; second {self.table.second()} ends" if is_last else "")
 
     def tell_sleep(self, entry):
         own = entry["W"] == f"wait.{entry['S']}"

@@ -26,14 +26,14 @@ def compare(run, name):
     """Looks whether a log is that of this run. One that is cut is said to be, and one of another run is refused."""
     *lines, rest = read_bytes(name).decode("ascii", "replace").split("\n")
     is_whole = bool(lines) and lines[-1].split(" ")[0] in LAST and not rest
-    lines = lines[:-1] if lines and lines[-1] == "end" else lines
+    count, lines = len(lines), lines[:-1] if lines and lines[-1] == "end" else lines
     for number, (found, wanted) in enumerate(zip(lines, run.lines), 1):
         if found != wanted:
             raise LookError(f"{name}: line {number} is of another run: it is {found[:60]!r}, and here {wanted!r}")
     if len(lines) > len(run.lines):
-        raise LookError(f"{name}: it has {len(lines)} lines, and this run has {len(run.lines)}")
+        raise LookError(f"{name}: it has {count} lines, and this run has {len(run.log)}")
     if len(lines) < len(run.lines) or not is_whole and not run.status:
-        print(f"look.py: {name}: it is cut behind line {len(lines)}; the run has {len(run.lines)}", file=sys.stderr)
+        print(f"look.py: {name}: it is cut behind line {len(lines)}; the run has {len(run.log)}", file=sys.stderr)
 
 
 def looker_of(options, folder):

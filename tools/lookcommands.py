@@ -15,7 +15,8 @@ code [PLACE [COUNT]]     its instructions, round PC or from a place on
 words PLACE [COUNT]      words of its memory
 core, swap, texts        who holds which clicks and blocks; the shared texts
 log [COUNT]              the lines of the log that led here
-slot N, line N           to a moment, by its slot or by a line of the log
+slot N                   to a moment, by its slot
+line [N]                 to a line of the log, or to the next one: ps, core, swap and texts are as it left them
 step [COUNT]             so many slots further; back: so many back
 next WORD, last WORD     to the next line of the log with this word (go, trap, signal, ..), or the last; line is any
 until WHAT, since WHAT   forwards and backwards to where WHAT becomes so:
@@ -74,10 +75,10 @@ class Looker:
 
     def chosen(self):
         """The number of the process that a command is about."""
-        number = self.number
+        number, moment = self.number, self.moment.whole
         if number is None:
-            number = self.moment.running() or 1
-        if self.moment.slot_of(number) is None:
+            number = moment.running() or 1
+        if moment.slot_of(number) is None:
             raise LookError(self.gone(number))
         return number
 
@@ -137,18 +138,24 @@ class Looker:
     def do_process(self, number=None):
         if number is not None:
             self.number = self.number_of(number, "a process")
-        return self.views.process(self.moment, self.chosen())
+        return self.of_moment(self.views.process(self.moment.whole, self.chosen()))
 
     def do_code(self, place=None, count="16"):
         number, process = self.memory_of()
         at = None if place is None else self.word_address(place)
         count = self.number_of(count, "words", MOST_WORDS)
-        return self.views.code(process, self.views.program(self.moment, number), at, count)
+        return self.of_moment(self.views.code(process, self.views.program(self.moment, number), at, count))
 
     def do_words(self, place, count="8"):
         number, process = self.memory_of()
         count = self.number_of(count, "words", MOST_WORDS)
-        return self.views.words(process, self.views.program(self.moment, number), self.word_address(place), count)
+        return self.of_moment(self.views.words(process, self.views.program(self.moment, number), self.word_address(place), count))
+
+    def of_moment(self, lines):
+        """What memory tells, with a word before it where the table that is looked at is of an earlier line."""
+        moment = self.moment
+        said = f"after all lines of the moment, up to {moment.lines}, since memory isn't known within it:"
+        return [said] * (moment.at < moment.lines) + lines
 
     def do_core(self):
         return self.views.map(self.moment, "at")
@@ -160,15 +167,14 @@ class Looker:
         return self.views.texts(self.moment)
 
     def do_log(self, count=None):
-        first = None if count is None else max(0, self.moment.lines - self.number_of(count, "lines"))
-        return self.views.log(self.moment, first)
+        return self.views.log(self.moment) if count is None else self.views.last(self.moment, self.number_of(count, "lines"))
 
     # moves
 
-    def go(self, slots):
-        """To a moment: what has come with it, and what is watched."""
+    def go(self, slots, at=None):
+        """To a moment, or to a line within it: what has come with it, and what is watched."""
         before = self.moment.slots
-        self.moment = self.history.moment(slots)
+        self.moment = self.history.moment(slots, at)
         return [self.views.head(self.moment), *self.views.log(self.moment), *self.watches(before)]
 
     def watches(self, before):
@@ -177,7 +183,7 @@ class Looker:
             now, then = self.word(self.moment, number, at), self.word(self.history.moment(before), number, at)
             was = f", and was {shown(then)}" if now != then else ""
             out.append(f"  word {at:06o} of process {number}: {shown(now)}{was}")
-        return out
+        return self.of_moment(out) if out else []
 
     def word(self, moment, number, at):
         """A word of a process at a moment, or None where it isn't there."""
@@ -187,14 +193,15 @@ class Looker:
     def do_slot(self, number=None):
         return self.go(self.moment.slots if number is None else self.number_of(number, "a slot"))
 
-    def do_line(self, number):
-        number, lines = self.number_of(number, "a line"), len(self.history.run.lines)
+    def do_line(self, number=None):
+        number = self.moment.at + 1 if number is None else self.number_of(number, "a line")
+        lines = len(self.history.run.log)
         if not 1 <= number <= lines:
             raise LookError(f"line {number}: the log of this run has the lines 1 to {lines}")
         slots = self.history.slot_of_line(number - 1)
         if slots > self.history.last:
             raise LookError(f"line {number} comes in slot {slots}, in which the run comes to what can't be shown")
-        return self.go(slots)
+        return self.go(slots, number)
 
     def do_step(self, count="1"):
         return self.by(self.number_of(count, "slots"))

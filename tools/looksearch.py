@@ -68,13 +68,13 @@ class Search:
         return self.lines_after(event) if self.forwards else self.lines_before(event)
 
     def lines_after(self, event):
-        table, lines = self.history.table(self.moment.lines), self.history.run.lines
+        table, lines = self.history.table(self.moment.lines), self.history.run.log
         for number in range(self.moment.lines, len(lines)):
             if event.has(table, lines[number]):
                 yield number
 
     def lines_before(self, event):
-        lines, end = self.history.run.lines, self.moment.first
+        lines, end = self.history.run.log, self.moment.first
         while end:
             start = (end - 1) // BLOCK * BLOCK
             table = self.history.table(start)
@@ -104,7 +104,7 @@ class Search:
 
     def call(self, name, number):
         """The next moment at which a process stands at such a call, or the last one."""
-        lines = self.history.run.lines
+        lines = self.history.run.log
         numbers = range(self.moment.lines, len(lines)) if self.forwards else range(self.moment.lines - 1, -1, -1)
         turns = (line for line in numbers if is_turn(lines[line]))
         while chunk := list(itertools.islice(turns, AT_ONCE)):

@@ -53,18 +53,24 @@ class Views:
 
     def line(self, moment, number):
         """A line of the log, counted from 0 on, and what it tells."""
-        table, text = moment.history.table(number), moment.history.run.lines[number]
-        return f"{number + 1:>7}  {text:22}  {Teller(table, self.sizes).told(table.read(text))}"
+        table, text = moment.history.table(number), moment.history.run.log[number]
+        mark = ">" if number + 1 == moment.at < moment.lines else " "
+        return f"{mark}{number + 1:>6}  {text:22}  {Teller(table, self.sizes).told(table.read(text))}"
 
-    def log(self, moment, first=None):
-        """The lines that came with a moment, or those from another on."""
-        return [self.line(moment, number) for number in range(moment.first if first is None else first, moment.lines)]
+    def log(self, moment):
+        """The lines that came with a moment. The one that is looked at, where others of the moment come behind it, is marked."""
+        return [self.line(moment, number) for number in range(moment.first, moment.lines)]
+
+    def last(self, moment, count):
+        """So many lines of the log, the last of them the one that is looked at."""
+        return [self.line(moment, number) for number in range(max(0, moment.at - count), moment.at)]
 
     def head(self, moment):
         running = moment.running()
         who = "nobody can run" if running is None else "the swapper runs" if not running else f"{self.who(moment, running)} runs"
-        lines = f"line {moment.lines} of {len(moment.history.run.lines)}"
-        return f"slot {moment.slots} of {moment.history.last}, {lines}: {who}"
+        line = f"line {moment.at} of {len(moment.history.run.log)}"
+        within = f" (of the lines {moment.first + 1} to {moment.lines} of the moment)" if moment.at < moment.lines else ""
+        return f"slot {moment.slots} of {moment.history.last}, second {moment.table.second()}, {line}{within}: {who}"
 
     # processes
 
@@ -92,15 +98,15 @@ class Views:
 
     def ps(self, moment):
         """The processes as ps(I) and pstat show them."""
-        out = ["S SLOT   PID  PPID UID PRI PLACE      SIZE TEXT WAITS     COMMAND"]
+        out = ["S SLOT   PID  PPID UID PRI PLACE      TIME SIZE TEXT WAITS     COMMAND"]
         for slot, row in sorted(moment.table.rows.items()):
             process = moment.process(row.number) if slot else None
             user = "-" if process is None else str(process.u[18])
             priority = str(row.priority) if row.state == "asleep" else "-"
             text = "-" if row.text is None else str(row.text)
             command = self.command(moment, row.number) if slot else "(the swapper)"
-            out.append(f"{moment.table.letter(slot)} {slot:4} {row.number:5} {row.parent:5} {user:>3} {priority:>3} {place_of(row):10} "
-                       f"{row.size if slot else '-':>4} {text:>4} {row.channel or '-':9} {command}".rstrip())
+            out.append(f"{moment.table.letter(slot)} {slot:4} {row.number:5} {row.parent:5} {user:>3} {priority:>3} "
+                       f"{place_of(row):10} {row.time:4} {row.size if slot else '-':>4} {text:>4} {row.channel or '-':9} {command}".rstrip())
         return out
 
     def process(self, moment, number):

@@ -64,6 +64,7 @@ class Run:
         self.v6, self.image, self.core, self.script, self.folder = v6, image, core, Script(script), folder
         self.files, self.guard = {}, threading.Lock()
         self.lines, self.status, self.said = self.played(script)
+        self.log = self.lines + ["end"] * (self.status == DONE)  # all lines of the log's file
         self.before = {}  # slots, more: how many lines the log has then
 
     def names(self, *wanted):

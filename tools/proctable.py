@@ -5,6 +5,7 @@ from dataclasses import dataclass
 
 SLOTS, TEXTS, MOST_NUMBER = 50, 40, 32767
 FIRST_CLICKS, CORE_FIRST, SWAP_FIRST, SWAP_LAST, CLICKS_OF_A_BLOCK = 17, 1, 4000, 4871, 8
+TICKS_OF_A_SECOND, MOST_TIME = 60, 127
 
 # Of each word of a line: what follows it. `place` is `at C` or `swap B`.
 FORMS = {
@@ -74,7 +75,8 @@ def blocks(clicks):
 
 @dataclass
 class Row:
-    """A process: its state is "ready", "asleep" or "dead". A number below 0 wakes by no signal."""
+    """A process: its state is "ready", "asleep" or "dead". A number below 0 wakes by no signal. Its time is for how many seconds it
+    has been in core or out of it: docs/manual/clock.md."""
 
     number: int
     parent: int
@@ -85,6 +87,7 @@ class Row:
     priority: int = 0
     text: int = None
     program: int = 0  # the clicks of the image that exec(II) made of its program
+    time: int = 0
 
     def is_loaded(self):
         return self.place is None or self.place.where == "at"
@@ -105,6 +108,7 @@ class Table:
     def __init__(self):
         self.rows, self.texts = {}, {}
         self.running, self.last, self.core, self.time = None, 1, 0, 0
+        self.ticks = 0  # of all that came
         self.lines, self.number, self.over = 0, 0, False
         self.touched = set()  # the slots whose letter the last line may have changed
 
@@ -149,7 +153,7 @@ class Table:
 
     def take_go(self, entry):
         row = self.row(entry["S"])
-        row.state, row.channel = "ready", ""  # the swapper is woken by more than a log's lines say
+        row.state, row.channel = "ready", ""
         self.running = entry["S"]
 
     def take_idle(self, entry):
@@ -160,10 +164,21 @@ class Table:
 
     take_nice = take_trap
 
-    def take_tick(self, entry):
+    def take_end(self, entry):
         pass
 
-    take_panic = take_end = take_tick
+    take_panic = take_end
+
+    def take_tick(self, entry):
+        self.ticks += 1
+        if self.ticks % TICKS_OF_A_SECOND == 0:
+            for row in self.rows.values():
+                row.time = min(MOST_TIME, row.time + 1)
+            self.wake_swapper("runin")
+
+    def second(self):
+        """Which second of the run it is, counted from 1 on."""
+        return self.ticks // TICKS_OF_A_SECOND + 1
 
     def take_time(self, entry):
         self.time = entry["TIME"]
@@ -173,6 +188,8 @@ class Table:
         row.state, row.channel, row.priority = "asleep", entry["W"], entry["P"]
         if self.running == entry["S"]:
             self.running = None
+        if row.priority >= 0:
+            self.wake_swapper("runin")
 
     def sleepers(self, channel):
         return [slot for slot, row in sorted(self.rows.items()) if row.state == "asleep" and row.channel == channel]
@@ -185,9 +202,15 @@ class Table:
         self.touched |= {slot, 0}
         row = self.rows[slot]
         row.state, row.channel = "ready", ""
+        if not row.is_loaded():
+            self.wake_swapper("runout")
+
+    def wake_swapper(self, channel):
+        """Wakes the swapper, where that is what it sleeps for: docs/manual/swapper.md. The log has no line of its own for it."""
         swapper = self.rows[0]
-        if not row.is_loaded() and swapper.channel == "runout":
+        if swapper.channel == channel:
             swapper.state, swapper.channel = "ready", ""
+            self.touched.add(0)
 
     def take_signal(self, entry):
         row = self.row(entry["S"])
@@ -201,12 +224,15 @@ class Table:
             self.move(row, entry["place"])
 
     def move(self, row, place):
-        """An image goes to a place; its text has one loaded user more, or one less."""
+        """An image goes to a place; its text has one loaded user more, or one less. In the swap area its time begins anew."""
         text = None if row.text is None else self.texts.get(row.text)
         if text:
             was = row.place is not None and row.place.where == "at"
             text.loaded += (place is not None and place.where == "at") - was
         row.place = place
+        if place.where == "swap":
+            row.time = 0
+            self.wake_swapper("runout")
 
     def next_number(self):
         """The number of the next child: docs/manual/processes.md."""
@@ -262,6 +288,7 @@ class Table:
             text.click = start
             start += text.clicks
         self.move(row, Place("at", start))
+        row.time = 0
 
     def take_out(self, entry):
         self.move(self.row(entry["S"]), Place("swap", entry["B"]))

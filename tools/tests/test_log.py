@@ -3,7 +3,7 @@ import os
 import unittest
 import xml.etree.ElementTree as tree
 
-from common import TOP, Case, read, tool, v6
+from common import TOP, V6, Case, read, tool, v6
 
 log_main = tool("log").main
 SVG = "{http://www.w3.org/2000/svg}"
@@ -48,13 +48,13 @@ TOLD = """line  012
    3  sR.  process 1 runs
    4  sR.  process 1 gives back its image for a new program
    5  sR.  process 1 makes text 0 of 20 clicks, in the swap area at block 4000
-   6  sR.  process 1 has its new image, of 30 clicks, in the swap area at block 4003
+   6  rR.  process 1 has its new image, of 30 clicks, in the swap area at block 4003
    7  Ro.  the swapper runs
    8  Rr.  process 1 comes into core at click 1, text 0 first
    9  sr.  the swapper waits until somebody out of core can run, at priority -100
   10  sR.  process 1 runs
-  11  sRo  process 1 makes process 2 in slot 2, in the swap area at block 4003
-  12  swo  process 1 waits for bytes in the pipe of inode 9, at priority 1
+  11  rRo  process 1 makes process 2 in slot 2, in the swap area at block 4003
+  12  rwo  process 1 waits for bytes in the pipe of inode 9, at priority 1
   13  Rwo  the swapper runs
   14  RWo  process 1 goes out of core, to block 4007
   15  RWr  process 2 comes into core at click 1, text 0 first
@@ -100,6 +100,22 @@ class Log(Case):
         self.assertEqual(passed[:4], [7, 10, 1010, 2010])
         self.assertEqual((len(passed), passed[-1]), (51, 49010))
         self.assertTrue(any("has its new image of /bin/ls" in line for line in out.splitlines()))
+
+    def test_seconds(self):
+        """The sixtieth tick ends a second, whatever it comes in."""
+        ticks = ["tick u"] * 58 + ["tick k", "tick i", *["tick u"] * 60]
+        name = self.text("log", "\n".join(["boot 64 7", "sleep 0 -100 runout", "go 1", *ticks, "time 500", *ticks, "end\n"]))
+        told = [line.split("  ")[-1] for line in self.log("show", name)[1].splitlines()]
+        self.assertEqual([(number, line) for number, line in enumerate(told) if "second " in line], [
+            (63, "a tick while nobody ran; second 1 ends"), (123, "a tick in a program; second 2 ends"),
+            (184, "a tick while nobody ran; second 3 ends"), (244, "a tick in a program; second 4 ends")])
+
+    def test_slots_at_ticks(self):
+        """Under a heading of its own, each tick has how many slots have passed."""
+        name = self.text("log", "boot 64 0\nsleep 0 -100 runout\ntick i\ntick i\nend\n")
+        out = self.log("show", "--script", self.text("script", "clock 12\nrun 30\n"), name)[1].splitlines()
+        self.assertEqual([line[:14] for line in out], [
+            "line    slots ", "   1          ", "   2          ", "   3       12 ", "   4       24 ", "   5          "])
 
     def test_spoiled(self):
         for line, why in (("go 60", "S is out of its range: go 60"), ("go 01", "no line of a log: 'go 01'"), ("walk 1", "no line of a log: 'walk 1'"),
@@ -167,6 +183,18 @@ class Log(Case):
         shown = self.log("show", "--disk", os.path.join(shell, "image"), "--from", "24", "--to", "34", names[1])[1]
         self.assertIn("\n\n" + shown + "```\n", page)
         self.assertEqual(self.log("draw", names[1])[1], read(os.path.join(TOP, "docs", "tools", "log.svg")).decode())
+
+    def test_page_of_seconds(self):
+        """The page's lines of the example crowd, in which a second is 600 slots."""
+        crowd, image = os.path.join(TOP, "examples", "crowd"), self.path("image")
+        script, names = os.path.join(crowd, "script"), [self.path(name) for name in ("term", "log", "final")]
+        self.assertEqual(self.call(tool("as").main, "-o", self.path("crowd"), os.path.join(crowd, "crowd.s"))[0], 0)
+        self.assertEqual(v6("make", "0", image)[0], 0)
+        self.assertEqual(self.call(tool("disk").main, "--v6", V6, "put", image, self.path("crowd"), "/etc/init")[0], 0)
+        self.assertEqual(v6("run", image, "100", script, *names)[0], 0)
+        shown = self.log("show", "--script", script, "--from", "269", "--to", "277", names[1])[1]
+        self.assertIn("\n\n" + shown + "```\n", read(os.path.join(TOP, "docs", "tools", "log.md")).decode())
+        self.assertIn("     2400 rWrRo  a tick in a program; second 4 ends\n", shown)
 
     def test_a_long_log_is_thinned(self):
         turns = "go 1\nsleep 1 10 keys\nwake keys\ngo 1\ntrap 1\n" * 20000

@@ -13,7 +13,7 @@ from history import History
 from lookcommands import LookError, Looker
 from lookviews import Views
 from moments import Memory, MomentError, Run, Script
-from proctable import LogFault
+from proctable import LogFault, Table
 from symbols import Program, Programs
 from volume import ROOT, Volume
 
@@ -188,16 +188,17 @@ class Shown(unittest.TestCase):
         self.assertEqual(looker.lines_of("swap")[:2], [" 4000 to  4001     2  text 0", " 4002 to  4006     5  process 1"])
 
     def test_ps(self):
-        """A parent that waits for its child, which is out of core, and a zombie. Both have two descriptors of one open file."""
+        """A parent that waits for its child, which is out of core, and a zombie. Both have two descriptors of one open file. The
+        swapper was woken by the child's image, and hasn't run since."""
         files = bytes((1, 5, 0, 5))
         lines = (*START, (2, "fork 1 2 swap 4001"), (2, "trap 1"), (3, "fork 1 3 swap 4006"), (3, "trap 1"), (4, "sleep 1 40 wait.1"),
                  (5, "go 3"), (5, "exit 3 swap 4000"))
         looker = looker_of(ByHand(9, lines, lambda slots: placed(
             (1, image((0,) * 8, more=((18, b"\5"), (104, files)))), (4001, image((0,) * 8, more=((104, files),))))))
         looker.lines_of("slot 9")
-        self.assertEqual([line.split()[:9] for line in looker.lines_of("ps")[1:4]], [
-            ["s", "0", "0", "0", "-", "-100", "-", "-", "-"], ["w", "1", "1", "0", "5", "40", "at", "1", "37"],
-            ["o", "2", "2", "1", "0", "-", "swap", "4001", "37"]])
+        self.assertEqual([line.split()[:10] for line in looker.lines_of("ps")[1:4]], [
+            ["r", "0", "0", "0", "-", "-", "-", "0", "-", "-"], ["w", "1", "1", "0", "5", "40", "at", "1", "0", "37"],
+            ["o", "2", "2", "1", "0", "-", "swap", "4001", "0", "37"]])
         self.assertIn("state      z: has ended, and its parent hasn't waited for it", looker.lines_of("process 3"))
         self.assertIn("left       half of its u area, in block 4000", looker.lines_of("process 3"))
         self.assertIn("  file 1: open file 4, as 3 of process 1; 1, 3 of process 2", looker.lines_of("process 1"))
@@ -240,7 +241,7 @@ class Moves(unittest.TestCase):
 
     def test_steps(self):
         self.assertEqual(self.looker.lines_of("slot 100"), [
-            "slot 100 of 10000000, line 9 of 14: process 1 (/etc/init) runs",
+            "slot 100 of 10000000, second 1, line 9 of 15: process 1 (/etc/init) runs",
             "      8  fork 1 2 at 38          process 1 makes process 2 in slot 2, at click 38",
             "      9  trap 1                  process 1 has left the kernel"])
         self.assertEqual(self.at("step"), 101)
@@ -258,6 +259,18 @@ class Moves(unittest.TestCase):
         self.assertEqual([self.at("last line") for _ in range(3)], [9000000, 100, 1])
         self.assertEqual([self.at("next line of 2") for _ in range(5)], [100, 9000000, 9500000, 9800000, 9900000])
         self.assertEqual(self.at("last fork"), 100)
+
+    def test_the_last_line(self):
+        """`end` is a line of the log as the others are: the last moment's."""
+        for command in ("slot 10000000", "line 15", "next end"):
+            self.at("slot 9900000")
+            self.assertEqual(self.looker.lines_of(command), [
+                "slot 10000000 of 10000000, second 1, line 15 of 15: nobody can run",
+                "     15  end                     the script has ended"])
+        self.assertEqual(self.at("last line"), 9900000)
+        with self.assertRaisesRegex(LookError, "call: not found before slot 9900000"):
+            self.looker = looker_of(ByHand(10000000, [line for line in self.LINES if line[1] != "trap 1"], self.held))
+            self.at("slot 10000000", "last line", "since call")
 
     def test_states(self):
         self.assertEqual(self.at("until place swap of 2"), 9000000)
@@ -336,7 +349,7 @@ class Moves(unittest.TestCase):
         self.at("slot 9001")
         self.assertEqual((len(self.looker.lines_of("ps")), self.looker.moment.lines), (4, 9008))
         self.assertEqual(self.looker.lines_of("log 2"), ["   9007  tick u                  a tick in a program",
-                                                        "   9008  tick u                  a tick in a program"])
+                                                        "   9008  tick u                  a tick in a program; second 150 ends"])
 
     def test_what_is_refused(self):
         """A line says why, and the moment stays."""
@@ -344,7 +357,7 @@ class Moves(unittest.TestCase):
         for command, why in (
                 ("slot 10000001", "slot 10000001: the run has 10000000, and 0 is before the first"), ("slot x", "x: no number"),
                 ("back 201", "slot 200 is too near: the run is from slot 0 to 10000000"),
-                ("line 0", "line 0: the log of this run has the lines 1 to 14"), ("line 15", "line 15: the log"), ("hop", "hop: no such command"),
+                ("line 0", "line 0: the log of this run has the lines 1 to 15"), ("line 16", "line 16: the log"), ("hop", "hop: no such command"),
                 ("words", "words: too few words"), ("ps 1 2", "ps 1 2: too few words, or too many"), ("next hop", "hop: no word of a log"),
                 ("words 1", "1: 000001 is odd"), ("words 0200000", "0200000: an address is 65535 at most"), ("words 08", "08: no number"),
                 ("words 0 9999", "9999: words is 4096 at most"), ("process 3", "process 3 isn't there in slot 200, and never in this run"),
@@ -373,6 +386,133 @@ class Moves(unittest.TestCase):
     def test_a_spoiled_log(self):
         with self.assertRaisesRegex(LogFault, "line 8: slot 7 is free there"):
             looker_of(ByHand(900, (*START, (5, "trap 7")), self.held)).lines_of("slot 6")
+
+
+class Within(unittest.TestCase):
+    """In slot 5 a pass of the swapper with two exchanges in a core of 64 clicks: process 2, of 20 clicks, and process 3, of 30, come
+    in for process 1 and a child of it, which has made itself small and waits. In slot 4 a second has ended. The word 040 of
+    process 1 is 0, and in slot 5 it is 7."""
+
+    LINES = (*START, (2, "fork 1 2 at 38"), (2, "size 2 20 keep"), (2, "fork 1 3 swap 4000"), (2, "trap 1"), (2, "size 3 30 keep"),
+             *[(3, "tick u")] * 59, (4, "sleep 2 10 keys"), (4, "tick i"), (4, "idle"),
+             (5, "go 0"), (5, "out 2 4004"), (5, "out 1 4007"), (5, "in 3 1"), (5, "in 2 31"), (5, "sleep 0 -100 runin"), (5, "go 3"))
+    PASS = 75  # the line of `go 0`
+
+    def held(self, slots):
+        one = image((0,) * 8, text=TEXT.ljust(32, b"\0") + struct.pack("<H", 7))
+        if slots < 5:
+            return placed((1, image((0,) * 8)), (38, image((0,) * 8)), (4000, image((0,) * 8)))
+        return placed((4007, one), (31, image((0,) * 8)), (1, image((0,) * 8, more=((18, b"\5"),))))
+
+    def setUp(self):
+        self.looker = looker_of(ByHand(9, self.LINES, self.held))
+
+    def places(self):
+        """Of each process but the swapper its letter, place and time, by `ps`."""
+        rows = [line.split() for line in self.looker.lines_of("ps")[2:]]
+        return [(row[0], *row[6:9]) for row in rows]
+
+    def test_the_table_after_a_line(self):
+        """Each line of the pass has a table of its own: who was where, and for how long."""
+        wanted = [[("r", "at", "1", "1"), ("w", "at", "38", "1"), ("o", "swap", "4000", "1")],
+                  [("r", "at", "1", "1"), ("W", "swap", "4004", "0"), ("o", "swap", "4000", "1")],
+                  [("o", "swap", "4007", "0"), ("W", "swap", "4004", "0"), ("o", "swap", "4000", "1")],
+                  [("o", "swap", "4007", "0"), ("W", "swap", "4004", "0"), ("r", "at", "1", "0")],
+                  [("o", "swap", "4007", "0"), ("w", "at", "31", "0"), ("r", "at", "1", "0")]]
+        for number, rows in enumerate(wanted, self.PASS):
+            self.looker.lines_of(f"line {number}")
+            self.assertEqual((self.places(), self.looker.moment.slots), (rows, 5), number)
+        self.looker.lines_of("slot 5")
+        self.assertEqual(self.places(), [*wanted[-1][:2], ("R", "at", "1", "0")])
+
+    def test_what_is_said(self):
+        """The head tells the line that was asked for, and which lines the moment has; the line is marked."""
+        shown = self.looker.lines_of("line 77")
+        self.assertEqual(shown[0], "slot 5 of 9, second 2, line 77 of 82 (of the lines 75 to 81 of the moment): the swapper runs")
+        self.assertEqual([line[:11] for line in shown[1:]], ["     75  go", "     76  ou", ">    77  ou", "     78  in", "     79  in",
+                                                             "     80  sl", "     81  go"])
+        self.assertEqual([line[:11] for line in self.looker.lines_of("log 2")], ["     76  ou", ">    77  ou"])
+        self.assertEqual(self.looker.lines_of("line 81")[0], "slot 5 of 9, second 2, line 81 of 82: process 3 (/etc/init) runs")
+
+    def test_core_and_swap(self):
+        self.looker.lines_of("line 76")
+        self.assertEqual([line.split("  process")[0] for line in self.looker.lines_of("core")],
+                         ["    1 to    37    37", "   38 to    64    27  free", "27 of 64 clicks are free"])
+        self.assertEqual([line.split("  process")[0] for line in self.looker.lines_of("swap")][:3],
+                         [" 4000 to  4003     4", " 4004 to  4006     3", " 4007 to  4871   865  free"])
+
+    def test_memory_is_of_the_moment(self):
+        """What memory tells is that after the whole moment, and it is said: there process 1 is in the swap area already."""
+        said = "after all lines of the moment, up to 81, since memory isn't known within it:"
+        self.looker.lines_of("line 76")
+        self.assertEqual(self.looker.lines_of("words 040 1 of 1")[0], said)
+        self.assertEqual(self.looker.lines_of("words 040 1 of 1")[1].split()[-2], "000007")
+        shown = self.looker.lines_of("process 1")
+        self.assertEqual((shown[0], shown[3]), (said, "image      37 clicks, in the swap area from block 4007 on; no text"))
+        self.assertEqual(self.looker.lines_of("process")[1], "process 3 in slot 3, a child of process 1")
+        self.assertEqual(self.looker.lines_of("code 0 1 of 1")[0], said)
+        self.assertEqual(self.looker.lines_of("watch 040")[0], said)
+        for line in ("line 81", "slot 5"):
+            self.looker.lines_of(line)
+            self.assertEqual(len(self.looker.lines_of("words 040 1 of 1")), 1)
+
+    def test_moves(self):
+        """`line` goes a line further; the other moves go by moments, also from within one."""
+        self.looker.lines_of("slot 4")
+        found = []
+        for _ in range(8):
+            self.looker.lines_of("line")
+            found.append((self.looker.moment.slots, self.looker.moment.at))
+        self.assertEqual(found, [*[(5, line) for line in range(75, 82)], (9, 82)])
+        with self.assertRaisesRegex(LookError, "line 83: the log of this run has the lines 1 to 82"):
+            self.looker.lines_of("line")
+        for command, at in (("back", (4, 74)), ("step", (6, 81)), ("next line", (9, 82)), ("last go", (1, 7)), ("slot", (5, 81))):
+            self.looker.lines_of("line 77")
+            self.looker.lines_of(command)
+            self.assertEqual((self.looker.moment.slots, self.looker.moment.at), at, command)
+
+
+class Times(unittest.TestCase):
+    """For how many seconds each slot has been where it is: docs/manual/clock.md, and docs/manual/swapper.md."""
+
+    def times(self, *lines):
+        table = Table()
+        for line in ("boot 200 0", "sleep 0 -100 runout", "go 1", *lines):
+            table.take(line)
+        return [table.rows[slot].time for slot in sorted(table.rows)]
+
+    def test_each_second(self):
+        """The sixtieth tick ends a second, and the time of each slot grows, up to 127; also that of a slot that has ended."""
+        second = ["tick u"] * 60
+        self.assertEqual(self.times(*second[1:]), [0, 0])
+        self.assertEqual(self.times(*second, *second[1:]), [1, 1])
+        self.assertEqual(self.times(*second, "fork 1 2 at 38", *second), [2, 2, 1])
+        self.assertEqual(self.times(*127 * second, "fork 1 2 at 38", *second), [127, 127, 1])
+        self.assertEqual(self.times("fork 1 2 at 38", *second, "exit 2 swap 4000", *second), [2, 2, 2])
+        self.assertEqual(self.times("fork 1 2 at 38", *second, "exit 2 swap 4000", "reap 2", "fork 1 2 at 38"), [1, 1, 0])
+
+    def test_moves(self):
+        """It begins anew where an image goes out, comes in, or is made in the swap area, and nowhere else."""
+        for line, wanted in (("out 1 4000", 0), ("fork 1 2 swap 4000", 2), ("bare 1", 2), ("image 1 37 at 1", 2),
+                             ("image 1 37 swap 4000", 0), ("size 1 40 keep", 2), ("size 1 40 at 20", 2), ("size 1 40 swap 4000", 0),
+                             ("sleep 1 10 keys", 2)):
+            self.assertEqual(self.times(*["tick u"] * 120, line)[1], wanted, line)
+        self.assertEqual(self.times("out 1 4000", *["tick u"] * 120, "in 1 1"), [2, 0])
+
+    def test_the_swapper(self):
+        """It is woken from `runout` by an image that goes out or is made outside, and from `runin` by a second and by who falls asleep
+        so that a signal wakes it."""
+        for channel, line, wanted in (
+                ("runout", "out 1 4000", "r"), ("runout", "fork 1 2 swap 4000", "r"), ("runout", "image 1 37 swap 4000", "r"),
+                ("runout", "size 1 40 swap 4000", "r"), ("runout", "fork 1 2 at 38", "s"), ("runout", "tick u", "s"),
+                ("runout", "sleep 1 10 keys", "s"), ("runin", "tick u", "r"), ("runin", "sleep 1 10 keys", "r"),
+                ("runin", "sleep 1 -5 keys", "s"), ("runin", "out 1 4000", "s")):
+            table = Table()
+            for one in ("boot 200 0", f"sleep 0 -100 {channel}", "go 1", *["tick u"] * 59):
+                table.take(one)
+            self.assertEqual(table.letter(0), "s")
+            table.take(line)
+            self.assertEqual(table.letter(0), wanted, (channel, line))
 
 
 class Commands(Case):
@@ -416,13 +556,13 @@ class Commands(Case):
         self.assertEqual(self.hi("--log", log, "-c", "help")[::2], (0, ""))
         cut = self.put("cut", b"".join(lines[:5]))
         self.assertEqual(self.hi("--log", cut, "-c", "help")[::2],
-                         (0, f"look.py: {cut}: it is cut behind line 5; the run has {len(lines) - 1}\n"))
+                         (0, f"look.py: {cut}: it is cut behind line 5; the run has {len(lines)}\n"))
         spoiled = self.put("spoiled", b"".join(lines[:2]) + b"go 2\n")
         self.assertEqual(self.hi("--log", spoiled, "-c", "help"),
                          (1, "", f"look.py: {spoiled}: line 3 is of another run: it is 'go 2', and here 'go 1'\n"))
         longer = self.put("longer", b"".join(lines[:-1]) + b"idle\nend\n")
         self.assertEqual(self.hi("--log", longer, "-c", "help")[2],
-                         f"look.py: {longer}: it has {len(lines)} lines, and this run has {len(lines) - 1}\n")
+                         f"look.py: {longer}: it has {len(lines) + 1} lines, and this run has {len(lines)}\n")
 
     def test_what_is_refused(self):
         image_, script = os.path.join(HI, "image"), os.path.join(HI, "script")
