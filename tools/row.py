@@ -37,6 +37,19 @@ class Runner:
             raise ProgramError(f"{self.words[0]}: {error.strerror}: the program v6 is wanted; --v6 names it") from None
         return done.returncode, done.stdout
 
+    def judged(self, words):
+        """The status of a row's command, and its report. The gate's host writes the bytes of memory to `final` alone: here a folder
+        stands where another name is given, which can't be written either."""
+        if words[:1] != ["memory"] or words[-1] not in ("term", "log"):
+            return self.call(words)
+        path = os.path.join(self.folder, words[-1])
+        os.remove(path)
+        os.mkdir(path)
+        try:
+            return self.call(words)
+        finally:
+            os.rmdir(path)
+
     def put(self, name, data):
         with open(os.path.join(self.folder, name), "wb") as file:
             file.write(data)
@@ -61,7 +74,7 @@ class Runner:
         for name in FILES:
             self.put(name, b"")
         came = {}
-        came["status"], came["report"] = self.call(row.command().split(" ") if row.command() else [])
+        came["status"], came["report"] = self.judged(row.command().split(" ") if row.command() else [])
         came.update((name, self.get(name)) for name in FILES)
         if row.lines["check"] is not None:
             self.put("left", came["final"])

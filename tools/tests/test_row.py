@@ -128,8 +128,11 @@ class Language(Case):
 
 class Command(Case):
     def test_rows_hold(self):
-        names = ["programs/hi_over_memory", "calls/wait_a_child_is_told_of_once", "checks/a_block_twice", "exec_refusals/511_bytes"]
-        self.assertEqual(self.call(row_main, "-q", *names), (0, "".join(f"ok {name}\n" for name in sorted(names)), ""))
+        """Each row, by the program as it is built and by its own host; the gate runs them over files in memory."""
+        names = rowfile.names()
+        status, out, error = self.call(row_main, "-q", *names)
+        self.assertEqual([line for line in out.split("\n") if line and not line.startswith("ok ")], [])
+        self.assertEqual((status, out, error), (0, "".join(f"ok {name}\n" for name in sorted(names)), ""))
 
     def test_shown(self):
         status, out, error = self.call(row_main, "a_child_is_told_of_once", "wait_a_child_is_told_of_once")
