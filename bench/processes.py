@@ -15,8 +15,8 @@ runs COMMAND, a built v6, and the reference over COUNT seeds from FIRST on (0 wh
 difference in status, report, bytes of the terminal, lines of the log and what the final disk stands for; then what
 the programs came to. `alone` does the same with the reference alone. `smallest` leaves out lines of a script and
 steps of a program as long as there is a difference, and makes what is left. With the word `execs` the disks hold more
-programs, which execute one another, move the end of their data and let their stacks grow, as random_execs has them. With
-the word `small` core has from 64 to 163 clicks, so that most images are out of it.
+programs, which execute one another, move the end of their data, let their stacks grow, share texts, and remove and write one
+another's files, as random_execs has them. With the word `small` core has from 64 to 163 clicks, so that most images are out of it.
 
 The reference is the Python module `abstract_unix`, of which this uses `runs`, `script`, `disk` and `errors`; the
 environment variable ABSTRACT_UNIX names the folder in which it is. Where a run comes to what isn't built (a signal,
@@ -36,7 +36,7 @@ import time
 
 from file_calls import DISK_BYTES, NOT_BUILT, SWAP_AT, by_command, first_difference, line_difference, node_differences
 from random_disk import Tree
-from random_execs import Programs
+from random_execs import Programs, data_at
 from random_processes import assembled, init_of, listed, random_program, random_script
 
 PANIC = 7
@@ -86,7 +86,7 @@ class ExecCase(Case):
     def listing(self):
         lines = []
         for name, program in self.programs.others.items():
-            assembled(program)
+            assembled(program, data_at(self.programs.texts[name]))
             lines += ["", name, *listed(program.all_steps())]
         return super().listing() + "\n".join(lines) + "\n"
 
@@ -129,7 +129,7 @@ def reference_run(case):
 
         def entry(self, e):
             """What isn't built is met at the line that it would log; what comes before it in the turn stands."""
-            if e[0] in ("signal", "text", "share"):
+            if e[0] == "signal":
                 self.report = b"not built: pc %d\n" % self.pc
             if self.report:
                 raise Stop
@@ -211,7 +211,9 @@ def count(want, counts):
     for name, text in (("forks", r"^fork"), ("exits", r"^exit"), ("waits that give a child", r"^reap"),
                        ("sleeps for a child", r"^sleep \d+ 40"), ("sleeps for a time", r"^sleep \d+ 90"),
                        ("sleeps for keys", r"^sleep \d+ 10"), ("times set", r"^time"), ("priorities set", r"^nice"),
-                       ("execs", r"^bare"), ("images that grow", r"^size .* at"),
+                       ("execs", r"^bare"), ("texts made", r"^text"), ("texts shared", r"^share"),
+                       ("texts left", r"^drop"), ("texts left that are sticky", r"^drop .* sticky"),
+                       ("images that grow", r"^size .* at"),
                        ("images that keep their place", r"^size .* keep"),
                        ("images made in the swap area", r"^(?:fork|size|image) .* swap"),
                        ("images that come in", r"^in "), ("images that go out", r"^out "),

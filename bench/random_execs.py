@@ -3,7 +3,9 @@
 A disk gets some programs, under the names in PROGRAMS, beside its /etc/init. Each begins by telling where its stack is
 and the words of it, and then does steps as those of random_processes: it executes a program with arguments, calls
 break, pushes onto a stack that is to grow, looks at a word of its memory, or has children that do. A program may
-have a mode, a header or a size by which an exec of it is refused.
+have a mode, a header or a size by which an exec of it is refused. Some programs have a text, which those who execute them
+share: it begins with a jump to the data, and has words to look at and a routine. Programs are removed, written, linked and
+made sticky while others execute them.
 """
 import struct
 
@@ -11,11 +13,14 @@ from random_disk import Inode, in_blocks
 from random_processes import FD, NAMES, TELL, Chooser, Code, Does, Forks, Indirectly, Program, WaitsForAll, assembled
 from random_program import TOP, TRAP, Call
 
-OPEN, CLOSE, EXEC, BREAK, GETUID, GETGID = 5, 6, 11, 17, 24, 47
+OPEN, CLOSE, CREAT, LINK, UNLINK, EXEC, CHMOD, BREAK, GETUID, GETGID = 5, 6, 8, 9, 10, 11, 15, 17, 24, 47
 NAMES.update({EXEC: "exec", BREAK: "break"})
 PROGRAMS = ("/b0", "/b1", "/u/b2", "/b3")
 MODES = (0o100755,) * 8 + (0o100111, 0o100001, 0o100644, 0o104755, 0o102755, 0o106711, 0o110755)
 MAGICS = (0o407,) * 24 + (0o410,) * 4 + (0o411, 0o412, 0, 0o406)
+TEXTS = (20, 64, 65, 128, 130, 500, 513, 2000, 5000, 8191, 8192, 8193, 16384, 20000, 30001)
+ROUTINE = 4  # where the routine of a text is, behind the jump
+STICKY_MODES = (0o101755, 0o101777, 0o100755, 0o100777, 0o100711, 0o101700)
 BYTES = (0, 0, 0, 0, 1, 63, 64, 65, 500, 2000, 5000, 10000, 20000, 40000, 57000, 58000, 65535)
 BREAKS = (0o177700, 0o177777, 0o177701, 0o160000, 0o160001, 0o140000, 0o140001, 0o20000, 0o20001, 0o10000)
 STACKS = (64256, 64255, 64257, 64194, 64192, 64000, 63000, 62976, 60000, 57346, 57344, 50000, 40000, 20000, 10000, 9410,
@@ -99,13 +104,14 @@ TELLS_STACK = Code(0o010600, *TELL.words, 0o010604, 0o012703, 8, 0o004737, "word
 class ExecChooser(Chooser):
     """Chooses steps of programs that execute one another."""
 
-    def __init__(self, rng, tree, names):
+    def __init__(self, rng, tree, names, text=0):
         super().__init__(rng, tree)
-        self.programs = names or ["/b0"]
+        self.programs, self.text = names or ["/b0"], text
 
     def step(self, depth):
-        own = ((self.executes, 6), (self.breaks, 9), (self.pushes, 6), (self.executing_child, 5 if depth < 1 else 0),
-               (self.looks, 2), (self.opens_program, 1), (self.asks_ids, 1))
+        own = ((self.executes, 9), (self.breaks, 6), (self.pushes, 5), (self.executing_child, 5 if depth < 1 else 0),
+               (self.looks, 2), (self.looks_at_text, 3 if self.text else 0), (self.opens_program, 1),
+               (self.changes_program, 3), (self.asks_ids, 1))
         if self.odd(0.35):
             return super().step(depth)
         return self.rng.choices([kind for kind, _ in own], [weight for _, weight in own])[0](depth)
@@ -157,12 +163,26 @@ class ExecChooser(Chooser):
         closes = [Code(0o103401, TRAP | CLOSE)] if self.odd(0.5) else []     # BCS .+4; close
         return [Does(Call(OPEN, (name, 0), 0)), *closes]
 
+    def looks_at_text(self, _):
+        """A word of the text, or its routine."""
+        if self.odd(0.3):
+            return [Code(0o004737, ROUTINE, *TELL.words)]                    # JSR PC,@#routine
+        at = self.rng.choice((self.rng.randrange(self.text // 2) * 2, (self.text - 1) // 2 * 2, (self.text - 1) // 64 * 64 + 62))
+        return [Code(0o013700, at, *TELL.words)]                             # MOV @#at,R0
+
+    def changes_program(self, _):
+        name = self.rng.choice(self.programs)
+        kinds = (Call(UNLINK, (name, 0)), Call(CREAT, (name, 0), 0o755, keep=True), Call(OPEN, (name, 0), self.rng.choice((1, 2)), keep=True),
+                 Call(CHMOD, (name, 0), self.rng.choice(STICKY_MODES)), Call(CHMOD, (name, 0), self.rng.choice(STICKY_MODES)),
+                 Call(LINK, (name, 0), ("/u/b9", 0)), Call(LINK, ("/u/b9", 0), (name, 0)), Call(UNLINK, ("/u/b9", 0)))
+        return [Does(self.rng.choice(kinds))]
+
     def asks_ids(self, _):
         return [Does(Call(self.rng.choice((GETUID, GETGID))))]
 
 
-def program_of(rng, tree, names, first, is_init):
-    chooser = ExecChooser(rng, tree, names)
+def program_of(rng, tree, names, first, is_init, text=0):
+    chooser = ExecChooser(rng, tree, names, text)
     ending = [WaitsForAll()] if rng.random() < 0.4 else []
     ending += chooser.exits() if not is_init and rng.random() < 0.7 else []
     steps, most = [], rng.choice((400, 700, 1000, 2000))
@@ -175,13 +195,26 @@ def program_of(rng, tree, names, first, is_init):
         program = longer
 
 
+def data_at(text):
+    """The address of the data behind a text of so many bytes."""
+    return 8192 * ((text + 8191) // 8192)
+
+
+def shared_file_of(rng, program, text):
+    """The file of a program with a text of so many bytes."""
+    body = assembled(program, data_at(text))
+    head = struct.pack("<4H", 0o000137, data_at(text), 0o012700, rng.getrandbits(16)) + struct.pack("<H", 0o000207)
+    words = head + rng.randbytes(text)
+    return struct.pack("<8H", 0o410, text, len(body), rng.choice(BYTES[:11]), 0, 0, 0, 0) + words[:text] + body
+
+
 def file_of(rng, program, is_init):
     """The file of a program: with its header, and what may be odd about it."""
     body = assembled(program)
     if is_init:
         return struct.pack("<8H", 0o407, len(body), 0, rng.choice(BYTES[:10]), 0, 0, 0, 0) + body
     magic, bss = rng.choice(MAGICS), rng.choice(BYTES)
-    text = 0 if magic == 0o410 and rng.random() < 0.7 else rng.choice((len(body), len(body), len(body) // 2))
+    text = 0 if magic == 0o410 and rng.random() < 0.9 else rng.choice((len(body), len(body), len(body) // 2))
     if rng.random() < 0.04:
         text = 65535
     data = struct.pack("<8H", magic, text, max(len(body) - text, 0), bss, 0, 0, 0, 0) + body
@@ -193,7 +226,7 @@ class Programs:
 
     def __init__(self, rng, tree):
         self.rng, self.names = rng, []
-        self.inodes = {}
+        self.inodes, self.texts = {}, {}
         for name in PROGRAMS:
             parent = tree.u if name.startswith("/u/") else 1
             taken = [text for _, text in tree.entries[parent]]
@@ -202,18 +235,22 @@ class Programs:
                 continue
             ino = tree.add(parent, label, Inode(rng.choice(MODES)))
             inode = tree.inodes[ino]
+            self.texts[name] = rng.choice(TEXTS) if rng.random() < 0.75 else 0
+            inode.mode |= rng.choice((0, 0, 0o1000))
             inode.nlink = rng.choice((0, 1, 1, 1, 1, 1, 1))
             inode.owner, inode.group = rng.choice((0, 0, 1, 7)), rng.choice((0, 7))
             self.names.append(name)
             self.inodes[name] = ino
         console = [Does(Call(OPEN, ("/dev/tty8", 0), 2), 0)]
         self.init = program_of(rng, tree, self.names, console, True)
-        self.others = {name: program_of(rng, tree, self.names, [TELLS_STACK], False) for name in self.names}
+        self.others = {name: program_of(rng, tree, self.names, [TELLS_STACK], False, self.texts[name])
+                       for name in self.names}
 
     def put(self, tree, rng):
         """Gives the inodes their bytes, of which a block may be a hole."""
         for name, program in self.others.items():
-            inode, data = tree.inodes[self.inodes[name]], file_of(rng, program, False)
+            inode, text = tree.inodes[self.inodes[name]], self.texts[name]
+            data = shared_file_of(rng, program, text) if text else file_of(rng, program, False)
             inode.size, inode.blocks = len(data), in_blocks(data)
             if max(inode.blocks, default=0) > 7:
                 inode.mode |= 0o10000

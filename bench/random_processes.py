@@ -197,9 +197,10 @@ def put_steps(w, steps):
         step.put(w)
 
 
-def assembled(program):
-    """The bytes of the program."""
+def assembled(program, base=0):
+    """The bytes of the program, of which the first is at an address."""
     w = Words()
+    w.put(*[0] * (base // 2))
     w.put(0o000137, "start")                                         # JMP @#start
     w.label("count")
     w.put(0)
@@ -225,7 +226,7 @@ def assembled(program):
     w.put(*[0o000777] * 5)                                           # BR .
     w.label("end")
     w.words = [with_skip(w, word) for word in w.words]
-    return w.bytes()
+    return w.bytes()[base:]
 
 
 def init_of(program):

@@ -8,15 +8,14 @@ use Rattle.pick_rules.specs.Effects.{Fork}
 use Rattle.pick_rules.specs.Lawful.{Seen}
 use Rattle.image_keep.specs.Kept.{clicks_of}
 use Rattle.log_laws.proofs.Fitting.{Apt}
-use Rattle.log_laws.proofs.Seats.{Seats, with_seat, InCall, own}
-use Rattle.log_laws.proofs.Births.{free_seat, fork_apt}
+use Rattle.log_laws.proofs.Seats.{Seats, InCall}
+use Rattle.log_laws.proofs.Births.{free_seat, seated_child, fork_apt}
 use Rattle.sys_procs.specs.Process.{Process, member_of}
 use Rattle.sys_procs.specs.TextTable.{Text}
 use Rattle.sys_procs.specs.World.{Clock, World, process_of, change, members}
 use Rattle.sys_procs.specs.Texts.{joined_by_child}
-use Rattle.sys_procs.specs.Comes.{Comes, gives, does}
-use Rattle.sys_procs.specs.Fork.{copied, past_word, next_pid, with_child, fork_into, fork_one}
-use Rattle.abstract_unix.proofs.Sitting.{seat_of, seats_in, seats_here, seat_in, runner_seat, runner_text, put_in, kept_in}
+use Rattle.sys_procs.specs.Fork.{copied, past_word, next_pid, fork_into, fork_one}
+use Rattle.abstract_unix.proofs.Sitting.{seat_for, seat_of, seats_in, seats_here, seat_in, users_of_child, runner_seat, put_in, kept_in}
 use Rattle.abstract_unix.proofs.Rows.{FineComes, Calling, fails_fine}
 
 -- who is in a slot, by its process
@@ -46,32 +45,28 @@ module _ (s : ℕ) (seen : Seen) where
   unfolding Apt
   into_fine w None i e =
       fails_fine s seen (change w s past_word) EAGAIN (kept_in w.processes w.clock w.texts w.limit s false seen _ i refl refl refl refl)
-  into_fine w (Some c) i e = subst (λ text. FineComes w.limit s seen (forks_by text)) (sym alone) (record {
+  into_fine w (Some c) i e = record {
     fine = fork_apt _ s v seen c w [] i (sym (free_is w.processes w.clock w.texts w.limit) ∙ e) least
-        (λ now j. kept_in (set w.processes c (Some (copied (process_of w s) (next_pid w)))) w.clock w.texts w.limit s false now _ (grown now j) refl refl refl refl);
-  })
+        (λ now j. kept_in (set w.processes c (Some (copied (process_of w s) (next_pid w)))) w.clock texts w.limit s false now _ (grown now j) refl refl refl refl);
+  }
     where
-      -- by the text that the child shares
-      forks_by : Option ℕ → Comes
-      forks_by text =
-          let child : World = with_child w s c (next_pid w) in
-          does (Fork s c w) (gives (change (record child { texts = joined_by_child w.texts text }) s past_word) s (next_pid w))
-
-      alone : (process_of w s).text ≡ None
-      alone = runner_text w.processes w.clock w.texts w.limit s seen.board i.turn ∙ (own s s (seats_here w) seen.board i.agrees i.turn).bare
-
       v : Seats
       v = seats_here w
+
+      texts : List (Option Text)
+      texts = joined_by_child w.texts (process_of w s).text
 
       least : 1 ≤ i.turn.seat.size
       least =
           let size : clicks_of (process_of w s).u ≡ i.turn.seat.size = ap (λ x. x.size) (runner_seat w.processes w.clock w.texts w.limit s seen.board i.turn) in
           omega (arith, size)
 
-      grown : (now : Seen) → InCall s false (with_seat v c (Some i.turn.seat)) now
-          → InCall s false (seats_in (set w.processes c (Some (copied (process_of w s) (next_pid w)))) w.clock w.texts w.limit) now
+      grown : (now : Seen) → InCall s false (seated_child v c i.turn.seat) now
+          → InCall s false (seats_in (set w.processes c (Some (copied (process_of w s) (next_pid w)))) w.clock texts w.limit) now
       grown now j = subst (λ x. InCall s false x now)
-          (ap (λ seat. with_seat v c (Some seat)) (sym (runner_seat w.processes w.clock w.texts w.limit s seen.board i.turn)) ∙ sym (put_in w.processes w.clock w.texts w.limit c _)) j
+          (ap (λ seat. seated_child v c seat) (sym (runner_seat w.processes w.clock w.texts w.limit s seen.board i.turn))
+          ∙ ap (λ us. record v { slots = set v.slots c (Some (seat_for (process_of w s))); texts = us }) (sym (users_of_child w.texts (process_of w s).text))
+          ∙ sym (put_in w.processes w.clock texts w.limit c _)) j
 
   pub fork_fine : (w : World) → Calling s w seen → FineComes w.limit s seen (fork_one w s)
   unfolding fork_one

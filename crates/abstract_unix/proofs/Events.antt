@@ -7,10 +7,10 @@ use Rattle.pick_rules.specs.Board.{Board}
 use Rattle.pick_rules.specs.Apply.{applied}
 use Rattle.v6_base.specs.declared.entry.PanicKind.{PanicKind}
 use Rattle.v6_base.specs.declared.entry.PanicKind.TheVariants as panic
-use Rattle.pick_rules.specs.Effects.{Effect, Show, Size, Fork, Text, Image, Exit, Why, Panicked, Unbuilt, kind_of, came}
+use Rattle.pick_rules.specs.Effects.{Effect, Show, Size, Fork, Text, Image, Exit, came}
 use Rattle.pick_rules.specs.Logged.{Stop, Logged, log_one, logged, left_by}
 use Rattle.pick_rules.specs.Lawful.{Over, Seen, FitAll, seen_after}
-use Rattle.log_laws.proofs.Fitting.{fit_item, seen_append, seen_items, Apt, EndsBy, Ends, Fitted, apt_fits}
+use Rattle.log_laws.proofs.Fitting.{fit_item, seen_append, seen_items, Apt, Ends, Fitted, apt_fits}
 use Rattle.log_laws.proofs.Seats.{RunnerAt, Paused, Holds}
 use Rattle.log_laws.proofs.Settles.{Settled, IsSettled, settling}
 use Rattle.swap_sched.specs.Pass.{pass, stop_over}
@@ -23,7 +23,7 @@ use Rattle.abstract_unix.specs.declared.ends.Ends.TheVariants.{AtEnd}
 use Rattle.abstract_unix.specs.declared.turned.Unbuilt.TheVariants.{At}
 use Rattle.abstract_unix.specs.Unix.{Unix, System, process_of}
 use Rattle.abstract_unix.specs.Steps.{Steps}
-use Rattle.abstract_unix.specs.Turn.{Turn, happens, settled_after, end_effects, ending_at, unmet, ending_by, settled_as, settled, turn_of, passes, pass_of, slot_of}
+use Rattle.abstract_unix.specs.Turn.{Turn, happens, settled_after, end_effects, ending_at, ending_by, settled_as, settled, turn_of, passes, pass_of, slot_of}
 use Rattle.abstract_unix.proofs.Sitting.{seats_of, all_sized}
 use Rattle.abstract_unix.proofs.Steps.{GoesOn, IsCalm, AptSteps}
 use Rattle.abstract_unix.proofs.Passing.{Passed, pass_passes}
@@ -128,12 +128,7 @@ event_by u v seen es a stop =
 stops : (pc : ℕ) (o : Option (Stop Unix)) (steps : Steps) → ending_by pc o steps.ending ≡ AtEnd
     → (o ≡ None) × (ending_at pc steps.ending ≡ AtEnd)
 stops pc None steps e = (refl, e)
-stops pc (Some stop) steps e = absurd (never (kind_of stop.why) e)
-  where
-    never : (kind : PanicKind) → unmet pc kind ≡ AtEnd → ⊥
-    never panic.Swap e = cc e
-    never panic.Zombie e = cc e
-    never panic.Text e = cc e
+stops pc (Some stop) steps e = absurd (cc e)
 
 -- a turn that ends in a panic, which is the last line
 self_calm : (pc : ℕ) (ending : Ending) (kind : PanicKind) → IsCalm ending → ending_at pc ending ≡ ends.Panic kind → ⊥
@@ -147,11 +142,7 @@ self_calm pc (ending.Panic other) kind calm e = calm
 panics : (Q : Seen → Type 0) (pc : ℕ) (o : Option (Stop Unix)) (ending : Ending) (kind : PanicKind) (seen : Seen) → IsCalm ending
     → ending_by pc o ending ≡ ends.Panic kind → Ends Q o seen → seen.stage ≡ Over
 panics Q pc None ending kind seen calm e q = absurd (self_calm pc ending kind calm e)
-panics Q pc (Some stop) ending kind seen calm e q = by stop.why e q
-  where
-    by : (why : Why) → unmet pc (kind_of why) ≡ ends.Panic kind → EndsBy why seen → seen.stage ≡ Over
-    by (Panicked k) e q = q
-    by (Unbuilt k) e q = absurd (let f : ends.NotBuilt (At pc) ≡ ends.Panic kind = ap (unmet pc) (sym q) ∙ e in cc f)
+panics Q pc (Some stop) ending kind seen calm e q = q
 
 turned_fine : (s : ℕ) (u : Unix) (seen : Seen) (steps : Steps) → AptSteps s seen steps
     → FineTurn seen (settled_after (turn_of (system_at u seen) s steps))

@@ -1,6 +1,9 @@
 -- exec(II), break(II) and the growth of a stack: their effects are apt.
-use Rattle.std.proofs.Common.{◌≡◌, ◌∙◌, ◌≤◌, ◌+◌, ◌-◌, ◌*◌, ◌/◌, ◌==◌, ◌&&◌, ◌||◌, ℕ, not, nat_lt, nat_le, Bool, true, false, cond, List, [], map, Option, Some, None, option_map, Result, Ok, Err, set, bit_and, refl, sym, ap, subst, arith}
-use Rattle.std.proofs.lemmas.Bool.{ltb-false}
+use Rattle.std.proofs.Common.{◌≡◌, ◌≢◌, ◌∙◌, ◌≤◌, ◌<◌, ◌+◌, ◌-◌, ◌*◌, ◌/◌, ◌==◌, ◌&&◌, ◌||◌, ℕ, not, nat_lt, nat_le, Bool, true, false, cond, List, [], ◌∷◌, map, length, Option, Some, None, option_map, Result, Ok, Err, is_none, position, unwrap_or, get_or, get_or-set_same, set, set-set, bit_and, refl, sym, ap, subst, arith}
+use Rattle.buf_cache.specs.Blocks.{patched}
+use Rattle.std.proofs.lemmas.Bool.{ltb-false, eqb-false}
+use Rattle.std.proofs.lemmas.List.{length-map, map-set, set-get_or}
+use Rattle.std.proofs.lemmas.List.Quantifiers.{position-Some}
 use Rattle.v6_base.specs.Image.{Image, nseg}
 use Rattle.v6_base.specs.declared.errno.Errno.{Errno}
 use Rattle.v6_base.specs.declared.errno.Errno.TheVariants.{ENOEXEC, ENOMEM, EACCES, ETXTBSY}
@@ -12,25 +15,27 @@ use Rattle.fs_laws.specs.Pieces.{Moving}
 use Rattle.fs_tree.specs.declared.user.Want.TheVariants.{Execute}
 use Rattle.fs_tree.specs.Permission.{permission}
 use Rattle.fs_tree.specs.Name.{name_at}
-use Rattle.fs_tree.specs.Finding.{Finding, find_in}
+use Rattle.fs_tree.specs.Finding.{Finding, find_in, with_reference}
 use Rattle.aout_head.specs.Header.{Header, header_of, plan_of}
 use Rattle.aout_head.specs.declared.parts.Plan.{Plan}
 use Rattle.pick_rules.specs.Board.{placed}
-use Rattle.pick_rules.specs.Effects.{Effect, lifted}
+use Rattle.pick_rules.specs.Effects.{Effect, lifted, came}
 use Rattle.pick_rules.specs.Effects as effect
 use Rattle.pick_rules.specs.Fits.{IsSize}
-use Rattle.pick_rules.specs.Lawful.{Seen}
+use Rattle.pick_rules.specs.Lawful.{Seen, seen_after}
 use Rattle.pick_rules.proofs.Shapes.{shape_at}
 use Rattle.log_laws.proofs.Fitting.{Apt}
-use Rattle.log_laws.proofs.Seats.{Seats, Same, InCall, own}
+use Rattle.log_laws.proofs.Seats.{Seat, Seats, Same, InCall, own}
 use Rattle.log_laws.proofs.Deaths.{with_own}
-use Rattle.log_laws.proofs.Images.{sized, size_apt, exec_apt, text_apt}
+use Rattle.log_laws.proofs.Images.{sized, size_apt, with_text_of, InExec, bare_fits, bare_in, share_apt, text_apt, image_apt}
+use Rattle.log_laws.proofs.Users.{joined_users, free_users}
 use Rattle.seg_regs.specs.Sizes.{is_refused}
 use Rattle.sys_procs.specs.declared.program.Program.{Program}
-use Rattle.sys_procs.specs.Process.{Process, image_of}
-use Rattle.sys_procs.specs.TextTable.{entry_of}
-use Rattle.sys_procs.specs.Texts.{xfree, xalloc, xalloc_by, makes_text}
-use Rattle.sys_procs.specs.World.{World, process_of, with_inodes, let_go}
+use Rattle.u_area.specs.declared.area.UArea.{UArea}
+use Rattle.sys_procs.specs.Process.{Process, no_process, image_of}
+use Rattle.sys_procs.specs.TextTable.{Text, no_text, text_of, with_text, is_text_of, entry_of}
+use Rattle.sys_procs.specs.Texts.{xfree, xalloc, xalloc_by, new_text, with_entry, shares_text, makes_text, leaves_text, is_sticky}
+use Rattle.sys_procs.specs.World.{World, process_of, change, with_inodes, let_go}
 use Rattle.sys_procs.specs.Comes.{Comes, fails, does, logs}
 use Rattle.sys_procs.specs.Tests.{must, user_of, node_at}
 use Rattle.sys_procs.specs.Stack.{arguments, first_stack, stack_clicks}
@@ -38,9 +43,10 @@ use Rattle.sys_procs.specs.Break as break
 use Rattle.sys_procs.specs.ExecFile as exec
 use Rattle.abstract_unix.specs.Unix.{Unix}
 use Rattle.abstract_unix.specs.Calls.{world_of, with_world, grows, grown_by, grows_to}
-use Rattle.abstract_unix.proofs.Sitting.{seat_for, seats_in, seats_under, seats_here, runner_seat, runner_text, put_in, no_entry}
+use Rattle.abstract_unix.proofs.Sitting.{seat_for, seat_of, seats_in, seats_under, seats_here, users, users_in, users_at, users_joined, free_users_is, found_in, runner_seat, runner_alive, runner_text, put_in}
 use Rattle.abstract_unix.proofs.Steps.{AptSteps, nothing_built, apt_lifted, trapped}
-use Rattle.abstract_unix.proofs.Rows.{FineComes, Calling, fails_fine}
+use Rattle.abstract_unix.proofs.Rows.{FineComes, Calling, fails_fine, logged_fine}
+use Rattle.abstract_unix.proofs.Exiting.{same_limit, none_left, calling_left, fits_left}
 
 -- sizes that aren't refused are those of an image
 second_false : (x y : Bool) → (x || y) ≡ false → y ≡ false
@@ -232,98 +238,317 @@ owner_if x node p = cond x (record p { u = record p.u { uid = node.uid }; row = 
 abbrev group_if : Bool → Node → Process → Process
 group_if x node p = cond x (record p { u = record p.u { gid = node.gid } }) p
 
--- A program, by a process that shares no text.
-module _ (s : ℕ) (seen : Seen) (w : World) (program : Program) (i : Calling s w seen) where
-  abbrev plan : Plan
+-- The new image comes, when the old one is given back: whichever text the process has then.
+module _ (s : ℕ) (w : World) (u : UArea) (program : Program) (seats : Seats) (seen : Seen) (i : InExec s seats seen) (sizes : is_refused (exec.text_clicks program.plan) (exec.data_clicks program.plan) 20 w.limit ≡ false) (limit : seats.most ≡ w.limit)
+    (calm : not (u.pending == 0) ≡ false) (alive : (process_of w s).is_zombie ≡ false) (text : (process_of w s).text ≡ i.turn.seat.text)
+    (others : seats_here w ≡ record seats { slots = set seats.slots s (Some (seat_for (process_of w s))) }) where
+  abbrev pub plan : Plan
   plan = program.plan
 
-  abbrev old : Process
-  old = process_of w s
+  abbrev pub clicks : ℕ
+  clicks = exec.image_clicks plan
 
-  abbrev seats : Seats
-  seats = v s seen w i
-
-  no_text : i.turn.seat.text ≡ None
-  no_text = (its s seen w i).bare
-
-  alone : old.text ≡ None
-  alone = runner_text w.processes w.clock w.texts w.limit s seen.board i.turn ∙ no_text
-
-  -- what comes after its text
-  abbrev next : World → Bool → Comes
-  next placed is_new = does (effect.Image s (exec.image_clicks plan) placed) (exec.executes (exec.reads_text is_new placed s program) s program)
-
-  abbrev plain : Comes
-  plain = logs (line.Bare s) (next w false)
-
-  abbrev sharing : Comes
-  sharing =
-      logs (line.Bare s) (does (effect.Text s (exec.text_clicks plan) w) (next (makes_text w s program.ino (exec.text_clicks plan)) true))
-
-  loads_is : exec.loads w s program
-      ≡ logs (line.Bare s) (xalloc w s program.ino (exec.text_clicks plan) next)
-  loads_is = ap (λ text. xfree w s text (λ left. logs (line.Bare s) (xalloc left s program.ino (exec.text_clicks plan) next))) alone
-
-  loads_plain : (exec.text_clicks plan == 0) ≡ true → exec.loads w s program ≡ plain
-  loads_plain none =
-      loads_is
-      ∙ ap (λ x. logs (line.Bare s) (cond x (next w false) (xalloc_by w s program.ino (exec.text_clicks plan) (entry_of w.texts program.ino) next))) none
-
-  loads_shares : (exec.text_clicks plan == 0) ≡ false → exec.loads w s program ≡ sharing
-  loads_shares some =
-      loads_is
-      ∙ ap (λ x. logs (line.Bare s) (cond x (next w false) (xalloc_by w s program.ino (exec.text_clicks plan) (entry_of w.texts program.ino) next))) some
-      ∙ ap (λ o. logs (line.Bare s) (xalloc_by w s program.ino (exec.text_clicks plan) o next)) (no_entry program.ino w.texts i.agrees.texts)
+  image_size : IsSize seen.board clicks
+  image_size =
+      let few : 16 + exec.data_clicks plan + 20 ≤ w.limit = few_clicks (exec.text_clicks plan) (exec.data_clicks plan) 20 w.limit sizes in
+      let most = i.most in
+      record { least = omega arith; most = omega (arith, few, most, limit) }
 
   abbrev begun_by : Process → List ℕ → Process
   begun_by p read = record p {
-    u = exec.begun_area p.u program;
+    u = exec.begun_area u program;
     «data» = read;
     stack = first_stack program.arguments;
   }
 
-  seat_begins : (node : Node) (read : List ℕ) → seat_for (exec.begins old node program read) ≡ sized (seat_for old) (exec.image_clicks plan)
-  seat_begins node read = by (not (bit_and node.mode ISGID == 0)) (not (bit_and node.mode ISUID == 0) && not (old.u.uid == 0))
+  seat_begins : (p : Process) (node : Node) (read : List ℕ)
+      → seat_for (exec.begins u p node program read) ≡ record { dead = p.is_zombie; calling = not (u.pending == 0); text = p.text; size = clicks }
+  seat_begins p node read = by (not (bit_and node.mode ISGID == 0)) (not (bit_and node.mode ISUID == 0) && not (u.uid == 0))
     where
-      by : (x y : Bool) → seat_for (group_if x node (owner_if y node (begun_by old read))) ≡ sized (seat_for old) (exec.image_clicks plan)
+      by : (x y : Bool) → seat_for (group_if x node (owner_if y node (begun_by p read))) ≡ record { dead = p.is_zombie; calling = not (u.pending == 0); text = p.text; size = clicks }
       by true true = refl
       by true false = refl
       by false true = refl
       by false false = refl
 
-  plain_fine : is_refused (exec.text_clicks plan) (exec.data_clicks plan) 20 w.limit ≡ false → FineComes w.limit s seen plain
-  plain_fine sizes = record {
-    fine = exec_apt Last s seats seen clicks w [] i no_text (is_size s seen w i clicks (omega arith) (omega (arith, few)))
-        (λ now j. nil_apt World Last now (resized s seen w i q clicks (seat_begins (node_at w program.ino) m.memory.data) now j));
-  }
+  -- the world then, whatever has become of inodes and of the bytes of texts
+  module _ (x : World) (same : x.processes ≡ w.processes) (clock : x.clock ≡ w.clock) (texts : users x.texts ≡ users w.texts) (most : x.limit ≡ w.limit) where
+    abbrev m : Moving Image
+    m = exec.data_read x s program
+
+    abbrev begun : Process
+    begun = exec.begins u (process_of x s) (node_at x program.ino) program m.memory.data
+
+    seat_is : seat_for begun ≡ sized i.turn.seat clicks
+    seat_is =
+        seat_begins (process_of x s) (node_at x program.ino) m.memory.data
+        ∙ ap (λ (ps : List (Option Process)). record {
+          dead = (found_in ps s).is_zombie;
+          calling = not (u.pending == 0);
+          text = (found_in ps s).text;
+          size = clicks;
+        }) same
+        ∙ (λ j. record { dead = (alive ∙ sym i.turn.alive) j; calling = (calm ∙ sym i.calls) j; text = text j; size = clicks })
+
+    seats_are : seats_here (exec.executes x s u program).state ≡ with_own s seats (sized i.turn.seat clicks)
+    seats_are =
+        put_in x.processes x.clock x.texts x.limit s begun
+        ∙ (λ j. record { slots = set (map seat_of (same j)) s (Some (seat_is j)); time = (clock j).time; ticks = (clock j).ticks; texts = texts j; most = most j })
+        ∙ ap (λ (v : Seats). record v { slots = set v.slots s (Some (sized i.turn.seat clicks)) }) others
+        ∙ ap (λ slots. record seats { slots = slots }) (set-set seats.slots s (Some (seat_for (process_of w s))) (Some (sized i.turn.seat clicks)))
+
+    pub image_fine : (before : World)
+        → Apt (InCall s false (seats_under w.limit (exec.executes x s u program).state)) seen
+        (effect.Image s clicks before ∷ (exec.executes x s u program).effects)
+    image_fine before =
+        image_apt s seats seen i (InCall s false (seats_under w.limit (exec.executes x s u program).state)) clicks before [] image_size
+        (λ now j. nil_apt World (InCall s false (seats_under w.limit (exec.executes x s u program).state)) now
+        (subst (λ v. InCall s false v now) (sym (ap (λ n. seats_under n (exec.executes x s u program).state) (sym most) ∙ seats_are)) j))
+
+-- What follows when a process has left its text.
+abbrev after_text_of : ℕ → World → Program → Comes
+after_text_of s left program =
+    logs (line.Bare s) (xalloc (change left s exec.bared) s program.ino (exec.text_clicks program.plan) (λ placed is_new.
+    does (effect.Image s (exec.image_clicks program.plan) placed) (exec.executes (exec.reads_text is_new placed s program) s (process_of left s).u program)))
+
+-- A program, by a process that has left its text.
+module _ (s : ℕ) (seen : Seen) (w : World) (program : Program) (i : Calling s w seen) (none : (process_of w s).text ≡ None)
+    (sizes : is_refused (exec.text_clicks program.plan) (exec.data_clicks program.plan) 20 w.limit ≡ false) where
+  abbrev its_area : UArea
+  its_area = (process_of w s).u
+
+  abbrev bared : World
+  bared = change w s exec.bared
+
+  abbrev after_bare : Seen
+  after_bare = seen_after seen (line.Bare s)
+
+  abbrev here : Seats
+  here = seats_here w
+
+  bare_text : i.turn.seat.text ≡ None
+  bare_text = sym (runner_text w.processes w.clock w.texts w.limit s seen.board i.turn) ∙ none
+
+  given_up : InExec s here after_bare
+  given_up = bare_in s here seen i bare_text
+
+  abbrev next : World → Bool → Comes
+  next placed is_new = does (effect.Image s (exec.image_clicks program.plan) placed) (exec.executes (exec.reads_text is_new placed s program) s its_area program)
+
+  inside : s < length w.processes
+  inside = subst (λ n. s < n) (sym i.agrees.seats ∙ length-map w.processes seat_of) i.turn.small
+
+  -- who is in the slot then, with this text
+  put_process : (q : Process) → found_in (set w.processes s (Some q)) s ≡ q
+  put_process q = ap (λ o. unwrap_or o no_process) (get_or-set_same w.processes s (Some q) None inside)
+
+  calm : not (its_area.pending == 0) ≡ false
+  calm = ap (λ (x : Seat). x.calling) (runner_seat w.processes w.clock w.texts w.limit s seen.board i.turn) ∙ i.calls
+
+  alive : (process_of w s).is_zombie ≡ false
+  alive = runner_alive w.processes w.clock w.texts w.limit s seen.board i.turn
+
+  most_is : here.most ≡ w.limit
+  most_is = refl
+
+  plain_apt : Apt (InCall s false (seats_under w.limit (next bared false).state)) seen (logs (line.Bare s) (next bared false)).effects
+  unfolding Apt came
+  plain_apt = (
+    bare_fits s here seen i bare_text,
+    image_fine s bared its_area program here after_bare given_up sizes refl calm
+        (ap (λ (q : Process). q.is_zombie) (put_process (exec.bared (process_of w s))) ∙ alive)
+        (ap (λ (q : Process). q.text) (put_process (exec.bared (process_of w s))) ∙ runner_text w.processes w.clock w.texts w.limit s after_bare.board given_up.turn)
+        (put_in w.processes w.clock w.texts w.limit s (exec.bared (process_of w s)) ∙ ap (λ (q : Process). record here { slots = set here.slots s (Some (seat_for q)) }) (sym (put_process (exec.bared (process_of w s)))))
+        bared refl refl refl refl bared,
+  )
+
+  -- it has no text then
+  its_bare : (j : InExec s here after_bare) → j.turn.seat.text ≡ None
+  its_bare j = sym (runner_text w.processes w.clock w.texts w.limit s after_bare.board j.turn) ∙ none
+
+  -- with a text that is there
+  module _ (k : ℕ) (there : entry_of w.texts program.ino ≡ Some k) where
+    abbrev after_share : Seen
+    after_share = seen_after after_bare (line.Share s k)
+
+    abbrev with_share : Seats
+    with_share = with_text_of s here given_up.turn.seat k (joined_users here.texts (Some k))
+
+    abbrev shared : World
+    shared = shares_text bared s k
+
+    is_some_text : (o : Option Text) → is_text_of program.ino o ≡ true → (text : Text) × (o ≡ Some text)
+    is_some_text None e = absurd (cc e)
+    is_some_text (Some text) e = (text, refl)
+
+    found : (text : Text) × (get_or w.texts k None ≡ Some text)
+    found = let one = position-Some (is_text_of program.ino) w.texts k None there in is_some_text (get_or w.texts k None) one.1
+
+    its_users : get_or here.texts k None ≡ Some found.0.users
+    its_users = users_at w.texts k ∙ ap users_in found.1
+
+    -- the slot is changed twice
+    two : set (set w.processes s (Some (exec.bared (process_of w s)))) s (Some (with_entry k (found_in (set w.processes s (Some (exec.bared (process_of w s)))) s)))
+        ≡ set w.processes s (Some (with_entry k (exec.bared (process_of w s))))
+    two =
+        set-set w.processes s (Some (exec.bared (process_of w s))) (Some (with_entry k (found_in (set w.processes s (Some (exec.bared (process_of w s)))) s)))
+        ∙ ap (λ (q : Process). set w.processes s (Some (with_entry k q))) (put_process (exec.bared (process_of w s)))
+
+    q : Process
+    q = with_entry k (exec.bared (process_of w s))
+
+    here_now : process_of shared s ≡ q
+    unfolding q
+    here_now = ap (λ (ps : List (Option Process)). found_in ps s) two ∙ put_process (with_entry k (exec.bared (process_of w s)))
+
+    sits_now : seats_here shared ≡ record with_share { slots = set with_share.slots s (Some (seat_for (process_of shared s))) }
+    unfolding q
+    sits_now =
+        (λ j. record { slots = map seat_of (two j); time = w.clock.time; ticks = w.clock.ticks; texts = users_joined w.texts k j; most = w.limit })
+        ∙ ap (λ slots. record with_share { slots = slots }) (map-set seat_of w.processes s (Some (with_entry k (exec.bared (process_of w s)))) ∙ sym (set-set here.slots s (Some (record given_up.turn.seat { text = Some k })) (Some (seat_for (with_entry k (exec.bared (process_of w s)))))))
+        ∙ ap (λ (p : Process). record with_share { slots = set with_share.slots s (Some (seat_for p)) }) (sym here_now)
+
+    share_fine : Apt (InCall s false (seats_under w.limit (next shared false).state)) seen
+        (logs (line.Bare s) (logs (line.Share s k) (next shared false))).effects
+    unfolding Apt came q
+    share_fine = (
+      bare_fits s here seen i bare_text,
+      share_apt s here after_bare given_up (its_bare given_up) (InCall s false (seats_under w.limit (next shared false).state)) k found.0.users (next shared false).effects its_users
+          (λ now j. image_fine s shared its_area program with_share now j sizes refl calm
+          (ap (λ (p : Process). p.is_zombie) here_now ∙ alive)
+          (ap (λ (p : Process). p.text) here_now ∙ its_entry now j)
+          sits_now shared refl refl refl refl shared),
+    )
+      where
+        its_entry : (now : Seen) → (j : InExec s with_share now) → Some k ≡ j.turn.seat.text
+        its_entry now j =
+            let at : Some (record given_up.turn.seat { text = Some k }) ≡ Some j.turn.seat =
+            sym (get_or-set_same here.slots s (Some (record given_up.turn.seat { text = Some k })) None (subst (λ n. s < n) (sym i.agrees.seats) i.turn.small)) ∙ j.turn.at in
+            seat_text (record given_up.turn.seat { text = Some k }) j.turn.seat at
+          where
+            seat_text : (x y : Seat) → Some x ≡ Some y → x.text ≡ y.text
+            seat_text x y e = let same : x ≡ y = cc e in ap (λ (z : Seat). z.text) same
+
+  -- with one that is made
+  module _ (size : ℕ) (k : ℕ) (free : free_users here.texts ≡ Some k) where
+    abbrev with_new : Seats
+    with_new = with_text_of s here given_up.turn.seat k (set here.texts k (Some 1))
+
+    forty : length w.texts ≡ 40
+    forty = sym (length-map w.texts users_in) ∙ i.agrees.forty
+
+    entry_is : position is_none w.texts ≡ Some k
+    entry_is = sym (free_users_is w.texts forty) ∙ free
+
+    low : k < length w.texts
+    low = let one = position-Some is_none w.texts k None entry_is in one.0
+
+    abbrev made_at : ℕ → World
+    made_at e = change (record bared { texts = with_text w.texts e (new_text program.ino size); inodes = with_reference w.inodes program.ino }) s (with_entry e)
+
+    made_is : makes_text bared s program.ino size ≡ made_at k
+    made_is = ap (λ o. made_at (unwrap_or o 40)) entry_is
+
+    two_made : (made_at k).processes ≡ set w.processes s (Some (with_entry k (exec.bared (process_of w s))))
+    two_made =
+        set-set w.processes s (Some (exec.bared (process_of w s))) (Some (with_entry k (found_in (set w.processes s (Some (exec.bared (process_of w s)))) s)))
+        ∙ ap (λ (p : Process). set w.processes s (Some (with_entry k p))) (put_process (exec.bared (process_of w s)))
+
+    made_here : process_of (made_at k) s ≡ with_entry k (exec.bared (process_of w s))
+    made_here = ap (λ (ps : List (Option Process)). found_in ps s) two_made ∙ put_process (with_entry k (exec.bared (process_of w s)))
+
+    users_made : users (with_text w.texts k (new_text program.ino size)) ≡ set here.texts k (Some 1)
+    users_made = map-set users_in w.texts k (Some (new_text program.ino size))
+
+    sits_made : seats_here (made_at k) ≡ record with_new { slots = set with_new.slots s (Some (seat_for (process_of (made_at k) s))) }
+    sits_made =
+        (λ j. record { slots = map seat_of (two_made j); time = w.clock.time; ticks = w.clock.ticks; texts = users_made j; most = w.limit })
+        ∙ ap (λ slots. record with_new { slots = slots }) (map-set seat_of w.processes s (Some (with_entry k (exec.bared (process_of w s)))) ∙ sym (set-set here.slots s (Some (record given_up.turn.seat { text = Some k })) (Some (seat_for (with_entry k (exec.bared (process_of w s)))))))
+        ∙ ap (λ (p : Process). record with_new { slots = set with_new.slots s (Some (seat_for p)) }) (sym made_here)
+
+    entry_now : exec.entry_in (made_at k) s ≡ k
+    entry_now = ap (λ (p : Process). unwrap_or p.text 40) made_here
+
+    there_now : get_or (made_at k).texts k None ≡ Some (new_text program.ino size)
+    there_now = get_or-set_same w.texts k (Some (new_text program.ino size)) None low
+
+    abbrev read_text : ℕ → Text
+    read_text e = record (text_of (made_at k).texts e) { bytes = patched 0 (exec.text_read (made_at k) program).memory (text_of (made_at k).texts e).bytes }
+
+    abbrev read_at : ℕ → List (Option Text)
+    read_at e = with_text (made_at k).texts e (read_text e)
+
+    users_read : users (exec.with_text_read (made_at k) s program).texts ≡ users (made_at k).texts
+    users_read =
+        ap (λ e. users (read_at e)) entry_now
+        ∙ map-set users_in (made_at k).texts k (Some (read_text k))
+        ∙ ap (set (users (made_at k).texts) k) (ap (λ o. Some (unwrap_or o no_text).users) there_now ∙ sym (users_at (made_at k).texts k ∙ ap users_in there_now))
+        ∙ set-get_or (users (made_at k).texts) k None
+
+    new_fine : (now : Seen) → InExec s with_new now
+        → Apt (InCall s false (seats_under w.limit (next (made_at k) true).state)) now (next (made_at k) true).effects
+    new_fine now j =
+        image_fine s (made_at k) its_area program with_new now j sizes refl calm
+        (ap (λ (p : Process). p.is_zombie) made_here ∙ alive)
+        (ap (λ (p : Process). p.text) made_here ∙ its_entry now j)
+        sits_made (exec.with_text_read (made_at k) s program) refl refl users_read refl (made_at k)
+      where
+        seat_text : (x y : Seat) → Some x ≡ Some y → x.text ≡ y.text
+        seat_text x y e = let same : x ≡ y = cc e in ap (λ (z : Seat). z.text) same
+
+        its_entry : (now : Seen) → (j : InExec s with_new now) → Some k ≡ j.turn.seat.text
+        its_entry now j =
+            seat_text (record given_up.turn.seat { text = Some k }) j.turn.seat
+            (sym (get_or-set_same here.slots s (Some (record given_up.turn.seat { text = Some k })) None (subst (λ n. s < n) (sym i.agrees.seats) i.turn.small)) ∙ j.turn.at)
+
+  text_fine : (size : ℕ) → 1 ≤ size → size ≤ w.limit
+      → Apt (InCall s false (seats_under w.limit (next (makes_text bared s program.ino size) true).state)) seen
+      (logs (line.Bare s) (does (effect.Text s size bared) (next (makes_text bared s program.ino size) true))).effects
+  unfolding Apt came
+  text_fine size some few = (
+    bare_fits s here seen i bare_text,
+    text_apt s here after_bare given_up (its_bare given_up) (InCall s false (seats_under w.limit (next (makes_text bared s program.ino size) true).state)) size bared
+        (next (makes_text bared s program.ino size) true).effects some (let most = given_up.most in omega (arith, few, most))
+        (λ now k free j. subst (λ (made : World). Apt (InCall s false (seats_under w.limit (next made true).state)) now (next made true).effects) (sym (made_is size k free)) (new_fine size k free now j)),
+  )
+
+  few_text : exec.text_clicks program.plan ≤ w.limit
+  few_text =
+      let l : exec.text_clicks program.plan + exec.data_clicks program.plan + 20 + 16 ≤ w.limit =
+      ltb-false w.limit (exec.text_clicks program.plan + exec.data_clicks program.plan + 20 + 16)
+      (second_false (nat_lt 8 (nseg (exec.text_clicks program.plan) + nseg (exec.data_clicks program.plan) + nseg 20)) (nat_lt w.limit (exec.text_clicks program.plan + exec.data_clicks program.plan + 20 + 16)) sizes) in
+      omega (arith, l)
+
+  rest_fine : FineComes w.limit s seen (after_text_of s w program)
+  rest_fine = by (exec.text_clicks program.plan == 0) refl
     where
-      clicks : ℕ
-      clicks = exec.image_clicks plan
+      by_entry : (o : Option ℕ) → entry_of w.texts program.ino ≡ o → 1 ≤ exec.text_clicks program.plan
+          → FineComes w.limit s seen (logs (line.Bare s) (xalloc_by bared s program.ino (exec.text_clicks program.plan) o next))
+      by_entry None e some = record { fine = text_fine (exec.text_clicks program.plan) some few_text }
+      by_entry (Some k) e some = record { fine = share_fine k e }
 
-      m : Moving Image
-      m = exec.data_read w s program
+      by : (x : Bool) → (exec.text_clicks program.plan == 0) ≡ x
+          → FineComes w.limit s seen (logs (line.Bare s) (cond x (next bared false) (xalloc_by bared s program.ino (exec.text_clicks program.plan) (entry_of w.texts program.ino) next)))
+      by true e = record { fine = plain_apt }
+      by false e = by_entry (entry_of w.texts program.ino) refl (some_by (exec.text_clicks program.plan) e)
+        where
+          some_by : (n : ℕ) → (n == 0) ≡ false → 1 ≤ n
+          some_by n f = let ne : n ≢ 0 = eqb-false n 0 f in omega (arith, ne)
 
-      q : Process
-      q = exec.begins old (node_at w program.ino) program m.memory.data
-
-      Last : Seen → Type 0
-      Last now = InCall s false (seats_in (set w.processes s (Some q)) w.clock w.texts w.limit) now
-
-      few : 16 + exec.data_clicks plan + 20 ≤ w.limit
-      few = few_clicks (exec.text_clicks plan) (exec.data_clicks plan) 20 w.limit sizes
-
-  sharing_fine : FineComes w.limit s seen sharing
-  sharing_fine = record {
-    fine = text_apt (InCall s false (seats_under w.limit sharing.state)) s seats seen (exec.text_clicks plan) w
-        (next (makes_text w s program.ino (exec.text_clicks plan)) true).effects i no_text;
-  }
-
-  pub loads_fine : is_refused (exec.text_clicks plan) (exec.data_clicks plan) 20 w.limit ≡ false → FineComes w.limit s seen (exec.loads w s program)
-  loads_fine sizes = by (exec.text_clicks plan == 0) refl
-    where
-      by : (x : Bool) → (exec.text_clicks plan == 0) ≡ x → FineComes w.limit s seen (exec.loads w s program)
-      by true none = subst (FineComes w.limit s seen) (sym (loads_plain none)) (plain_fine sizes)
-      by false some = subst (FineComes w.limit s seen) (sym (loads_shares some)) sharing_fine
+-- A program, by a process with a text or without one.
+loads_fine : (s : ℕ) (seen : Seen) (w : World) (program : Program) (i : Calling s w seen)
+    → is_refused (exec.text_clicks program.plan) (exec.data_clicks program.plan) 20 w.limit ≡ false → FineComes w.limit s seen (exec.loads w s program)
+loads_fine s seen w program i sizes = by (process_of w s).text refl
+  where
+    by : (o : Option ℕ) → (process_of w s).text ≡ o → FineComes w.limit s seen (xfree w s o (λ left. after_text_of s left program))
+    by None e = rest_fine s seen w program i e sizes
+    by (Some k) e =
+        let left : World = leaves_text w s k (is_sticky w k) in
+        let limit : left.limit ≡ w.limit = same_limit s w seen i k in
+        logged_fine w.limit s seen (line.Leave s k (is_sticky w k)) (after_text_of s left program) (fits_left s w seen i k e)
+        (subst (λ n. FineComes n s (seen_after seen (line.Leave s k (is_sticky w k))) (after_text_of s left program)) limit
+        (rest_fine s (seen_after seen (line.Leave s k (is_sticky w k))) left program (calling_left s w seen i k) (none_left s w seen i k)
+        (subst (λ n. is_refused (exec.text_clicks program.plan) (exec.data_clicks program.plan) 20 n ≡ false) (sym limit) sizes)))
 
 module _ (s : ℕ) (seen : Seen) where
   pub exec_fine : (w : World) (name list : ℕ) → Calling s w seen → FineComes w.limit s seen (exec.exec_file w s name list)

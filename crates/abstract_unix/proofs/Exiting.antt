@@ -1,6 +1,7 @@
 -- exit(II): its effects are apt, and so are those of the calls on files.
-use Rattle.std.proofs.Common.{◌≡◌, ◌∙◌, ◌==◌, ◌≤◌, ℕ, not, Bool, true, false, cond, is_none, List, [], ◌∷◌, ◌++◌, append-nil, map, Option, Some, None, unwrap_or, refl, sym, ap, subst, arith}
+use Rattle.std.proofs.Common.{◌≡◌, ◌∙◌, ◌==◌, ◌<◌, ◌≤◌, ℕ, not, Bool, true, false, cond, is_none, List, [], ◌∷◌, ◌++◌, append-nil, map, length, get_or, get_or-set_same, set, Option, Some, None, unwrap_or, refl, sym, ap, subst, arith}
 use Rattle.std.proofs.lemmas.Bool.{eqb-true}
+use Rattle.std.proofs.lemmas.List.{length-map}
 use Rattle.v6_base.specs.Trace.{Item, Byte, Log}
 use Rattle.v6_base.specs.declared.answer.Answer.{Answer}
 use Rattle.v6_base.specs.declared.answer.Answer.TheVariants.{Ret, Fail, Sleep}
@@ -14,25 +15,27 @@ use Rattle.proc_tab.specs.Pids.{has_pid}
 use Rattle.pick_rules.specs.Effects.{Effect, Show, lifted, came}
 use Rattle.pick_rules.specs.Ranges.{IsChannel}
 use Rattle.pick_rules.specs.Fits.{IsSleep}
-use Rattle.pick_rules.specs.Lawful.{Seen, seen_after}
+use Rattle.pick_rules.specs.Lawful.{Seen, Fits, seen_after}
 use Rattle.pick_rules.proofs.Found.{found_in}
 use Rattle.log_laws.proofs.Fitting.{IsGoing, Apt, apt_append, wake_apt}
-use Rattle.log_laws.proofs.Seats.{Seat, Seats, InCall, Paused, own}
+use Rattle.log_laws.proofs.Seats.{Seat, Seats, InCall, Paused}
 use Rattle.log_laws.proofs.Lines.{wake_in, wake_paused}
-use Rattle.log_laws.proofs.Deaths.{with_own, exit_apt}
+use Rattle.log_laws.proofs.Deaths.{with_own, leave_fits, leave_in, exit_apt}
+use Rattle.log_laws.proofs.Deaths.{without_text as seats_without}
 use Rattle.sys_files.specs.Handed.{Handed}
 use Rattle.sys_files.specs.Did.{Did}
 use Rattle.sys_files.specs.Descriptors.{Closing}
-use Rattle.sys_procs.specs.Process.{Process}
-use Rattle.sys_procs.specs.World.{World, process_of, members}
+use Rattle.sys_procs.specs.Process.{Process, no_process}
+use Rattle.sys_procs.specs.TextTable.{Text, text_of}
+use Rattle.sys_procs.specs.Texts.{goes, remaining, without_text, leaves_text, is_sticky, xfree}
+use Rattle.sys_procs.specs.World.{World, process_of, members, change, let_go}
 use Rattle.sys_procs.specs.Comes.{Comes}
-use Rattle.sys_procs.proofs.Ends.{end_alone}
-use Rattle.sys_procs.specs.Exit.{leaves, slot_of, parent_slot, adopted, dead, dies, end_proc}
+use Rattle.sys_procs.specs.Exit.{ended, leaves, slot_of, parent_slot, adopted, dead, dies, end_proc}
 use Rattle.abstract_unix.specs.declared.ending.Ending.TheVariants.{Ended}
 use Rattle.abstract_unix.specs.Unix as unix
 use Rattle.abstract_unix.specs.Unix.{Unix}
 use Rattle.abstract_unix.specs.Calls.{handed_of, with_handed, world_of, with_world, did_by, closes_all, exits_with}
-use Rattle.abstract_unix.proofs.Sitting.{seat_for, seat_of, seats_under, seats_here, seats_of, runner_seat, runner_alive, runner_text, put_in, changed_in, kept_in}
+use Rattle.abstract_unix.proofs.Sitting.{seat_for, seat_of, seats_in, seats_under, seats_here, seats_of, users, users_left, runner_seat, runner_alive, runner_text, put_in, changed_in, kept_in}
 use Rattle.abstract_unix.proofs.Steps.{AptSteps, Answered, ends_in, apt_lifted, answers_apt}
 use Rattle.abstract_unix.proofs.Quiet.{AreQuiet, SameSize, SameCall, EndsIn, Calm, CalmClosing, close_all_calm}
 use Rattle.abstract_unix.proofs.Rows.{Calling}
@@ -137,10 +140,10 @@ module _ (s : ℕ) where
       by false None e = omega arith
       by false (Some c) e = let l = (found_in (λ k. passes (has_pid ppid) (member_at (members w) k)) 1 49 c e).below in omega (arith, l)
 
-  pub dies_apt : (w : World) (seen : Seen) → Calling s w seen
+  pub dies_apt : (w : World) (seen : Seen) → Calling s w seen → (process_of w s).text ≡ None
       → Apt (Paused (seats_here (dead w s))) seen (dies w s).effects
   unfolding Apt
-  dies_apt w seen i =
+  dies_apt w seen i none =
       exit_apt s false v seen i (Paused now) w rest (grave w) bare refl (runner_text w.processes w.clock w.texts w.limit s seen.board i.turn ∙ bare)
       (λ later p. woken later (subst (λ x. Paused x later) (sym (dead_is w)) p))
     where
@@ -148,7 +151,7 @@ module _ (s : ℕ) where
       v = seats_here w
 
       bare : i.turn.seat.text ≡ None
-      bare = (own s s v seen.board i.agrees i.turn).bare
+      bare = sym (runner_text w.processes w.clock w.texts w.limit s seen.board i.turn) ∙ none
 
       now : Seats
       now = seats_here (dead w s)
@@ -164,13 +167,82 @@ module _ (s : ℕ) where
           wake_apt {W = World} (Paused now) (seen_after later (line.Wake (Wait 1))) (Wait (parent_slot w (process_of w s).row.ppid)) [] first.going (parent_range w (process_of w s).row.ppid)
           (wake_paused now (seen_after later (line.Wake (Wait 1))) (Wait (parent_slot w (process_of w s).row.ppid)) first))
 
+  -- a process that has left its text
+  module _ (w : World) (seen : Seen) (i : Calling s w seen) (k : ℕ) where
+    abbrev pub left : World
+    left = leaves_text w s k (is_sticky w k)
+
+    low : s < length w.processes
+    low = subst (λ n. s < n) (sym i.agrees.seats ∙ length-map w.processes seat_of) i.turn.small
+
+    abbrev now_texts : List (Option Text)
+    now_texts = set w.texts k (remaining (is_sticky w k) (get_or w.texts k None))
+
+    abbrev by_going : Bool → World
+    by_going x =
+        let p : World = change (record w { texts = now_texts }) s without_text in
+        cond x (let_go p (text_of w.texts k).ino) p
+
+    left_seats : (x : Bool) → seats_here (by_going x) ≡ seats_in (set w.processes s (Some (without_text (process_of w s)))) w.clock now_texts w.limit
+    left_seats true = refl
+    left_seats false = refl
+
+    left_limit : (x : Bool) → (by_going x).limit ≡ w.limit
+    left_limit true = refl
+    left_limit false = refl
+
+    left_text : (x : Bool) → (process_of (by_going x) s).text ≡ None
+    left_text true = ap (λ o. (unwrap_or o no_process).text) (get_or-set_same w.processes s (Some (without_text (process_of w s))) None low)
+    left_text false = ap (λ o. (unwrap_or o no_process).text) (get_or-set_same w.processes s (Some (without_text (process_of w s))) None low)
+
+    pub none_left : (process_of left s).text ≡ None
+    none_left = left_text (goes (text_of w.texts k) (is_sticky w k))
+
+    pub same_limit : left.limit ≡ w.limit
+    same_limit = left_limit (goes (text_of w.texts k) (is_sticky w k))
+
+    abbrev v : Seats
+    v = seats_here w
+
+    sits_left : seats_here left ≡ seats_without s v i.turn.seat k (is_sticky w k)
+    sits_left =
+        left_seats (goes (text_of w.texts k) (is_sticky w k))
+        ∙ put_in w.processes w.clock now_texts w.limit s (without_text (process_of w s))
+        ∙ ap (λ (seat : Seat). record v { slots = set v.slots s (Some (record seat { text = None })); texts = users now_texts })
+        (runner_seat w.processes w.clock w.texts w.limit s seen.board i.turn)
+        ∙ ap (λ us. record v { slots = set v.slots s (Some (record i.turn.seat { text = None })); texts = us }) (users_left w.texts k (is_sticky w k))
+
+    pub calling_left : Calling s left (seen_after seen (line.Leave s k (is_sticky w k)))
+    calling_left = subst (λ x. InCall s false x (seen_after seen (line.Leave s k (is_sticky w k)))) (sym sits_left) (leave_in s false v seen i k (is_sticky w k))
+
+    pub fits_left : (process_of w s).text ≡ Some k → Fits seen (line.Leave s k (is_sticky w k))
+    fits_left e = leave_fits s false v seen i k (is_sticky w k) (sym (runner_text w.processes w.clock w.texts w.limit s seen.board i.turn) ∙ e)
+
   pub ends_apt : (w : World) (seen : Seen) (status : ℕ) → Calling s w seen
       → Apt (Paused (seats_under w.limit (end_proc w s status).state)) seen (end_proc w s status).effects
-  ends_apt w seen status i =
-      let alone : (process_of w s).text ≡ None =
-      runner_text w.processes w.clock w.texts w.limit s seen.board i.turn ∙ (own s s (seats_here w) seen.board i.agrees i.turn).bare in
-      subst (λ (c : Comes). Apt (Paused (seats_under w.limit c.state)) seen c.effects) (sym (end_alone w s status alone))
-      (dies_apt (leaves w s status) seen (kept_in w.processes w.clock w.texts w.limit s false seen _ i refl refl refl refl))
+  unfolding Apt came end_proc
+  ends_apt w seen status i = by (process_of w s).text refl
+    where
+      left : World
+      left = leaves w s status
+
+      calls : Calling s left seen
+      calls = kept_in w.processes w.clock w.texts w.limit s false seen _ i refl refl refl refl
+
+      its_text : (process_of left s).text ≡ (process_of w s).text
+      its_text = ap (λ o. (unwrap_or o no_process).text) (get_or-set_same w.processes s (Some (ended status (process_of w s))) None (low w seen i 0))
+
+      by : (o : Option ℕ) → (process_of w s).text ≡ o
+          → Apt (Paused (seats_under w.limit (xfree left s o (λ after. dies after s)).state)) seen (xfree left s o (λ after. dies after s)).effects
+      by None e = dies_apt left seen calls (its_text ∙ e)
+      by (Some k) e = (
+        fits_left left seen calls k (its_text ∙ e),
+        subst (λ n. Apt (Paused (seats_under n (dead (after k) s))) (seen_after seen (line.Leave s k (is_sticky left k))) (dies (after k) s).effects) (same_limit left seen calls k)
+            (dies_apt (after k) (seen_after seen (line.Leave s k (is_sticky left k))) (calling_left left seen calls k) (none_left left seen calls k)),
+      )
+        where
+          after : ℕ → World
+          after k = leaves_text left s k (is_sticky left k)
 
   pub exits_apt : (u : Unix) (seen : Seen) (status : ℕ) → Calling s (world_of u) seen → AptSteps s seen (exits_with u s status)
   exits_apt u seen status i = ends_in s seen (exits_with u s status).unix (exits_with u s status).effects Ended tt by

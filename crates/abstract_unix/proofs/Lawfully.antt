@@ -100,7 +100,7 @@ module _ (store : Store) (core : ℕ) (low : 64 ≤ core) (high : core ≤ 3968)
     zombie = refl;
     calling = λ f g. refl;
     text = refl;
-    bare = refl;
+    entry = λ k e. absurd (cc e);
     place = λ f. refl;
     size = λ f. refl;
     most = omega (arith, low);
@@ -119,7 +119,7 @@ module _ (store : Store) (core : ℕ) (low : 64 ≤ core) (high : core ≤ 3968)
   first_agrees : Agrees 0 (seats_of u) (applied (first_board core store.stamp) (line.Sleep 0 pswp RunOut))
   unfolding applied fall_asleep no_texts
   first_agrees =
-      record { each = first_each _ refl; sleeps = first_sleeps; rows = refl; seats = refl; time = refl; ticks = refl; texts = refl; core = high; most = refl }
+      record { each = first_each _ refl; sleeps = first_sleeps; rows = refl; seats = refl; time = refl; ticks = refl; texts = refl; forty = refl; core = high; most = refl }
 
   first_paused : Paused (seats_of u) (seen_after booted_seen (line.Sleep 0 pswp RunOut))
   unfolding applied fall_asleep

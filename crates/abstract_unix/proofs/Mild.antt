@@ -19,22 +19,24 @@ pub record IsMild (base : World) (c : Comes) : Type 0 where
   pub effects : AreTamed (λ (x : World). ⊥) c.effects
   pub inodes : c.state.inodes ≡ base.inodes
   pub switches : c.state.switches ≡ base.switches
+  pub texts : c.state.texts ≡ base.texts
   pub told : told_in c.state.processes ≡ told_in base.processes
 
 -- A world near another one, in which the process of a slot lives.
 pub record IsNear (base w : World) (s : ℕ) : Type 0 where
   pub inodes : w.inodes ≡ base.inodes
   pub switches : w.switches ≡ base.switches
+  pub texts : w.texts ≡ base.texts
   pub told : told_in w.processes ≡ told_in base.processes
   pub here : get_or w.processes s None ≡ Some (process_of w s)
   pub lives : (process_of w s).is_zombie ≡ false
 
 module _ (base : World) (s : ℕ) where
   mild_comes : (w : World) (a : Answer) → IsNear base w s → IsMild base (comes w a)
-  mild_comes w a near = record { effects = tt; inodes = near.inodes; switches = near.switches; told = near.told }
+  mild_comes w a near = record { effects = tt; inodes = near.inodes; switches = near.switches; texts = near.texts; told = near.told }
 
   mild_logs : (e : Entry) (rest : Comes) → IsMildLine e → IsMild base rest → IsMild base (logs e rest)
-  mild_logs e rest mild m = record { effects = (mild, m.effects); inodes = m.inodes; switches = m.switches; told = m.told }
+  mild_logs e rest mild m = record { effects = (mild, m.effects); inodes = m.inodes; switches = m.switches; texts = m.texts; told = m.told }
 
   -- The process of the slot is changed, in nothing that counts.
   pub near_change : (w : World) (rule : Process → Process) → IsNear base w s → SameProcess (process_of w s) (rule (process_of w s)) → IsNear base (change w s rule) s
@@ -46,6 +48,7 @@ module _ (base : World) (s : ℕ) where
       record {
         inodes = near.inodes;
         switches = near.switches;
+        texts = near.texts;
         told = told_change w.processes s p (rule p) near.here (λ i. cond (same.dead i) None (Some (record { files = same.files i; dir = same.dir i }))) ∙ near.told;
         here = got ∙ ap (λ (x : Process). Some x) (sym its);
         lives = ap (λ (x : Process). x.is_zombie) its ∙ same.dead ∙ near.lives;
@@ -63,6 +66,7 @@ module _ (base : World) (s : ℕ) where
       record {
         inodes = near.inodes;
         switches = near.switches;
+        texts = near.texts;
         told = told_unseen w.processes d None (sym (told_dead w.processes d grave.process grave.at grave.dead)) ∙ near.told;
         here = stays ∙ near.here ∙ ap (λ (q : Process). Some q) (sym its);
         lives = ap (λ (q : Process). q.is_zombie) its ∙ near.lives;
@@ -75,11 +79,11 @@ module _ (base : World) (s : ℕ) where
   mild_plain w c (changes v rule d same pending rest) near = mild_plain (change w s rule) c rest (near_change w rule near same)
   mild_plain w c (due v tout d rest) near =
       mild_plain (record w { clock = record w.clock { tout = tout } }) c rest
-      (record { inodes = near.inodes; switches = near.switches; told = near.told; here = near.here; lives = near.lives })
+      (record { inodes = near.inodes; switches = near.switches; texts = near.texts; told = near.told; here = near.here; lives = near.lives })
   mild_plain w c (nice v value d range rest) near = mild_logs (line.Nice s value) d (mild_nice s value) (mild_plain w d rest near)
   mild_plain w c (wakes v chan d range rest) near = mild_logs (line.Wake chan) d (mild_wake chan) (mild_plain w d rest near)
   mild_plain w c (dated v time d range rest) near =
       mild_logs (line.Time time) d (mild_time time) (mild_plain (with_time w time) d rest
-      (record { inodes = near.inodes; switches = near.switches; told = near.told; here = near.here; lives = near.lives }))
+      (record { inodes = near.inodes; switches = near.switches; texts = near.texts; told = near.told; here = near.here; lives = near.lives }))
   mild_plain w c (buries v k d grave rest) near =
       mild_logs (line.Reap k) d (mild_reap k) (mild_plain (without_process w k) d rest (near_drop w k grave near))

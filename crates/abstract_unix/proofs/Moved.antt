@@ -1,5 +1,5 @@
 -- What the log of a call on processes leaves of the board: core, and who runs.
-use Rattle.std.proofs.Common.{◌≡◌, ◌∙◌, ◌+◌, ◌-◌, ℕ, ℤ, Bool, true, false, nat_le, if◌then◌else◌, List, [], ◌∷◌, ◌++◌, fold, Option, Some, None, refl, sym, subst}
+use Rattle.std.proofs.Common.{◌≡◌, ◌∙◌, ◌+◌, ◌-◌, ℕ, ℤ, Bool, true, false, cond, nat_le, if◌then◌else◌, List, [], ◌∷◌, ◌++◌, fold, Option, Some, None, refl, sym, subst}
 use Rattle.v6_base.specs.Trace.{Item, Byte, Log}
 use Rattle.v6_base.specs.declared.entry.Chan.{Chan}
 use Rattle.v6_base.specs.declared.entry.Entry.{Entry}
@@ -9,9 +9,9 @@ use Rattle.v6_base.specs.declared.entry.Place.{Place}
 use Rattle.v6_base.specs.declared.entry.Place.TheVariants.{Core, Swap}
 use Rattle.pick_rules.specs.declared.row.TableRow.{TableRow}
 use Rattle.pick_rules.specs.Table.{row_at, empty_row, child_row, is_loaded}
-use Rattle.pick_rules.specs.Board.{TextPlace, Board, placed}
-use Rattle.pick_rules.specs.Apply.{applied, in_table, change_row, change_text, enters_core, leaves_core, joins, without_place, at_place}
-use Rattle.pick_rules.specs.Effects.{Effect, Show, Size, Fork, Text, Image, Exit, Panicked, Unbuilt, Came, Lets, Stops, image_at, came}
+use Rattle.pick_rules.specs.Board.{blocks, free_text, swap_fit, TextPlace, Board, placed}
+use Rattle.pick_rules.specs.Apply.{applied, in_table, change_row, change_text, enters_core, leaves_core, parted, goes_if_unused, joins, without_place, at_place}
+use Rattle.pick_rules.specs.Effects.{Effect, Show, Size, Fork, Text, Image, Exit, Came, Lets, Stops, image_at, new_text_at, came}
 use Rattle.pick_rules.specs.Logged.{Logged, Stop, logged, log_one, with_what_came}
 use Rattle.pick_rules.specs.declared.table.Table.{Table}
 use Rattle.pick_rules.specs.Sleepers.{made_ready, runout_told}
@@ -120,15 +120,40 @@ mild_fork s child place b =
     moved_then b born _ (row_moved b child (λ row. child_row (row_at b.table s)))
     (moved_then born (joins born (row_at b.table s).text) _ (text_moved born (row_at b.table s).text joined) (in_moved (joins born (row_at b.table s).text) child (row_at b.table s).size place))
 
+mild_text : (s k clicks block : ℕ) → IsMildLine (line.Text s k clicks block)
+unfolding applied
+mild_text s k clicks block b = record { core = refl; running = refl }
+
+pub mild_share : (s k : ℕ) → IsMildLine (line.Share s k)
+unfolding applied
+mild_share s k b = record { core = refl; running = refl }
+
+pub mild_leave : (s k : ℕ) (sticky : Bool) → IsMildLine (line.Leave s k sticky)
+unfolding applied
+mild_leave s k sticky b = by sticky (is_loaded b.table s)
+  where
+    textless : TableRow → TableRow
+    textless row = record row { text = None }
+
+    out : (x : Bool) → MovedBoard b (in_table (cond x (leaves_core b (row_at b.table s).text) b) (λ t. change_row t s textless))
+    out true = moved_then b (leaves_core b (row_at b.table s).text) _ (text_moved b (row_at b.table s).text left) (row_moved (leaves_core b (row_at b.table s).text) s textless)
+    out false = row_moved b s textless
+
+    by : (x y : Bool)
+        → MovedBoard b (cond x (parted (in_table (cond y (leaves_core b (row_at b.table s).text) b) (λ t. change_row t s textless)) k)
+        (goes_if_unused (parted (in_table (cond y (leaves_core b (row_at b.table s).text) b) (λ t. change_row t s textless)) k) k))
+    by true y = let o = out y in record { core = o.core; running = o.running }
+    by false y = let o = out y in record { core = o.core; running = o.running }
+
 -- Effects of a call whose process goes on. P is so of the state before each demand for a place.
 module _ {W : Type 0} (P : W → Type 0) where
-  -- one, before others; no text is made yet
+  -- one, before others
   abbrev pub IsTamed : Effect W → Type 0 → Type 0
   IsTamed (Show (Log e)) rest = IsMildLine e × rest
   IsTamed (Show (Byte l byte)) rest = rest
   IsTamed (Size s clicks before) rest = P before × rest
   IsTamed (Fork s child before) rest = P before × rest
-  IsTamed (Text s clicks before) rest = P before
+  IsTamed (Text s clicks before) rest = P before × rest
   IsTamed (Image s clicks before) rest = P before × rest
   IsTamed (Exit s before) rest = ⊥
 
@@ -162,7 +187,12 @@ module _ {W : Type 0} (P : W → Type 0) where
       by true = (mild_keep s clicks b, p.1)
       by false = at_its_place b before (λ place. line.Size s clicks place) rest (mild_size s clicks) p (placed b s clicks)
   came_tamed b (Fork s child before) rest p = at_its_place b before (λ place. line.Fork s child place) rest (mild_fork s child) p (placed b s (row_at b.table s).size)
-  came_tamed b (Text s clicks before) rest p = p
+  came_tamed b (Text s clicks before) rest p = in_its_entry (free_text b) (swap_fit b (blocks clicks))
+    where
+      in_its_entry : (o block : Option ℕ) → CameTamed b (new_text_at before o block (λ k block. line.Text s k clicks block)) rest
+      in_its_entry None block = p.0
+      in_its_entry (Some k) None = p.0
+      in_its_entry (Some k) (Some block) = (mild_text s k clicks block b, p.1)
   came_tamed b (Image s clicks before) rest p = at_its_place b before (λ place. line.Image s clicks place) rest (mild_image s clicks) p (placed b s clicks)
   came_tamed b (Exit s before) rest p = absurd p
 
@@ -189,10 +219,8 @@ module _ {W : Type 0} (P : W → Type 0) where
           → (c : Came W) → CameTamed now c (AreTamed es) → Moves b (fold log_one (with_what_came (so_far items now) c) es)
       by rest (Lets (Log entry)) m = rest (applied now entry) (items ++ Log entry ∷ []) (moved_then b now (applied now entry) moved m.0) m.1
       by rest (Lets (Byte l byte)) m = rest now (items ++ Byte l byte ∷ []) moved m
-      by rest (Stops (Panicked kind) before) p =
-          subst (Moves b) (sym (stays_stopped _ _ _ es)) (halted b _ (record { why = Panicked kind; before = before }) refl (panicked_core now kind ∙ moved.core) p)
-      by rest (Stops (Unbuilt kind) before) p =
-          subst (Moves b) (sym (stays_stopped _ _ _ es)) (halted b _ (record { why = Unbuilt kind; before = before }) refl moved.core p)
+      by rest (Stops kind before) p =
+          subst (Moves b) (sym (stays_stopped _ _ _ es)) (halted b _ (record { why = kind; before = before }) refl (panicked_core now kind ∙ moved.core) p)
 
   pub tamed_moves : (b : Board) (es : List (Effect W)) → AreTamed es → Moves b (logged b es)
   tamed_moves b es tamed = moved_from b b [] es (stays_put b) tamed
@@ -204,6 +232,6 @@ tamed_mild P (Show (Log e) ∷ es) tamed = (tamed.0, tamed_mild P es tamed.1)
 tamed_mild P (Show (Byte l byte) ∷ es) tamed = tamed_mild P es tamed
 tamed_mild P (Size s clicks before ∷ es) tamed = absurd tamed.0
 tamed_mild P (Fork s child before ∷ es) tamed = absurd tamed.0
-tamed_mild P (Text s clicks before ∷ es) tamed = absurd tamed
+tamed_mild P (Text s clicks before ∷ es) tamed = absurd tamed.0
 tamed_mild P (Image s clicks before ∷ es) tamed = absurd tamed.0
 tamed_mild P (Exit s before ∷ es) tamed = absurd tamed

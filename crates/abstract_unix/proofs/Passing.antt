@@ -9,7 +9,7 @@ use Rattle.pick_rules.specs.Priority.{pswp}
 use Rattle.pick_rules.specs.Table.{row_at}
 use Rattle.pick_rules.specs.Board.{Board, blocks, swap_fit}
 use Rattle.pick_rules.specs.Apply.{applied}
-use Rattle.pick_rules.specs.Effects.{Panicked, at_fit}
+use Rattle.pick_rules.specs.Effects.{at_fit}
 use Rattle.pick_rules.specs.Lawful.{Over, Seen, FitAll, seen_after}
 use Rattle.pick_rules.specs.Logged.{Stop, Logged, nothing_logged, with_item, with_what_came}
 use Rattle.pick_rules.specs.Swapper.{SwapMove, In, Out, Waits, candidate, move_for, swap_move}
@@ -50,7 +50,7 @@ module _ (v : Seats) (first : Seen) where
         }
 
     goes_out : (s : ℕ) → swap_move b ≡ Out s → (o : Option ℕ) → swap_fit b (blocks (row_at b.table s).size) ≡ o
-        → Passed (joined l (with_what_came {W = Unit {0}} (nothing_logged b) (at_fit (Panicked panic.Swap) tt o (λ block. line.SwapOut s block))))
+        → Passed (joined l (with_what_came {W = Unit {0}} (nothing_logged b) (at_fit panic.Swap tt o (λ block. line.SwapOut s block))))
     unfolding FitAll
     goes_out s e (Some block) f = moves_on (line.SwapOut s block) (out_moves v (after l) i.paused r s block least e f)
     goes_out s e None f =

@@ -33,7 +33,7 @@ unfolding Apt
 fails_fine s seen w e i = record { fine = i }
 
 -- a line that fits, before what is apt
-logged_fine : (limit s : ℕ) (seen : Seen) (e : Entry) (c : Comes) → Fits seen e → FineComes limit s (seen_after seen e) c → FineComes limit s seen (logs e c)
+pub logged_fine : (limit s : ℕ) (seen : Seen) (e : Entry) (c : Comes) → Fits seen e → FineComes limit s (seen_after seen e) c → FineComes limit s seen (logs e c)
 unfolding Apt came
 logged_fine limit s seen e c fits rest = record { fine = by c.answer rest.fine }
   where

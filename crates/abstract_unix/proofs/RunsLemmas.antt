@@ -5,7 +5,6 @@ use Rattle.std.proofs.lemmas.List.{append-nil}
 use Rattle.v6_base.specs.Trace.{Item}
 use Rattle.v6_base.specs.declared.entry.PanicKind.{PanicKind}
 use Rattle.v6_base.specs.declared.entry.PanicKind.TheVariants as panic
-use Rattle.pick_rules.specs.Effects.{kind_of}
 use Rattle.pick_rules.specs.Logged.{Stop, logged}
 use Rattle.sys_procs.specs.Process.{register}
 use Rattle.abstract_unix.specs.declared.ending.Ending.{Ending}
@@ -18,7 +17,7 @@ use Rattle.abstract_unix.specs.declared.turned.Turned.{Turned}
 use Rattle.abstract_unix.specs.declared.turned.Turned.TheVariants.{Ran, Idle, NotBuilt, Panic}
 use Rattle.abstract_unix.specs.Unix.{Unix, System, process_of}
 use Rattle.abstract_unix.specs.Steps.{Steps}
-use Rattle.abstract_unix.specs.Turn.{Happened, Turn, stays, settles, calls_for_settling, settled_after, ending_at, unmet, ending_by, ending_of_pass, end_effects, turn_of, slot_of, pass_of, turn, turned_by, turned}
+use Rattle.abstract_unix.specs.Turn.{Happened, Turn, stays, settles, calls_for_settling, settled_after, ending_at, ending_by, ending_of_pass, end_effects, turn_of, slot_of, pass_of, turn, turned_by, turned}
 use Rattle.abstract_unix.specs.Runs.{Event, Slot, Tick, Byte, Switch, Course, begun, event_of, goes_on_by, unless_ended, after_event, course, started, after_items}
 
 -- first these events and then those
@@ -102,12 +101,7 @@ ending_is pc (came.Panic kind) = tt
 
 stop_is : (pc : ℕ) (stop : Option (Stop Unix)) (e : Ending) → IsMet (ending_by pc stop e)
 stop_is pc None e = ending_is pc e
-stop_is pc (Some stop) e = unmet_is (kind_of stop.why)
-  where
-    unmet_is : (kind : PanicKind) → IsMet (unmet pc kind)
-    unmet_is panic.Swap = tt
-    unmet_is panic.Zombie = tt
-    unmet_is panic.Text = tt
+stop_is pc (Some stop) e = tt
 
 turn_is : (m : System) (slot : ℕ) (steps : Steps) → IsMet (turn_of m slot steps).ending
 turn_is m slot steps =

@@ -3,12 +3,13 @@ use Rattle.std.proofs.Common.{◌≡◌, ℕ, nat_lt, nat_le, Bool, true, false,
 use Rattle.v6_base.specs.Trace.{Byte, Log}
 use Rattle.v6_base.specs.declared.answer.Answer.{Answer}
 use Rattle.v6_base.specs.declared.answer.Answer.TheVariants.{Ret, Fail, Sleep}
+use Rattle.v6_base.specs.declared.entry.PanicKind.{PanicKind}
 use Rattle.v6_base.specs.declared.entry.PanicKind.TheVariants as panic
 use Rattle.v6_base.specs.declared.entry.Entry.{Entry}
 use Rattle.v6_base.specs.declared.entry.Entry.TheVariants as line
 use Rattle.pick_rules.specs.Table.{row_at}
-use Rattle.pick_rules.specs.Board.{placed, swap_fit}
-use Rattle.pick_rules.specs.Effects.{Effect, Show, Size, Fork, Text, Image, Exit, Why, Panicked, Unbuilt, Lets, Stops, at_fit, image_at, came, lifted}
+use Rattle.pick_rules.specs.Board.{blocks, free_text, placed, swap_fit}
+use Rattle.pick_rules.specs.Effects.{Effect, Show, Size, Fork, Text, Image, Exit, Lets, at_fit, image_at, new_text_at, came, lifted}
 use Rattle.pick_rules.specs.Ranges.{IsChannel}
 use Rattle.pick_rules.specs.Fits.{IsSleep}
 use Rattle.pick_rules.specs.Lawful.{Seen}
@@ -67,15 +68,17 @@ ends_in s seen u es ending calm a = record {
 
 -- Effects over another state are as apt.
 module _ {V W : Type 0} (f : V → W) (seen : Seen) (P Q : Seen → Type 0) (h : (now : Seen) → P now → Q now) where
-  stops_lifted : (why : Why) (before : V) → AptCame {W = V} seen (Stops why before) P → AptCame {W = W} seen (Stops why (f before)) Q
-  stops_lifted (Panicked kind) before a = a
-  stops_lifted (Unbuilt kind) before a = a
+  fit_lifted : {X : Type 0} → (kind : PanicKind) (before : V) (o : Option X) (entry : X → Entry)
+      → AptCame {W = V} seen (at_fit kind before o entry) P
+      → AptCame {W = W} seen (at_fit kind (f before) o entry) Q
+  fit_lifted kind before None entry a = a
+  fit_lifted kind before (Some x) entry a = (a.0, h _ a.1)
 
-  fit_lifted : {X : Type 0} → (why : Why) (before : V) (o : Option X) (entry : X → Entry)
-      → AptCame {W = V} seen (at_fit why before o entry) P
-      → AptCame {W = W} seen (at_fit why (f before) o entry) Q
-  fit_lifted why before None entry a = stops_lifted why before a
-  fit_lifted why before (Some x) entry a = (a.0, h _ a.1)
+  text_lifted : (before : V) (o block : Option ℕ) (entry : ℕ → ℕ → Entry)
+      → AptCame {W = V} seen (new_text_at before o block entry) P
+      → AptCame {W = W} seen (new_text_at (f before) o block entry) Q
+  text_lifted before None block entry a = a
+  text_lifted before (Some k) block entry a = fit_lifted panic.Swap before block (entry k) a
 
   came_lifted : (e : Effect V) → AptCame {W = V} seen (came seen.board e) P
       → AptCame {W = W} seen (came seen.board (lifted f e)) Q
@@ -88,15 +91,16 @@ module _ {V W : Type 0} (f : V → W) (seen : Seen) (P Q : Seen → Type 0) (h :
           → AptCame {W = V} seen (cond x (Lets (Log (line.SizeKeep s clicks))) (image_at before (placed seen.board s clicks) (λ place. line.Size s clicks place))) P
           → AptCame {W = W} seen (cond x (Lets (Log (line.SizeKeep s clicks))) (image_at (f before) (placed seen.board s clicks) (λ place. line.Size s clicks place))) Q
       by true a = (a.0, h _ a.1)
-      by false a = fit_lifted (Panicked panic.Swap) before (placed seen.board s clicks) (λ place. line.Size s clicks place) a
+      by false a = fit_lifted panic.Swap before (placed seen.board s clicks) (λ place. line.Size s clicks place) a
   came_lifted (Fork s child before) a =
-      fit_lifted (Panicked panic.Swap) before (placed seen.board s (row_at seen.board.table s).size)
+      fit_lifted panic.Swap before (placed seen.board s (row_at seen.board.table s).size)
       (λ place. line.Fork s child place) a
-  came_lifted (Text s clicks before) a = a
+  came_lifted (Text s clicks before) a =
+      text_lifted before (free_text seen.board) (swap_fit seen.board (blocks clicks)) (λ k block. line.Text s k clicks block) a
   came_lifted (Image s clicks before) a =
-      fit_lifted (Panicked panic.Swap) before (placed seen.board s clicks) (λ place. line.Image s clicks place) a
+      fit_lifted panic.Swap before (placed seen.board s clicks) (λ place. line.Image s clicks place) a
   came_lifted (Exit s before) a =
-      fit_lifted (Panicked panic.Zombie) before (swap_fit seen.board 1) (λ block. line.Exit s block) a
+      fit_lifted panic.Zombie before (swap_fit seen.board 1) (λ block. line.Exit s block) a
 
 pub apt_lifted : {V W : Type 0} → (f : V → W) (Q : Seen → Type 0) (seen : Seen) (es : List (Effect V))
     → Apt {W = V} Q seen es → Apt {W = W} Q seen (map (lifted f) es)

@@ -1,6 +1,5 @@
 -- The system calls that are built: section II of the UNIX Programmer's Manual; Lions' Commentary, `sysent` and `trap`.
 use Rattle.std.specs.Prelude.{ℕ, Bool, ◌+◌, ◌-◌, ◌*◌, ◌%◌, ◌==◌, ◌&&◌, ◌||◌, nat_lt, nat_le, true, false, if◌then◌else◌, List, [], ◌∷◌, ◌++◌, map, find, Option, Some, None, Result, Ok, Err, slice_index, slice_set}
-use Rattle.std.specs.List.{list_any, range_with_len}
 use Rattle.std.specs.Option.{option_map}
 use Rattle.v6_base.specs.Access.{load_word}
 use Rattle.v6_base.specs.Image.{Image}
@@ -11,7 +10,6 @@ use Rattle.pick_rules.specs.Effects.{Show, lifted}
 use Rattle.open_files.specs.declared.file.OpenFile.{OpenFile}
 use Rattle.open_files.specs.Files.{shared}
 use Rattle.u_area.specs.declared.area.UArea.{UArea}
-use Rattle.fs_tree.specs.declared.marks.TheConstants.{INODE_NUMBERS}
 use Rattle.sys_files.specs.Handed.{Handed}
 use Rattle.sys_files.specs.Did.{Did}
 use Rattle.sys_files.specs.Descriptors.{Closing, dup_file, close_file, close_all}
@@ -22,6 +20,7 @@ use Rattle.sys_files.specs.Names.{chdir_to, chmod_to, chown_to, sync_all}
 use Rattle.sys_files.specs.Opening.{open_file}
 use Rattle.sys_files.specs.Status.{stat_file, stat_open}
 use Rattle.sys_procs.specs.Process.{Process, with_state, register, image_of}
+use Rattle.sys_procs.specs.TextTable.{marks_of}
 use Rattle.sys_procs.specs.World.{World}
 use Rattle.sys_procs.specs.Comes.{Comes}
 use Rattle.sys_procs.specs.Break.{break_at, grow}
@@ -42,13 +41,9 @@ use Rattle.abstract_unix.specs.declared.calls.SystemCall.TheVariants.{Indirect, 
 use Rattle.abstract_unix.specs.declared.calls.Sysent.{Sysent}
 use Rattle.abstract_unix.specs.declared.ending.Ending.TheVariants.{Ended, Trapped}
 use Rattle.abstract_unix.specs.Unix.{Text, Unix, process_of, with_process}
-use Rattle.abstract_unix.specs.References.{is_text_of, references_of}
+use Rattle.abstract_unix.specs.References.{references_of}
 use Rattle.abstract_unix.specs.Errors.{error_number}
 use Rattle.abstract_unix.specs.Steps.{Steps, returns, sleeps, not_built, signals, sigsegv, sigsys}
-
--- which inodes have a text that is shared, by their numbers
-unfoldable pub marks_of : List (Option Text) → List Bool
-marks_of texts = map (λ ino. list_any (is_text_of ino) texts) (range_with_len 0 INODE_NUMBERS)
 
 -- the parts of a Unix that a call of a process is handed
 abbrev pub handed_of : Unix → Process → Handed

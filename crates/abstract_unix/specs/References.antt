@@ -4,17 +4,13 @@ use Rattle.std.specs.Prelude.{ℕ, Bool, false, ◌+◌, ◌==◌, ◌&&◌, not
 use Rattle.std.specs.List.{range_with_len}
 use Rattle.sys_files.specs.Sound.{is_of}
 use Rattle.sys_procs.specs.Process.{Process}
+pub use Rattle.sys_procs.specs.TextTable.{is_text_of}
 use Rattle.abstract_unix.specs.Unix.{Text, Unix}
 
 -- a process whose current directory is this inode; one that has ended has left it
 abbrev pub is_in : ℕ → Option Process → Bool
 is_in ino None = false
 is_in ino (Some p) = not p.is_zombie && (p.u.dir == ino)
-
--- a text of this inode
-abbrev pub is_text_of : ℕ → Option Text → Bool
-is_text_of ino None = false
-is_text_of ino (Some text) = text.ino == ino
 
 -- Open files, current directories and texts refer to inodes, and the kernel to inode 1 as the root.
 abbrev pub referrers : Unix → ℕ → ℕ

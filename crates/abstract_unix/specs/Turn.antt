@@ -14,9 +14,7 @@ use Rattle.pick_rules.specs.Table.{row_at, is_ready, is_loaded}
 use Rattle.pick_rules.specs.Choice.{settle}
 use Rattle.pick_rules.specs.Board.{Board}
 use Rattle.pick_rules.specs.Apply.{applied}
-use Rattle.v6_base.specs.declared.entry.PanicKind.{PanicKind}
-use Rattle.v6_base.specs.declared.entry.PanicKind.TheVariants as panic
-use Rattle.pick_rules.specs.Effects.{Effect, Show, kind_of}
+use Rattle.pick_rules.specs.Effects.{Effect, Show}
 use Rattle.pick_rules.specs.Logged.{Logged, Stop, nothing_logged, logged, left_by}
 use Rattle.swap_sched.specs.Pass.{pass, over}
 use Rattle.sys_procs.specs.Process.{Process, with_state, register, image_of}
@@ -141,15 +139,10 @@ ending_at pc ending.Ended = AtEnd
 ending_at pc ending.NotBuilt = ends.NotBuilt (At pc)
 ending_at pc (ending.Panic kind) = ends.Panic kind
 
--- A demand that finds no place ends the run with a panic. That for a text to share isn't built, where the PC was.
-abbrev pub unmet : ℕ → PanicKind → Ends
-unmet pc panic.Swap = ends.Panic panic.Swap
-unmet pc panic.Zombie = ends.Panic panic.Zombie
-unmet pc panic.Text = ends.NotBuilt (At pc)
-
+-- a demand that finds no place ends the run with a panic
 abbrev pub ending_by : ℕ → Option (Stop Unix) → Ending → Ends
 ending_by pc None ending = ending_at pc ending
-ending_by pc (Some stop) ending = unmet pc (kind_of stop.why)
+ending_by pc (Some stop) ending = ends.Panic stop.why
 
 abbrev pub turn_of : System → ℕ → Steps → Happened
 turn_of m slot steps =
@@ -161,7 +154,7 @@ turn_of m slot steps =
 -- how a pass of the swapper ends the run, if it does
 abbrev pub ending_of_pass : Option (Stop Unix) → Ends
 ending_of_pass None = AtEnd
-ending_of_pass (Some stop) = ends.Panic (kind_of stop.why)
+ending_of_pass (Some stop) = ends.Panic stop.why
 
 -- The pass of the swapper, which moves images and changes no process.
 abbrev pub passes : Unix → Logged Unix → Happened

@@ -8,7 +8,7 @@ ghost use Rattle.sys_files.specs.Sound.{IsSound};
 ghost use Rattle.sys_files.specs.Does.{Does};
 ghost use Rattle.pick_rules.specs.Apply.{change_row};
 ghost use Rattle.sys_procs.specs.Done.{HasDone};
-ghost use Rattle.sys_procs.specs.Handed.{handed, AreProcs, Calls};
+ghost use Rattle.sys_procs.specs.Handed.{handed, AreProcs, AreBare, Calls, IsMarked};
 ghost use Rattle.abstract_unix.specs.Calls.{sysent_of, file_row, process_row};
 
 use fs_tree::Tree;
@@ -206,15 +206,14 @@ pub fn do_process_call<T: Trace>(
     args: [u16; 4],
     trace: &mut T,
 ) -> Result<Answer, PanicKind>
-    requires { Calls p.old tree.old.nodes s }
+    requires calls { Calls p.old tree.old.nodes s }
+    requires marks { IsMarked p.old tree.old.marks }
     ensures does { HasDone p.old p.new tree.new.nodes result (T.taken trace.old) (T.taken trace.new)
         (process_row call (handed p.old tree.old.nodes) s args) }
     ensures frame { T.leads_to trace.old trace.new }
     ensures agree { IfOk result (λ answer. AreProcs p.new) }
-    ensures left { IfErr result (λ kind. AreProcs p.new ⊎ p.new ≡ record p.old {
-      table = change_row p.old.table s (λ row. record row { size = 0; place = None });
-    }) }
-    ensures marks { tree.new.marks ≡ tree.old.marks }
+    ensures left { IfErr result (λ kind. AreProcs p.new ⊎ AreBare p.new s) }
+    ensures marks { IsMarked p.new tree.new.marks }
     ensures blocks { SameRest tree.old.nodes.blocks tree.new.nodes.blocks }
 {
     match call {

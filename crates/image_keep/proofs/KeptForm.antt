@@ -14,6 +14,7 @@ use Rattle.image_keep.specs.declared.row.State.TheVariants as state
 use Rattle.image_keep.specs.declared.row.Row.{Row}
 use Rattle.image_keep.specs.Kept.{Held, Keeping, Nothing, Alive, Grave, Kept, HasSizes, HasImage, IsKept, keeping, image_in, image_of, area_in, area_of, text_of, text_bytes, text_clicks, bytes_in, shared_clicks, place_of, place_in as place_kept}
 use Rattle.image_keep.specs.Memory.{Stock, row_at, swap_at, place_at, place_by, text_in, text_for, image_by, keeping_by, keeping_in, shared_in, kept_of, HoldsBy, IsText, IsSound}
+use Rattle.image_keep.specs.SharedTexts.{AreLong}
 use Rattle.image_keep.specs.Told.{IsTold, AreTold}
 use Rattle.image_keep.proofs.Places.{slot_at, shared_at}
 use Rattle.image_keep.proofs.Moves.{fits_in}
@@ -98,6 +99,9 @@ pub text_long : (v : Stock) (x : Option ℕ) → IsSound v → length (text_for 
 unfolding text_for
 text_long v None h = refl
 text_long v (Some t) h = text_in_long v.line v.core (text_at v.texts t) h.size (h.texts t) ∙ ap (λ o. 64 * shared_clicks o) (sym (shared_at v t))
+
+pub all_long : (v : Stock) (k : Kept) → kept_of v ≡ k → IsSound v → AreLong k
+all_long v k view h = subst AreLong view (λ t. ap length (text_is v (Some t)) ∙ text_long v (Some t) h)
 
 text_are : (v : Stock) (x : Option ℕ) → AreBytes v.line → AreBytes (text_for v.line v.core v.texts x)
 unfolding text_for

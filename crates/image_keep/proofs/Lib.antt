@@ -46,3 +46,4 @@ pub mod RunsRead
 pub mod Lent
 pub mod Vacant
 pub mod Registers
+pub mod SharedFacts

@@ -16,7 +16,7 @@ prefix_same f p q h [] = refl
 prefix_same f p q h (x ∷ xs) = rw (h x, prefix_same f p q h xs) refl
 
 -- a search of a list that a function made
-position_map : {X Y : Type 0} (f : X → Y) (p : X → Bool) (q : Y → Bool) → ((x : X) → q (f x) ≡ p x) → (xs : List X) → position q (map f xs) ≡ position p xs
+pub position_map : {X Y : Type 0} (f : X → Y) (p : X → Bool) (q : Y → Bool) → ((x : X) → q (f x) ≡ p x) → (xs : List X) → position q (map f xs) ≡ position p xs
 position_map f p q h xs =
     let same : position_or_len q (map f xs) ≡ position_or_len p xs = prefix_same f (λ x. not (p x)) (λ y. not (q y)) (λ x. ap not (h x)) xs in
     ap (λ n. cond (nat_lt n (length (map f xs))) (Some n) None) same ∙ ap (λ m. cond (nat_lt (position_or_len p xs) m) (Some (position_or_len p xs)) None) (length-map xs f)

@@ -1,11 +1,11 @@
 -- What becomes of what is kept when a text is made, filled, joined or left: `xalloc` and `xfree` in Lions' Commentary.
-use Rattle.std.specs.Prelude.{◌≡◌, ◌≢◌, MatchOption, ℕ, ◌*◌, ◌==◌, Bool, true, false, if◌then◌else◌, List, [], replicate, position, Option, Some, None, is_none, Result, Ok, Err}
+use Rattle.std.specs.Prelude.{◌≡◌, ◌≢◌, MatchOption, ℕ, ◌*◌, ◌<◌, ◌==◌, Bool, true, false, if◌then◌else◌, List, [], length, replicate, position, Option, Some, None, is_none, Result, Ok, Err}
 use Rattle.core_mem.specs.Bytes.{over}
 use Rattle.text_tab.specs.Table.{no_row, new_text, joined, unloaded, left, remaining}
 use Rattle.text_tab.specs.declared.row.TextRow.{TextRow}
 use Rattle.v6_base.specs.declared.entry.Place.{Place}
 use Rattle.v6_base.specs.declared.entry.Place.TheVariants.{Core, Swap}
-use Rattle.image_keep.specs.Kept.{Kept, Keeping, Nothing, Alive, Grave, Shared, keeping, with_keeping, shared, with_shared, with_text_of, changed}
+use Rattle.image_keep.specs.Kept.{Kept, Keeping, Nothing, Alive, Grave, Shared, text_of, keeping, with_keeping, shared, with_shared, with_text_of, changed, text_bytes, text_clicks}
 use Rattle.image_keep.specs.declared.texts.TextRefusal.{TextRefusal}
 use Rattle.image_keep.specs.declared.texts.TextRefusal.TheVariants as refusal
 use Rattle.image_keep.specs.Counts.{is_text}
@@ -90,6 +90,22 @@ abbrev pub is_loaded : Keeping → Bool
 is_loaded Nothing = false
 is_loaded (Alive held) = is_place_in_core held.place
 is_loaded (Grave u block) = false
+
+-- What holds of the texts that are kept: no two are of one inode, and the text of a slot is there, has a user, and has one in core
+-- where the slot's image is there.
+pub record IsTextOfSlot (k : Kept) (s t : ℕ) : Type 0 where
+  pub text : Shared
+  pub there : shared k t ≡ Some text
+  pub users : 0 < text.row.users
+  pub loaded : is_loaded (keeping k s) ≡ true → 0 < text.row.loaded
+
+pub record AreShared (k : Kept) : Type 0 where
+  pub apart : (t u : ℕ) (x y : Shared) → shared k t ≡ Some x → shared k u ≡ Some y → x.row.ino ≡ y.row.ino → t ≡ u
+  pub used : (s t : ℕ) → text_of k s ≡ Some t → IsTextOfSlot k s t
+
+-- each text has the bytes of its clicks
+abbrev pub AreLong : Kept → Type 0
+AreLong k = (t : ℕ) → length (text_bytes k (Some t)) ≡ 64 * text_clicks k (Some t)
 
 -- A slot leaves its text: one fewer uses it, and one fewer in core where the slot's image is there. A text that nobody uses
 -- stays where its file is sticky, and else its entry is free.

@@ -10,7 +10,7 @@ ghost use Rattle.image_keep.specs.Maps.{InsideBy};
 ghost use Rattle.image_keep.specs.Memory.{row_at, given_text, clicks_in, IsIn, place_at};
 ghost use Rattle.image_keep.specs.Places.{blocks, swap_fit};
 ghost use Rattle.image_keep.specs.Leaves.{textless_at, textless_line, IsStoredBy, IsLongBy, loaded_text, gone_units};
-ghost use Rattle.image_keep.specs.SharedTexts.{filled, retexted, found_text, FindsText, free_text, row_in, making, with_made_text, with_joined_text, row_of_text, with_left_text};
+ghost use Rattle.image_keep.specs.SharedTexts.{AreShared, AreLong, filled, retexted, found_text, FindsText, free_text, row_in, making, with_made_text, with_joined_text, row_of_text, with_left_text};
 
 use crate::areas::leave_area;
 use crate::images::Images;
@@ -143,6 +143,8 @@ impl Images {
     pub fn find_text(&self, ino: u16) -> Option<TextId>
         ensures text { result ≡ found_text self.now ino }
         ensures words { FindsText self.now ino result }
+        ensures texts { AreShared self.now }
+        ensures sized { AreLong self.now }
     {
         self.texts.find(ino)
     }

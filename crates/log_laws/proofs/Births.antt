@@ -1,5 +1,5 @@
 -- A fork: its line fits, wherever the child's image stands, and so does the panic where it finds no place.
-use Rattle.std.proofs.Common.{◌≡◌, ◌≢◌, ◌∙◌, ◌<◌, ◌≤◌, ◌==◌, ◌+◌, ℕ, zero, suc, Bool, true, false, List, ◌∷◌, Option, Some, None, is_none, find, length, get_or-set_other, refl, sym, ap, inl, arith}
+use Rattle.std.proofs.Common.{◌≡◌, ◌≢◌, ◌∙◌, ◌<◌, ◌≤◌, ◌==◌, ◌+◌, ℕ, zero, suc, Bool, true, false, List, map, ◌∷◌, Option, Some, None, is_none, find, length, set, get_or-set_other, refl, sym, ap, subst, inl, arith}
 use Rattle.std.specs.List.{range_with_len}
 use Rattle.v6_base.specs.declared.entry.Place.{Place}
 use Rattle.v6_base.specs.declared.entry.Place.TheVariants.{Core, Swap}
@@ -9,7 +9,7 @@ use Rattle.pick_rules.specs.Search.{slots_above_0}
 use Rattle.pick_rules.specs.declared.row.TableRow.{TableRow}
 use Rattle.pick_rules.specs.Table.{child_row, row_at, with_row}
 use Rattle.pick_rules.specs.Sleepers.{runout_told}
-use Rattle.pick_rules.specs.Board.{Board, placed}
+use Rattle.pick_rules.specs.Board.{TextPlace, Board, placed}
 use Rattle.pick_rules.specs.Apply.{in_table, change_row, joins, applied}
 use Rattle.pick_rules.specs.Effects.{Effect, image_at, came}
 use Rattle.pick_rules.specs.Effects as effect
@@ -20,7 +20,8 @@ use Rattle.pick_rules.proofs.Within.{place_within, none_placed}
 use Rattle.pick_rules.proofs.Shapes.{Shape, shape_at, same_none, runout_same}
 use Rattle.pick_rules.proofs.Placing.{text_table, text_core, again_row, core_table, core_core}
 use Rattle.log_laws.proofs.Fitting.{going_fits, Apt, AptCame}
-use Rattle.log_laws.proofs.Seats.{Seat, Seats, seat_at, with_seat, Same, AgreesAt, Agrees, InTurn, InCall, runs_in, in_its_slot, not_busy, own, same_board, kept_agrees, change_agrees}
+use Rattle.log_laws.proofs.Users.{users_of, users_on, joined_users, joined_long, at_users, join_users}
+use Rattle.log_laws.proofs.Seats.{Seat, Seats, seat_at, with_seat, Same, AgreesAt, Agrees, InTurn, InCall, runs_in, in_its_slot, not_busy, own, same_board, kept_agrees, texts_agree, change_agrees}
 
 -- the lowest slot in which nobody sits
 abbrev pub free_seat : Seats → Option ℕ
@@ -91,45 +92,76 @@ module _ (b : Board) (s child : ℕ) (l : child < length b.table.rows) where
   unfolding applied
   core_out k = text_core _ parent.text _
 
-module _ (s : ℕ) (v : Seats) (seen : Seen) (child : ℕ) (i : InCall s false v seen) (l : child < 50) (h : 0 < child) (d : s ≢ child) where
-  -- the child sits as its parent does
-  abbrev grown : Seats
-  grown = with_seat v child (Some i.turn.seat)
+-- the child sits as its parent does, and shares its text
+abbrev pub seated_child : Seats → ℕ → Seat → Seats
+seated_child v child seat = record v { slots = set v.slots child (Some seat); texts = joined_users v.texts seat.text }
 
+module _ (s : ℕ) (v : Seats) (seen : Seen) (child : ℕ) (i : InCall s false v seen) (l : child < 50) (h : 0 < child) (d : s ≢ child) where
   not_same : (child == s) ≡ false
   not_same = not_busy s child (λ e. d (sym e))
 
-  child_agrees : (place : Place) → Agrees s grown (with_child_row seen.board s child place)
-  child_agrees place = let o = own s s v seen.board i.agrees i.turn in
-      change_agrees s s child v grown.slots seen.board _ (Some i.turn.seat) (born (row_at seen.board.table s) place) (λ f. refl) i.agrees l refl refl
-      i.agrees.time i.agrees.ticks
-      (record { used = refl; zombie = sym i.turn.alive; calling = λ f g. sym i.calls; text = o.text; bare = o.bare; place = λ f. refl; size = o.size; most = o.most }) (inl refl)
+  -- the board with the texts as they are then
+  abbrev shared : List (Option TextPlace) → Board
+  shared texts = record seen.board { texts = texts }
+
+  child_agrees : (place : Place) (texts : List (Option TextPlace)) → map users_of texts ≡ joined_users v.texts i.turn.seat.text
+      → Agrees s (seated_child v child i.turn.seat) (with_child_row (shared texts) s child place)
+  child_agrees place texts users = let o = own s s v seen.board i.agrees i.turn in
+      subst (λ us. Agrees s (record v { slots = set v.slots child (Some i.turn.seat); texts = us }) (with_child_row (shared texts) s child place)) users
+      (change_agrees s s child (record v { texts = map users_of texts }) (set v.slots child (Some i.turn.seat)) (shared texts) (with_child_row (shared texts) s child place).table (Some i.turn.seat)
+      (born (row_at seen.board.table s) place) (λ f. refl) (texts_agree s v seen.board texts (ap length users ∙ joined_long v.texts i.turn.seat.text ∙ i.agrees.forty) i.agrees) l refl refl i.agrees.time i.agrees.ticks
+      (record { used = refl; zombie = sym i.turn.alive; calling = λ f g. sym i.calls; text = o.text; entry = o.entry; place = λ f. refl; size = o.size; most = o.most }) (inl refl))
 
   inside : child < length seen.board.table.rows
   inside = rw i.agrees.rows l
 
-  fork_in : (place : Place) → InCall s false grown (seen_after seen (line.Fork s child place))
-  unfolding other_turn
+  turn_in : (now : Board) → now.table.running ≡ seen.board.table.running → InTurn s (seated_child v child i.turn.seat) now
+  turn_in now running = record {
+    seat = i.turn.seat;
+    at = get_or-set_other v.slots child s (Some i.turn.seat) None d ∙ i.turn.at;
+    runs = running ∙ i.turn.runs;
+    user = i.turn.user;
+    small = i.turn.small;
+    alive = i.turn.alive;
+  }
+
+  users_born : (place : Place) → users_on (applied seen.board (line.Fork s child place)) ≡ joined_users v.texts i.turn.seat.text
+  unfolding applied
+  users_born place =
+      let b : Board = seen.board in
+      at_users (cradle b s child inside) child (row_at b.table s).size place
+      ∙ join_users (in_table b (λ t. with_row t child (child_row (row_at b.table s)))) (row_at b.table s).text
+      ∙ ap2 (sym i.agrees.texts) (own s s v b i.agrees i.turn).text
+    where
+      ap2 : {us ws : List (Option ℕ)} {j k : Option ℕ} → us ≡ ws → j ≡ k → joined_users us j ≡ joined_users ws k
+      ap2 e f = cc (e, f)
+
+  fork_in : (place : Place) → InCall s false (seated_child v child i.turn.seat) (seen_after seen (line.Fork s child place))
+  unfolding turn_in
   fork_in (Core c) =
       let b : Board = seen.board in
+      let now : Board = applied b (line.Fork s child (Core c)) in
       let e = born_in b s child inside c in
       record {
         going = tt;
-        agrees = same_board s grown (with_child_row b s child (Core c)) (applied b (line.Fork s child (Core c))) e (core_in b s child inside c) (child_agrees (Core c));
-        turn = other_turn s child v b (applied b (line.Fork s child (Core c))) (Some i.turn.seat) i.turn d (ap (λ t. t.running) e);
+        agrees = same_board s (seated_child v child i.turn.seat) (with_child_row (shared now.texts) s child (Core c)) now e
+            (record { core = core_in b s child inside c; users = refl }) (child_agrees (Core c) now.texts (users_born (Core c)));
+        turn = turn_in now (ap (λ t. t.running) e);
         calls = i.calls;
       }
   fork_in (Swap k) =
       let b : Board = seen.board in
+      let now : Board = applied b (line.Fork s child (Swap k)) in
       let e = born_out b s child inside k in
-      let a : Agrees s grown (with_child_row b s child (Swap k)) = child_agrees (Swap k) in
-      let told = runout_same (with_child_row b s child (Swap k)).table _ (same_none _ a.sleeps) in
-      let after : Board = record b { table = runout_told (with_child_row b s child (Swap k)).table } in
+      let w : Seats = seated_child v child i.turn.seat in
+      let a : Agrees s w (with_child_row (shared now.texts) s child (Swap k)) = child_agrees (Swap k) now.texts (users_born (Swap k)) in
+      let told = runout_same (with_child_row (shared now.texts) s child (Swap k)).table _ (same_none _ a.sleeps) in
+      let after : Board = record (shared now.texts) { table = runout_told (with_child_row b s child (Swap k)).table } in
       record {
         going = tt;
-        agrees = same_board s grown after (applied b (line.Fork s child (Swap k))) e (core_out b s child inside k)
-            (kept_agrees s grown (with_child_row b s child (Swap k)) after told refl a);
-        turn = other_turn s child v b (applied b (line.Fork s child (Swap k))) (Some i.turn.seat) i.turn d (ap (λ t. t.running) e ∙ told.running);
+        agrees = same_board s w after now e (record { core = core_out b s child inside k; users = refl })
+            (kept_agrees s w (with_child_row (shared now.texts) s child (Swap k)) after told (record { core = refl; users = refl }) a);
+        turn = turn_in now (ap (λ t. t.running) e ∙ told.running);
         calls = i.calls;
       }
 
@@ -144,7 +176,7 @@ free_other s v b child t e f = absurd (
 pub fork_apt : {W : Type 0}
     → (Q : Seen → Type 0) (s : ℕ) (v : Seats) (seen : Seen) (child : ℕ) (before : W) (es : List (Effect W))
     → (i : InCall s false v seen) → free_seat v ≡ Some child → 1 ≤ i.turn.seat.size
-    → ((now : Seen) → InCall s false (with_seat v child (Some i.turn.seat)) now → Apt Q now es)
+    → ((now : Seen) → InCall s false (seated_child v child i.turn.seat) now → Apt Q now es)
     → Apt Q seen (effect.Fork s child before ∷ es)
 unfolding Apt came FitsBoard
 fork_apt Q s v seen child before es i f least rest = by (placed seen.board s (row_at seen.board.table s).size) refl

@@ -39,8 +39,8 @@ clock_agrees v b a = subst (λ n. Agrees 0 (ticked_at n v) (record b { table = t
         → Agrees 0 (cond x (record v { ticks = 0; time = (v.time + 1) % 2 ^ 32 }) (record v { ticks = b.table.ticks + 1 }))
         (record b { table = cond x (record b.table { ticks = 0; now = (b.table.now + 1) % 2 ^ 32 }) (record b.table { ticks = b.table.ticks + 1; now = b.table.now }) })
     by true =
-        record { each = a.each; sleeps = a.sleeps; rows = a.rows; seats = a.seats; time = ap (λ n. (n + 1) % 2 ^ 32) a.time; ticks = refl; texts = a.texts; core = a.core; most = a.most }
-    by false = record { each = a.each; sleeps = a.sleeps; rows = a.rows; seats = a.seats; time = a.time; ticks = refl; texts = a.texts; core = a.core; most = a.most }
+        record { each = a.each; sleeps = a.sleeps; rows = a.rows; seats = a.seats; time = ap (λ n. (n + 1) % 2 ^ 32) a.time; ticks = refl; texts = a.texts; forty = a.forty; core = a.core; most = a.most }
+    by false = record { each = a.each; sleeps = a.sleeps; rows = a.rows; seats = a.seats; time = a.time; ticks = refl; texts = a.texts; forty = a.forty; core = a.core; most = a.most }
 
 -- who runs is the same a tick later
 later_runner : (v : Seats) (b : Board) (o : Option ℕ) → RunnerAt v b o → RunnerAt (a_tick_later v) b o
@@ -67,7 +67,7 @@ tick_paused v seen mode p = on mode
     agrees : (m : Mode) → Agrees 0 (a_tick_later v) (record b { table = tick m b.table })
     agrees m =
         kept_agrees 0 (a_tick_later v) (record b { table = time_passed b.table }) (record b { table = tick m b.table })
-        (same m) refl (clock_agrees v b p.agrees)
+        (same m) (record { core = refl; users = refl }) (clock_agrees v b p.agrees)
 
     runs : (m : Mode) → RunnerAt (a_tick_later v) (record b { table = tick m b.table }) (tick m b.table).running
     runs m = same_runner (a_tick_later v) b (record b { table = tick m b.table }) ((same m).running ∙ passed_running b.table)

@@ -11,7 +11,7 @@ use Rattle.pick_rules.specs.declared.row.TableRow.{TableRow}
 use Rattle.pick_rules.specs.Table.{empty_row, row_at, with_row, is_zombie, is_loaded}
 use Rattle.pick_rules.specs.Board.{Board, swap_fit}
 use Rattle.pick_rules.specs.Apply.{in_table, change_row, leaves_core, parted, goes_if_unused, applied}
-use Rattle.pick_rules.specs.Effects.{Effect, Panicked, at_fit, came}
+use Rattle.pick_rules.specs.Effects.{Effect, at_fit, came}
 use Rattle.pick_rules.specs.Effects as effect
 use Rattle.pick_rules.specs.Fits.{FitsBoard, IsRunning}
 use Rattle.pick_rules.specs.Lawful.{Seen, Fits, seen_after}
@@ -19,7 +19,8 @@ use Rattle.pick_rules.proofs.Within.{block_within}
 use Rattle.pick_rules.proofs.Shapes.{shape_at}
 use Rattle.pick_rules.proofs.Placing.{text_table, text_core}
 use Rattle.log_laws.proofs.Fitting.{going_fits, Apt, AptCame}
-use Rattle.log_laws.proofs.Seats.{Seat, Seats, seat_at, with_seat, Same, AgreesAt, InTurn, InCall, Paused, runs_in, in_its_slot, own, same_board, change_agrees}
+use Rattle.log_laws.proofs.Users.{users_on, left_users, left_long, leave_users}
+use Rattle.log_laws.proofs.Seats.{Seat, Seats, seat_at, with_seat, Same, AgreesAt, Agrees, InTurn, InCall, Paused, runs_in, in_its_slot, own, same_board, texts_agree, change_agrees}
 use Rattle.log_laws.proofs.Births.{other_turn}
 
 -- a process that has ended
@@ -98,6 +99,10 @@ leave_core b s k sticky = by sticky (is_loaded b.table s)
 abbrev pub with_own : (s : ℕ) (v : Seats) (seat : Seat) → Seats
 with_own s v seat = with_seat v s (Some seat)
 
+-- the process has left its text
+abbrev pub without_text : (s : ℕ) (v : Seats) (seat : Seat) → ℕ → Bool → Seats
+without_text s v seat k sticky = record v { slots = set v.slots s (Some (record seat { text = None })); texts = left_users v.texts k sticky }
+
 unfoldable pub own_turn : (s : ℕ) (v : Seats) (b d : Board) (seat : Seat) → length v.slots ≡ 50 → InTurn s v b
     → seat.dead ≡ false → d.table.running ≡ b.table.running
     → InTurn s (with_own s v seat) d
@@ -115,25 +120,38 @@ module _ (s : ℕ) (calling : Bool) (v : Seats) (seen : Seen) (i : InCall s call
   pub leave_fits : (k : ℕ) (sticky : Bool) → i.turn.seat.text ≡ Some k
       → Fits seen (line.Leave s k sticky)
   unfolding FitsBoard
-  leave_fits k sticky e = let o = own s s v seen.board i.agrees i.turn in absurd (let none = o.bare in cc (none, e))
+  leave_fits k sticky e =
+      let o = own s s v seen.board i.agrees i.turn in
+      going_fits seen (line.Leave s k sticky) i.going (in_its_slot i.turn, (let low = o.entry k e in omega (arith, low)))
+      (runs_in s v seen.board i.turn, o.text ∙ e)
 
   pub leave_in : (k : ℕ) (sticky : Bool)
-      → InCall s calling (with_own s v (record i.turn.seat { text = None })) (seen_after seen (line.Leave s k sticky))
-  unfolding own_turn
+      → InCall s calling (without_text s v i.turn.seat k sticky) (seen_after seen (line.Leave s k sticky))
   leave_in k sticky =
       let b : Board = seen.board in
-      let bare : TableRow = record (row_at b.table s) { text = None } in
-      let newer : Board = record b { table = with_row b.table s bare } in
-      let seat : Seat = record i.turn.seat { text = None } in
       let now : Board = applied b (line.Leave s k sticky) in
+      let bare : TableRow = record (row_at b.table s) { text = None } in
+      let newer : Board = record b { table = with_row b.table s bare; texts = now.texts } in
+      let seat : Seat = record i.turn.seat { text = None } in
       let e : now.table ≡ newer.table = leave_table b s k sticky in
       let o = own s s v b i.agrees i.turn in
+      let users : users_on now ≡ left_users v.texts k sticky = leave_users b s k sticky ∙ ap (λ us. left_users us k sticky) (sym i.agrees.texts) in
       record {
         going = tt;
-        agrees = same_board s (with_own s v seat) newer now e (leave_core b s k sticky)
-            (change_agrees s s s v (set v.slots s (Some seat)) b newer.table (Some seat) bare (λ f. refl) i.agrees i.turn.small refl refl i.agrees.time i.agrees.ticks
-            (record { used = o.used; zombie = o.zombie; calling = o.calling; text = refl; bare = refl; place = o.place; size = o.size; most = o.most }) (i.agrees.sleeps s));
-        turn = own_turn s v b now seat i.agrees.seats i.turn i.turn.alive (ap (λ t. t.running) e);
+        agrees = subst (λ us. Agrees s (record v { slots = set v.slots s (Some seat); texts = us }) now) users
+            (same_board s (record v { slots = set v.slots s (Some seat); texts = users_on now }) newer now e (record { core = leave_core b s k sticky; users = refl })
+            (change_agrees s s s (record v { texts = users_on now }) (set v.slots s (Some seat)) (record b { texts = now.texts }) newer.table (Some seat) bare (λ f. refl)
+            (texts_agree s v b now.texts (ap length users ∙ left_long v.texts k sticky ∙ i.agrees.forty) i.agrees) i.turn.small refl refl i.agrees.time i.agrees.ticks
+            (record { used = o.used; zombie = o.zombie; calling = o.calling; text = refl; entry = λ j f. absurd (cc f); place = o.place; size = o.size; most = o.most })
+            (i.agrees.sleeps s)));
+        turn = record {
+          seat = seat;
+          at = get_or-set_same v.slots s (Some seat) None (rw i.agrees.seats i.turn.small);
+          runs = ap (λ t. t.running) e ∙ i.turn.runs;
+          user = i.turn.user;
+          small = i.turn.small;
+          alive = i.turn.alive;
+        };
         calls = i.calls;
       }
 
@@ -154,7 +172,7 @@ module _ (s : ℕ) (calling : Bool) (v : Seats) (seen : Seen) (i : InCall s call
           zombie = sym dead;
           calling = λ f g. absurd (cc (dead, g));
           text = o.text ∙ sym text;
-          bare = text ∙ o.bare;
+          entry = λ k e. o.entry k (sym text ∙ e);
           place = λ f. absurd (cc (dead, f));
           size = λ f. absurd (cc (dead, f));
           most = o.most;
@@ -174,7 +192,7 @@ module _ (s : ℕ) (calling : Bool) (v : Seats) (seen : Seen) (i : InCall s call
       running = runs_in s v seen.board i.turn
 
       by : (o : Option ℕ) → swap_fit seen.board 1 ≡ o
-          → AptCame seen (at_fit (Panicked panic.Zombie) before o (λ block. line.Exit s block)) (λ now. Apt Q now es)
+          → AptCame seen (at_fit panic.Zombie before o (λ block. line.Exit s block)) (λ now. Apt Q now es)
       by (Some block) e = (
         going_fits seen (line.Exit s block) i.going (in_its_slot i.turn, block_within seen.board 1 block (omega arith) e) (running, (own s s v seen.board i.agrees i.turn).text ∙ bare, e),
         rest (seen_after seen (line.Exit s block)) (exit_paused block seat dead (text ∙ sym bare)),
@@ -195,7 +213,7 @@ module _ (s : ℕ) (calling : Bool) (v : Seats) (seen : Seen) (i : InCall s call
           zombie = o.zombie ∙ i.turn.alive ∙ sym dead;
           calling = λ f g. absurd (let e = eq-eqb s s refl in cc (e, f));
           text = o.text ∙ sym text;
-          bare = text ∙ o.bare;
+          entry = λ k e. o.entry k (sym text ∙ e);
           place = λ f. o.place i.turn.alive;
           size = λ f. o.size i.turn.alive ∙ sym size;
           most = o.most;

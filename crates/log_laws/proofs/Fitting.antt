@@ -2,11 +2,10 @@
 use Rattle.std.proofs.Common.{◌≡◌, ◌∙◌, List, [], ◌∷◌, ◌++◌, Option, Some, None, fold, refl, sym, ap, subst, inr}
 use Rattle.v6_base.specs.Trace.{Item, Byte, Log, entries_of}
 use Rattle.v6_base.specs.declared.entry.Chan.{Chan}
-use Rattle.v6_base.specs.declared.entry.PanicKind.TheVariants as panic
 use Rattle.v6_base.specs.declared.entry.Entry.{Entry}
 use Rattle.v6_base.specs.declared.entry.Entry.TheVariants as line
 use Rattle.pick_rules.specs.Board.{Board}
-use Rattle.pick_rules.specs.Effects.{Effect, Show, Why, Panicked, Unbuilt, Came, Lets, Stops, came}
+use Rattle.pick_rules.specs.Effects.{Effect, Show, Came, Lets, Stops, came}
 use Rattle.pick_rules.specs.Logged.{Stop, Logged, with_what_came, log_one, logged}
 use Rattle.pick_rules.specs.Ranges.{IsChannel, IsInRange}
 use Rattle.pick_rules.specs.Fits.{FitsBoard}
@@ -62,27 +61,22 @@ may_come Over b e g f = absurd g
 pub going_fits : (seen : Seen) (e : Entry) → IsGoing seen.stage → IsInRange e → FitsBoard seen.board e → Fits seen e
 going_fits seen e g r f = (r, may_come seen.stage seen.board e g f)
 
--- a log that a panic has stopped has ended; what isn't built is a text to share
-abbrev pub EndsBy : Why → Seen → Type 0
-EndsBy (Panicked kind) seen = seen.stage ≡ Over
-EndsBy (Unbuilt kind) seen = kind ≡ panic.Text
-
 module _ {W : Type 0} where
   -- what comes of an effect fits
   abbrev pub AptCame : Seen → Came W → (Seen → Type 0) → Type 0
   AptCame seen (Lets (Log e)) rest = Fits seen e × rest (seen_after seen e)
   AptCame seen (Lets (Byte l byte)) rest = rest seen
-  AptCame seen (Stops (Panicked kind) before) rest = Fits seen (line.Panic kind)
-  AptCame seen (Stops (Unbuilt kind) before) rest = kind ≡ panic.Text
+  AptCame seen (Stops kind before) rest = Fits seen (line.Panic kind)
 
   -- what comes of each effect fits what the effects before it give, and Q holds of what they all give
   unfoldable pub Apt : (Seen → Type 0) → Seen → List (Effect W) → Type 0
   Apt Q seen [] = Q seen
   Apt Q seen (e ∷ es) = AptCame seen (came seen.board e) (λ now. Apt Q now es)
 
+  -- a log that a panic has stopped has ended
   abbrev pub Ends : (Seen → Type 0) → Option (Stop W) → Seen → Type 0
   Ends Q None seen = Q seen
-  Ends Q (Some stop) seen = EndsBy stop.why seen
+  Ends Q (Some stop) seen = seen.stage ≡ Over
 
   pub record Fitted (Q : Seen → Type 0) (seen : Seen) (l : Logged W) : Type 0 where
     pub fit : FitAll seen (entries_of l.items)
@@ -107,13 +101,11 @@ module _ {W : Type 0} where
           (seen_append first xs (Log entry ∷ []) ∙ ap (λ s. seen_after s entry) e) a.1
       by rest (Lets (Byte l byte)) a = rest seen (xs ++ Byte l byte ∷ [])
           (fit_item first xs (Byte l byte) f tt) (seen_append first xs (Byte l byte ∷ []) ∙ e) a
-      by rest (Stops (Panicked kind) before) a = subst (Fitted Q first) (sym (stays_stopped _ _ _ es)) (record {
+      by rest (Stops kind before) a = subst (Fitted Q first) (sym (stays_stopped _ _ _ es)) (record {
         fit = fit_item first xs (Log (line.Panic kind)) f (subst (λ s. FitAll s (line.Panic kind ∷ [])) (sym e) (a, tt));
         board = ap (λ s. s.board) (seen_append first xs (Log (line.Panic kind) ∷ []) ∙ ap (λ s. seen_after s (line.Panic kind)) e);
         ends = ap (λ s. s.stage) (seen_append first xs (Log (line.Panic kind) ∷ []));
       })
-      by rest (Stops (Unbuilt kind) before) a =
-          subst (Fitted Q first) (sym (stays_stopped _ _ _ es)) (record { fit = f; board = ap (λ s. s.board) e; ends = a })
 
   -- the log of apt effects fits, and Q holds after it, unless it has stopped
   pub apt_fits : (Q : Seen → Type 0) (seen : Seen) (es : List (Effect W)) → Apt Q seen es
@@ -133,8 +125,7 @@ module _ {W : Type 0} where
           → AptCame seen c (λ now. Apt Q now (xs ++ ys))
       by (Lets (Log entry)) b rest = (b.0, rest (seen_after seen entry) b.1 h)
       by (Lets (Byte l byte)) b rest = rest seen b h
-      by (Stops (Panicked kind) before) b rest = b
-      by (Stops (Unbuilt kind) before) b rest = b
+      by (Stops kind before) b rest = b
 
   pub apt_more : (P Q : Seen → Type 0) (seen : Seen) (es : List (Effect W)) → ((now : Seen) → P now → Q now)
       → Apt P seen es → Apt Q seen es
@@ -146,8 +137,7 @@ module _ {W : Type 0} where
           → AptCame seen c (λ now. Apt Q now es)
       by (Lets (Log entry)) b rest = (b.0, rest (seen_after seen entry) b.1)
       by (Lets (Byte l byte)) b rest = rest seen b
-      by (Stops (Panicked kind) before) b rest = b
-      by (Stops (Unbuilt kind) before) b rest = b
+      by (Stops kind before) b rest = b
 
   -- a wake fits always
   pub wake_apt : (Q : Seen → Type 0) (seen : Seen) (chan : Chan) (es : List (Effect W)) → IsGoing seen.stage

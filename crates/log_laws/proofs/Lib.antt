@@ -1,4 +1,5 @@
 pub mod Fitting
+pub mod Users
 pub mod Seats
 pub mod Lines
 pub mod Births

@@ -22,6 +22,7 @@ use Rattle.pick_rules.proofs.Movers.{in_rows}
 use Rattle.pick_rules.proofs.Laws.{sleep_running}
 use Rattle.pick_rules.proofs.Shapes.{is_asleep, shape_at, Sleeps, SameShapes, same_none, row_same, wakeup_same, runin_same, signalled_same}
 use Rattle.log_laws.proofs.Fitting.{IsGoing, going_fits, Apt}
+use Rattle.log_laws.proofs.Users.{SameRest}
 use Rattle.log_laws.proofs.Seats.{Seat, Seats, seat_at, Same, AgreesAt, Agrees, InTurn, InCall, RunnerAt, Paused, runs_in, in_its_slot, not_zero, own, kept_agrees, change_agrees}
 
 -- a turn goes on over a board with the same runner
@@ -45,7 +46,7 @@ seat_stays s v b t = sym (ap (set v.slots s) (sym t.at) ∙ set-get_or v.slots s
 
 -- a line after which no row's shape is another
 pub same_in : (s : ℕ) (calling : Bool) (v : Seats) (seen : Seen) (e : Entry) → stage_after seen.stage e ≡ Open
-    → SameShapes seen.board.table (applied seen.board e).table → (applied seen.board e).core ≡ seen.board.core
+    → SameShapes seen.board.table (applied seen.board e).table → SameRest seen.board (applied seen.board e)
     → InCall s calling v seen → InCall s calling v (seen_after seen e)
 unfolding same_turn
 same_in s calling v seen e o k c i = record {
@@ -56,7 +57,7 @@ same_in s calling v seen e o k c i = record {
 }
 
 pub same_paused : (v : Seats) (seen : Seen) (e : Entry) → stage_after seen.stage e ≡ Open
-    → SameShapes seen.board.table (applied seen.board e).table → (applied seen.board e).core ≡ seen.board.core
+    → SameShapes seen.board.table (applied seen.board e).table → SameRest seen.board (applied seen.board e)
     → Paused v seen → Paused v (seen_after seen e)
 same_paused v seen e o k c p = record {
   going = rw o tt;
@@ -70,19 +71,19 @@ wake_shapes : (b : Board) (chan : Chan) → ((r : ℕ) → Sleeps (row_at b.tabl
 unfolding applied
 wake_shapes b chan l = wakeup_same b.table b.table chan (same_none b.table l)
 
-wake_core : (b : Board) (chan : Chan) → (applied b (line.Wake chan)).core ≡ b.core
+wake_rest : (b : Board) (chan : Chan) → SameRest b (applied b (line.Wake chan))
 unfolding applied
-wake_core b chan = refl
+wake_rest b chan = record { core = refl; users = refl }
 
 pub wake_in : (s : ℕ) (calling : Bool) (v : Seats) (seen : Seen) (chan : Chan) → InCall s calling v seen
     → InCall s calling v (seen_after seen (line.Wake chan))
 wake_in s calling v seen chan i =
     same_in s calling v seen (line.Wake chan) refl (wake_shapes seen.board chan i.agrees.sleeps)
-    (wake_core seen.board chan) i
+    (wake_rest seen.board chan) i
 
 pub wake_paused : (v : Seats) (seen : Seen) (chan : Chan) → Paused v seen → Paused v (seen_after seen (line.Wake chan))
 wake_paused v seen chan p =
-    same_paused v seen (line.Wake chan) refl (wake_shapes seen.board chan p.agrees.sleeps) (wake_core seen.board chan) p
+    same_paused v seen (line.Wake chan) refl (wake_shapes seen.board chan p.agrees.sleeps) (wake_rest seen.board chan) p
 
 -- a signal
 signal_shapes : (b : Board) (r n : ℕ) → ((q : ℕ) → Sleeps (row_at b.table q))
@@ -90,20 +91,20 @@ signal_shapes : (b : Board) (r n : ℕ) → ((q : ℕ) → Sleeps (row_at b.tabl
 unfolding applied
 signal_shapes b r n l = signalled_same b.table b.table r (same_none b.table l)
 
-signal_core : (b : Board) (r n : ℕ) → (applied b (line.Signal r n)).core ≡ b.core
+signal_rest : (b : Board) (r n : ℕ) → SameRest b (applied b (line.Signal r n))
 unfolding applied
-signal_core b r n = refl
+signal_rest b r n = record { core = refl; users = refl }
 
 pub signal_in : (s : ℕ) (calling : Bool) (v : Seats) (seen : Seen) (r n : ℕ) → InCall s calling v seen
     → InCall s calling v (seen_after seen (line.Signal r n))
 signal_in s calling v seen r n i =
     same_in s calling v seen (line.Signal r n) refl (signal_shapes seen.board r n i.agrees.sleeps)
-    (signal_core seen.board r n) i
+    (signal_rest seen.board r n) i
 
 pub signal_paused : (v : Seats) (seen : Seen) (r n : ℕ) → Paused v seen → Paused v (seen_after seen (line.Signal r n))
 signal_paused v seen r n p =
     same_paused v seen (line.Signal r n) refl (signal_shapes seen.board r n p.agrees.sleeps)
-    (signal_core seen.board r n) p
+    (signal_rest seen.board r n) p
 
 -- to a process
 pub signal_fits : (busy : ℕ) (v : Seats) (seen : Seen) (r n : ℕ) (seat : Seat) → IsGoing seen.stage
@@ -129,15 +130,15 @@ nice_shapes b s value l =
     row_same b.table b.table s (record (row_at b.table s) { nice = value }) b.table.runrun refl (l s)
     (same_none b.table l)
 
-nice_core : (b : Board) (s : ℕ) (value : ℤ) → (applied b (line.Nice s value)).core ≡ b.core
+nice_rest : (b : Board) (s : ℕ) (value : ℤ) → SameRest b (applied b (line.Nice s value))
 unfolding applied
-nice_core b s value = refl
+nice_rest b s value = record { core = refl; users = refl }
 
 pub nice_in : (s : ℕ) (calling : Bool) (v : Seats) (seen : Seen) (value : ℤ) → InCall s calling v seen
     → InCall s calling v (seen_after seen (line.Nice s value))
 nice_in s calling v seen value i =
     same_in s calling v seen (line.Nice s value) refl (nice_shapes seen.board s value i.agrees.sleeps)
-    (nice_core seen.board s value) i
+    (nice_rest seen.board s value) i
 
 pub nice_fits : (s : ℕ) (calling : Bool) (v : Seats) (seen : Seen) (value : ℤ) → IsPriority value → InCall s calling v seen
     → Fits seen (line.Nice s value)
@@ -151,7 +152,7 @@ pub time_in : (s : ℕ) (calling : Bool) (v : Seats) (seen : Seen) (time : ℕ) 
 unfolding applied
 time_in s calling v seen time i = record {
   going = tt;
-  agrees = let a = i.agrees in record { each = a.each; sleeps = a.sleeps; rows = a.rows; seats = a.seats; time = refl; ticks = a.ticks; texts = a.texts; core = a.core; most = a.most };
+  agrees = let a = i.agrees in record { each = a.each; sleeps = a.sleeps; rows = a.rows; seats = a.seats; time = refl; ticks = a.ticks; texts = a.texts; forty = a.forty; core = a.core; most = a.most };
   turn = let t = i.turn in record { seat = t.seat; at = t.at; runs = t.runs; user = t.user; small = t.small; alive = t.alive };
   calls = i.calls;
 }
@@ -168,7 +169,7 @@ trap_agrees : (s : ℕ) (v : Seats) (b : Board) → Agrees s v b → (t : InTurn
 unfolding applied setpri
 trap_agrees s v b a t n = change_agrees s 0 s v v.slots b _ (Some t.seat) told (λ f. absurd (f refl)) a t.small (seat_stays s v b t) rows a.time a.ticks
     (let o = own s s v b a t in
-    record { used = o.used; zombie = o.zombie; calling = λ f g. sym n; text = o.text; bare = o.bare; place = o.place; size = o.size; most = o.most })
+    record { used = o.used; zombie = o.zombie; calling = λ f g. sym n; text = o.text; entry = o.entry; place = o.place; size = o.size; most = o.most })
     (a.sleeps s)
   where
     done : TableRow
@@ -223,13 +224,13 @@ sleep_agrees s v b pri chan a t c = rw (not_zero s t.user) (by (int_lt pri (pos 
     settled : Agrees 0 v lain
     settled = let o = own s s v b a t in let n = sleeping_shape pri in change_agrees s 0 s v v.slots b (asleep b.table s pri chan) (Some t.seat) row (λ f. absurd (f refl)) a t.small
         (seat_stays s v b t) refl a.time a.ticks
-        (record { used = n.0; zombie = n.1 ∙ sym t.alive; calling = λ f g. sym c; text = o.text; bare = o.bare; place = o.place; size = o.size; most = o.most })
+        (record { used = n.0; zombie = n.1 ∙ sym t.alive; calling = λ f g. sym c; text = o.text; entry = o.entry; place = o.place; size = o.size; most = o.most })
         (inr n.2)
 
     by : (x : Bool)
         → Agrees 0 v (record b { table = cond x (asleep b.table s pri chan) (runin_told (asleep b.table s pri chan)) })
     by true = settled
-    by false = kept_agrees 0 v lain _ (runin_same lain.table _ (same_none _ settled.sleeps)) refl settled
+    by false = kept_agrees 0 v lain _ (runin_same lain.table _ (same_none _ settled.sleeps)) (record { core = refl; users = refl }) settled
 
 slept_running : (b : Board) (s : ℕ) (pri : ℤ) (chan : Chan) → (applied b (line.Sleep s pri chan)).table.running ≡ None
 unfolding applied

@@ -27,6 +27,7 @@ use Rattle.pick_rules.proofs.Shapes.{is_asleep, shape, shape_at, Sleeps, SameSha
 use Rattle.pick_rules.proofs.Placing.{row_out, loaded_row, HasCome, goes_out, goes_core}
 use Rattle.pick_rules.proofs.Placing as placing
 use Rattle.log_laws.proofs.Fitting.{going_fits}
+use Rattle.log_laws.proofs.Users.{come_users, gone_users}
 use Rattle.log_laws.proofs.Seats.{Seat, Seats, seat_at, Same, AgreesAt, Agrees, RunnerAt, Paused, same_board, kept_agrees, change_agrees}
 
 -- while process 0 runs, and when it has fallen asleep
@@ -72,7 +73,7 @@ module _ (v : Seats) (seen : Seen) (p : Paused v seen) (r : seen.board.table.run
         zombie = ap (λ x. x.zombie) e ∙ o.zombie;
         calling = λ x y. ap (λ x. x.calling) e ∙ o.calling x y;
         text = ap (λ x. x.text) e ∙ o.text;
-        bare = o.bare;
+        entry = o.entry;
         place = λ x. ap is_some f;
         size = λ x. ap (λ x. x.size) e ∙ o.size x;
         most = rw (ap (λ x. x.size) e) o.most;
@@ -93,7 +94,7 @@ module _ (v : Seats) (seen : Seen) (p : Paused v seen) (r : seen.board.table.run
       let row : TableRow = loaded_row (row_at seen.board.table s) k.click in
       let newer : Board = record seen.board { table = with_row seen.board.table s row } in
       after_move (line.SwapIn s c) refl
-      (same_board 0 v newer (applied seen.board (line.SwapIn s c)) k.table k.core (moved_agrees row (Core k.click) refl refl refl refl))
+      (same_board 0 v newer (applied seen.board (line.SwapIn s c)) k.table (record { core = k.core; users = come_users seen.board s c }) (moved_agrees row (Core k.click) refl refl refl refl))
       (ap (λ t. t.running) k.table ∙ r)
 
   go : (block : ℕ) → InPass v (seen_after seen (line.SwapOut s block))
@@ -105,8 +106,8 @@ module _ (v : Seats) (seen : Seen) (p : Paused v seen) (r : seen.board.table.run
       let a : Agrees 0 v newer = moved_agrees row (Swap block) refl refl refl refl in
       let told : SameShapes newer.table (runout_told newer.table) = runout_same newer.table newer.table (same_none newer.table a.sleeps) in
       after_move (line.SwapOut s block) refl
-      (same_board 0 v (record newer { table = runout_told newer.table }) now e (goes_core seen.board s block)
-      (kept_agrees 0 v newer (record newer { table = runout_told newer.table }) told refl a))
+      (same_board 0 v (record newer { table = runout_told newer.table }) now e (record { core = goes_core seen.board s block; users = gone_users seen.board s block })
+      (kept_agrees 0 v newer (record newer { table = runout_told newer.table }) told (record { core = refl; users = refl }) a))
       (ap (λ t. t.running) e ∙ told.running ∙ r)
 
 -- one move, or the panic
@@ -209,6 +210,7 @@ zero_sleeps v seen chan p = by (same_chan chan RunIn)
       time = p.agrees.time;
       ticks = p.agrees.ticks;
       texts = p.agrees.texts;
+      forty = p.agrees.forty;
       core = p.agrees.core;
       most = p.agrees.most;
     }

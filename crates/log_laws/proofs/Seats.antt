@@ -1,16 +1,17 @@
 -- Who sits in which slot, as far as the board of the log tells it too, and what both have in common.
-use Rattle.std.proofs.Common.{◌≡◌, ◌≢◌, ◌∙◌, ◌<◌, ◌≤◌, ◌==◌, ℕ, Bool, true, false, List, Option, Some, None, is_some, get_or, set, length, length-set, get_or-set_same, get_or-set_other, refl, sym, ap, subst, ◌⊎◌, arith}
+use Rattle.std.proofs.Common.{◌≡◌, ◌≢◌, ◌∙◌, ◌<◌, ◌≤◌, ◌==◌, ℕ, Bool, true, false, List, map, Option, Some, None, is_some, get_or, set, length, length-set, get_or-set_same, get_or-set_other, refl, sym, ap, subst, ◌⊎◌, arith}
 use Rattle.std.proofs.lemmas.Bool.{eqb-true, eqb-false}
 use Rattle.pick_rules.specs.declared.row.TableRow.{TableRow}
 use Rattle.pick_rules.specs.declared.table.Table.{Table}
 use Rattle.pick_rules.specs.Table.{empty_row, row_at}
 use Rattle.pick_rules.specs.Choice.{settle}
-use Rattle.pick_rules.specs.Board.{Board, limit}
+use Rattle.pick_rules.specs.Board.{TextPlace, Board, limit}
 use Rattle.pick_rules.specs.Ranges.{IsSlot}
 use Rattle.pick_rules.specs.Fits.{IsRunning}
 use Rattle.pick_rules.specs.Lawful.{Idling, Seen}
 use Rattle.pick_rules.proofs.Shapes.{Shape, shape, shape_at, Sleeps, SameShapes, each_set}
 use Rattle.log_laws.proofs.Fitting.{IsGoing}
+use Rattle.log_laws.proofs.Users.{users_of, users_on, SameRest}
 
 pub record Seat : Type 0 where
   pub dead : Bool  -- its process has ended
@@ -23,7 +24,7 @@ pub record Seats : Type 0 where
   pub slots : List (Option Seat)
   pub time : ℕ
   pub ticks : ℕ
-  pub texts : Bool  -- a text is shared
+  pub texts : List (Option ℕ)  -- the users of each text that is shared, by entries
   pub most : ℕ  -- the most clicks of an image
 
 abbrev pub seat_at : Seats → ℕ → Option Seat
@@ -38,7 +39,7 @@ pub record Same (busy : Bool) (clicks : ℕ) (seat : Seat) (row : Shape) : Type 
   pub zombie : row.zombie ≡ seat.dead
   pub calling : busy ≡ false → seat.dead ≡ false → row.calling ≡ seat.calling
   pub text : row.text ≡ seat.text
-  pub bare : seat.text ≡ None  -- no process shares a text yet
+  pub entry : (k : ℕ) → seat.text ≡ Some k → k < 40
   pub place : seat.dead ≡ false → is_some row.place ≡ true
   pub size : seat.dead ≡ false → row.size ≡ seat.size
   pub most : row.size ≤ clicks
@@ -55,7 +56,8 @@ pub record Agrees (busy : ℕ) (v : Seats) (b : Board) : Type 0 where
   pub seats : length v.slots ≡ 50
   pub time : v.time ≡ b.table.now
   pub ticks : v.ticks ≡ b.table.ticks
-  pub texts : v.texts ≡ false
+  pub texts : v.texts ≡ users_on b
+  pub forty : length v.texts ≡ 40
   pub core : b.core ≤ 3968
   pub most : v.most ≡ limit b.core
 
@@ -112,7 +114,7 @@ unbusy : (most : ℕ) (o : Option Seat) (row : Shape) → AgreesAt false most o 
     → AgreesAt busy most o row
 unbusy most None row a busy = a
 unbusy most (Some seat) row a busy =
-    record { used = a.used; zombie = a.zombie; calling = λ f g. a.calling refl g; text = a.text; bare = a.bare; place = a.place; size = a.size; most = a.most }
+    record { used = a.used; zombie = a.zombie; calling = λ f g. a.calling refl g; text = a.text; entry = a.entry; place = a.place; size = a.size; most = a.most }
 
 -- another busy slot, at a slot that is neither
 others : (s t r most : ℕ) (o : Option Seat) (row : Shape) → r ≢ s → AgreesAt (r == s) most o row
@@ -129,6 +131,7 @@ busy_agrees s v b a = record {
   time = a.time;
   ticks = a.ticks;
   texts = a.texts;
+  forty = a.forty;
   core = a.core;
   most = a.most;
 }
@@ -138,8 +141,8 @@ pub own : (busy s : ℕ) (v : Seats) (b : Board) → Agrees busy v b → (t : In
     → Same (s == busy) v.most t.seat (shape_at b.table s)
 own busy s v b a t = subst (λ o. AgreesAt (s == busy) v.most o (shape_at b.table s)) t.at (a.each s t.user)
 
--- another board with the same table and core
-pub same_board : (busy : ℕ) (v : Seats) (b c : Board) → c.table ≡ b.table → c.core ≡ b.core → Agrees busy v b
+-- another board with the same table
+pub same_board : (busy : ℕ) (v : Seats) (b c : Board) → c.table ≡ b.table → SameRest b c → Agrees busy v b
     → Agrees busy v c
 same_board busy v b c e f a = record {
   each = λ r h. rw e (a.each r h);
@@ -148,13 +151,14 @@ same_board busy v b c e f a = record {
   seats = a.seats;
   time = rw e a.time;
   ticks = rw e a.ticks;
-  texts = a.texts;
-  core = rw f a.core;
-  most = a.most ∙ ap limit (sym f);
+  texts = a.texts ∙ sym f.users;
+  forty = a.forty;
+  core = rw f.core a.core;
+  most = a.most ∙ ap limit (sym f.core);
 }
 
 -- a table with rows of the same shapes
-pub kept_agrees : (busy : ℕ) (v : Seats) (b c : Board) → SameShapes b.table c.table → c.core ≡ b.core → Agrees busy v b
+pub kept_agrees : (busy : ℕ) (v : Seats) (b c : Board) → SameShapes b.table c.table → SameRest b c → Agrees busy v b
     → Agrees busy v c
 kept_agrees busy v b c k f a = record {
   each = λ r h. subst (AgreesAt (r == busy) v.most (seat_at v r)) (sym (k.same r)) (a.each r h);
@@ -163,10 +167,17 @@ kept_agrees busy v b c k f a = record {
   seats = a.seats;
   time = a.time ∙ sym k.now;
   ticks = a.ticks ∙ sym k.ticks;
-  texts = a.texts;
-  core = rw f a.core;
-  most = a.most ∙ ap limit (sym f);
+  texts = a.texts ∙ sym f.users;
+  forty = a.forty;
+  core = rw f.core a.core;
+  most = a.most ∙ ap limit (sym f.core);
 }
+
+-- The texts are others on both sides.
+pub texts_agree : (busy : ℕ) (v : Seats) (b : Board) (texts : List (Option TextPlace)) → length (map users_of texts) ≡ 40 → Agrees busy v b
+    → Agrees busy (record v { texts = map users_of texts }) (record b { texts = texts })
+texts_agree busy v b texts forty a =
+    record { each = a.each; sleeps = a.sleeps; rows = a.rows; seats = a.seats; time = a.time; ticks = a.ticks; texts = refl; forty = forty; core = a.core; most = a.most }
 
 -- One slot is changed on both sides. Before, `s` was busy; it is that slot, or it stays busy.
 pub change_agrees : (s t c : ℕ) (v : Seats) (now : List (Option Seat)) (b : Board) (new : Table) (o : Option Seat) (row : TableRow) → (c ≢ s → s ≡ t)
@@ -183,6 +194,7 @@ change_agrees s t c v now b new o row stays a l slots rows time ticks k sleeps =
   time = time;
   ticks = ticks;
   texts = a.texts;
+  forty = a.forty;
   core = a.core;
   most = a.most;
 }

@@ -54,7 +54,7 @@ go_holds v seen s p c e = record {
     b = record seen.board { table = runs seen.board.table s }
 
     agrees : Agrees 0 v b
-    agrees = let a = p.agrees in record { each = a.each; sleeps = a.sleeps; rows = a.rows; seats = a.seats; time = a.time; ticks = a.ticks; texts = a.texts; core = a.core; most = a.most }
+    agrees = let a = p.agrees in record { each = a.each; sleeps = a.sleeps; rows = a.rows; seats = a.seats; time = a.time; ticks = a.ticks; texts = a.texts; forty = a.forty; core = a.core; most = a.most }
 
     small : s < 50
     small = subst (λ n. s < n) p.agrees.rows (in_rows seen.board.table.rows s (ready_alive _ (runs_ready seen.board.table s (chosen_runs seen.board.table s c))).used)
@@ -71,7 +71,7 @@ idle_holds v seen p e = record {
   holds = record {
     paused = record {
       going = tt;
-      agrees = let a = p.agrees in record { each = a.each; sleeps = a.sleeps; rows = a.rows; seats = a.seats; time = a.time; ticks = a.ticks; texts = a.texts; core = a.core; most = a.most };
+      agrees = let a = p.agrees in record { each = a.each; sleeps = a.sleeps; rows = a.rows; seats = a.seats; time = a.time; ticks = a.ticks; texts = a.texts; forty = a.forty; core = a.core; most = a.most };
       runner = tt;
     };
     rests = inl refl;

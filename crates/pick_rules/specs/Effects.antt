@@ -7,7 +7,7 @@ use Rattle.v6_base.specs.declared.entry.PanicKind.TheVariants as panic
 use Rattle.v6_base.specs.declared.entry.Entry.{Entry}
 use Rattle.v6_base.specs.declared.entry.Entry.TheVariants as line
 use Rattle.pick_rules.specs.Table.{row_at}
-use Rattle.pick_rules.specs.Board.{Board, placed, swap_fit}
+use Rattle.pick_rules.specs.Board.{Board, blocks, placed, swap_fit, free_text}
 
 -- one effect: a byte or a line that names no place, or a demand for one
 pub data Effect (W : Type 0) : Type 0 where
@@ -18,30 +18,25 @@ pub data Effect (W : Type 0) : Type 0 where
   Image : ℕ → ℕ → W → Effect W  -- this slot takes a new image of so many clicks
   Exit : ℕ → W → Effect W  -- the process in this slot has ended
 
--- why an event stops: a panic, or a demand whose answer isn't built yet
-pub data Why : Type 0 where
-  Panicked : PanicKind → Why
-  Unbuilt : PanicKind → Why
-
--- what found no place
-abbrev pub kind_of : Why → PanicKind
-kind_of (Panicked kind) = kind
-kind_of (Unbuilt kind) = kind
-
--- what an effect comes to: it lets something out, or the event stops just before it
+-- what an effect comes to: it lets something out, or the event stops just before it with a panic
 pub data Came (W : Type 0) : Type 0 where
   Lets : Item → Came W
-  Stops : Why → W → Came W
+  Stops : PanicKind → W → Came W
 
 module _ {W : Type 0} where
   -- the line with its place
-  abbrev pub at_fit : {P : Type 0} → Why → W → Option P → (P → Entry) → Came W
-  at_fit why before (Some place) entry = Lets (Log (entry place))
-  at_fit why before None entry = Stops why before
+  abbrev pub at_fit : {P : Type 0} → PanicKind → W → Option P → (P → Entry) → Came W
+  at_fit kind before (Some place) entry = Lets (Log (entry place))
+  at_fit kind before None entry = Stops kind before
 
-  -- an image's; one that finds none, neither in core nor in the swap area, is a panic
+  -- an image's: one that finds none, neither in core nor in the swap area, is a panic
   abbrev pub image_at : W → Option Place → (Place → Entry) → Came W
-  image_at before place entry = at_fit (Panicked panic.Swap) before place entry
+  image_at before place entry = at_fit panic.Swap before place entry
+
+  -- A text's: it takes an entry, and blocks of the swap area. Whether an entry is free is asked first.
+  abbrev pub new_text_at : W → Option ℕ → Option ℕ → (ℕ → ℕ → Entry) → Came W
+  new_text_at before None block entry = Stops panic.Text before
+  new_text_at before (Some k) block entry = at_fit panic.Swap before block (entry k)
 
   unfoldable pub came : Board → Effect W → Came W
   came b (Show item) = Lets item
@@ -50,9 +45,10 @@ module _ {W : Type 0} where
       else image_at before (placed b s clicks) (λ place. line.Size s clicks place)
   came b (Fork s child before) =
       image_at before (placed b s (row_at b.table s).size) (λ place. line.Fork s child place)
-  came b (Text s clicks before) = Stops (Unbuilt panic.Text) before  -- texts aren't shared yet
+  came b (Text s clicks before) =
+      new_text_at before (free_text b) (swap_fit b (blocks clicks)) (λ k block. line.Text s k clicks block)
   came b (Image s clicks before) = image_at before (placed b s clicks) (λ place. line.Image s clicks place)
-  came b (Exit s before) = at_fit (Panicked panic.Zombie) before (swap_fit b 1) (λ block. line.Exit s block)
+  came b (Exit s before) = at_fit panic.Zombie before (swap_fit b 1) (λ block. line.Exit s block)
 
 -- an effect over another state
 abbrev pub lifted : {V W : Type 0} → (V → W) → Effect V → Effect W

@@ -4,11 +4,12 @@ use Rattle.v6_base.specs.Trace.{Item, Byte, Log}
 use Rattle.v6_base.specs.declared.entry.Entry.TheVariants as line
 use Rattle.pick_rules.specs.Board.{Board}
 use Rattle.pick_rules.specs.Apply.{applied}
-use Rattle.pick_rules.specs.Effects.{Effect, Why, Panicked, Unbuilt, Came, Lets, Stops, came}
+use Rattle.v6_base.specs.declared.entry.PanicKind.{PanicKind}
+use Rattle.pick_rules.specs.Effects.{Effect, Came, Lets, Stops, came}
 
--- why the event stops, and the state just before the effect that stopped it
+-- the panic with which the event stops, and the state just before the effect that stopped it
 pub record Stop (W : Type 0) : Type 0 where
-  pub why : Why
+  pub why : PanicKind
   pub before : W
 
 pub record Logged (W : Type 0) : Type 0 where
@@ -27,14 +28,13 @@ module _ {W : Type 0} where
   abbrev pub with_item : Logged W → Item → Logged W
   with_item l item = record l { items = l.items ++ item ∷ []; board = board_after l.board item }
 
-  -- A panic is a line of the log. What isn't built is none.
-  abbrev pub with_why : Logged W → Why → Logged W
-  with_why l (Panicked kind) = with_item l (Log (line.Panic kind))
-  with_why l (Unbuilt kind) = l
+  -- a panic is a line of the log
+  abbrev pub with_panic : Logged W → PanicKind → Logged W
+  with_panic l kind = with_item l (Log (line.Panic kind))
 
   abbrev pub with_what_came : Logged W → Came W → Logged W
   with_what_came l (Lets item) = with_item l item
-  with_what_came l (Stops why before) = record (with_why l why) { stop = Some (record { why = why; before = before }) }
+  with_what_came l (Stops kind before) = record (with_panic l kind) { stop = Some (record { why = kind; before = before }) }
 
   abbrev pub unless_stopped : Option (Stop W) → Logged W → Logged W → Logged W
   unless_stopped None l next = next

@@ -22,7 +22,7 @@ use Rattle.pick_rules.specs.Table.{empty_row, row_at, with_row, is_ready, is_wai
 use Rattle.pick_rules.specs.Sleepers.{made_ready, sleeps_on, runout_told, asleep, fall_asleep}
 use Rattle.pick_rules.specs.Board.{Board, blocks, core_fit, swap_fit}
 use Rattle.pick_rules.specs.Apply.{applied}
-use Rattle.pick_rules.specs.Effects.{Panicked, at_fit}
+use Rattle.pick_rules.specs.Effects.{at_fit}
 use Rattle.pick_rules.specs.Logged.{Stop, Logged, nothing_logged, with_what_came}
 use Rattle.pick_rules.specs.Swapper.{SwapMove, In, Out, Waits, candidate, need, loaded_waiter, loaded_runner, out_if_old, makes_room, comes_in, move_for, swap_move}
 use Rattle.pick_rules.proofs.Found.{IsFound, found_in, least_in}
@@ -213,8 +213,8 @@ next_done b z e = by (swap_move b) refl e
     mine m f = (subst (IsMover b.table) f (mover b), subst (MayGo b.table) f (may_be b))
 
     out : (s : ℕ) → IsMover b.table (Out s) × MayGo b.table (Out s) → (o : Option ℕ)
-        → (with_what_came {W = Unit {0}} (nothing_logged b) (at_fit (Panicked panic.Swap) tt o (λ block. line.SwapOut s block))).stop ≡ None
-        → IsDone b (with_what_came {W = Unit {0}} (nothing_logged b) (at_fit (Panicked panic.Swap) tt o (λ block. line.SwapOut s block)))
+        → (with_what_came {W = Unit {0}} (nothing_logged b) (at_fit panic.Swap tt o (λ block. line.SwapOut s block))).stop ≡ None
+        → IsDone b (with_what_came {W = Unit {0}} (nothing_logged b) (at_fit panic.Swap tt o (λ block. line.SwapOut s block)))
     out s m None f = absurd (cc f)
     out s m (Some block) f = inr (lighter_out b s block m.0 m.1.0 m.1.1 z)
 

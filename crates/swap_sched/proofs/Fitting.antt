@@ -10,7 +10,7 @@ use Rattle.pick_rules.specs.Table.{row_at}
 use Rattle.pick_rules.specs.declared.table.Table.{Table}
 use Rattle.pick_rules.specs.Board.{Board, blocks, swap_fit}
 use Rattle.pick_rules.specs.Apply.{applied}
-use Rattle.pick_rules.specs.Effects.{Panicked, at_fit}
+use Rattle.pick_rules.specs.Effects.{at_fit}
 use Rattle.pick_rules.specs.Fits.{FitsBoard}
 use Rattle.pick_rules.specs.Logged.{Logged, nothing_logged, with_what_came}
 use Rattle.pick_rules.specs.Swapper.{SwapMove, In, Out, Waits, swap_move}
@@ -45,7 +45,7 @@ unfolding FitsBoard
 next_line b r = by (swap_move b) refl
   where
     out : (s : ℕ) → swap_move b ≡ Out s → (o : Option ℕ) → swap_fit b (blocks (row_at b.table s).size) ≡ o
-        → OneLine b (with_what_came {W = Unit {0}} (nothing_logged b) (at_fit (Panicked panic.Swap) tt o (λ block. line.SwapOut s block)))
+        → OneLine b (with_what_came {W = Unit {0}} (nothing_logged b) (at_fit panic.Swap tt o (λ block. line.SwapOut s block)))
     out s e (Some block) f = record { entry = line.SwapOut s block; items = refl; fits = (r, e, f); board = λ z. refl }
     out s e None f = record {
       entry = line.Panic panic.Swap;

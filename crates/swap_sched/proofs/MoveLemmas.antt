@@ -14,7 +14,7 @@ use Rattle.pick_rules.specs.Sleepers.{made_ready, sleeps_on, runout_told, asleep
 use Rattle.pick_rules.specs.Board.{Board}
 use Rattle.pick_rules.specs.Board as board
 use Rattle.pick_rules.specs.Apply.{applied}
-use Rattle.pick_rules.specs.Effects.{Came, Lets, Panicked, at_fit}
+use Rattle.pick_rules.specs.Effects.{Came, Lets, at_fit}
 use Rattle.pick_rules.specs.Logged.{nothing_logged, with_what_came}
 use Rattle.pick_rules.specs.Swapper.{Out, Waits, candidate, need, swap_move, makes_room, loaded_waiter}
 use Rattle.pick_rules.proofs.Movers.{Lives}
@@ -194,8 +194,8 @@ module _ (t : Table) (k : Kept) (s : ℕ) (m : Matches t k) (kept : IsKept k) (e
       ∙ ap (λ x. swap_fit k (blocks x)) (same_size t k s stands.held m living.user low stands.has) ∙ f
 
   move_is : (o : Option ℕ) → swap_fit k (blocks (clicks_of (area_of k s))) ≡ o
-      → came_of_move (board_of t k) (swap_move (board_of t k)) ≡ at_fit (Panicked panic.Swap) tt o (λ block. line.SwapOut s block)
-  move_is o f = ap (came_of_move (board_of t k)) e ∙ ap (λ x. at_fit (Panicked panic.Swap) tt x (λ block. line.SwapOut s block)) (fit_same o f)
+      → came_of_move (board_of t k) (swap_move (board_of t k)) ≡ at_fit panic.Swap tt o (λ block. line.SwapOut s block)
+  move_is o f = ap (came_of_move (board_of t k)) e ∙ ap (λ x. at_fit panic.Swap tt x (λ block. line.SwapOut s block)) (fit_same o f)
 
   pub leaves : (u : Table) (n : Kept) (block : ℕ) (a z : Taken) → swap_fit k (blocks (clicks_of (area_of k s))) ≡ Some block
       → n ≡ swapped_out k s (swap_fit k (blocks (clicks_of (area_of k s)))) → IsTable u

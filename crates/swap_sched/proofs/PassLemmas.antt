@@ -1,13 +1,12 @@
 -- A pass is its moves, one after another.
 use Rattle.std.proofs.Common.{◌≡◌, ◌∙◌, ◌+◌, ◌<◌, ◌≤◌, ◌-◌, true, false, is_none, ℕ, zero, suc, ◌++◌, Option, Some, None, Result, Ok, Err, refl, sym, ap, subst, inl, inr, ◌⊎◌, arith}
-use Rattle.std.proofs.lemmas.List.{append-nil}
 use Rattle.std.proofs.lemmas.List.Sums.{fold-append}
 use Rattle.v6_base.specs.Trace.{Taken}
 use Rattle.v6_base.proofs.Took.{took_none, took_then}
 use Rattle.v6_base.specs.declared.entry.PanicKind.{PanicKind}
 use Rattle.pick_rules.specs.declared.table.Table.{Table}
 use Rattle.pick_rules.specs.Board.{Board}
-use Rattle.pick_rules.specs.Effects.{Panicked, Unbuilt, Came, Lets, Stops}
+use Rattle.pick_rules.specs.Effects.{Came, Lets, Stops}
 use Rattle.pick_rules.specs.Logged.{Stop, Logged, nothing_logged, with_item, with_what_came, unless_stopped}
 use Rattle.pick_rules.specs.Swapper.{swap_move}
 use Rattle.image_keep.specs.Kept.{Kept}
@@ -23,9 +22,7 @@ joined l m = record { items = l.items ++ m.items; board = m.board; stop = m.stop
 came_joined : (l : Logged (Unit {0})) → l.stop ≡ None → (c : Came (Unit {0}))
     → with_what_came l c ≡ joined l (with_what_came (nothing_logged l.board) c)
 came_joined l e (Lets item) = λ i. record { items = (with_item l item).items; board = (with_item l item).board; stop = e i }
-came_joined l e (Stops (Panicked kind) before) = refl
-came_joined l e (Stops (Unbuilt kind) before) =
-    λ i. record { items = sym (append-nil l.items) i; board = l.board; stop = Some (record { why = Unbuilt kind; before = before }) }
+came_joined l e (Stops kind before) = refl
 
 pub next_move : (l : Logged (Unit {0})) (s : ℕ) → l.stop ≡ None → l.board.table.running ≡ Some s → moved l ≡ joined l (next_logged l.board)
 unfolding moved

@@ -35,7 +35,7 @@ fewer_texts texts t =
     ∙ ap (set (map text_place texts) t) (fewer_same (get_or texts t None) ∙ ap (λ x. changed x one_fewer) (sym (text_at_map texts t)))
 
 -- a text that is given a click and then changed
-set_twice : (texts : List (Option TextPlace)) (t : ℕ) (y z : TextPlace) (rule : TextPlace → TextPlace) → get_or texts t None ≡ Some z
+pub set_twice : (texts : List (Option TextPlace)) (t : ℕ) (y z : TextPlace) (rule : TextPlace → TextPlace) → get_or texts t None ≡ Some z
     → set (set texts t (Some y)) t (changed (get_or (set texts t (Some y)) t None) rule) ≡ set texts t (Some (rule y))
 set_twice [] t y z rule e = absurd (cc e)
 set_twice (x ∷ texts) zero y z rule e = refl

@@ -4,7 +4,6 @@ use Rattle.v6_base.specs.Trace.{Item, Byte, Log, Taken, Took}
 use Rattle.v6_base.specs.declared.entry.Entry.{Entry}
 use Rattle.v6_base.specs.declared.entry.Entry.TheVariants.{SwapIn, SwapOut}
 use Rattle.v6_base.specs.declared.entry.PanicKind.{PanicKind}
-use Rattle.pick_rules.specs.Effects.{kind_of}
 use Rattle.pick_rules.specs.declared.table.Table.{Table}
 use Rattle.pick_rules.specs.Logged.{Stop, Logged}
 use Rattle.v6_base.specs.declared.entry.Place.TheVariants.{Core}
@@ -27,7 +26,7 @@ kept_after k items = fold kept_by_item k items
 -- what a pass answers
 abbrev pub answered : Option (Stop (Unit {0})) → Result (Unit {0}) PanicKind
 answered None = Ok tt
-answered (Some stop) = Err (kind_of stop.why)
+answered (Some stop) = Err stop.why
 
 -- What moves that leave this log have done to the table, to the images and to a trace. The time at which sleepers are woken,
 -- of which a log doesn't tell, is the same.

@@ -8,7 +8,7 @@ use Rattle.pick_rules.specs.Priority.{pswp}
 use Rattle.pick_rules.specs.Table.{row_at}
 use Rattle.pick_rules.specs.Board.{Board, blocks, swap_fit}
 use Rattle.pick_rules.specs.Swapper.{SwapMove, In, Out, Waits, swap_move}
-use Rattle.pick_rules.specs.Effects.{Came, Lets, Panicked, at_fit}
+use Rattle.pick_rules.specs.Effects.{Came, Lets, at_fit}
 use Rattle.pick_rules.specs.Logged.{Stop, Logged, nothing_logged, with_what_came, unless_stopped}
 
 -- A pass makes no more moves than this.
@@ -18,7 +18,7 @@ most_moves = 150
 -- the line of a move; who goes out and finds no blocks is a panic
 abbrev pub came_of_move : Board → SwapMove → Came (Unit {0})
 came_of_move b (In s c) = Lets (Log (line.SwapIn s c))
-came_of_move b (Out s) = at_fit (Panicked panic.Swap) tt (swap_fit b (blocks (row_at b.table s).size)) (λ block. line.SwapOut s block)
+came_of_move b (Out s) = at_fit panic.Swap tt (swap_fit b (blocks (row_at b.table s).size)) (λ block. line.SwapOut s block)
 came_of_move b (Waits chan) = Lets (Log (line.Sleep 0 pswp chan))
 
 abbrev pub while_it_runs : Option ℕ → Logged (Unit {0}) → Logged (Unit {0}) → Logged (Unit {0})

@@ -11,9 +11,9 @@ use Rattle.pick_rules.specs.Sleepers.{made_ready, sleeps_on, runout_told, wakeup
 use Rattle.pick_rules.proofs.Laws.{Stays, runout_stays, wakeup_stays, set_each}
 use Rattle.proc_tab.specs.declared.member.Member.{Member}
 use Rattle.proc_tab.specs.Processes.{Processes, member_at}
-use Rattle.image_keep.specs.Kept.{Held, Keeping, Alive, Kept, no_users, keeping, with_keeping, text_of}
+use Rattle.image_keep.specs.Kept.{Held, Keeping, Alive, Kept, keeping, with_keeping, text_of}
 use Rattle.image_keep.proofs.Frames.{SameTexts}
-use Rattle.sys_procs.specs.Agree.{Kind, Free, Lives, Died, kind_of_stat, kind_of_member, kind_of_keeping, kind_by, Agrees, HasNoText, Agree}
+use Rattle.sys_procs.specs.Agree.{Kind, Free, Lives, Died, kind_of_stat, kind_of_member, kind_of_keeping, kind_by, Agrees, Agree}
 
 -- A row that agrees with what the old one agrees with: a sleeper may have been woken.
 pub record IsLike (old new : TableRow) : Type 0 where
@@ -48,6 +48,7 @@ like_agrees m old new x a l = by old.channel refl
       place = l.place ∙ a.place;
       size = λ held is. l.size ∙ a.size held is;
       quiet = λ f. same.1;
+      textless = λ f. l.text ∙ a.textless f;
     }
     by (Some w) e = let alive : kind_of_member m ≡ Lives = lives m old x w a e in record {
       stat = l.woken (λ none. cc (none, e)) (a.stat ∙ alive) ∙ sym alive;
@@ -55,6 +56,7 @@ like_agrees m old new x a l = by old.channel refl
       place = l.place ∙ a.place;
       size = λ held is. l.size ∙ a.size held is;
       quiet = λ f. absurd (f alive);
+      textless = λ f. absurd (f alive);
     }
 
 -- tables of which each row is like the old one
@@ -76,7 +78,7 @@ agree_like v t u k a good l = record {
   images = a.images;
   each = λ s above below. like_agrees (member_at v.slots s) (row_at t s) (row_at u s) (keeping k s) (a.each s above below) (l.each s);
   text = λ s above below. (l.each s).text ∙ a.text s above below;
-  no_text = a.no_text;
+  textless = a.textless;
 }
 
 pub row_like : (t : Table) (s : ℕ) (row : TableRow) → IsLike (row_at t s) row → AreLike t (with_row t s row)
@@ -123,9 +125,6 @@ runout_like t = runout_stays (AreLike t) (woken_like t) t (tables_same t t refl)
 same_text : (k l : Kept) (s : ℕ) → SameTexts k l → text_of k s ≡ text_of l s
 same_text k l s same = ap (λ users. get_or users s None) (sym same.users)
 
-pub same_none : (k l : Kept) → SameTexts k l → HasNoText k → HasNoText l
-same_none k l same none = record { texts = same.texts ∙ none.texts; users = same.users ∙ none.users }
-
 -- a change of what a slot keeps leaves them
 pub same_texts : (k : Kept) (s : ℕ) (x : Keeping) → SameTexts k (with_keeping k s x)
 same_texts k s x = record { texts = refl; users = refl }
@@ -153,7 +152,7 @@ agree_but v w t u k l s a above good long new text same members rows images = re
     | inl here ↦ subst (λ q. (row_at u q).text ≡ text_of l q) (sym here) (text ∙ same_text k l s same)
     | inr other ↦ ap (λ (row : TableRow). row.text) (rows r other) ∙ (a.text r up low ∙ same_text k l r same)
   ];
-  no_text = same_none k l same a.no_text;
+  textless = sym (same_text k l 0 same) ∙ a.textless;
 }
 
 -- Who has an image is there, and hasn't ended.
@@ -170,13 +169,3 @@ is_there m row x held a e = by m refl
     by : (o : Option Member) → m ≡ o → (it : Member) × (o ≡ Some it) × (it.is_dead ≡ false)
     by None f = absurd (let g : Free ≡ Lives = ap kind_of_member (sym f) ∙ kind in cc g)
     by (Some it) f = (it, refl, alive it.is_dead (ap kind_of_member (sym f) ∙ kind))
-
--- no text is made yet
-none_at : (n s : ℕ) → get_or {A = Option ℕ} (replicate n None) s None ≡ None
-none_at zero s = refl
-none_at (suc n) zero = refl
-none_at (suc n) (suc s) = none_at n s
-
-pub no_text_of : (k : Kept) (s : ℕ) → HasNoText k → text_of k s ≡ None
-unfolding no_users
-no_text_of k s none = ap (λ users. get_or users s None) none.users ∙ none_at 50 s

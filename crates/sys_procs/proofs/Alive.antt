@@ -23,7 +23,7 @@ use Rattle.sys_procs.specs.World.{processes_in}
 use Rattle.sys_procs.specs.Agree.{Agrees}
 use Rattle.sys_procs.specs.Handed.{Calls, IsAlive, process_here, handed, board}
 use Rattle.sys_procs.proofs.Slots.{own_alive, row_changed, area_changed}
-use Rattle.sys_procs.proofs.Agreement.{is_there, agree_but, agree_like, AreLike, no_text_of}
+use Rattle.sys_procs.proofs.Agreement.{is_there, agree_but, agree_like, AreLike}
 
 runs_below : (t : Table) (s : ℕ) → IsTable t → t.running ≡ Some s → s < 50
 runs_below t s good e = subst (λ o. MatchOption o ⊤ (λ r. r < 50)) e good.running
@@ -113,6 +113,7 @@ area_agrees m row held u same a = record {
   place = a.place;
   size = λ other is. a.size held refl ∙ (sym same ∙ ap (λ x. clicks_of (area_in x)) is);
   quiet = a.quiet;
+  textless = a.textless;
 }
 
 pub area_alive : (p : Procs) (s : ℕ) (u : UArea) → IsAlive p s → length p.images.slots ≡ 50 → SameSizes u (process_here p s).u → IsAlive (record p { images = with_area p.images s u }) s
@@ -146,7 +147,7 @@ row_put p s row alive =
     row_changed p.rows.slots p.images s here.member here.held alive.below here.member_is here.image_is row (is_within p.rows.slots s here.member here.member_is)
 
 row_agrees : (m : Member) (new : Row) (row : TableRow) (x : Keeping) → Agrees (Some m) row x → Agrees (Some (with_row new m)) row x
-row_agrees m new row x a = record { stat = a.stat; image = a.image; place = a.place; size = a.size; quiet = a.quiet }
+row_agrees m new row x a = record { stat = a.stat; image = a.image; place = a.place; size = a.size; quiet = a.quiet; textless = a.textless }
 
 pub row_alive : (p : Procs) (s : ℕ) (row : Row) → IsAlive p s → IsAlive (record p { rows = with_change p.rows s (with_row row) }) s
 row_alive p s row alive =
@@ -174,13 +175,6 @@ table_alive p t s alive good like = record {
   below = alive.below;
   image = alive.image;
 }
-
--- no text is made yet
-pub no_text_here : (p : Procs) (s : ℕ) → IsAlive p s → (process_here p s).text ≡ None
-no_text_here p s alive = ap (λ (q : Process). q.text) (is_here p s alive).process_is ∙ no_text_of p.images s alive.agree.no_text
-
-pub no_text_row : (p : Procs) (s : ℕ) → IsAlive p s → (row_at p.table s).text ≡ None
-no_text_row p s alive = alive.agree.text s alive.above alive.below ∙ no_text_of p.images s alive.agree.no_text
 
 -- what most calls need beside their own row
 pub ruleset calls = (took_none, took_more, rest_stays, calls_alive)

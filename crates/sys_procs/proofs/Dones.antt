@@ -5,7 +5,6 @@ use Rattle.v6_base.specs.declared.answer.Answer.{Answer}
 use Rattle.v6_base.specs.declared.answer.Answer.TheVariants.{Ret}
 use Rattle.v6_base.specs.declared.entry.PanicKind.{PanicKind}
 use Rattle.v6_base.proofs.Took.{took_none}
-use Rattle.pick_rules.specs.Effects.{kind_of}
 use Rattle.pick_rules.specs.Logged.{Logged, Stop, left_by}
 use Rattle.fs_nodes.specs.FileSystem.{FileSystem}
 use Rattle.sys_procs.specs.declared.procs.Procs.{Procs}
@@ -72,11 +71,11 @@ not_stopped (Some stop) u e = absurd (cc e)
 
 pub stopped : (o : Option (Stop World)) (kind : PanicKind) (answer : Answer) → ended_by o ≡ Err kind → answered o answer ≡ Err kind
 stopped None kind answer e = absurd (cc e)
-stopped (Some stop) kind answer e = let same : kind_of stop.why ≡ kind = cc e in ap (λ k. Err k) same
+stopped (Some stop) kind answer e = let same : stop.why ≡ kind = cc e in ap (λ k. Err k) same
 
 grown_stopped : (o : Option (Stop World)) (kind : PanicKind) (grows : Bool) → ended_by o ≡ Err kind → grown_by o grows ≡ Err kind
 grown_stopped None kind grows e = absurd (cc e)
-grown_stopped (Some stop) kind grows e = let same : kind_of stop.why ≡ kind = cc e in ap (λ k. Err k) same
+grown_stopped (Some stop) kind grows e = let same : stop.why ≡ kind = cc e in ap (λ k. Err k) same
 
 -- a call that answers as this end does
 pub done_on : {old new : Procs} {fs : FileSystem} {r : Result (Unit {0}) PanicKind} {result : Result Answer PanicKind} {start end : Taken} {c : Comes}

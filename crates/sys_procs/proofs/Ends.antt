@@ -18,7 +18,7 @@ use Rattle.pick_rules.specs.Table.{row_at, IsTable, empty_row}
 use Rattle.pick_rules.specs.Sleepers.{made_ready, wakeup}
 use Rattle.pick_rules.specs.Board.{Board, swap_fit}
 use Rattle.pick_rules.specs.Apply.{applied, change_row}
-use Rattle.pick_rules.specs.Effects.{Panicked, Show, Exit}
+use Rattle.pick_rules.specs.Effects.{Show, Exit}
 use Rattle.pick_rules.specs.Effects as effects
 use Rattle.pick_rules.specs.Logged.{Logged, logged, log_one}
 use Rattle.pick_rules.proofs.Laws.{Stays, wakeup_stays, wakeup_kept}
@@ -63,7 +63,7 @@ pub logged_panic : (b : Board) (s : ℕ) (w : World) (e f : Entry) → swap_fit 
     → logged b (Exit s w ∷ Show (Log e) ∷ Show (Log f) ∷ []) ≡ record {
       items = Log (line.Panic panic.Zombie) ∷ [];
       board = b;
-      stop = Some (record { why = Panicked panic.Zombie; before = w });
+      stop = Some (record { why = panic.Zombie; before = w });
     }
 unfolding log_one effects.came applied
 logged_panic b s w e f fit = rw fit refl
@@ -129,6 +129,7 @@ same_kind m n row x e a = record {
   place = a.place;
   size = a.size;
   quiet = λ f. a.quiet (λ l. f (e ∙ l));
+  textless = λ f. a.textless (λ l. f (e ∙ l));
 }
 
 pub agree_adopted : (v : Processes) (t : Table) (k : Kept) (pid : ℕ) → length v.slots ≡ 50 → Agree v t k → Agree (orphans_adopted v pid) t k
@@ -141,7 +142,7 @@ agree_adopted v t k pid long a = record {
       (ap kind_of_member (get_or-map (rows_of.adopted pid) v.slots s None None (omega (arith, low, long))) ∙ kind_adopted pid (member_at v.slots s))
       (a.each s above low);
   text = a.text;
-  no_text = a.no_text;
+  textless = a.textless;
 }
 
 agree_strays : (b : Bool) (v : Processes) (t : Table) (k : Kept) (ppid : ℕ) → length v.slots ≡ 50 → Agree v t k → Agree (strays b ppid v) t k
@@ -249,17 +250,18 @@ module _ (v : Processes) (t : Table) (k : Kept) (s : ℕ) (m : Member) (held : H
         processes = map (adopted (own v.slots k s).row.pid) (exit.strays_adopted o (own v.slots k s).row.ppid dead_slots);
       }) found
 
-  slot_ended : Agrees (Some m) (row_at t s) (Alive held) → Agrees (Some (dead m)) (ending_row (row_at t s) block) (Grave held.u block)
-  slot_ended a = record {
+  slot_ended : (row_at t s).text ≡ None → Agrees (Some m) (row_at t s) (Alive held) → Agrees (Some (dead m)) (ending_row (row_at t s) block) (Grave held.u block)
+  slot_ended none a = record {
     stat = refl;
     image = refl;
     place = refl;
     size = λ other is. absurd (cc is);
     quiet = λ f. refl;
+    textless = λ f. none;
   }
 
-  agree_ending : 0 < s → Agree v t k → Agree ended_rows (ending t s block) ended_images
-  agree_ending above a =
+  agree_ending : (row_at t s).text ≡ None → 0 < s → Agree v t k → Agree ended_rows (ending t s block) ended_images
+  agree_ending none above a =
       let row : row_at (ending t s block) s ≡ ending_row (row_at t s) block = get_or-set_same t.rows s (ending_row (row_at t s) block) empty_row (omega (arith, low, a.rows)) in
       let old : Agrees (Some m) (row_at t s) (Alive held) = subst (λ o. Agrees o (row_at t s) (Alive held)) here (subst (λ x. Agrees (member_at v.slots s) (row_at t s) x) has (a.each s above low)) in
       agree_but v ended_rows t (ending t s block) k ended_images s a above
@@ -267,18 +269,18 @@ module _ (v : Processes) (t : Table) (k : Kept) (s : ℕ) (m : Member) (held : H
       (length-set t.rows s (ending_row (row_at t s) block))
       (subst (λ o. Agrees o (row_at (ending t s block) s) (keeping ended_images s)) (sym member_ended)
       (subst (λ (r : TableRow). Agrees (Some (dead m)) r (keeping ended_images s)) (sym row)
-      (subst (λ x. Agrees (Some (dead m)) (ending_row (row_at t s) block) x) (sym image_ended) (slot_ended old))))
+      (subst (λ x. Agrees (Some (dead m)) (ending_row (row_at t s) block) x) (sym image_ended) (slot_ended none old))))
       (ap (λ (r : TableRow). r.text) row ∙ a.text s above low) (same_texts k s (Grave held.u block))
       (λ r other. get_or-set_other v.slots s r (changed dead (member_at v.slots s)) None other)
       (λ r other. get_or-set_other t.rows s r (ending_row (row_at t s) block) empty_row other)
       (λ r other. get_or-set_other k.slots s r (Grave held.u block) Nothing other)
 
-  agree_ended : (b : Bool) (row : Row) (parent : ℕ) → 0 < s → Agree v t k → Agree (adopted_rows b row) (ended_table t s block parent) ended_images
-  agree_ended b row parent above a =
+  agree_ended : (b : Bool) (row : Row) (parent : ℕ) → (row_at t s).text ≡ None → 0 < s → Agree v t k → Agree (adopted_rows b row) (ended_table t s block parent) ended_images
+  agree_ended b row parent none above a =
       agree_adopted (strays b row.ppid ended_rows) (ended_table t s block parent) ended_images row.pid (strays_long b row.ppid ended_rows ended_long)
       (agree_strays b ended_rows (ended_table t s block parent) ended_images row.ppid ended_long
       (agree_woken ended_rows (wakeup (ending t s block) (Wait 1)) ended_images (Wait parent)
-      (agree_woken ended_rows (ending t s block) ended_images (Wait 1) (agree_ending above a))))
+      (agree_woken ended_rows (ending t s block) ended_images (Wait 1) (agree_ending none above a))))
 
 -- Of all that a call is handed.
 -- the rows of those who are left
@@ -317,13 +319,13 @@ module _ (old new : Procs) (s block : ℕ) (parent : Option ℕ) (alive : IsAliv
       ap (λ t. board_of t new.images) did.table
       ∙ (ap (λ k. board_of (ended_table old.table s block (unwrap_or parent 1)) k) images_are ∙ board_ended old.table old.images s block (unwrap_or parent 1))
 
-  pub end_agree : AreProcs new
-  end_agree =
+  pub end_agree : text_of old.images s ≡ None → AreProcs new
+  end_agree none =
       subst (λ v. Agree v new.table new.images) (sym did.rows)
       (subst (λ t. Agree (rows_left old s parent) t new.images) (sym did.table)
       (subst (λ k. Agree (rows_left old s parent) (ended_table old.table s block (unwrap_or parent 1)) k) (sym images_are)
       (agree_ended old.rows old.table old.images s here.member here.held block alive.below slots images here.member_is here.image_is
-      (is_none parent) (rows.row_at old.rows s) (unwrap_or parent 1) alive.above alive.agree)))
+      (is_none parent) (rows.row_at old.rows s) (unwrap_or parent 1) (alive.agree.text s alive.above alive.below ∙ none) alive.above alive.agree)))
 
 -- the parent's slot, by the rows
 pub parent_is : (p : Procs) (s : ℕ) (parent : Option ℕ) (row : Row) (fs : FileSystem) → length p.rows.slots ≡ 50 → row ≡ (process_here p s).row
@@ -353,7 +355,7 @@ module _ (p : Procs) (s : ℕ) (parent : Option ℕ) (fs : FileSystem) (a : AreP
       → came p (exit.dies (handed p fs) s) ≡ record {
         items = Log (line.Panic panic.Zombie) ∷ [];
         board = board p;
-        stop = Some (record { why = Panicked panic.Zombie; before = handed p fs });
+        stop = Some (record { why = panic.Zombie; before = handed p fs });
       }
   logged_no_end fit =
       ap (λ (o : Option ℕ). lines_of_end (board p) s (handed p fs) (unwrap_or o 1)) (sym is)

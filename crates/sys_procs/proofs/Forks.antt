@@ -52,7 +52,7 @@ pub logged_no_fork : (b : Board) (s child : ℕ) (w : World) → placed b s (row
     → logged b (Fork s child w ∷ []) ≡ record {
       items = Log (line.Panic panic.Swap) ∷ [];
       board = b;
-      stop = Some (record { why = effects.Panicked panic.Swap; before = w });
+      stop = Some (record { why = panic.Swap; before = w });
     }
 unfolding log_one effects.came applied
 logged_no_fork b s child w fit = rw fit refl
@@ -199,6 +199,7 @@ module _ (p : Procs) (s child : ℕ) (place : Place) (alive : IsAlive p s) (slot
     place = refl;
     size = λ held is. size_is ∙ ap (λ (x : Keeping). clicks_of (area_in x)) is;
     quiet = λ f. refl;
+    textless = λ f. absurd (f refl);
   }
 
   pub agree_forked : IsTable (with_image_row p.table child (row_of_child p.table s place) place) → AreProcs (seated p s child place)

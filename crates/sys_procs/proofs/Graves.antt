@@ -145,6 +145,7 @@ module _ (p : Procs) (s : ℕ) (low : s < 50) (slots : length p.rows.slots ≡ 5
         place = refl;
         size = λ held is. absurd (cc is);
         quiet = λ f. refl;
+        textless = λ f. refl;
       } in
       agree_but p.rows (without p.rows s) p.table (with_row p.table s empty_row) p.images (with_keeping p.images s Nothing) s a above
       (record { last = a.table.last; running = a.table.running; ticks = a.table.ticks })

@@ -10,7 +10,7 @@ use Rattle.pick_rules.specs.Table.{IsTable, row_at}
 use Rattle.pick_rules.specs.Board.{Board}
 use Rattle.pick_rules.specs.Board as board_of_log
 use Rattle.pick_rules.specs.Apply.{applied, change_row}
-use Rattle.pick_rules.specs.Effects.{Panicked, Size}
+use Rattle.pick_rules.specs.Effects.{Size}
 use Rattle.pick_rules.specs.Effects as effects
 use Rattle.pick_rules.specs.Logged.{logged, log_one}
 use Rattle.image_keep.specs.Kept.{Held, Keeping, Alive, Kept, with_keeping, text_of, area_in, image_in, area_of, image_of, place_in, place_of}
@@ -47,7 +47,7 @@ logged_stopped : (b : Board) (s n : ℕ) (w : World) → nat_le n (row_at b.tabl
     → logged b (Size s n w ∷ []) ≡ record {
       items = Log (line.Panic panic.Swap) ∷ [];
       board = b;
-      stop = Some (record { why = Panicked panic.Swap; before = w });
+      stop = Some (record { why = panic.Swap; before = w });
     }
 unfolding log_one effects.came applied
 logged_stopped b s n w grows none = rw grows (rw none refl)
@@ -105,7 +105,7 @@ module _ (p : Procs) (s : ℕ) (alive : IsAlive p s) (long : length p.images.slo
       → came p (expands (handed p fs) s d stack) ≡ record {
         items = Log (line.Panic panic.Swap) ∷ [];
         board = board p;
-        stop = Some (record { why = Panicked panic.Swap; before = handed p fs });
+        stop = Some (record { why = panic.Swap; before = handed p fs });
       }
   log_stopped d stack fs e =
       let n : ℕ = 16 + d + stack in

@@ -29,3 +29,7 @@ pub mod TestsLemmas
 pub mod LoadData
 pub mod LoadLemmas
 pub mod LoadForms
+pub mod Bare
+pub mod Retexted
+pub mod JoinedText
+pub mod MovedTexts

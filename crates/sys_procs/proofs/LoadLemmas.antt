@@ -36,15 +36,6 @@ one_more_kept old now i h low is e =
     ap (set now i) e
     ∙ map_over_more kept_handler old now i (get_or now i 0) low is (get_or_default now i 0 (get_or now i 0) within)
 
--- the node of a number that has one
-some_or : (o : Option Node) → IsSome o → o ≡ Some (unwrap_or o no_node)
-some_or None h = absurd (cc)
-some_or (Some node) h = refl
-
-pub node_there : (store : Store) (i : ℕ) → IsSome (node_numbered store i)
-    → node_numbered store i ≡ Some (node_in store i)
-node_there store i h = some_or (node_numbered store i) h
-
 -- An image that is cleared, at a place.
 abbrev pub new_held : ℕ → Place → Held
 new_held d place = record { u = sized_area d 20; image = cleared d 20; place = place }

@@ -22,7 +22,7 @@ use Rattle.sys_procs.proofs.Agreement.{agree_but}
 use Rattle.sys_procs.proofs.Alive.{is_here}
 
 -- the bytes of a slot's text
-bytes_at : (texts : List (Option Shared)) (t : ℕ) → (unwrap_or (get_or (map text_in texts) t None) no_text).bytes ≡ kept.bytes_in (get_or texts t None)
+pub bytes_at : (texts : List (Option Shared)) (t : ℕ) → (unwrap_or (get_or (map text_in texts) t None) no_text).bytes ≡ kept.bytes_in (get_or texts t None)
 bytes_at [] t = refl
 bytes_at (None ∷ texts) zero = refl
 bytes_at (Some x ∷ texts) zero = refl
@@ -59,6 +59,7 @@ module _ (p : Procs) (s : ℕ) (alive : IsAlive p s) (long : length p.images.slo
     place = a.place;
     size = λ other is. a.size held refl ∙ ap (λ x. kept.clicks_of (kept.area_in x)) is;
     quiet = a.quiet;
+    textless = a.textless;
   }
 
   slot_with : (held : Held) → keeping p.images s ≡ Alive held → keeping (with_image p.images s m) s ≡ Alive (record held { image = m })

@@ -22,7 +22,7 @@ use Rattle.sys_procs.specs.Agree.{Agree}
 use Rattle.sys_procs.specs.Seats.{with_image_row, placed_row, with_place}
 use Rattle.sys_procs.specs.Handed.{IsAlive}
 use Rattle.sys_procs.proofs.Agreement.{agree_like, runout_like}
-use Rattle.sys_procs.proofs.Alive.{IsHere, is_here, no_text_row}
+use Rattle.sys_procs.proofs.Alive.{IsHere, is_here}
 use Rattle.sys_procs.proofs.Slots.{one_changed}
 
 -- A row without a place.
@@ -135,8 +135,8 @@ module _ (p : Procs) (s : ℕ) (alive : IsAlive p s) where
   pub row_low : s < length p.table.rows
   row_low = omega (arith, alive.below, alive.agree.rows)
 
-  pub no_text : (row_at p.table s).text ≡ None
-  no_text = no_text_row p s alive
+  pub text_row : (row_at p.table s).text ≡ text_of p.images s
+  text_row = alive.agree.text s alive.above alive.below
 
   pub size_is : (row_at p.table s).size ≡ clicks_of (area_of p.images s)
   size_is =

@@ -73,6 +73,7 @@ agrees_at m row old n u image (Core c) a size = record {
   place = refl;
   size = λ held is. sym size ∙ ap (λ x. clicks_of (area_in x)) is;
   quiet = a.quiet;
+  textless = a.textless;
 }
 agrees_at m row old n u image (Swap block) a size = record {
   stat = a.stat;
@@ -80,6 +81,7 @@ agrees_at m row old n u image (Swap block) a size = record {
   place = refl;
   size = λ held is. sym size ∙ ap (λ x. clicks_of (area_in x)) is;
   quiet = a.quiet;
+  textless = a.textless;
 }
 
 module _ (p : Procs) (s : ℕ) (held : Held) (alive : IsAlive p s) (long : length p.images.slots ≡ 50) where
@@ -130,6 +132,7 @@ module _ (p : Procs) (s : ℕ) (held : Held) (alive : IsAlive p s) (long : lengt
       place = there;
       size = λ other is. sym size ∙ ap (λ x. clicks_of (area_in x)) is;
       quiet = agreed.quiet;
+      textless = agreed.textless;
     });
     above = alive.above;
     below = alive.below;

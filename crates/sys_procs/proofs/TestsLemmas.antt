@@ -1,7 +1,8 @@
 -- The tests of exec(II): those that leave the same world are one, which leaves that world where one of them refuses.
 use Rattle.std.proofs.Common.{◌≡◌, ◌∙◌, ◌==◌, ◌&&◌, ℕ, Bool, true, false, not, nat_lt, List, map, Option, Some, None}
-use Rattle.std.proofs.Common.{Result, Ok, Err, IsSome, slice_index, refl, sym, ap}
-use Rattle.std.specs.Prelude.{is_none}
+use Rattle.std.proofs.Common.{if◌then◌else◌, Result, Ok, Err, IsSome, ◌*◌, ◌<◌, IfOk, length, slice_index, inl, inr, refl, sym, ap, arith}
+use Rattle.std.proofs.lemmas.Bool.{eq-eqb, ne_eqb, eqb-true}
+use Rattle.std.proofs.lemmas.Bool.Decides.{eqb_tells}
 use Rattle.std.specs.Option.{unwrap_or}
 use Rattle.v6_base.specs.Access.{then_do}
 use Rattle.v6_base.specs.declared.errno.Errno.{Errno}
@@ -14,38 +15,111 @@ use Rattle.fs_tree.specs.declared.user.Want.TheVariants.{Execute}
 use Rattle.fs_tree.specs.Permission.{permission}
 use Rattle.fs_tree.specs.Name.{name_at}
 use Rattle.fs_tree.specs.Finding.{Inodes, inodes_of, find_in}
-use Rattle.aout_head.specs.Header.{Header, header_of, plan_of}
+use Rattle.aout_head.specs.Header.{Header, header_of, plan_of, plain, shared as shared_plan}
+use Rattle.aout_head.specs.declared.parts.ExecFault.{ExecFault}
+use Rattle.aout_head.specs.declared.parts.ExecFault.TheVariants.{Separate, NotExecutable}
 use Rattle.aout_head.specs.declared.parts.Plan.{Plan}
 use Rattle.seg_regs.specs.Sizes.{is_refused}
 use Rattle.sys_procs.specs.declared.procs.Procs.{Procs}
-use Rattle.image_keep.specs.Kept.{Kept, no_texts}
+use Rattle.image_keep.specs.Kept.{Kept, Shared, shared, shared_clicks}
+use Rattle.image_keep.specs.SharedTexts.{AreLong, is_of_inode, found_text, row_in}
+use Rattle.image_keep.proofs.TextSearch.{position_map}
 use Rattle.sys_procs.specs.Process.{Process}
-use Rattle.sys_procs.specs.TextTable.{entry_of}
-use Rattle.sys_procs.specs.Agree.{HasNoText}
+use Rattle.sys_procs.specs.TextTable.{Text, text_of, is_text_of, entry_of}
 use Rattle.sys_procs.specs.World.{World, text_in, texts_in, with_inodes, let_go}
 use Rattle.sys_procs.specs.Stack.{arguments, stack_clicks}
 use Rattle.sys_procs.specs.Tests.{must, user_of, no_node, node_in}
 use Rattle.sys_procs.specs.Handed.{handed, process_here, memory_here}
-use Rattle.sys_procs.specs.ExecFile.{Tested, check, with_moved, text_clicks, data_clicks}
-use Rattle.sys_procs.specs.ExecFile.{unless_error, is_magic, or_no_memory, is_busy, header_read}
+use Rattle.sys_procs.specs.ExecFile.{Tested, check, with_moved, clicks, text_clicks, data_clicks}
+use Rattle.sys_procs.specs.ExecFile.{unless_error, is_magic, or_no_memory, is_other, is_busy, header_read}
 use Rattle.sys_procs.specs.ExecFile.{tests_header, tests_file, tests}
+use Rattle.sys_procs.proofs.MemoryLemmas.{bytes_at}
 
--- no text is in an entry
-none_entered : (k : Kept) (ino : ℕ) → HasNoText k → is_none (entry_of (texts_in k) ino) ≡ true
-unfolding no_texts
-none_entered k ino none = ap (λ texts. is_none (entry_of (map text_in texts) ino)) none.texts
+-- the entries of the texts that a call is handed are those of the texts that are kept
+of_inode : (ino : ℕ) (o : Option Shared) → is_text_of ino (text_in o) ≡ is_of_inode ino o
+of_inode ino None = refl
+of_inode ino (Some x) = refl
 
-and_true : (b : Bool) → b ≡ b && true
-and_true true = refl
-and_true false = refl
+pub entry_is : (k : Kept) (ino : ℕ) → entry_of (texts_in k) ino ≡ found_text k ino
+entry_is k ino = position_map text_in (is_of_inode ino) (is_text_of ino) (of_inode ino) k.texts
 
-pub busy_is : (p : Procs) (fs : FileSystem) (ino : ℕ) (h : Header) → HasNoText p.images
-    → (not (h.magic == 0o407) && not (h.text_size == 0) && nat_lt 1 (slice_index fs.references ino))
-    ≡ is_busy (handed p fs) ino h
-busy_is p fs ino h none =
-    let shared : Bool =
-    not (h.magic == 0o407) && not (h.text_size == 0) && nat_lt 1 (slice_index fs.references ino) in
-    and_true shared ∙ ap (λ none. shared && none) (sym (none_entered p.images ino none))
+-- a text has the clicks of a header, or not
+clicks_told : (n a b : ℕ) → n ≡ 64 * a → (n == 64 * b) ≡ (a == b)
+clicks_told n a b e = elim (eqb_tells a b) [
+  | inl same ↦ eq-eqb n (64 * b) (e ∙ ap (λ m. 64 * m) same.1) ∙ sym same.0
+  | inr other ↦ ne_eqb n (64 * b) (λ f. other.1 (omega (arith, e, f))) ∙ sym other.0
+]
+
+row_clicks : (o : Option Shared) → (row_in o).clicks ≡ shared_clicks o
+row_clicks None = refl
+row_clicks (Some x) = refl
+
+pub other_is : (k : Kept) (references ino size t : ℕ) → AreLong k → found_text k ino ≡ Some t
+    → not ((row_in (shared k t)).clicks == size) ≡ is_other (texts_in k) references size (entry_of (texts_in k) ino)
+other_is k references ino size t long found =
+    let told : length (text_of (texts_in k) t).bytes ≡ 64 * (row_in (shared k t)).clicks =
+    ap length (bytes_at k.texts t) ∙ (long t ∙ ap (λ n. 64 * n) (sym (row_clicks (shared k t)))) in
+    ap not (sym (clicks_told (length (text_of (texts_in k) t).bytes) (row_in (shared k t)).clicks size told))
+    ∙ ap (is_other (texts_in k) references size) (sym (entry_is k ino ∙ found))
+
+pub none_other : (k : Kept) (references ino size : ℕ) → found_text k ino ≡ None
+    → nat_lt 1 references ≡ is_other (texts_in k) references size (entry_of (texts_in k) ino)
+none_other k references ino size found = ap (is_other (texts_in k) references size) (sym (entry_is k ino ∙ found))
+
+-- A text of a program that isn't busy, where one is there, has the clicks of the header.
+module _ (h : Header) (texts : List (Option Text)) (references ino : ℕ) where
+  abbrev other : Bool
+  other = is_other texts references (clicks h.text_size) (entry_of texts ino)
+
+  long_by : (k : ℕ) → is_other texts references (clicks h.text_size) (Some k) ≡ false
+      → length (text_of texts k).bytes ≡ 64 * clicks h.text_size
+  long_by k e = eqb-true (length (text_of texts k).bytes) (64 * clicks h.text_size) (not_false (length (text_of texts k).bytes == 64 * clicks h.text_size) e)
+    where
+      not_false : (b : Bool) → not b ≡ false → b ≡ true
+      not_false true e = refl
+      not_false false e = sym e
+
+  third : (a b c : Bool) → a ≡ true → b ≡ true → (a && b && c) ≡ false → c ≡ false
+  third true true c e f g = g
+  third true false c e f g = absurd (cc f)
+  third false b c e f g = absurd (cc e)
+
+  pub planned_long : (plan : Plan) (k : ℕ) → plan_of h ≡ Ok plan
+      → (not (h.magic == 0o407) && not (h.text_size == 0) && other) ≡ false
+      → 0 < plan.text → entry_of texts ino ≡ Some k → length (text_of texts k).bytes ≡ 64 * text_clicks plan
+  planned_long plan k is free some there = by (h.magic == 0o407) refl
+    where
+      some_bytes : plan.text ≡ h.text_size → not (h.text_size == 0) ≡ true
+      some_bytes e = ap not (ne_eqb h.text_size 0 (λ f. omega (arith, e, f, some)))
+
+      by : (x : Bool) → (h.magic == 0o407) ≡ x → length (text_of texts k).bytes ≡ 64 * text_clicks plan
+      by true e =
+          let same : Ok (plain h) ≡ Ok plan = ap (λ b. if b then Ok (plain h) else (if h.magic == 0o410 then Ok (shared_plan h) else (if h.magic == 0o411 then Err Separate else Err NotExecutable))) (sym e) ∙ is in
+          let p : plain h ≡ plan = cc same in
+          let none : 0 ≡ plan.text = ap (λ (q : Plan). q.text) p in
+          absurd (omega (arith, none, some))
+      by false e = in_shared (h.magic == 0o410) refl
+        where
+          in_shared : (x : Bool) → (h.magic == 0o410) ≡ x → length (text_of texts k).bytes ≡ 64 * text_clicks plan
+          in_shared true f =
+              let same : Ok (shared_plan h) ≡ Ok plan = (λ i. if sym e i then Ok (plain h) else (if sym f i then Ok (shared_plan h) else (if h.magic == 0o411 then Err Separate else Err NotExecutable))) ∙ is in
+              let p : shared_plan h ≡ plan = cc same in
+              let bytes : plan.text ≡ h.text_size = sym (ap (λ (q : Plan). q.text) p) in
+              long_by k (ap (is_other texts references (clicks h.text_size)) (sym there) ∙ third (not (h.magic == 0o407)) (not (h.text_size == 0)) other (ap not e) (some_bytes bytes) free)
+              ∙ ap (λ n. 64 * clicks n) (sym bytes)
+          in_shared false f = absurd (no_plan (h.magic == 0o411) ((λ i. if sym e i then Ok (plain h) else (if sym f i then Ok (shared_plan h) else (if h.magic == 0o411 then Err Separate else Err NotExecutable))) ∙ is))
+            where
+              no_plan : (x : Bool) → (if x then Err Separate else Err NotExecutable) ≡ Ok plan → ⊥
+              no_plan true g = cc g
+              no_plan false g = cc g
+
+pub shared_then : (result : Result Plan Errno) (planned : Result Plan ExecFault) (h : Header) (texts : List (Option Text)) (references ino : ℕ)
+    → IfOk result (λ plan. planned ≡ Ok plan) → planned ≡ plan_of h
+    → (not (h.magic == 0o407) && not (h.text_size == 0) && is_other texts references (clicks h.text_size) (entry_of texts ino)) ≡ false
+    → IfOk result (λ plan. (k : ℕ) → 0 < plan.text → entry_of texts ino ≡ Some k → length (text_of texts k).bytes ≡ 64 * text_clicks plan)
+shared_then (Ok plan) planned h texts references ino is told free = λ k some there.
+    planned_long h texts references ino plan k (sym told ∙ is) free some there
+shared_then (Err e) planned h texts references ino is told free = tt
 
 -- what the header comes to, where none of the refusals before it comes
 pub none_refuses : (error : Option Errno) (is_program is_busy : Bool) (rest : Result Plan Errno)

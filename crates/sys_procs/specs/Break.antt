@@ -8,7 +8,6 @@ use Rattle.v6_base.specs.declared.entry.PanicKind.{PanicKind}
 use Rattle.v6_base.specs.declared.errno.Errno.TheVariants.{ENOMEM}
 use Rattle.seg_regs.specs.Sizes.{is_refused}
 use Rattle.pick_rules.specs.Effects as effect
-use Rattle.pick_rules.specs.Effects.{kind_of}
 use Rattle.pick_rules.specs.Logged.{Stop}
 use Rattle.sys_procs.specs.Process.{Process}
 use Rattle.sys_procs.specs.World.{World, process_of, change}
@@ -67,4 +66,4 @@ grown_or_not w slot (Some c) = c
 -- whether the stack has grown, unless the growth stops
 abbrev pub grown_by : Option (Stop World) → Bool → Result Bool PanicKind
 grown_by None grows = Ok grows
-grown_by (Some stop) grows = Err (kind_of stop.why)
+grown_by (Some stop) grows = Err stop.why

@@ -43,3 +43,7 @@ does e rest = record rest { effects = e ∷ rest.effects }
 -- a line of the log that names no place, and then the rest
 abbrev pub logs : Entry → Comes → Comes
 logs e rest = does (Show (Log e)) rest
+
+-- no effect, and an answer that nobody asks for
+abbrev pub nothing : World → Comes
+nothing w = gives_two w 0 0

@@ -1,12 +1,13 @@
 -- exec(II) of the UNIX Programmer's Manual; Lions' Commentary, `exec` in `sys1.c`.
-use Rattle.std.specs.Prelude.{◌≡◌, ◌<◌, ◌≤◌, IsSome, ℕ, ◌+◌, ◌*◌, ◌/◌, ◌%◌, ◌==◌, ◌&&◌, nat_lt, Bool, true, false, not, if◌then◌else◌, List, [], ◌∷◌, map, replicate, slice_index, Option, Some, None, is_none, Result, Ok, Err, bit_and}
+use Rattle.std.specs.Prelude.{◌≡◌, ◌<◌, ◌≤◌, IsSome, ℕ, ◌+◌, ◌*◌, ◌/◌, ◌%◌, ◌==◌, ◌&&◌, nat_lt, Bool, true, false, not, if◌then◌else◌, List, [], ◌∷◌, length, map, replicate, slice_index, Option, Some, None, Result, Ok, Err, bit_and}
 use Rattle.std.specs.Option.{unwrap_or}
 use Rattle.v6_base.specs.Image.{Image, nseg}
 use Rattle.v6_base.specs.declared.entry.Entry.TheVariants.{Bare}
 use Rattle.v6_base.specs.declared.errno.Errno.{Errno}
 use Rattle.v6_base.specs.declared.errno.Errno.TheVariants.{ENOEXEC, ENOMEM, EACCES, ETXTBSY}
+use Rattle.buf_cache.specs.Blocks.{patched}
 use Rattle.fs_codec.specs.Modes.{file_type}
-use Rattle.fs_codec.specs.Store.{Node, node_numbered}
+use Rattle.fs_codec.specs.Store.{Node, Store, node_numbered}
 use Rattle.fs_codec.specs.declared.modes.TheConstants.{ISUID, ISGID}
 use Rattle.fs_laws.specs.Numbers.{with_node}
 use Rattle.fs_laws.specs.Pieces.{Moving, read_file}
@@ -21,16 +22,17 @@ use Rattle.aout_head.specs.declared.parts.ExecFault.{ExecFault}
 use Rattle.aout_head.specs.declared.parts.ExecFault.TheVariants.{NotExecutable, Separate}
 use Rattle.seg_regs.specs.Sizes.{is_refused}
 use Rattle.u_area.specs.declared.area.UArea.{UArea}
+use Rattle.image_keep.specs.Area.{no_area}
 use Rattle.pick_rules.specs.Board.{Board}
 use Rattle.pick_rules.specs.Apply.{applied}
 use Rattle.pick_rules.specs.Effects as effect
 use Rattle.sys_procs.specs.declared.program.Program.{Program}
 use Rattle.sys_procs.specs.Process.{Process, with_state, image_of}
-use Rattle.sys_procs.specs.TextTable.{text_of, with_text, text_bytes, entry_of}
+use Rattle.sys_procs.specs.TextTable.{Text, text_of, with_text, text_bytes, entry_of}
 use Rattle.sys_procs.specs.Texts.{xfree, xalloc}
 use Rattle.sys_procs.specs.World.{World, process_of, change, with_inodes, let_go}
 use Rattle.sys_procs.specs.Comes.{Comes, returns, fails, does, logs}
-use Rattle.sys_procs.specs.Tests.{must, user_of, node_at}
+use Rattle.sys_procs.specs.Tests.{must, user_of, node_in, node_at}
 use Rattle.sys_procs.specs.Stack.{arguments, first_sp, first_stack, stack_clicks}
 
 -- The tests.
@@ -77,11 +79,19 @@ abbrev pub or_no_memory : Result Plan ExecFault → Result Plan Errno
 or_no_memory (Ok plan) = Ok plan
 or_no_memory (Err fault) = Err ENOMEM
 
--- A text that would be shared is busy while others than this call refer to its file, and it is in no entry.
-abbrev pub is_busy : World → ℕ → Header → Bool
-is_busy w ino h =
+-- A text that would be shared is busy while others than this call refer to its file, and it is in no entry. Who shares a text
+-- that is in an entry finds it as long as the header says, since nobody writes such a file.
+abbrev pub is_other : List (Option Text) → ℕ → ℕ → Option ℕ → Bool
+is_other texts references size None = nat_lt 1 references
+is_other texts references size (Some k) = not (length (text_of texts k).bytes == 64 * size)
+
+abbrev pub is_busy_in : List (Option Text) → ℕ → ℕ → Header → Bool
+is_busy_in texts references ino h =
     not (h.magic == 0o407) && not (h.text_size == 0)
-    && nat_lt 1 (slice_index w.inodes.references ino) && is_none (entry_of w.texts ino)
+    && is_other texts references (clicks h.text_size) (entry_of texts ino)
+
+abbrev pub is_busy : World → ℕ → Header → Bool
+is_busy w ino h = is_busy_in w.texts (slice_index w.inodes.references ino) ino h
 
 -- the header, when it has been read
 abbrev pub tests_header : World → ℕ → List (List ℕ) → Moving (List ℕ) → Tested
@@ -128,8 +138,8 @@ bare_board b s = applied b (Bare s)
 -- it stays zeros.
 abbrev pub text_read : World → Program → Moving (List ℕ)
 text_read w program =
-    read_file put_kernel (node_at w program.ino) w.inodes.store.room (replicate (64 * text_clicks program.plan) 0) 16
-    program.plan.text w.clock.time
+    read_file put_kernel (node_at w program.ino) w.inodes.store.room (replicate program.plan.text 0) 16 program.plan.text
+    w.clock.time
 
 -- the entry of the text that a process has, or 40 where it has none
 abbrev pub entry_in : World → ℕ → ℕ
@@ -139,7 +149,9 @@ abbrev pub with_text_read : World → ℕ → Program → World
 with_text_read w s program =
     let m : Moving (List ℕ) = text_read w program in
     let k = entry_in w s in
-    record (with_moved w program.ino m) { texts = with_text w.texts k (record (text_of w.texts k) { bytes = m.memory }) }
+    record (with_moved w program.ino m) {
+      texts = with_text w.texts k (record (text_of w.texts k) { bytes = patched 0 m.memory (text_of w.texts k).bytes });
+    }
 
 abbrev pub reads_text : Bool → World → ℕ → Program → World
 reads_text is_new w s program = if is_new then with_text_read w s program else w
@@ -152,11 +164,17 @@ cleared_image text plan = record {
   stack = replicate (64 * stack_clicks) 0;
 }
 
+abbrev pub data_in : Store → List ℕ → Program → ℕ → Moving Image
+data_in store text program time =
+    read_file (put_into (8192 * nseg (text_clicks program.plan))) (node_in store program.ino) store.room
+    (cleared_image text program.plan) (16 + program.plan.text) program.plan.init time
+
 abbrev pub data_read : World → ℕ → Program → Moving Image
-data_read w s program =
-    read_file (put_into (8192 * nseg (text_clicks program.plan))) (node_at w program.ino) w.inodes.store.room
-    (cleared_image (text_bytes w.texts (process_of w s).text) program.plan) (16 + program.plan.text) program.plan.init
-    w.clock.time
+data_read w s program = data_in w.inodes.store (text_bytes w.texts (process_of w s).text) program w.clock.time
+
+-- A process whose old image is given back, with its u area, has neither until the new one stands.
+abbrev pub bared : Process → Process
+bared p = record p { u = no_area; «data» = []; stack = [] }
 
 -- A handler is an even address, and goes with the program that had it; what is ignored stays so.
 abbrev pub kept_handler : ℕ → ℕ
@@ -183,31 +201,35 @@ abbrev pub in_its_group : Node → Process → Process
 in_its_group node p =
     if not (bit_and node.mode ISGID == 0) then record p { u = record p.u { gid = node.gid } } else p
 
--- the process as the program begins, with the text that it has by now
-abbrev pub begins : Process → Node → Program → List ℕ → Process
-begins old node program read = in_its_group node (as_owner node (record old {
-  u = begun_area old.u program;
+-- the process as the program begins, with the text that it has by now and the u area that it had
+abbrev pub begins : UArea → Process → Node → Program → List ℕ → Process
+begins u p node program read = in_its_group node (as_owner node (record p {
+  u = begun_area u program;
   «data» = read;
   stack = first_stack program.arguments;
 }))
 
 -- The new image is in its place: text and data are read, and the call ends.
-abbrev pub executes : World → ℕ → Program → Comes
-executes w s program =
+abbrev pub executes : World → ℕ → UArea → Program → Comes
+executes w s u program =
     let m : Moving Image = data_read w s program in
     let read : World = with_moved w program.ino m in
-    let begun : World = change read s (λ p. begins p (node_at w program.ino) program m.memory.data) in
+    let begun : World = change read s (λ p. begins u p (node_at w program.ino) program m.memory.data) in
     returns (let_go begun program.ino) s
 
+-- A process without an image, which had this u area, takes the text of a program and an image, and executes it.
+abbrev pub begins_anew : World → ℕ → UArea → Program → Comes
+begins_anew w s u program =
+    xalloc w s program.ino (text_clicks program.plan) (λ placed is_new.
+    does (effect.Image s (image_clicks program.plan) placed) (
+    executes (reads_text is_new placed s program) s u program))
+
 -- The call is done in this order; what comes before each effect is the world that it carries. That the old image is given
--- back with its u area shows in the log: until the new one stands, the process is told of as it was.
+-- back shows in the log.
 abbrev pub loads : World → ℕ → Program → Comes
 loads w s program =
     xfree w s (process_of w s).text (λ left.
-    logs (Bare s) (
-    xalloc left s program.ino (text_clicks program.plan) (λ placed is_new.
-    does (effect.Image s (image_clicks program.plan) placed) (
-    executes (reads_text is_new placed s program) s program))))
+    logs (Bare s) (begins_anew (change left s bared) s (process_of left s).u program))
 
 abbrev pub done_by : World → ℕ → Result Program Errno → Comes
 done_by w s (Ok program) = loads w s program
@@ -223,3 +245,5 @@ pub record IsTested (w : World) (program : Program) : Type 0 where
   pub there : IsSome (node_numbered w.inodes.store program.ino)
   pub sizes : is_refused (text_clicks program.plan) (data_clicks program.plan) stack_clicks w.limit ≡ false
   pub init : program.plan.init ≤ 131070
+  pub shared : (k : ℕ) → 0 < program.plan.text → entry_of w.texts program.ino ≡ Some k
+      → length (text_of w.texts k).bytes ≡ 64 * text_clicks program.plan

@@ -1,5 +1,5 @@
 -- The parts that a call on processes is handed, as the kernel keeps them.
-use Rattle.std.specs.Prelude.{ℕ, ◌<◌, None, slice_index, slice_index_or}
+use Rattle.std.specs.Prelude.{ℕ, ◌<◌, Bool, List, None, slice_index, slice_index_or}
 use Rattle.std.specs.Option.{unwrap_or}
 use Rattle.pick_rules.specs.Board.{Board}
 use Rattle.pick_rules.specs.Logged.{Logged, logged}
@@ -11,7 +11,7 @@ use Rattle.v6_base.specs.Image.{Image}
 use Rattle.sys_procs.specs.Process.{Process, no_process, image_of}
 use Rattle.sys_procs.specs.World.{World, processes_in, texts_in, world_in}
 use Rattle.sys_procs.specs.Comes.{Comes}
-use Rattle.sys_procs.specs.Agree.{board_of, Agree, IsCalling}
+use Rattle.sys_procs.specs.Agree.{board_of, Agree, AgreeBare, AreMarks, IsCalling}
 
 abbrev pub handed : Procs → FileSystem → World
 handed p fs = world_in p.rows p.table p.images p.switches (inodes_of fs)
@@ -21,6 +21,14 @@ board p = board_of p.table p.images
 
 abbrev pub AreProcs : Procs → Type 0
 AreProcs p = Agree p.rows p.table p.images
+
+-- A process has stopped between its old image and its new one.
+abbrev pub AreBare : Procs → ℕ → Type 0
+AreBare p s = AgreeBare p.rows p.table p.images s
+
+-- A tree has the marks of the texts that are shared.
+abbrev pub IsMarked : Procs → List Bool → Type 0
+IsMarked p marks = AreMarks marks p.images
 
 abbrev pub Calls : Procs → FileSystem → ℕ → Type 0
 Calls p fs s = IsCalling p.rows p.table p.images (λ ino. slice_index fs.references ino) s
@@ -42,3 +50,9 @@ pub record IsAlive (p : Procs) (s : ℕ) : Type 0 where
   pub above : 0 < s
   pub below : s < 50
   pub image : HasImage p.images s
+
+-- a process between its old image and its new one
+pub record IsBare (p : Procs) (s : ℕ) : Type 0 where
+  pub agree : AreBare p s
+  pub above : 0 < s
+  pub below : s < 50

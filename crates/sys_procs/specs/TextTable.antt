@@ -1,6 +1,8 @@
 -- The table of the texts that processes share: `text.h` in Lions' Commentary.
-use Rattle.std.specs.Prelude.{ℕ, ◌==◌, Bool, false, List, [], replicate, position, slice_index_or, slice_set, Option, Some, None}
+use Rattle.std.specs.Prelude.{ℕ, ◌==◌, Bool, false, List, [], map, replicate, position, slice_index_or, slice_set, Option, Some, None}
+use Rattle.std.specs.List.{list_any, range_with_len}
 use Rattle.std.specs.Option.{unwrap_or}
+use Rattle.fs_tree.specs.declared.marks.TheConstants.{INODE_NUMBERS}
 
 pub record Text : Type 0 where
   pub ino : ℕ
@@ -26,10 +28,15 @@ abbrev pub text_bytes : List (Option Text) → Option ℕ → List ℕ
 text_bytes texts None = []
 text_bytes texts (Some k) = (text_of texts k).bytes
 
--- the entry with the text of an inode
-abbrev pub is_of : ℕ → Option Text → Bool
-is_of ino None = false
-is_of ino (Some text) = text.ino == ino
+-- a text of this inode
+abbrev pub is_text_of : ℕ → Option Text → Bool
+is_text_of ino None = false
+is_text_of ino (Some text) = text.ino == ino
 
+-- the entry with the text of an inode
 abbrev pub entry_of : List (Option Text) → ℕ → Option ℕ
-entry_of texts ino = position (is_of ino) texts
+entry_of texts ino = position (is_text_of ino) texts
+
+-- which inodes have a text that is shared, by their numbers
+unfoldable pub marks_of : List (Option Text) → List Bool
+marks_of texts = map (λ ino. list_any (is_text_of ino) texts) (range_with_len 0 INODE_NUMBERS)

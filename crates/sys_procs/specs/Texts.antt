@@ -1,6 +1,6 @@
 -- What processes do to the texts that they share: `xalloc` and `xfree` in Lions' Commentary, `text.c`.
-use Rattle.std.specs.Prelude.{ℕ, ◌+◌, ◌-◌, ◌*◌, ◌==◌, ◌&&◌, Bool, true, false, not, if◌then◌else◌, bit_and, List, replicate, position, slice_set, Option, Some, None, is_none}
-use Rattle.std.specs.Option.{unwrap_or}
+use Rattle.std.specs.Prelude.{ℕ, ◌+◌, ◌-◌, ◌*◌, ◌==◌, ◌&&◌, nat_le, Bool, true, false, not, if◌then◌else◌, bit_and, List, replicate, position, slice_index_or, slice_set, Option, Some, None, is_none}
+use Rattle.std.specs.Option.{unwrap_or, option_map}
 use Rattle.v6_base.specs.declared.entry.Entry.TheVariants.{Leave, Share}
 use Rattle.fs_codec.specs.declared.modes.TheConstants.{ISVTX}
 use Rattle.fs_tree.specs.Finding.{with_reference}
@@ -23,18 +23,22 @@ new_text ino clicks = record { ino = ino; bytes = replicate (64 * clicks) 0; use
 abbrev pub joined : Text → Text
 joined text = record text { users = text.users + 1 }
 
+abbrev pub with_user : List (Option Text) → ℕ → List (Option Text)
+with_user texts k = slice_set texts k (option_map joined (slice_index_or texts k None))
+
 -- A child shares its parent's text, where that has one.
 abbrev pub joined_by_child : List (Option Text) → Option ℕ → List (Option Text)
 joined_by_child texts None = texts
-joined_by_child texts (Some k) = with_text texts k (joined (text_of texts k))
+joined_by_child texts (Some k) = with_user texts k
 
 -- A text goes with its last user, unless its file is sticky.
 abbrev pub goes : Text → Bool → Bool
-goes text is_sticky = (text.users == 1) && not is_sticky
+goes text is_sticky = nat_le text.users 1 && not is_sticky
 
 -- what its entry has when a user has left it
-abbrev pub remaining : Text → Bool → Option Text
-remaining text is_sticky = if goes text is_sticky then None else Some (record text { users = text.users - 1 })
+abbrev pub remaining : Bool → Option Text → Option Text
+remaining is_sticky None = None
+remaining is_sticky (Some text) = if goes text is_sticky then None else Some (record text { users = text.users - 1 })
 
 -- A process leaves its text, which may go with it; then its inode is referred to once less.
 abbrev pub without_text : Process → Process
@@ -43,7 +47,7 @@ without_text p = record p { u = record p.u { text_size = 0 }; text = None }
 abbrev pub leaves_text : World → ℕ → ℕ → Bool → World
 leaves_text w s k is_sticky =
     let text : Text = text_of w.texts k in
-    let left : World = change (record w { texts = slice_set w.texts k (remaining text is_sticky) }) s without_text in
+    let left : World = change (record w { texts = slice_set w.texts k (remaining is_sticky (slice_index_or w.texts k None)) }) s without_text in
     if goes text is_sticky then let_go left text.ino else left
 
 abbrev pub is_sticky : World → ℕ → Bool
@@ -59,7 +63,7 @@ abbrev pub with_entry : ℕ → Process → Process
 with_entry k p = record p { text = Some k }
 
 abbrev pub shares_text : World → ℕ → ℕ → World
-shares_text w s k = change (record w { texts = with_text w.texts k (joined (text_of w.texts k)) }) s (with_entry k)
+shares_text w s k = change (record w { texts = with_user w.texts k }) s (with_entry k)
 
 abbrev pub makes_text : World → ℕ → ℕ → ℕ → World
 makes_text w s ino size =

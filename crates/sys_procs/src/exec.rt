@@ -1,36 +1,49 @@
 //! exec(II).
-ghost use Rattle.std.specs.Prelude.{◌≡◌, ◌≤◌, ◌<◌, true, false, None, Some, IfOk, IfErr, map, slice_index, is_some};
-ghost use Rattle.v6_base.specs.Trace.{Took};
+ghost use Rattle.std.specs.Prelude.{◌≡◌, ◌≤◌, ◌<◌, ◌*◌, ◌%◌, ℕ, false, Some, None, List, length, IfOk, IfErr, IfSome, map, slice_index, is_some, count_by};
+ghost use Rattle.v6_base.specs.Image.{nseg};
+ghost use Rattle.fs_laws.specs.Numbers.{with_node};
 ghost use Rattle.fs_nodes.specs.FileSystem.{FileSystem, SameRest};
 ghost use Rattle.seg_regs.specs.Sizes.{is_refused};
-ghost use Rattle.pick_rules.specs.Board.{placed};
-ghost use Rattle.pick_rules.specs.Apply.{change_row};
-ghost use Rattle.image_keep.specs.Kept.{image_of};
-ghost use Rattle.image_keep.specs.Places.{cleared};
-ghost use Rattle.sys_procs.specs.World.{World, with_process};
+ghost use Rattle.image_keep.specs.Kept.{Shared, shared, text_of};
+ghost use Rattle.sys_procs.specs.TextTable.{is_text_of};
+ghost use Rattle.sys_procs.specs.World.{texts_in, with_process};
 ghost use Rattle.sys_procs.specs.Tests.{node_in};
-ghost use Rattle.sys_procs.specs.ExecFile.{exec_file, loads, text_clicks, data_clicks, image_clicks, bare_board, kept_handler, begun_area, IsTested};
-ghost use Rattle.sys_procs.specs.inside.Begun.{unplaced, unplaced_lines, placing, sized, store_after, filled_image, filled, user_in, group_in, row_in, area_in};
-ghost use Rattle.sys_procs.specs.Handed.{AreProcs, Calls, IsAlive, board, handed, process_here};
+ghost use Rattle.sys_procs.specs.Stack.{first_stack};
+ghost use Rattle.sys_procs.specs.ExecFile.{exec_file, loads, begins_anew, text_clicks, data_clicks, cleared_image, data_in, with_text_read, reads_text, kept_handler, begun_area, IsTested};
+ghost use Rattle.sys_procs.specs.inside.Begun.{fills, user_in, group_in, row_in, area_in};
+ghost use Rattle.sys_procs.specs.Handed.{AreProcs, AreBare, Calls, IsAlive, IsBare, IsMarked, board, handed, process_here, memory_here};
 ghost use Rattle.sys_procs.specs.Done.{HasDone};
 
 use crate::inodes::let_go;
-use crate::placing::{AREA, STACK, has_place, leave_place, place_image};
+use crate::placing::{STACK, leave_place, place_image};
 use crate::procs::Procs;
 use crate::program::Program;
 use crate::seen::see;
 use crate::stack::put_stack;
 use crate::tested::test_program;
+use crate::texts::{leave_text, take_text};
 use aout_head::Plan;
 use fs_codec::{ISGID, ISUID};
 use fs_nodes::Nodes;
 use fs_tree::Tree;
 use proc_tab::Row;
+use text_tab::TextId;
 use u_area::UArea;
-use v6_base::{Answer, Entry, PanicKind, Slot, Space, Trace};
+use v6_base::{Answer, PanicKind, Slot, Space, Trace};
 
 /// Where text and data begin in a file: a.out(V).
 const HEADER: u32 = 16;
+
+/// The bytes of the longest text.
+const LONGEST_TEXT: usize = 65_535;
+
+/// The clicks of the text of a program.
+fn text_clicks(plan: &Plan) -> u16
+    ensures clicks { result ≡ text_clicks plan.now }
+    ensures few { result ≤ 1024 }
+{
+    plan.text.div_ceil(64)
+}
 
 /// The clicks of the data of a program, with the bss.
 fn data_clicks(plan: &Plan) -> u16
@@ -59,14 +72,13 @@ fn keep_ignored(handlers: &mut [u16; 20])
 
 /// The u area in which a program without a text begins, from the one of the process.
 fn begun_area(u: UArea, program: &Program) -> UArea
-    requires no_text { text_clicks program.now.plan ≡ 0 }
     requires init { program.now.plan.init ≤ 131070 }
     ensures { result ≡ begun_area u program.now }
 {
     let mut u = u;
     u.r = [0, 0, 0, 0, 0, 0, program.arguments.first_sp(), 0];
     u.cc = 0;
-    u.text_size = 0;
+    u.text_size = text_clicks(&program.plan);
     u.data_size = data_clicks(&program.plan);
     u.stack_size = STACK;
     keep_ignored(&mut u.handlers);
@@ -112,7 +124,6 @@ fn new_row(nodes: &Nodes, ino: u16, uid: u8, row: Row) -> Row
 /// The u area of a process in a new program.
 fn new_area(nodes: &Nodes, u: UArea, program: &Program) -> UArea
     requires referenced { 0 < slice_index nodes.now.references program.now.ino }
-    requires no_text { text_clicks program.now.plan ≡ 0 }
     requires init { program.now.plan.init ≤ 131070 }
     ensures { result ≡ area_in (node_in nodes.now.store program.now.ino) u program.now }
 {
@@ -124,54 +135,91 @@ fn new_area(nodes: &Nodes, u: UArea, program: &Program) -> UArea
     begun
 }
 
-/// Gives the image of a process back, and places that of a program, which is cleared.
-fn make_room<T: Trace>(p: &mut Procs, s: Slot, plan: &Plan, trace: &mut T)
+/// Reads the text of a program into one that is zeros.
+fn read_text(p: &mut Procs, tree: &mut Tree, s: Slot, t: TextId, program: &Program)
     requires alive { IsAlive p.old s }
-    requires init { plan.now.init ≤ 131070 }
-    requires sizes { (fs : FileSystem) → is_refused 0 (data_clicks plan.now) 20 (handed p.old fs).limit ≡ false }
-    requires place { is_some (placed (bare_board (board p.old) s) s (image_clicks plan.now)) ≡ true }
-    ensures state { (fs : FileSystem) → handed p.new fs
-        ≡ with_process (handed p.old fs) s (sized (process_here p.old s) (data_clicks plan.now)) }
-    ensures image { image_of p.new.images s ≡ cleared (data_clicks plan.now) 20 }
-    ensures time { p.new.table.now ≡ p.old.table.now }
-    ensures board { (w : World) → board p.new ≡ (placing (board p.old) s plan.now w).board }
-    ensures stop { (w : World) → (placing (board p.old) s plan.now w).stop ≡ None }
-    ensures items { (w : World) → Took (T.taken trace.old) (placing (board p.old) s plan.now w).items
-        (T.taken trace.new) }
-    ensures frame { T.leads_to trace.old trace.new }
+    requires text { text_of p.old.images s ≡ Some t }
+    requires out { (x : Shared) × (shared p.old.images t ≡ Some x) × (x.row.loaded ≡ 0) × (program.now.plan.text ≤ 64 * x.row.clicks) }
+    requires referenced { 0 < slice_index tree.old.nodes.references program.now.ino }
+    ensures state { handed p.new tree.new.nodes ≡ with_text_read (handed p.old tree.old.nodes) s program.now }
+    ensures board { board p.new ≡ board p.old }
+    ensures references { tree.new.nodes.references ≡ tree.old.nodes.references }
+    ensures marks { tree.new.marks ≡ tree.old.marks }
+    ensures blocks { SameRest tree.old.nodes.blocks tree.new.nodes.blocks }
     ensures alive { IsAlive p.new s }
 {
-    see(p, s);
-    let _place = place_image(p, s, data_clicks(plan), trace);
+    let mut bytes = [0; LONGEST_TEXT];
+    let part = &mut bytes[..usize::from(program.plan.text)];
+    let _ = tree
+        .nodes
+        .read_kernel(program.ino, HEADER, part, p.table.now);
+    p.images.text_bytes(t, 0, part);
 }
 
-/// Fills the memory of a program without a text, which is cleared: its data are read, and its arguments stand at the
-/// end of the stack.
+/// Reads the text of a program, if it is new.
+fn fill_text(p: &mut Procs, tree: &mut Tree, s: Slot, new: Option<TextId>, program: &Program)
+    requires alive { IsAlive p.old s }
+    requires text { IfSome new (λ t. text_of p.old.images s ≡ Some t) }
+    requires out { IfSome new (λ t. (x : Shared) × (shared p.old.images t ≡ Some x) × (x.row.loaded ≡ 0)
+        × (program.now.plan.text ≤ 64 * x.row.clicks)) }
+    requires referenced { 0 < slice_index tree.old.nodes.references program.now.ino }
+    ensures state { handed p.new tree.new.nodes ≡ reads_text (is_some new) (handed p.old tree.old.nodes) s program.now }
+    ensures board { board p.new ≡ board p.old }
+    ensures references { tree.new.nodes.references ≡ tree.old.nodes.references }
+    ensures marks { tree.new.marks ≡ tree.old.marks }
+    ensures blocks { SameRest tree.old.nodes.blocks tree.new.nodes.blocks }
+    ensures alive { IsAlive p.new s }
+{
+    if let Some(t) = new {
+        read_text(p, tree, s, t, program);
+    }
+}
+
+/// Where the data of a program begin, which has a text of so many clicks.
+fn data_at(text: u16) -> u16
+    requires { text ≤ 1024 }
+    ensures { result ≡ 8192 * nseg text % 65536 }
+{
+    8192_u16.wrapping_mul((text + 127) / 128)
+}
+
+/// Fills the data and the stack of a program, which are cleared: its data are read, and its arguments stand at the end of
+/// the stack.
 fn fill<S: Space>(nodes: &mut Nodes, space: &mut S, program: &Program, now: u32)
     requires referenced { 0 < slice_index nodes.old.references program.now.ino }
-    requires few { data_clicks program.now.plan ≤ 896 }
-    requires cleared { S.image space.old ≡ cleared (data_clicks program.now.plan) 20 }
-    ensures image { S.image space.new ≡ filled_image nodes.old.store program.now now }
+    requires fits { is_refused (text_clicks program.now.plan) (data_clicks program.now.plan) 20 2048 ≡ false }
+    requires cleared { (text : List ℕ) × (length text ≡ 64 * text_clicks program.now.plan)
+        × (S.image space.old ≡ cleared_image text program.now.plan) }
+    ensures image { (text : List ℕ) → S.image space.old ≡ cleared_image text program.now.plan → S.image space.new
+        ≡ record (data_in nodes.old.store text program.now now).memory { stack = first_stack program.now.arguments } }
     ensures rest { S.rest space.new ≡ S.rest space.old }
-    ensures store { nodes.new.store ≡ store_after nodes.old.store program.now now }
+    ensures store { (text : List ℕ) → S.image space.old ≡ cleared_image text program.now.plan → nodes.new.store
+        ≡ with_node nodes.old.store program.now.ino (data_in nodes.old.store text program.now now).node (data_in nodes.old.store text program.now now).room }
     ensures references { nodes.new.references ≡ nodes.old.references }
     ensures blocks { SameRest nodes.old.blocks nodes.new.blocks }
 {
     let _ = nodes.refs(program.ino);
     let count = program.plan.init as u16;
-    let _ = nodes.read_at(program.ino, HEADER, space, 0, count, now);
+    let at = data_at(text_clicks(&program.plan));
+    let _ = nodes.read_at(
+        program.ino,
+        HEADER + u32::from(program.plan.text),
+        space,
+        at,
+        count,
+        now,
+    );
     put_stack(space, &program.arguments);
 }
 
-/// Fills the image of a process, which is cleared, with a program without a text.
+/// Fills the image of a process, which is cleared, with a program.
 fn fill_image(p: &mut Procs, tree: &mut Tree, s: Slot, program: &Program)
     requires alive { IsAlive p.old s }
     requires referenced { 0 < slice_index tree.old.nodes.references program.now.ino }
-    requires few { data_clicks program.now.plan ≤ 896 }
-    requires cleared { image_of p.old.images s ≡ cleared (data_clicks program.now.plan) 20 }
-    ensures state { (fs : FileSystem) → handed p.new fs ≡ with_process (handed p.old fs) s
-        (filled (process_here p.old s) (filled_image tree.old.nodes.store program.now p.old.table.now)) }
-    ensures store { tree.new.nodes.store ≡ store_after tree.old.nodes.store program.now p.old.table.now }
+    requires fits { is_refused (text_clicks program.now.plan) (data_clicks program.now.plan) 20 2048 ≡ false }
+    requires cleared { memory_here p.old s ≡ cleared_image (memory_here p.old s).text program.now.plan }
+    requires long { length (memory_here p.old s).text ≡ 64 * text_clicks program.now.plan }
+    ensures state { handed p.new tree.new.nodes ≡ fills (handed p.old tree.old.nodes) s program.now }
     ensures references { tree.new.nodes.references ≡ tree.old.nodes.references }
     ensures marks { tree.new.marks ≡ tree.old.marks }
     ensures blocks { SameRest tree.old.nodes.blocks tree.new.nodes.blocks }
@@ -201,72 +249,57 @@ fn begin(p: &mut Procs, s: Slot, row: Row, u: &UArea)
     p.put_area(s, u);
 }
 
-/// Replaces the program of a process by another without a text of its own, for whose image there is a place.
-fn replace<T: Trace>(
+/// Lets a process without an image execute a program that the tests have let through.
+///
+/// # Errors
+///
+/// `Text`: there are forty texts, and none is this program's. `Swap`: there is no room for its text or for its image.
+fn begin_program<T: Trace>(
     p: &mut Procs,
     tree: &mut Tree,
     s: Slot,
     program: &Program,
+    row: Row,
+    u: &UArea,
     trace: &mut T,
-) -> Answer
-    requires alive { IsAlive p.old s }
+) -> Result<Answer, PanicKind>
+    requires bare { IsBare p.old s }
+    requires none { text_of p.old.images s ≡ None }
+    requires marks { IsMarked p.old tree.old.marks }
     requires tested { IsTested (handed p.old tree.old.nodes) program.now }
-    requires no_text { text_clicks program.now.plan ≡ 0 }
-    requires place { is_some (placed (bare_board (board p.old) s) s (image_clicks program.now.plan)) ≡ true }
-    ensures does { HasDone p.old p.new tree.new.nodes (Ok result) (T.taken trace.old) (T.taken trace.new)
-        (loads (handed p.old tree.old.nodes) s program.now) }
+    requires few { (i : ℕ) → slice_index tree.old.nodes.references i ≤ 65530 }
+    requires pid { row.pid ≡ (process_here p.old s).row.pid }
+    requires ppid { row.ppid ≡ (process_here p.old s).row.ppid }
+    ensures does { (v : UArea) → row ≡ row_in (node_in tree.old.nodes.store program.now.ino) v.uid (process_here p.old s).row
+        → u.now ≡ area_in (node_in tree.old.nodes.store program.now.ino) v program.now
+        → HasDone p.old p.new tree.new.nodes result (T.taken trace.old) (T.taken trace.new)
+        (begins_anew (handed p.old tree.old.nodes) s v program.now) }
     ensures frame { T.leads_to trace.old trace.new }
-    ensures agree { AreProcs p.new }
-    ensures marks { tree.new.marks ≡ tree.old.marks }
+    ensures agree { IfOk result (λ answer. AreProcs p.new) }
+    ensures bare { IfErr result (λ kind. AreBare p.new s) }
+    ensures marks { IsMarked p.new tree.new.marks }
     ensures blocks { SameRest tree.old.nodes.blocks tree.new.nodes.blocks }
 {
-    let u = p.area(s);
-    let row = p.row(s);
-    let row = new_row(&tree.nodes, program.ino, u.uid, row);
-    let u = new_area(&tree.nodes, u, program);
-    make_room(p, s, &program.plan, trace);
+    let new = take_text(p, tree, s, program, trace)?;
+    place_image(
+        p,
+        s,
+        text_clicks(&program.plan),
+        data_clicks(&program.plan),
+        trace,
+    )?;
+    fill_text(p, tree, s, new, program);
     fill_image(p, tree, s, program);
-    begin(p, s, row, &u);
+    begin(p, s, row, u);
     let_go(&mut tree.nodes, program.ino, p.table.now);
-    Answer::Ret { r0: 0, r1: 0 }
+    Ok(Answer::Ret { r0: 0, r1: 0 })
 }
 
-/// Which demand of a program finds no place when the image of a process has been given back, if one does. No process has
-/// a text.
-fn unplaced(p: &mut Procs, s: Slot, program: &Program) -> Option<PanicKind>
-    requires alive { IsAlive p.old s }
-    requires init { program.now.plan.init ≤ 131070 }
-    ensures kind { result ≡ unplaced (board p.old) s program.now }
-    ensures procs { p.new ≡ p.old }
-{
-    if program.plan.text != 0 {
-        return Some(PanicKind::Text);
-    }
-    let clicks = AREA + data_clicks(&program.plan) + STACK;
-    if has_place(p, s, clicks) {
-        None
-    } else {
-        Some(PanicKind::Swap)
-    }
-}
-
-/// Logs that a demand finds no place, where that is a panic.
-fn log_unplaced<T: Trace>(kind: PanicKind, trace: &mut T)
-    ensures items { Took (T.taken trace.old) (unplaced_lines kind) (T.taken trace.new) }
-    ensures frame { T.leads_to trace.old trace.new }
-{
-    match kind {
-        PanicKind::Swap | PanicKind::Zombie => trace.entry(Entry::Panic(kind)),
-        PanicKind::Text => {}
-    }
-}
-
-/// Gives the image of a process back, and lets it execute a program that the tests have let through.
+/// Gives the text and the image of a process back, and lets it execute a program that the tests have let through.
 ///
 /// # Errors
 ///
-/// `Text`: the program would share its text. `Swap`: there is no place for its image. The old image is there still then, and
-/// has no place.
+/// Those of a text or an image that finds no place.
 fn load<T: Trace>(
     p: &mut Procs,
     tree: &mut Tree,
@@ -275,26 +308,26 @@ fn load<T: Trace>(
     trace: &mut T,
 ) -> Result<Answer, PanicKind>
     requires alive { IsAlive p.old s }
+    requires marks { IsMarked p.old tree.old.marks }
+    requires referred { (ino : ℕ) → count_by (is_text_of ino) (texts_in p.old.images) ≤ slice_index tree.old.nodes.references ino }
     requires tested { IsTested (handed p.old tree.old.nodes) program.now }
+    requires few { (i : ℕ) → slice_index tree.old.nodes.references i ≤ 65530 }
     ensures does { HasDone p.old p.new tree.new.nodes result (T.taken trace.old) (T.taken trace.new)
         (loads (handed p.old tree.old.nodes) s program.now) }
     ensures frame { T.leads_to trace.old trace.new }
     ensures agree { IfOk result (λ answer. AreProcs p.new) }
-    ensures left { IfErr result (λ kind. p.new ≡ record p.old {
-      table = change_row p.old.table s (λ row. record row { size = 0; place = None });
-    }) }
-    ensures marks { tree.new.marks ≡ tree.old.marks }
+    ensures bare { IfErr result (λ kind. AreBare p.new s) }
+    ensures marks { IsMarked p.new tree.new.marks }
     ensures blocks { SameRest tree.old.nodes.blocks tree.new.nodes.blocks }
 {
     see(p, s);
-    match unplaced(p, s, program) {
-        Some(kind) => {
-            leave_place(p, s, trace);
-            log_unplaced(kind, trace);
-            Err(kind)
-        }
-        None => Ok(replace(p, tree, s, program, trace)),
-    }
+    let u = p.area(s);
+    let row = p.row(s);
+    let row = new_row(&tree.nodes, program.ino, u.uid, row);
+    let u = new_area(&tree.nodes, u, program);
+    leave_text(p, tree, s, trace);
+    leave_place(p, s, trace);
+    begin_program(p, tree, s, program, row, &u, trace)
 }
 
 /// exec(II): the process executes another program, with arguments of its own. R0 to R5 and the PC are 0 as it begins,
@@ -318,15 +351,14 @@ pub fn exec_file<T: Trace>(
     args: [u16; 4],
     trace: &mut T,
 ) -> Result<Answer, PanicKind>
-    requires { Calls p.old tree.old.nodes s }
+    requires calls { Calls p.old tree.old.nodes s }
+    requires marks { IsMarked p.old tree.old.marks }
     ensures does { HasDone p.old p.new tree.new.nodes result (T.taken trace.old) (T.taken trace.new)
         (exec_file (handed p.old tree.old.nodes) s (slice_index args 0) (slice_index args 1)) }
     ensures frame { T.leads_to trace.old trace.new }
     ensures agree { IfOk result (λ answer. AreProcs p.new) }
-    ensures left { IfErr result (λ kind. p.new ≡ record p.old {
-      table = change_row p.old.table s (λ row. record row { size = 0; place = None });
-    }) }
-    ensures marks { tree.new.marks ≡ tree.old.marks }
+    ensures bare { IfErr result (λ kind. AreBare p.new s) }
+    ensures marks { IsMarked p.new tree.new.marks }
     ensures blocks { SameRest tree.old.nodes.blocks tree.new.nodes.blocks }
 {
     match test_program(p, tree, s, args[0], args[1]) {

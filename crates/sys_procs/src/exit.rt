@@ -1,5 +1,5 @@
 //! exit(II).
-ghost use Rattle.std.specs.Prelude.{◌≡◌, ◌*◌, ◌%◌, ◌<◌, ◌∷◌, [], ◌==◌, is_none, if◌then◌else◌, replicate, Some, None};
+ghost use Rattle.std.specs.Prelude.{◌≡◌, ◌*◌, ◌%◌, ◌<◌, ◌≤◌, ◌∷◌, ℕ, count_by, slice_index, [], ◌==◌, is_none, if◌then◌else◌, replicate, Some, None};
 ghost use Rattle.std.specs.Option.{unwrap_or};
 ghost use Rattle.v6_base.specs.Trace.{Took, Log};
 ghost use Rattle.fs_nodes.specs.FileSystem.{FileSystem, SameRest};
@@ -9,13 +9,17 @@ ghost use Rattle.pick_rules.specs.Apply.{change_row};
 ghost use Rattle.proc_tab.specs.Processes.{IsUsed, row_at, passes, lowest, with_change, dead};
 ghost use Rattle.proc_tab.specs.Pids.{has_pid};
 ghost use Rattle.proc_tab.specs.Children.{orphans_adopted};
+ghost use Rattle.image_keep.specs.Kept.{text_of};
+ghost use Rattle.sys_procs.specs.TextTable.{is_text_of};
+ghost use Rattle.sys_procs.specs.World.{texts_in};
 ghost use Rattle.sys_procs.specs.Exit.{leaves, dies, end_proc, exit_now};
-ghost use Rattle.sys_procs.specs.Handed.{AreProcs, Calls, IsAlive, board, handed};
+ghost use Rattle.sys_procs.specs.Handed.{AreProcs, Calls, IsAlive, IsMarked, board, handed};
 ghost use Rattle.sys_procs.specs.Done.{HasDone, HasEnded};
 
 use crate::inodes::let_go;
 use crate::procs::Procs;
 use crate::seen::see;
+use crate::texts::leave_text;
 use fs_tree::Tree;
 use pick_rules::{Stat, Table};
 use proc_tab::Rows;
@@ -45,6 +49,8 @@ fn leave(p: &mut Procs, tree: &mut Tree, s: Slot, status: u16)
     ensures state { handed p.new tree.new.nodes ≡ leaves (handed p.old tree.old.nodes) s status }
     ensures board { board p.new ≡ board p.old }
     ensures alive { IsAlive p.new s }
+    ensures texts { p.new.images.texts ≡ p.old.images.texts }
+    ensures referred { (ino : ℕ) → count_by (is_text_of ino) (texts_in p.new.images) ≤ slice_index tree.new.nodes.references ino }
     ensures marks { tree.new.marks ≡ tree.old.marks }
     ensures blocks { SameRest tree.old.nodes.blocks tree.new.nodes.blocks }
 {
@@ -138,11 +144,13 @@ fn end_row<T: Trace>(p: &mut Procs, s: Slot, block: u16, parent: Option<Slot>, t
 /// area, where there is one.
 #[tactic(auto, using(v6_base::proofs::Took::takes))]
 fn die<T: Trace>(p: &mut Procs, s: Slot, trace: &mut T) -> Result<(), PanicKind>
-    requires { IsAlive p.old s }
+    requires alive { IsAlive p.old s }
+    requires no_text { text_of p.old.images s ≡ None }
     ensures does { (fs : FileSystem) → HasEnded p.old p.new fs result (T.taken trace.old) (T.taken trace.new)
         (dies (handed p.old fs) s) }
     ensures frame { T.leads_to trace.old trace.new }
     ensures agree { AreProcs p.new }
+    ensures texts { p.new.images.texts ≡ p.old.images.texts }
 {
     see(p, s);
     let row = p.row(s);
@@ -172,15 +180,17 @@ pub fn end_proc<T: Trace>(
     status: u16,
     trace: &mut T,
 ) -> Result<(), PanicKind>
-    requires { Calls p.old tree.old.nodes s }
+    requires calls { Calls p.old tree.old.nodes s }
+    requires marks { IsMarked p.old tree.old.marks }
     ensures does { HasEnded p.old p.new tree.new.nodes result (T.taken trace.old) (T.taken trace.new)
         (end_proc (handed p.old tree.old.nodes) s status) }
     ensures frame { T.leads_to trace.old trace.new }
     ensures agree { AreProcs p.new }
-    ensures marks { tree.new.marks ≡ tree.old.marks }
+    ensures marks { IsMarked p.new tree.new.marks }
     ensures blocks { SameRest tree.old.nodes.blocks tree.new.nodes.blocks }
 {
     leave(p, tree, s, status);
+    leave_text(p, tree, s, trace);
     die(p, s, trace)
 }
 
@@ -196,12 +206,13 @@ pub fn exit_now<T: Trace>(
     _args: [u16; 4],
     trace: &mut T,
 ) -> Result<Answer, PanicKind>
-    requires { Calls p.old tree.old.nodes s }
+    requires calls { Calls p.old tree.old.nodes s }
+    requires marks { IsMarked p.old tree.old.marks }
     ensures does { HasDone p.old p.new tree.new.nodes result (T.taken trace.old) (T.taken trace.new)
         (exit_now (handed p.old tree.old.nodes) s) }
     ensures frame { T.leads_to trace.old trace.new }
     ensures agree { AreProcs p.new }
-    ensures marks { tree.new.marks ≡ tree.old.marks }
+    ensures marks { IsMarked p.new tree.new.marks }
     ensures blocks { SameRest tree.old.nodes.blocks tree.new.nodes.blocks }
 {
     let u = p.area(s);

@@ -1,11 +1,9 @@
 //! fork(II).
-ghost use Rattle.std.specs.Prelude.{◌≡◌, ◌≢◌, ◌+◌, ◌%◌, ◌<◌, ◌≤◌, ℕ, is_none, slice_index, slice_set, None, Some, MatchResult};
+ghost use Rattle.std.specs.Prelude.{◌≡◌, ◌≢◌, ◌+◌, ◌%◌, ◌<◌, ◌≤◌, ℕ, is_none, slice_index, slice_set, Some};
 ghost use Rattle.v6_base.specs.Trace.{Took};
 ghost use Rattle.fs_nodes.specs.FileSystem.{SameRest};
 ghost use Rattle.fs_tree.specs.Finding.{inodes_of, with_reference};
 ghost use Rattle.pick_rules.specs.Table.{IsTable, row_at, child_row};
-ghost use Rattle.image_keep.specs.Kept.{HasImage, Nothing, keeping, area_of, image_of, clicks_of, text_of};
-ghost use Rattle.image_keep.specs.Places.{placed, with_image_at};
 ghost use Rattle.proc_tab.specs.Processes.{lowest};
 ghost use Rattle.proc_tab.specs.Pids.{forked};
 ghost use Rattle.sys_procs.specs.Process.{register, with_register};
@@ -19,7 +17,6 @@ use crate::inodes::refer_again;
 use crate::procs::Procs;
 use crate::seen::see;
 use fs_tree::Tree;
-use image_keep::{Images, NoSwap};
 use pick_rules::{Stat, Table, TableRow};
 use proc_tab::Rows;
 use u_area::UArea;
@@ -122,27 +119,6 @@ fn go_on(p: &mut Procs, tree: &mut Tree, s: Slot, child: Slot) -> Answer
     Answer::Ret { r0, r1: u.r[1] }
 }
 
-/// Copies the image of a process into the slot of its child. The answer is the copy's place.
-///
-/// # Errors
-///
-/// `NoSwap`: neither core nor the swap area has room. Nothing has changed then.
-#[tactic(auto, using(image_keep::proofs::PlaceFrames::bare_forked))]
-fn copy_image(images: &mut Images, from: Slot, to: Slot) -> Result<Place, NoSwap>
-    requires image { HasImage images.old from }
-    requires no_text { text_of images.old from ≡ None }
-    requires no_text_there { text_of images.old to ≡ None }
-    requires slot { to < 50 }
-    requires nothing { keeping images.old to ≡ Nothing }
-    ensures place { MatchResult result
-        (λ place. placed images.old from (clicks_of (area_of images.old from)) ≡ Some place)
-        (λ _. placed images.old from (clicks_of (area_of images.old from)) ≡ None) }
-    ensures images { images.new ≡ with_image_at images.old to (area_of images.old from) (image_of images.old from)
-        (placed images.old from (clicks_of (area_of images.old from))) }
-{
-    images.copy_for_fork(from, to)
-}
-
 /// Makes a child in a free slot, with the rows that it gives.
 ///
 /// # Errors
@@ -168,7 +144,7 @@ fn fork_into<T: Trace>(
     ensures blocks { SameRest tree.old.nodes.blocks tree.new.nodes.blocks }
 {
     see(p, s);
-    match copy_image(&mut p.images, s, child) {
+    match p.images.copy_for_fork(s, child) {
         Ok(place) => {
             add_row(&mut p.table, s, child, place);
             p.rows = *rows;

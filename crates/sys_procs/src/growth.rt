@@ -1,10 +1,7 @@
 //! break(II), and the growth of a stack.
-ghost use Rattle.std.specs.Prelude.{◌≡◌, ◌+◌, ◌<◌, ◌≤◌, nat_le, true, false, None, Some, if◌then◌else◌, MatchResult, slice_index};
-ghost use Rattle.v6_base.specs.Image.{nseg};
+ghost use Rattle.std.specs.Prelude.{◌≡◌, ◌<◌, nat_le, false, if◌then◌else◌, slice_index};
 ghost use Rattle.fs_nodes.specs.FileSystem.{FileSystem, SameRest};
-ghost use Rattle.image_keep.specs.Kept.{HasImage, text_of, area_of, image_of};
-ghost use Rattle.image_keep.specs.Growth.{most_clicks, area_resized, image_resized, expanded};
-ghost use Rattle.image_keep.specs.Places.{with_image_at};
+ghost use Rattle.image_keep.specs.Growth.{most_clicks};
 ghost use Rattle.pick_rules.specs.Apply.{change_row};
 ghost use Rattle.pick_rules.specs.Table.{IsTable, row_at};
 ghost use Rattle.seg_regs.specs.Sizes.{is_refused};
@@ -17,7 +14,6 @@ use crate::placing::{AREA, put_place};
 use crate::procs::Procs;
 use crate::seen::see;
 use fs_tree::Tree;
-use image_keep::{Images, NoSwap};
 use pick_rules::Table;
 use seg_regs::Proto;
 use v6_base::{Answer, Entry, Errno, PanicKind, Place, Slot, Trace};
@@ -30,25 +26,6 @@ const SEGMENTS: u32 = 65536;
 
 /// The bytes of a click.
 const CLICK: u32 = 64;
-
-/// Gives an image other sizes of data and stack. The answer is its place: the one that it has, where it doesn't grow.
-///
-/// # Errors
-///
-/// `NoSwap`: it grows, and neither core nor the swap area has room. Nothing has changed then.
-#[tactic(auto, using(image_keep::proofs::PlaceFrames::bare_moved))]
-fn resize(images: &mut Images, s: Slot, d: u16, stack: u16) -> Result<Place, NoSwap>
-    requires image { HasImage images.old s }
-    requires no_text { text_of images.old s ≡ None }
-    requires segments { nseg (area_of images.old s).text_size + nseg d + nseg stack ≤ 8 }
-    ensures place { MatchResult result
-        (λ place. expanded images.old s (16 + d + stack) ≡ Some place)
-        (λ _. expanded images.old s (16 + d + stack) ≡ None) }
-    ensures images { images.new ≡ with_image_at images.old s (area_resized (area_of images.old s) d stack)
-        (image_resized (image_of images.old s) d stack) (expanded images.old s (16 + d + stack)) }
-{
-    images.resize(s, d, stack)
-}
 
 /// Gives the row of a slot the size of its image, and the place that it has taken where it has grown. The answer is the line
 /// of the log.
@@ -94,7 +71,7 @@ fn expand<T: Trace>(
     ensures agree { AreProcs p.new }
 {
     see(p, s);
-    match resize(&mut p.images, s, d, stack) {
+    match p.images.resize(s, d, stack) {
         Ok(place) => {
             let line = put_size(&mut p.table, s, AREA + d + stack, place);
             trace.entry(line);

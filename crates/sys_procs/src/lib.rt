@@ -16,6 +16,7 @@ mod resume;
 mod seen;
 mod stack;
 mod tested;
+mod texts;
 mod times;
 mod wait;
 

@@ -1,5 +1,5 @@
 //! The tests of exec(II).
-ghost use Rattle.std.specs.Prelude.{◌≡◌, ◌<◌, ◌≤◌, ◌==◌, ◌&&◌, ℕ, false, not, nat_lt, List, Ok, IfOk, slice_index};
+ghost use Rattle.std.specs.Prelude.{◌≡◌, ◌<◌, ◌≤◌, ◌==◌, ◌&&◌, ◌*◌, ℕ, false, not, List, length, Ok, Some, IfOk, slice_index};
 ghost use Rattle.v6_base.specs.Access.{then_do};
 ghost use Rattle.v6_base.specs.declared.errno.Errno.TheVariants.{EACCES, ENOEXEC, ENOMEM, ETXTBSY};
 ghost use Rattle.fs_codec.specs.Modes.{file_type};
@@ -13,10 +13,12 @@ ghost use Rattle.aout_head.specs.Header.{header_of, plan_of};
 ghost use Rattle.seg_regs.specs.Sizes.{is_refused};
 ghost use Rattle.sys_procs.specs.Stack.{arguments, stack_clicks};
 ghost use Rattle.sys_procs.specs.Tests.{must, user_of, node_in};
-ghost use Rattle.sys_procs.specs.Agree.{HasNoText};
 ghost use Rattle.sys_procs.specs.Handed.{Calls, IsAlive, handed, process_here, memory_here};
 ghost use Rattle.sys_procs.specs.ExecFile.{clicks, text_clicks, data_clicks, unless_error, is_magic, or_no_memory};
-ghost use Rattle.sys_procs.specs.ExecFile.{is_busy, with_moved, header_read, tests_header, tests_file, tests, IsTested};
+ghost use Rattle.sys_procs.specs.World.{texts_in};
+ghost use Rattle.sys_procs.specs.TextTable.{text_of, entry_of};
+ghost use Rattle.image_keep.specs.Growth.{most_clicks};
+ghost use Rattle.sys_procs.specs.ExecFile.{is_other, is_busy_in, with_moved, header_read, tests_header, tests_file, tests, IsTested};
 
 use crate::arguments::{Arguments, read_arguments};
 use crate::inodes::{let_go, see};
@@ -26,6 +28,7 @@ use aout_head::{ExecFault, Plan, plan};
 use fs_codec::{file_type, word_at};
 use fs_nodes::{Moved, Nodes};
 use fs_tree::{NameBytes, Tree, User, Want};
+use image_keep::Images;
 use seg_regs::Proto;
 use u_area::UArea;
 use v6_base::{Errno, Slot, Space};
@@ -145,18 +148,31 @@ fn is_magic(planned: &Result<Plan, ExecFault>) -> bool
     !matches!(planned, Err(ExecFault::NotExecutable))
 }
 
-/// Whether a text of this size would be shared, and others than this call refer to its file.
-fn is_shared(magic: u16, text: u16, references: u16) -> bool
-    ensures { result ≡ not (magic == 0o407) && not (text == 0) && nat_lt 1 references }
+/// Whether a text of this size would be shared.
+fn is_shared(magic: u16, text: u16) -> bool
+    ensures { result ≡ not (magic == 0o407) && not (text == 0) }
 {
-    magic != PLAIN_MAGIC && text != 0 && references > 1
+    magic != PLAIN_MAGIC && text != 0
 }
 
-/// Whether the text of a program is busy: it would be shared, and others use its file. No text is in an entry yet.
-fn is_busy(nodes: &Nodes, ino: u16, head: &[u8; 16]) -> bool
-    ensures { (p : Procs) → HasNoText p.images → result ≡ is_busy (handed p nodes.now) ino (header_of head.now) }
+/// Whether a text of so many clicks is another than that which its file has in the table of texts, or is none of these
+/// while others use its file.
+fn is_other(images: &Images, references: u16, ino: u16, clicks: u16) -> bool
+    ensures { result ≡ is_other (texts_in images.now) references clicks (entry_of (texts_in images.now) ino) }
 {
-    is_shared(word_at(head, 0), word_at(head, 2), nodes.refs(ino))
+    match images.find_text(ino) {
+        Some(t) => images.text_row(t).clicks != clicks,
+        None => references > 1,
+    }
+}
+
+/// Whether the text of a program is busy.
+fn is_busy(images: &Images, nodes: &Nodes, ino: u16, head: &[u8; 16]) -> bool
+    ensures { result ≡ is_busy_in (texts_in images.now) (slice_index nodes.now.references ino) ino (header_of head.now) }
+{
+    let text = word_at(head, 2);
+    is_shared(word_at(head, 0), text)
+        && is_other(images, nodes.refs(ino), ino, clicks(u32::from(text)))
 }
 
 /// The clicks of so many bytes.
@@ -190,6 +206,7 @@ fn fitting(planned: Result<Plan, ExecFault>, limit: u16) -> Result<Plan, Errno>
     ensures fits { IfOk result (λ plan.
         is_refused (text_clicks plan) (data_clicks plan) stack_clicks limit ≡ false) }
     ensures most { IfOk result (λ plan. plan.init ≤ 131070) }
+    ensures plan { IfOk result (λ plan. planned ≡ Ok plan) }
 {
     let Ok(plan) = planned else {
         return Err(Errno::ENOMEM);
@@ -207,21 +224,23 @@ fn fitting(planned: Result<Plan, ExecFault>, limit: u16) -> Result<Plan, Errno>
 /// `ENOSPC`: no block was free for a hole in the header. `ENOEXEC`: it is too short, or has no magic number of a
 /// program. `ETXTBSY`: the text would be shared, and others use the file. `ENOMEM`: no image can have these sizes.
 fn judge_header(
+    images: &Images,
     nodes: &Nodes,
     ino: u16,
     head: &[u8; 16],
     read: Moved,
-    limit: u16,
 ) -> Result<Plan, Errno>
-    ensures answer { (p : Procs) → HasNoText p.images → result ≡ then_do (unless_error read.error) (λ whole.
+    ensures answer { result ≡ then_do (unless_error read.error) (λ whole.
         then_do (must ENOEXEC ((read.done == 16) && is_magic (plan_of (header_of head.now)))) (λ program.
-        then_do (must ETXTBSY (not (is_busy (handed p nodes.now) ino (header_of head.now)))) (λ free.
+        then_do (must ETXTBSY (not (is_busy_in (texts_in images.now) (slice_index nodes.now.references ino) ino (header_of head.now)))) (λ free.
         then_do (or_no_memory (plan_of (header_of head.now))) (λ plan.
-        then_do (must ENOMEM (not (is_refused (text_clicks plan) (data_clicks plan) stack_clicks limit))) (λ fits.
+        then_do (must ENOMEM (not (is_refused (text_clicks plan) (data_clicks plan) stack_clicks (most_clicks images.now)))) (λ fits.
         Ok plan))))) }
     ensures fits { IfOk result (λ plan.
-        is_refused (text_clicks plan) (data_clicks plan) stack_clicks limit ≡ false) }
+        is_refused (text_clicks plan) (data_clicks plan) stack_clicks (most_clicks images.now) ≡ false) }
     ensures most { IfOk result (λ plan. plan.init ≤ 131070) }
+    ensures shared { IfOk result (λ plan. (k : ℕ) → 0 < plan.text → entry_of (texts_in images.now) ino ≡ Some k
+        → length (text_of (texts_in images.now) k).bytes ≡ 64 * text_clicks plan) }
 {
     if let Some(e) = read.error {
         return Err(e);
@@ -230,10 +249,10 @@ fn judge_header(
     if read.done != HEADER_SIZE || !is_magic(&planned) {
         return Err(Errno::ENOEXEC);
     }
-    if is_busy(nodes, ino, head) {
+    if is_busy(images, nodes, ino, head) {
         return Err(Errno::ETXTBSY);
     }
-    fitting(planned, limit)
+    fitting(planned, images.limit())
 }
 
 /// Tests the header of a file that is referred to.
@@ -250,7 +269,6 @@ fn test_header(
     read: Moved,
 ) -> Result<Program, Errno>
     requires referenced { 0 < slice_index tree.old.nodes.references ino }
-    requires no_text { HasNoText p.now.images }
     ensures answer { (m : Moving (List ℕ)) → m.memory ≡ head.now → m.done ≡ read.done → m.error ≡ read.error
         → result ≡ (tests_header (handed p.now tree.old.nodes) ino args m).answer }
     ensures state { (m : Moving (List ℕ)) → m.memory ≡ head.now → m.done ≡ read.done → m.error ≡ read.error
@@ -260,7 +278,7 @@ fn test_header(
     ensures blocks { SameRest tree.old.nodes.blocks tree.new.nodes.blocks }
 {
     see(&tree.nodes);
-    match judge_header(&tree.nodes, ino, head, read, p.images.limit()) {
+    match judge_header(&p.images, &tree.nodes, ino, head, read) {
         Ok(plan) => Ok(Program {
             ino,
             plan,
@@ -280,7 +298,6 @@ fn test_header(
 /// Those of the header. The inode is referred to once less then.
 fn read_header(p: &Procs, tree: &mut Tree, ino: u16, args: Arguments) -> Result<Program, Errno>
     requires referenced { 0 < slice_index tree.old.nodes.references ino }
-    requires no_text { HasNoText p.now.images }
     ensures answer { result ≡ (tests_header
         (with_moved (handed p.now tree.old.nodes) ino (header_read (handed p.now tree.old.nodes) ino)) ino args
         (header_read (handed p.now tree.old.nodes) ino)).answer }

@@ -1,5 +1,6 @@
 -- A kernel that is about to execute `/etc/init`: nothing but process 1 is there yet.
 use Rattle.std.proofs.Common.{◌≡◌, ◌≢◌, ◌<◌, ◌≤◌, ◌+◌, ◌*◌, ◌==◌, if◌then◌else◌, cond, ℕ, zero, suc, Bool, false, List, [], ◌∷◌, length, replicate, get_or, min, count_by, sum_by, Option, Some, None, slice_index, refl, sym, ap, ◌∙◌, subst, arith, inl, inr, map}
+use Rattle.std.specs.List.{list_any, range_with_len}
 use Rattle.std.proofs.lemmas.Bool.{eq-eqb, ne_eqb, cases_lt, cases_eq}
 use Rattle.std.proofs.lemmas.Bool.Decides.{eqb_tells}
 use Rattle.std.proofs.lemmas.List.{get_or-replicate, get_or_past, length-replicate}
@@ -14,16 +15,18 @@ use Rattle.pick_rules.specs.Search.{least}
 use Rattle.pick_rules.specs.Swapper.{candidate}
 use Rattle.fs_nodes.specs.FileSystem.{FileSystem}
 use Rattle.fs_tree.specs.Marks.{no_marks}
+use Rattle.fs_tree.specs.declared.marks.TheConstants.{INODE_NUMBERS}
+use Rattle.sys_procs.specs.TextTable.{marks_of}
 use Rattle.sys_files.specs.Sound.{is_of, numbers_of}
 use Rattle.proc_tab.specs.Processes.{first_processes, member_at}
 use Rattle.image_keep.specs.Kept.{Keeping, Nothing, Alive, Kept, Has, keeping, first_kept, with_keeping, area_in, clicks_of, text_of}
 use Rattle.image_keep.proofs.Frames.{keeping_same, keeping_other}
 use Rattle.sys_procs.specs.Process.{Process, process_in}
-use Rattle.sys_procs.specs.World.{processes_in, clock_of, texts_in}
+use Rattle.sys_procs.specs.World.{processes_in, clock_of, text_in, texts_in}
 use Rattle.sys_procs.specs.Agree.{Agrees, Agree, board_of, text_place}
 use Rattle.sys_procs.proofs.Slots.{are_processes}
 use Rattle.image_keep.specs.Kept as kept
-use Rattle.sys_procs.proofs.Agreement.{no_text_of}
+use Rattle.unix_core.proofs.PlaceLemmas.{HasNoText, no_text_of}
 use Rattle.pick_rules.specs.declared.row.TableRow.{TableRow}
 use Rattle.pick_rules.specs.Board.{first_board}
 use Rattle.unix_core.specs.declared.world.World.{World}
@@ -32,7 +35,6 @@ use Rattle.abstract_unix.specs.Unix.{no_texts}
 use Rattle.abstract_unix.specs.References.{is_text_of}
 use Rattle.abstract_unix.specs.Runs.{first_process, first_unix, system_with}
 use Rattle.unix_core.specs.Parts.{unix_of, system_at, first_held, IsGood, IsNew, IsKernel}
-use Rattle.unix_core.proofs.GoodLemmas.{texts_none, owed_so}
 use Rattle.abstract_unix.specs.Whole.{Told, told_of, told_in, names, stands, all_names, all_stand, refer, Owes}
 
 abbrev no_files : List (Option OpenFile)
@@ -130,7 +132,7 @@ no_member (suc zero) high = absurd (omega (arith, high))
 no_member (suc (suc s)) high = everywhere 48 None s
 
 free_agrees : Agrees None empty_row Nothing
-free_agrees = record { stat = refl; image = refl; place = refl; size = λ held is. absurd (cc is); quiet = λ f. refl }
+free_agrees = record { stat = refl; image = refl; place = refl; size = λ held is. absurd (cc is); quiet = λ f. refl; textless = λ f. refl }
 
 own_agrees : (time : ℕ) → Agrees (member_at first_processes.slots 1) (row_at (first_table time) 1) (Alive first_held)
 own_agrees time = record {
@@ -139,6 +141,7 @@ own_agrees time = record {
   place = refl;
   size = λ held is. ap (λ x. clicks_of (area_in x)) is;
   quiet = λ f. absurd (f refl);
+  textless = λ f. absurd (f refl);
 }
 
 first_textless : (time s : ℕ) → 0 < s → (row_at (first_table time) s).text ≡ None
@@ -163,7 +166,7 @@ first_agree core time table = record {
         (subst (λ x. Agrees None empty_row x) (sym (first_alone core s other)) free_agrees))
   ];
   text = λ s above below. first_textless time s above ∙ sym (no_text_of (first_images core) s (record { texts = refl; users = refl }));
-  no_text = record { texts = refl; users = refl };
+  textless = no_text_of (first_images core) 0 (record { texts = refl; users = refl });
 }
 
 nobody : (s : ℕ) → 2 ≤ s → get_or first_slots s None ≡ None
@@ -188,6 +191,23 @@ first_processes_are core = are_processes first_processes.slots (first_images cor
           (sym (no_text_of (first_images core) 1 (record { texts = refl; users = refl })) i)))
       | inr other ↦ own s other
     ]
+
+-- no text is there
+texts_none : (k : Kept) → HasNoText k → texts_in k ≡ no_texts
+unfolding no_texts kept.no_texts
+texts_none k none = ap (λ texts. map text_in texts) none.texts
+
+none_shared : (ino n : ℕ) → list_any (is_text_of ino) (replicate n None) ≡ false
+none_shared ino zero = refl
+none_shared ino (suc n) = none_shared ino n
+
+all_false : (f : ℕ → Bool) (a n : ℕ) → ((i : ℕ) → f i ≡ false) → map f (range_with_len a n) ≡ replicate n false
+all_false f a zero none = refl
+all_false f a (suc n) none = λ i. none a i ∷ all_false f (a + 1) n none i
+
+marks_none : marks_of no_texts ≡ no_marks
+unfolding marks_of no_marks no_texts
+marks_none = all_false (λ ino. list_any (is_text_of ino) (replicate 40 None)) 0 INODE_NUMBERS (λ ino. none_shared ino 40)
 
 no_places : map text_place kept.no_texts ≡ replicate 40 None
 unfolding kept.no_texts
@@ -233,14 +253,15 @@ module _ (fs : FileSystem) (core : ℕ) (referred : (ino : ℕ) → slice_index 
   first_good : IsGood w
   first_good = record {
     agree = begun_agree;
-    owed = owed_so w begun_agree (subst (λ (files : List (Option OpenFile)). Owes w.files.tree.nodes.references files no_texts (told_in (unix_of w).processes)) (sym table)
+    owed = subst (λ texts. Owes w.files.tree.nodes.references w.files.table texts (told_in (unix_of w).processes)) (sym texts_are)
+        (subst (λ (files : List (Option OpenFile)). Owes w.files.tree.nodes.references files no_texts (told_in (unix_of w).processes)) (sym table)
         (subst (Owes w.files.tree.nodes.references no_files no_texts) (sym (ap told_in processes_are ∙ told_is)) (record {
           numbers = λ entry. ap numbers_of (none_open entry) ∙ sym (none_named entry);
           referred = λ ino. ap (λ (f : FileSystem). slice_index f.references ino) nodes ∙ referred ino ∙ sym (first_referred ino);
           no_pipe = λ entry file is. (let none = none_open entry in absurd (cc (none, is)));
           fifteen = first_fifteen;
         })));
-    marks = marks;
+    marks = marks ∙ sym (ap marks_of texts_are ∙ marks_none);
     running = λ s runs above. absurd (let zero_ : Some 0 ≡ Some s = sym (ap (λ (t : Table). t.running) slots) ∙ runs in
         let same : 0 ≡ s = cc zero_ in omega (arith, same, above));
     rooms = (entries, bytes);

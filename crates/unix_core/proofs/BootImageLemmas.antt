@@ -14,10 +14,8 @@ use Rattle.image_keep.specs.Places as places
 use Rattle.image_keep.proofs.Frames.{keeping_same, keeping_twice}
 use Rattle.image_keep.proofs.PlaceFrames.{bare_moved}
 use Rattle.abstract_unix.specs.Init.{init_data}
-use Rattle.sys_procs.specs.Agree.{HasNoText}
-use Rattle.sys_procs.proofs.Agreement.{no_text_of}
 use Rattle.unix_core.specs.Parts.{first_held}
-use Rattle.unix_core.proofs.PlaceLemmas.{placed_first}
+use Rattle.unix_core.proofs.PlaceLemmas.{placed_first, HasNoText, no_text_of}
 
 empty_slots : (s : ℕ) → get_or (replicate 50 Nothing) s Nothing ≡ Nothing
 empty_slots s = elim (cases_lt s 50) [

@@ -1,51 +1,59 @@
 -- A call on processes: what the process that calls has for it, what it has come to, and what the world is then.
-use Rattle.std.proofs.Common.{◌≡◌, ◌∙◌, ℕ, Bool, true, false, if◌then◌else◌, List, length, get_or, map, Option, Some, None, slice_index, refl, sym, ap, subst, arith}
+use Rattle.std.proofs.Common.{◌≡◌, ◌∙◌, ◌+◌, ◌==◌, ℕ, Bool, true, false, cond, if◌then◌else◌, List, length, count_by, get_or, map, Option, Some, None, slice_index, refl, sym, ap, subst, arith}
 use Rattle.std.specs.Prelude.{Result, Ok, Err}
 use Rattle.v6_base.specs.Trace.{Taken, Took}
 use Rattle.v6_base.specs.declared.answer.Answer.{Answer}
 use Rattle.v6_base.specs.declared.entry.PanicKind.{PanicKind}
-use Rattle.v6_base.specs.declared.entry.PanicKind.TheVariants as panic
 use Rattle.pick_rules.specs.Board.{Board}
-use Rattle.pick_rules.specs.Effects.{kind_of, lifted}
+use Rattle.pick_rules.specs.Effects.{lifted}
 use Rattle.pick_rules.specs.Logged.{Logged, Stop, logged, left_by}
 use Rattle.open_files.specs.declared.file.OpenFile.{OpenFile}
 use Rattle.fs_nodes.specs.FileSystem.{IsFileSystem}
 use Rattle.fs_tree.specs.declared.tree.Tree.{Tree}
+use Rattle.image_keep.specs.Kept.{IsKept, area_of, area_in}
 use Rattle.sys_procs.specs.declared.procs.Procs.{Procs}
 use Rattle.sys_procs.specs.World as its
 use Rattle.sys_procs.specs.Comes.{Comes, comes}
 use Rattle.sys_procs.specs.Agree.{answered}
-use Rattle.sys_procs.specs.Handed.{AreProcs, Calls, handed, board, came}
+use Rattle.sys_procs.specs.TextTable.{is_text_of, marks_of}
+use Rattle.sys_procs.specs.Handed.{AreProcs, Calls, IsMarked, handed, board, came}
 use Rattle.sys_procs.specs.Done.{HasDone, HasLeft}
 use Rattle.unix_core.specs.declared.world.World.{World}
 use Rattle.abstract_unix.specs.declared.ending.Ending.{Ending}
-use Rattle.abstract_unix.specs.Unix.{Unix, no_texts}
+use Rattle.abstract_unix.specs.declared.ending.Ending.TheVariants.{Panic}
+use Rattle.abstract_unix.specs.Unix.{Text, Unix}
 use Rattle.abstract_unix.specs.Steps.{Steps}
 use Rattle.abstract_unix.specs.Calls.{answers, came_by, with_world, world_of}
-use Rattle.unix_core.specs.Parts.{unix_of, board_in, IsReady, HasCome, unmet_as, ended_as, is_over}
-use Rattle.abstract_unix.specs.Whole.{told_in, Owes}
-use Rattle.abstract_unix.proofs.Owing.{dir_referred, few_references, owes_refs}
-use Rattle.unix_core.proofs.GoodLemmas.{told_of_slot, owed_none, owed_so, fifty_told, told_of_image, still_runs, Rests, moved_unix, good_then}
-use Rattle.unix_core.proofs.WorldLemmas.{ready_alive, slot_is, is_living, forty, references_in}
+use Rattle.unix_core.specs.Parts.{unix_of, board_in, IsGood, IsReady, HasCome, ended_as, is_over}
+use Rattle.abstract_unix.specs.Whole.{told_in, Owes, Owed}
+use Rattle.abstract_unix.proofs.Owing.{few_references, stands_within}
+use Rattle.unix_core.proofs.GoodLemmas.{told_of_slot, forty, fifty_told, told_of_image, still_runs, Rests, moved_unix, good_then}
+use Rattle.unix_core.proofs.WorldLemmas.{ready_alive, slot_is, is_living, references_in}
 use Rattle.unix_core.proofs.LoggedLemmas.{over, stop_of, logged_over}
 use Rattle.abstract_unix.proofs.Moved.{MovedBoard, AreTamed, Moves, tamed_moves, tamed_mild}
 use Rattle.abstract_unix.proofs.Mild.{IsMild, IsNear}
 
 -- The process that runs can call.
-pub ready_calls : (w : World) (s : ℕ) → IsReady w s → length w.files.table ≡ 100 → Calls w.procs w.files.tree.nodes s
-ready_calls w s ready long =
+pub ready_calls : (w : World) (s : ℕ) → IsReady w s → length w.files.table ≡ 100 → IsKept w.procs.images → Calls w.procs w.files.tree.nodes s
+ready_calls w s ready long holds =
     let alive = ready_alive w s ready in
     let u : Unix = unix_of w in
+    let refs : List ℕ = w.files.tree.nodes.references in
+    let held = alive.image.0 in
+    let told = told_of_image w alive.agree s alive.above alive.below held alive.image.1 in
     record {
       agree = alive.agree;
       runs = ready.runs;
       user = ready.user;
       image = alive.image;
-      directory = λ held has.
-          dir_referred w.files.tree.nodes.references w.files.table u.texts (told_in u.processes) ready.good.owed s (record { files = held.u.files; dir = held.u.dir })
-          (told_of_image w alive.agree s alive.above alive.below held has);
+      referred = λ ino.
+          let dir = stands_within (told_in u.processes) s (record { files = held.u.files; dir = held.u.dir }) told ino in
+          let own : ◌≡◌ {A = ℕ} (if (area_of w.procs.images s).dir == ino then 1 else 0) (if held.u.dir == ino then 1 else 0) =
+          ap (λ x. cond {A = ℕ} ((area_in x).dir == ino) 1 0) alive.image.1 in
+          let all = ready.good.owed.referred ino in
+          omega (arith, dir, own, all);
       few = λ ino.
-          let most = few_references w.files.tree.nodes.references w.files.table no_texts (told_in u.processes) (owed_none w ready.good) (fifty_told w) ino long forty in
+          let most = few_references refs w.files.table u.texts (told_in u.processes) ready.good.owed (fifty_told w) ino long (forty w.procs.images holds) in
           omega (arith, most);
     }
 
@@ -58,6 +66,7 @@ pub near_here : (w : World) (s : ℕ) → IsReady w s → IsNear (given w) (give
 near_here w s ready = record {
   inodes = refl;
   switches = refl;
+  texts = refl;
   told = refl;
   here = slot_is w s ready;
   lives = is_living w s ready;
@@ -77,13 +86,27 @@ pub record StaysBeside (w now : World) : Type 0 where
 abbrev pub after : World → Tree → Procs → World
 after w tree procs = record w { files = record w.files { tree = tree }; procs = procs }
 
-pub beside : (w : World) (tree : Tree) (procs : Procs) → tree.marks ≡ w.files.tree.marks → StaysBeside w (after w tree procs)
-beside w tree procs marks = record { table = refl; rests = record { marks = marks; line = refl; tape = refl; core = refl } }
+pub beside : (w : World) (tree : Tree) (procs : Procs) → StaysBeside w (after w tree procs)
+beside w tree procs = record { table = refl; rests = record { line = refl; tape = refl; core = refl } }
 
--- The parts of a world in which each has its files and its directory, and nothing else refers to inodes.
+-- how often the texts refer to an inode
+abbrev pub shared : List (Option Text) → ℕ → ℕ
+shared texts ino = count_by (is_text_of ino) texts
+
+-- The parts of a world in which each has its files and its directory, and beside these the texts alone refer to inodes anew.
 pub record IsLike (w : World) (x : its.World) : Type 0 where
-  pub refs : (ino : ℕ) → slice_index x.inodes.references ino ≡ slice_index w.files.tree.nodes.references ino
+  pub refs : (ino : ℕ) → slice_index x.inodes.references ino + shared (unix_of w).texts ino ≡ slice_index w.files.tree.nodes.references ino + shared x.texts ino
   pub told : told_in x.processes ≡ told_in (unix_of w).processes
+
+-- What is owed then.
+like_owes : (w : World) (x : its.World) → IsLike w x → IsGood w → Owes x.inodes.references w.files.table x.texts (told_in x.processes)
+like_owes w x like good =
+    subst (Owes x.inodes.references w.files.table x.texts) (sym like.told) (record {
+      numbers = good.owed.numbers;
+      referred = λ ino. let before = good.owed.referred ino in let same = like.refs ino in omega (arith, before, same);
+      no_pipe = good.owed.no_pipe;
+      fifteen = good.owed.fifteen;
+    })
 
 -- The world after a call that leaves to each its files and its directory.
 module _ (w now : World) (s : ℕ) (ready : IsReady w s) (x : its.World) (agree : AreProcs now.procs)
@@ -91,18 +114,24 @@ module _ (w now : World) (s : ℕ) (ready : IsReady w s) (x : its.World) (agree 
   told : (r : ℕ) → told_of_slot now r ≡ told_of_slot w r
   told r = ap (λ (v : its.World). get_or (told_in v.processes) r None) state ∙ ap (λ l. get_or l r None) like.told
 
-  moved_ready : IsReady now s
-  moved_ready = record {
+  moved_owed : Owed now.files.tree.nodes.references (unix_of now)
+  moved_owed =
+      let P : its.World → List (Option OpenFile) → Type 0 = λ v files. Owes v.inodes.references files v.texts (told_in v.processes) in
+      subst (P (given now)) (sym stays.table) (subst (λ v. P v w.files.table) (sym state) (like_owes w x like ready.good))
+
+  moved_ready : IsMarked now.procs now.files.tree.marks → IsReady now s
+  moved_ready marks = record {
     good = good_then w now stays.rests after.core ready.good agree
         (still_runs w now ready.good agree (λ r is. sym after.running ∙ is) (λ r t was is. told r ∙ is))
-        (let refs : List ℕ = now.files.tree.nodes.references in
-        owed_so now agree (subst (λ (files : List (Option OpenFile)). Owes refs files no_texts (told_in (unix_of now).processes)) (sym stays.table)
-        (subst (Owes refs w.files.table no_texts) (sym (ap (λ (v : its.World). told_in v.processes) state ∙ like.told))
-        (owes_refs w.files.tree.nodes.references refs w.files.table no_texts (told_in (unix_of w).processes)
-        (λ ino. ap (λ (v : its.World). slice_index v.inodes.references ino) state ∙ like.refs ino) (owed_none w ready.good)))));
+        moved_owed marks;
     runs = after.running ∙ ready.runs;
     user = ready.user;
   }
+
+-- Marks that stay are those of the texts, where these are of the same inodes.
+pub still_marked : (w now : World) (x : its.World) → IsMarked w.procs w.files.tree.marks → now.files.tree.marks ≡ w.files.tree.marks → given now ≡ x
+    → marks_of x.texts ≡ marks_of (unix_of w).texts → IsMarked now.procs now.files.tree.marks
+still_marked w now x good marks state texts = marks ∙ good ∙ sym texts ∙ ap (λ (v : its.World). marks_of v.texts) (sym state)
 
 -- What a call on processes comes to that keeps the switches, and by which nobody ends.
 pub record IsStill (w : World) (c : Comes) : Type 0 where
@@ -126,7 +155,7 @@ tame_if w false x y f g = g
 pub mild_tame : (w : World) (c : Comes) → IsMild (given w) c → IsTame w c
 mild_tame w c mild = record {
   still = record { effects = tamed_mild _ c.effects mild.effects; switches = λ none. mild.switches };
-  like = λ none. record { refs = λ ino. ap (λ n. slice_index n.references ino) mild.inodes; told = mild.told };
+  like = λ none. record { refs = λ ino. (λ i. slice_index (mild.inodes i).references ino + shared (sym mild.texts i) ino); told = mild.told };
 }
 
 -- which never stops
@@ -137,22 +166,17 @@ mild_goes w c mild stop is = (tamed_moves (λ (x : its.World). ⊥) (board w.pro
 pub goes_on : (o : Option (Stop its.World)) (x a : Answer) (r : Result Answer PanicKind) → r ≡ answered o x → r ≡ Ok a → (o ≡ None) × (a ≡ x)
 goes_on None x a r e is = let same : ◌≡◌ {A = Result Answer PanicKind} (Ok a) (Ok x) = sym is ∙ e in (refl, cc same)
 goes_on (Some stop) x a r e is =
-    absurd (let never : ◌≡◌ {A = Result Answer PanicKind} (Ok a) (Err (kind_of stop.why)) = sym is ∙ e in cc never)
+    absurd (let never : ◌≡◌ {A = Result Answer PanicKind} (Ok a) (Err stop.why) = sym is ∙ e in cc never)
 
 pub stops : (o : Option (Stop its.World)) (x : Answer) (kind : PanicKind) (r : Result Answer PanicKind) → r ≡ answered o x → r ≡ Err kind
-    → (stop : Stop its.World) × ((o ≡ Some stop) × (kind ≡ kind_of stop.why))
+    → (stop : Stop its.World) × ((o ≡ Some stop) × (kind ≡ stop.why))
 stops None x kind r e is = absurd (let never : ◌≡◌ {A = Result Answer PanicKind} (Err kind) (Ok x) = sym is ∙ e in cc never)
 stops (Some stop) x kind r e is =
-    let same : ◌≡◌ {A = Result Answer PanicKind} (Err kind) (Err (kind_of stop.why)) = sym is ∙ e in (stop, (refl, cc same))
+    let same : ◌≡◌ {A = Result Answer PanicKind} (Err kind) (Err stop.why) = sym is ∙ e in (stop, (refl, cc same))
 
 -- a run that is stopped is over
-pub unmet_over : (kind : PanicKind) → is_over (unmet_as kind) ≡ true
-unmet_over panic.Swap = refl
-unmet_over panic.Zombie = refl
-unmet_over panic.Text = refl
-
-pub over_then : {P : Type 0} (e : Ending) (kind : PanicKind) → e ≡ unmet_as kind → is_over e ≡ false → P
-over_then e kind is goes = absurd (let never : true ≡ false = sym (ap is_over is ∙ unmet_over kind) ∙ goes in cc never)
+pub over_then : {P : Type 0} (kind : PanicKind) → is_over (Panic kind) ≡ false → P
+over_then kind goes = absurd (cc goes)
 
 -- A call on processes has left the parts as its row says.
 module _ (w now : World) (c : Comes) (still : IsStill w c) (stays : StaysBeside w now) {start end : Taken}
@@ -195,7 +219,7 @@ module _ (w now : World) (c : Comes) (still : IsStill w c) (stays : StaysBeside 
           board = shown ∙ left.shown ∙ ap (λ (l : Logged Unix). l.board) (sym log);
         }
 
-    pub stopped_come : (stop : Stop its.World) (e : Ending) → (came w.procs c).stop ≡ Some stop → e ≡ unmet_as (kind_of stop.why)
+    pub stopped_come : (stop : Stop its.World) (e : Ending) → (came w.procs c).stop ≡ Some stop → e ≡ Panic stop.why
         → HasCome (board_in w) steps e now
     stopped_come stop e some ends =
         let halts : (logged (board_in w) steps.effects).stop ≡ stop_of (with_world (unix_of w)) (Some stop) =
@@ -207,9 +231,10 @@ module _ (w now : World) (c : Comes) (still : IsStill w c) (stays : StaysBeside 
         }
 
 pub gone_ready : (w now : World) (s : ℕ) (c : Comes) → IsTame w c → StaysBeside w now → {start end : Taken} → HasLeft w.procs now.procs now.files.tree.nodes start end c
-    → (came w.procs c).stop ≡ None → IsReady w s → AreProcs now.procs → IsReady now s
-gone_ready w now s c is stays left none ready agree =
-    moved_ready w now s ready c.state agree (left.state ∙ ap (λ o. left_by o c.state) none) (is.like none) (gone_moved w now c is.still stays left none) stays
+    → (came w.procs c).stop ≡ None → IsReady w s → AreProcs now.procs
+    → IsMarked now.procs now.files.tree.marks → IsReady now s
+gone_ready w now s c is stays left none ready agree marks =
+    moved_ready w now s ready c.state agree (left.state ∙ ap (λ o. left_by o c.state) none) (is.like none) (gone_moved w now c is.still stays left none) stays marks
 
 -- The same of a call of the table, by its answer.
 module _ (w now : World) (s : ℕ) (c : Comes) (is : IsTame w c) (stays : StaysBeside w now) {r : Result Answer PanicKind} {start end : Taken}
@@ -220,10 +245,10 @@ module _ (w now : World) (s : ℕ) (c : Comes) (is : IsTame w c) (stays : StaysB
   pub call_took : Took start (logged (board_in w) (came_by (unix_of w) s c).effects).items end
   call_took = left_took w now c is.still stays left (came_by (unix_of w) s c) refl
 
-  pub call_stops : (kind : PanicKind) (e : Ending) → r ≡ Err kind → e ≡ unmet_as kind → HasCome (board_in w) (came_by (unix_of w) s c) e now
+  pub call_stops : (kind : PanicKind) (e : Ending) → r ≡ Err kind → e ≡ Panic kind → HasCome (board_in w) (came_by (unix_of w) s c) e now
   call_stops kind e err ends =
       let halt = stops (came w.procs c).stop c.answer kind r does.answer err in
-      stopped_come w now c is.still stays left (came_by (unix_of w) s c) refl halt.0 e halt.1.0 (ends ∙ ap unmet_as halt.1.1)
+      stopped_come w now c is.still stays left (came_by (unix_of w) s c) refl halt.0 e halt.1.0 (ends ∙ ap Panic halt.1.1)
 
   module _ (a : Answer) (ok : r ≡ Ok a) where
     went : ((came w.procs c).stop ≡ None) × (a ≡ c.answer)
@@ -232,8 +257,13 @@ module _ (w now : World) (s : ℕ) (c : Comes) (is : IsTame w c) (stays : StaysB
     pub call_unix : unix_of now ≡ with_world (unix_of w) c.state
     call_unix = gone_unix w now c is.still stays left went.0
 
-    pub call_ready : IsReady w s → AreProcs now.procs → IsReady now s
-    call_ready ready agree = gone_ready w now s c is stays left went.0 ready agree
+    pub call_ready : IsReady w s → AreProcs now.procs → IsMarked now.procs now.files.tree.marks → IsReady now s
+    call_ready ready agree marks = gone_ready w now s c is stays left went.0 ready agree marks
+
+    -- the marks, where it has left them and the texts' files
+    pub call_marked : now.files.tree.marks ≡ w.files.tree.marks → IsMarked w.procs w.files.tree.marks → marks_of c.state.texts ≡ marks_of (unix_of w).texts
+        → IsMarked now.procs now.files.tree.marks
+    call_marked marks good texts = still_marked w now c.state good marks (left.state ∙ ap (λ o. left_by o c.state) went.0) texts
 
     -- when its answer has been concluded
     pub call_come : (fin : World) (e : Ending) → e ≡ (answers (unix_of now) s a).ending → unix_of fin ≡ (answers (unix_of now) s a).unix

@@ -7,7 +7,6 @@ use Rattle.v6_base.specs.declared.entry.Place.TheVariants.{Swap}
 use Rattle.pick_rules.proofs.Laws.{wakeup_kept}
 use Rattle.pick_rules.specs.Apply.{applied}
 use Rattle.pick_rules.specs.Board.{Board}
-use Rattle.pick_rules.specs.Effects.{Panicked}
 use Rattle.pick_rules.specs.Logged.{Logged, Stop, left_by}
 use Rattle.v6_base.specs.declared.entry.PanicKind.TheVariants as panic
 use Rattle.pick_rules.specs.Sleepers.{wakeup}
@@ -114,7 +113,7 @@ module _ (w1 now : World) (s : ℕ) (ready : IsReady w1 s) (stop : Stop its.Worl
 
   before_is : has_left w1 s ready ≡ stop.before
   before_is =
-      let same : ◌≡◌ {A = Option (Stop its.World)} (Some (record { why = Panicked panic.Zombie; before = has_left w1 s ready })) (Some stop) =
+      let same : ◌≡◌ {A = Option (Stop its.World)} (Some (record { why = panic.Zombie; before = has_left w1 s ready })) (Some stop) =
       sym (ap (λ (l : Logged its.World). l.stop) log) ∙ some in
       ap (λ (o : Option (Stop its.World)). left_by o (has_left w1 s ready)) same
 

@@ -3,9 +3,6 @@ use Rattle.std.proofs.Common.{◌≡◌, ◌≢◌, ◌∙◌, ℕ, Bool, true, 
 use Rattle.v6_base.specs.declared.answer.Answer.{Answer}
 use Rattle.v6_base.specs.declared.answer.Answer.TheVariants.{Ret, Fail, Sleep}
 use Rattle.pick_rules.specs.Board.{Board}
-use Rattle.v6_base.specs.declared.entry.PanicKind.{PanicKind}
-use Rattle.v6_base.specs.declared.entry.PanicKind.TheVariants as panic
-use Rattle.pick_rules.specs.Effects.{kind_of}
 use Rattle.pick_rules.specs.Logged.{Stop, logged}
 use Rattle.sys_files.specs.Did.{Did}
 use Rattle.sys_procs.specs.Comes.{Comes}
@@ -20,7 +17,7 @@ use Rattle.abstract_unix.specs.Calls.{answers, came_by, did_by, exits, forks, re
 use Rattle.pdp_step.specs.declared.outcome.Kind.{Kind}
 use Rattle.pdp_step.specs.declared.outcome.Kind.TheVariants as kind
 use Rattle.abstract_unix.specs.Turn.{faults}
-use Rattle.unix_core.specs.Parts.{HasCome, unmet_as, ended_as}
+use Rattle.unix_core.specs.Parts.{HasCome, ended_as}
 
 refused_end : (u : Unix) (s n : ℕ) (b : Bool) →
     (if b then returns (with_area u s (refused_area n)) else not_built u).ending ≢ Next
@@ -63,22 +60,9 @@ fork_end u s e =
 pub exit_end : (u : Unix) (s : ℕ) → (exits u s).ending ≢ Next
 exit_end u s e = absurd (cc e)
 
-unmet_end : (kind : PanicKind) → unmet_as kind ≢ Next
-unmet_end panic.Swap e = absurd (cc e)
-unmet_end panic.Zombie e = absurd (cc e)
-unmet_end panic.Text e = absurd (cc e)
-
-pub unmet_call : (e : Ending) (kind : PanicKind) → e ≡ unmet_as kind → e ≢ Next
-unmet_call e kind is next = unmet_end kind (sym is ∙ next)
-
-unmet_lives : (kind : PanicKind) → unmet_as kind ≢ Ended
-unmet_lives panic.Swap e = absurd (cc e)
-unmet_lives panic.Zombie e = absurd (cc e)
-unmet_lives panic.Text e = absurd (cc e)
-
 as_next : (o : Option (Stop Unix)) (e : Ending) → e ≢ Next → ended_as o e ≢ Next
 as_next None e other is = other is
-as_next (Some stop) e other is = unmet_end (kind_of stop.why) is
+as_next (Some stop) e other is = absurd (cc is)
 
 pub never_next : (b : Board) (steps : Steps) (e : Ending) (w : World) → HasCome b steps e w → steps.ending ≢ Next
     → e ≢ Next
@@ -86,7 +70,7 @@ never_next b steps e w come other is = as_next (logged b steps.effects).stop ste
 
 as_ended : (o : Option (Stop Unix)) (e : Ending) → e ≢ Ended → ended_as o e ≢ Ended
 as_ended None e other is = other is
-as_ended (Some stop) e other is = unmet_lives (kind_of stop.why) is
+as_ended (Some stop) e other is = absurd (cc is)
 
 pub never_ended : (b : Board) (steps : Steps) (e : Ending) (w : World) → HasCome b steps e w → steps.ending ≢ Ended
     → e ≢ Ended

@@ -9,7 +9,7 @@ use Rattle.v6_base.specs.declared.entry.Entry.TheVariants as line
 use Rattle.v6_base.specs.declared.entry.PanicKind.TheVariants as panic
 use Rattle.pick_rules.specs.Board.{Board, swap_fit}
 use Rattle.pick_rules.specs.Apply.{applied}
-use Rattle.pick_rules.specs.Effects.{Show, Exit, Panicked, kind_of}
+use Rattle.pick_rules.specs.Effects.{Show, Exit}
 use Rattle.pick_rules.specs.Effects as effects
 use Rattle.pick_rules.specs.Logged.{Logged, Stop, logged, log_one, left_by}
 use Rattle.sys_procs.specs.World as its
@@ -18,7 +18,7 @@ use Rattle.sys_procs.specs.Exit.{leaves, dies, exit_status, end_proc, exit_now}
 use Rattle.sys_procs.specs.Handed.{handed, board, came}
 use Rattle.fs_nodes.specs.FileSystem.{IsFileSystem}
 use Rattle.unix_core.specs.declared.world.World.{World}
-use Rattle.abstract_unix.specs.declared.ending.Ending.TheVariants.{Ended}
+use Rattle.abstract_unix.specs.declared.ending.Ending.TheVariants.{Ended, Panic}
 use Rattle.abstract_unix.specs.declared.ending.Ending.{Ending}
 use Rattle.abstract_unix.specs.Unix.{Unix, process_of}
 use Rattle.sys_procs.specs.Process.{Process, no_process}
@@ -28,7 +28,7 @@ use Rattle.sys_procs.proofs.Ends.{end_alone}
 use Rattle.sys_procs.proofs.Alive.{no_text_here}
 use Rattle.unix_core.proofs.WorldLemmas.{ready_alive}
 use Rattle.abstract_unix.specs.Calls.{handed_of, exits, closes_all, with_handed, with_world, world_of}
-use Rattle.unix_core.specs.Parts.{unix_of, board_in, IsReady, HasCome, unmet_as, ended_as}
+use Rattle.unix_core.specs.Parts.{unix_of, board_in, IsReady, HasCome, ended_as}
 use Rattle.unix_core.proofs.LoggedLemmas.{over, stop_of, after_items, logged_both}
 use Rattle.unix_core.proofs.CameLemmas.{world_is}
 
@@ -50,7 +50,7 @@ abbrev pub of_panic : {W : Type 0} → Board → W → Logged W
 of_panic b before = record {
   items = Log (line.Panic panic.Zombie) ∷ [];
   board = b;
-  stop = Some (record { why = Panicked panic.Zombie; before = before });
+  stop = Some (record { why = panic.Zombie; before = before });
 }
 
 logged_panic : {W : Type 0} (b : Board) (s parent : ℕ) (w : W) → swap_fit b 1 ≡ None
@@ -155,7 +155,7 @@ module _ (w w1 now : World) (s : ℕ) (ready : IsReady w1 s) (low : s < length (
   }
 
   -- The run has stopped, since the swap area has no block.
-  pub exit_stops : (stop : Stop its.World) → (came w1.procs (ends w1 s ready)).stop ≡ Some stop → (e : Ending) → e ≡ unmet_as (kind_of stop.why)
+  pub exit_stops : (stop : Stop its.World) → (came w1.procs (ends w1 s ready)).stop ≡ Some stop → (e : Ending) → e ≡ Panic stop.why
       → unix_of now ≡ with_world (unix_of w1) stop.before → board now.procs ≡ (came w1.procs (ends w1 s ready)).board
       → HasCome (board_in w) (exits (unix_of w) s) e now
   exit_stops stop some e ended is board_is = record {

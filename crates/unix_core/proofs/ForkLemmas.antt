@@ -20,7 +20,10 @@ use Rattle.sys_procs.specs.Fork.{copied, past_word, next_pid, fork_into, fork_on
 use Rattle.sys_procs.specs.Handed.{AreProcs, handed, board, came}
 use Rattle.sys_procs.specs.Done.{HasDone, HasLeft}
 use Rattle.abstract_unix.specs.declared.ending.Ending.{Ending}
-use Rattle.abstract_unix.specs.Unix.{Unix, no_texts, process_of}
+use Rattle.sys_procs.specs.TextTable.{Text, marks_of}
+use Rattle.sys_procs.specs.Texts.{joined_by_child}
+use Rattle.abstract_unix.specs.declared.ending.Ending.TheVariants.{Panic}
+use Rattle.abstract_unix.specs.Unix.{Unix, process_of}
 use Rattle.abstract_unix.specs.Whole.{Told, told_of, told_by, told_in, Owes}
 use Rattle.abstract_unix.specs.Errors.{error_number}
 use Rattle.abstract_unix.specs.Steps.{Steps, returns, not_built}
@@ -29,10 +32,11 @@ use Rattle.abstract_unix.proofs.Owing.{told_none, told_change}
 use Rattle.abstract_unix.proofs.Sharing.{child_owes}
 use Rattle.abstract_unix.proofs.Moved.{MovedBoard}
 use Rattle.unix_core.specs.declared.world.World.{World}
-use Rattle.unix_core.specs.Parts.{unix_of, board_in, IsReady, HasCome, unmet_as}
-use Rattle.unix_core.proofs.GoodLemmas.{told_of_slot, owed_none, owed_so, fifty_told, still_runs, Rests, moved_unix, good_then}
+use Rattle.unix_core.specs.Parts.{unix_of, board_in, IsReady, HasCome}
+use Rattle.unix_core.proofs.GoodLemmas.{told_of_slot, fifty_told, still_runs, Rests, moved_unix, good_then}
 use Rattle.unix_core.proofs.WorldLemmas.{slot_is, is_living, told_here}
-use Rattle.unix_core.proofs.CameLemmas.{IsStill, StaysBeside, given, world_is, goes_on, stops, gone_moved, left_took, gone_come, stopped_come}
+use Rattle.unix_core.proofs.ShareLemmas.{files_of_child, same_marks, same_owes}
+use Rattle.unix_core.proofs.CameLemmas.{IsStill, StaysBeside, given, world_is, goes_on, stops, gone_moved, left_took, gone_come, stopped_come, still_marked}
 
 abbrev call : World → ℕ → Comes
 call w s = fork_one (given w) s
@@ -68,7 +72,8 @@ free_slot w child free =
 -- Who is told of then, and what is owed when the files are shared.
 record ForkOwes (w : World) (s : ℕ) (c : Comes) : Type 0 where
   stays : (t : Told) → told_of_slot w s ≡ Some t → get_or (told_in c.state.processes) s None ≡ Some t
-  owed : Owes c.state.inodes.references (shares w.files.table (process_of (unix_of w) s).u.files c.answer) no_texts (told_in c.state.processes)
+  owed : Owes c.state.inodes.references (shares w.files.table (process_of (unix_of w) s).u.files c.answer) c.state.texts (told_in c.state.processes)
+  marks : marks_of c.state.texts ≡ marks_of (unix_of w).texts
 
 module _ (w : World) (s : ℕ) (ready : IsReady w s) where
   abbrev ps : List (Option Process)
@@ -88,10 +93,13 @@ module _ (w : World) (s : ℕ) (ready : IsReady w s) where
       let same : told_in (set ps s (Some (past_word p))) ≡ ts = told_change ps s p (past_word p) (slot_is w s ready) refl in
       record {
         stays = λ t is. ap (λ l. get_or l s None) same ∙ is;
-        owed = subst (Owes refs w.files.table no_texts) (sym same) (owed_none w ready.good);
+        owed = subst (Owes refs w.files.table (unix_of w).texts) (sym same) ready.good.owed;
+        marks = refl;
       }
   fork_by (Some child) found =
       let free = free_slot w child found in
+      let texts : List (Option Text) = (unix_of w).texts in
+      let joins : List (Option Text) = joined_by_child texts p.text in
       let q : Process = copied p (next_pid (given w)) in
       let born : List (Option Process) = set ps child (Some q) in
       let apart : s ≢ child = λ same.
@@ -103,9 +111,11 @@ module _ (w : World) (s : ℕ) (ready : IsReady w s) where
       let Q : List (Option Told) → Type 0 = λ l. (t : Told) → told_of_slot w s ≡ Some t → get_or l s None ≡ Some t in
       record {
         stays = subst Q put (λ t is. get_or-set_other ts child s (Some (told_of p)) None apart ∙ is);
-        owed = subst (Owes (set refs p.u.dir (slice_index refs p.u.dir + 1)) (shares w.files.table p.u.files (fork_into (given w) s (Some child)).answer) no_texts) put
-            (child_owes refs w.files.table no_texts ts s child (told_of p) (owed_none w ready.good) (told_here w s ready) (told_none ps child free.empty)
+        owed = subst (Owes (set refs p.u.dir (slice_index refs p.u.dir + 1)) (shares w.files.table p.u.files (fork_into (given w) s (Some child)).answer) joins) put
+            (child_owes refs w.files.table joins ts s child (told_of p)
+            (same_owes texts joins (files_of_child texts p.text) refs w.files.table ts ready.good.owed) (told_here w s ready) (told_none ps child free.empty)
             (let low = free.low in let long = fifty_told w in omega (arith, low, long)));
+        marks = same_marks texts joins (files_of_child texts p.text);
       }
 
   fork_owes : ForkOwes w s (call w s)
@@ -122,16 +132,17 @@ module _ (w now : World) (s : ℕ) (ready : IsReady w s) (agree : AreProcs now.p
   told : (r : ℕ) → told_of_slot now r ≡ get_or (told_in (call w s).state.processes) r None
   told r = ap (λ (x : its.World). get_or (told_in x.processes) r None) state
 
-  forked_ready : IsReady now s
-  forked_ready =
+  forked_ready : now.files.tree.marks ≡ w.files.tree.marks → IsReady now s
+  forked_ready marks =
       let owes = fork_owes w s ready in
-      let P : its.World → Type 0 = λ x. Owes x.inodes.references (shares w.files.table (process_of (unix_of w) s).u.files (call w s).answer) no_texts (told_in x.processes) in
+      let P : its.World → List (Option OpenFile) → Type 0 = λ x files. Owes x.inodes.references files x.texts (told_in x.processes) in
       record {
         good = good_then w now rests moved.core ready.good agree
             (still_runs w now ready.good agree (λ r is. sym moved.running ∙ is) (λ r t was is.
             let same : s ≡ r = ap (λ o. unwrap_or o 0) (sym ready.runs ∙ was) in
             subst (λ n. told_of_slot now n ≡ Some t) same (told s ∙ owes.stays t (subst (λ n. told_of_slot w n ≡ Some t) (sym same) is))))
-            (owed_so now agree (subst (λ (l : List (Option OpenFile)). Owes now.files.tree.nodes.references l no_texts (told_in (unix_of now).processes)) (sym table) (subst P (sym state) owes.owed)));
+            (subst (P (given now)) (sym table) (subst (λ x. P x (shares w.files.table (process_of (unix_of w) s).u.files (call w s).answer)) (sym state) owes.owed))
+            (still_marked w now (call w s).state ready.good.marks marks state owes.marks);
         runs = moved.running ∙ ready.runs;
         user = ready.user;
       }
@@ -170,11 +181,11 @@ module _ (w done : World) (s : ℕ) (ready : IsReady w s) (form : IsFileSystem w
       subst (λ (x : Steps). Took start (logged (board_in w) x.effects).items end) (sym (whole_is w s ready form))
       (left_took w done (call w s) (fork_still w s) stays left (shared_by (unix_of w) s (call w s)) refl)
 
-  pub fork_stops : (kind : PanicKind) (e : Ending) → r ≡ Err kind → e ≡ unmet_as kind → HasCome (board_in w) (forks (unix_of w) s) e done
+  pub fork_stops : (kind : PanicKind) (e : Ending) → r ≡ Err kind → e ≡ Panic kind → HasCome (board_in w) (forks (unix_of w) s) e done
   fork_stops kind e err ends =
       let halt = stops (came w.procs (call w s)).stop (call w s).answer kind r does.answer err in
       subst (λ (x : Steps). HasCome (board_in w) x e done) (sym (whole_is w s ready form))
-      (stopped_come w done (call w s) (fork_still w s) stays left (shared_by (unix_of w) s (call w s)) refl halt.0 e halt.1.0 (ends ∙ ap unmet_as halt.1.1))
+      (stopped_come w done (call w s) (fork_still w s) stays left (shared_by (unix_of w) s (call w s)) refl halt.0 e halt.1.0 (ends ∙ ap Panic halt.1.1))
 
   -- It has answered, and the files are shared.
   module _ (answer : Answer) (ok : r ≡ Ok answer) (now : World) (procs : now.procs ≡ done.procs) (tree : now.files.tree ≡ done.files.tree)
@@ -196,10 +207,10 @@ module _ (w done : World) (s : ℕ) (ready : IsReady w s) (form : IsFileSystem w
     switches = (fork_still w s).switches went.0
 
     rests : Rests w now
-    rests = record { marks = ap (λ t. t.marks) tree ∙ stays.rests.marks; line = line; tape = tape; core = core }
+    rests = record { line = line; tape = tape; core = core }
 
-    pub fork_ready : IsReady now s
-    fork_ready = forked_ready w now s ready agree state switches moved its_table rests
+    pub fork_ready : done.files.tree.marks ≡ w.files.tree.marks → IsReady now s
+    fork_ready marks = forked_ready w now s ready agree state switches moved its_table rests (ap (λ t. t.marks) tree ∙ marks)
 
     -- when the answer has been concluded
     pub fork_come : (fin : World) (e : Ending) → e ≡ (answers (unix_of now) s answer).ending → unix_of fin ≡ (answers (unix_of now) s answer).unix

@@ -9,17 +9,16 @@ use Rattle.proc_tab.specs.Processes.{member_at}
 use Rattle.image_keep.specs.Kept.{Held, Keeping, Nothing, Alive, Grave, Kept, Has, HasImage, keeping, text_of}
 use Rattle.image_keep.specs.Kept as kept
 use Rattle.sys_procs.specs.Process.{Process, no_process, process_by, process_in}
-use Rattle.sys_procs.specs.Agree.{Lives, HasNoText, kind_by, kind_of_stat, kind_of_member, kind_of_keeping}
+use Rattle.sys_procs.specs.Agree.{Lives, kind_by, kind_of_stat, kind_of_member, kind_of_keeping}
 use Rattle.sys_procs.specs.World as its
 use Rattle.sys_procs.specs.World.{text_in, texts_in}
-use Rattle.sys_procs.specs.Handed.{AreProcs, handed, board}
+use Rattle.sys_procs.specs.Handed.{AreProcs, IsMarked, handed, board}
 use Rattle.open_files.specs.declared.file.OpenFile.{OpenFile}
-use Rattle.abstract_unix.specs.Unix.{no_texts}
 use Rattle.abstract_unix.specs.Calls.{with_world}
 use Rattle.sys_procs.proofs.Slots.{process_in_slot, fifty_processes}
 use Rattle.sys_procs.proofs.Agreement.{is_there}
 use Rattle.unix_core.specs.declared.world.World.{World}
-use Rattle.abstract_unix.specs.Whole.{Told, told_by, told_in, Owes, Owed}
+use Rattle.abstract_unix.specs.Whole.{Told, told_by, told_in, Owed}
 use Rattle.abstract_unix.proofs.Owing.{told_at, living}
 use Rattle.unix_core.specs.Parts.{unix_of, IsGood}
 
@@ -46,19 +45,9 @@ held_by (Some m) x text q is lives kind = held_alive x (kind ∙ ap kind_by (dea
 pub runs_low : (w : World) (s : ℕ) → AreProcs w.procs → w.procs.table.running ≡ Some s → s < 50
 runs_low w s agree runs = subst (λ o. MatchOption o ⊤ (λ r. r < 50)) runs agree.table.running
 
--- no text is made yet
-pub texts_none : (k : Kept) → HasNoText k → texts_in k ≡ no_texts
-unfolding no_texts kept.no_texts
-texts_none k none = ap (λ texts. map text_in texts) none.texts
-
-pub owed_none : (w : World) → IsGood w → Owes w.files.tree.nodes.references w.files.table no_texts (told_in (unix_of w).processes)
-owed_none w good =
-    subst (λ texts. Owes w.files.tree.nodes.references w.files.table texts (told_in (unix_of w).processes)) (texts_none w.procs.images good.agree.no_text) good.owed
-
-pub owed_so : (w : World) → AreProcs w.procs → Owes w.files.tree.nodes.references w.files.table no_texts (told_in (unix_of w).processes)
-    → Owed w.files.tree.nodes.references (unix_of w)
-owed_so w agree owed =
-    subst (λ texts. Owes w.files.tree.nodes.references w.files.table texts (told_in (unix_of w).processes)) (sym (texts_none w.procs.images agree.no_text)) owed
+-- There are forty entries for texts.
+pub forty : (k : Kept) → kept.IsKept k → length (texts_in k) ≡ 40
+forty k holds = length-map k.texts text_in ∙ holds.table
 
 pub fifty_told : (w : World) → length (told_in (unix_of w).processes) ≡ 50
 fifty_told w = length-map (unix_of w).processes told_by ∙ fifty_processes w.procs.rows.slots w.procs.images
@@ -103,9 +92,8 @@ module _ (w now : World) (good : IsGood w) (agree : AreProcs now.procs) (table :
       held_alive (keeping now.procs.images s)
       (same_kind s above (runs_low w s good.agree was) ∙ ap kind_of_keeping (good.running s was above).1)
 
--- Beside processes, inodes and the table of open files a world is as it was.
+-- Beside processes, inodes, their marks and the table of open files a world is as it was.
 pub record Rests (w now : World) : Type 0 where
-  pub marks : now.files.tree.marks ≡ w.files.tree.marks
   pub line : now.files.line ≡ w.files.line
   pub tape : now.tape ≡ w.tape
   pub core : now.core ≡ w.core
@@ -128,12 +116,13 @@ module _ (w now : World) (rests : Rests w now) (clicks : (board now.procs).core 
         limit = min (clicks i) 2048;
       }
 
-  pub good_then : IsGood w → AreProcs now.procs → ((s : ℕ) → now.procs.table.running ≡ Some s → 0 < s → HasImage now.procs.images s) → Owed now.files.tree.nodes.references (unix_of now) → IsGood now
-  good_then good agree running owed = record {
+  pub good_then : IsGood w → AreProcs now.procs → ((s : ℕ) → now.procs.table.running ≡ Some s → 0 < s → HasImage now.procs.images s) → Owed now.files.tree.nodes.references (unix_of now)
+      → IsMarked now.procs now.files.tree.marks → IsGood now
+  good_then good agree running owed marks = record {
     agree = agree;
     running = running;
     owed = owed;
-    marks = rests.marks ∙ good.marks;
+    marks = marks;
     rooms = (ap (λ t. t.entry_room) rests.tape ∙ good.rooms.0, ap (λ t. t.byte_room) rests.tape ∙ good.rooms.1);
     core = rests.core ∙ good.core ∙ sym clicks;
   }

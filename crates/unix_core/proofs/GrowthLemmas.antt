@@ -5,8 +5,7 @@ use Rattle.v6_base.specs.Trace.{Taken, Took}
 use Rattle.v6_base.specs.declared.answer.Answer.TheVariants.{Fail}
 use Rattle.v6_base.specs.declared.entry.PanicKind.{PanicKind}
 use Rattle.v6_base.specs.declared.errno.Errno.TheVariants.{ENOMEM}
-use Rattle.pick_rules.specs.Effects.{kind_of}
-use Rattle.pick_rules.specs.Logged.{Stop, logged}
+use Rattle.pick_rules.specs.Logged.{Stop, logged, left_by}
 use Rattle.fs_nodes.specs.FileSystem.{IsFileSystem}
 use Rattle.seg_regs.specs.Sizes.{is_refused}
 use Rattle.sys_procs.specs.Process.{Process}
@@ -15,16 +14,17 @@ use Rattle.sys_procs.specs.Comes.{Comes, fails}
 use Rattle.sys_procs.specs.Break.{sized, expands, clicks_up_to, break_at, grown_stack, grow, grown_or_not, grown_by}
 use Rattle.sys_procs.specs.Handed.{AreProcs, came}
 use Rattle.sys_procs.specs.Done.{HasGrown, HasLeft}
+use Rattle.sys_procs.specs.TextTable.{marks_of}
 use Rattle.unix_core.specs.declared.world.World.{World}
 use Rattle.abstract_unix.specs.Unix.{process_of}
 use Rattle.abstract_unix.specs.declared.ending.Ending.{Ending}
-use Rattle.abstract_unix.specs.declared.ending.Ending.TheVariants.{Trapped, NotBuilt}
+use Rattle.abstract_unix.specs.declared.ending.Ending.TheVariants.{Trapped, NotBuilt, Panic}
 use Rattle.abstract_unix.specs.Calls.{grows, grows_to}
 use Rattle.abstract_unix.specs.Calls as unix
-use Rattle.unix_core.specs.Parts.{unix_of, board_in, IsReady, HasCome, unmet_as}
+use Rattle.unix_core.specs.Parts.{unix_of, board_in, IsReady, HasCome}
 use Rattle.unix_core.proofs.WorldLemmas.{slot_is}
 use Rattle.abstract_unix.proofs.Owing.{told_change}
-use Rattle.unix_core.proofs.CameLemmas.{StaysBeside, IsLike, IsTame, tame_comes, tame_if, world_is, gone_unix, gone_come, stopped_come, left_took, gone_ready}
+use Rattle.unix_core.proofs.CameLemmas.{StaysBeside, IsLike, IsTame, tame_comes, tame_if, world_is, gone_unix, gone_come, stopped_come, left_took, gone_ready, still_marked}
 use Rattle.unix_core.proofs.CameLemmas.{given}
 
 pub given_like : (w : World) → IsLike w (given w)
@@ -60,17 +60,28 @@ module _ (w : World) (s : ℕ) (ready : IsReady w s) where
           let same : expands (given w) s p.u.data_size stack ≡ c = cc is in
           subst (IsTame w) same (expands_tame p.u.data_size stack)
 
+  -- no text changes
+  grow_texts : (sp : ℕ) (c : Comes) → grow (given w) s sp ≡ Some c → c.state.texts ≡ (unix_of w).texts
+  unfolding grow
+  grow_texts sp c e = by (grown_stack p.u.text_size p.u.data_size p.u.stack_size (given w).limit sp) e
+    where
+      by : (o : Option ℕ) → option_map (expands (given w) s p.u.data_size) o ≡ Some c → c.state.texts ≡ (unix_of w).texts
+      by None is = absurd (cc is)
+      by (Some stack) is =
+          let same : expands (given w) s p.u.data_size stack ≡ c = cc is in
+          ap (λ (x : Comes). x.state.texts) (sym same)
+
 -- What is answered of a growth.
 answered_so : (o : Option (Stop its.World)) (grows b : Bool) (r : Result Bool PanicKind) → r ≡ grown_by o b → r ≡ Ok grows → (o ≡ None) × (b ≡ grows)
 answered_so None grows b r e is = let same : ◌≡◌ {A = Result Bool PanicKind} (Ok b) (Ok grows) = sym e ∙ is in (refl, cc same)
 answered_so (Some stop) grows b r e is =
-    absurd (let never : ◌≡◌ {A = Result Bool PanicKind} (Ok grows) (Err (kind_of stop.why)) = sym is ∙ e in cc never)
+    absurd (let never : ◌≡◌ {A = Result Bool PanicKind} (Ok grows) (Err stop.why) = sym is ∙ e in cc never)
 
 stopped_so : (o : Option (Stop its.World)) (kind : PanicKind) (b : Bool) (r : Result Bool PanicKind) → r ≡ grown_by o b → r ≡ Err kind
-    → (stop : Stop its.World) × ((o ≡ Some stop) × (kind ≡ kind_of stop.why))
+    → (stop : Stop its.World) × ((o ≡ Some stop) × (kind ≡ stop.why))
 stopped_so None kind b r e is = absurd (let never : ◌≡◌ {A = Result Bool PanicKind} (Err kind) (Ok b) = sym is ∙ e in cc never)
 stopped_so (Some stop) kind b r e is =
-    let same : ◌≡◌ {A = Result Bool PanicKind} (Err kind) (Err (kind_of stop.why)) = sym is ∙ e in (stop, (refl, cc same))
+    let same : ◌≡◌ {A = Result Bool PanicKind} (Err kind) (Err stop.why) = sym is ∙ e in (stop, (refl, cc same))
 
 there_is : (o : Option Comes) → is_some o ≡ true → (c : Comes) × (o ≡ Some c)
 there_is None e = absurd (cc e)
@@ -128,11 +139,13 @@ module _ (w now : World) (s sp : ℕ) (ready : IsReady w s) (form : IsFileSystem
         (gone_come w now c t.still stays (left c is) (grows (unix_of w) c) refl now Trapped none refl
         (gone_unix w now c t.still stays (left c is) none) refl)
 
-    pub grown_ready : AreProcs now.procs → IsReady now s
-    grown_ready agree =
+    pub grown_ready : AreProcs now.procs → now.files.tree.marks ≡ w.files.tree.marks → IsReady now s
+    grown_ready agree marks =
         let c : Comes = its_growth.0 in
         let is = its_growth.1 in
         gone_ready w now s c (tame c is) stays (left c is) (stop_is c is None went.0) ready agree
+        (still_marked w now c.state ready.good.marks marks ((left c is).state ∙ ap (λ o. left_by o c.state) (stop_is c is None went.0))
+        (ap marks_of (grow_texts w s ready sp c is)))
 
   pub not_grown_come : r ≡ Ok false → HasCome (board_in w) (grows_to (unix_of w) s sp) NotBuilt now
   not_grown_come grown =
@@ -146,13 +159,13 @@ module _ (w now : World) (s sp : ℕ) (ready : IsReady w s) (form : IsFileSystem
       (gone_come w now c t.still stays left (unix.grown_by (unix_of w) s None) refl now NotBuilt refl refl
       (gone_unix w now c t.still stays left refl) refl)
 
-  pub growth_stops : (kind : PanicKind) (e : Ending) → r ≡ Err kind → e ≡ unmet_as kind → HasCome (board_in w) (grows_to (unix_of w) s sp) e now
+  pub growth_stops : (kind : PanicKind) (e : Ending) → r ≡ Err kind → e ≡ Panic kind → HasCome (board_in w) (grows_to (unix_of w) s sp) e now
   growth_stops kind e err ends =
       let halt = stopped_so (came w.procs (row w s (growth w s sp))).stop kind (is_some (growth w s sp)) r does.answer err in
-      by (growth w s sp) refl halt.0 halt.1.0 (ends ∙ ap unmet_as halt.1.1)
+      by (growth w s sp) refl halt.0 halt.1.0 (ends ∙ ap Panic halt.1.1)
     where
       by : (o : Option Comes) → growth w s sp ≡ o → (stop : Stop its.World) → (came w.procs (row w s (growth w s sp))).stop ≡ Some stop
-          → e ≡ unmet_as (kind_of stop.why) → HasCome (board_in w) (grows_to (unix_of w) s sp) e now
+          → e ≡ Panic stop.why → HasCome (board_in w) (grows_to (unix_of w) s sp) e now
       by None is stop some same =
           absurd (let never : None ≡ Some stop = sym (ap (λ x. (came w.procs (row w s x)).stop) is) ∙ some in cc never)
       by (Some c) is stop some same =

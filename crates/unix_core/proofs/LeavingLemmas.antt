@@ -1,5 +1,5 @@
 -- What a call on files leaves, by what it has done to the parts that were lent to it.
-use Rattle.std.proofs.Common.{◌≡◌, ◌∙◌, ◌+◌, ℕ, List, [], length, refl, ap, subst, arith}
+use Rattle.std.proofs.Common.{◌≡◌, ◌∙◌, ◌+◌, ℕ, List, [], length, refl, ap, subst, arith, sym}
 use Rattle.v6_base.specs.Image.{Image}
 use Rattle.v6_base.specs.Tape.{Recording, taken_on}
 use Rattle.v6_base.specs.declared.answer.Answer.{Answer}
@@ -25,7 +25,7 @@ use Rattle.unix_core.specs.declared.world.World.{World}
 use Rattle.abstract_unix.specs.Unix.{process_of}
 use Rattle.abstract_unix.specs.Calls.{handed_of, with_handed}
 use Rattle.unix_core.specs.Parts.{unix_of, IsReady, IsReadyToShow}
-use Rattle.unix_core.proofs.WorldLemmas.{ready_alive, none_marked, handed_is, IsAfter, unix_after, ready_to_show}
+use Rattle.unix_core.proofs.WorldLemmas.{ready_alive, handed_is, IsAfter, unix_after, ready_to_show}
 use Rattle.unix_core.proofs.LoanLemmas.{area_now, area_other, area_core, image_now, image_other, image_core, row_now, row_other}
 
 -- the parts that the process in a slot is handed
@@ -84,7 +84,7 @@ module _ (w w' : World) (s : ℕ) (u : UArea) (row : Row) (image : Image) (state
         core = ap (λ (x : Kept). x.core) leaves.images ∙ (area_core (with_image k s image) s u ∙ image_core k s image);
         last_pid = ap (λ (x : Processes). x.last_pid) leaves.rows;
         switches = leaves.switches;
-        marks = ap (λ (h : Handed). h.marks) leaves.is ∙ leaves.steady.marks ∙ none_marked k ready.good.agree.no_text;
+        marks = ap (λ (h : Handed). h.marks) leaves.is ∙ leaves.steady.marks ∙ sym ready.good.marks;
         entry_room = leaves.rooms.0;
         byte_room = leaves.rooms.1;
         world_core = leaves.core;

@@ -3,12 +3,13 @@ use Rattle.std.proofs.Common.{◌≡◌, ◌∙◌, ℕ, Bool, true, false, List
 use Rattle.std.proofs.lemmas.List.{append-nil}
 use Rattle.std.proofs.lemmas.List.Sums.{fold-append}
 use Rattle.v6_base.specs.Trace.{Item, Log}
+use Rattle.v6_base.specs.declared.entry.PanicKind.{PanicKind}
 use Rattle.v6_base.specs.declared.entry.PanicKind.TheVariants as panic
 use Rattle.v6_base.specs.declared.entry.Entry.{Entry}
 use Rattle.v6_base.specs.declared.entry.Entry.TheVariants as line
 use Rattle.pick_rules.specs.Table.{row_at}
-use Rattle.pick_rules.specs.Board.{Board, placed, swap_fit}
-use Rattle.pick_rules.specs.Effects.{Effect, Show, Size, Fork, Text, Image, Exit, Why, Panicked, Unbuilt, Came, Lets, Stops, at_fit, image_at, came, lifted}
+use Rattle.pick_rules.specs.Board.{Board, blocks, placed, swap_fit, free_text}
+use Rattle.pick_rules.specs.Effects.{Effect, Show, Size, Fork, Text, Image, Exit, Came, Lets, Stops, at_fit, image_at, new_text_at, came, lifted}
 use Rattle.pick_rules.specs.Logged.{Logged, Stop, logged, log_one, left_by, board_after, with_what_came, unless_stopped}
 
 -- What effects over another state leave is the same, over that state.
@@ -22,31 +23,34 @@ module _ {V W : Type 0} (f : V → W) where
 
   abbrev came_over : Came V → Came W
   came_over (Lets item) = Lets item
-  came_over (Stops why before) = Stops why (f before)
+  came_over (Stops kind before) = Stops kind (f before)
 
-  at_fit_over : {P : Type 0} (why : Why) (before : V) (o : Option P) (entry : P → Entry) → at_fit why (f before) o entry ≡ came_over (at_fit why before o entry)
-  at_fit_over why before (Some place) entry = refl
-  at_fit_over why before None entry = refl
+  at_fit_over : {P : Type 0} (kind : PanicKind) (before : V) (o : Option P) (entry : P → Entry) → at_fit kind (f before) o entry ≡ came_over (at_fit kind before o entry)
+  at_fit_over kind before (Some place) entry = refl
+  at_fit_over kind before None entry = refl
+
+  text_over : (before : V) (k block : Option ℕ) (entry : ℕ → ℕ → Entry) → new_text_at (f before) k block entry ≡ came_over (new_text_at before k block entry)
+  text_over before None block entry = refl
+  text_over before (Some k) block entry = at_fit_over panic.Swap before block (entry k)
 
   size_over : (b : Board) (s clicks : ℕ) (before : V) (keeps : Bool)
       → cond keeps (Lets (Log (line.SizeKeep s clicks))) (image_at (f before) (placed b s clicks) (λ place. line.Size s clicks place))
       ≡ came_over (cond keeps (Lets (Log (line.SizeKeep s clicks))) (image_at before (placed b s clicks) (λ place. line.Size s clicks place)))
   size_over b s clicks before true = refl
-  size_over b s clicks before false = at_fit_over (Panicked panic.Swap) before (placed b s clicks) (λ place. line.Size s clicks place)
+  size_over b s clicks before false = at_fit_over panic.Swap before (placed b s clicks) (λ place. line.Size s clicks place)
 
   came_lifted : (b : Board) (e : Effect V) → came b (lifted f e) ≡ came_over (came b e)
   unfolding came
   came_lifted b (Show item) = refl
   came_lifted b (Size s clicks before) = size_over b s clicks before (nat_le clicks (row_at b.table s).size)
-  came_lifted b (Fork s child before) = at_fit_over (Panicked panic.Swap) before (placed b s (row_at b.table s).size) (λ place. line.Fork s child place)
-  came_lifted b (Text s clicks before) = refl
-  came_lifted b (Image s clicks before) = at_fit_over (Panicked panic.Swap) before (placed b s clicks) (λ place. line.Image s clicks place)
-  came_lifted b (Exit s before) = at_fit_over (Panicked panic.Zombie) before (swap_fit b 1) (λ block. line.Exit s block)
+  came_lifted b (Fork s child before) = at_fit_over panic.Swap before (placed b s (row_at b.table s).size) (λ place. line.Fork s child place)
+  came_lifted b (Text s clicks before) = text_over before (free_text b) (swap_fit b (blocks clicks)) (λ k block. line.Text s k clicks block)
+  came_lifted b (Image s clicks before) = at_fit_over panic.Swap before (placed b s clicks) (λ place. line.Image s clicks place)
+  came_lifted b (Exit s before) = at_fit_over panic.Zombie before (swap_fit b 1) (λ block. line.Exit s block)
 
   what_came_over : (l : Logged V) (c : Came V) → with_what_came (over l) (came_over c) ≡ over (with_what_came l c)
   what_came_over l (Lets item) = refl
-  what_came_over l (Stops (Panicked kind) before) = refl
-  what_came_over l (Stops (Unbuilt kind) before) = refl
+  what_came_over l (Stops kind before) = refl
 
   unless_over : (o : Option (Stop V)) (l next : Logged V) → unless_stopped (stop_of o) (over l) (over next) ≡ over (unless_stopped o l next)
   unless_over None l next = refl
@@ -77,9 +81,8 @@ module _ {W : Type 0} where
 
   what_came_after : (items : List Item) (l : Logged W) (c : Came W) → with_what_came (after_items items l) c ≡ after_items items (with_what_came l c)
   what_came_after items l (Lets item) = ap (λ i. record (with_what_came l (Lets item)) { items = i }) (append_assoc items l.items (item ∷ []))
-  what_came_after items l (Stops (Panicked kind) before) =
-      ap (λ i. record (with_what_came l (Stops (Panicked kind) before)) { items = i }) (append_assoc items l.items (Log (line.Panic kind) ∷ []))
-  what_came_after items l (Stops (Unbuilt kind) before) = refl
+  what_came_after items l (Stops kind before) =
+      ap (λ i. record (with_what_came l (Stops kind before)) { items = i }) (append_assoc items l.items (Log (line.Panic kind) ∷ []))
 
   unless_after : (items : List Item) (o : Option (Stop W)) (l next : Logged W) → unless_stopped o (after_items items l) (after_items items next) ≡ after_items items (unless_stopped o l next)
   unless_after items None l next = refl

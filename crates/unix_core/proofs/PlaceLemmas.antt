@@ -1,15 +1,27 @@
 -- Where nothing is kept, an image is placed at the front of core.
-use Rattle.std.proofs.Common.{◌≡◌, ◌<◌, ◌≤◌, ◌+◌, ◌-◌, ℕ, suc, List, [], ◌∷◌, ◌++◌, get_or, Some, refl, ap, ◌∙◌, arith}
+use Rattle.std.proofs.Common.{◌≡◌, ◌<◌, ◌≤◌, ◌+◌, ◌-◌, ℕ, zero, suc, List, [], ◌∷◌, ◌++◌, replicate, get_or, Option, Some, None, refl, ap, ◌∙◌, arith}
 use Rattle.std.specs.Prelude.{find, flat_map}
 use Rattle.std.specs.List.{range_with_len}
 use Rattle.std.specs.Option.{option_map, option_or}
 use Rattle.v6_base.specs.declared.entry.Place.TheVariants.{Core, Swap}
 use Rattle.map_fit.specs.Fit.{is_clear, first_fit}
-use Rattle.image_keep.specs.Kept.{Keeping, Nothing, Kept, no_texts, keeping}
+use Rattle.image_keep.specs.Kept.{Keeping, Nothing, Kept, no_texts, no_users, keeping, text_of}
 use Rattle.image_keep.proofs.PlaceFrames.{bare_placed}
-use Rattle.sys_procs.specs.Agree.{HasNoText}
-use Rattle.sys_procs.proofs.Agreement.{no_text_of}
 use Rattle.image_keep.specs.Places.{blocks, core_of, core_of_text, core_fit, swap_fit, placed}
+
+-- no text is there, and nobody has one
+pub record HasNoText (k : Kept) : Type 0 where
+  pub texts : k.texts ≡ no_texts
+  pub users : k.users ≡ no_users
+
+none_at : (n s : ℕ) → get_or {A = Option ℕ} (replicate n None) s None ≡ None
+none_at zero s = refl
+none_at (suc n) zero = refl
+none_at (suc n) (suc s) = none_at n s
+
+pub no_text_of : (k : Kept) (s : ℕ) → HasNoText k → text_of k s ≡ None
+unfolding no_users
+no_text_of k s none = ap (λ users. get_or users s None) none.users ∙ none_at 50 s
 
 none_taken : (l : List Keeping) → ((s : ℕ) → get_or l s Nothing ≡ Nothing) → flat_map core_of l ≡ []
 none_taken [] each = refl

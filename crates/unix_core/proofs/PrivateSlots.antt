@@ -4,14 +4,15 @@ use Rattle.std.specs.Prelude.{⊤, ◌==◌, unwrap_or}
 use Rattle.std.proofs.lemmas.Bool.{cases_eq}
 use Rattle.std.proofs.lemmas.List.{get_or-map, get_or-set_same, get_or-set_other}
 use Rattle.v6_base.specs.Trace.{Item, Log}
+use Rattle.v6_base.specs.declared.entry.PanicKind.{PanicKind}
 use Rattle.v6_base.specs.declared.entry.PanicKind.TheVariants as panic
 use Rattle.v6_base.specs.declared.entry.Entry.{Entry}
 use Rattle.v6_base.specs.declared.entry.Entry.TheVariants as line
 use Rattle.pick_rules.specs.declared.row.Mode.{Mode}
 use Rattle.pick_rules.specs.declared.row.Mode.TheVariants.{User, Kernel, Idle}
 use Rattle.pick_rules.specs.Table.{row_at}
-use Rattle.pick_rules.specs.Board.{Board, placed, swap_fit}
-use Rattle.pick_rules.specs.Effects.{Effect, Show, Size, Fork, Text, Image, Exit, Why, Panicked, Came, Lets, Stops, at_fit, image_at, came, lifted}
+use Rattle.pick_rules.specs.Board.{Board, blocks, placed, swap_fit, free_text}
+use Rattle.pick_rules.specs.Effects.{Effect, Show, Size, Fork, Text, Image, Exit, Came, Lets, Stops, at_fit, image_at, new_text_at, came, lifted}
 use Rattle.pick_rules.specs.Logged.{Logged, Stop, logged, log_one, left_by, with_what_came, unless_stopped}
 use Rattle.sys_procs.specs.Process.{Process, no_process}
 use Rattle.sys_procs.specs.Exit.{adopted}
@@ -138,26 +139,31 @@ module _ {W : Type 0} (P : W → Type 0) where
   CameIn (Lets item) = ⊤
   CameIn (Stops why before) = P before
 
-  fit_in : {Q : Type 0} (why : Why) (before : W) (o : Option Q) (entry : Q → Entry) → P before
-      → CameIn (at_fit why before o entry)
-  fit_in why before (Some place) entry h = tt
-  fit_in why before None entry h = h
+  fit_in : {Q : Type 0} (kind : PanicKind) (before : W) (o : Option Q) (entry : Q → Entry) → P before
+      → CameIn (at_fit kind before o entry)
+  fit_in kind before (Some place) entry h = tt
+  fit_in kind before None entry h = h
+
+  text_in : (before : W) (k block : Option ℕ) (entry : ℕ → ℕ → Entry) → P before → CameIn (new_text_at before k block entry)
+  text_in before None block entry h = h
+  text_in before (Some k) block entry h = fit_in panic.Swap before block (entry k) h
 
   size_in : (b : Board) (s clicks : ℕ) (before : W) (keeps : Bool) → P before
       → CameIn (cond keeps (Lets (Log (line.SizeKeep s clicks)))
       (image_at before (placed b s clicks) (λ place. line.Size s clicks place)))
   size_in b s clicks before true h = tt
-  size_in b s clicks before false h = fit_in (Panicked panic.Swap) before (placed b s clicks) (λ place. line.Size s clicks place) h
+  size_in b s clicks before false h = fit_in panic.Swap before (placed b s clicks) (λ place. line.Size s clicks place) h
 
   came_in : (b : Board) (e : Effect W) → Carries e → CameIn (came b e)
   unfolding came
   came_in b (Show item) h = tt
   came_in b (Size s clicks before) h = size_in b s clicks before (nat_le clicks (row_at b.table s).size) h
   came_in b (Fork s child before) h =
-      fit_in (Panicked panic.Swap) before (placed b s (row_at b.table s).size) (λ place. line.Fork s child place) h
-  came_in b (Text s clicks before) h = h
-  came_in b (Image s clicks before) h = fit_in (Panicked panic.Swap) before (placed b s clicks) (λ place. line.Image s clicks place) h
-  came_in b (Exit s before) h = fit_in (Panicked panic.Zombie) before (swap_fit b 1) (λ block. line.Exit s block) h
+      fit_in panic.Swap before (placed b s (row_at b.table s).size) (λ place. line.Fork s child place) h
+  came_in b (Text s clicks before) h =
+      text_in before (free_text b) (swap_fit b (blocks clicks)) (λ k block. line.Text s k clicks block) h
+  came_in b (Image s clicks before) h = fit_in panic.Swap before (placed b s clicks) (λ place. line.Image s clicks place) h
+  came_in b (Exit s before) h = fit_in panic.Zombie before (swap_fit b 1) (λ block. line.Exit s block) h
 
   what_in : (l : Logged W) (c : Came W) → StopsIn l.stop → CameIn c → StopsIn (with_what_came l c).stop
   what_in l (Lets item) h k = h

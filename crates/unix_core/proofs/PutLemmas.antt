@@ -1,5 +1,5 @@
 -- A process's u area is another one, with the same sizes, numbers of files and directory: what belongs together still does.
-use Rattle.std.proofs.Common.{◌≡◌, ◌≢◌, ◌<◌, cond, ℕ, get_or, map, set, min, Some, None, refl, sym, ap, ◌∙◌, subst}
+use Rattle.std.proofs.Common.{◌≡◌, ◌≢◌, ◌<◌, cond, ℕ, List, get_or, map, set, min, Some, None, refl, sym, ap, ◌∙◌, subst}
 use Rattle.u_area.specs.declared.area.UArea.{UArea}
 use Rattle.pick_rules.specs.Table.{row_at}
 use Rattle.v6_base.specs.declared.entry.Place.{Place}
@@ -9,6 +9,7 @@ use Rattle.proc_tab.specs.Processes.{Processes, member_at}
 use Rattle.image_keep.specs.Kept.{Held, Alive, Kept, Has, keeping, with_area, area_in, clicks_of, text_of}
 use Rattle.image_keep.proofs.Frames.{SameTexts, alive_low, image_alive, with_area_texts}
 use Rattle.sys_procs.specs.Process.{Process, process_by, process_in}
+use Rattle.sys_procs.specs.TextTable.{marks_of}
 use Rattle.sys_procs.specs.World.{processes_in, text_in}
 use Rattle.sys_procs.specs.Agree.{Agrees, Agree, text_place}
 use Rattle.sys_procs.specs.Handed.{AreProcs, IsAlive}
@@ -16,11 +17,11 @@ use Rattle.sys_procs.proofs.Slots.{process_in_slot, one_changed, area_changed}
 use Rattle.sys_procs.proofs.Agreement.{agree_but}
 use Rattle.sys_procs.proofs.Alive.{IsHere, is_here}
 use Rattle.unix_core.specs.declared.world.World.{World}
-use Rattle.abstract_unix.specs.Unix.{no_texts, process_of, with_process}
+use Rattle.abstract_unix.specs.Unix.{process_of, with_process}
 use Rattle.unix_core.specs.Parts.{unix_of, board_in, IsGood}
 use Rattle.abstract_unix.specs.Whole.{told_in, Owes}
 use Rattle.abstract_unix.proofs.Owing.{told_change}
-use Rattle.unix_core.proofs.GoodLemmas.{runs_low, owed_none, owed_so, runs_same}
+use Rattle.unix_core.proofs.GoodLemmas.{runs_low, runs_same}
 use Rattle.unix_core.proofs.LoanLemmas.{area_now, area_other, area_core}
 
 pub record IsLikeArea (u v : UArea) : Type 0 where
@@ -76,6 +77,7 @@ module _ (w : World) (s : ℕ) (alive : IsAlive w.procs s) (v : Processes) (k : 
         place = old.place ∙ ap (λ (p : Place). Some p) (sym (place here.held));
         size = λ other is. old.size here.held refl ∙ (sym (clicks here.held (ap (λ (x : Process). x.u) here.process_is)) ∙ ap (λ x. clicks_of (area_in x)) is);
         quiet = old.quiet;
+        textless = old.textless;
       } in
       agree_but w.procs.rows v w.procs.table w.procs.table w.procs.images k s alive.agree alive.above alive.agree.table refl
       (subst (λ m. Agrees m (row_at w.procs.table s) (keeping k s)) (sym (member here.member here.member_is))
@@ -126,8 +128,11 @@ module _ (w : World) (s : ℕ) (u : UArea) (alive : IsAlive w.procs s) where
     good_put good = record {
       agree = agree_area;
       running = runs_same w w' good agree_area refl;
-      owed = owed_so w' agree_area (subst (Owes w.files.tree.nodes.references w.files.table no_texts) (sym told_put) (owed_none w good));
-      marks = good.marks;
+      owed =
+          let refs : List ℕ = w.files.tree.nodes.references in
+          subst (λ texts. Owes refs w.files.table texts (told_in (unix_of w').processes)) (ap (λ texts. map text_in texts) (sym (with_area_texts k s u).texts))
+          (subst (Owes refs w.files.table (unix_of w).texts) (sym told_put) good.owed);
+      marks = good.marks ∙ ap (λ texts. marks_of (map text_in texts)) (sym (with_area_texts k s u).texts);
       rooms = good.rooms;
       core = good.core ∙ sym (area_core k s u);
     }

@@ -17,7 +17,7 @@ use Rattle.pick_rules.specs.Table.{row_at, with_row, is_empty, is_zombie, same_c
 use Rattle.pick_rules.specs.Sleepers.{made_ready, sleeps_on, sleep_stat, runout_told, asleep, fall_asleep}
 use Rattle.pick_rules.specs.Board.{Board, blocks, swap_fit}
 use Rattle.pick_rules.specs.Apply.{applied}
-use Rattle.pick_rules.specs.Effects.{Panicked, at_fit, kind_of}
+use Rattle.pick_rules.specs.Effects.{at_fit}
 use Rattle.pick_rules.specs.Logged.{Logged, Stop, nothing_logged, with_what_came}
 use Rattle.pick_rules.specs.Swapper.{SwapMove, In, Out, Waits, swap_move}
 use Rattle.pick_rules.proofs.Laws.{set_each}
@@ -107,7 +107,7 @@ rested_move : (b : Board) → Rested b.table (next_logged b).board.table
 rested_move b = by (swap_move b) (mover b)
   where
     out : (s : ℕ) → Lives b.table s → (o : Option ℕ) → Rested b.table
-        (with_what_came {W = Unit {0}} (nothing_logged b) (at_fit (Panicked panic.Swap) tt o (λ block. line.SwapOut s block))).board.table
+        (with_what_came {W = Unit {0}} (nothing_logged b) (at_fit panic.Swap tt o (λ block. line.SwapOut s block))).board.table
     out s l None = rested_panic b
     out s l (Some block) =
         let row : TableRow = row_out (row_at b.table s) (row_at b.table s).size block in
@@ -204,8 +204,9 @@ module _ (v : Processes) (t u : Table) (k n : Kept) (a z : Taken) (agree : Agree
   kind_moved : (s : ℕ) → kind_of_keeping (keeping n s) ≡ kind_of_keeping (keeping k s)
   kind_moved s = sym (kind_unplaced (keeping n s)) ∙ ap kind_of_keeping (same.slots s) ∙ kind_unplaced (keeping k s)
 
-  pub moved_no_text : HasNoText n
-  moved_no_text = no_text_moved k n agree.no_text holds.table same
+  -- who has which text
+  same_user : (s : ℕ) → text_of n s ≡ text_of k s
+  same_user s = ap (λ (users : List (Option ℕ)). get_or users s None) same.users
 
   pub moved_agree : Agree v u n
   moved_agree = record {
@@ -222,9 +223,10 @@ module _ (v : Processes) (t u : Table) (k n : Kept) (a z : Taken) (agree : Agree
           place = row.place;
           size = row.size;
           quiet = λ f. rested.quiet s above (old.quiet f);
+          textless = λ f. row.text ∙ same_user s ∙ sym (agree.text s above low) ∙ old.textless (λ l. f l);
         };
     text = λ s above low. (moved.matching.each s above low).text;
-    no_text = moved_no_text;
+    textless = same_user 0 ∙ agree.textless;
   }
 
   one_moved : (s : ℕ) → process_in (member_at v.slots s) (keeping n s) (text_of n s) ≡ process_in (member_at v.slots s) (keeping k s) (text_of k s)
@@ -252,7 +254,7 @@ module _ (m : System) where
   abbrev broken : PanicKind → Turn
   broken kind = record { items = own.items; next = record { unix = m.unix; board = own.board }; is_idle = false; ending = ends.Panic kind }
 
-  pub pass_stops : (stop : Stop (Unit {0})) → own.stop ≡ Some stop → settled_after (pass_of m) ≡ broken (kind_of stop.why)
+  pub pass_stops : (stop : Stop (Unit {0})) → own.stop ≡ Some stop → settled_after (pass_of m) ≡ broken stop.why
   pass_stops stop some = ap (λ o. settled_after (passes m.unix (over m.unix (record own { stop = o })))) some
 
 -- A world after a pass.
@@ -305,8 +307,8 @@ module _ (w : World) (u : Table) (n : Kept) (a z : Taken) (good : IsGood w) (mov
     why : (stop : Stop (Unit {0})) × ((pass (board_in w)).stop ≡ Some stop)
     why = some_stopped _ kind stops
 
-    same_kind : kind ≡ kind_of why.0.why
-    same_kind = let all : ◌≡◌ {A = Result (Unit {0}) PanicKind} (Err kind) (Err (kind_of why.0.why)) = stops ∙ ap answered why.1 in cc all
+    same_kind : kind ≡ why.0.why
+    same_kind = let all : ◌≡◌ {A = Result (Unit {0}) PanicKind} (Err kind) (Err why.0.why) = stops ∙ ap answered why.1 in cc all
 
     over_with : settled_after (pass_of (system_at w)) ≡ broken (system_at w) kind
     over_with = pass_stops (system_at w) why.0 why.1 ∙ ap (broken (system_at w)) (sym same_kind)

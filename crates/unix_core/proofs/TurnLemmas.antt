@@ -8,9 +8,7 @@ use Rattle.v6_base.specs.declared.entry.Entry.{Entry}
 use Rattle.v6_base.specs.declared.entry.Entry.TheVariants as line
 use Rattle.pick_rules.specs.Board.{Board}
 use Rattle.pick_rules.specs.Apply.{applied}
-use Rattle.v6_base.specs.declared.entry.PanicKind.{PanicKind}
-use Rattle.v6_base.specs.declared.entry.PanicKind.TheVariants as panic
-use Rattle.pick_rules.specs.Effects.{Effect, Show, kind_of, came}
+use Rattle.pick_rules.specs.Effects.{Effect, Show, came}
 use Rattle.pick_rules.specs.Logged.{Logged, Stop, logged, log_one, with_what_came, with_item, unless_stopped, left_by}
 use Rattle.pdp_step.specs.declared.outcome.Outcome.{Outcome}
 use Rattle.sys_procs.specs.Process.{register}
@@ -25,8 +23,8 @@ use Rattle.abstract_unix.specs.Unix.{Unix, System, process_of}
 use Rattle.abstract_unix.specs.Endings.{phase_after}
 use Rattle.abstract_unix.specs.Steps.{Steps}
 use Rattle.abstract_unix.specs.Calls.{resumed}
-use Rattle.abstract_unix.specs.Turn.{Happened, Turn, comes_to, instruction, turn, end_effects, settled, settled_after, ending_at, unmet, ending_by, turn_of}
-use Rattle.unix_core.specs.Parts.{unix_of, board_in, turn_end, unmet_as, ended_as, HasCome, HasStepped, Takes}
+use Rattle.abstract_unix.specs.Turn.{Happened, Turn, comes_to, instruction, turn, end_effects, settled, settled_after, ending_at, ending_by, turn_of}
+use Rattle.unix_core.specs.Parts.{unix_of, board_in, turn_end, ended_as, HasCome, HasStepped, Takes}
 use Rattle.unix_core.proofs.BoardLemmas.{logged_line}
 
 -- after a panic nothing is logged
@@ -53,12 +51,6 @@ ended_log l s e = record {
 nothing_more : (l : Logged Unix) → l ≡ record l { items = l.items ++ [] }
 nothing_more l = ap (λ i. record l { items = i }) (sym (append-nil l.items))
 
--- a turn that finds no place ends with no line
-unmet_log : (l : Logged Unix) (s : ℕ) (kind : PanicKind) → l ≡ ended_log l s (unmet_as kind)
-unmet_log l s panic.Swap = nothing_more l
-unmet_log l s panic.Zombie = nothing_more l
-unmet_log l s panic.Text = nothing_more l
-
 one_more_line : (l : Logged Unix) (e : Entry) → l.stop ≡ None → log_one l (Show (Log e))
     ≡ record l { items = l.items ++ (logged {W = Unix} l.board (Show (Log e) ∷ [])).items; board = (logged {W = Unix} l.board (Show (Log e) ∷ [])).board }
 one_more_line l e is = line_more l e is ∙ ap (λ (x : Logged Unix). record l { items = l.items ++ x.items; board = x.board }) (sym (logged_line l.board e))
@@ -83,18 +75,13 @@ turn_log b es s own e is =
     by : (o : Option (Stop Unix)) → l.stop ≡ o → fold log_one l (end_effects s own) ≡ ended_log l s e
     by None none = end_log l s own none ∙ ap (ended_log l s) (sym (is ∙ ap (λ o. ended_as o own) none))
     by (Some stop) some =
-        stopped_all (end_effects s own) l stop some ∙ unmet_log l s (kind_of stop.why)
+        stopped_all (end_effects s own) l stop some ∙ nothing_more l
         ∙ ap (ended_log l s) (sym (is ∙ ap (λ o. ended_as o own) some))
 
 -- how a turn ends, stopped or not
-unmet_same : (pc : ℕ) (kind : PanicKind) → ending_at pc (unmet_as kind) ≡ unmet pc kind
-unmet_same pc panic.Swap = refl
-unmet_same pc panic.Zombie = refl
-unmet_same pc panic.Text = refl
-
 ending_same : (pc : ℕ) (o : Option (Stop Unix)) (own : Ending) → ending_at pc (ended_as o own) ≡ ending_by pc o own
 ending_same pc None own = refl
-ending_same pc (Some stop) own = unmet_same pc (kind_of stop.why)
+ending_same pc (Some stop) own = refl
 
 -- what was shown before stands in front of what a turn comes to
 abbrev pub shown_before : List Item → Turn → Turn

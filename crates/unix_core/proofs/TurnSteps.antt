@@ -14,6 +14,7 @@ use Rattle.image_keep.specs.Running.{with_state}
 use Rattle.image_keep.proofs.Frames.{with_image_texts}
 use Rattle.sys_procs.specs.declared.procs.Procs.{Procs}
 use Rattle.sys_procs.specs.Process.{Process}
+use Rattle.sys_procs.specs.TextTable.{marks_of}
 use Rattle.sys_procs.specs.World.{text_in}
 use Rattle.sys_procs.specs.Agree.{text_place}
 use Rattle.sys_procs.proofs.Alive.{is_here, put_here}
@@ -21,7 +22,7 @@ use Rattle.sys_procs.proofs.MemoryLemmas.{image_here}
 use Rattle.abstract_unix.specs.declared.turned.Turned.TheVariants.{Ran}
 use Rattle.unix_core.specs.declared.world.World.{World}
 use Rattle.abstract_unix.specs.declared.ends.Ends.TheVariants.{AtEnd}
-use Rattle.abstract_unix.specs.Unix.{Unix, System, no_texts, process_of, with_process}
+use Rattle.abstract_unix.specs.Unix.{Unix, System, process_of, with_process}
 use Rattle.abstract_unix.specs.Steps.{steps}
 use Rattle.abstract_unix.specs.Calls.{resumed}
 use Rattle.abstract_unix.specs.Turn.{Turn, machine_of, with_machine, is_user, comes_to, instruction, turn, turn_of, slot_by, slot_of, settled_as, settled_after, turned}
@@ -29,7 +30,7 @@ use Rattle.abstract_unix.specs.Runs.{Slot, event_of}
 use Rattle.unix_core.specs.Parts.{unix_of, board_in, system_at, machine_in, with_machine_in, IsReady, IsUser, HasStepped}
 use Rattle.abstract_unix.specs.Whole.{told_in, Owes}
 use Rattle.abstract_unix.proofs.Owing.{told_change, some_within}
-use Rattle.unix_core.proofs.GoodLemmas.{owed_none, owed_so, runs_same}
+use Rattle.unix_core.proofs.GoodLemmas.{runs_same}
 use Rattle.sys_procs.specs.Handed.{AreProcs}
 use Rattle.unix_core.proofs.WorldLemmas.{ready_alive, slot_is}
 use Rattle.unix_core.proofs.LoanLemmas.{image_now, image_other, image_core}
@@ -80,9 +81,12 @@ module _ (w : World) (s : ℕ) (ready : IsReady w s) (image : Image) where
     good = record {
       agree = memory_agree;
       running = runs_same w with_memory ready.good memory_agree refl;
-      owed = owed_so with_memory memory_agree (subst (Owes w.files.tree.nodes.references w.files.table no_texts)
-          (sym (ap (λ (x : Unix). told_in x.processes) memory_unix ∙ told_change (unix_of w).processes s p q (slot_is w s ready) refl)) (owed_none w ready.good));
-      marks = ready.good.marks;
+      owed =
+          let refs : List ℕ = w.files.tree.nodes.references in
+          subst (λ texts. Owes refs w.files.table texts (told_in (unix_of with_memory).processes)) (ap (λ texts. map text_in texts) (sym (with_image_texts w.procs.images s image).texts))
+          (subst (Owes refs w.files.table (unix_of w).texts)
+          (sym (ap (λ (x : Unix). told_in x.processes) memory_unix ∙ told_change (unix_of w).processes s p q (slot_is w s ready) refl)) ready.good.owed);
+      marks = ready.good.marks ∙ ap (λ texts. marks_of (map text_in texts)) (sym (with_image_texts w.procs.images s image).texts);
       rooms = ready.good.rooms;
       core = ready.good.core ∙ sym (image_core w.procs.images s image);
     };

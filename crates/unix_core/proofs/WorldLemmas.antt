@@ -1,7 +1,5 @@
 -- A process that runs: what a world says of it, what its calls on files are handed, and that they leave it running.
-use Rattle.std.proofs.Common.{◌≡◌, ◌≢◌, ◌+◌, ℕ, zero, suc, Bool, false, List, ◌∷◌, ◌++◌, length, replicate, get_or, set, map, Option, Some, None, refl, sym, ap, ◌∙◌, subst}
-use Rattle.std.specs.List.{list_any, range_with_len}
-use Rattle.std.proofs.lemmas.List.{length-replicate}
+use Rattle.std.proofs.Common.{◌≡◌, ◌≢◌, ◌+◌, ℕ, false, List, ◌++◌, length, get_or, set, map, Option, Some, None, refl, sym, ap, ◌∙◌, subst}
 use Rattle.v6_base.specs.Image.{Image}
 use Rattle.v6_base.specs.Trace.{Item, Log, sent}
 use Rattle.u_area.specs.declared.area.UArea.{UArea}
@@ -15,27 +13,26 @@ use Rattle.image_keep.specs.Kept as kept
 use Rattle.image_keep.proofs.Frames.{SameTexts}
 use Rattle.open_files.specs.declared.file.OpenFile.{OpenFile}
 use Rattle.fs_nodes.specs.FileSystem.{IsFileSystem}
-use Rattle.fs_tree.specs.Marks.{no_marks}
-use Rattle.fs_tree.specs.declared.marks.TheConstants.{INODE_NUMBERS}
 use Rattle.sys_files.specs.Handed.{Handed, handed}
 use Rattle.sys_files.specs.Sound.{IsSound, IsKept}
 use Rattle.sys_files.proofs.Bounds.{Fits, HasAll}
 use Rattle.sys_procs.specs.Process as one
 use Rattle.sys_procs.specs.Process.{Process}
-use Rattle.sys_procs.specs.World.{text_in, texts_in}
-use Rattle.sys_procs.specs.Agree.{Agree, HasNoText, board_of}
+use Rattle.sys_procs.specs.World.{text_in}
+use Rattle.sys_procs.specs.Agree.{Agree, board_of}
 use Rattle.sys_procs.specs.Handed.{IsAlive}
 use Rattle.sys_procs.proofs.Slots.{own_row}
 use Rattle.sys_procs.proofs.Alive.{is_here, area_here}
 use Rattle.sys_procs.proofs.MemoryLemmas.{image_here}
 use Rattle.unix_core.specs.declared.world.World.{World}
-use Rattle.abstract_unix.specs.Unix.{Text, no_texts, process_of}
-use Rattle.abstract_unix.specs.References.{is_text_of, referrers, references_of}
-use Rattle.abstract_unix.specs.Calls.{marks_of, handed_of, with_handed}
+use Rattle.abstract_unix.specs.Unix.{Text, process_of}
+use Rattle.abstract_unix.specs.References.{referrers, references_of}
+use Rattle.sys_procs.specs.TextTable.{marks_of}
+use Rattle.abstract_unix.specs.Calls.{handed_of, with_handed}
 use Rattle.unix_core.specs.Passing.{all_woken}
 use Rattle.unix_core.specs.Parts.{unix_of, IsGood, IsReady, IsReadyToShow}
 use Rattle.unix_core.proofs.PutLemmas.{good_alive, alive_slot, slot_put, agree_put}
-use Rattle.unix_core.proofs.GoodLemmas.{told_of_slot, fifty_told, texts_none, owed_none, runs_same}
+use Rattle.unix_core.proofs.GoodLemmas.{told_of_slot, fifty_told, forty, runs_same}
 use Rattle.std.proofs.lemmas.List.FromFn.{fill_by_all}
 use Rattle.abstract_unix.specs.Whole.{Told, told_of, told_in, Owes, Owed}
 use Rattle.abstract_unix.proofs.Owing.{told_at, refer_told, sound_by, file_owes}
@@ -52,36 +49,18 @@ pub is_living : (w : World) (s : ℕ) → IsReady w s → (process_of (unix_of w
 is_living w s ready =
     let here = is_here w.procs s (ready_alive w s ready) in ap (λ (p : Process). p.is_zombie) here.process_is ∙ here.is_living
 
-pub forty : length no_texts ≡ 40
-unfolding no_texts
-forty = let none : Option Text = None in length-replicate 40 none
-
-none_shared : (ino n : ℕ) → list_any (is_text_of ino) (replicate n None) ≡ false
-none_shared ino zero = refl
-none_shared ino (suc n) = none_shared ino n
-
-all_false : (f : ℕ → Bool) (a n : ℕ) → ((i : ℕ) → f i ≡ false) → map f (range_with_len a n) ≡ replicate n false
-all_false f a zero none = refl
-all_false f a (suc n) none = λ i. none a i ∷ all_false f (a + 1) n none i
-
-marks_none : marks_of no_texts ≡ no_marks
-unfolding marks_of no_marks no_texts
-marks_none = all_false (λ ino. list_any (is_text_of ino) (replicate 40 None)) 0 INODE_NUMBERS (λ ino. none_shared ino 40)
-
-pub none_marked : (k : Kept) → HasNoText k → marks_of (texts_in k) ≡ no_marks
-none_marked k none = ap marks_of (texts_none k none) ∙ marks_none
-
 -- The parts that a call of the process is handed are sound.
 pub told_here : (w : World) (s : ℕ) → IsReady w s → told_of_slot w s ≡ Some (told_of (process_of (unix_of w) s))
 told_here w s ready = told_at (unix_of w).processes s (process_of (unix_of w) s) (slot_is w s ready) (is_living w s ready)
 
-pub sound_parts : (w : World) (s : ℕ) (h : Handed) → IsReady w s → length w.files.table ≡ 100
+pub sound_parts : (w : World) (s : ℕ) (h : Handed) → IsReady w s → length w.files.table ≡ 100 → kept.IsKept w.procs.images
     → h.files ≡ w.files.table → h.u ≡ (process_of (unix_of w) s).u → h.inodes.references ≡ w.files.tree.nodes.references → IsSound h
-sound_parts w s h ready long files area references =
+sound_parts w s h ready long holds files area references =
     let ts : List (Option Told) = told_in (unix_of w).processes in
-    let P : List ℕ → List (Option OpenFile) → Type 0 = λ refs table. Owes refs table no_texts ts in
-    sound_by h no_texts ts s (subst (λ refs. P refs h.files) (sym references) (subst (P w.files.tree.nodes.references) (sym files) (owed_none w ready.good)))
-    (told_here w s ready ∙ ap (λ (u : UArea). Some (record { files = u.files; dir = u.dir })) (sym area)) (ap length files ∙ long) (fifty_told w) forty
+    let texts : List (Option Text) = (unix_of w).texts in
+    let P : List ℕ → List (Option OpenFile) → Type 0 = λ refs table. Owes refs table texts ts in
+    sound_by h texts ts s (subst (λ refs. P refs h.files) (sym references) (subst (P w.files.tree.nodes.references) (sym files) ready.good.owed))
+    (told_here w s ready ∙ ap (λ (u : UArea). Some (record { files = u.files; dir = u.dir })) (sym area)) (ap length files ∙ long) (fifty_told w) (forty w.procs.images holds)
 
 -- the references of the file system are those that the Unix says
 pub references_in : (w : World) (s : ℕ) → IsReady w s → IsFileSystem w.files.tree.nodes → w.files.tree.nodes.references ≡ references_of (unix_of w)
@@ -97,13 +76,12 @@ handed_is w s ready form holds =
     let alive = ready_alive w s ready in
     let p : Process = process_of (unix_of w) s in
     let references = references_in w s ready form in
-    let marks : w.files.tree.marks ≡ marks_of (unix_of w).texts = ready.good.marks ∙ sym (none_marked w.procs.images ready.good.agree.no_text) in
     let area : area_of w.procs.images s ≡ p.u = area_here w.procs s alive in
     let row : proc.row_at w.procs.rows s ≡ p.row = sym (own_row w.procs.rows.slots w.procs.images s alive.below) in
     let image : image_of w.procs.images s ≡ one.image_of (unix_of w).texts p = sym (image_here w.procs s alive holds) in
     λ i. record {
       inodes = record { store = w.files.tree.nodes.store; references = references i };
-      marks = marks i;
+      marks = ready.good.marks i;
       files = w.files.table;
       line = w.files.line;
       u = area i;
@@ -126,7 +104,7 @@ pub record IsAfter (w w' : World) (s : ℕ) (u : UArea) (row : Row) (image : Ima
   pub core : w'.procs.images.core ≡ w.procs.images.core
   pub last_pid : w'.procs.rows.last_pid ≡ w.procs.rows.last_pid
   pub switches : w'.procs.switches ≡ w.procs.switches
-  pub marks : w'.files.tree.marks ≡ no_marks
+  pub marks : w'.files.tree.marks ≡ w.files.tree.marks
   pub entry_room : w'.tape.entry_room ≡ w.tape.entry_room
   pub byte_room : w'.tape.byte_room ≡ w.tape.byte_room
   pub world_core : w'.core ≡ w.core
@@ -178,7 +156,7 @@ module _ (w w' : World) (s : ℕ) (ready : IsReady w s) (u : UArea) (row : Row) 
         running = runs_same w w' ready.good agree after.table;
         owed = subst (Owed w'.files.tree.nodes.references) (sym unix_after)
             (file_owes w.files.tree.nodes.references (unix_of w) s h ready.good.owed (slot_is w s ready) (is_living w s ready) (references_in w s ready form) after.kept after.fifteen);
-        marks = after.marks;
+        marks = after.marks ∙ (ready.good.marks ∙ ap (λ texts. marks_of (map text_in texts)) (sym after.texts.texts));
         rooms = (after.entry_room ∙ ready.good.rooms.0, after.byte_room ∙ ready.good.rooms.1);
         core = after.world_core ∙ (ready.good.core ∙ sym after.core);
       }

@@ -1,12 +1,12 @@
 -- What core and the swap area keep of a system: the images of its processes at the places that its board tells, with what is
 -- kept of those that have ended, and its texts. `proc.h` and `text.h` in Lions' Commentary.
-use Rattle.std.specs.Prelude.{◌≡◌, ◌⊎◌, ℕ, List, map, if◌then◌else◌, Option, Some, None, slice_index_or}
+use Rattle.std.specs.Prelude.{ℕ, List, map, if◌then◌else◌, Option, Some, None, slice_index_or}
 use Rattle.std.specs.List.{range_with_len}
 use Rattle.v6_base.specs.declared.entry.Place.{Place}
 use Rattle.v6_base.specs.declared.entry.Place.TheVariants.{Core, Swap}
 use Rattle.pick_rules.specs.Board.{TextPlace, text_at}
 use Rattle.pick_rules.specs.Table.{row_at}
-use Rattle.image_keep.specs.Kept.{Keeping, Nothing, Alive, Grave, Shared, Kept, keeping}
+use Rattle.image_keep.specs.Kept.{Keeping, Nothing, Alive, Grave, Shared, Kept}
 use Rattle.sys_procs.specs.Process.{Process, image_of}
 use Rattle.sys_procs.specs.TextTable.{Text}
 use Rattle.abstract_unix.specs.Unix.{System, process_at}
@@ -30,7 +30,7 @@ abbrev pub kept_at : List (Option Text) → Process → Place → Keeping
 kept_at texts p place =
     if p.is_zombie then Grave p.u (block_of place) else Alive (record { u = p.u; image = image_of texts p; place = place })
 
--- Between its old image and its new one a process that executes a program has no place.
+-- Between its old image and its new one a process that executes a program has no place, and neither image is kept.
 abbrev pub kept_by : List (Option Text) → Option Process → Option Place → Keeping
 kept_by texts None place = Nothing
 kept_by texts (Some p) None = Nothing
@@ -39,14 +39,6 @@ kept_by texts (Some p) (Some place) = kept_at texts p place
 abbrev pub text_by : Option Process → Option ℕ
 text_by None = None
 text_by (Some p) = p.text
-
--- What is kept covers what a system tells: each image and each text stands as told. More may be kept: where the run stops while a
--- process has no place, its old image is there still.
-pub record Covers (k told : Kept) : Type 0 where
-  pub core : told.core ≡ k.core
-  pub texts : told.texts ≡ k.texts
-  pub users : told.users ≡ k.users
-  pub slots : (s : ℕ) → (keeping told s ≡ keeping k s) ⊎ (keeping told s ≡ Nothing)
 
 unfoldable pub kept_in : System → Kept
 kept_in m = record {

@@ -1,6 +1,5 @@
 -- How the parts of a kernel are the Unix and the board: the world of files and processes.
 use Rattle.std.specs.Prelude.{◌≡◌, ◌<◌, ℕ, min, Bool, true, false, List, [], map, Option, Some, None}
-use Rattle.fs_tree.specs.Marks.{no_marks}
 use Rattle.pdp_step.specs.declared.outcome.Outcome.{Outcome}
 use Rattle.pdp_step.specs.Machine.{Machine}
 use Rattle.pdp_step.specs.Instruction.{instr}
@@ -9,9 +8,7 @@ use Rattle.pick_rules.specs.Choice.{chosen, settle}
 use Rattle.pick_rules.specs.Swapper.{candidate}
 use Rattle.pick_rules.specs.Board.{Board}
 use Rattle.v6_base.specs.Trace.{Item}
-use Rattle.v6_base.specs.declared.entry.PanicKind.{PanicKind}
-use Rattle.v6_base.specs.declared.entry.PanicKind.TheVariants as panic
-use Rattle.pick_rules.specs.Effects.{Show, kind_of}
+use Rattle.pick_rules.specs.Effects.{Show}
 use Rattle.pick_rules.specs.Logged.{Stop, logged, left_by}
 use Rattle.v6_base.specs.declared.entry.Place.TheVariants.{Core}
 use Rattle.image_keep.specs.Area.{sized_area}
@@ -22,7 +19,7 @@ use Rattle.image_keep.specs.Running.{IsFixed, with_state}
 use Rattle.sys_procs.specs.Process.{register}
 use Rattle.sys_procs.specs.World.{clock_of, processes_in, texts_in}
 use Rattle.sys_procs.specs.Agree.{board_of}
-use Rattle.sys_procs.specs.Handed.{AreProcs}
+use Rattle.sys_procs.specs.Handed.{AreProcs, IsMarked}
 use Rattle.unix_core.specs.declared.world.World as parts
 use Rattle.abstract_unix.specs.declared.ending.Ending.{Ending}
 use Rattle.abstract_unix.specs.declared.ending.Ending.TheVariants.{NotBuilt, Panic}
@@ -39,7 +36,7 @@ use Rattle.abstract_unix.specs.Init.{init_data}
 use Rattle.abstract_unix.specs.Whole.{Owed}
 use Rattle.abstract_unix.specs.Steps.{Steps}
 use Rattle.unix_core.specs.Passing.{shown_by, all_woken}
-use Rattle.unix_core.specs.Memory.{Covers, kept_in}
+use Rattle.unix_core.specs.Memory.{kept_in}
 use Rattle.abstract_unix.specs.Turn.{Turn, machine_of, with_machine, is_user, end_effects, ending_at, settled_after, slot_of}
 
 -- the Unix of a world
@@ -104,7 +101,7 @@ pub record IsGood (w : parts.World) : Type 0 where
   pub agree : AreProcs w.procs
   pub running : (s : ℕ) → w.procs.table.running ≡ Some s → 0 < s → HasImage w.procs.images s
   pub owed : Owed w.files.tree.nodes.references (unix_of w)
-  pub marks : w.files.tree.marks ≡ no_marks
+  pub marks : IsMarked w.procs w.files.tree.marks
   pub rooms : (w.tape.entry_room ≡ 64) × (w.tape.byte_room ≡ 524288)
   pub core : w.core ≡ w.procs.images.core
 
@@ -123,15 +120,10 @@ pub record IsReadyToShow (old new : parts.World) (s : ℕ) (items : List Item) :
   pub shown : shown_by new.tape ≡ items
   pub wakes : (t : Table) (k : Kept) → (logged {W = Unix} (board_of t k) (map Show items)).board ≡ board_of (all_woken t new.tape.entries) k
 
--- How a turn ends in which a demand finds no place.
-abbrev pub unmet_as : PanicKind → Ending
-unmet_as panic.Swap = Panic panic.Swap
-unmet_as panic.Zombie = Panic panic.Zombie
-unmet_as panic.Text = NotBuilt
-
+-- how a turn ends in which a demand may find no place
 abbrev pub ended_as : Option (Stop Unix) → Ending → Ending
 ended_as None e = e
-ended_as (Some stop) e = unmet_as (kind_of stop.why)
+ended_as (Some stop) e = Panic stop.why
 
 -- whether a turn that ends so ends the run
 abbrev pub is_over : Ending → Bool
@@ -176,9 +168,9 @@ pub record IsNew (w : parts.World) : Type 0 where
   pub runs : w.procs.table.running ≡ Some 0
   pub nobody_out : candidate w.procs.table ≡ None
 
--- what is kept covers what the system tells
+-- what is kept is what the system tells
 abbrev pub IsCovered : parts.World → Type 0
-IsCovered w = Covers w.procs.images (kept_in (system_at w))
+IsCovered w = w.procs.images ≡ kept_in (system_at w)
 
 -- what is so of every kernel
 pub record IsKernel (at : Stage) (w : parts.World) : Type 0 where

@@ -82,7 +82,7 @@ impl Model for Kernel {
 impl Kernel {
     ghost use Rattle.abstract_unix.specs.Unix.{New, Started, Stopped, Finished};
     ghost use Rattle.abstract_unix.specs.Endings.{phase_after};
-    ghost use Rattle.unix_core.specs.Memory.{Covers, kept_in};
+    ghost use Rattle.unix_core.specs.Memory.{kept_in};
     ghost use Rattle.abstract_unix.specs.Runs.{Slot, Tick, Byte, Switch, start_of, event_of, system_with, finished};
 
     /// A kernel with a file system, whose process 1 is about to execute `/etc/init`, with images and a tape of which nothing
@@ -221,14 +221,12 @@ impl Kernel {
 
     /// Ends a run: writes to the disk what has changed, and the super-block with the time where that has. A file system that
     /// keeps clear of the swap area, as each that was booted does, is without a fault there too. sync(II) of the manual;
-    /// `update` in Lions' Commentary, `alloc.c`. Core and the swap area then keep what the system tells; where the run has
-    /// stopped before, they may keep one image more, of a process without a place.
+    /// `update` in Lions' Commentary, `alloc.c`. Core and the swap area then keep what the system tells.
     pub fn finish(&mut self)
         requires { self.old.phase ≡ Started ⊎ self.old.phase ≡ Stopped }
         ensures phase { self.new.phase ≡ Finished }
         ensures system { self.new.system ≡ finished self.old.system }
-        ensures kept { self.old.phase ≡ Started → self.new.kept ≡ kept_in self.new.system }
-        ensures covered { Covers self.new.kept (kept_in self.new.system) }
+        ensures kept { self.new.kept ≡ kept_in self.new.system }
         ensures stored { self.new.stored ≡ self.new.blocks }
         ensures stands { StandsFor DISK_BLOCKS (block_at self.new.stored) self.new.system.unix.store }
         ensures below { (head (block_at self.old.blocks)).f_size ≤ SWAP_START

@@ -11,10 +11,10 @@ ghost use Rattle.abstract_unix.specs.Unix.{process_of};
 ghost use Rattle.abstract_unix.specs.Calls.{world_of, words_passed, entered_area, given_area, refused_area, system_call, does_call, did_by, came_by, shares, forks, exits, grows_to, resumed, answers, handed_of, file_row, process_row};
 ghost use Rattle.abstract_unix.specs.Errors.{error_number};
 ghost use Rattle.abstract_unix.specs.Turn.{faults, comes_to};
-ghost use Rattle.unix_core.specs.Parts.{unix_of, board_in, IsGood, IsReady, HasCome, IsCovered, unmet_as, is_over};
+ghost use Rattle.unix_core.specs.Parts.{unix_of, board_in, IsGood, IsReady, HasCome, IsCovered, is_over};
 
 use crate::asked::ask;
-use crate::files::{see_covered, see_nodes, see_procs, see_table};
+use crate::files::{see_covered, see_kept, see_nodes, see_procs, see_table};
 use crate::onfiles::{close_files, do_on_files, read_on};
 use crate::passing::pass_on;
 use crate::world::World;
@@ -103,16 +103,6 @@ fn conclude(world: &mut World, s: Slot, answer: Answer) -> Ending
     }
 }
 
-/// How a turn ends in which a demand finds no place.
-fn unmet_as(kind: PanicKind) -> Ending
-    ensures { result ≡ unmet_as kind }
-{
-    match kind {
-        PanicKind::Swap | PanicKind::Zombie => Ending::Panic(kind),
-        PanicKind::Text => Ending::NotBuilt,
-    }
-}
-
 /// A call on files, which has been entered.
 fn call_files<T: Trace>(
     world: &mut World,
@@ -157,6 +147,7 @@ fn call_processes<T: Trace>(
 {
     see_nodes(&world.files.tree.nodes);
     see_table(&world.files.table);
+    see_kept(&world.procs.images);
     match do_process_call(
         call,
         &mut world.procs,
@@ -168,7 +159,7 @@ fn call_processes<T: Trace>(
         Ok(answer) => conclude(world, s, answer),
         Err(kind) => {
             see_procs(&world.procs);
-            unmet_as(kind)
+            Ending::Panic(kind)
         }
     }
 }
@@ -205,7 +196,7 @@ fn fork<T: Trace>(world: &mut World, s: Slot, trace: &mut T) -> Ending
         }
         Err(kind) => {
             see_covered(world);
-            unmet_as(kind)
+            Ending::Panic(kind)
         }
     }
 }
@@ -226,11 +217,12 @@ fn exit<T: Trace>(world: &mut World, s: Slot, trace: &mut T) -> Ending
     pass_on(&world.tape, &mut world.procs.table, trace);
     see_nodes(&world.files.tree.nodes);
     see_table(&world.files.table);
+    see_kept(&world.procs.images);
     let ended = exit_now(&mut world.procs, &mut world.files.tree, s, [0; 4], trace);
     see_covered(world);
     match ended {
         Ok(_) => Ending::Ended,
-        Err(kind) => unmet_as(kind),
+        Err(kind) => Ending::Panic(kind),
     }
 }
 
@@ -248,12 +240,13 @@ fn grow_stack<T: Trace>(world: &mut World, s: Slot, sp: u16, trace: &mut T) -> E
 {
     see_nodes(&world.files.tree.nodes);
     see_table(&world.files.table);
+    see_kept(&world.procs.images);
     let grown = grow(&mut world.procs, &mut world.files.tree, s, sp, trace);
     see_covered(world);
     match grown {
         Ok(true) => Ending::Trapped,
         Ok(false) => Ending::NotBuilt,
-        Err(kind) => unmet_as(kind),
+        Err(kind) => Ending::Panic(kind),
     }
 }
 
@@ -410,9 +403,10 @@ fn go_on_waiting<T: Trace>(world: &mut World, s: Slot, trace: &mut T) -> Ending
 {
     see_nodes(&world.files.tree.nodes);
     see_table(&world.files.table);
+    see_kept(&world.procs.images);
     match resume_proc(&mut world.procs, &mut world.files.tree, s, trace) {
         Ok(answer) => conclude(world, s, answer),
-        Err(kind) => unmet_as(kind),
+        Err(kind) => Ending::Panic(kind),
     }
 }
 

@@ -20,7 +20,7 @@ use Rattle.image_keep.specs.Holds.{SwapHolds}
 use Rattle.abstract_unix.specs.Unix.{System, Phase, Started, Stopped}
 use Rattle.abstract_unix.specs.Endings.{phase_after}
 use Rattle.unix_core.specs.State.{KernelState}
-use Rattle.unix_core.specs.Memory.{Covers, kept_in}
+use Rattle.unix_core.specs.Memory.{kept_in}
 use Rattle.abstract_unix.specs.Runs.{Course, shown_by, finished}
 use Rattle.fs_laws.proofs.ImageLemmas.{block_of_image}
 use Rattle.v6_run.specs.declared.outputs.Output.{Output}
@@ -191,19 +191,6 @@ pub phase_ended : (ended : Ends) (phase : Phase) → phase ≡ phase_after ended
 phase_ended AtEnd phase is = inl is
 phase_ended (ends.NotBuilt place) phase is = inr is
 phase_ended (ends.Panic kind) phase is = inr is
-
--- A swap area that holds what is kept holds what that covers.
-covered : (x y z : Keeping) → (x ≡ y) ⊎ (x ≡ Nothing) → x ≡ z → z ≢ Nothing → y ≡ z
-covered x y z (inl same) is some = sym same ∙ is
-covered x y z (inr none) is some = absurd (some (sym is ∙ none))
-
-pub held_covered : (swap : List ℕ) (k told : Kept) → SwapHolds swap k → Covers k told → SwapHolds swap told
-held_covered swap k told holds covers = record {
-  size = holds.size;
-  images = λ s held block has out. holds.images s held block (covered _ _ _ (covers.slots s) has (λ is. cc is)) out;
-  graves = λ s u block has. holds.graves s u block (covered _ _ _ (covers.slots s) has (λ is. cc is));
-  texts = λ t x has. holds.texts t x (ap (λ l. slice_index_or l t None) (sym covers.texts) ∙ has);
-}
 
 pub fault_where_err : {T E : Type 0} (r : Result T E) (P Q : Type 0) → true ≡ is_err r → MatchResult r (λ _. P) (λ _. Q) → Q
 fault_where_err (Ok x) P Q is holds = absurd (cc)

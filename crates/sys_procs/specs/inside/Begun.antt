@@ -1,70 +1,63 @@
--- How a program begins that has no text of its own: the parts of exec(II). Lions' Commentary, `exec` in `sys1.c`.
-use Rattle.std.specs.Prelude.{ℕ, ◌==◌, ◌&&◌, not, if◌then◌else◌, List, [], ◌∷◌, bit_and, Option, Some, None, is_some}
+-- How a program begins: the parts of exec(II), each with what it comes to. Lions' Commentary, `exec` in `sys1.c`, `xalloc` and
+-- `xfree` in `text.c`.
+use Rattle.std.specs.Prelude.{ℕ, ◌+◌, ◌==◌, ◌&&◌, not, if◌then◌else◌, bit_and, List, Bool, Option, Some, None, Result, Ok, Err}
 use Rattle.v6_base.specs.Image.{Image}
-use Rattle.v6_base.specs.Trace.{Item, Log}
-use Rattle.v6_base.specs.declared.entry.Entry.TheVariants.{Bare}
-use Rattle.v6_base.specs.declared.entry.Entry.TheVariants as line
 use Rattle.v6_base.specs.declared.entry.PanicKind.{PanicKind}
-use Rattle.v6_base.specs.declared.entry.PanicKind.TheVariants as panic
-use Rattle.fs_codec.specs.Store.{Node, Store}
+use Rattle.fs_codec.specs.Store.{Node}
 use Rattle.fs_codec.specs.declared.modes.TheConstants.{ISUID, ISGID}
-use Rattle.fs_laws.specs.Numbers.{with_node}
-use Rattle.fs_laws.specs.Pieces.{Moving, read_file}
-use Rattle.fs_nodes.specs.Copy.{put_into}
-use Rattle.image_keep.specs.Area.{sized_area}
+use Rattle.fs_laws.specs.Pieces.{Moving}
+use Rattle.image_keep.specs.Area.{made_area}
 use Rattle.image_keep.specs.Places.{cleared}
 use Rattle.u_area.specs.declared.area.UArea.{UArea}
 use Rattle.proc_tab.specs.declared.row.Row.{Row}
 use Rattle.aout_head.specs.declared.parts.Plan.{Plan}
-use Rattle.pick_rules.specs.Board.{Board, placed}
-use Rattle.pick_rules.specs.Effects.{Show}
 use Rattle.pick_rules.specs.Effects as effect
-use Rattle.pick_rules.specs.Logged.{Logged, logged}
+use Rattle.pick_rules.specs.Logged.{Stop}
 use Rattle.sys_procs.specs.declared.program.Program.{Program}
 use Rattle.sys_procs.specs.Process.{Process}
-use Rattle.sys_procs.specs.World.{World}
-use Rattle.sys_procs.specs.Tests.{node_in}
-use Rattle.sys_procs.specs.Stack.{first_stack}
-use Rattle.sys_procs.specs.ExecFile.{text_clicks, data_clicks, image_clicks, bare_board, begun_area}
+use Rattle.sys_procs.specs.TextTable.{Text, entry_of}
+use Rattle.sys_procs.specs.Texts.{free_entry, xfree, xalloc}
+use Rattle.sys_procs.specs.World.{World, process_of, change}
+use Rattle.sys_procs.specs.Comes.{Comes, does, nothing}
+use Rattle.sys_procs.specs.Tests.{node_at}
+use Rattle.sys_procs.specs.Stack.{first_stack, stack_clicks}
+use Rattle.sys_procs.specs.ExecFile.{text_clicks, data_clicks, image_clicks, with_moved, data_read, begun_area}
 
--- Which demand of a program finds no place when the old image has been given back: that for a text to share, since none is
--- shared yet, or that for an image, where neither core nor the swap area has room.
-abbrev pub unplaced : Board → ℕ → Program → Option PanicKind
-unplaced b s program =
-    if not (text_clicks program.plan == 0) then Some panic.Text
-    else (if is_some (placed (bare_board b s) s (image_clicks program.plan)) then None else Some panic.Swap)
+-- A process leaves its text, if it has one.
+abbrev pub leaves : World → ℕ → Comes
+leaves w s = xfree w s (process_of w s).text nothing
 
--- what the log says of a demand that finds no place: a panic is a line, and what isn't built is none
-abbrev pub unplaced_lines : PanicKind → List Item
-unplaced_lines panic.Swap = Log (line.Panic panic.Swap) ∷ []
-unplaced_lines panic.Zombie = Log (line.Panic panic.Zombie) ∷ []
-unplaced_lines panic.Text = []
+-- A process that has none takes one of so many clicks for the file of an inode, if it is to have one.
+abbrev pub takes : World → ℕ → ℕ → ℕ → Comes
+takes w s ino size = xalloc w s ino size (λ placed is_new. nothing placed)
 
--- The old image goes, and the new one comes.
-abbrev pub placing : Board → ℕ → Plan → World → Logged World
-placing b s plan w = logged b (Show (Log (Bare s)) ∷ effect.Image s (image_clicks plan) w ∷ [])
+-- the entry that is made then, of which the bytes are to be read
+abbrev pub new_if : List (Option Text) → Option ℕ → Option ℕ
+new_if texts None = Some (free_entry texts)
+new_if texts (Some k) = None
 
--- a process with an image that is cleared, and its u area
-abbrev pub sized : Process → ℕ → Process
-sized p d = record p { u = sized_area d 20; «data» = (cleared d 20).data; stack = (cleared d 20).stack }
+abbrev pub new_entry : List (Option Text) → ℕ → ℕ → Option ℕ
+new_entry texts ino size = if size == 0 then None else new_if texts (entry_of texts ino)
 
--- its data are read, at address 0
-abbrev pub data_of : Store → Program → ℕ → Moving Image
-data_of store program time =
-    read_file (put_into 0) (node_in store program.ino) store.room (cleared (data_clicks program.plan) 20) 16
-    program.plan.init time
+-- what is answered then, unless a demand stops
+abbrev pub taken_by : Option (Stop World) → Option ℕ → Result (Option ℕ) PanicKind
+taken_by None new = Ok new
+taken_by (Some stop) new = Err stop.why
 
-abbrev pub store_after : Store → Program → ℕ → Store
-store_after store program time =
-    with_node store program.ino (data_of store program time).node (data_of store program time).room
+-- A process has an image that is cleared, beside a text of so many clicks, and its u area.
+abbrev pub sized : ℕ → ℕ → Process → Process
+sized t d p = record p { u = made_area t d 20; «data» = (cleared d 20).data; stack = (cleared d 20).stack }
 
--- and its arguments stand at the end of its stack
-abbrev pub filled_image : Store → Program → ℕ → Image
-filled_image store program time =
-    record (data_of store program time).memory { stack = first_stack program.arguments }
+abbrev pub takes_image : World → ℕ → ℕ → ℕ → Comes
+takes_image w s t d = does (effect.Image s (16 + d + 20) w) (nothing (change w s (sized t d)))
 
-abbrev pub filled : Process → Image → Process
-filled p image = record p { «data» = image.data; stack = image.stack }
+-- Its data are read, and its arguments stand at the end of its stack.
+abbrev pub filled : Program → Image → Process → Process
+filled program image p = record p { «data» = image.data; stack = first_stack program.arguments }
+
+abbrev pub fills : World → ℕ → Program → World
+fills w s program =
+    let m : Moving Image = data_read w s program in change (with_moved w program.ino m) s (filled program m.memory)
 
 -- A file with the bit of set-uid gives its user to a process, unless the super-user executes it; one with that of
 -- set-gid gives its group.

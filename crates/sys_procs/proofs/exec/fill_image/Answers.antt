@@ -1,12 +1,17 @@
-use Rattle.std.proofs.Common.{◌≡◌, ◌∙◌, sym, ap}
+use Rattle.std.proofs.Common.{◌≡◌, ◌∙◌, List, ℕ, Option, Some, set, sym, ap}
 use Rattle.v6_base.specs.Image.{Image}
+use Rattle.fs_laws.specs.Pieces.{Moving}
+use Rattle.fs_nodes.specs.FileSystem.{FileSystem}
+use Rattle.fs_tree.specs.Finding.{Inodes}
 use Rattle.image_keep.specs.Kept.{Kept}
 use Rattle.image_keep.specs.Kept as kept
 use Rattle.image_keep.specs.Lent.{Lent, left_of}
-use Rattle.sys_procs.specs.World.{with_process}
-use Rattle.sys_procs.specs.inside.Begun.{filled, filled_image}
-use Rattle.sys_procs.specs.Handed.{handed, process_here}
-use Rattle.sys_procs.proofs.MemoryLemmas.{loan_state, loan_board, loan_alive}
+use Rattle.sys_procs.specs.Process.{Process}
+use Rattle.sys_procs.specs.World.{World, with_process}
+use Rattle.sys_procs.specs.Stack.{first_stack}
+use Rattle.sys_procs.specs.ExecFile.{cleared_image, data_read}
+use Rattle.sys_procs.specs.Handed.{handed, process_here, memory_here}
+use Rattle.sys_procs.proofs.MemoryLemmas.{image_here, loan_state, loan_board, loan_alive}
 use Rattle.sys_procs.proofs.exec.fill_image.Goals as goal
 
 -- the images after the loan
@@ -23,15 +28,43 @@ left c =
     ∙ (ap (left_of c.space-space.result.images.now) c.space-space.ensures.slot
     ∙ ap (λ (k : Kept). left_of k c.args.s) c.space-space.ensures.images))
 
+-- what is lent is cleared
+lent_is : (c : goal.After-fill) → kept.image_of c.space-space.result.images.now c.space-space.result.slot
+    ≡ cleared_image (memory_here c.args.p.now c.args.s).text c.args.program.now.plan
+lent_is c =
+    ap (kept.image_of c.space-space.result.images.now) c.space-space.ensures.slot
+    ∙ (ap (λ (k : Kept). kept.image_of k c.args.s) c.space-space.ensures.images
+    ∙ (sym (image_here c.args.p.now c.args.s c.requires.alive c.area-area.ensures.holds) ∙ c.requires.cleared))
+
+abbrev read : goal.After-fill → Moving Image
+read c = data_read (handed c.args.p.now c.args.tree.now.nodes) c.args.s c.args.program.now
+
 image_is : (c : goal.After-fill) → kept.image_of (now c) c.args.s
-    ≡ filled_image c.args.tree.now.nodes.store c.args.program.now c.args.p.now.table.now
-image_is c = ap (kept.image_of (now c)) (sym (slot_is c)) ∙ c.fill.ensures.image
+    ≡ record (read c).memory { stack = first_stack c.args.program.now.arguments }
+image_is c =
+    ap (kept.image_of (now c)) (sym (slot_is c)) ∙ c.fill.ensures.image (memory_here c.args.p.now c.args.s).text (lent_is c)
 
 pub returns-clause-state : goal.returns-clause-state
-returns-clause-state c = λ fs.
-    loan_state c.args.p.now c.args.s c.requires.alive c.area-area.ensures.holds.slots (now c) (left c) fs
-    ∙ ap (λ (m : Image). with_process (handed c.args.p.now fs) c.args.s (filled (process_here c.args.p.now c.args.s) m))
-    (image_is c)
+returns-clause-state c =
+    let p = c.args.p.now in
+    let fs : FileSystem = c.fill.new.nodes in
+    let old : Process = process_here p c.args.s in
+    loan_state p c.args.s c.requires.alive c.area-area.ensures.holds.slots (now c) (left c) fs
+    ∙ (λ i. with_process (record (handed p c.args.tree.now.nodes) {
+      inodes = record {
+        store = c.fill.ensures.store (memory_here p c.args.s).text (lent_is c) i;
+        references = c.fill.ensures.references i;
+      };
+    }) c.args.s (record old { «data» = (image_is c i).data; stack = (image_is c i).stack }))
+
+pub fill-requires-clause-cleared : goal.fill-requires-clause-cleared
+fill-requires-clause-cleared c = (
+  (memory_here c.args.p.now c.args.s).text,
+  c.requires.long,
+  ap (kept.image_of c.space-space.result.images.now) c.space-space.ensures.slot
+      ∙ (ap (λ (k : Kept). kept.image_of k c.args.s) c.space-space.ensures.images
+      ∙ (sym (image_here c.args.p.now c.args.s c.requires.alive c.area-area.ensures.holds) ∙ c.requires.cleared)),
+)
 
 pub returns-clause-board : goal.returns-clause-board
 returns-clause-board c =

@@ -6,20 +6,18 @@ use Rattle.v6_base.specs.declared.entry.Entry.TheVariants as line
 use Rattle.v6_base.specs.declared.entry.PanicKind.TheVariants as panic
 use Rattle.fs_nodes.specs.FileSystem.{FileSystem}
 use Rattle.pick_rules.specs.Apply.{applied}
-use Rattle.pick_rules.specs.Effects.{Panicked}
 use Rattle.image_keep.specs.Kept.{area_of}
 use Rattle.image_keep.specs.Places.{with_grave_at}
 use Rattle.sys_procs.specs.declared.procs.Procs.{Procs}
 use Rattle.sys_procs.specs.Exit.{dies, slot_of}
 use Rattle.sys_procs.specs.Handed.{came, board, handed, process_here}
-use Rattle.sys_procs.proofs.Agreement.{no_text_of}
 use Rattle.sys_procs.proofs.Dones.{ended_logged}
 use Rattle.sys_procs.proofs.Ends.{DidEnd, end_state, end_board, end_agree, parent_is, logged_end, logged_no_end}
 use Rattle.sys_procs.proofs.exit.die.Given as given
 use Rattle.sys_procs.proofs.exit.die.Goals as goal
 
 pub end-requires-clause-no_text : goal.end-requires-clause-no_text
-end-requires-clause-no_text g c = no_text_of c.args.p.now.images c.args.s c.requires.agree.no_text
+end-requires-clause-no_text g c = c.requires.no_text
 
 did : (g : given.Over) (c : goal.After-end_row g) → DidEnd c.args.p.now c.end_row.new.p c.args.s c.in-Ok.block c.slot_of-parent.result
 did g c = record {
@@ -40,7 +38,7 @@ ends : (g : given.Over) (c : goal.After-end_row g) (fs : FileSystem) → came c.
   stop = None;
 }
 ends g c fs =
-    logged_end c.args.p.now c.args.s c.slot_of-parent.result fs c.requires.agree c.see.ensures.images.slots
+    logged_end c.args.p.now c.args.s c.slot_of-parent.result fs c.requires.alive.agree c.see.ensures.images.slots
     (found g c fs) c.in-Ok.block c.in-Ok.ensures.block
 
 pub returns-in-Ok-clause-does : goal.returns-in-Ok-clause-does
@@ -48,22 +46,22 @@ returns-in-Ok-clause-does g c = λ fs.
     let p : Procs = c.args.p.now in
     let parent = c.slot_of-parent.result in
     ended_logged (ends g c fs) refl
-    (end_state p c.end_row.new.p c.args.s c.in-Ok.block parent c.requires c.see.ensures.rows.long c.see.ensures.images.slots (did g c) fs (found g c fs))
-    (end_board p c.end_row.new.p c.args.s c.in-Ok.block parent c.requires c.see.ensures.rows.long c.see.ensures.images.slots (did g c))
+    (end_state p c.end_row.new.p c.args.s c.in-Ok.block parent c.requires.alive c.see.ensures.rows.long c.see.ensures.images.slots (did g c) fs (found g c fs))
+    (end_board p c.end_row.new.p c.args.s c.in-Ok.block parent c.requires.alive c.see.ensures.rows.long c.see.ensures.images.slots (did g c))
     c.end_row.ensures.items
 
 pub returns-in-Ok-clause-agree : goal.returns-in-Ok-clause-agree
 returns-in-Ok-clause-agree g c =
-    end_agree c.args.p.now c.end_row.new.p c.args.s c.in-Ok.block c.slot_of-parent.result c.requires c.see.ensures.rows.long c.see.ensures.images.slots (did g c)
+    end_agree c.args.p.now c.end_row.new.p c.args.s c.in-Ok.block c.slot_of-parent.result c.requires.alive c.see.ensures.rows.long c.see.ensures.images.slots (did g c) c.requires.no_text
 
 -- No block is left.
 no_end : (g : given.Over) (c : goal.After-entry g) (fs : FileSystem) → came c.args.p.now (dies (handed c.args.p.now fs) c.args.s) ≡ record {
   items = Log (line.Panic panic.Zombie) ∷ [];
   board = board c.args.p.now;
-  stop = Some (record { why = Panicked panic.Zombie; before = handed c.args.p.now fs });
+  stop = Some (record { why = panic.Zombie; before = handed c.args.p.now fs });
 }
 no_end g c fs =
-    logged_no_end c.args.p.now c.args.s c.slot_of-parent.result fs c.requires.agree c.see.ensures.images.slots
+    logged_no_end c.args.p.now c.args.s c.slot_of-parent.result fs c.requires.alive.agree c.see.ensures.images.slots
     (parent_is c.args.p.now c.args.s c.slot_of-parent.result c.row-row.result fs c.see.ensures.rows.long c.row-row.ensures c.slot_of-parent.ensures)
     c.in-Err.ensures.block
 

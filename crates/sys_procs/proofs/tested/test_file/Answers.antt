@@ -1,9 +1,8 @@
-use Rattle.std.proofs.Common.{◌∙◌, sym, ap, subst}
+use Rattle.std.proofs.Common.{◌∙◌, sym, ap}
 use Rattle.fs_nodes.specs.FileSystem.{FileSystem}
 use Rattle.fs_tree.specs.Finding.{Inodes}
 use Rattle.sys_procs.specs.declared.procs.Procs.{Procs}
 use Rattle.sys_procs.specs.World.{World}
-use Rattle.sys_procs.specs.Agree.{HasNoText}
 use Rattle.sys_procs.specs.Handed.{handed}
 use Rattle.sys_procs.specs.ExecFile.{Tested}
 use Rattle.sys_procs.proofs.TestsLemmas.{file_tested, reads_header}
@@ -39,6 +38,3 @@ returns-in-Err-clause-state c =
     ∙ (ap (λ (n : Inodes). record w { inodes = n }) c.let_go.ensures.inodes
     ∙ ap (λ (t : Tested). t.world)
     (file_tested c.args.p.now fs c.args.s c.args.ino c.args.list _ c.in-Err.ensures.answer))
-
-pub read_header-requires-clause-no_text : goal.read_header-requires-clause-no_text
-read_header-requires-clause-no_text c = subst (λ (p : Procs). HasNoText p.images) (sym c.test_call.ensures.procs) c.requires.alive.agree.no_text

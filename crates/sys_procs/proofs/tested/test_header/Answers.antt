@@ -1,10 +1,9 @@
-use Rattle.std.proofs.Common.{◌∙◌, sym, ap}
+use Rattle.std.proofs.Common.{◌∙◌, refl, ap}
+use Rattle.image_keep.specs.Growth.{most_clicks}
 use Rattle.fs_tree.specs.Finding.{Inodes}
-use Rattle.seg_regs.specs.Sizes.{is_refused}
-use Rattle.sys_procs.specs.Stack.{stack_clicks}
 use Rattle.sys_procs.specs.World.{World}
 use Rattle.sys_procs.specs.Handed.{handed}
-use Rattle.sys_procs.specs.ExecFile.{Tested, text_clicks, data_clicks}
+use Rattle.sys_procs.specs.ExecFile.{Tested}
 use Rattle.sys_procs.proofs.TestsLemmas.{header_tested}
 use Rattle.sys_procs.proofs.tested.test_header.Goals as goal
 
@@ -12,37 +11,36 @@ pub returns-in-Ok-clause-answer : goal.returns-in-Ok-clause-answer
 returns-in-Ok-clause-answer c = λ m memory done error.
     let w : World = handed c.args.p.now c.args.tree.now.nodes in
     ap (λ (t : Tested). t.answer)
-    (header_tested w c.args.ino c.args.args m c.args.head.now c.args.read.done c.args.read.error c.limit.result _
-    memory done error c.limit.ensures (c.in-Ok.ensures.answer c.args.p.now c.requires.no_text))
+    (header_tested w c.args.ino c.args.args m c.args.head.now c.args.read.done c.args.read.error (most_clicks c.args.p.now.images) _
+    memory done error refl (c.in-Ok.ensures.answer))
 
 pub returns-in-Ok-clause-state : goal.returns-in-Ok-clause-state
 returns-in-Ok-clause-state c = λ m memory done error.
     let w : World = handed c.args.p.now c.args.tree.now.nodes in
     ap (λ (t : Tested). t.world)
-    (header_tested w c.args.ino c.args.args m c.args.head.now c.args.read.done c.args.read.error c.limit.result _
-    memory done error c.limit.ensures (c.in-Ok.ensures.answer c.args.p.now c.requires.no_text))
+    (header_tested w c.args.ino c.args.args m c.args.head.now c.args.read.done c.args.read.error (most_clicks c.args.p.now.images) _
+    memory done error refl (c.in-Ok.ensures.answer))
 
 pub returns-in-Ok-clause-tested : goal.returns-in-Ok-clause-tested
 returns-in-Ok-clause-tested c = record {
   referenced = c.requires.referenced;
   there = c.see.ensures.used c.args.ino c.requires.referenced;
-  sizes =
-      ap (is_refused (text_clicks c.in-Ok.plan) (data_clicks c.in-Ok.plan) stack_clicks) (sym c.limit.ensures)
-      ∙ c.in-Ok.ensures.fits;
+  sizes = c.in-Ok.ensures.fits;
   init = c.in-Ok.ensures.most;
+  shared = c.in-Ok.ensures.shared;
 }
 
 pub returns-in-Err-clause-answer : goal.returns-in-Err-clause-answer
 returns-in-Err-clause-answer c = λ m memory done error.
     let w : World = handed c.args.p.now c.args.tree.now.nodes in
     ap (λ (t : Tested). t.answer)
-    (header_tested w c.args.ino c.args.args m c.args.head.now c.args.read.done c.args.read.error c.limit.result _
-    memory done error c.limit.ensures (c.in-Err.ensures.answer c.args.p.now c.requires.no_text))
+    (header_tested w c.args.ino c.args.args m c.args.head.now c.args.read.done c.args.read.error (most_clicks c.args.p.now.images) _
+    memory done error refl (c.in-Err.ensures.answer))
 
 pub returns-in-Err-clause-state : goal.returns-in-Err-clause-state
 returns-in-Err-clause-state c = λ m memory done error.
     let w : World = handed c.args.p.now c.args.tree.now.nodes in
     ap (λ (n : Inodes). record w { inodes = n }) c.let_go.ensures.inodes
     ∙ ap (λ (t : Tested). t.world)
-    (header_tested w c.args.ino c.args.args m c.args.head.now c.args.read.done c.args.read.error c.limit.result _
-    memory done error c.limit.ensures (c.in-Err.ensures.answer c.args.p.now c.requires.no_text))
+    (header_tested w c.args.ino c.args.args m c.args.head.now c.args.read.done c.args.read.error (most_clicks c.args.p.now.images) _
+    memory done error refl (c.in-Err.ensures.answer))

@@ -22,7 +22,7 @@ close_all-requires c =
     record {
       sound = λ row image.
           sound_parts w c.args.s (handed w.files c.area-u.result row image) c.requires c.see_table.ensures
-          refl area refl;
+          c.area-u.ensures.holds refl area refl;
     }
 
 pub set_area-requires : goal.set_area-requires

@@ -21,7 +21,7 @@ resume_file-answer-requires-clause-sound c =
     let w : World = c.args.world.now in
     let parts : Handed = handed w.files c.area-u.result c.row.result.now (image_of c.space-space.result.images.now c.space-space.result.slot) in
     let area = area_is w c.args.s c.area-u.result c.requires.ready c.area-u.ensures.u in
-    sound_parts w c.args.s parts c.requires.ready c.see_table.ensures refl area refl
+    sound_parts w c.args.s parts c.requires.ready c.see_table.ensures c.area-u.ensures.holds refl area refl
 
 -- These follow from the images alone, whatever the loan says of itself.
 pub set_area-requires : goal.set_area-requires

@@ -6,13 +6,14 @@ use Rattle.v6_base.specs.declared.entry.PanicKind.{PanicKind}
 use Rattle.fs_laws.specs.Rest.{SameRest}
 use Rattle.pick_rules.specs.Logged.{logged}
 use Rattle.sys_procs.specs.Comes.{Comes}
-use Rattle.sys_procs.specs.Handed.{AreProcs}
+use Rattle.sys_procs.specs.Handed.{AreProcs, AreBare}
 use Rattle.unix_core.specs.declared.world.World.{World}
+use Rattle.abstract_unix.specs.declared.ending.Ending.TheVariants.{Panic}
 use Rattle.abstract_unix.specs.declared.calls.ProcessCall.{ProcessCall}
 use Rattle.abstract_unix.specs.Calls.{came_by, process_row}
 use Rattle.unix_core.specs.Parts.{unix_of, board_in, HasCome, IsReady}
 use Rattle.unix_core.proofs.CameLemmas.{given, IsTame, after, beside, world_is, ready_calls, over_then, call_took, call_stops, call_ready, call_come}
-use Rattle.unix_core.proofs.CoverLemmas.{bare, stopped_covered}
+use Rattle.unix_core.proofs.CoverLemmas.{stopped_covered}
 use Rattle.unix_core.proofs.TameRows.{tame_row}
 use Rattle.unix_core.proofs.process.call_processes.Goals as goal
 
@@ -22,17 +23,20 @@ row w call s args = process_row call (given w) s args
 tame : (w : World) (call : ProcessCall) (s : ℕ) (args : List ℕ) → IsReady w s → IsTame w (row w call s args)
 tame w call s args ready = tame_row w s ready call args
 
-pub do_process_call-requires : goal.do_process_call-requires
-do_process_call-requires g c = ready_calls c.args.world.now c.args.s c.requires c.see_table.ensures
+pub do_process_call-requires-clause-calls : goal.do_process_call-requires-clause-calls
+do_process_call-requires-clause-calls g c = ready_calls c.args.world.now c.args.s c.requires c.see_table.ensures c.see_kept.ensures
+
+pub do_process_call-requires-clause-marks : goal.do_process_call-requires-clause-marks
+do_process_call-requires-clause-marks g c = c.requires.good.marks
 
 pub conclude-requires : goal.conclude-requires
 conclude-requires g c =
     let w : World = c.args.world.now in
     let e = c.do_process_call.ensures in
     call_ready w (after w c.do_process_call.new.tree c.do_process_call.new.p) c.args.s (row w c.args.call c.args.s c.args.args)
-    (tame w c.args.call c.args.s c.args.args c.requires) (beside w c.do_process_call.new.tree c.do_process_call.new.p e.marks) e.does
+    (tame w c.args.call c.args.s c.args.args c.requires) (beside w c.do_process_call.new.tree c.do_process_call.new.p) e.does
     c.in-Ok.answer c.in-Ok.is c.requires
-    (IfOk-at_ok (λ (a : Answer). AreProcs c.do_process_call.new.p) c.in-Ok.is e.agree)
+    (IfOk-at_ok (λ (a : Answer). AreProcs c.do_process_call.new.p) c.in-Ok.is e.agree) e.marks
 
 pub returns-in-Ok-clause-come : goal.returns-in-Ok-clause-come
 returns-in-Ok-clause-come g c =
@@ -42,7 +46,7 @@ returns-in-Ok-clause-come g c =
     subst (λ x. HasCome (board_in w) (came_by (unix_of w) s (process_row c.args.call x s c.args.args)) c.conclude.result c.conclude.new.world)
     (world_is w s c.requires c.see_nodes.ensures)
     (call_come w (after w c.do_process_call.new.tree c.do_process_call.new.p) s (row w c.args.call s c.args.args)
-    (tame w c.args.call s c.args.args c.requires) (beside w c.do_process_call.new.tree c.do_process_call.new.p e.marks) e.does
+    (tame w c.args.call s c.args.args c.requires) (beside w c.do_process_call.new.tree c.do_process_call.new.p) e.does
     c.in-Ok.answer c.in-Ok.is c.conclude.new.world c.conclude.result c.conclude.ensures.ending c.conclude.ensures.unix c.conclude.ensures.board)
 
 pub returns-in-Ok-clause-items : goal.returns-in-Ok-clause-items
@@ -54,7 +58,7 @@ returns-in-Ok-clause-items g c =
     (g.T.Trace.taken c.do_process_call.new.trace))
     (world_is w s c.requires c.see_nodes.ensures)
     (call_took w (after w c.do_process_call.new.tree c.do_process_call.new.p) s (row w c.args.call s c.args.args)
-    (tame w c.args.call s c.args.args c.requires) (beside w c.do_process_call.new.tree c.do_process_call.new.p e.marks) e.does)
+    (tame w c.args.call s c.args.args c.requires) (beside w c.do_process_call.new.tree c.do_process_call.new.p) e.does)
 
 pub returns-in-Ok-clause-rest : goal.returns-in-Ok-clause-rest
 returns-in-Ok-clause-rest g c =
@@ -65,15 +69,15 @@ returns-in-Err-clause-come g c =
     let w : World = c.args.world.now in
     let s = c.args.s in
     let e = c.do_process_call.ensures in
-    subst (λ x. HasCome (board_in w) (came_by (unix_of w) s (process_row c.args.call x s c.args.args)) c.unmet_as.result
+    subst (λ x. HasCome (board_in w) (came_by (unix_of w) s (process_row c.args.call x s c.args.args)) (Panic c.in-Err.kind)
     (after w c.do_process_call.new.tree c.do_process_call.new.p))
     (world_is w s c.requires c.see_nodes.ensures)
     (call_stops w (after w c.do_process_call.new.tree c.do_process_call.new.p) s (row w c.args.call s c.args.args)
-    (tame w c.args.call s c.args.args c.requires) (beside w c.do_process_call.new.tree c.do_process_call.new.p e.marks) e.does
-    c.in-Err.kind c.unmet_as.result c.in-Err.is c.unmet_as.ensures)
+    (tame w c.args.call s c.args.args c.requires) (beside w c.do_process_call.new.tree c.do_process_call.new.p) e.does
+    c.in-Err.kind (Panic c.in-Err.kind) c.in-Err.is refl)
 
 pub returns-in-Err-clause-ready : goal.returns-in-Err-clause-ready
-returns-in-Err-clause-ready g c goes = over_then c.unmet_as.result c.in-Err.kind c.unmet_as.ensures goes
+returns-in-Err-clause-ready g c goes = over_then c.in-Err.kind goes
 
 pub returns-in-Err-clause-items : goal.returns-in-Err-clause-items
 returns-in-Err-clause-items g c =
@@ -84,12 +88,12 @@ returns-in-Err-clause-items g c =
     (g.T.Trace.taken c.do_process_call.new.trace))
     (world_is w s c.requires c.see_nodes.ensures)
     (call_took w (after w c.do_process_call.new.tree c.do_process_call.new.p) s (row w c.args.call s c.args.args)
-    (tame w c.args.call s c.args.args c.requires) (beside w c.do_process_call.new.tree c.do_process_call.new.p e.marks) e.does)
+    (tame w c.args.call s c.args.args c.requires) (beside w c.do_process_call.new.tree c.do_process_call.new.p) e.does)
 
 pub returns-in-Err-clause-covered : goal.returns-in-Err-clause-covered
 returns-in-Err-clause-covered g c ends =
     let w : World = c.args.world.now in
     let e = c.do_process_call.ensures in
-    stopped_covered w (after w c.do_process_call.new.tree c.do_process_call.new.p) c.args.s c.requires.good.agree
-    (IfErr-at_err (λ (kind : PanicKind). AreProcs c.do_process_call.new.p ⊎ (c.do_process_call.new.p ≡ bare w.procs c.args.s)) c.in-Err.is e.left)
+    stopped_covered (after w c.do_process_call.new.tree c.do_process_call.new.p) c.args.s
+    (IfErr-at_err (λ (kind : PanicKind). AreProcs c.do_process_call.new.p ⊎ AreBare c.do_process_call.new.p c.args.s) c.in-Err.is e.left)
     c.see_procs.ensures.rows c.see_procs.ensures.images

@@ -3,10 +3,11 @@ use Rattle.v6_base.specs.Trace.{Took}
 use Rattle.pick_rules.specs.declared.table.Table.{Table}
 use Rattle.pick_rules.specs.Table.{IsTable}
 use Rattle.unix_core.specs.declared.world.World.{World}
+use Rattle.abstract_unix.specs.declared.ending.Ending.TheVariants.{Panic}
 use Rattle.open_files.specs.Files.{times}
 use Rattle.abstract_unix.specs.Unix.{Unix, process_of}
 use Rattle.abstract_unix.specs.Calls.{closes_all, with_handed}
-use Rattle.unix_core.specs.Parts.{unix_of, board_in, IsReady, unmet_as}
+use Rattle.unix_core.specs.Parts.{unix_of, board_in, IsReady}
 use Rattle.abstract_unix.specs.Whole.{told_of}
 use Rattle.abstract_unix.proofs.Owing.{some_within}
 use Rattle.unix_core.proofs.WorldLemmas.{slot_is, told_here}
@@ -41,11 +42,15 @@ closed_then w w1 s ready then unix entry =
     ap (λ (u : Unix). times (process_of u s).u.files entry) unix
     ∙ all_closed (unix_of w) s entry low (sym (ap (λ (u : Unix). length (process_of u s).u.files) unix) ∙ long)
 
-pub exit_now-ended-requires : goal.exit_now-ended-requires
-exit_now-ended-requires g c =
+pub exit_now-ended-requires-clause-calls : goal.exit_now-ended-requires-clause-calls
+exit_now-ended-requires-clause-calls g c =
     let new : World = c.close_files.new.world in
     let ready = ready_then new c.args.s c.pass_on.new.table c.close_files.ensures.shown.ready c.pass_on.ensures.table c.pass_on.ensures.good in
-    ready_calls (with_table new c.pass_on.new.table) c.args.s ready c.see_table.ensures
+    ready_calls (with_table new c.pass_on.new.table) c.args.s ready c.see_table.ensures c.see_kept.ensures
+
+pub exit_now-ended-requires-clause-marks : goal.exit_now-ended-requires-clause-marks
+exit_now-ended-requires-clause-marks g c =
+    (ready_then c.close_files.new.world c.args.s c.pass_on.new.table c.close_files.ensures.shown.ready c.pass_on.ensures.table c.pass_on.ensures.good).good.marks
 
 pub see_covered-requires : goal.see_covered-requires
 see_covered-requires g c = c.exit_now-ended.ensures.agree
@@ -59,7 +64,7 @@ returns-in-Ok-clause-come g c =
     let ready = ready_then new s c.pass_on.new.table c.close_files.ensures.shown.ready c.pass_on.ensures.table c.pass_on.ensures.good in
     let now : World = record w1 { files = record w1.files { tree = c.exit_now-ended.new.tree }; procs = c.exit_now-ended.new.p } in
     let e = c.exit_now-ended.ensures in
-    let rests : Rests w1 now = record { marks = e.marks; line = refl; tape = refl; core = refl } in
+    let rests : Rests w1 now = record { line = refl; tape = refl; core = refl } in
     let unix = unix_then w new s c.pass_on.new.table c.close_files.ensures.unix c.pass_on.ensures.table in
     let closed = closed_then w w1 s c.requires ready unix in
     let none = (goes_on _ _ _ _ e.does.answer c.in-Ok.is).0 in
@@ -76,7 +81,7 @@ returns-in-Ok-clause-good g c goes =
     let ready = ready_then new s c.pass_on.new.table c.close_files.ensures.shown.ready c.pass_on.ensures.table c.pass_on.ensures.good in
     let now : World = record w1 { files = record w1.files { tree = c.exit_now-ended.new.tree }; procs = c.exit_now-ended.new.p } in
     let e = c.exit_now-ended.ensures in
-    let rests : Rests w1 now = record { marks = e.marks; line = refl; tape = refl; core = refl } in
+    let rests : Rests w1 now = record { line = refl; tape = refl; core = refl } in
     let unix = unix_then w new s c.pass_on.new.table c.close_files.ensures.unix c.pass_on.ensures.table in
     let closed = closed_then w w1 s c.requires ready unix in
     let none = (goes_on _ _ _ _ e.does.answer c.in-Ok.is).0 in
@@ -104,16 +109,16 @@ returns-in-Err-clause-come g c =
     let ready = ready_then new s c.pass_on.new.table c.close_files.ensures.shown.ready c.pass_on.ensures.table c.pass_on.ensures.good in
     let now : World = record w1 { files = record w1.files { tree = c.exit_now-ended.new.tree }; procs = c.exit_now-ended.new.p } in
     let e = c.exit_now-ended.ensures in
-    let rests : Rests w1 now = record { marks = e.marks; line = refl; tape = refl; core = refl } in
+    let rests : Rests w1 now = record { line = refl; tape = refl; core = refl } in
     let unix = unix_then w new s c.pass_on.new.table c.close_files.ensures.unix c.pass_on.ensures.table in
     let halt = stops _ _ c.in-Err.kind _ e.does.answer c.in-Err.is in
     exit_stops w w1 now s ready (slot_low w s c.requires) c.see_nodes.ensures unix
     (ap (λ t. board_in (with_table new t)) c.pass_on.ensures.table ∙ shown_board w new s _ c.close_files.ensures.shown)
-    halt.0 halt.1.0 c.unmet_as.result (c.unmet_as.ensures ∙ ap unmet_as halt.1.1)
+    halt.0 halt.1.0 (Panic c.in-Err.kind) (ap Panic halt.1.1)
     (stopped_unix w1 now s ready halt.0 halt.1.0 e.does.state e.does.shown refl rests) e.does.shown
 
 pub returns-in-Err-clause-good : goal.returns-in-Err-clause-good
-returns-in-Err-clause-good g c goes = over_then c.unmet_as.result c.in-Err.kind c.unmet_as.ensures goes
+returns-in-Err-clause-good g c goes = over_then c.in-Err.kind goes
 
 pub returns-in-Err-clause-runs : goal.returns-in-Err-clause-runs
 returns-in-Err-clause-runs g c other =
@@ -123,7 +128,7 @@ returns-in-Err-clause-runs g c other =
     let ready = ready_then new s c.pass_on.new.table c.close_files.ensures.shown.ready c.pass_on.ensures.table c.pass_on.ensures.good in
     let now : World = record w1 { files = record w1.files { tree = c.exit_now-ended.new.tree }; procs = c.exit_now-ended.new.p } in
     let e = c.exit_now-ended.ensures in
-    let rests : Rests w1 now = record { marks = e.marks; line = refl; tape = refl; core = refl } in
+    let rests : Rests w1 now = record { line = refl; tape = refl; core = refl } in
     let halt = stops _ _ c.in-Err.kind _ e.does.answer c.in-Err.is in
     stopped_runs w1 now s ready halt.0 halt.1.0 e.does.state e.does.shown refl rests
 

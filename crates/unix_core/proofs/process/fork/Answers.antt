@@ -6,6 +6,7 @@ use Rattle.open_files.specs.declared.file.OpenFile.{OpenFile}
 use Rattle.open_files.specs.Files.{AreOpen, HaveRoom}
 use Rattle.u_area.specs.declared.area.UArea.{UArea}
 use Rattle.unix_core.specs.declared.world.World.{World}
+use Rattle.abstract_unix.specs.declared.ending.Ending.TheVariants.{Panic}
 use Rattle.fs_tree.specs.declared.tree.Tree.{Tree}
 use Rattle.sys_procs.specs.declared.procs.Procs.{Procs}
 use Rattle.abstract_unix.specs.Unix.{process_of}
@@ -30,7 +31,7 @@ pub area-u-requires : goal.area-u-requires
 area-u-requires g c = c.requires.good.running c.args.s c.requires.runs c.requires.user
 
 pub fork_one-requires : goal.fork_one-requires
-fork_one-requires g c = ready_calls c.args.world.now c.args.s c.requires c.see_table.ensures
+fork_one-requires g c = ready_calls c.args.world.now c.args.s c.requires c.see_table.ensures c.area-u.ensures.holds
 
 pub share_files-requires-clause-open : goal.share_files-requires-clause-open
 share_files-requires-clause-open g c =
@@ -54,17 +55,17 @@ conclude-requires g c =
     let w : World = c.args.world.now in
     let e = c.fork_one.ensures in
     fork_ready w (after w c.fork_one.new.tree c.fork_one.new.p) c.args.s c.requires c.see_nodes.ensures
-    (beside w c.fork_one.new.tree c.fork_one.new.p e.marks) e.does
+    (beside w c.fork_one.new.tree c.fork_one.new.p) e.does
     c.in-Ok.answer c.in-Ok.is (shared w c.fork_one.new.tree c.share_files.new.table c.fork_one.new.p) refl refl
     (its_table w c.args.s c.area-u.result _ c.in-Ok.answer c.requires c.area-u.ensures.u c.share_files.ensures) refl refl refl
-    e.agree
+    e.agree e.marks
 
 pub returns-in-Ok-clause-come : goal.returns-in-Ok-clause-come
 returns-in-Ok-clause-come g c =
     let w : World = c.args.world.now in
     let e = c.fork_one.ensures in
     fork_come w (after w c.fork_one.new.tree c.fork_one.new.p) c.args.s c.requires c.see_nodes.ensures
-    (beside w c.fork_one.new.tree c.fork_one.new.p e.marks) e.does
+    (beside w c.fork_one.new.tree c.fork_one.new.p) e.does
     c.in-Ok.answer c.in-Ok.is (shared w c.fork_one.new.tree c.share_files.new.table c.fork_one.new.p) refl refl
     (its_table w c.args.s c.area-u.result _ c.in-Ok.answer c.requires c.area-u.ensures.u c.share_files.ensures) refl refl refl
     e.agree
@@ -75,7 +76,7 @@ returns-in-Ok-clause-items g c =
     let w : World = c.args.world.now in
     let e = c.fork_one.ensures in
     fork_took w (after w c.fork_one.new.tree c.fork_one.new.p) c.args.s c.requires c.see_nodes.ensures
-    (beside w c.fork_one.new.tree c.fork_one.new.p e.marks) e.does
+    (beside w c.fork_one.new.tree c.fork_one.new.p) e.does
 
 pub returns-in-Ok-clause-rest : goal.returns-in-Ok-clause-rest
 returns-in-Ok-clause-rest g c =
@@ -86,17 +87,17 @@ returns-in-Err-clause-come g c =
     let w : World = c.args.world.now in
     let e = c.fork_one.ensures in
     fork_stops w (after w c.fork_one.new.tree c.fork_one.new.p) c.args.s c.requires c.see_nodes.ensures
-    (beside w c.fork_one.new.tree c.fork_one.new.p e.marks) e.does c.in-Err.kind c.unmet_as.result c.in-Err.is c.unmet_as.ensures
+    (beside w c.fork_one.new.tree c.fork_one.new.p) e.does c.in-Err.kind (Panic c.in-Err.kind) c.in-Err.is refl
 
 pub returns-in-Err-clause-ready : goal.returns-in-Err-clause-ready
-returns-in-Err-clause-ready g c goes = over_then c.unmet_as.result c.in-Err.kind c.unmet_as.ensures goes
+returns-in-Err-clause-ready g c goes = over_then c.in-Err.kind goes
 
 pub returns-in-Err-clause-items : goal.returns-in-Err-clause-items
 returns-in-Err-clause-items g c =
     let w : World = c.args.world.now in
     let e = c.fork_one.ensures in
     fork_took w (after w c.fork_one.new.tree c.fork_one.new.p) c.args.s c.requires c.see_nodes.ensures
-    (beside w c.fork_one.new.tree c.fork_one.new.p e.marks) e.does
+    (beside w c.fork_one.new.tree c.fork_one.new.p) e.does
 
 pub see_covered-requires : goal.see_covered-requires
 see_covered-requires g c = c.fork_one.ensures.agree

@@ -1,4 +1,4 @@
-use Rattle.std.proofs.Common.{◌≡◌, ℕ, refl, sym, subst}
+use Rattle.std.proofs.Common.{◌≡◌, ℕ, refl, sym, ap, subst}
 use Rattle.std.specs.Prelude.{Result, Err}
 use Rattle.v6_base.specs.Trace.{Took}
 use Rattle.v6_base.specs.declared.answer.Answer.{Answer}
@@ -10,12 +10,13 @@ use Rattle.sys_procs.specs.Agree.{answered}
 use Rattle.sys_procs.specs.Handed.{came}
 use Rattle.sys_procs.specs.World.{change}
 use Rattle.sys_procs.specs.Resume.{awake, resume_proc}
+use Rattle.sys_procs.specs.TextTable.{marks_of}
 use Rattle.unix_core.specs.declared.world.World.{World}
 use Rattle.abstract_unix.specs.Calls.{came_by}
 use Rattle.unix_core.specs.Parts.{unix_of, board_in, HasCome, IsReady}
 use Rattle.abstract_unix.proofs.ProcessRows.{resume_plain}
 use Rattle.abstract_unix.proofs.Mild.{IsMild, mild_plain, near_change}
-use Rattle.unix_core.proofs.CameLemmas.{given, IsTame, mild_tame, mild_goes, near_here, after, beside, world_is, ready_calls, stops, call_took, call_ready, call_come}
+use Rattle.unix_core.proofs.CameLemmas.{given, IsTame, mild_tame, mild_goes, near_here, after, beside, world_is, ready_calls, stops, call_took, call_ready, call_marked, call_come}
 use Rattle.unix_core.proofs.process.go_on_waiting.Goals as goal
 
 abbrev row : World → ℕ → Comes
@@ -30,16 +31,19 @@ tame : (w : World) (s : ℕ) → IsReady w s → IsTame w (row w s)
 tame w s ready = mild_tame w (row w s) (mild w s ready)
 
 pub resume_proc-requires : goal.resume_proc-requires
-resume_proc-requires g c = ready_calls c.args.world.now c.args.s c.requires c.see_table.ensures
+resume_proc-requires g c = ready_calls c.args.world.now c.args.s c.requires c.see_table.ensures c.see_kept.ensures
 
 pub conclude-requires : goal.conclude-requires
 conclude-requires g c =
     let w : World = c.args.world.now in
     let e = c.resume_proc.ensures in
     call_ready w (after w c.resume_proc.new.tree c.resume_proc.new.p) c.args.s (row w c.args.s)
-    (tame w c.args.s c.requires) (beside w c.resume_proc.new.tree c.resume_proc.new.p e.marks) e.does
+    (tame w c.args.s c.requires) (beside w c.resume_proc.new.tree c.resume_proc.new.p) e.does
     c.in-Ok.answer c.in-Ok.is c.requires
     e.agree
+    (call_marked w (after w c.resume_proc.new.tree c.resume_proc.new.p) c.args.s (row w c.args.s)
+    (tame w c.args.s c.requires) (beside w c.resume_proc.new.tree c.resume_proc.new.p) e.does
+    c.in-Ok.answer c.in-Ok.is e.marks c.requires.good.marks (ap marks_of (mild w c.args.s c.requires).texts))
 
 pub returns-in-Ok-clause-come : goal.returns-in-Ok-clause-come
 returns-in-Ok-clause-come g c =
@@ -49,7 +53,7 @@ returns-in-Ok-clause-come g c =
     subst (λ x. HasCome (board_in w) (came_by (unix_of w) s (resume_proc x s)) c.conclude.result c.conclude.new.world)
     (world_is w s c.requires c.see_nodes.ensures)
     (call_come w (after w c.resume_proc.new.tree c.resume_proc.new.p) s (row w s)
-    (tame w s c.requires) (beside w c.resume_proc.new.tree c.resume_proc.new.p e.marks) e.does
+    (tame w s c.requires) (beside w c.resume_proc.new.tree c.resume_proc.new.p) e.does
     c.in-Ok.answer c.in-Ok.is c.conclude.new.world c.conclude.result c.conclude.ensures.ending c.conclude.ensures.unix c.conclude.ensures.board)
 
 pub returns-in-Ok-clause-items : goal.returns-in-Ok-clause-items
@@ -61,7 +65,7 @@ returns-in-Ok-clause-items g c =
     (g.T.Trace.taken c.resume_proc.new.trace))
     (world_is w s c.requires c.see_nodes.ensures)
     (call_took w (after w c.resume_proc.new.tree c.resume_proc.new.p) s (row w s)
-    (tame w s c.requires) (beside w c.resume_proc.new.tree c.resume_proc.new.p e.marks) e.does)
+    (tame w s c.requires) (beside w c.resume_proc.new.tree c.resume_proc.new.p) e.does)
 
 pub returns-in-Ok-clause-rest : goal.returns-in-Ok-clause-rest
 returns-in-Ok-clause-rest g c =

@@ -8,5 +8,5 @@ pub returns-clause-written : goal.returns-clause-written
 returns-clause-written g c =
     let core = c.core-core.result.now in
     let swap = c.swap-swap.result.now in
-    let is = c.finish.ensures.kept c.requires.started ∙ kept_finished _ _ c.finish.ensures.system in
+    let is = c.finish.ensures.kept ∙ kept_finished _ _ c.finish.ensures.system in
     (core, swap, subst (MemoryHolds core swap) is (memory_held core swap _ c.core-core.ensures.holds c.swap-swap.ensures.holds c.core-core.ensures.apart), c.write_both.ensures.whole, c.write_both.ensures.front)

@@ -1,7 +1,7 @@
 use Rattle.std.proofs.Common.{ℕ, List, sym, subst}
 use Rattle.fs_laws.specs.Rest.{SameRest}
 use Rattle.buf_cache.specs.Blocks.{IsDisk}
-use Rattle.v6_run.proofs.OutputLemmas.{held_covered}
+use Rattle.image_keep.specs.Holds.{SwapHolds}
 use Rattle.v6_run.proofs.outputs.leave_disk.Goals as goal
 
 pub returns-clause-rest : goal.returns-clause-rest
@@ -13,4 +13,4 @@ returns-clause-form g c = subst IsDisk (sym c.finish.ensures.stored) c.finish.en
 
 pub returns-clause-written : goal.returns-clause-written
 returns-clause-written g c =
-    (c.swap-swap.result.now, held_covered _ _ _ c.swap-swap.ensures.holds c.finish.ensures.covered, c.write_disk.ensures.whole, c.write_disk.ensures.front)
+    (c.swap-swap.result.now, subst (SwapHolds c.swap-swap.result.now) c.finish.ensures.kept c.swap-swap.ensures.holds, c.write_disk.ensures.whole, c.write_disk.ensures.front)

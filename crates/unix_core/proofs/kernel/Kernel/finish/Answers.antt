@@ -2,12 +2,11 @@ use Rattle.std.proofs.Common.{◌≡◌, ◌⊎◌, ◌∙◌, refl, ap, sym, su
 use Rattle.fs_codec.specs.Disk.{head}
 use Rattle.buf_cache.specs.Blocks.{block_at}
 use Rattle.unix_core.specs.State.{KernelState}
-use Rattle.unix_core.proofs.Memories.{kept_is}
 use Rattle.abstract_unix.specs.Unix.{Phase, Started, Stopped}
 use Rattle.abstract_unix.specs.Runs.{finished}
-use Rattle.unix_core.specs.Parts.{system_at, IsGood}
+use Rattle.unix_core.specs.Parts.{system_at}
 use Rattle.unix_core.proofs.BootLemmas.{stands_below}
-use Rattle.unix_core.proofs.BootKernelLemmas.{kernel_good, updated, finished_kernel, updated_system, updated_covered}
+use Rattle.unix_core.proofs.BootKernelLemmas.{updated, finished_kernel, updated_system, updated_covered}
 use Rattle.unix_core.proofs.CoverLemmas.{kernel_covered}
 use Rattle.unix_core.proofs.kernel.Kernel.finish.Goals as goal
 
@@ -36,16 +35,7 @@ returns-clause-below c = λ low.
 
 -- What core and the swap area keep is what the system tells.
 pub returns-clause-kept : goal.returns-clause-kept
-returns-clause-kept c = λ started.
-    let m = c.self.inside.machine in
-    let w = updated m.world c.update_all.new.self c.update_all.ensures.store in
-    let good : IsGood m.world = kernel_good m.stage m.world (ap (λ (v : KernelState). v.phase) c.self.view_is ∙ started) c.self.invariant in
-    sym (kept_is m.world.procs.rows m.world.procs.table m.world.procs.images c.see_procs.ensures.rows good.agree c.see_procs.ensures.images
-    (system_at w) refl refl refl)
-
--- and covers it, where the run has stopped before
-pub returns-clause-covered : goal.returns-clause-covered
-returns-clause-covered c =
+returns-clause-kept c =
     let m = c.self.inside.machine in
     updated_covered m.world c.update_all.new.self c.update_all.ensures.store
     (kernel_covered m.stage m.world c.self.invariant (subst (λ (p : Phase). (p ≡ Started) ⊎ (p ≡ Stopped)) (ap (λ (v : KernelState). v.phase) (sym c.self.view_is)) c.requires)
