@@ -29,6 +29,7 @@ pub mod TestsLemmas
 pub mod LoadData
 pub mod LoadLemmas
 pub mod LoadForms
+pub mod FilledText
 pub mod Bare
 pub mod Retexted
 pub mod JoinedText

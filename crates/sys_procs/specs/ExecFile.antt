@@ -143,10 +143,12 @@ bare_board b s = applied b (Bare s)
 abbrev pub text_room : Program → ℕ
 text_room program = min program.plan.text (64 * program.text_clicks)
 
+abbrev pub text_in : Store → Program → ℕ → Moving (List ℕ)
+text_in store program time =
+    read_file put_kernel (node_in store program.ino) store.room (replicate (text_room program) 0) 16 (text_room program) time
+
 abbrev pub text_read : World → Program → Moving (List ℕ)
-text_read w program =
-    read_file put_kernel (node_at w program.ino) w.inodes.store.room (replicate (text_room program) 0) 16 (text_room program)
-    w.clock.time
+text_read w program = text_in w.inodes.store program w.clock.time
 
 -- the entry of the text that a process has, or 40 where it has none
 abbrev pub entry_in : World → ℕ → ℕ
