@@ -30,6 +30,8 @@ pub mod LoadData
 pub mod LoadLemmas
 pub mod LoadForms
 pub mod FilledText
+pub mod KeptOwner
+pub mod Following
 pub mod Bare
 pub mod Retexted
 pub mod JoinedText

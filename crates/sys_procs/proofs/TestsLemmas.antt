@@ -3,6 +3,8 @@ use Rattle.std.proofs.Common.{◌≡◌, ◌∙◌, ◌==◌, ◌&&◌, ◌/◌,
 use Rattle.std.proofs.Common.{if◌then◌else◌, Result, Ok, Err, IsSome, IfSome, ◌*◌, ◌<◌, length, slice_index, inl, inr, refl, sym, ap, arith}
 use Rattle.std.proofs.lemmas.Bool.{ne_eqb}
 use Rattle.std.specs.Option.{unwrap_or, option_map}
+use Rattle.std.proofs.Math.ListN.{get_or-map}
+use Rattle.std.specs.Prelude.{slice_index_or}
 use Rattle.v6_base.specs.Access.{then_do}
 use Rattle.v6_base.specs.declared.errno.Errno.{Errno}
 use Rattle.v6_base.specs.declared.errno.Errno.TheVariants.{ENOEXEC, ENOMEM, EACCES, ETXTBSY}
@@ -21,8 +23,8 @@ use Rattle.aout_head.specs.declared.parts.Plan.{Plan}
 use Rattle.seg_regs.specs.Sizes.{is_refused}
 use Rattle.sys_procs.specs.declared.procs.Procs.{Procs}
 use Rattle.sys_procs.specs.declared.program.Program.{Program}
-use Rattle.image_keep.specs.Kept.{Kept, Shared, shared, shared_clicks}
-use Rattle.image_keep.specs.SharedTexts.{AreLong, is_of_inode, found_text, row_in}
+use Rattle.image_keep.specs.Kept.{Kept, Shared, shared, shared_clicks, bytes_in}
+use Rattle.image_keep.specs.SharedTexts.{AreLong, AreShared, HasNoText, IsTextOf, is_of_inode, found_text, row_in}
 use Rattle.image_keep.proofs.TextSearch.{position_map}
 use Rattle.sys_procs.specs.Process.{Process}
 use Rattle.sys_procs.specs.TextTable.{Text, text_of, is_text_of, entry_of}
@@ -30,7 +32,7 @@ use Rattle.sys_procs.specs.World.{World, text_in, texts_in, with_inodes, let_go}
 use Rattle.sys_procs.specs.Stack.{arguments, stack_clicks}
 use Rattle.sys_procs.specs.Tests.{must, user_of, no_node, node_in}
 use Rattle.sys_procs.specs.Handed.{handed, process_here, memory_here}
-use Rattle.sys_procs.specs.ExecFile.{Tested, check, with_moved, entry_clicks, text_clicks_by, text_clicks_in, data_clicks}
+use Rattle.sys_procs.specs.ExecFile.{Tested, check, with_moved, clicks, entry_clicks, text_clicks_by, text_clicks_in, data_clicks, AreSized}
 use Rattle.sys_procs.specs.ExecFile.{unless_error, is_magic, or_no_memory, is_busy, header_read}
 use Rattle.sys_procs.specs.ExecFile.{tests_header, tests_file, tests}
 use Rattle.sys_procs.proofs.MemoryLemmas.{bytes_at}
@@ -61,26 +63,45 @@ found_clicks k ino t long found =
     sym (ap (λ o. option_map (λ e. length (text_of (texts_in k) e).bytes / 64) o) (entry_is k ino ∙ found)
     ∙ ap (λ n. Some n) (clicks_of (length (text_of (texts_in k) t).bytes) (row_in (shared k t)).clicks (text_long k t long)))
 
-pub found_long : (k : Kept) (ino t e : ℕ) → AreLong k → found_text k ino ≡ Some t → entry_of (texts_in k) ino ≡ Some e
-    → length (text_of (texts_in k) e).bytes ≡ 64 * (row_in (shared k t)).clicks
-found_long k ino t e long found there =
-    let same : e ≡ t = cc (sym there ∙ (entry_is k ino ∙ found)) in
-    ap (λ n. length (text_of (texts_in k) n).bytes) same ∙ text_long k t long
-
 pub no_clicks : (k : Kept) (ino : ℕ) → found_text k ino ≡ None → None ≡ entry_clicks (texts_in k) ino
 no_clicks k ino found = sym (ap (λ o. option_map (λ e. length (text_of (texts_in k) e).bytes / 64) o) (entry_is k ino ∙ found))
 
-pub no_entry : (k : Kept) (ino e : ℕ) → found_text k ino ≡ None → entry_of (texts_in k) ino ≡ Some e → ⊥
-no_entry k ino e found there = cc (sym there ∙ (entry_is k ino ∙ found))
+-- All texts of the file have these clicks: there is only that one.
+record IsAt (o : Option Shared) (text : Text) : Type 0 where
+  x : Shared
+  is : o ≡ Some x
+  told : text ≡ record { ino = x.row.ino; bytes = x.bytes; users = x.row.users }
 
--- The text that a program has in an entry is as long as the clicks say that are taken for it.
-pub long_by : (texts : List (Option Text)) (ino k : ℕ) (there : Option ℕ) (plan : Plan) → there ≡ entry_clicks texts ino
-    → entry_of texts ino ≡ Some k → IfSome there (λ clicks. length (text_of texts k).bytes ≡ 64 * clicks) → 0 < plan.text
-    → length (text_of texts k).bytes ≡ 64 * text_clicks_by there plan
-long_by texts ino k None plan is found long some =
-    absurd (let none = is ∙ ap (λ o. option_map (λ e. length (text_of texts e).bytes / 64) o) found in cc none)
-long_by texts ino k (Some clicks) plan is found long some =
-    long ∙ ap (λ (b : Bool). 64 * (if b then 0 else clicks)) (sym (ne_eqb plan.text 0 (λ e. omega (arith, e, some))))
+there_by : (o : Option Shared) (text : Text) → text_in o ≡ Some text → IsAt o text
+there_by None text e = absurd (cc e)
+there_by (Some x) text e = record { x = x; is = refl; told = sym (cc e) }
+
+text_at : (k : Kept) (e : ℕ) (text : Text) → slice_index_or (texts_in k) e None ≡ Some text → IsAt (shared k e) text
+text_at k e text at = there_by (shared k e) text (sym (get_or-map text_in k.texts e None) ∙ at)
+
+pub all_sized : (k : Kept) (ino t : ℕ) → AreShared k → AreLong k → IsTextOf k ino t
+    → AreSized (texts_in k) ino (row_in (shared k t)).clicks
+all_sized k ino t are long is = λ e text at named.
+    let there = text_at k e text at in
+    let same : e ≡ t =
+    are.apart e t there.x is.0 there.is is.1 (sym (ap (λ (y : Text). y.ino) there.told) ∙ (named ∙ sym is.2)) in
+    ap (λ (y : Text). length y.bytes) there.told ∙ (ap (λ o. length (bytes_in o)) (sym there.is)
+    ∙ (long e ∙ (ap (λ n. 64 * shared_clicks (shared k n)) same ∙ ap (λ n. 64 * n) (sym (row_clicks (shared k t))))))
+
+pub none_sized : (k : Kept) (ino size : ℕ) → HasNoText k ino → AreSized (texts_in k) ino size
+none_sized k ino size none = λ e text at named.
+    let there = text_at k e text at in
+    absurd (none e there.x there.is (sym (ap (λ (y : Text). y.ino) there.told) ∙ named))
+
+pub sized_by : (texts : List (Option Text)) (ino : ℕ) (there : Option ℕ) (plan : Plan)
+    → ((size : ℕ) → AreSized texts ino (unwrap_or there size)) → 0 < text_clicks_by there plan
+    → AreSized texts ino (text_clicks_by there plan)
+sized_by texts ino there plan sized = by (plan.text == 0)
+  where
+    by : (b : Bool) → 0 < (if b then 0 else unwrap_or there (clicks plan.text))
+        → AreSized texts ino (if b then 0 else unwrap_or there (clicks plan.text))
+    by true some = absurd (omega (arith, some))
+    by false some = sized (clicks plan.text)
 
 -- what the header comes to, where none of the refusals before it comes
 pub none_refuses : {A : Type 0} (error : Option Errno) (is_program is_busy : Bool) (rest : Result A Errno)

@@ -1,11 +1,9 @@
-use Rattle.std.proofs.Common.{◌∙◌, ◌<◌, IsSome, slice_index, refl, sym, ap, subst}
+use Rattle.std.proofs.Common.{◌∙◌, ◌<◌, slice_index, refl, sym, ap, subst}
 use Rattle.image_keep.specs.Growth.{most_clicks}
-use Rattle.fs_codec.specs.Store.{node_numbered}
 use Rattle.fs_tree.specs.Finding.{Inodes}
 use Rattle.sys_procs.specs.World.{World, texts_in}
-use Rattle.sys_procs.specs.TextTable.{entry_of}
 use Rattle.sys_procs.specs.Handed.{handed}
-use Rattle.sys_procs.specs.ExecFile.{Tested, text_clicks_in}
+use Rattle.sys_procs.specs.ExecFile.{Tested, AreSized}
 use Rattle.sys_procs.proofs.TestsLemmas.{header_tested}
 use Rattle.sys_procs.proofs.tested.test_header.Goals as goal
 
@@ -43,11 +41,8 @@ returns-in-Ok-clause-tested c =
     let is = c.in-Ok.ensures.ino in
     record {
       referenced = subst (λ i. 0 < slice_index c.args.tree.now.nodes.references i) (sym is) c.requires.referenced;
-      there = subst (λ i. IsSome (node_numbered c.args.tree.now.nodes.store i)) (sym is)
-          (c.see.ensures.used c.args.ino c.requires.referenced);
-      text = c.in-Ok.ensures.text ∙ ap (λ i. text_clicks_in (texts_in c.args.p.now.images) i c.in-Ok.program.plan) (sym is);
       sizes = c.in-Ok.ensures.fits;
       init = c.in-Ok.ensures.most;
-      shared = λ k some found.
-          c.in-Ok.ensures.shared k some (ap (λ i. entry_of (texts_in c.args.p.now.images) i) (sym is) ∙ found);
+      shared = subst (λ i. 0 < c.in-Ok.program.text_clicks
+          → AreSized (texts_in c.args.p.now.images) i c.in-Ok.program.text_clicks) (sym is) c.in-Ok.ensures.shared;
     }
