@@ -30,6 +30,8 @@ pub mod LoadData
 pub mod LoadLemmas
 pub mod LoadForms
 pub mod Bare
+pub mod TextMarks
+pub mod LeftText
 pub mod Retexted
 pub mod JoinedText
 pub mod MovedTexts

@@ -5,7 +5,7 @@ ghost use Rattle.fs_codec.specs.declared.modes.TheConstants.{ISVTX};
 ghost use Rattle.fs_nodes.specs.FileSystem.{SameRest};
 ghost use Rattle.pick_rules.specs.Apply.{change_row};
 ghost use Rattle.image_keep.specs.Kept.{text_of, shared};
-ghost use Rattle.image_keep.specs.SharedTexts.{found_text};
+ghost use Rattle.image_keep.specs.SharedTexts.{AreShared, row_in, found_text};
 ghost use Rattle.sys_procs.specs.Tests.{node_in};
 ghost use Rattle.sys_procs.specs.TextTable.{is_text_of, entry_of};
 ghost use Rattle.sys_procs.specs.Texts.{xfree, xalloc_by};
@@ -18,10 +18,11 @@ ghost use Rattle.sys_procs.specs.Done.{HasLeft};
 
 use crate::procs::Procs;
 use crate::program::Program;
+use crate::seen::see;
 use fs_codec::ISVTX;
 use fs_nodes::Nodes;
 use fs_tree::Tree;
-use image_keep::TextRefusal;
+use image_keep::{Images, TextRefusal};
 use pick_rules::Table;
 use text_tab::{Left, TextId};
 use v6_base::{Entry, PanicKind, Slot, Trace};
@@ -49,6 +50,22 @@ fn give_text(table: &mut Table, s: Slot, text: Option<TextId>)
     table.rows[s as usize].text = text;
 }
 
+/// Sees what holds of the texts that are kept.
+fn see_texts(images: &Images)
+    ensures shared { AreShared images.now }
+{
+    let _text = images.find_text(0);
+}
+
+/// The inode of the file of a text.
+fn inode_of(images: &Images, t: TextId) -> u16
+    requires { IsSome (shared images.now t) }
+    ensures inode { result ≡ (row_in (shared images.now t)).ino }
+    ensures number { result < 65536 }
+{
+    images.text_row(t).ino
+}
+
 /// A process leaves a text that it has, which goes with its last user, unless its file is sticky. The file of a text that
 /// goes can be written again.
 fn leave_entry<T: Trace>(p: &mut Procs, tree: &mut Tree, s: Slot, t: TextId, trace: &mut T)
@@ -64,7 +81,9 @@ fn leave_entry<T: Trace>(p: &mut Procs, tree: &mut Tree, s: Slot, t: TextId, tra
     ensures marks { IsMarked p.new tree.new.marks }
     ensures blocks { SameRest tree.old.nodes.blocks tree.new.nodes.blocks }
 {
-    let ino = p.images.text_row(t).ino;
+    see(p, s);
+    see_texts(&p.images);
+    let ino = inode_of(&p.images, t);
     let sticky = is_sticky(&tree.nodes, ino);
     give_text(&mut p.table, s, None);
     trace.entry(Entry::Leave {
