@@ -34,4 +34,5 @@ pub mod TextMarks
 pub mod LeftText
 pub mod Retexted
 pub mod JoinedText
+pub mod MadeText
 pub mod MovedTexts

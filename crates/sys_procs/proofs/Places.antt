@@ -115,8 +115,8 @@ module _ (v : Processes) (t : Table) (k : Kept) (s : ℕ) (a : AgreeBare v t k s
 
   core_at : (i : ℕ) → i < length t.rows → core_of_row (row_at t i) ≡ core_of (keeping k i)
   core_at i l = elim (cases_eq i 0) [
-    | inl zero ↦
-        ap (λ n. core_of_row (row_at t n)) zero ∙ (core_nothing (row_at t 0) (keeping k 0) a.kernel a.images ∙ sym (ap (λ n. core_of (keeping k n)) zero))
+    | inl first ↦
+        ap (λ n. core_of_row (row_at t n)) first ∙ (core_nothing (row_at t 0) (keeping k 0) a.kernel a.images ∙ sym (ap (λ n. core_of (keeping k n)) first))
     | inr up ↦ elim (cases_eq i s) [
       | inl here ↦
           ap (λ n. core_of_row (row_at t n)) here
@@ -131,8 +131,8 @@ module _ (v : Processes) (t : Table) (k : Kept) (s : ℕ) (a : AgreeBare v t k s
 
   swap_at : (i : ℕ) → i < length t.rows → swap_of_row (row_at t i) ≡ swap_of (keeping k i)
   swap_at i l = elim (cases_eq i 0) [
-    | inl zero ↦
-        ap (λ n. swap_of_row (row_at t n)) zero ∙ (swap_nothing (row_at t 0) (keeping k 0) a.kernel a.images ∙ sym (ap (λ n. swap_of (keeping k n)) zero))
+    | inl first ↦
+        ap (λ n. swap_of_row (row_at t n)) first ∙ (swap_nothing (row_at t 0) (keeping k 0) a.kernel a.images ∙ sym (ap (λ n. swap_of (keeping k n)) first))
     | inr up ↦ elim (cases_eq i s) [
       | inl here ↦
           ap (λ n. swap_of_row (row_at t n)) here

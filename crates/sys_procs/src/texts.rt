@@ -4,11 +4,11 @@ ghost use Rattle.v6_base.specs.Trace.{Took, Log};
 ghost use Rattle.fs_codec.specs.declared.modes.TheConstants.{ISVTX};
 ghost use Rattle.fs_nodes.specs.FileSystem.{SameRest};
 ghost use Rattle.pick_rules.specs.Apply.{change_row};
-ghost use Rattle.image_keep.specs.Kept.{text_of, shared};
+ghost use Rattle.image_keep.specs.Kept.{Shared, text_of, shared};
 ghost use Rattle.image_keep.specs.SharedTexts.{AreShared, row_in, found_text};
 ghost use Rattle.sys_procs.specs.Tests.{node_in};
 ghost use Rattle.sys_procs.specs.TextTable.{is_text_of, entry_of};
-ghost use Rattle.sys_procs.specs.Texts.{xfree, xalloc_by};
+ghost use Rattle.sys_procs.specs.Texts.{free_entry, xfree, xalloc_by};
 ghost use Rattle.sys_procs.specs.World.{World, texts_in};
 ghost use Rattle.sys_procs.specs.Comes.{nothing};
 ghost use Rattle.sys_procs.specs.ExecFile.{clicks, text_clicks};
@@ -172,12 +172,14 @@ fn make_text<T: Trace>(
         (xalloc_by (handed p.old tree.old.nodes) s ino clicks None (λ placed is_new. nothing placed))).stop None ≡ Err kind) }
     ensures made { IfOk result (λ t. ((came p.old
         (xalloc_by (handed p.old tree.old.nodes) s ino clicks None (λ placed is_new. nothing placed))).stop ≡ None)
-        × (text_of p.new.images s ≡ Some t)) }
+        × (t ≡ free_entry (texts_in p.old.images)) × (text_of p.new.images s ≡ Some t)) }
+    ensures out { IfOk result (λ t. (x : Shared) × (shared p.new.images t ≡ Some x) × (x.row.loaded ≡ 0) × (x.row.clicks ≡ clicks)) }
     ensures frame { T.leads_to trace.old trace.new }
     ensures bare { IsBare p.new s }
     ensures marks { IsMarked p.new tree.new.marks }
     ensures blocks { tree.new.nodes.blocks ≡ tree.old.nodes.blocks }
 {
+    let _place = p.images.place(s);
     match p.images.new_text(s, ino, clicks) {
         Ok(t) => {
             tree.mark_text(ino);
