@@ -24,11 +24,11 @@ use Rattle.image_keep.specs.declared.texts.TextRefusal.{TextRefusal}
 use Rattle.image_keep.specs.declared.texts.TextRefusal.TheVariants as refusal
 use Rattle.image_keep.specs.Kept.{Kept, Shared, shared, text_of, IsKept}
 use Rattle.image_keep.specs.Places.{swap_fit, blocks}
-use Rattle.image_keep.specs.SharedTexts.{zeros_text, with_new_text, found_text, free_text, making, with_made_text, row_in}
+use Rattle.image_keep.specs.SharedTexts.{zeros_text, with_new_text, is_of_inode, found_text, free_text, making, with_made_text, row_in}
 use Rattle.image_keep.proofs.TextSearch.{position_map}
 use Rattle.swap_sched.specs.Match.{text_place}
 use Rattle.sys_procs.specs.declared.procs.Procs.{Procs}
-use Rattle.sys_procs.specs.TextTable.{is_text_of, marks_of}
+use Rattle.sys_procs.specs.TextTable.{is_text_of, entry_of, marks_of}
 use Rattle.sys_procs.specs.Texts.{free_entry, with_entry, makes_text, xalloc_by}
 use Rattle.sys_procs.specs.Texts as texts_of
 use Rattle.sys_procs.specs.World.{World, text_in, texts_in}
@@ -39,7 +39,6 @@ use Rattle.sys_procs.specs.Done.{HasLeft}
 use Rattle.sys_procs.proofs.Dones.{left_logged}
 use Rattle.sys_procs.proofs.Places.{same_free, swap_bare}
 use Rattle.sys_procs.proofs.Retexted.{with_its_text, state, is_bare}
-use Rattle.sys_procs.proofs.TestsLemmas.{entry_is}
 use Rattle.sys_procs.proofs.TextMarks.{mark_at, marks_come}
 
 -- What a demand for a text leaves in the log, by the entry and by the blocks that are found.
@@ -90,6 +89,14 @@ refused_by b k s ino n w None fit r kind e full swap =
 refused_by b k s ino n w (Some j) None r kind e full swap =
     record { same = refl; log = refused_as b w panic.Swap kind (swap (let is : r ≡ refusal.NoSwap = cc e in is)) }
 refused_by b k s ino n w (Some j) (Some block) r kind e full swap = absurd (cc e)
+
+-- the text of an inode is found in the same entry in a call's words
+of_inode : (ino : ℕ) (o : Option Shared) → is_text_of ino (text_in o) ≡ is_of_inode ino o
+of_inode ino None = refl
+of_inode ino (Some x) = refl
+
+pub entry_is : (k : Kept) (ino : ℕ) → entry_of (texts_in k) ino ≡ found_text k ino
+entry_is k ino = position_map text_in (is_of_inode ino) (is_text_of ino) (of_inode ino) k.texts
 
 -- an inode that no text is of has no mark
 none_before : {X : Type 0} (p : X → Bool) (a : ℕ) (xs : List X) → position_from p a xs ≡ None → list_any p xs ≡ false
@@ -154,7 +161,7 @@ module _ (p : Procs) (s ino n : ℕ) (bare : IsBare p s) (all : IsKept p.images)
     unfolding with_new_text
     made_is = refl
 
-    images_made : with_made_text p.images s ino n (free_text p.images) (swap_fit p.images (blocks n)) ≡ images
+    pub images_made : with_made_text p.images s ino n (free_text p.images) (swap_fit p.images (blocks n)) ≡ images
     images_made = (λ i. with_made_text p.images s ino n (made.entry i) (made.blocks i)) ∙ made_is
 
     pub it_is : (rows : Table) (k : Kept) → rows ≡ change_row p.table s (with_its_text t)
