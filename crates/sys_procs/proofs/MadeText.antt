@@ -2,7 +2,7 @@
 use Rattle.std.proofs.Common.{◌≡◌, ◌≢◌, ◌∙◌, ◌<◌, ◌+◌, ◌||◌, ◌==◌, ℕ, Bool, true, false, cond, List, [], ◌∷◌, length, map, get_or, set, Option, Some, None, IsSome, is_none, Result, Ok, Err, refl, sym, ap, subst, arith}
 use Rattle.std.specs.Option.{unwrap_or}
 use Rattle.std.specs.List.{position, position_from, list_any}
-use Rattle.std.proofs.lemmas.Bool.{false≢true}
+use Rattle.std.proofs.lemmas.Bool.{false≢true, eq-eqb, ne_eqb}
 use Rattle.std.proofs.lemmas.List.{get_or-set_same, length-map, map-set}
 use Rattle.std.proofs.lemmas.List.Quantifiers.{position-Some}
 use Rattle.std.proofs.lemmas.Iterator.Adapters.{position_from-zero}
@@ -19,7 +19,7 @@ use Rattle.pick_rules.specs.Board as board_of_log
 use Rattle.pick_rules.specs.Apply.{applied, change_row}
 use Rattle.pick_rules.specs.Effects.{new_text_at}
 use Rattle.pick_rules.specs.Effects as effects
-use Rattle.pick_rules.specs.Logged.{Logged, logged, log_one, nothing_logged, with_what_came}
+use Rattle.pick_rules.specs.Logged.{Logged, Stop, logged, log_one, nothing_logged, with_what_came}
 use Rattle.image_keep.specs.declared.texts.TextRefusal.{TextRefusal}
 use Rattle.image_keep.specs.declared.texts.TextRefusal.TheVariants as refusal
 use Rattle.image_keep.specs.Kept.{Kept, Shared, shared, text_of, IsKept}
@@ -28,15 +28,16 @@ use Rattle.image_keep.specs.SharedTexts.{zeros_text, with_new_text, is_of_inode,
 use Rattle.image_keep.proofs.TextSearch.{position_map}
 use Rattle.swap_sched.specs.Match.{text_place}
 use Rattle.sys_procs.specs.declared.procs.Procs.{Procs}
-use Rattle.sys_procs.specs.TextTable.{is_text_of, entry_of, marks_of}
+use Rattle.sys_procs.specs.TextTable.{Text, is_text_of, entry_of, marks_of}
 use Rattle.sys_procs.specs.Texts.{free_entry, with_entry, makes_text, xalloc_by}
 use Rattle.sys_procs.specs.Texts as texts_of
 use Rattle.sys_procs.specs.World.{World, text_in, texts_in}
 use Rattle.sys_procs.specs.Comes.{Comes, nothing}
-use Rattle.sys_procs.specs.inside.Begun.{taken_by}
+use Rattle.sys_procs.specs.inside.Begun.{takes, new_if, new_entry, taken_by}
 use Rattle.sys_procs.specs.Handed.{IsBare, board, came, handed, process_here}
 use Rattle.sys_procs.specs.Done.{HasLeft}
 use Rattle.sys_procs.proofs.Dones.{left_logged}
+use Rattle.sys_procs.proofs.Tables.{logged_line}
 use Rattle.sys_procs.proofs.Places.{same_free, swap_bare}
 use Rattle.sys_procs.proofs.Retexted.{with_its_text, state, is_bare}
 use Rattle.sys_procs.proofs.TextMarks.{mark_at, marks_come}
@@ -237,3 +238,32 @@ module _ (p : Procs) (s ino n : ℕ) (bare : IsBare p s) (all : IsKept p.images)
         ap marks_of texts_now
         ∙ (marks_come (texts_in p.images) t (texts_of.new_text ino n) low_in (get_or-map text_in p.images.texts t None ∙ ap text_in free)
         ∙ ap (λ l. set l ino true) (sym are))
+
+-- What a process takes that has no image: none, or the text of an entry or a new one.
+abbrev pub takes_by : World → ℕ → ℕ → ℕ → Option ℕ → Comes
+takes_by w s ino size o = xalloc_by w s ino size o (λ placed is_new. nothing placed)
+
+pub takes_none : (w : World) (s ino size : ℕ) → size ≡ 0 → nothing w ≡ takes w s ino size
+takes_none w s ino size e = sym (ap (λ b. cond b (nothing w) (takes_by w s ino size (entry_of w.texts ino))) (eq-eqb size 0 e))
+
+pub takes_as : (w : World) (s ino size : ℕ) (o : Option ℕ) → size ≢ 0 → entry_of w.texts ino ≡ o → takes_by w s ino size o ≡ takes w s ino size
+takes_as w s ino size o some e =
+    ap (takes_by w s ino size) (sym e) ∙ sym (ap (λ b. cond b (nothing w) (takes_by w s ino size (entry_of w.texts ino))) (ne_eqb size 0 some))
+
+pub new_as : (texts : List (Option Text)) (ino size : ℕ) (o : Option ℕ) → size ≢ 0 → entry_of texts ino ≡ o → new_if texts o ≡ new_entry texts ino size
+new_as texts ino size o some e = ap (new_if texts) (sym e) ∙ sym (ap (λ b. cond b None (new_if texts (entry_of texts ino))) (ne_eqb size 0 some))
+
+-- the answer, by the row
+pub answer_as : (p : Procs) (c d : Comes) (a b : Option ℕ) → c ≡ d → a ≡ b → taken_by (came p c).stop a ≡ taken_by (came p d).stop b
+answer_as p c d a b e f = λ i. taken_by (came p (e i)).stop (f i)
+
+pub same_panic : (o : Option (Stop World)) (a b : Option ℕ) (kind : PanicKind) → taken_by o a ≡ Err kind → Err kind ≡ taken_by o b
+same_panic None a b kind e = absurd (cc e)
+same_panic (Some stop) a b kind e = sym e
+
+pub left_as : {old new : Procs} {fs : FileSystem} {start end : Taken} {c d : Comes} → c ≡ d → HasLeft old new fs start end c → HasLeft old new fs start end d
+left_as {old} {new} {fs} {start} {end} e left = let P : Comes → Type 0 = λ x. HasLeft old new fs start end x in subst P e left
+
+-- sharing a text stops nowhere
+pub shares_on : (p : Procs) (w : World) (s ino size t : ℕ) → (came p (takes_by w s ino size (Some t))).stop ≡ None
+shares_on p w s ino size t = ap (λ (l : Logged World). l.stop) (logged_line (board p) (line.Share s t))

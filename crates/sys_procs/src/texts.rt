@@ -217,6 +217,8 @@ pub(crate) fn take_text<T: Trace>(
         (came p.old (takes (handed p.old tree.old.nodes) s program.now.ino program.now.text_clicks)).stop
         (new_entry (texts_in p.old.images) program.now.ino program.now.text_clicks) }
     ensures new { IfOk result (λ new. IfSome new (λ t. text_of p.new.images s ≡ Some t)) }
+    ensures out { IfOk result (λ new. IfSome new (λ t.
+        (x : Shared) × (shared p.new.images t ≡ Some x) × (x.row.loaded ≡ 0) × (x.row.clicks ≡ program.now.text_clicks))) }
     ensures frame { T.leads_to trace.old trace.new }
     ensures bare { IsBare p.new s }
     ensures marks { IsMarked p.new tree.new.marks }
