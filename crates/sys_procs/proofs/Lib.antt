@@ -33,6 +33,9 @@ pub mod FilledText
 pub mod KeptOwner
 pub mod Following
 pub mod Bare
+pub mod TextMarks
+pub mod LeftText
 pub mod Retexted
 pub mod JoinedText
+pub mod MadeText
 pub mod MovedTexts
