@@ -54,13 +54,17 @@ gained_same node Dbl = record { uid = refl; gid = refl; sets_uid = refl; sets_gi
 
 take_same : (base : Node) (names : List BlockName) (node : Node) (room : ℕ) → SameOwner base node → SameOwner base (take_names names node room).node
 take_same base [] node room h = h
-take_same base (name ∷ names) node room h = by (holds node name) (room == 0)
+take_same base (name ∷ names) node room h =
+    by (holds node name) (room == 0) (take_same base names node room h)
+    (take_same base names (gained node name) (room - 1) (then_same base node (gained node name) h (gained_same node name)))
   where
-    by : (held full : Bool) → SameOwner base (if held then take_names names node room else
+    by : (held full : Bool) → SameOwner base (take_names names node room).node
+        → SameOwner base (take_names names (gained node name) (room - 1)).node
+        → SameOwner base (if held then take_names names node room else
         (if full then record { node = node; room = room; is_done = false } else take_names names (gained node name) (room - 1))).node
-    by true full = take_same base names node room h
-    by false true = h
-    by false false = take_same base names (gained node name) (room - 1) (then_same base node (gained node name) h (gained_same node name))
+    by true full one two = one
+    by false true one two = h
+    by false false one two = two
 
 module _ {Memory : Type 0} (put : Memory → ℕ → List ℕ → Option Memory) (base : Node) where
   going_same : (o : Option Memory) (next : Memory → Moving Memory) (end : Moving Memory) → SameOwner base end.node
