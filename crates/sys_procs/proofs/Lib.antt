@@ -29,6 +29,9 @@ pub mod TestsLemmas
 pub mod LoadData
 pub mod LoadLemmas
 pub mod LoadForms
+pub mod FilledText
+pub mod KeptOwner
+pub mod Following
 pub mod Bare
 pub mod TextMarks
 pub mod LeftText

@@ -227,15 +227,24 @@ module _ (p : Procs) (s t d : ℕ) (bare : IsBare p s) (all : IsKept p.images) w
     time_stays = ap (λ (c : Clock). c.time) (clock_told p.table s (placed_row (16 + d + 20) place (row_at p.table s)) place)
 
     -- a text that isn't in core stays as it is
-    pub out_stays : (x : Shared) (k : ℕ) → text_of p.images s ≡ Some k → shared p.images k ≡ Some x → x.row.loaded ≡ 0 → shared images k ≡ Some x
-    out_stays x k mine is none = ap (λ l. get_or l k None) same ∙ is
+    pub out_stays : (k : ℕ) (x : Shared) → shared p.images k ≡ Some x → x.row.loaded ≡ 0 → shared images k ≡ Some x
+    out_stays k x is none = by (text_of p.images s) refl
       where
-        swap_place : (to : Place) → place ≡ to → texts_moved p.images.texts (Some k) to ≡ p.images.texts
-        swap_place (Core c) e = absurd (let some = some_loaded x.row.loaded (sym (ap is_text_loaded is) ∙ text_loaded p.images s (16 + d + 20) c k (fit ∙ ap (λ y. Some y) e) mine) in omega (arith, some, none))
-        swap_place (Swap block) e = same_texts p.images.texts k
+        same : (to : Place) → place ≡ to → text_of p.images s ≡ Some k → texts_moved p.images.texts (Some k) to ≡ p.images.texts
+        same (Core c) e mine = absurd (
+            let loaded : is_text_loaded (Some x) ≡ true = ap is_text_loaded (sym is) ∙ text_loaded p.images s (16 + d + 20) c k (fit ∙ ap (λ y. Some y) e) mine in
+            let some = some_loaded x.row.loaded loaded in
+            omega (arith, some, none))
+        same (Swap block) e mine = same_texts p.images.texts k
 
-        same : texts_moved p.images.texts (text_of p.images s) place ≡ p.images.texts
-        same = ap (λ o. texts_moved p.images.texts o place) mine ∙ swap_place place refl
+        by : (o : Option ℕ) → text_of p.images s ≡ o → get_or (texts_moved p.images.texts o place) k None ≡ Some x
+        by None e = is
+        by (Some j) e = elim (cases_eq k j) [
+          | inl here ↦
+              ap (λ n. get_or (texts_moved p.images.texts (Some n) place) k None) (sym here)
+              ∙ (ap (λ l. get_or l k None) (same place refl (e ∙ ap (λ n. Some n) (sym here))) ∙ is)
+          | inr other ↦ get_or-set_other p.images.texts j k (changed (moved_row None place) (get_or p.images.texts j None)) None other ∙ is
+        ]
 
     -- what agrees
     abbrev row : TableRow

@@ -32,10 +32,10 @@ returns-in-Ok-clause-image g c =
     ∙ ap (λ o. made_image (text_bytes c.args.p.now.images o) c.args.d 20)
     (c.requires.bare.agree.text c.args.s c.requires.bare.above c.requires.bare.below))
 
-pub returns-in-Ok-clause-out : goal.returns-in-Ok-clause-out
-returns-in-Ok-clause-out g c = λ x k mine is none.
+pub returns-in-Ok-clause-stays : goal.returns-in-Ok-clause-stays
+returns-in-Ok-clause-stays g c = λ k x is none.
     ap (λ (q : Procs). shared q.images k) (it_now g c)
-    ∙ out_stays c.args.p.now c.args.s c.args.t c.args.d c.requires.bare c.place-place.ensures.holds c.in-Ok.place (text g c) c.in-Ok.ensures.place x k mine is none
+    ∙ out_stays c.args.p.now c.args.s c.args.t c.args.d c.requires.bare c.place-place.ensures.holds c.in-Ok.place (text g c) c.in-Ok.ensures.place k x is none
 
 pub returns-in-Ok-clause-time : goal.returns-in-Ok-clause-time
 returns-in-Ok-clause-time g c =
