@@ -32,6 +32,8 @@ pub mod FilledText
 pub mod KeptOwner
 pub mod Following
 pub mod LoadForms
+pub mod TakenText
+pub mod BegunProgram
 pub mod Bare
 pub mod TextMarks
 pub mod LeftText

@@ -14,7 +14,7 @@ ghost use Rattle.sys_procs.specs.inside.Begun.{fills, begins_in, user_in, group_
 ghost use Rattle.sys_procs.specs.Handed.{AreProcs, AreBare, Calls, IsAlive, IsBare, IsMarked, board, handed, process_here, memory_here};
 ghost use Rattle.sys_procs.specs.Done.{HasDone};
 
-use crate::inodes::let_go;
+use crate::inodes::{let_go, see as see_nodes};
 use crate::placing::{STACK, leave_place, place_image};
 use crate::procs::Procs;
 use crate::program::Program;
@@ -331,6 +331,7 @@ fn begin_program<T: Trace>(
     ensures marks { IsMarked p.new tree.new.marks }
     ensures blocks { SameRest tree.old.nodes.blocks tree.new.nodes.blocks }
 {
+    see_nodes(&tree.nodes);
     let new = take_text(p, tree, s, program, trace)?;
     see_texts(&p.images);
     place_image(
