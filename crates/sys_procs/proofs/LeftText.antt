@@ -221,7 +221,8 @@ pub record Shares (p : Procs) (s t : ℕ) : Type 0 where
   pub texts : AreShared p.images
   pub images : IsKept p.images
 
-pub shares : {p : Procs} {s t : ℕ} → IsAlive p s → text_of p.images s ≡ Some t → AreShared p.images → IsKept p.images → Shares p s t
+pub shares : {p : Procs} {s t : ℕ} → IsAlive p s → text_of p.images s ≡ Some t → AreShared p.images → IsKept p.images
+    → Shares p s t
 shares {p} {s} {t} alive text texts images = record { alive = alive; text = text; texts = texts; images = images }
 
 module _ {p : Procs} {s t : ℕ} (sticky : Bool) (h : Shares p s t) where
