@@ -33,3 +33,4 @@ pub mod Bare
 pub mod Retexted
 pub mod JoinedText
 pub mod MovedTexts
+pub mod GrownTexts

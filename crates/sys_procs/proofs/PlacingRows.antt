@@ -58,10 +58,6 @@ text_left t s f low none =
     ap (λ (row : TableRow). row.text) (get_or-set_same t.rows s (f (row_at t s)) empty_row low) ∙ none
 
 -- a row whose place has gone takes another
-over_out : (n : ℕ) (place : Place) (row : TableRow) → placed_row n place (record row { place = None }) ≡ placed_row n place row
-over_out n (Core c) row = refl
-over_out n (Swap block) row = refl
-
 over_bared : (n : ℕ) (place : Place) (row : TableRow) → placed_row n place (bared_row row) ≡ placed_row n place row
 over_bared n (Core c) row = refl
 over_bared n (Swap block) row = refl
@@ -77,16 +73,6 @@ placed_after t s n (Swap block) f low same =
 pub placed_bare : (t : Table) (s n : ℕ) (place : Place) → s < length t.rows
     → with_place (change_row t s bared_row) s n place ≡ with_place t s n place
 placed_bare t s n place low = placed_after t s n place bared_row low (over_bared n place (row_at t s))
-
-pub board_grown : (b : Board) (s n : ℕ) (place : Place) → s < length b.table.rows → (row_at b.table s).text ≡ None
-    → applied b (line.Size s n place) ≡ in_table b (λ t. with_place t s n place)
-unfolding applied
-board_grown b s n place low none =
-    let out : TableRow → TableRow = λ row. record row { place = None } in
-    let left : Board = in_table b (λ t. change_row t s out) in
-    ap (λ (x : Board). at_place x s n place) (without b s none)
-    ∙ (board_at left s n place (text_left b.table s out low none)
-    ∙ ap (λ (t : Table). record b { table = t }) (placed_after b.table s n place out low (over_out n place (row_at b.table s))))
 
 -- an image that doesn't grow stays where it is
 abbrev pub sized_row : ℕ → TableRow → TableRow
