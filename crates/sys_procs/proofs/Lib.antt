@@ -34,3 +34,4 @@ pub mod Retexted
 pub mod JoinedText
 pub mod MovedTexts
 pub mod GrownTexts
+pub mod Referred
