@@ -35,3 +35,4 @@ pub mod JoinedText
 pub mod MovedTexts
 pub mod GrownTexts
 pub mod Referred
+pub mod Following

@@ -16,7 +16,7 @@ use Rattle.sys_procs.proofs.Alive.{calls_alive, area_here}
 -- those of the texts are among them, and that of the directory is one more
 texts_among : (b : Bool) (n most : ℕ) → cond b 1 0 + n ≤ most → n ≤ most
 texts_among true n most h = omega (arith, h)
-texts_among false n most h = h
+texts_among false n most h = omega (arith, h)
 
 pub texts_referred : (p : Procs) (fs : FileSystem) (s : ℕ) → Calls p fs s → (ino : ℕ) → count_by (is_text_of ino) (texts_in p.images) ≤ slice_index fs.references ino
 texts_referred p fs s calls ino =
