@@ -76,7 +76,7 @@ abbrev fewer_of : Bool → List (Option TextPlace) → Option ℕ → List (Opti
 fewer_of here texts None = texts
 fewer_of here texts (Some u) = fewer_if here texts u
 
-abbrev more_of : Place → List (Option TextPlace) → Option ℕ → List (Option TextPlace)
+abbrev pub more_of : Place → List (Option TextPlace) → Option ℕ → List (Option TextPlace)
 more_of to texts None = texts
 more_of to texts (Some u) = more_at to texts u
 
@@ -101,7 +101,7 @@ texts_out b s here e =
     by false None = refl
     by false (Some u) = refl
 
-texts_at : (b : Board) (s n : ℕ) (to : Place) → (at_place b s n to).texts ≡ more_of to b.texts (row_at b.table s).text
+pub texts_at : (b : Board) (s n : ℕ) (to : Place) → (at_place b s n to).texts ≡ more_of to b.texts (row_at b.table s).text
 texts_at b s n (Swap block) = by (row_at b.table s).text
   where
     by : (o : Option ℕ) → b.texts ≡ more_of (Swap block) b.texts o
@@ -148,7 +148,7 @@ pub may_stand : (k : Kept) (s n c : ℕ) → placed k s n ≡ Some (Core c) → 
 unfolding placed
 may_stand k s n c e = stands_by (may_load k (kept.text_of k s)) (core_fit k n) (swap_fit k (blocks n)) c e
 
-stands_at : (k : Kept) (s n : ℕ) (to : Place) → placed k s n ≡ Some to → is_core to ≡ true → may_load k (kept.text_of k s) ≡ true
+pub stands_at : (k : Kept) (s n : ℕ) (to : Place) → placed k s n ≡ Some to → is_core to ≡ true → may_load k (kept.text_of k s) ≡ true
 stands_at k s n (Core c) e core = may_stand k s n c e
 stands_at k s n (Swap block) e core = absurd (cc core)
 

@@ -36,3 +36,4 @@ pub mod MovedTexts
 pub mod GrownTexts
 pub mod Referred
 pub mod Following
+pub mod ForkedTexts

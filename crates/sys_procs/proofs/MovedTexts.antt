@@ -34,7 +34,7 @@ same_texts texts u = ap (set texts u) (by (get_or texts u None)) ∙ set-get_or 
     by (Some x) = refl
 
 -- A text that is in core has a user there.
-has_loaded : (o : Option Shared) → is_text_loaded o ≡ true → (x : Shared) × (o ≡ Some x) × (0 < x.row.loaded)
+pub has_loaded : (o : Option Shared) → is_text_loaded o ≡ true → (x : Shared) × (o ≡ Some x) × (0 < x.row.loaded)
 has_loaded None e = absurd (cc e)
 has_loaded (Some x) e = (x, refl, let some = eqb-false x.row.loaded 0 (not-true (x.row.loaded == 0) e) in omega (arith, some))
 
