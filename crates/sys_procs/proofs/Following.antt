@@ -23,12 +23,14 @@ module _ {W : Type 0} where
   abbrev pub behind : List Item → Logged W → Logged W
   behind items l = record l { items = items ++ l.items }
 
-  what_came_behind : (items : List Item) (l : Logged W) (c : Came W) → with_what_came (behind items l) c ≡ behind items (with_what_came l c)
+  what_came_behind : (items : List Item) (l : Logged W) (c : Came W)
+      → with_what_came (behind items l) c ≡ behind items (with_what_came l c)
   what_came_behind items l (Lets item) = ap (λ i. record (with_what_came l (Lets item)) { items = i }) (append_assoc items l.items (item ∷ []))
   what_came_behind items l (Stops kind before) =
       ap (λ i. record (with_what_came l (Stops kind before)) { items = i }) (append_assoc items l.items (Log (line.Panic kind) ∷ []))
 
-  unless_behind : (items : List Item) (o : Option (Stop W)) (l next : Logged W) → unless_stopped o (behind items l) (behind items next) ≡ behind items (unless_stopped o l next)
+  unless_behind : (items : List Item) (o : Option (Stop W)) (l next : Logged W)
+      → unless_stopped o (behind items l) (behind items next) ≡ behind items (unless_stopped o l next)
   unless_behind items None l next = refl
   unless_behind items (Some stop) l next = refl
 
@@ -38,11 +40,13 @@ module _ {W : Type 0} where
       ap (unless_stopped l.stop (behind items l)) (what_came_behind items l (came l.board e))
       ∙ unless_behind items l.stop l (with_what_came l (came l.board e))
 
-  all_behind : (items : List Item) (es : List (Effect W)) (l : Logged W) → fold log_one (behind items l) es ≡ behind items (fold log_one l es)
+  all_behind : (items : List Item) (es : List (Effect W)) (l : Logged W)
+      → fold log_one (behind items l) es ≡ behind items (fold log_one l es)
   all_behind items [] l = refl
   all_behind items (e ∷ es) l = ap (λ x. fold log_one x es) (one_behind items l e) ∙ all_behind items es (log_one l e)
 
-  from_none : (l : Logged W) (o : Option (Stop W)) → l.stop ≡ o → o ≡ None → l ≡ behind l.items (record { items = []; board = l.board; stop = None })
+  from_none : (l : Logged W) (o : Option (Stop W)) → l.stop ≡ o → o ≡ None
+      → l ≡ behind l.items (record { items = []; board = l.board; stop = None })
   from_none l o e f = λ i. record { items = sym (append-nil l.items) i; board = l.board; stop = (e ∙ f) i }
 
   -- the log of effects after others that don't stop
@@ -56,7 +60,8 @@ module _ {W : Type 0} where
 
 -- Who has left its text, if it has one, has logged a line, and goes on from there.
 module _ (w : World) (s : ℕ) (next : World → Comes) where
-  left_effects : (o : Option ℕ) → (xfree w s o next).effects ≡ (xfree w s o nothing).effects ++ (next (xfree w s o nothing).state).effects
+  left_effects : (o : Option ℕ)
+      → (xfree w s o next).effects ≡ (xfree w s o nothing).effects ++ (next (xfree w s o nothing).state).effects
   left_effects None = refl
   left_effects (Some k) = refl
 
@@ -77,9 +82,12 @@ module _ {p q r : Procs} {fs gs : FileSystem} {result : Result (Unit {0}) PanicK
     (next : World → Comes) (left : HasLeft p q fs start mid (xfree w s o nothing))
     (rest : HasEnded q r gs result mid end (next (parts.handed q fs))) where
   is_left : parts.handed q fs ≡ (xfree w s o nothing).state
-  is_left = left.state ∙ ap (λ (x : Option (Stop World)). left_by x (xfree w s o nothing).state) (left_goes w s next (parts.board p) o)
+  is_left =
+      left.state
+      ∙ ap (λ (x : Option (Stop World)). left_by x (xfree w s o nothing).state) (left_goes w s next (parts.board p) o)
 
-  both : parts.came p (xfree w s o next) ≡ behind (parts.came p (xfree w s o nothing)).items (parts.came q (next (parts.handed q fs)))
+  both : parts.came p (xfree w s o next)
+      ≡ behind (parts.came p (xfree w s o nothing)).items (parts.came q (next (parts.handed q fs)))
   both =
       ap (logged (parts.board p)) (left_effects w s next o)
       ∙ logged_behind (parts.board p) (xfree w s o nothing).effects (next (xfree w s o nothing).state).effects (left_goes w s next (parts.board p) o)

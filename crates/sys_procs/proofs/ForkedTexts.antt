@@ -44,7 +44,8 @@ one_text place None = refl
 one_text (Core click) (Some x) = refl
 one_text (Swap block) (Some x) = refl
 
-pub forked_handed : (ts : List (Option Shared)) (o : Option ℕ) (place : Place) → map text_in (texts_forked ts o place) ≡ texts.joined_by_child (map text_in ts) o
+pub forked_handed : (ts : List (Option Shared)) (o : Option ℕ) (place : Place)
+    → map text_in (texts_forked ts o place) ≡ texts.joined_by_child (map text_in ts) o
 forked_handed ts None place = refl
 forked_handed ts (Some u) place =
     map-set text_in ts u (kept.changed (forked_row place) (get_or ts u None))
@@ -77,7 +78,8 @@ module _ (b : Board) (s child : ℕ) (low : child < length b.table.rows) where
   same_table : joined.table ≡ born.table
   same_table = text_table born (row_at b.table s).text one_user
 
-  pub forked_table : (place : Place) → (applied b (line.Fork s child place)).table ≡ with_image_row b.table child (row_of_child b.table s place) place
+  pub forked_table : (place : Place)
+      → (applied b (line.Fork s child place)).table ≡ with_image_row b.table child (row_of_child b.table s place) place
   unfolding applied
   forked_table (Core click) =
       let n : ℕ = (row_at b.table s).size in
@@ -91,7 +93,9 @@ module _ (b : Board) (s child : ℕ) (low : child < length b.table.rows) where
 
   pub forked_core : (place : Place) → (applied b (line.Fork s child place)).core ≡ b.core
   unfolding applied
-  forked_core (Core click) = core_core joined child (row_at b.table s).size click ∙ text_core born (row_at b.table s).text one_user
+  forked_core (Core click) =
+      core_core joined child (row_at b.table s).size click
+      ∙ text_core born (row_at b.table s).text one_user
   forked_core (Swap block) = text_core born (row_at b.table s).text one_user
 
   child_text : (row_at joined.table child).text ≡ (row_at b.table s).text
@@ -99,19 +103,23 @@ module _ (b : Board) (s child : ℕ) (low : child < length b.table.rows) where
       ap (λ (t : Table). (row_at t child).text) same_table
       ∙ ap (λ (row : TableRow). row.text) (get_or-set_same b.table.rows child (child_row (row_at b.table s)) empty_row low)
 
-  forked_texts_by : (place : Place) → (applied b (line.Fork s child place)).texts ≡ more_of place (joined_of b.texts (row_at b.table s).text) (row_at b.table s).text
+  forked_texts_by : (place : Place) → (applied b (line.Fork s child place)).texts
+      ≡ more_of place (joined_of b.texts (row_at b.table s).text) (row_at b.table s).text
   unfolding applied
   forked_texts_by place =
       texts_at joined child (row_at b.table s).size place
       ∙ ap (more_of place joined.texts) child_text
       ∙ ap (λ texts. more_of place texts (row_at b.table s).text) (joined_texts born (row_at b.table s).text)
 
-same_place : (x : Option Shared) (block : ℕ) → text_place (kept.changed (forked_row (Swap block)) x) ≡ changed (text_place x) one_user
+same_place : (x : Option Shared) (block : ℕ)
+    → text_place (kept.changed (forked_row (Swap block)) x) ≡ changed (text_place x) one_user
 same_place None block = refl
 same_place (Some x) block = refl
 
-forked_at_text : (texts : List (Option Shared)) (u : ℕ) (place : Place) → (is_core place ≡ true → is_text_loaded (get_or texts u None) ≡ true)
-    → more_at place (joined_of (map text_place texts) (Some u)) u ≡ map text_place (set texts u (kept.changed (forked_row place) (get_or texts u None)))
+forked_at_text : (texts : List (Option Shared)) (u : ℕ) (place : Place)
+    → (is_core place ≡ true → is_text_loaded (get_or texts u None) ≡ true)
+    → more_at place (joined_of (map text_place texts) (Some u)) u
+    ≡ map text_place (set texts u (kept.changed (forked_row place) (get_or texts u None)))
 forked_at_text texts u (Swap block) loaded =
     sym (map-set text_place texts u (kept.changed (forked_row (Swap block)) (get_or texts u None))
     ∙ ap (set (map text_place texts) u) (same_place (get_or texts u None) block ∙ ap (λ o. changed o one_user) (sym (text_at_map texts u))))
@@ -135,7 +143,8 @@ by_text k None place may = refl
 by_text k (Some u) place may = forked_at_text k.texts u place may
 
 -- the same texts by the board and by what is kept
-pub forked_places : (b : Board) (k : Kept) (s child n : ℕ) (place : Place) → child < length b.table.rows → b.texts ≡ map text_place k.texts
+pub forked_places : (b : Board) (k : Kept) (s child n : ℕ) (place : Place) → child < length b.table.rows
+    → b.texts ≡ map text_place k.texts
     → (row_at b.table s).text ≡ text_of k s → placed k s n ≡ Some place
     → (applied b (line.Fork s child place)).texts ≡ map text_place (texts_forked k.texts (text_of k s) place)
 forked_places b k s child n place low texts text found =

@@ -64,7 +64,8 @@ same_text (Core f) (Swap b) (Some x) = refl
 same_text (Swap a) (Core c) (Some x) = refl
 same_text (Swap a) (Swap b) (Some x) = refl
 
-pub texts_handed : (texts : List (Option Shared)) (o : Option ℕ) (from to : Place) → map text_in (texts_moved texts o (Some from) to) ≡ map text_in texts
+pub texts_handed : (texts : List (Option Shared)) (o : Option ℕ) (from to : Place)
+    → map text_in (texts_moved texts o (Some from) to) ≡ map text_in texts
 texts_handed texts None from to = refl
 texts_handed texts (Some u) from to =
     map-set text_in texts u (changed (moved_row (Some from) to) (get_or texts u None))
@@ -89,13 +90,15 @@ loaded_by t s from above at =
     ap (λ b. b || is_in_core (row_at t s).place) (ne_eqb s 0 (λ e. omega (arith, e, above)))
     ∙ (ap is_in_core at ∙ in_core from)
 
-texts_out : (b : Board) (s : ℕ) (here : Bool) → is_loaded b.table s ≡ here → (without_place b s).texts ≡ fewer_of here b.texts (row_at b.table s).text
+texts_out : (b : Board) (s : ℕ) (here : Bool) → is_loaded b.table s ≡ here
+    → (without_place b s).texts ≡ fewer_of here b.texts (row_at b.table s).text
 texts_out b s here e =
     ap (λ x. (in_table (cond x (leaves_core b (row_at b.table s).text) b) (λ t. change_row t s (λ row. record row { place = None }))).texts) e
     ∙ by here (row_at b.table s).text
   where
     by : (here : Bool) (o : Option ℕ)
-        → (in_table (cond here (leaves_core b o) b) (λ t. change_row t s (λ row. record row { place = None }))).texts ≡ fewer_of here b.texts o
+        → (in_table (cond here (leaves_core b o) b) (λ t. change_row t s (λ row. record row { place = None }))).texts
+        ≡ fewer_of here b.texts o
     by true None = refl
     by true (Some u) = refl
     by false None = refl
@@ -120,7 +123,8 @@ text_out b s low =
     ∙ ap (λ (row : TableRow). row.text) (get_or-set_same b.table.rows s (record (row_at b.table s) { place = None }) empty_row low)
 
 -- the parts of a board on which an image has grown to a place
-pub grown_table : (b : Board) (s n : ℕ) (to : Place) → s < length b.table.rows → (applied b (line.Size s n to)).table ≡ with_place b.table s n to
+pub grown_table : (b : Board) (s n : ℕ) (to : Place) → s < length b.table.rows
+    → (applied b (line.Size s n to)).table ≡ with_place b.table s n to
 unfolding applied
 grown_table b s n (Core click) low = moved_in b s n click low
 grown_table b s n (Swap block) low = moved_out b s n block low
@@ -130,7 +134,8 @@ unfolding applied
 grown_core b s n to = moved_core b s n to
 
 grown_texts : (b : Board) (s n : ℕ) (from to : Place) → 0 < s → s < length b.table.rows → (row_at b.table s).place ≡ Some from
-    → (applied b (line.Size s n to)).texts ≡ more_of to (fewer_of (is_core from) b.texts (row_at b.table s).text) (row_at b.table s).text
+    → (applied b (line.Size s n to)).texts
+    ≡ more_of to (fewer_of (is_core from) b.texts (row_at b.table s).text) (row_at b.table s).text
 unfolding applied
 grown_texts b s n from to above low at =
     texts_at (without_place b s) s n to
@@ -148,7 +153,8 @@ pub may_stand : (k : Kept) (s n c : ℕ) → placed k s n ≡ Some (Core c) → 
 unfolding placed
 may_stand k s n c e = stands_by (may_load k (kept.text_of k s)) (core_fit k n) (swap_fit k (blocks n)) c e
 
-pub stands_at : (k : Kept) (s n : ℕ) (to : Place) → placed k s n ≡ Some to → is_core to ≡ true → may_load k (kept.text_of k s) ≡ true
+pub stands_at : (k : Kept) (s n : ℕ) (to : Place) → placed k s n ≡ Some to → is_core to ≡ true
+    → may_load k (kept.text_of k s) ≡ true
 stands_at k s n (Core c) e core = may_stand k s n c e
 stands_at k s n (Swap block) e core = absurd (cc core)
 
@@ -158,7 +164,8 @@ by_text k None from to may = refl
 by_text k (Some u) from to may = moved_texts_board k.texts u from to may
 
 -- the same texts by the board and by what is kept
-pub grown_places : (b : Board) (k : Kept) (s n : ℕ) (from to : Place) → 0 < s → s < length b.table.rows → b.texts ≡ map text_place k.texts
+pub grown_places : (b : Board) (k : Kept) (s n : ℕ) (from to : Place) → 0 < s → s < length b.table.rows
+    → b.texts ≡ map text_place k.texts
     → (row_at b.table s).place ≡ Some from → (row_at b.table s).text ≡ kept.text_of k s → placed k s n ≡ Some to
     → (applied b (line.Size s n to)).texts ≡ map text_place (texts_moved k.texts (kept.text_of k s) (Some from) to)
 grown_places b k s n from to above low texts at text found =

@@ -39,7 +39,8 @@ has_loaded None e = absurd (cc e)
 has_loaded (Some x) e = (x, refl, let some = eqb-false x.row.loaded 0 (not-true (x.row.loaded == 0) e) in omega (arith, some))
 
 -- The counts of a text, which is in core where the image goes there.
-pub moved_texts_board : (texts : List (Option Shared)) (u : ℕ) (from to : Place) → (is_core to ≡ true → is_text_loaded (get_or texts u None) ≡ true)
+pub moved_texts_board : (texts : List (Option Shared)) (u : ℕ) (from to : Place)
+    → (is_core to ≡ true → is_text_loaded (get_or texts u None) ≡ true)
     → more_at to (fewer_if (is_core from) (map text_place texts) u) u
     ≡ map text_place (set texts u (kept.changed (moved_row (Some from) to) (get_or texts u None)))
 moved_texts_board texts u (Core f) (Core c) loaded =

@@ -18,7 +18,8 @@ texts_among : (b : Bool) (n most : ℕ) → cond b 1 0 + n ≤ most → n ≤ mo
 texts_among true n most h = omega (arith, h)
 texts_among false n most h = omega (arith, h)
 
-pub texts_referred : (p : Procs) (fs : FileSystem) (s : ℕ) → Calls p fs s → (ino : ℕ) → count_by (is_text_of ino) (texts_in p.images) ≤ slice_index fs.references ino
+pub texts_referred : (p : Procs) (fs : FileSystem) (s : ℕ) → Calls p fs s → (ino : ℕ)
+    → count_by (is_text_of ino) (texts_in p.images) ≤ slice_index fs.references ino
 texts_referred p fs s calls ino =
     texts_among ((area_of p.images s).dir == ino) (count_by (is_text_of ino) (texts_in p.images)) (slice_index fs.references ino) (calls.referred ino)
 
@@ -34,15 +35,16 @@ dir_referred p fs s calls =
     (let some = here_referred p fs s calls in omega (arith, some))
 
 -- Those of the texts are left when the directory is.
-one_less : (refs : List ℕ) (dir ino n : ℕ) → 0 < get_or refs dir 0 → n ≤ get_or refs ino 0 → (ino ≡ dir → 1 + n ≤ get_or refs dir 0)
+one_less : (refs : List ℕ) (dir ino n : ℕ) → 0 < get_or refs dir 0 → n ≤ get_or refs ino 0
+    → (ino ≡ dir → 1 + n ≤ get_or refs dir 0)
     → n ≤ get_or (set refs dir (get_or refs dir 0 - 1)) ino 0
 one_less refs dir ino n some most at = elim (cases_eq ino dir) [
   | inl here ↦ elim (cases_lt dir (length refs)) [
-      | inl low ↦
-          subst (λ m. n ≤ m) (sym (ap (λ i. get_or (set refs dir (get_or refs dir 0 - 1)) i 0) here ∙ get_or-set_same refs dir (get_or refs dir 0 - 1) 0 low))
-          (let h = at here in omega (arith, h))
-      | inr past ↦ absurd (let none : get_or refs dir 0 ≡ 0 = get_or_past refs dir 0 past in omega (arith, none, some))
-    ]
+    | inl low ↦
+        subst (λ m. n ≤ m) (sym (ap (λ i. get_or (set refs dir (get_or refs dir 0 - 1)) i 0) here ∙ get_or-set_same refs dir (get_or refs dir 0 - 1) 0 low))
+        (let h = at here in omega (arith, h))
+    | inr past ↦ absurd (let none : get_or refs dir 0 ≡ 0 = get_or_past refs dir 0 past in omega (arith, none, some))
+  ]
   | inr other ↦ subst (λ m. n ≤ m) (sym (get_or-set_other refs dir ino (get_or refs dir 0 - 1) 0 other)) most
 ]
 
