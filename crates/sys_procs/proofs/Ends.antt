@@ -48,7 +48,7 @@ use Rattle.sys_procs.proofs.Slots.{process_in_slot, fifty_processes, are_process
 use Rattle.sys_procs.proofs.Tables.{board_woken}
 use Rattle.sys_procs.proofs.Agreement.{agree_but, agree_like, wakeup_like, same_texts}
 use Rattle.sys_procs.proofs.Alive.{IsHere, is_here, put_here}
-use Rattle.sys_procs.proofs.Following.{left_answer}
+use Rattle.sys_procs.proofs.LeavesFirst.{left_answer}
 use Rattle.sys_procs.proofs.Places.{same_swap_fit}
 
 -- What the log says of an end.

@@ -104,6 +104,7 @@ module _ (p : Procs) (s t : ℕ) (texts : List (Option Shared)) (bare : IsBare p
           subst (λ (row : TableRow). Agrees (member_at p.rows.slots r) row (keeping p.images r)) (sym (other_row r other))
           (bare.agree.others r up below other);
       text = texts_agree;
+      textless = other_text 0 (λ e. omega (arith, e, bare.above)) ∙ bare.agree.textless;
     };
     above = bare.above;
     below = bare.below;

@@ -1,12 +1,12 @@
 //! The place of a new program's image: `exec` in Lions' Commentary, `sys1.c`.
-ghost use Rattle.std.specs.Prelude.{◌≡◌, ◌<◌, ◌+◌, ◌∷◌, [], false, None, Some, MatchResult, IfOk, IfErr};
+ghost use Rattle.std.specs.Prelude.{◌≡◌, ◌<◌, ◌+◌, ℕ, ◌∷◌, [], false, None, Some, MatchResult, IfOk, IfErr};
 ghost use Rattle.v6_base.specs.Trace.{Took, Log};
 ghost use Rattle.fs_nodes.specs.FileSystem.{FileSystem};
 ghost use Rattle.pick_rules.specs.Apply.{change_row};
 ghost use Rattle.pick_rules.specs.Table.{IsTable};
 ghost use Rattle.image_keep.specs.Area.{made_area};
 ghost use Rattle.image_keep.specs.Growth.{most_clicks};
-ghost use Rattle.image_keep.specs.Kept.{Nothing, keeping, with_keeping, text_of, text_bytes, text_clicks, image_of};
+ghost use Rattle.image_keep.specs.Kept.{Shared, Nothing, keeping, with_keeping, shared, text_of, text_bytes, text_clicks, image_of};
 ghost use Rattle.image_keep.specs.Moves.{with_image_moved};
 ghost use Rattle.image_keep.specs.Places as images_of;
 ghost use Rattle.image_keep.specs.Places.{made_image};
@@ -124,6 +124,7 @@ pub(crate) fn place_image<T: Trace>(
         (takes_image (handed p.old fs) s t d) }
     ensures image { IfOk result (λ placed. image_of p.new.images s ≡ made_image (text_bytes p.old.images (text_of p.old.images s)) d 20) }
     ensures text { text_of p.new.images s ≡ text_of p.old.images s }
+    ensures stays { (t : ℕ) (x : Shared) → shared p.old.images t ≡ Some x → x.row.loaded ≡ 0 → shared p.new.images t ≡ Some x }
     ensures time { p.new.table.now ≡ p.old.table.now }
     ensures frame { T.leads_to trace.old trace.new }
     ensures alive { IfOk result (λ placed. IsAlive p.new s) }

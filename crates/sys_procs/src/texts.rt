@@ -1,37 +1,30 @@
 //! The texts that processes share: `xalloc` and `xfree` in Lions' Commentary, `text.c`.
-ghost use Rattle.std.specs.Prelude.{◌≡◌, ◌≤◌, ◌<◌, ◌+◌, ◌/◌, ◌==◌, not, ℕ, Some, None, IfOk, IfErr, IfSome, IsSome, count_by, slice_index, bit_and};
+ghost use Rattle.std.specs.Prelude.{◌≡◌, ◌≤◌, ◌<◌, ◌+◌, ◌==◌, not, ℕ, Some, None, IfOk, IfErr, IfSome, IsSome, count_by, slice_index, bit_and};
 ghost use Rattle.v6_base.specs.Trace.{Took, Log};
 ghost use Rattle.fs_codec.specs.declared.modes.TheConstants.{ISVTX};
 ghost use Rattle.fs_nodes.specs.FileSystem.{SameRest};
 ghost use Rattle.pick_rules.specs.Apply.{change_row};
-ghost use Rattle.image_keep.specs.Kept.{text_of, shared};
-ghost use Rattle.image_keep.specs.SharedTexts.{found_text};
+ghost use Rattle.image_keep.specs.Kept.{Shared, text_of, shared};
+ghost use Rattle.image_keep.specs.SharedTexts.{AreShared, row_in, found_text};
 ghost use Rattle.sys_procs.specs.Tests.{node_in};
 ghost use Rattle.sys_procs.specs.TextTable.{is_text_of, entry_of};
-ghost use Rattle.sys_procs.specs.Texts.{xfree, xalloc_by};
+ghost use Rattle.sys_procs.specs.Texts.{free_entry, xfree, xalloc_by};
 ghost use Rattle.sys_procs.specs.World.{World, texts_in};
 ghost use Rattle.sys_procs.specs.Comes.{nothing};
-ghost use Rattle.sys_procs.specs.ExecFile.{clicks, text_clicks};
 ghost use Rattle.sys_procs.specs.inside.Begun.{leaves, takes, new_entry, taken_by};
 ghost use Rattle.sys_procs.specs.Handed.{IsAlive, IsBare, IsMarked, came, handed};
 ghost use Rattle.sys_procs.specs.Done.{HasLeft};
 
 use crate::procs::Procs;
 use crate::program::Program;
+use crate::seen::see;
 use fs_codec::ISVTX;
 use fs_nodes::Nodes;
 use fs_tree::Tree;
-use image_keep::TextRefusal;
+use image_keep::{Images, TextRefusal};
 use pick_rules::Table;
 use text_tab::{Left, TextId};
 use v6_base::{Entry, PanicKind, Slot, Trace};
-
-/// The clicks of so many bytes.
-fn clicks(bytes: u16) -> u16
-    ensures { result ≡ clicks bytes }
-{
-    bytes.div_ceil(64)
-}
 
 /// Whether the file of a text is sticky: its text stays when nobody uses it.
 fn is_sticky(nodes: &Nodes, ino: u16) -> bool
@@ -49,6 +42,22 @@ fn give_text(table: &mut Table, s: Slot, text: Option<TextId>)
     table.rows[s as usize].text = text;
 }
 
+/// Sees what holds of the texts that are kept.
+fn see_texts(images: &Images)
+    ensures shared { AreShared images.now }
+{
+    let _text = images.find_text(0);
+}
+
+/// The inode of the file of a text.
+fn inode_of(images: &Images, t: TextId) -> u16
+    requires { IsSome (shared images.now t) }
+    ensures inode { result ≡ (row_in (shared images.now t)).ino }
+    ensures number { result < 65536 }
+{
+    images.text_row(t).ino
+}
+
 /// A process leaves a text that it has, which goes with its last user, unless its file is sticky. The file of a text that
 /// goes can be written again.
 fn leave_entry<T: Trace>(p: &mut Procs, tree: &mut Tree, s: Slot, t: TextId, trace: &mut T)
@@ -64,7 +73,9 @@ fn leave_entry<T: Trace>(p: &mut Procs, tree: &mut Tree, s: Slot, t: TextId, tra
     ensures marks { IsMarked p.new tree.new.marks }
     ensures blocks { SameRest tree.old.nodes.blocks tree.new.nodes.blocks }
 {
-    let ino = p.images.text_row(t).ino;
+    see(p, s);
+    see_texts(&p.images);
+    let ino = inode_of(&p.images, t);
     let sticky = is_sticky(&tree.nodes, ino);
     give_text(&mut p.table, s, None);
     trace.entry(Entry::Leave {
@@ -153,12 +164,14 @@ fn make_text<T: Trace>(
         (xalloc_by (handed p.old tree.old.nodes) s ino clicks None (λ placed is_new. nothing placed))).stop None ≡ Err kind) }
     ensures made { IfOk result (λ t. ((came p.old
         (xalloc_by (handed p.old tree.old.nodes) s ino clicks None (λ placed is_new. nothing placed))).stop ≡ None)
-        × (text_of p.new.images s ≡ Some t)) }
+        × (t ≡ free_entry (texts_in p.old.images)) × (text_of p.new.images s ≡ Some t)) }
+    ensures out { IfOk result (λ t. (x : Shared) × (shared p.new.images t ≡ Some x) × (x.row.loaded ≡ 0) × (x.row.clicks ≡ clicks)) }
     ensures frame { T.leads_to trace.old trace.new }
     ensures bare { IsBare p.new s }
     ensures marks { IsMarked p.new tree.new.marks }
     ensures blocks { tree.new.nodes.blocks ≡ tree.old.nodes.blocks }
 {
+    let _place = p.images.place(s);
     match p.images.new_text(s, ino, clicks) {
         Ok(t) => {
             tree.mark_text(ino);
@@ -199,17 +212,19 @@ pub(crate) fn take_text<T: Trace>(
     requires few { (i : ℕ) → slice_index tree.old.nodes.references i ≤ 65530 }
     requires marks { IsMarked p.old tree.old.marks }
     ensures left { HasLeft p.old p.new tree.new.nodes (T.taken trace.old) (T.taken trace.new)
-        (takes (handed p.old tree.old.nodes) s program.now.ino (text_clicks program.now.plan)) }
+        (takes (handed p.old tree.old.nodes) s program.now.ino program.now.text_clicks) }
     ensures answer { result ≡ taken_by
-        (came p.old (takes (handed p.old tree.old.nodes) s program.now.ino (text_clicks program.now.plan))).stop
-        (new_entry (texts_in p.old.images) program.now.ino (text_clicks program.now.plan)) }
+        (came p.old (takes (handed p.old tree.old.nodes) s program.now.ino program.now.text_clicks)).stop
+        (new_entry (texts_in p.old.images) program.now.ino program.now.text_clicks) }
     ensures new { IfOk result (λ new. IfSome new (λ t. text_of p.new.images s ≡ Some t)) }
+    ensures out { IfOk result (λ new. IfSome new (λ t.
+        (x : Shared) × (shared p.new.images t ≡ Some x) × (x.row.loaded ≡ 0) × (x.row.clicks ≡ program.now.text_clicks))) }
     ensures frame { T.leads_to trace.old trace.new }
     ensures bare { IsBare p.new s }
     ensures marks { IsMarked p.new tree.new.marks }
     ensures blocks { tree.new.nodes.blocks ≡ tree.old.nodes.blocks }
 {
-    if program.plan.text == 0 {
+    if program.text_clicks == 0 {
         return Ok(None);
     }
     match p.images.find_text(program.ino) {
@@ -218,7 +233,7 @@ pub(crate) fn take_text<T: Trace>(
             Ok(None)
         }
         None => {
-            let t = make_text(p, tree, s, program.ino, clicks(program.plan.text), trace)?;
+            let t = make_text(p, tree, s, program.ino, program.text_clicks, trace)?;
             Ok(Some(t))
         }
     }

@@ -14,7 +14,7 @@ use Rattle.sys_procs.specs.TextTable.{entry_of, text_of, with_text}
 use Rattle.sys_procs.specs.Texts.{free_entry, new_text, joined, with_entry, shares_text, makes_text, xalloc_by, xalloc}
 use Rattle.sys_procs.specs.Tests.{node_at}
 use Rattle.sys_procs.specs.Break.{break_at, grow, grown_stack, clicks_up_to, sized, expands}
-use Rattle.sys_procs.specs.ExecFile.{Tested, tests, with_moved, text_clicks, data_read, reads_text, image_clicks, begins, executes, loads, done_by, exec_file}
+use Rattle.sys_procs.specs.ExecFile.{Tested, tests, with_moved, data_read, reads_text, image_clicks, begins, executes, loads, done_by, exec_file}
 use Rattle.sys_procs.proofs.TestedSlots.{tests_processes}
 use Rattle.abstract_unix.specs.declared.calls.ProcessCall.{ProcessCall}
 use Rattle.abstract_unix.specs.declared.calls.ProcessCall.TheVariants as process
@@ -58,7 +58,7 @@ module _ (ps : List (Option Process)) (r s : ℕ) (other : r ≢ s) where
 
   sparing_loads : (w : World) (program : _) → SparedIn w → IsSparing ps r (loads w s program)
   sparing_loads w program h =
-      let size = text_clicks program.plan in
+      let size = program.text_clicks in
       let places : World → Bool → Comes = λ placed is_new.
       does (effect.Image s (image_clicks program.plan) placed) (executes (reads_text is_new placed s program) s program) in
       let placed : (v : World) (b : Bool) → SparedIn v → IsSparing ps r (places v b) = λ v b k.

@@ -28,7 +28,7 @@ use Rattle.sys_procs.specs.Texts.{xfree, xalloc, xalloc_by, makes_text}
 use Rattle.sys_procs.specs.Comes.{Comes, logs, does}
 use Rattle.sys_procs.specs.Tests.{must, user_of, node_at}
 use Rattle.sys_procs.specs.Stack.{arguments, stack_clicks}
-use Rattle.sys_procs.specs.ExecFile.{Tested, check, with_moved, header_read, unless_error, is_magic, or_no_memory, is_busy, tests_header, tests_file, tests, text_clicks, data_clicks, image_clicks, reads_text, executes, loads, done_by, exec_file}
+use Rattle.sys_procs.specs.ExecFile.{Tested, check, with_moved, header_read, unless_error, is_magic, or_no_memory, is_busy, tests_header, tests_file, tests, text_clicks_in, data_clicks, image_clicks, reads_text, executes, loads, done_by, exec_file}
 use Rattle.sys_procs.specs.Handed.{board}
 use Rattle.sys_procs.proofs.Alive.{no_text_here}
 use Rattle.sys_procs.proofs.LoadForms as loads_of
@@ -106,7 +106,7 @@ module _ (base : its.World) (s : ℕ) where
       leaves_check base out (must ENOEXEC ((head.done == 16) && is_magic (plan_of h))) _ gone (λ program.
       leaves_check base out (must ETXTBSY (not (is_busy w d h))) _ gone (λ free.
       leaves_check base out (or_no_memory (plan_of h)) _ gone (λ plan.
-      leaves_check base out (must ENOMEM (not (is_refused (text_clicks plan) (data_clicks plan) stack_clicks w.limit))) _ gone (λ fits. is)))))
+      leaves_check base out (must ENOMEM (not (is_refused (text_clicks_in w.texts d plan) (data_clicks plan) stack_clicks w.limit))) _ gone (λ fits. is)))))
 
   leaves_file : (w : its.World) (d list : ℕ) → IsIn base w d → Leaves base (tests_file w s d list).world (tests_file w s d list).answer
   leaves_file w d list is =
@@ -176,16 +176,16 @@ module _ (w : World) (s : ℕ) (ready : IsReady w s) where
     next placed is_new = does (effect.Image s (image_clicks program.plan) placed) (executes (reads_text is_new placed s program) s program)
 
     -- it would share its text
-    loads_shares : (text_clicks program.plan == 0) ≡ false → loads x s program
-        ≡ logs (line.Bare s) (does (effect.Text s (text_clicks program.plan) x) (next (makes_text x s program.ino (text_clicks program.plan)) true))
+    loads_shares : (program.text_clicks == 0) ≡ false → loads x s program
+        ≡ logs (line.Bare s) (does (effect.Text s program.text_clicks x) (next (makes_text x s program.ino program.text_clicks) true))
     loads_shares some =
-        let size : ℕ = text_clicks program.plan in
+        let size : ℕ = program.text_clicks in
         ap (λ o. xfree x s o (λ left. logs (line.Bare s) (xalloc left s program.ino size next))) no_text_of
         ∙ ap (λ (b : Bool). logs (line.Bare s) (if b then next x false else xalloc_by x s program.ino size (entry_of x.texts program.ino) next)) some
         ∙ ap (λ o. logs (line.Bare s) (xalloc_by x s program.ino size o next)) no_entry
 
     -- It has none: its image is placed, and it begins.
-    module _ (empty : text_clicks program.plan ≡ 0) where
+    module _ (empty : program.text_clicks ≡ 0) where
       abbrev begins : Process
       begins = begun (its.process_of x s) (node_at x program.ino) program (image x s program no_text_of empty)
 
@@ -209,9 +209,9 @@ module _ (w : World) (s : ℕ) (ready : IsReady w s) where
         like = λ none. begun_like;
       }
 
-    shares_tame : (text_clicks program.plan == 0) ≡ false → IsTame w (loads x s program)
+    shares_tame : (program.text_clicks == 0) ≡ false → IsTame w (loads x s program)
     shares_tame some =
-        let size : ℕ = text_clicks program.plan in
+        let size : ℕ = program.text_clicks in
         let row : Comes = logs (line.Bare s) (does (effect.Text s size x) (next (makes_text x s program.ino size) true)) in
         let never : (came w.procs row).stop ≡ None → ⊥ = λ none.
         (let some_ = sym none ∙ ap (λ (l : Logged its.World). l.stop) (logged_text (board w.procs) s size x (next (makes_text x s program.ino size) true).effects) in cc some_) in
@@ -219,10 +219,10 @@ module _ (w : World) (s : ℕ) (ready : IsReady w s) where
         (record { still = record { effects = (mild_bare s, same_switches); switches = λ none. absurd (never none) }; like = λ none. absurd (never none) })
 
     loads_tame : IsTame w (loads x s program)
-    loads_tame = by (text_clicks program.plan == 0) refl
+    loads_tame = by (program.text_clicks == 0) refl
       where
-        by : (b : Bool) → (text_clicks program.plan == 0) ≡ b → IsTame w (loads x s program)
-        by true none = placed_tame (eqb-true (text_clicks program.plan) 0 none)
+        by : (b : Bool) → (program.text_clicks == 0) ≡ b → IsTame w (loads x s program)
+        by true none = placed_tame (eqb-true program.text_clicks 0 none)
         by false some = shares_tame some
 
   done_tame : (x : its.World) (r : Result Program Errno) → Leaves (given w) x r → IsTame w (done_by x s r)

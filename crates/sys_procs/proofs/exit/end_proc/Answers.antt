@@ -11,7 +11,7 @@ use Rattle.sys_procs.specs.Done.{HasLeft}
 use Rattle.sys_procs.proofs.Alive.{calls_alive}
 use Rattle.sys_procs.proofs.Slots.{fifty_processes}
 use Rattle.sys_procs.proofs.Dones.{ended_as}
-use Rattle.sys_procs.proofs.Following.{ended_behind, ended_from}
+use Rattle.sys_procs.proofs.LeavesFirst.{ended_behind, ended_from}
 use Rattle.sys_procs.proofs.Ends.{text_left, end_row}
 use Rattle.sys_procs.proofs.exit.end_proc.Goals as goal
 
