@@ -47,7 +47,7 @@ module _ {p q r : Procs} {fs gs : FileSystem} {result : Result (Unit {0}) PanicK
       ≡ after_items (parts.came p (xfree w s o nothing)).items (parts.came q (next (parts.handed q fs)))
   both =
       ap (logged (parts.board p)) (left_effects w s next o)
-      ∙ logged_after_items (parts.board p) (xfree w s o nothing).effects (next (xfree w s o nothing).state).effects (left_goes w s next (parts.board p) o)
+      ∙ logged_after (parts.board p) (xfree w s o nothing).effects (next (xfree w s o nothing).state).effects (left_goes w s next (parts.board p) o)
       ∙ (λ i. after_items (parts.came p (xfree w s o nothing)).items (logged (sym left.shown i) (next (sym is_left i)).effects))
 
   ends : (next (parts.handed q fs)).state ≡ (xfree w s o next).state
