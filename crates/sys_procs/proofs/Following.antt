@@ -1,5 +1,5 @@
 -- Effects that follow others: what the log says of all, and what a call has done that does one part after another.
-use Rattle.std.proofs.Common.{◌≡◌, ◌∙◌, List, [], ◌∷◌, ◌++◌, fold, append_assoc, Option, Some, None, Result, Ok, Err, refl, sym, ap, subst}
+use Rattle.std.proofs.Common.{◌≡◌, ◌∙◌, List, [], ◌∷◌, ◌++◌, fold, append_assoc, append-nil, Option, Some, None, Result, Ok, Err, refl, sym, ap, subst}
 use Rattle.v6_base.specs.Trace.{Item, Log, Taken, Took}
 use Rattle.v6_base.specs.declared.answer.Answer.{Answer}
 use Rattle.v6_base.specs.declared.entry.Entry.TheVariants as line
@@ -52,7 +52,7 @@ pub logged_after : (b : Board) (es fs : List (Effect World)) → (logged b es).s
 logged_after b es fs free =
     let l : Logged World = logged b es in
     let whole : l ≡ after_items l.items (nothing_logged l.board) =
-    (λ i. record { items = append-nil l.items i; board = l.board; stop = free i }) in
+    (λ i. record { items = sym (append-nil l.items) i; board = l.board; stop = free i }) in
     fold_both (nothing_logged b) es fs
     ∙ (ap (λ (m : Logged World). fold log_one m fs) whole ∙ all_after l.items (nothing_logged l.board) fs)
 
