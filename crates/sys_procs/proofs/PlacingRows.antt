@@ -9,7 +9,7 @@ use Rattle.pick_rules.specs.declared.table.Table.{Table}
 use Rattle.pick_rules.specs.Table.{IsTable, row_at, with_row, empty_row, is_loaded}
 use Rattle.pick_rules.specs.Sleepers.{made_ready, runout_told}
 use Rattle.pick_rules.specs.Board.{Board}
-use Rattle.pick_rules.specs.Apply.{applied, in_table, change_row, at_place, without_place, leaves_core, enters_core}
+use Rattle.pick_rules.specs.Apply.{applied, in_table, change_row, without_place, leaves_core}
 use Rattle.pick_rules.proofs.Laws.{Stays, runout_stays}
 use Rattle.proc_tab.specs.declared.member.Member.{Member}
 use Rattle.proc_tab.specs.Processes.{Processes, member_at}
