@@ -42,3 +42,7 @@ pub mod Retexted
 pub mod JoinedText
 pub mod MadeText
 pub mod MovedTexts
+pub mod GrownTexts
+pub mod Referred
+pub mod ForkedTexts
+pub mod LeavesFirst
