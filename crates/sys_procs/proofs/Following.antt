@@ -25,10 +25,12 @@ after_items xs l = record l { items = xs ++ l.items }
 item_after : (xs : List Item) (l : Logged World) (x : Item) → with_item (after_items xs l) x ≡ after_items xs (with_item l x)
 item_after xs l x = ap (λ items. record (with_item l x) { items = items }) (append_assoc xs l.items (x ∷ []))
 
-came_after : (xs : List Item) (l : Logged World) (c : Came World) → with_what_came (after_items xs l) c ≡ after_items xs (with_what_came l c)
+came_after : (xs : List Item) (l : Logged World) (c : Came World) → with_what_came (after_items xs l) c
+    ≡ after_items xs (with_what_came l c)
 came_after xs l (Lets x) = item_after xs l x
 came_after xs l (Stops kind before) =
-    ap (λ (m : Logged World). record m { stop = Some (record { why = kind; before = before }) }) (item_after xs l (Log (line.Panic kind)))
+    ap (λ (m : Logged World). record m { stop = Some (record { why = kind; before = before }) })
+    (item_after xs l (Log (line.Panic kind)))
 
 one_after : (xs : List Item) (l : Logged World) (e : Effect World) → log_one (after_items xs l) e ≡ after_items xs (log_one l e)
 unfolding log_one
@@ -39,7 +41,8 @@ one_after xs l e = by l.stop
     by None = came_after xs l (came l.board e)
     by (Some stop) = refl
 
-all_after : (xs : List Item) (l : Logged World) (es : List (Effect World)) → fold log_one (after_items xs l) es ≡ after_items xs (fold log_one l es)
+all_after : (xs : List Item) (l : Logged World) (es : List (Effect World)) → fold log_one (after_items xs l) es
+    ≡ after_items xs (fold log_one l es)
 all_after xs l [] = refl
 all_after xs l (e ∷ es) = ap (λ (m : Logged World). fold log_one m es) (one_after xs l e) ∙ all_after xs (log_one l e) es
 
@@ -61,7 +64,8 @@ pub logged_stopped : (b : Board) (es fs : List (Effect World)) (stop : Stop Worl
     → logged b (es ++ fs) ≡ logged b es
 logged_stopped b es fs stop is =
     let l : Logged World = logged b es in
-    let whole : l ≡ record { items = l.items; board = l.board; stop = Some stop } = λ i. record { items = l.items; board = l.board; stop = is i } in
+    let whole : l ≡ record { items = l.items; board = l.board; stop = Some stop } =
+    λ i. record { items = l.items; board = l.board; stop = is i } in
     fold_both (nothing_logged b) es fs
     ∙ (ap (λ (m : Logged World). fold log_one m fs) whole ∙ (stays_stopped l.items l.board stop fs ∙ sym whole))
 
@@ -69,8 +73,10 @@ logged_stopped b es fs stop is =
 abbrev pub both : Comes → Comes → Comes
 both first rest = record rest { effects = first.effects ++ rest.effects }
 
-pub done_after : {old mid new : Procs} {fs : FileSystem} {result : Result Answer PanicKind} {start middle end : Taken} (first : Comes) {rest : Comes}
-    → (parts.came old first).stop ≡ None → board mid ≡ (parts.came old first).board → Took start (parts.came old first).items middle
+pub done_after : {old mid new : Procs} {fs : FileSystem} {result : Result Answer PanicKind} {start middle end : Taken}
+    (first : Comes) {rest : Comes}
+    → (parts.came old first).stop ≡ None → board mid ≡ (parts.came old first).board
+    → Took start (parts.came old first).items middle
     → HasDone mid new fs result middle end rest → HasDone old new fs result start end (both first rest)
 done_after {old} {mid} {new} {fs} {result} {start} {middle} {end} first {rest} free shown items done =
     let l : Logged World = parts.came old first in

@@ -56,7 +56,8 @@ fewer_at l i j = elim (cases_eq j i) [
   | inr other ↦ (let is = get_or-set_other l i j (slice_index l i - 1) 0 other in omega (arith, is))
 ]
 
-some_at : (l : List ℕ) (i j : ℕ) → 0 < slice_index l j → (i ≡ j → 2 ≤ slice_index l j) → 0 < slice_index (set l i (slice_index l i - 1)) j
+some_at : (l : List ℕ) (i j : ℕ) → 0 < slice_index l j → (i ≡ j → 2 ≤ slice_index l j)
+    → 0 < slice_index (set l i (slice_index l i - 1)) j
 some_at l i j some two = elim (cases_eq j i) [
   | inl here ↦ elim (cases_lt i (length l)) [
     | inl low ↦
@@ -65,13 +66,15 @@ some_at l i j some two = elim (cases_eq j i) [
         let same : slice_index l j ≡ slice_index l i = ap (λ n. slice_index l n) here in
         let more = two (sym here) in
         omega (arith, is, same, more))
-    | inr past ↦ absurd (let none : slice_index l j ≡ 0 = ap (λ n. slice_index l n) here ∙ get_or_past l i 0 past in omega (arith, none, some))
+    | inr past ↦ absurd (let none : slice_index l j ≡ 0 = ap (λ n. slice_index l n) here
+    ∙ get_or_past l i 0 past in omega (arith, none, some))
   ]
   | inr other ↦ (let is = get_or-set_other l i j (slice_index l i - 1) 0 other in omega (arith, is, some))
 ]
 
 -- An inode that is still referred to stays as it is.
-node_kept : (store : Store) (i count j : ℕ) (o : Option Node) → (i ≡ j → count ≢ 1) → node_in (put_in store i count o) j ≡ node_in store j
+node_kept : (store : Store) (i count j : ℕ) (o : Option Node) → (i ≡ j → count ≢ 1) → node_in (put_in store i count o) j
+    ≡ node_in store j
 node_kept store i count j None last = refl
 node_kept store i count j (Some node) last = by (count == 1) refl
   where
@@ -185,7 +188,8 @@ module _ (w : World) (s ino size : ℕ) (low : s < length w.processes)
         sized = sized_still w.texts k sticky ino size;
       }
 
-      left_by_going : (b : Bool) → IsAfter w (if b then with_inodes left (put_back w.inodes (table.text_of w.texts k).ino) else left) s ino size
+      left_by_going : (b : Bool)
+          → IsAfter w (if b then with_inodes left (put_back w.inodes (table.text_of w.texts k).ino) else left) s ino size
       left_by_going true =
           let i : ℕ = (table.text_of w.texts k).ino in
           left_with (put_back w.inodes i) (some_at w.inodes.references i ino some_own two) (fewer_at w.inodes.references i)
@@ -223,7 +227,10 @@ pub text_there : (p : Procs) (fs : FileSystem) (s : ℕ) → IsAlive p s → Are
 text_there p fs s alive are k has =
     let here : text_of p.images s ≡ Some k = sym (ap (λ (q : Process). q.text) (is_here p s alive).process_is) ∙ has in
     let it = are.used s k here in
-    (record { ino = it.text.row.ino; bytes = it.text.bytes; users = it.text.row.users }, get_or-map text_in p.images.texts k None ∙ ap text_in it.there)
+    (
+      record { ino = it.text.row.ino; bytes = it.text.bytes; users = it.text.row.users },
+      get_or-map text_in p.images.texts k None ∙ ap text_in it.there,
+    )
 
 -- The log goes on.
 free_by : (b : Board) (w : World) (s : ℕ) (o : Option ℕ) → (logged b (xfree w s o nothing).effects).stop ≡ None
@@ -251,7 +258,8 @@ module _ (w : World) (s : ℕ) (program : Program) where
   left_or o = (xfree w s o nothing).state
 
   loads_by : (o : Option ℕ) → loads_or o ≡ both (xfree w s o nothing)
-      (both (logs (Bare s) (nothing (change (left_or o) s bared))) (begins_anew (change (left_or o) s bared) s (process_of (left_or o) s).u program))
+      (both (logs (Bare s) (nothing (change (left_or o) s bared)))
+      (begins_anew (change (left_or o) s bared) s (process_of (left_or o) s).u program))
   loads_by None = refl
   loads_by (Some k) = refl
 
