@@ -1,5 +1,5 @@
 -- A process without an image takes a text and an image, and executes a program: what that comes to.
-use Rattle.std.proofs.Common.{◌≡◌, ◌∙◌, ℕ, ◌+◌, ◌<◌, Bool, [], ◌∷◌, List, length, Option, Some, None, is_some, IfSome, IsSome, Result, Ok, Err, slice_index, min, refl, sym, ap, subst, arith}
+use Rattle.std.proofs.Common.{◌≡◌, ◌∙◌, ℕ, ◌+◌, ◌<◌, [], ◌∷◌, length, Option, Some, None, is_some, IfSome, IsSome, Result, Ok, Err, slice_index, min, refl, sym, ap, subst, arith}
 use Rattle.v6_base.specs.Trace.{Taken}
 use Rattle.v6_base.specs.declared.answer.Answer.{Answer}
 use Rattle.v6_base.specs.declared.answer.Answer.TheVariants.{Ret}
@@ -22,7 +22,6 @@ use Rattle.sys_procs.specs.declared.procs.Procs.{Procs}
 use Rattle.sys_procs.specs.declared.program.Program.{Program}
 use Rattle.sys_procs.specs.Process.{Process}
 use Rattle.sys_procs.specs.World.{World, process_of, change, let_go, texts_in}
-use Rattle.sys_procs.specs.TextTable.{marks_of}
 use Rattle.sys_procs.specs.Comes.{Comes}
 use Rattle.sys_procs.specs.Tests.{node_in, node_at}
 use Rattle.sys_procs.specs.ExecFile.{AreSized, data_clicks, reads_text, begins_anew, executes}
@@ -36,7 +35,7 @@ use Rattle.sys_procs.proofs.Dones.{done_as, done_none, not_stopped}
 use Rattle.sys_procs.proofs.Following.{both, done_after, done_first}
 use Rattle.sys_procs.proofs.KeptOwner.{SameOwner, text_owner}
 use Rattle.sys_procs.proofs.LoadForms.{anew_is, begun_is, answer_is, row_kept, area_kept}
-use Rattle.sys_procs.proofs.TakenText.{Stopped, after, goes_on, bare_text, taken_clicks, taken_row, taken_long, taken_store, taken_limit, taken_references}
+use Rattle.sys_procs.proofs.TakenText.{Stopped, goes_on, bare_text, taken_clicks, taken_row, taken_long, taken_store, taken_limit, taken_references}
 
 fresh_by : (k : Kept) (s size : ℕ) (o : Option ℕ) → IfSome o (λ t. text_of k s ≡ Some t)
     → IfSome o (λ t. (x : Shared) × (shared k t ≡ Some x) × (x.row.loaded ≡ 0) × (x.row.clicks ≡ size))

@@ -1,5 +1,5 @@
 -- The bytes of a text are others: what is handed then, and what agrees.
-use Rattle.std.proofs.Common.{◌≡◌, ◌∙◌, ◌+◌, ◌<◌, ◌++◌, ℕ, Bool, true, false, if◌then◌else◌, List, length, map, get_or, set, drop, Option, Some, None, refl, sym, ap, subst}
+use Rattle.std.proofs.Common.{◌≡◌, ◌∙◌, ℕ, Bool, true, false, if◌then◌else◌, List, map, get_or, set, Option, Some, None, refl, sym, ap, subst}
 use Rattle.std.specs.Option.{unwrap_or}
 use Rattle.std.specs.List.{range_with_len}
 use Rattle.std.proofs.lemmas.List.{map-set, set-get_or}
@@ -7,7 +7,6 @@ use Rattle.std.proofs.Math.ListN.{get_or-map}
 use Rattle.v6_base.specs.Runs.{run_set}
 use Rattle.buf_cache.specs.Blocks.{patched}
 use Rattle.image_keep.proofs.Storing.{run_over}
-use Rattle.pick_rules.specs.Board.{TextPlace}
 use Rattle.pick_rules.specs.declared.row.TableRow.{TableRow}
 use Rattle.pick_rules.specs.Table.{row_at}
 use Rattle.proc_tab.specs.declared.member.Member.{Member}

@@ -1,5 +1,5 @@
 -- Effects that follow others: what the log says of all, and what a call has done that does one part after another.
-use Rattle.std.proofs.Common.{◌≡◌, ◌∙◌, List, [], ◌∷◌, ◌++◌, fold, append_assoc, append-nil, Option, Some, None, Result, Ok, Err, refl, sym, ap, subst}
+use Rattle.std.proofs.Common.{◌≡◌, ◌∙◌, List, [], ◌∷◌, ◌++◌, fold, append_assoc, append-nil, Option, Some, None, Result, Err, refl, sym, ap, subst}
 use Rattle.v6_base.specs.Trace.{Item, Log, Taken, Took}
 use Rattle.v6_base.specs.declared.answer.Answer.{Answer}
 use Rattle.v6_base.specs.declared.entry.Entry.TheVariants as line
@@ -8,7 +8,7 @@ use Rattle.v6_base.proofs.Took.{took_more}
 use Rattle.fs_nodes.specs.FileSystem.{FileSystem}
 use Rattle.pick_rules.specs.Board.{Board}
 use Rattle.pick_rules.specs.Effects.{Effect, Came, Lets, Stops, came}
-use Rattle.pick_rules.specs.Logged.{Logged, Stop, board_after, left_by, logged, log_one, nothing_logged, unless_stopped, with_item, with_what_came}
+use Rattle.pick_rules.specs.Logged.{Logged, Stop, left_by, logged, log_one, nothing_logged, unless_stopped, with_item, with_what_came}
 use Rattle.pick_rules.proofs.Stopping.{stays_stopped}
 use Rattle.sys_procs.specs.declared.procs.Procs.{Procs}
 use Rattle.sys_procs.specs.World.{World}

@@ -1,6 +1,6 @@
 -- What a read leaves of a file: its owner and its group, and whether it sets them.
-use Rattle.std.proofs.Common.{◌≡◌, ◌∙◌, ◌+◌, ◌/◌, ◌==◌, ◌&&◌, ℕ, Bool, true, false, not, cond, if◌then◌else◌, List, [], ◌∷◌, length, min, get_or, get_or-set_same, bit_and, bit_or, slice_range, Option, Some, None, IsSome, replicate, refl, sym, ap, subst, inl, inr, arith}
-use Rattle.std.specs.Prelude.{◌-◌, ◌<◌, ◌≤◌}
+use Rattle.std.proofs.Common.{◌≡◌, ◌∙◌, ◌+◌, ◌/◌, ◌==◌, ℕ, Bool, true, false, not, cond, if◌then◌else◌, List, [], ◌∷◌, length, min, get_or, get_or-set_same, bit_and, bit_or, Option, Some, None, IsSome, replicate, refl, sym, ap, subst, inl, inr}
+use Rattle.std.specs.Prelude.{◌-◌, ◌<◌}
 use Rattle.std.specs.Option.{unwrap_or}
 use Rattle.std.proofs.lemmas.Bool.{cases_lt}
 use Rattle.std.proofs.lemmas.List.{get_or_past}
@@ -13,7 +13,7 @@ use Rattle.fs_codec.specs.Store.{Node, Store, node_numbered, holds}
 use Rattle.fs_codec.specs.declared.modes.TheConstants.{ISUID, ISGID, ILARG}
 use Rattle.fs_laws.specs.Numbers.{with_node}
 use Rattle.fs_laws.specs.Touch.{Touching, gained, take_names, touching}
-use Rattle.fs_laws.specs.Pieces.{Moving, going_on, stopped, reading, read_file, pieces, beginning}
+use Rattle.fs_laws.specs.Pieces.{Moving, going_on, reading, read_file, pieces, beginning}
 use Rattle.fs_nodes.specs.Copy.{put_kernel}
 use Rattle.sys_procs.specs.declared.program.Program.{Program}
 use Rattle.sys_procs.specs.World.{World}

@@ -1,7 +1,6 @@
 -- A process leaves its text and gives its image back, and executes a program: what the world is then, and what that comes to.
-use Rattle.std.proofs.Common.{◌≡◌, ◌≢◌, ◌∙◌, ◌+◌, ◌-◌, ◌<◌, ◌≤◌, ◌==◌, ◌&&◌, ℕ, Bool, true, false, not, cond, if◌then◌else◌, [], ◌∷◌, List, length, map, get_or, set, count_by, slice_index, Option, Some, None, Result, refl, sym, ap, subst, inl, inr, arith}
+use Rattle.std.proofs.Common.{◌≡◌, ◌≢◌, ◌∙◌, ◌+◌, ◌-◌, ◌<◌, ◌≤◌, ◌==◌, ◌&&◌, ℕ, Bool, true, false, not, cond, if◌then◌else◌, [], ◌∷◌, List, length, get_or, set, count_by, slice_index, Option, Some, None, Result, refl, sym, ap, subst, inl, inr, arith}
 use Rattle.std.specs.Option.{unwrap_or}
-use Rattle.std.specs.Prelude.{slice_index_or}
 use Rattle.std.proofs.Math.ListN.{get_or-map}
 use Rattle.std.proofs.lemmas.Bool.{cases_eq, cases_lt, eq-eqb, eqb-true}
 use Rattle.std.proofs.lemmas.List.{get_or-set_same, get_or-set_other, get_or_past, length-set}
@@ -10,34 +9,30 @@ use Rattle.v6_base.specs.Trace.{Log, Taken, Took}
 use Rattle.v6_base.specs.declared.entry.Entry.TheVariants.{Bare}
 use Rattle.v6_base.specs.declared.answer.Answer.{Answer}
 use Rattle.v6_base.specs.declared.entry.PanicKind.{PanicKind}
-use Rattle.u_area.specs.declared.area.UArea.{UArea}
-use Rattle.proc_tab.specs.declared.row.Row.{Row}
 use Rattle.fs_codec.specs.Store.{Node, Store}
 use Rattle.fs_laws.specs.Numbers.{without_reference, without_node}
 use Rattle.fs_nodes.specs.FileSystem.{FileSystem}
 use Rattle.fs_tree.specs.Finding.{Inodes, put_in, put_back}
-use Rattle.image_keep.specs.Kept.{shared, text_of}
+use Rattle.image_keep.specs.Kept.{text_of}
 use Rattle.image_keep.specs.SharedTexts.{AreShared}
 use Rattle.pick_rules.specs.Board.{Board}
 use Rattle.pick_rules.specs.Effects.{came}
-use Rattle.pick_rules.specs.Logged.{Logged, left_by, logged, log_one}
+use Rattle.pick_rules.specs.Logged.{Logged, logged, log_one}
 use Rattle.sys_procs.specs.declared.procs.Procs.{Procs}
 use Rattle.sys_procs.specs.declared.program.Program.{Program}
 use Rattle.sys_procs.specs.Process.{Process}
 use Rattle.sys_procs.specs.TextTable as table
 use Rattle.sys_procs.specs.TextTable.{Text, no_text, is_text_of}
 use Rattle.sys_procs.specs.Texts.{goes, is_sticky, remaining, without_text, leaves_text, xfree}
-use Rattle.sys_procs.specs.World.{World, process_of, change, with_inodes, text_in, texts_in}
+use Rattle.sys_procs.specs.World.{World, process_of, change, with_inodes, text_in}
 use Rattle.sys_procs.specs.Tests.{no_node, node_in}
 use Rattle.sys_procs.specs.Comes.{Comes, nothing, logs}
-use Rattle.sys_procs.specs.ExecFile.{AreSized, IsTested, bared, bare_board, begins_anew, loads}
-use Rattle.sys_procs.specs.inside.Begun.{leaves, row_in, area_in}
-use Rattle.sys_procs.specs.Handed.{IsAlive, board, handed, process_here}
-use Rattle.sys_procs.specs.Handed as parts
+use Rattle.sys_procs.specs.ExecFile.{AreSized, bared, bare_board, begins_anew, loads}
+use Rattle.sys_procs.specs.inside.Begun.{leaves, area_in}
+use Rattle.sys_procs.specs.Handed.{IsAlive, board, handed}
 use Rattle.sys_procs.specs.Done.{HasDone, HasLeft}
 use Rattle.sys_procs.proofs.Alive.{put_here, is_here}
 use Rattle.sys_procs.proofs.Dones.{done_as}
-use Rattle.sys_procs.proofs.Slots.{fifty_processes}
 use Rattle.sys_procs.proofs.Tables.{logged_line}
 use Rattle.sys_procs.proofs.Following.{both, done_after}
 

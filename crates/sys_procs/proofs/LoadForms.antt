@@ -1,7 +1,7 @@
 -- What exec(II) comes to, part by part.
-use Rattle.std.proofs.Common.{◌≡◌, ◌∙◌, ℕ, ◌+◌, ◌==◌, ◌&&◌, ◌<◌, Bool, true, false, not, cond, if◌then◌else◌, List, length, set, bit_and, Option, Some, None, is_some, Result, Ok, Err, refl, sym, ap, arith}
+use Rattle.std.proofs.Common.{◌≡◌, ◌∙◌, ℕ, ◌==◌, ◌&&◌, ◌<◌, Bool, true, false, not, cond, if◌then◌else◌, List, length, bit_and, Option, Some, None, is_some, Result, Ok, Err, refl, sym, ap, arith}
 use Rattle.std.specs.Option.{unwrap_or}
-use Rattle.std.proofs.lemmas.List.{length-set, set-set}
+use Rattle.std.proofs.lemmas.List.{set-set}
 use Rattle.v6_base.specs.Image.{Image}
 use Rattle.v6_base.specs.declared.answer.Answer.TheVariants.{Ret}
 use Rattle.v6_base.specs.declared.errno.Errno.{Errno}
@@ -16,11 +16,11 @@ use Rattle.sys_procs.specs.declared.program.Program.{Program}
 use Rattle.sys_procs.specs.Process.{Process, register}
 use Rattle.sys_procs.specs.TextTable.{Text, text_of, with_text, text_bytes, entry_of}
 use Rattle.sys_procs.specs.Texts.{xalloc, xalloc_by}
-use Rattle.sys_procs.specs.World.{World, process_of, with_process, change, let_go}
+use Rattle.sys_procs.specs.World.{World, process_of, with_process, change}
 use Rattle.sys_procs.specs.Tests.{node_at}
 use Rattle.sys_procs.specs.Comes.{Comes, nothing, does, fails}
 use Rattle.sys_procs.specs.Stack.{first_stack}
-use Rattle.sys_procs.specs.ExecFile.{Tested, tests, done_by, loads, exec_file, data_clicks, image_clicks, data_in, data_read, text_read, with_moved, entry_in, reads_text, begun_area, begins, begins_anew, executes}
+use Rattle.sys_procs.specs.ExecFile.{Tested, tests, done_by, loads, exec_file, data_clicks, image_clicks, data_in, data_read, text_read, with_moved, reads_text, begun_area, begins, begins_anew, executes}
 use Rattle.sys_procs.specs.inside.Begun.{takes, takes_image, new_if, new_entry, sized, filled, fills, row_in, area_in}
 use Rattle.sys_procs.proofs.Alive.{put_here}
 use Rattle.sys_procs.proofs.Following.{both}

@@ -1,24 +1,20 @@
 -- A process without an image has taken a text, if it is to have one: what it has then.
-use Rattle.std.proofs.Common.{◌≡◌, ◌∙◌, ℕ, ◌+◌, ◌*◌, ◌<◌, ◌==◌, Bool, true, false, if◌then◌else◌, List, length, get_or, set, map, Option, Some, None, IfSome, Result, Ok, Err, slice_index, refl, sym, ap, subst, inl, inr, arith}
+use Rattle.std.proofs.Common.{◌≡◌, ◌∙◌, ℕ, ◌+◌, ◌*◌, ◌<◌, ◌==◌, Bool, true, false, if◌then◌else◌, List, length, get_or, set, Option, Some, None, IfSome, Ok, Err, slice_index, refl, sym, ap, inl, inr, arith}
 use Rattle.std.specs.Option.{unwrap_or, option_map}
-use Rattle.std.specs.Prelude.{position}
 use Rattle.std.proofs.lemmas.Bool.{eqb-true, eqb-false, cases_eq, cases_lt}
 use Rattle.std.proofs.lemmas.List.{get_or-set_same, get_or-set_other, get_or_past, length-set}
 use Rattle.std.proofs.lemmas.List.Quantifiers.{position-Some}
 use Rattle.v6_base.specs.declared.entry.PanicKind.{PanicKind}
-use Rattle.fs_codec.specs.Store.{Store}
-use Rattle.image_keep.specs.Kept.{Kept, Shared, Nothing, shared, shared_clicks, bytes_in, text_of, text_clicks, keeping}
+use Rattle.image_keep.specs.Kept.{Kept, Nothing, shared, shared_clicks, bytes_in, text_of, text_clicks}
 use Rattle.image_keep.specs.SharedTexts.{AreLong}
-use Rattle.pick_rules.specs.Logged.{Stop, left_by}
+use Rattle.pick_rules.specs.Logged.{Stop}
 use Rattle.proc_tab.specs.declared.member.Member.{Member}
 use Rattle.proc_tab.specs.Processes.{member_at}
-use Rattle.proc_tab.specs.declared.row.Row.{Row}
-use Rattle.fs_nodes.specs.FileSystem.{FileSystem}
 use Rattle.sys_procs.specs.declared.procs.Procs.{Procs}
 use Rattle.sys_procs.specs.Process.{Process, no_process, process_in}
 use Rattle.sys_procs.specs.TextTable.{Text, no_text, is_text_of, entry_of}
-use Rattle.sys_procs.specs.Texts.{free_entry, joined, with_user, with_entry, shares_text, makes_text, xalloc_by}
-use Rattle.sys_procs.specs.World.{World, process_of, with_process, texts_in}
+use Rattle.sys_procs.specs.Texts.{free_entry, joined, with_user, with_entry, xalloc_by}
+use Rattle.sys_procs.specs.World.{World, process_of, texts_in}
 use Rattle.sys_procs.specs.Comes.{Comes, nothing}
 use Rattle.sys_procs.specs.ExecFile.{AreSized}
 use Rattle.sys_procs.specs.inside.Begun.{takes, new_if, new_entry, taken_by}

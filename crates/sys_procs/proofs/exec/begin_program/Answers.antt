@@ -1,23 +1,18 @@
 use Rattle.std.proofs.Common.{◌≡◌, ◌∙◌, ℕ, Result, Err, sym, ap, subst}
 use Rattle.v6_base.specs.Trace.{Taken}
 use Rattle.std.proofs.lemmas.Result.{err_from_is_err_and}
-use Rattle.u_area.specs.declared.area.UArea.{UArea}
 use Rattle.proc_tab.specs.declared.row.Row.{Row}
 use Rattle.v6_base.specs.declared.entry.PanicKind.{PanicKind}
-use Rattle.seg_regs.specs.Sizes.{is_refused}
 use Rattle.fs_nodes.specs.FileSystem.{FileSystem}
 use Rattle.sys_procs.specs.declared.procs.Procs.{Procs}
 use Rattle.sys_procs.specs.Process.{Process}
-use Rattle.sys_procs.specs.World.{World, texts_in}
 use Rattle.sys_procs.specs.TextTable.{marks_of}
 use Rattle.sys_procs.specs.ExecFile.{data_clicks, begins_anew}
 use Rattle.sys_procs.specs.inside.Begun.{takes_image}
 use Rattle.sys_procs.specs.Handed.{handed}
 use Rattle.sys_procs.specs.Done.{HasDone, HasEnded}
-use Rattle.sys_procs.proofs.BegunProgram.{stopped_first, referenced_still, most_still, clicks_are, stopped_second, image_here, row_still, program_begins, texts_still, out_still, text_still}
+use Rattle.sys_procs.proofs.BegunProgram.{stopped_first, referenced_still, clicks_are, stopped_second, image_here, row_still, program_begins, texts_still, out_still}
 use Rattle.sys_procs.proofs.TakenText.{stopped_by}
-use Rattle.sys_procs.proofs.LoadData.{fits_most}
-use Rattle.sys_procs.proofs.exec.begin_program.Given as given
 use Rattle.sys_procs.proofs.exec.begin_program.Goals as goal
 
 pub returns-in_err-new-clause-does : goal.returns-in_err-new-clause-does

@@ -1,7 +1,6 @@
-use Rattle.std.proofs.Common.{◌≡◌, ◌∙◌, ◌+◌, ◌<◌, ◌≤◌, ◌==◌, ℕ, if◌then◌else◌, List, [], ◌∷◌, length, Result, count_by, slice_index, false, sym, ap, subst, arith}
+use Rattle.std.proofs.Common.{◌≡◌, ◌∙◌, ◌+◌, ◌<◌, ◌≤◌, ◌==◌, ℕ, if◌then◌else◌, [], ◌∷◌, length, Result, count_by, slice_index, false, sym, ap, subst, arith}
 use Rattle.u_area.specs.declared.area.UArea.{UArea}
 use Rattle.proc_tab.specs.declared.row.Row.{Row}
-use Rattle.fs_codec.specs.Store.{Node, Store}
 use Rattle.fs_nodes.specs.FileSystem.{FileSystem}
 use Rattle.image_keep.specs.SharedTexts.{AreShared}
 use Rattle.pick_rules.specs.Logged.{left_by}
@@ -23,7 +22,6 @@ use Rattle.sys_procs.specs.Done.{HasDone, HasLeft}
 use Rattle.sys_procs.proofs.Alive.{put_here}
 use Rattle.sys_procs.proofs.Slots.{fifty_processes}
 use Rattle.sys_procs.proofs.LeftWorld.{IsAfter, gone, is_after, text_there, leaves_free, loads_done}
-use Rattle.sys_procs.proofs.exec.load.Given as given
 use Rattle.sys_procs.proofs.exec.load.Goals as goal
 
 -- The world when the text has been left, and the image has been given back.

@@ -1,4 +1,4 @@
-use Rattle.std.proofs.Common.{◌≡◌, ◌∙◌, ◌+◌, ℕ, List, length, replicate, ap}
+use Rattle.std.proofs.Common.{◌≡◌, ◌∙◌, ℕ, List, length, replicate, ap}
 use Rattle.std.proofs.lemmas.List.{length-replicate}
 use Rattle.fs_codec.specs.Store.{Store}
 use Rattle.fs_laws.specs.Numbers.{with_node}
