@@ -13,6 +13,8 @@ use Rattle.sys_procs.specs.Texts.{free_entry, new_text, goes, remaining, without
 use Rattle.sys_procs.specs.World as its
 use Rattle.sys_procs.specs.World.{change, let_go}
 use Rattle.sys_procs.specs.ExecFile.{entry_in, text_read, with_text_read}
+use Rattle.open_files.specs.declared.file.OpenFile.{OpenFile}
+use Rattle.abstract_unix.specs.Whole.{Told, Owes}
 use Rattle.abstract_unix.proofs.Owing.{some_within}
 use Rattle.abstract_unix.proofs.Dying.{put_refs}
 use Rattle.abstract_unix.proofs.Sharing.{more_within}
@@ -42,6 +44,15 @@ shared_same texts k o same ino = same_count texts (set texts k o) (λ ino.
 -- What is as often referred to by others in one world as in another.
 pub record SameOthers (x y : its.World) : Type 0 where
   pub refs : (ino : ℕ) → slice_index y.inodes.references ino + shared x.texts ino ≡ slice_index x.inodes.references ino + shared y.texts ino
+
+pub others_owe : (x y : its.World) → SameOthers x y → (files : List (Option OpenFile)) (ts : List (Option Told)) → Owes x.inodes.references files x.texts ts
+    → Owes y.inodes.references files y.texts ts
+others_owe x y same files ts owed = record {
+  numbers = owed.numbers;
+  referred = λ ino. let before = owed.referred ino in let refs = same.refs ino in omega (arith, before, refs);
+  no_pipe = owed.no_pipe;
+  fifteen = owed.fifteen;
+}
 
 -- A text is left. Where there is none of this number, no inode 0 is referred to.
 module _ (x : its.World) (s k : ℕ) (sticky : Bool) (most : (ino : ℕ) → shared x.texts ino ≤ slice_index x.inodes.references ino)
