@@ -318,11 +318,11 @@ module _ (w : World) (s : ℕ) (ready : IsReady w s) (form : IsFileSystem w.file
           (image_goes (applied b (line.Share s k)) (shares_text x s k) false (with_entry k q) on.switches (shared_on x q program.ino on k))
 
       begins_goes : GoesOn w b (begins_anew x s u program)
-      begins_goes = by (exec.text_clicks program.plan == 0)
+      begins_goes = by (program.text_clicks == 0)
         where
-          by : (none : Bool) → GoesOn w b (cond none (next x false) (xalloc_by x s program.ino (exec.text_clicks program.plan) (entry_of x.texts program.ino) next))
+          by : (none : Bool) → GoesOn w b (cond none (next x false) (xalloc_by x s program.ino program.text_clicks (entry_of x.texts program.ino) next))
           by true = image_goes b x false q on.switches on
-          by false = entry_goes (exec.text_clicks program.plan) (entry_of x.texts program.ino)
+          by false = entry_goes program.text_clicks (entry_of x.texts program.ino)
 
   -- The old image is given back.
   bare_users : (b : Board) → users_on (applied b (line.Bare s)) ≡ users_on b
