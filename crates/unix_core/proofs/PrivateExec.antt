@@ -6,8 +6,8 @@ use Rattle.v6_base.specs.declared.entry.Entry.TheVariants.{Bare, Share}
 use Rattle.v6_base.specs.declared.errno.Errno.{Errno}
 use Rattle.seg_regs.specs.Sizes.{is_refused}
 use Rattle.fs_tree.specs.Finding.{with_reference}
-use Rattle.u_area.specs.declared.area.UArea.{UArea}
 use Rattle.pick_rules.specs.Effects as effect
+use Rattle.u_area.specs.declared.area.UArea.{UArea}
 use Rattle.sys_procs.specs.Process.{Process}
 use Rattle.sys_procs.specs.World.{World, process_of, change}
 use Rattle.sys_procs.specs.Comes.{Comes, does, logs}
@@ -28,7 +28,7 @@ module _ (ps : List (Option Process)) (r s : ℕ) (other : r ≢ s) where
   abbrev SparedIn : World → Type 0
   SparedIn w = Spared ps w.processes r
 
-  -- A text that would be shared.
+  -- A text is shared.
   sparing_xalloc_by : (w : World) (ino size : ℕ) (o : Option ℕ) (next : World → Bool → Comes) → SparedIn w
       → ((v : World) (b : Bool) → SparedIn v → IsSparing ps r (next v b)) → IsSparing ps r (xalloc_by w s ino size o next)
   sparing_xalloc_by w ino size (Some k) next h rest =
@@ -57,22 +57,23 @@ module _ (ps : List (Option Process)) (r s : ℕ) (other : r ≢ s) where
       let read : World = with_moved w program.ino m in
       sparing_comes ps r s other _ _ (spared_change ps r s other read (λ p. begins u p (node_at w program.ino) program m.memory.data) h)
 
-  sparing_anew : (w : World) (u : UArea) (program : _) → SparedIn w → IsSparing ps r (begins_anew w s u program)
-  sparing_anew w u program h =
+  sparing_begins : (w : World) (u : UArea) (program : _) → SparedIn w → IsSparing ps r (begins_anew w s u program)
+  sparing_begins w u program h =
       let places : World → Bool → Comes = λ placed is_new.
       does (effect.Image s (image_clicks program.plan) placed) (executes (reads_text is_new placed s program) s u program) in
-      sparing_xalloc w program.ino program.text_clicks places h (λ v b k.
+      let placed : (v : World) (b : Bool) → SparedIn v → IsSparing ps r (places v b) = λ v b k.
       let rest : IsSparing ps r (executes (reads_text b v s program) s u program) =
       sparing_executes (reads_text b v s program) u program (spared_read b v program k) in
-      record { effects = (k, rest.effects); state = rest.state })
+      record { effects = (k, rest.effects); state = rest.state } in
+      sparing_xalloc w program.ino _ places h placed
 
-  -- The old one goes.
+  -- The old image goes.
   sparing_loads : (w : World) (program : _) → SparedIn w → IsSparing ps r (loads w s program)
   sparing_loads w program h =
-      let begun : World → Comes = λ left. begins_anew (change left s bared) s (process_of left s).u program in
-      sparing_xfree ps r s other w (process_of w s).text (λ left. logs (Bare s) (begun left)) h (λ v k.
-      sparing_logs ps r s other (Bare s) (begun v)
-      (sparing_anew (change v s bared) (process_of v s).u program (spared_change ps r s other v bared k)))
+      let fills : World → Comes = λ left. logs (Bare s) (begins_anew (change left s bared) s (process_of left s).u program) in
+      let filled : (v : World) → SparedIn v → IsSparing ps r (fills v) = λ v k.
+      sparing_logs ps r s other (Bare s) _ (sparing_begins (change v s bared) (process_of v s).u program (spared_change ps r s other v bared k)) in
+      sparing_xfree ps r s other w (process_of w s).text fills h filled
 
   sparing_done : (w : World) (a : Result _ Errno) → SparedIn w → IsSparing ps r (done_by w s a)
   sparing_done w (Ok program) h = sparing_loads w program h

@@ -1,8 +1,8 @@
 -- The pass of the swapper: the parts belong together before and after it, and it changes nothing of the Unix.
 use Rattle.std.specs.List.{range_with_len}
 use Rattle.std.proofs.Common.{◌≡◌, ◌∙◌, ◌<◌, ◌++◌, ℕ, zero, suc, Bool, true, false, cond, List, [], ◌∷◌, length, map, min, get_or, Option, Some, None, Result, Ok, Err, refl, sym, ap, subst, arith}
-use Rattle.std.proofs.Math.ListN.{get_or-map}
 use Rattle.std.proofs.lemmas.List.{same_lists, get_or_default, length-map, length-set}
+use Rattle.std.proofs.Math.ListN.{get_or-map}
 use Rattle.v6_base.specs.Trace.{Item, Byte, Log, Taken, Took}
 use Rattle.v6_base.proofs.Took.{took_then}
 use Rattle.v6_base.specs.declared.entry.Chan.{Chan}
@@ -28,12 +28,12 @@ use Rattle.pick_rules.proofs.Movers.{Lives, IsMover, mover}
 use Rattle.pick_rules.proofs.Placing.{row_out, loaded_row, HasCome, comes_in, goes_out}
 use Rattle.proc_tab.specs.declared.member.Member.{Member}
 use Rattle.proc_tab.specs.Processes.{Processes, AreProcesses, member_at}
-use Rattle.text_tab.specs.Table.{loaded_at}
-use Rattle.text_tab.specs.Table as tab
 use Rattle.image_keep.specs.Kept.{Kept, IsKept, Keeping, Nothing, Alive, Grave, Shared, keeping, shared, text_of, changed}
 use Rattle.image_keep.specs.Moves.{come_shared, leave_shared, swapped_in, swapped_out}
+use Rattle.text_tab.specs.Table as text_tab
+use Rattle.text_tab.specs.Table.{loaded_at}
 use Rattle.swap_sched.specs.Match.{is_nothing, is_grave}
-use Rattle.swap_sched.specs.Moved.{HasMoved, SameImages, kept_by_line, kept_after, unplaced, unloaded, answered}
+use Rattle.swap_sched.specs.Moved.{HasMoved, SameImages, unplaced, unloaded, answered, kept_by_line, kept_by_item, kept_after}
 use Rattle.swap_sched.specs.Pass.{over, moved, moves_after, pass}
 use Rattle.swap_sched.specs.inside.Does.{logged_move, next_logged}
 use Rattle.swap_sched.proofs.PassLemmas.{next_move, rests_asleep, rests_stopped, none_stopped, some_stopped}
@@ -173,46 +173,41 @@ process_unplaced (Some m) Nothing text = refl
 process_unplaced (Some m) (Alive held) text = refl
 process_unplaced (Some m) (Grave u block) text = refl
 
--- A text but for its users in core and its click there.
-text_unloaded : (x : Option Shared) → text_in (unloaded x) ≡ text_in x
-text_unloaded None = refl
-text_unloaded (Some x) = refl
+-- The table of texts keeps its length.
+come_long : (k : Kept) (o : Option ℕ) (at : ℕ) → length (come_shared k o at).texts ≡ length k.texts
+come_long k None at = refl
+come_long k (Some t) at = length-set k.texts t (changed (loaded_at at) (shared k t))
 
--- Moves leave as many entries for texts.
-in_long : (k : Kept) (s at : ℕ) → length (swapped_in k s (Some at)).texts ≡ length k.texts
-unfolding swapped_in
-in_long k s at = by (text_of k s)
-  where
-    by : (o : Option ℕ) → length (come_shared k o at).texts ≡ length k.texts
-    by None = refl
-    by (Some t) = length-set k.texts t (changed (loaded_at at) (shared k t))
-
-out_long : (k : Kept) (s block : ℕ) → length (swapped_out k s (Some block)).texts ≡ length k.texts
-unfolding swapped_out
-out_long k s block = by (text_of k s)
-  where
-    by : (o : Option ℕ) → length (leave_shared k o).texts ≡ length k.texts
-    by None = refl
-    by (Some t) = length-set k.texts t (changed tab.unloaded (shared k t))
+leave_long : (k : Kept) (o : Option ℕ) → length (leave_shared k o).texts ≡ length k.texts
+leave_long k None = refl
+leave_long k (Some t) = length-set k.texts t (changed text_tab.unloaded (shared k t))
 
 line_long : (k : Kept) (e : Entry) → length (kept_by_line k e).texts ≡ length k.texts
-line_long k (line.SwapIn s c) = in_long k s c
-line_long k (line.SwapOut s block) = out_long k s block
+unfolding swapped_in swapped_out
+line_long k (line.SwapIn s c) = come_long k (text_of k s) c
+line_long k (line.SwapOut s block) = leave_long k (text_of k s)
 line_long k e = refl
 
-moved_long : (k : Kept) (items : List Item) → length (kept_after k items).texts ≡ length k.texts
-moved_long k [] = refl
-moved_long k (Log e ∷ items) = moved_long (kept_by_line k e) items ∙ line_long k e
-moved_long k (Byte l byte ∷ items) = moved_long k items
+item_long : (k : Kept) (item : Item) → length (kept_by_item k item).texts ≡ length k.texts
+item_long k (Log e) = line_long k e
+item_long k (Byte l byte) = refl
 
--- They leave what the Unix tells of each text.
+all_long : (k : Kept) (items : List Item) → length (kept_after k items).texts ≡ length k.texts
+all_long k [] = refl
+all_long k (item ∷ items) = all_long (kept_by_item k item) items ∙ item_long k item
+
+-- A text is told by what a move leaves of it.
+told_text : (x : Option Shared) → text_in (unloaded x) ≡ text_in x
+told_text None = refl
+told_text (Some x) = refl
+
 same_texts : (k n : Kept) → length n.texts ≡ length k.texts → SameImages k n → texts_in n ≡ texts_in k
 same_texts k n long same =
-    let long_texts : length (texts_in n) ≡ length (texts_in k) = length-map n.texts text_in ∙ long ∙ sym (length-map k.texts text_in) in
-    same_lists (texts_in n) (texts_in k) long_texts (λ t d low.
-    sym (get_or_default (texts_in n) t None d low) ∙ get_or-map text_in n.texts t None
-    ∙ sym (text_unloaded (shared n t)) ∙ ap text_in (same.texts t) ∙ text_unloaded (shared k t)
-    ∙ sym (get_or-map text_in k.texts t None) ∙ get_or_default (texts_in k) t None d (omega (arith, low, long_texts)))
+    let size : length (texts_in n) ≡ length (texts_in k) = length-map n.texts text_in ∙ long ∙ sym (length-map k.texts text_in) in
+    same_lists (texts_in n) (texts_in k) size (λ t d low.
+    get_or_default (texts_in n) t d None low
+    ∙ get_or-map text_in n.texts t None ∙ sym (told_text (shared n t)) ∙ ap text_in (same.texts t) ∙ told_text (shared k t) ∙ sym (get_or-map text_in k.texts t None)
+    ∙ get_or_default (texts_in k) t None d (subst (λ m. t < m) size low))
 
 -- The swapper has moved images.
 module _ (v : Processes) (t u : Table) (k n : Kept) (a z : Taken) (agree : Agree v t k) (moved : HasMoved t k a (pass (board_of t k)) u n z)
@@ -227,9 +222,6 @@ module _ (v : Processes) (t u : Table) (k n : Kept) (a z : Taken) (agree : Agree
 
   kind_moved : (s : ℕ) → kind_of_keeping (keeping n s) ≡ kind_of_keeping (keeping k s)
   kind_moved s = sym (kind_unplaced (keeping n s)) ∙ ap kind_of_keeping (same.slots s) ∙ kind_unplaced (keeping k s)
-
-  pub moved_texts : texts_in n ≡ texts_in k
-  moved_texts = same_texts k n (ap (λ (x : Kept). length x.texts) moved.images ∙ moved_long k (pass (board_of t k)).items) same
 
   -- who has which text
   same_user : (s : ℕ) → text_of n s ≡ text_of k s
@@ -296,13 +288,14 @@ module _ (w : World) (u : Table) (n : Kept) (a z : Taken) (good : IsGood w) (mov
   after_agree : Agree w.procs.rows u n
   after_agree = moved_agree w.procs.rows w.procs.table u w.procs.images n a z good.agree moved same holds
 
-  after_texts : texts_in n ≡ texts_in w.procs.images
-  after_texts = moved_texts w.procs.rows w.procs.table u w.procs.images n a z good.agree moved same holds
+  texts_after : texts_in n ≡ texts_in w.procs.images
+  texts_after =
+      same_texts w.procs.images n (ap (λ (k : Kept). length k.texts) moved.images ∙ all_long w.procs.images (pass (board_in w)).items) same
 
   after_unix : unix_of now ≡ unix_of w
   after_unix =
       let processes = moved_processes w.procs.rows w.procs.table u w.procs.images n a z good.agree moved same holds in
-      let texts = after_texts in
+      let texts = texts_after in
       let clock = moved_clock w.procs.rows w.procs.table u w.procs.images n a z good.agree moved same holds in
       λ i. record (unix_of w) { processes = processes i; texts = texts i; clock = clock i; limit = min (same.core i) 2048 }
 
@@ -311,7 +304,7 @@ module _ (w : World) (u : Table) (n : Kept) (a z : Taken) (good : IsGood w) (mov
     agree = after_agree;
     running = λ s runs above. absurd (cc (none, runs));
     owed = subst (Owed w.files.tree.nodes.references) (sym after_unix) good.owed;
-    marks = good.marks ∙ ap marks_of (sym after_texts);
+    marks = good.marks ∙ ap marks_of (sym texts_after);
     rooms = good.rooms;
     core = good.core ∙ sym same.core;
   }
