@@ -36,13 +36,13 @@ swap_of_held : (place : Place) (clicks : ℕ) → swap_range (Some place) (block
 swap_of_held (Core c) clicks = refl
 swap_of_held (Swap block) clicks = refl
 
-core_same : (row : TableRow) (user : Option ℕ) (x : Keeping) → IsRowOf row user x → core_of_row row ≡ core_of x
+pub core_same : (row : TableRow) (user : Option ℕ) (x : Keeping) → IsRowOf row user x → core_of_row row ≡ core_of x
 core_same row user Nothing a = ap (λ p. core_range p row.size) a.place
 core_same row user (Alive held) a =
     ap (λ p. core_range p row.size) a.place ∙ (ap (λ n. core_range (Some held.place) n) (a.size held refl) ∙ core_of_held held.place (clicks_of held.u))
 core_same row user (Grave u block) a = ap (λ p. core_range p row.size) a.place
 
-swap_same : (row : TableRow) (user : Option ℕ) (x : Keeping) → IsRowOf row user x → swap_of_row row ≡ swap_of x
+pub swap_same : (row : TableRow) (user : Option ℕ) (x : Keeping) → IsRowOf row user x → swap_of_row row ≡ swap_of x
 swap_same row user Nothing a = ap (λ p. swap_range p (cond (is_zombie row.stat) 1 (blocks row.size))) a.place
 swap_same row user (Alive held) a =
     ap (λ p. swap_range p (cond (is_zombie row.stat) 1 (blocks row.size))) a.place

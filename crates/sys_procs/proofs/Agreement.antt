@@ -122,21 +122,22 @@ pub runout_like : (t : Table) → AreLike t (runout_told t)
 runout_like t = runout_stays (AreLike t) (woken_like t) t (tables_same t t refl)
 
 -- Where the texts are the same, and who has which.
-same_text : (k l : Kept) (s : ℕ) → SameTexts k l → text_of k s ≡ text_of l s
+pub same_text : (k l : Kept) (s : ℕ) → SameTexts k l → text_of k s ≡ text_of l s
 same_text k l s same = ap (λ users. get_or users s None) (sym same.users)
 
 -- a change of what a slot keeps leaves them
 pub same_texts : (k : Kept) (s : ℕ) (x : Keeping) → SameTexts k (with_keeping k s x)
 same_texts k s x = record { texts = refl; users = refl }
 
--- One slot has changed, in all three.
-pub agree_but : (v w : Processes) (t u : Table) (k l : Kept) (s : ℕ) → Agree v t k → 0 < s → IsTable u → length u.rows ≡ length t.rows
-    → Agrees (member_at w.slots s) (row_at u s) (keeping l s) → (row_at u s).text ≡ text_of k s → SameTexts k l
+-- One slot has changed, in all three, and which text it has.
+pub agree_with : (v w : Processes) (t u : Table) (k l : Kept) (s : ℕ) → Agree v t k → 0 < s → IsTable u → length u.rows ≡ length t.rows
+    → Agrees (member_at w.slots s) (row_at u s) (keeping l s) → (row_at u s).text ≡ text_of l s
+    → ((r : ℕ) → r ≢ s → text_of l r ≡ text_of k r)
     → ((r : ℕ) → r ≢ s → member_at w.slots r ≡ member_at v.slots r)
     → ((r : ℕ) → r ≢ s → row_at u r ≡ row_at t r)
     → ((r : ℕ) → r ≢ s → keeping l r ≡ keeping k r)
     → Agree w u l
-agree_but v w t u k l s a above good long new text same members rows images = record {
+agree_with v w t u k l s a above good long new text texts members rows images = record {
   table = good;
   rows = long ∙ a.rows;
   kernel = ap (λ row. row.place) (rows 0 (λ e. omega (arith, e, above))) ∙ a.kernel;
@@ -149,11 +150,21 @@ agree_but v w t u k l s a above good long new text same members rows images = re
         (subst (λ x. Agrees (member_at v.slots r) (row_at t r) x) (sym (images r other)) (a.each r up low)))
   ];
   text = λ r up low. elim (cases_eq r s) [
-    | inl here ↦ subst (λ q. (row_at u q).text ≡ text_of l q) (sym here) (text ∙ same_text k l s same)
-    | inr other ↦ ap (λ (row : TableRow). row.text) (rows r other) ∙ (a.text r up low ∙ same_text k l r same)
+    | inl here ↦ subst (λ q. (row_at u q).text ≡ text_of l q) (sym here) text
+    | inr other ↦ ap (λ (row : TableRow). row.text) (rows r other) ∙ (a.text r up low ∙ sym (texts r other))
   ];
-  textless = sym (same_text k l 0 same) ∙ a.textless;
+  textless = texts 0 (λ e. omega (arith, e, above)) ∙ a.textless;
 }
+
+-- One slot has changed, in all three, and who has which text is the same.
+pub agree_but : (v w : Processes) (t u : Table) (k l : Kept) (s : ℕ) → Agree v t k → 0 < s → IsTable u → length u.rows ≡ length t.rows
+    → Agrees (member_at w.slots s) (row_at u s) (keeping l s) → (row_at u s).text ≡ text_of k s → SameTexts k l
+    → ((r : ℕ) → r ≢ s → member_at w.slots r ≡ member_at v.slots r)
+    → ((r : ℕ) → r ≢ s → row_at u r ≡ row_at t r)
+    → ((r : ℕ) → r ≢ s → keeping l r ≡ keeping k r)
+    → Agree w u l
+agree_but v w t u k l s a above good long new text same members rows images =
+    agree_with v w t u k l s a above good long new (text ∙ same_text k l s same) (λ r other. sym (same_text k l r same)) members rows images
 
 -- Who has an image is there, and hasn't ended.
 pub is_there : (m : Option Member) (row : TableRow) (x : Keeping) (held : Held) → Agrees m row x → x ≡ Alive held → (it : Member) × (m ≡ Some it) × (it.is_dead ≡ false)

@@ -36,17 +36,19 @@ use Rattle.fs_nodes.specs.FileSystem.{FileSystem}
 use Rattle.fs_tree.specs.Finding.{Inodes, inodes_of}
 use Rattle.sys_procs.specs.declared.procs.Procs.{Procs}
 use Rattle.sys_procs.specs.Process.{Process, no_process, process_by, process_in}
-use Rattle.sys_procs.specs.World.{World, clock_of, process_of, processes_in, world_in}
+use Rattle.sys_procs.specs.World.{World, clock_of, process_of, processes_in, world_in, change, let_go}
+use Rattle.sys_procs.specs.TextTable.{Text, text_of as text_at}
 use Rattle.sys_procs.specs.Exit.{adopted}
 use Rattle.sys_procs.specs.Exit as exit
-use Rattle.sys_procs.specs.Texts.{xfree}
-use Rattle.sys_procs.specs.Comes.{Comes}
+use Rattle.sys_procs.specs.Texts.{xfree, goes, is_sticky, remaining, without_text}
+use Rattle.sys_procs.specs.Comes.{Comes, nothing}
 use Rattle.sys_procs.specs.Agree.{kind_of_member, Agrees, Agree, board_of}
 use Rattle.sys_procs.specs.Handed.{IsAlive, AreProcs, handed, board, came, process_here}
 use Rattle.sys_procs.proofs.Slots.{process_in_slot, fifty_processes, are_processes, one_changed, own, own_alive, own_row, members_are}
 use Rattle.sys_procs.proofs.Tables.{board_woken}
 use Rattle.sys_procs.proofs.Agreement.{agree_but, agree_like, wakeup_like, same_texts}
-use Rattle.sys_procs.proofs.Alive.{IsHere, is_here, no_text_here}
+use Rattle.sys_procs.proofs.Alive.{IsHere, is_here, put_here}
+use Rattle.sys_procs.proofs.LeavesFirst.{left_answer}
 use Rattle.sys_procs.proofs.Places.{same_swap_fit}
 
 -- What the log says of an end.
@@ -388,29 +390,68 @@ area_dead w s low =
     area_strays (is_none (exit.slot_of w q.row.ppid)) q.row.ppid q.row.pid (set w.processes s (Some zombie)) s (omega (arith, low, length-set w.processes s (Some zombie)))
     ∙ ap (λ (o : Option Process). (unwrap_or o no_process).u) (get_or-set_same w.processes s (Some zombie) None low)
 
-registers_left : (w : World) (s status : ℕ) → s < length w.processes → (process_of (exit.dead (exit.leaves w s status) s) s).u.r ≡ (process_of w s).u.r
-registers_left w s status low =
+-- who leaves a text keeps its registers, and its slot
+without : (w : World) (s k : ℕ) → s < length w.processes → (process_of (change w s without_text) s).u.r ≡ (process_of w s).u.r
+without w s k low = ap (λ (q : Process). q.u.r) (put_here w.processes s (without_text (process_of w s)) low)
+
+registers_by : (b : Bool) (v : World) (s ino : ℕ) (r : List ℕ) → (process_of v s).u.r ≡ r → (process_of (cond b (let_go v ino) v) s).u.r ≡ r
+registers_by true v s ino r e = e
+registers_by false v s ino r e = e
+
+long_by : (b : Bool) (v : World) (ino n : ℕ) → length v.processes ≡ n → length (cond b (let_go v ino) v).processes ≡ n
+long_by true v ino n e = e
+long_by false v ino n e = e
+
+registers_free : (w : World) (s : ℕ) (o : Option ℕ) → s < length w.processes → (process_of (xfree w s o nothing).state s).u.r ≡ (process_of w s).u.r
+registers_free w s None low = refl
+registers_free w s (Some k) low =
+    let text : Text = text_at w.texts k in
+    registers_by (goes text (is_sticky w k))
+    (change (record w { texts = set w.texts k (remaining (is_sticky w k) (get_or w.texts k None)) }) s without_text) s text.ino (process_of w s).u.r
+    (without (record w { texts = set w.texts k (remaining (is_sticky w k) (get_or w.texts k None)) }) s k low)
+
+long_free : (w : World) (s : ℕ) (o : Option ℕ) → length (xfree w s o nothing).state.processes ≡ length w.processes
+long_free w s None = refl
+long_free w s (Some k) =
+    let text : Text = text_at w.texts k in
+    long_by (goes text (is_sticky w k))
+    (change (record w { texts = set w.texts k (remaining (is_sticky w k) (get_or w.texts k None)) }) s without_text) text.ino (length w.processes)
+    (length-set w.processes s (Some (without_text (process_of w s))))
+
+registers_left : (w : World) (s status : ℕ) (o : Option ℕ) → s < length w.processes
+    → (process_of (exit.dead (xfree (exit.leaves w s status) s o nothing).state s) s).u.r ≡ (process_of w s).u.r
+registers_left w s status o low =
     let ended : Process = exit.ended status (process_of w s) in
-    ap (λ (u : UArea). u.r) (area_dead (exit.leaves w s status) s (omega (arith, low, length-set w.processes s (Some ended))))
-    ∙ ap (λ (o : Option Process). (unwrap_or o no_process).u.r) (get_or-set_same w.processes s (Some ended) None low)
+    let v : World = exit.leaves w s status in
+    let within : s < length v.processes = omega (arith, low, length-set w.processes s (Some ended)) in
+    ap (λ (u : UArea). u.r) (area_dead (xfree v s o nothing).state s (omega (arith, within, long_free v s o)))
+    ∙ registers_free v s o within
+    ∙ ap (λ (q : Process). q.u.r) (put_here w.processes s ended low)
 
 pub exit_row : (p : Procs) (fs : FileSystem) (s : ℕ) (u : UArea) → u ≡ (process_here p s).u
     → exit.end_proc (handed p fs) s (256 * (get_or u.r 0 0 % 256)) ≡ exit.exit_now (handed p fs) s
 unfolding exit.exit_now
 exit_row p fs s u e = ap (λ (v : UArea). exit.end_proc (handed p fs) s (256 * (get_or v.r 0 0 % 256))) e
 
--- the end of a process that has no text
-pub end_alone : (w : World) (s status : ℕ) → (process_of w s).text ≡ None → exit.end_proc w s status ≡ exit.dies (exit.leaves w s status) s
+-- the text that a process leaves as it ends
+pub text_left : (w : World) (s status : ℕ) → s < length w.processes → (process_of (exit.leaves w s status) s).text ≡ (process_of w s).text
+text_left w s status low = ap (λ (q : Process). q.text) (put_here w.processes s (exit.ended status (process_of w s)) low)
+
+pub end_row : (w : World) (s status : ℕ) (o : Option ℕ) → o ≡ (process_of w s).text
+    → xfree (exit.leaves w s status) s o (λ left. exit.dies left s) ≡ exit.end_proc w s status
 unfolding exit.end_proc
-end_alone w s status alone = ap (λ text. xfree (exit.leaves w s status) s text (λ left. exit.dies left s)) alone
+end_row w s status o e = ap (λ text. xfree (exit.leaves w s status) s text (λ left. exit.dies left s)) e
 
 pub exit_answer : (p : Procs) (fs : FileSystem) (s : ℕ) (u : UArea) → IsAlive p s → u ≡ (process_here p s).u
     → Ret (get_or u.r 0 0) (get_or u.r 1 0) ≡ (exit.exit_now (handed p fs) s).answer
 unfolding exit.exit_now
 exit_answer p fs s u alive e =
+    let w : World = handed p fs in
     let low = alive.below in
     let status : ℕ = 256 * (get_or (process_here p s).u.r 0 0 % 256) in
-    let left : u.r ≡ (process_of (exit.dead (exit.leaves (handed p fs) s status) s) s).u.r =
-    ap (λ (v : UArea). v.r) e ∙ sym (registers_left (handed p fs) s status (omega (arith, low, fifty_processes p.rows.slots p.images))) in
+    let text : Option ℕ = (process_here p s).text in
+    let left : u.r ≡ (process_of (exit.dead (xfree (exit.leaves w s status) s text nothing).state s) s).u.r =
+    ap (λ (v : UArea). v.r) e ∙ sym (registers_left w s status text (omega (arith, low, fifty_processes p.rows.slots p.images))) in
     ap (λ (r : List ℕ). Ret (get_or r 0 0) (get_or r 1 0)) left
-    ∙ ap (λ (c : Comes). c.answer) (sym (end_alone (handed p fs) s status (no_text_here p s alive)))
+    ∙ sym (left_answer (exit.leaves w s status) s (λ left. exit.dies left s) text)
+    ∙ ap (λ (c : Comes). c.answer) (end_row w s status text refl)

@@ -24,6 +24,7 @@ use Rattle.proc_tab.specs.Processes as rows
 use Rattle.proc_tab.specs.Pids.{fresh_pid, child_of, forked}
 use Rattle.proc_tab.proofs.SearchLemmas.{lowest_finds}
 use Rattle.image_keep.specs.Kept.{Held, Keeping, Nothing, Alive, Grave, Kept, keeping, with_keeping, text_of, with_area, described, area_in, image_in, area_of, image_of, clicks_of, HasImage}
+use Rattle.image_keep.specs.Moves.{forked_at}
 use Rattle.image_keep.specs.Places as images_of
 use Rattle.fs_nodes.specs.FileSystem.{FileSystem}
 use Rattle.fs_tree.specs.Finding.{with_reference}
@@ -33,13 +34,14 @@ use Rattle.sys_procs.specs.World.{World, Clock, process_of, with_process, change
 use Rattle.sys_procs.specs.Texts.{joined_by_child}
 use Rattle.sys_procs.specs.Fork.{copied, past_word, next_pid, with_child, fork_into, fork_one}
 use Rattle.sys_procs.specs.Seats.{with_image_row}
-use Rattle.sys_procs.specs.Agree.{Free, kind_of_member, kind_of_keeping, Agrees, board_of}
+use Rattle.sys_procs.specs.Agree.{Free, Lives, kind_of_member, kind_of_keeping, Agrees}
 use Rattle.sys_procs.specs.Handed.{AreProcs, IsAlive, handed, board, process_here}
 use Rattle.sys_procs.proofs.Slots.{fifty_processes, one_changed, members_are}
 use Rattle.swap_sched.proofs.Boards.{untimed, untimed_runout}
-use Rattle.sys_procs.proofs.Agreement.{agree_but, same_texts, no_text_of}
-use Rattle.sys_procs.proofs.Alive.{IsHere, is_here, no_text_row}
-use Rattle.sys_procs.proofs.PlacingRows.{clock_told, agree_told}
+use Rattle.sys_procs.proofs.Agreement.{agree_with}
+use Rattle.sys_procs.proofs.Alive.{IsHere, is_here}
+use Rattle.sys_procs.proofs.PlacingRows.{clock_told, agree_told, text_row, size_is}
+use Rattle.sys_procs.proofs.ForkedTexts.{texts_forked, slot_forked, forked_handed, row_of_child, forked_table, forked_core, forked_places}
 
 -- What the log says of a fork.
 pub logged_fork : (b : Board) (s child : ℕ) (w : World) (place : Place)
@@ -72,6 +74,7 @@ pub record IsFreeSlot (p : Procs) (s child : ℕ) : Type 0 where
   pub low : child < 50
   pub member : member_at p.rows.slots child ≡ None
   pub image : keeping p.images child ≡ Nothing
+  pub text : text_of p.images child ≡ None
   pub other : child ≢ s
   pub apart : s ≢ child
 
@@ -86,53 +89,37 @@ free_slot p s child alive e =
       low = found.low;
       member = none;
       image = nothing_kept (keeping p.images child) ((alive.agree.each child found.above found.low).image ∙ ap kind_of_member none);
+      text = sym (alive.agree.text child found.above found.low)
+          ∙ (alive.agree.each child found.above found.low).textless (λ l. let e : Free ≡ Lives = sym (ap kind_of_member none) ∙ l in cc e);
       other = other;
       apart = λ same. other (sym same);
     }
 
--- The table with a child's row.
-abbrev pub row_of_child : Table → ℕ → Place → TableRow
-row_of_child t s place = record (child_row (row_at t s)) { size = (row_at t s).size; place = Some place }
-
-twice : (t : Table) (child : ℕ) (row : TableRow) (f : TableRow → TableRow) → child < length t.rows → change_row (with_row t child row) child f ≡ with_row t child (f row)
-twice t child row f low =
-    ap (λ (r : TableRow). with_row (with_row t child row) child (f r)) (get_or-set_same t.rows child row empty_row low)
-    ∙ ap (λ (rs : List TableRow). record t { rows = rs }) (set-set t.rows child row (f row))
-
-board_of_text : (b : Board) (s child : ℕ) (place : Place) → (row_at b.table s).text ≡ None
-    → applied b (line.Fork s child place) ≡ at_place (in_table b (λ t. with_row t child (child_row (row_at t s)))) child (row_at b.table s).size place
-unfolding applied
-board_of_text b s child place none = ap (λ text. at_place (joins (in_table b (λ t. with_row t child (child_row (row_at t s)))) text) child (row_at b.table s).size place) none
-
-pub board_forked : (t : Table) (k : Kept) (s child : ℕ) (place : Place) → child < length t.rows → (row_at t s).text ≡ None
-    → board_of (with_image_row t child (row_of_child t s place) place) k ≡ applied (board_of t k) (line.Fork s child place)
-board_forked t k s child (Core c) low none =
-    let b : Board = in_table (board_of t k) (λ u. with_row u child (child_row (row_at u s))) in
-    let row : TableRow = child_row (row_at t s) in
-    let text : (row_at b.table child).text ≡ None = ap (λ (r : TableRow). r.text) (get_or-set_same t.rows child row empty_row low) ∙ none in
-    sym (board_of_text (board_of t k) s child (Core c) none
-    ∙ (ap (λ x. in_table (enters_core b x) (λ u. change_row u child (λ r. record r { size = (row_at t s).size; place = Some (Core c) }))) text
-    ∙ ap (λ (u : Table). record (board_of t k) { table = u })
-    (twice (untimed t) child row (λ r. record r { size = (row_at t s).size; place = Some (Core c) }) low)))
-board_forked t k s child (Swap block) low none =
-    let row : TableRow = child_row (row_at t s) in
-    ap (λ (u : Table). record (board_of t k) { table = u }) (untimed_runout (with_row t child (row_of_child t s (Swap block))))
-    ∙ sym (board_of_text (board_of t k) s child (Swap block) none
-    ∙ ap (λ (u : Table). record (board_of t k) { table = runout_told u })
-    (twice (untimed t) child row (λ r. record r { size = (row_at t s).size; place = Some (Swap block); time = 0 }) low))
+-- The board with a child.
+untimed_child : (t : Table) (s child : ℕ) (place : Place)
+    → untimed (with_image_row t child (row_of_child t s place) place) ≡ with_image_row (untimed t) child (row_of_child t s place) place
+untimed_child t s child (Core c) = refl
+untimed_child t s child (Swap block) = untimed_runout (with_row t child (row_of_child t s (Swap block)))
 
 -- The child in its slot.
 abbrev pub child_pid : Procs → ℕ
 child_pid p = fresh_pid p.rows.slots p.rows.last_pid
 
-abbrev pub child_held : Procs → ℕ → Place → Held
-child_held p s place = record { u = area_of p.images s; image = image_of p.images s; place = place }
+abbrev pub child_held : Kept → ℕ → Place → Held
+child_held k s place = record { u = area_of k s; image = image_of k s; place = place }
+
+-- what is kept then, with its parent's text
+abbrev pub kept_forked : Kept → ℕ → ℕ → Place → Kept
+kept_forked k s child place = record (with_keeping k child (Alive (child_held k s place))) {
+  texts = texts_forked k.texts (text_of k s) place;
+  users = set k.users child (text_of k s);
+}
 
 abbrev pub seated : Procs → ℕ → ℕ → Place → Procs
 seated p s child place = record p {
   rows = forked p.rows s (Some child);
   table = with_image_row p.table child (row_of_child p.table s place) place;
-  images = with_keeping p.images child (Alive (child_held p s place));
+  images = kept_forked p.images s child place;
 }
 
 -- what the child is before it goes on
@@ -140,7 +127,7 @@ abbrev pub copy_of : Procs → ℕ → Process
 copy_of p s = record (process_here p s) { row = (child_of (process_here p s).row (child_pid p)).row }
 
 module _ (p : Procs) (s child : ℕ) (place : Place) (alive : IsAlive p s) (slots : length p.rows.slots ≡ 50) (images : length p.images.slots ≡ 50)
-    (free : IsFreeSlot p s child) where
+    (seats : length p.images.users ≡ 50) (free : IsFreeSlot p s child) where
   here : IsHere p s
   here = is_here p s alive
 
@@ -148,56 +135,74 @@ module _ (p : Procs) (s child : ℕ) (place : Place) (alive : IsAlive p s) (slot
   new_member = child_of (rows.row_at p.rows s) (child_pid p)
 
   abbrev new_images : Kept
-  new_images = with_keeping p.images child (Alive (child_held p s place))
+  new_images = kept_forked p.images s child place
 
   member_new : member_at (set p.rows.slots child (Some new_member)) child ≡ Some new_member
   member_new = get_or-set_same p.rows.slots child (Some new_member) None (omega (arith, free.low, slots))
 
-  image_new : keeping new_images child ≡ Alive (child_held p s place)
-  image_new = get_or-set_same p.images.slots child (Alive (child_held p s place)) Nothing (omega (arith, free.low, images))
+  image_new : keeping new_images child ≡ Alive (child_held p.images s place)
+  image_new = get_or-set_same p.images.slots child (Alive (child_held p.images s place)) Nothing (omega (arith, free.low, images))
 
   image_old : keeping new_images s ≡ Alive here.held
-  image_old = get_or-set_other p.images.slots child s (Alive (child_held p s place)) Nothing free.apart ∙ here.image_is
+  image_old = get_or-set_other p.images.slots child s (Alive (child_held p.images s place)) Nothing free.apart ∙ here.image_is
 
-  held_is : child_held p s place ≡ record { u = here.held.u; image = here.held.image; place = place }
+  -- it shares its parent's text, and who is in another slot what it shared
+  text_new : text_of new_images child ≡ text_of p.images s
+  text_new = get_or-set_same p.images.users child (text_of p.images s) None (omega (arith, free.low, seats))
+
+  text_old : (r : ℕ) → r ≢ child → text_of new_images r ≡ text_of p.images r
+  text_old r other = get_or-set_other p.images.users child r (text_of p.images s) None other
+
+  held_is : child_held p.images s place ≡ record { u = here.held.u; image = here.held.image; place = place }
   held_is = ap (λ (x : Keeping). record { u = area_in x; image = image_in x; place = place }) here.image_is
 
-  is_copy : process_by new_member (Alive (child_held p s place)) (text_of p.images child) ≡ copy_of p s
+  is_copy : process_by new_member (Alive (child_held p.images s place)) (text_of p.images s) ≡ copy_of p s
   is_copy =
       let row : rows.row_at p.rows s ≡ here.member.row = ap rows.row_of here.member_is in
-      ap (process_by new_member (Alive (child_held p s place)))
-      (no_text_of p.images child alive.agree.no_text ∙ sym (no_text_of p.images s alive.agree.no_text))
-      ∙ (ap (λ (h : Held). process_by new_member (Alive h) (text_of p.images s)) held_is
+      ap (λ (h : Held). process_by new_member (Alive h) (text_of p.images s)) held_is
       ∙ (ap (λ (r : Row). process_by (child_of r (child_pid p)) (Alive (record { u = here.held.u; image = here.held.image; place = place })) (text_of p.images s)) row
       ∙ (ap (λ (dead : Bool). record (process_by here.member (Alive here.held) (text_of p.images s)) { row = (child_of here.member.row (child_pid p)).row; is_zombie = dead }) (sym here.is_living)
-      ∙ ap (λ (q : Process). record q { row = (child_of q.row (child_pid p)).row }) (sym here.process_is))))
+      ∙ ap (λ (q : Process). record q { row = (child_of q.row (child_pid p)).row }) (sym here.process_is)))
 
   processes_seated : processes_in (set p.rows.slots child (Some new_member)) new_images ≡ set (processes_in p.rows.slots p.images) child (Some (copy_of p s))
   processes_seated = one_changed p.rows.slots (set p.rows.slots child (Some new_member)) p.images new_images child (Some (copy_of p s)) free.low
-      (ap (λ o. process_in o (keeping new_images child) (text_of p.images child)) member_new
-      ∙ (ap (λ x. process_in (Some new_member) x (text_of p.images child)) image_new ∙ ap (λ (q : Process). Some q) is_copy))
+      (ap (λ o. process_in o (keeping new_images child) (text_of new_images child)) member_new
+      ∙ (ap (λ x. process_in (Some new_member) x (text_of new_images child)) image_new
+      ∙ (ap (process_in (Some new_member) (Alive (child_held p.images s place))) text_new ∙ ap (λ (q : Process). Some q) is_copy)))
       (λ r below other.
-      ap (λ o. process_in o (keeping new_images r) (text_of p.images r)) (get_or-set_other p.rows.slots child r (Some new_member) None other)
-      ∙ ap (λ x. process_in (member_at p.rows.slots r) x (text_of p.images r)) (get_or-set_other p.images.slots child r (Alive (child_held p s place)) Nothing other))
+      ap (λ o. process_in o (keeping new_images r) (text_of new_images r)) (get_or-set_other p.rows.slots child r (Some new_member) None other)
+      ∙ ap (process_in (member_at p.rows.slots r) (keeping new_images r)) (text_old r other)
+      ∙ ap (λ x. process_in (member_at p.rows.slots r) x (text_of p.images r)) (get_or-set_other p.images.slots child r (Alive (child_held p.images s place)) Nothing other))
 
-  pub state_seated : (fs : FileSystem) → handed (seated p s child place) fs ≡ record (with_process (handed p fs) child (copy_of p s)) { last_pid = child_pid p }
-  state_seated fs =
-      ap (λ (c : Clock). record (handed p fs) { processes = processes_in (set p.rows.slots child (Some new_member)) new_images; last_pid = child_pid p; clock = c })
-      (clock_told p.table child (row_of_child p.table s place) place)
-      ∙ ap (λ (ps : List (Option Process)). record (handed p fs) { processes = ps; last_pid = child_pid p }) processes_seated
+  text_here : (process_here p s).text ≡ text_of p.images s
+  text_here = ap (λ (q : Process). q.text) here.process_is
 
-  pub board_seated : board (seated p s child place) ≡ applied (board p) (line.Fork s child place)
-  board_seated = board_forked p.table p.images s child place (omega (arith, free.low, alive.agree.rows)) (no_text_row p s alive)
+  pub state_seated : (fs : FileSystem) → handed (seated p s child place) fs ≡ record (with_process (handed p fs) child (copy_of p s)) {
+    last_pid = child_pid p;
+    texts = joined_by_child (handed p fs).texts (process_here p s).text;
+  }
+  state_seated fs = λ i. record (handed p fs) {
+    processes = processes_seated i;
+    last_pid = child_pid p;
+    clock = clock_told p.table child (row_of_child p.table s place) place i;
+    texts = (forked_handed p.images.texts (text_of p.images s) place ∙ ap (joined_by_child (handed p fs).texts) (sym text_here)) i;
+  }
 
-  size_is : (row_at p.table s).size ≡ clicks_of (area_of p.images s)
-  size_is = (alive.agree.each s alive.above alive.below).size here.held here.image_is ∙ ap (λ (x : Keeping). clicks_of (area_in x)) (sym here.image_is)
+  pub board_seated : images_of.placed p.images s (clicks_of (area_of p.images s)) ≡ Some place → board (seated p s child place) ≡ applied (board p) (line.Fork s child place)
+  board_seated found =
+      let low : child < length p.table.rows = omega (arith, free.low, alive.agree.rows) in
+      sym (λ i. record {
+        table = (forked_table (board p) s child low place ∙ sym (untimed_child p.table s child place)) i;
+        texts = forked_places (board p) p.images s child (clicks_of (area_of p.images s)) place low refl (text_row p s alive) found i;
+        core = forked_core (board p) s child low place i;
+      })
 
-  child_agrees : Agrees (Some new_member) (row_of_child p.table s place) (Alive (child_held p s place))
+  child_agrees : Agrees (Some new_member) (row_of_child p.table s place) (Alive (child_held p.images s place))
   child_agrees = record {
     stat = refl;
     image = refl;
     place = refl;
-    size = λ held is. size_is ∙ ap (λ (x : Keeping). clicks_of (area_in x)) is;
+    size = λ held is. size_is p s alive ∙ ap (λ (x : Keeping). clicks_of (area_in x)) is;
     quiet = λ f. refl;
     textless = λ f. absurd (f refl);
   }
@@ -207,24 +212,24 @@ module _ (p : Procs) (s child : ℕ) (place : Place) (alive : IsAlive p s) (slot
       let row : TableRow = row_of_child p.table s place in
       let a : AreProcs p = alive.agree in
       agree_told (forked p.rows s (Some child)) p.table new_images child row place good
-      (agree_but p.rows (forked p.rows s (Some child)) p.table (with_row p.table child row) p.images new_images child a free.above
+      (agree_with p.rows (forked p.rows s (Some child)) p.table (with_row p.table child row) p.images new_images child a free.above
       (record { last = a.table.last; running = a.table.running; ticks = a.table.ticks })
       (length-set p.table.rows child row)
       (subst (λ o. Agrees o (row_at (with_row p.table child row) child) (keeping new_images child)) (sym member_new)
       (subst (λ (r : TableRow). Agrees (Some new_member) r (keeping new_images child)) (sym (get_or-set_same p.table.rows child row empty_row (omega (arith, free.low, a.rows))))
       (subst (λ x. Agrees (Some new_member) row x) (sym image_new) child_agrees)))
       (ap (λ (r : TableRow). r.text) (get_or-set_same p.table.rows child row empty_row (omega (arith, free.low, a.rows)))
-      ∙ (no_text_row p s alive ∙ sym (no_text_of p.images child a.no_text)))
-      (same_texts p.images child (Alive (child_held p s place)))
+      ∙ (text_row p s alive ∙ sym text_new))
+      text_old
       (λ r other. get_or-set_other p.rows.slots child r (Some new_member) None other)
       (λ r other. get_or-set_other p.table.rows child r row empty_row other)
-      (λ r other. get_or-set_other p.images.slots child r (Alive (child_held p s place)) Nothing other))
+      (λ r other. get_or-set_other p.images.slots child r (Alive (child_held p.images s place)) Nothing other))
 
   pub parent_alive : IsTable (with_image_row p.table child (row_of_child p.table s place) place) → IsAlive (seated p s child place) s
   parent_alive good = record { agree = agree_forked good; above = alive.above; below = alive.below; image = (here.held, image_old) }
 
   pub child_alive : IsTable (with_image_row p.table child (row_of_child p.table s place) place) → IsAlive (seated p s child place) child
-  child_alive good = record { agree = agree_forked good; above = free.above; below = free.low; image = (child_held p s place, image_new) }
+  child_alive good = record { agree = agree_forked good; above = free.above; below = free.low; image = (child_held p.images s place, image_new) }
 
   pub parent_stays : process_here (seated p s child place) s ≡ process_here p s
   parent_stays =
@@ -240,11 +245,13 @@ module _ (p : Procs) (s child : ℕ) (place : Place) (alive : IsAlive p s) (slot
 -- what the code makes of the three
 pub is_seated : (p : Procs) (s child : ℕ) (place : Place) (v : Processes) (t : Table) (k : Kept) → v ≡ forked p.rows s (Some child)
     → t ≡ with_image_row p.table child (row_of_child p.table s place) place
-    → {o : Option Place} → o ≡ Some place → k ≡ images_of.with_image_at p.images child (area_of p.images s) (image_of p.images s) o
+    → {o : Option Place} → o ≡ Some place → k ≡ forked_at p.images s child o
     → ◌≡◌ {A = Procs} (record p { rows = v; table = t; images = k }) (seated p s child place)
 is_seated p s child place v t k e f {o} found g =
-    let at : Option Place → Kept = λ q. images_of.with_image_at p.images child (area_of p.images s) (image_of p.images s) q in
-    λ i. record p { rows = e i; table = f i; images = (g ∙ ap at found) i }
+    let now : k ≡ kept_forked p.images s child place =
+    g ∙ ap (forked_at p.images s child) found
+    ∙ slot_forked p.images (text_of p.images s) place child (Alive (child_held p.images s place)) (text_of p.images s) in
+    λ i. record p { rows = e i; table = f i; images = now i }
 
 -- What becomes of a child and its parent as they go on.
 abbrev pub begun_by : ℕ → Process → Process
@@ -254,13 +261,12 @@ abbrev pub gone_on : World → ℕ → ℕ → World
 gone_on w s child =
     record (change (change w child (begun_by (process_of w s).row.pid)) s past_word) { inodes = with_reference w.inodes (process_of w s).u.dir }
 
-module _ (w : World) (s child pid : ℕ) (apart : s ≢ child) (low : child < length w.processes) (below : s < length w.processes)
-    (alone : (process_of w s).text ≡ None) where
+module _ (w : World) (s child pid : ℕ) (apart : s ≢ child) (low : child < length w.processes) (below : s < length w.processes) where
   abbrev copy : Process
   copy = record (process_of w s) { row = (child_of (process_of w s).row pid).row }
 
   abbrev begins : World
-  begins = record (with_process w child copy) { last_pid = pid }
+  begins = record (with_process w child copy) { last_pid = pid; texts = joined_by_child w.texts (process_of w s).text }
 
   parent_of_child : process_of begins s ≡ process_of w s
   parent_of_child = ap (λ (o : Option Process). unwrap_or o no_process) (get_or-set_other w.processes child s (Some copy) None apart)
@@ -273,13 +279,9 @@ module _ (w : World) (s child pid : ℕ) (apart : s ≢ child) (low : child < le
       let own : Process = process_of w s in
       ap (λ (q : Process). record (change (change begins child (begun_by q.row.pid)) s past_word) { inodes = with_reference w.inodes q.u.dir }) parent_of_child
       ∙ (ap (λ (q : Process). record (change (with_process begins child (begun_by own.row.pid q)) s past_word) { inodes = with_reference w.inodes own.u.dir }) child_begins
-      ∙ ap (λ (ps : List (Option Process)). record (change (record w { processes = ps; last_pid = pid }) s past_word) { inodes = with_reference w.inodes own.u.dir })
-      (set-set w.processes child (Some copy) (Some (begun_by own.row.pid copy)))
-      ∙ ap (λ text. change (record (with_process w child (copied own pid)) {
-        last_pid = pid;
+      ∙ ap (λ (ps : List (Option Process)). record (change (record w { processes = ps; last_pid = pid; texts = joined_by_child w.texts own.text }) s past_word) {
         inodes = with_reference w.inodes own.u.dir;
-        texts = joined_by_child w.texts text;
-      }) s past_word) (sym alone))
+      }) (set-set w.processes child (Some copy) (Some (begun_by own.row.pid copy))))
 
   pub register_forked : register (process_of w s) 1 ≡ register (process_of (change (with_child w s child pid) s past_word) s) 1
   register_forked =

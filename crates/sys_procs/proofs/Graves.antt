@@ -24,10 +24,10 @@ use Rattle.sys_procs.specs.declared.procs.Procs.{Procs}
 use Rattle.sys_procs.specs.Process.{Process, no_process, process_by, process_in}
 use Rattle.sys_procs.specs.World.{without_process, processes_in}
 use Rattle.sys_procs.specs.Wait.{waits_for, wait_child}
-use Rattle.sys_procs.specs.Agree.{Free, Died, kind_by, kind_of_member, kind_of_keeping, Agrees, Agree}
+use Rattle.sys_procs.specs.Agree.{Free, Lives, Died, kind_by, kind_of_member, kind_of_keeping, Agrees, Agree}
 use Rattle.sys_procs.specs.Handed.{AreProcs, IsAlive, handed, board, process_here}
 use Rattle.sys_procs.proofs.Slots.{one_changed, own_is, members_are}
-use Rattle.sys_procs.proofs.Agreement.{agree_but, same_texts, no_text_of}
+use Rattle.sys_procs.proofs.Agreement.{agree_but, same_texts}
 
 -- The words of half a u area.
 word_of_half : (b : List ℕ) (at : ℕ) → at + 1 < 512 → word (take 512 b) at ≡ word b at
@@ -137,8 +137,15 @@ module _ (p : Procs) (s : ℕ) (low : s < 50) (slots : length p.rows.slots ≡ 5
   unfolding applied
   board_cleared = refl
 
-  pub agree_cleared : 0 < s → AreProcs p → AreProcs (cleared p s)
-  agree_cleared above a =
+  -- who has ended shares no text
+  text_buried : 0 < s → AreProcs p → HasGrave p.images s → text_of p.images s ≡ None
+  text_buried above a grave =
+      let one = a.each s above low in
+      let died : Died ≡ kind_of_member (member_at p.rows.slots s) = sym (ap kind_of_keeping grave.2) ∙ one.image in
+      sym (a.text s above low) ∙ one.textless (λ l. let e : Died ≡ Lives = died ∙ l in cc e)
+
+  pub agree_cleared : 0 < s → AreProcs p → HasGrave p.images s → AreProcs (cleared p s)
+  agree_cleared above a grave =
       let free : Agrees None empty_row Nothing = record {
         stat = refl;
         image = refl;
@@ -156,7 +163,7 @@ module _ (p : Procs) (s : ℕ) (low : s < 50) (slots : length p.rows.slots ≡ 5
       (sym (get_or-set_same p.table.rows s empty_row empty_row (omega (arith, low, a.rows))))
       (subst (λ x. Agrees None empty_row x) (sym (get_or-set_same p.images.slots s Nothing Nothing (omega (arith, low, images)))) free)))
       (ap (λ (r : TableRow). r.text) (get_or-set_same p.table.rows s empty_row empty_row (omega (arith, low, a.rows)))
-      ∙ sym (no_text_of p.images s a.no_text))
+      ∙ sym (text_buried above a grave))
       (same_texts p.images s Nothing)
       (λ r other. get_or-set_other p.rows.slots s r None None other)
       (λ r other. get_or-set_other p.table.rows s r empty_row empty_row other)

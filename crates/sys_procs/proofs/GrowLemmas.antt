@@ -1,5 +1,5 @@
 -- The image of a process gets other sizes: where it stands then, what the log says, and what becomes of the process.
-use Rattle.std.proofs.Common.{◌≡◌, ◌∙◌, ℕ, ◌+◌, nat_le, Bool, true, false, cond, List, [], ◌∷◌, length, set, Option, Some, None, is_some, refl, sym, ap}
+use Rattle.std.proofs.Common.{◌≡◌, ◌∙◌, ℕ, ◌+◌, nat_le, Bool, true, false, cond, List, [], ◌∷◌, length, map, set, Option, Some, None, is_some, refl, sym, ap}
 use Rattle.v6_base.specs.Trace.{Log}
 use Rattle.v6_base.specs.declared.entry.Place.{Place}
 use Rattle.v6_base.specs.declared.entry.Entry.{Entry}
@@ -7,7 +7,7 @@ use Rattle.v6_base.specs.declared.entry.Entry.TheVariants as line
 use Rattle.v6_base.specs.declared.entry.PanicKind.TheVariants as panic
 use Rattle.pick_rules.specs.declared.table.Table.{Table}
 use Rattle.pick_rules.specs.Table.{IsTable, row_at}
-use Rattle.pick_rules.specs.Board.{Board}
+use Rattle.pick_rules.specs.Board.{Board, TextPlace}
 use Rattle.pick_rules.specs.Board as board_of_log
 use Rattle.pick_rules.specs.Apply.{applied, change_row}
 use Rattle.pick_rules.specs.Effects.{Size}
@@ -16,16 +16,18 @@ use Rattle.pick_rules.specs.Logged.{logged, log_one}
 use Rattle.image_keep.specs.Kept.{Held, Keeping, Alive, Kept, with_keeping, text_of, area_in, image_in, area_of, image_of, place_in, place_of}
 use Rattle.image_keep.specs.Growth.{area_resized, image_resized, expanded}
 use Rattle.image_keep.specs.Places.{placed}
+use Rattle.swap_sched.specs.Match.{text_place}
 use Rattle.fs_nodes.specs.FileSystem.{FileSystem}
 use Rattle.sys_procs.specs.declared.procs.Procs.{Procs}
 use Rattle.sys_procs.specs.Break.{sized, expands}
 use Rattle.sys_procs.specs.Process.{Process, process_by}
-use Rattle.sys_procs.specs.World.{World, Clock, clock_of, processes_in, change}
+use Rattle.sys_procs.specs.World.{World, clock_of, processes_in, text_in, texts_in, change}
 use Rattle.sys_procs.specs.Seats.{with_place}
 use Rattle.sys_procs.specs.Handed.{IsAlive, handed, board, came, process_here}
 use Rattle.sys_procs.proofs.Alive.{IsHere, is_here}
 use Rattle.sys_procs.proofs.Places.{same_placed}
-use Rattle.sys_procs.proofs.PlacingRows.{sized_row, row_low, no_text, size_is, place_is, processes_seated, board_kept}
+use Rattle.sys_procs.proofs.PlacingRows.{sized_row, row_low, text_row, size_is, place_is, processes_seated, board_kept}
+use Rattle.sys_procs.proofs.GrownTexts.{texts_moved, texts_stay, texts_handed, processes_apart, grown_places}
 use Rattle.sys_procs.proofs.Seats.{clock_placed, board_at_size, put_alive, kept_alive}
 
 -- What the log says, where the image keeps its place, where it takes another, and where there is none.
@@ -70,18 +72,22 @@ abbrev pub table_by : Bool → Table → ℕ → ℕ → Place → Table
 table_by keeps t s n place = cond keeps (change_row t s (sized_row n)) (with_place t s n place)
 
 -- the image, with its place
-abbrev grown : Kept → ℕ → ℕ → ℕ → Place → Held
+abbrev pub grown : Kept → ℕ → ℕ → ℕ → Place → Held
 grown k s d stack place = record {
   u = area_resized (area_of k s) d stack;
   image = image_resized (image_of k s) d stack;
   place = place;
 }
 
+-- what is kept then, with the counts of its text
+abbrev pub kept_grown : Kept → ℕ → ℕ → ℕ → Place → Kept
+kept_grown k s d stack place = record (with_keeping k s (Alive (grown k s d stack place))) { texts = texts_moved k.texts (text_of k s) (place_of k s) place }
+
 -- the parts then, by whether it keeps its place
 abbrev resized_by : Bool → Procs → ℕ → ℕ → ℕ → Place → Procs
 resized_by keeps p s d stack place = record p {
   table = table_by keeps p.table s (16 + d + stack) place;
-  images = with_keeping p.images s (Alive (grown p.images s d stack place));
+  images = kept_grown p.images s d stack place;
 }
 
 abbrev pub resized : Procs → ℕ → ℕ → ℕ → Place → Procs
@@ -121,6 +127,25 @@ module _ (p : Procs) (s : ℕ) (alive : IsAlive p s) (long : length p.images.slo
         → cond keeps (place_of p.images s) (placed p.images s n) ≡ Some place
     there found keeps e = ap (λ b. cond b (place_of p.images s) (placed p.images s n)) (sym e) ∙ (sym (expanded_is n) ∙ found)
 
+    -- the texts, where it keeps its place
+    texts_kept : expanded p.images s n ≡ Some place → nat_le n (row_at p.table s).size ≡ true → (kept_grown p.images s d stack place).texts ≡ p.images.texts
+    texts_kept found e =
+        ap (λ (o : Option Place). texts_moved p.images.texts (text_of p.images s) o place) (there found true e)
+        ∙ texts_stay p.images.texts (text_of p.images s) place
+
+    -- and where it takes another
+    abbrev stood : Place
+    stood = (is_here p s alive).held.place
+
+    stood_at : place_of p.images s ≡ Some stood
+    stood_at = ap place_in (is_here p s alive).image_is
+
+    places : expanded p.images s n ≡ Some place → nat_le n (row_at p.table s).size ≡ false
+        → (applied (board p) (line.Size s n place)).texts ≡ map text_place (kept_grown p.images s d stack place).texts
+    places found e =
+        grown_places (board p) p.images s n stood place alive.above (row_low p s alive) refl (place_is p s alive ∙ stood_at) (text_row p s alive) (there found false e)
+        ∙ ap (λ (o : Option Place). map text_place (texts_moved p.images.texts (text_of p.images s) o place)) (sym stood_at)
+
     pub log_sized : (fs : FileSystem) → expanded p.images s n ≡ Some place → came p (expands (handed p fs) s d stack) ≡ record {
       items = Log (line_by (nat_le n (row_at p.table s).size) s n place) ∷ [];
       board = board (resized p s d stack place);
@@ -137,11 +162,13 @@ module _ (p : Procs) (s : ℕ) (alive : IsAlive p s) (long : length p.images.slo
         by true e =
             logged_kept (board p) s n (handed p fs) e
             ∙ ap (λ (b : Board). record { items = Log (line.SizeKeep s n) ∷ []; board = b; stop = None })
-            (board_kept (board p) s n)
+            (board_kept (board p) s n
+            ∙ ap (λ (texts : List (Option TextPlace)). record (board p) { table = change_row (board p).table s (sized_row n); texts = texts })
+            (sym (ap (map text_place) (texts_kept found e))))
         by false e =
             logged_grown (board p) s n (handed p fs) place e (fit_is n ∙ there found false e)
             ∙ ap (λ (b : Board). record { items = Log (line.Size s n place) ∷ []; board = b; stop = None })
-            (board_at_size p s n (grown p.images s d stack place) (row_low p s alive) (no_text p s alive))
+            (board_at_size p s n (grown p.images s d stack place) (kept_grown p.images s d stack place).texts (row_low p s alive) (places found e))
 
     pub grown_alive : expanded p.images s n ≡ Some place
         → IsTable (table_by (nat_le n (row_at p.table s).size) p.table s n place) → IsAlive (resized p s d stack place) s
@@ -149,8 +176,9 @@ module _ (p : Procs) (s : ℕ) (alive : IsAlive p s) (long : length p.images.slo
       where
         by : (keeps : Bool) → nat_le n (row_at p.table s).size ≡ keeps → IsTable (table_by keeps p.table s n place) → IsAlive (resized_by keeps p s d stack place) s
         by true e good =
-            kept_alive p s (grown p.images s d stack place) alive long n refl (place_is p s alive ∙ there found true e)
-        by false e good = put_alive p s (grown p.images s d stack place) alive long n refl good
+            kept_alive p s (grown p.images s d stack place) (kept_grown p.images s d stack place).texts alive long n refl
+            (place_is p s alive ∙ there found true e)
+        by false e good = put_alive p s (grown p.images s d stack place) (kept_grown p.images s d stack place).texts alive long n refl good
 
     clock_by : (keeps : Bool) → clock_of (table_by keeps p.table s n place) ≡ clock_of p.table
     clock_by true = refl
@@ -166,10 +194,15 @@ module _ (p : Procs) (s : ℕ) (alive : IsAlive p s) (long : length p.images.slo
           place = place;
         })) (text_of p.images s)) here.image_is
         ∙ ap (sized d stack) (sym here.process_is) in
-        ap (λ (c : Clock). record (handed p fs) {
-          processes = processes_in p.rows.slots (with_keeping p.images s (Alive (grown p.images s d stack place)));
-          clock = c;
-        }) (clock_by (nat_le n (row_at p.table s).size))
-        ∙ ap (λ (ps : List (Option Process)). record (handed p fs) { processes = ps })
-        (processes_seated p s alive long (grown p.images s d stack place) here.member here.member_is
-        ∙ ap (λ (q : Process). set (processes_in p.rows.slots p.images) s (Some q)) is)
+        let texts : texts_in (kept_grown p.images s d stack place) ≡ texts_in p.images =
+        ap (λ (o : Option Place). map text_in (texts_moved p.images.texts (text_of p.images s) o place)) stood_at
+        ∙ texts_handed p.images.texts (text_of p.images s) stood place in
+        let processes : processes_in p.rows.slots (kept_grown p.images s d stack place) ≡ set (processes_in p.rows.slots p.images) s (Some (sized d stack (process_here p s))) =
+        processes_apart p.rows.slots (with_keeping p.images s (Alive (grown p.images s d stack place))) (kept_grown p.images s d stack place).texts
+        ∙ (processes_seated p s alive long (grown p.images s d stack place) here.member here.member_is
+        ∙ ap (λ (q : Process). set (processes_in p.rows.slots p.images) s (Some q)) is) in
+        λ i. record (handed p fs) {
+          processes = processes i;
+          clock = clock_by (nat_le n (row_at p.table s).size) i;
+          texts = texts i;
+        }

@@ -24,17 +24,7 @@ use Rattle.sys_procs.specs.Texts as texts
 use Rattle.sys_procs.specs.World.{World, text_in, texts_in}
 use Rattle.sys_procs.specs.Handed.{board}
 use Rattle.sys_procs.proofs.Retexted.{with_its_text}
-
--- a list has an element for which a test is what it was
-any_same : {A : Type 0} (p : A → Bool) (xs : List A) (i : ℕ) (y d : A) → p y ≡ p (get_or xs i d) → list_any p (set xs i y) ≡ list_any p xs
-any_same p [] i y d e = refl
-any_same p (x ∷ xs) zero y d e = ap (λ b. b || list_any p xs) e
-any_same p (x ∷ xs) (suc i) y d e = ap (λ b. p x || b) (any_same p xs i y d e)
-
--- a line of the log
-pub line_logged : (b : Board) (e : Entry) → logged {W = World} b (Show (Log e) ∷ []) ≡ record { items = Log e ∷ []; board = applied b e; stop = None }
-unfolding log_one effects.came
-line_logged b e = refl
+use Rattle.sys_procs.proofs.TextMarks.{marks_same}
 
 module _ (k : Kept) (t : ℕ) where
   abbrev pub more : List (Option Shared)
@@ -57,7 +47,8 @@ module _ (k : Kept) (t : ℕ) where
   place_by None = refl
   place_by (Some x) = refl
 
-  pub places_joined : map text_place more ≡ set (map text_place k.texts) t (board_of_log.changed (get_or (map text_place k.texts) t None) one_more)
+  pub places_joined : map text_place more ≡ set (map text_place k.texts) t
+      (board_of_log.changed (get_or (map text_place k.texts) t None) one_more)
   places_joined =
       map-set text_place k.texts t (changed joined (shared k t))
       ∙ ap (λ o. set (map text_place k.texts) t o) (place_by (shared k t)
@@ -67,15 +58,11 @@ module _ (k : Kept) (t : ℕ) where
   ino_by ino None = refl
   ino_by ino (Some x) = refl
 
-  marked : (ino : ℕ) → list_any (is_text_of ino) (map text_in more) ≡ list_any (is_text_of ino) (texts_in k)
-  marked ino =
-      ap (list_any (is_text_of ino)) (map-set text_in k.texts t (changed joined (shared k t)))
-      ∙ any_same (is_text_of ino) (texts_in k) t (text_in (changed joined (shared k t))) None
-      (ino_by ino (shared k t) ∙ ap (is_text_of ino) (sym (get_or-map text_in k.texts t None)))
-
   pub marks_joined : marks_of (map text_in more) ≡ marks_of (texts_in k)
-  unfolding marks_of
-  marks_joined = λ i. map (λ ino. marked ino i) (range_with_len 0 INODE_NUMBERS)
+  marks_joined =
+      ap marks_of (map-set text_in k.texts t (changed joined (shared k t)))
+      ∙ marks_same (texts_in k) t (text_in (changed joined (shared k t)))
+      (λ ino. ino_by ino (shared k t) ∙ ap (is_text_of ino) (sym (get_or-map text_in k.texts t None)))
 
 -- The board of a process that shares a text from now on.
 module _ (p : Procs) (s t : ℕ) where
@@ -93,6 +80,9 @@ module _ (p : Procs) (s t : ℕ) where
     core = p.images.core;
   }
 
-  pub images_joined : with_joined_text p.images s t ≡ record p.images { texts = more p.images t; users = set p.images.users s (Some t) }
+  pub images_joined : with_joined_text p.images s t ≡ record p.images {
+    texts = more p.images t;
+    users = set p.images.users s (Some t);
+  }
   unfolding with_joined_text
   images_joined = refl

@@ -29,7 +29,17 @@ pub mod TestsLemmas
 pub mod LoadData
 pub mod LoadLemmas
 pub mod LoadForms
+pub mod FilledText
+pub mod KeptOwner
+pub mod Following
 pub mod Bare
+pub mod TextMarks
+pub mod LeftText
 pub mod Retexted
 pub mod JoinedText
+pub mod MadeText
 pub mod MovedTexts
+pub mod GrownTexts
+pub mod Referred
+pub mod ForkedTexts
+pub mod LeavesFirst

@@ -16,7 +16,7 @@ use Rattle.fs_nodes.specs.Copy.{put_into}
 use Rattle.seg_regs.specs.Sizes.{is_refused}
 use Rattle.sys_procs.specs.declared.program.Program.{Program}
 use Rattle.sys_procs.specs.Tests.{no_node, node_in}
-use Rattle.sys_procs.specs.ExecFile.{text_clicks, data_clicks, cleared_image, data_in}
+use Rattle.sys_procs.specs.ExecFile.{data_clicks, cleared_image, data_in}
 
 -- an image with a text, so many bytes of data, and this stack
 pub record HasData (text : List ℕ) (n : ℕ) (stack : List ℕ) (m : Image) : Type 0 where
@@ -154,11 +154,11 @@ begins_at text t d long few = record {
   few = omega (arith, few);
 }
 
-pub stack_stays : (store : Store) (text : List ℕ) (program : Program) (time : ℕ) → length text ≡ 64 * text_clicks program.plan
-    → is_refused (text_clicks program.plan) (data_clicks program.plan) 20 2048 ≡ false
+pub stack_stays : (store : Store) (text : List ℕ) (program : Program) (time : ℕ) → length text ≡ 64 * program.text_clicks
+    → is_refused program.text_clicks (data_clicks program.plan) 20 2048 ≡ false
     → (data_in store text program time).memory.stack ≡ replicate 1280 0
 stack_stays store text program time long fits =
-    let t : ℕ = text_clicks program.plan in
+    let t : ℕ = program.text_clicks in
     let d : ℕ = data_clicks program.plan in
     let nought : ℕ = 0 in
     let has : HasData text (64 * d) (replicate 1280 0) (cleared_image text program.plan) =

@@ -23,7 +23,7 @@ abbrev pub with_its_text : ℕ → TableRow → TableRow
 with_its_text t row = record row { text = Some t }
 
 -- who lives is there
-there : (o : Option Member) → kind_of_member o ≡ Lives → (m : Member) × (o ≡ Some m)
+pub there : (o : Option Member) → kind_of_member o ≡ Lives → (m : Member) × (o ≡ Some m)
 there None e = absurd (cc e)
 there (Some m) e = (m, refl)
 
@@ -104,6 +104,7 @@ module _ (p : Procs) (s t : ℕ) (texts : List (Option Shared)) (bare : IsBare p
           subst (λ (row : TableRow). Agrees (member_at p.rows.slots r) row (keeping p.images r)) (sym (other_row r other))
           (bare.agree.others r up below other);
       text = texts_agree;
+      textless = other_text 0 (λ e. omega (arith, e, bare.above)) ∙ bare.agree.textless;
     };
     above = bare.above;
     below = bare.below;

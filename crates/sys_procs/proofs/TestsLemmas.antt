@@ -1,9 +1,10 @@
 -- The tests of exec(II): those that leave the same world are one, which leaves that world where one of them refuses.
-use Rattle.std.proofs.Common.{◌≡◌, ◌∙◌, ◌==◌, ◌&&◌, ℕ, Bool, true, false, not, nat_lt, List, map, Option, Some, None}
-use Rattle.std.proofs.Common.{if◌then◌else◌, Result, Ok, Err, IsSome, ◌*◌, ◌<◌, IfOk, length, slice_index, inl, inr, refl, sym, ap, arith}
-use Rattle.std.proofs.lemmas.Bool.{eq-eqb, ne_eqb, eqb-true}
-use Rattle.std.proofs.lemmas.Bool.Decides.{eqb_tells}
-use Rattle.std.specs.Option.{unwrap_or}
+use Rattle.std.proofs.Common.{◌≡◌, ◌∙◌, ◌==◌, ◌&&◌, ◌/◌, ℕ, Bool, true, false, not, List, map, Option, Some, None, is_none}
+use Rattle.std.proofs.Common.{if◌then◌else◌, Result, Ok, Err, IsSome, IfSome, ◌*◌, ◌<◌, length, slice_index, inl, inr, refl, sym, ap, arith}
+use Rattle.std.proofs.lemmas.Bool.{ne_eqb}
+use Rattle.std.specs.Option.{unwrap_or, option_map}
+use Rattle.std.proofs.Math.ListN.{get_or-map}
+use Rattle.std.specs.Prelude.{slice_index_or}
 use Rattle.v6_base.specs.Access.{then_do}
 use Rattle.v6_base.specs.declared.errno.Errno.{Errno}
 use Rattle.v6_base.specs.declared.errno.Errno.TheVariants.{ENOEXEC, ENOMEM, EACCES, ETXTBSY}
@@ -15,14 +16,15 @@ use Rattle.fs_tree.specs.declared.user.Want.TheVariants.{Execute}
 use Rattle.fs_tree.specs.Permission.{permission}
 use Rattle.fs_tree.specs.Name.{name_at}
 use Rattle.fs_tree.specs.Finding.{Inodes, inodes_of, find_in}
-use Rattle.aout_head.specs.Header.{Header, header_of, plan_of, plain, shared as shared_plan}
+use Rattle.aout_head.specs.Header.{Header, header_of, plan_of}
 use Rattle.aout_head.specs.declared.parts.ExecFault.{ExecFault}
 use Rattle.aout_head.specs.declared.parts.ExecFault.TheVariants.{Separate, NotExecutable}
 use Rattle.aout_head.specs.declared.parts.Plan.{Plan}
 use Rattle.seg_regs.specs.Sizes.{is_refused}
 use Rattle.sys_procs.specs.declared.procs.Procs.{Procs}
-use Rattle.image_keep.specs.Kept.{Kept, Shared, shared, shared_clicks}
-use Rattle.image_keep.specs.SharedTexts.{AreLong, is_of_inode, found_text, row_in}
+use Rattle.sys_procs.specs.declared.program.Program.{Program}
+use Rattle.image_keep.specs.Kept.{Kept, Shared, shared, shared_clicks, bytes_in}
+use Rattle.image_keep.specs.SharedTexts.{AreLong, AreShared, HasNoText, IsTextOf, is_of_inode, found_text, row_in}
 use Rattle.image_keep.proofs.TextSearch.{position_map}
 use Rattle.sys_procs.specs.Process.{Process}
 use Rattle.sys_procs.specs.TextTable.{Text, text_of, is_text_of, entry_of}
@@ -30,8 +32,8 @@ use Rattle.sys_procs.specs.World.{World, text_in, texts_in, with_inodes, let_go}
 use Rattle.sys_procs.specs.Stack.{arguments, stack_clicks}
 use Rattle.sys_procs.specs.Tests.{must, user_of, no_node, node_in}
 use Rattle.sys_procs.specs.Handed.{handed, process_here, memory_here}
-use Rattle.sys_procs.specs.ExecFile.{Tested, check, with_moved, clicks, text_clicks, data_clicks}
-use Rattle.sys_procs.specs.ExecFile.{unless_error, is_magic, or_no_memory, is_other, is_busy, header_read}
+use Rattle.sys_procs.specs.ExecFile.{Tested, check, with_moved, clicks, entry_clicks, text_clicks_by, text_clicks_in, data_clicks, AreSized}
+use Rattle.sys_procs.specs.ExecFile.{unless_error, is_magic, or_no_memory, is_busy, header_read}
 use Rattle.sys_procs.specs.ExecFile.{tests_header, tests_file, tests}
 use Rattle.sys_procs.proofs.MemoryLemmas.{bytes_at}
 
@@ -43,86 +45,66 @@ of_inode ino (Some x) = refl
 pub entry_is : (k : Kept) (ino : ℕ) → entry_of (texts_in k) ino ≡ found_text k ino
 entry_is k ino = position_map text_in (is_of_inode ino) (is_text_of ino) (of_inode ino) k.texts
 
--- a text has the clicks of a header, or not
-clicks_told : (n a b : ℕ) → n ≡ 64 * a → (n == 64 * b) ≡ (a == b)
-clicks_told n a b e = elim (eqb_tells a b) [
-  | inl same ↦ eq-eqb n (64 * b) (e ∙ ap (λ m. 64 * m) same.1) ∙ sym same.0
-  | inr other ↦ ne_eqb n (64 * b) (λ f. other.1 (omega (arith, e, f))) ∙ sym other.0
-]
-
-row_clicks : (o : Option Shared) → (row_in o).clicks ≡ shared_clicks o
+-- a text is as long as its clicks say
+pub row_clicks : (o : Option Shared) → (row_in o).clicks ≡ shared_clicks o
 row_clicks None = refl
 row_clicks (Some x) = refl
 
-pub other_is : (k : Kept) (references ino size t : ℕ) → AreLong k → found_text k ino ≡ Some t
-    → not ((row_in (shared k t)).clicks == size) ≡ is_other (texts_in k) references size (entry_of (texts_in k) ino)
-other_is k references ino size t long found =
-    let told : length (text_of (texts_in k) t).bytes ≡ 64 * (row_in (shared k t)).clicks =
-    ap length (bytes_at k.texts t) ∙ (long t ∙ ap (λ n. 64 * n) (sym (row_clicks (shared k t)))) in
-    ap not (sym (clicks_told (length (text_of (texts_in k) t).bytes) (row_in (shared k t)).clicks size told))
-    ∙ ap (is_other (texts_in k) references size) (sym (entry_is k ino ∙ found))
+pub text_long : (k : Kept) (t : ℕ) → AreLong k → length (text_of (texts_in k) t).bytes ≡ 64 * (row_in (shared k t)).clicks
+text_long k t long = ap length (bytes_at k.texts t) ∙ (long t ∙ ap (λ n. 64 * n) (sym (row_clicks (shared k t))))
 
-pub none_other : (k : Kept) (references ino size : ℕ) → found_text k ino ≡ None
-    → nat_lt 1 references ≡ is_other (texts_in k) references size (entry_of (texts_in k) ino)
-none_other k references ino size found = ap (is_other (texts_in k) references size) (sym (entry_is k ino ∙ found))
+clicks_of : (n c : ℕ) → n ≡ 64 * c → n / 64 ≡ c
+clicks_of n c e = omega (arith, e)
 
--- A text of a program that isn't busy, where one is there, has the clicks of the header.
-module _ (h : Header) (texts : List (Option Text)) (references ino : ℕ) where
-  abbrev other : Bool
-  other = is_other texts references (clicks h.text_size) (entry_of texts ino)
+-- The clicks of the text that a file has in an entry, where one is found.
+pub found_clicks : (k : Kept) (ino t : ℕ) → AreLong k → found_text k ino ≡ Some t
+    → Some (row_in (shared k t)).clicks ≡ entry_clicks (texts_in k) ino
+found_clicks k ino t long found =
+    sym (ap (λ o. option_map (λ e. length (text_of (texts_in k) e).bytes / 64) o) (entry_is k ino ∙ found)
+    ∙ ap (λ n. Some n) (clicks_of (length (text_of (texts_in k) t).bytes) (row_in (shared k t)).clicks (text_long k t long)))
 
-  long_by : (k : ℕ) → is_other texts references (clicks h.text_size) (Some k) ≡ false
-      → length (text_of texts k).bytes ≡ 64 * clicks h.text_size
-  long_by k e = eqb-true (length (text_of texts k).bytes) (64 * clicks h.text_size) (not_false (length (text_of texts k).bytes == 64 * clicks h.text_size) e)
-    where
-      not_false : (b : Bool) → not b ≡ false → b ≡ true
-      not_false true e = refl
-      not_false false e = sym e
+pub no_clicks : (k : Kept) (ino : ℕ) → found_text k ino ≡ None → None ≡ entry_clicks (texts_in k) ino
+no_clicks k ino found = sym (ap (λ o. option_map (λ e. length (text_of (texts_in k) e).bytes / 64) o) (entry_is k ino ∙ found))
 
-  third : (a b c : Bool) → a ≡ true → b ≡ true → (a && b && c) ≡ false → c ≡ false
-  third true true c e f g = g
-  third true false c e f g = absurd (cc f)
-  third false b c e f g = absurd (cc e)
+-- All texts of the file have these clicks: there is only that one.
+record IsAt (o : Option Shared) (text : Text) : Type 0 where
+  x : Shared
+  is : o ≡ Some x
+  told : text ≡ record { ino = x.row.ino; bytes = x.bytes; users = x.row.users }
 
-  pub planned_long : (plan : Plan) (k : ℕ) → plan_of h ≡ Ok plan
-      → (not (h.magic == 0o407) && not (h.text_size == 0) && other) ≡ false
-      → 0 < plan.text → entry_of texts ino ≡ Some k → length (text_of texts k).bytes ≡ 64 * text_clicks plan
-  planned_long plan k is free some there = by (h.magic == 0o407) refl
-    where
-      some_bytes : plan.text ≡ h.text_size → not (h.text_size == 0) ≡ true
-      some_bytes e = ap not (ne_eqb h.text_size 0 (λ f. omega (arith, e, f, some)))
+there_by : (o : Option Shared) (text : Text) → text_in o ≡ Some text → IsAt o text
+there_by None text e = absurd (cc e)
+there_by (Some x) text e = record { x = x; is = refl; told = sym (cc e) }
 
-      by : (x : Bool) → (h.magic == 0o407) ≡ x → length (text_of texts k).bytes ≡ 64 * text_clicks plan
-      by true e =
-          let same : Ok (plain h) ≡ Ok plan = ap (λ b. if b then Ok (plain h) else (if h.magic == 0o410 then Ok (shared_plan h) else (if h.magic == 0o411 then Err Separate else Err NotExecutable))) (sym e) ∙ is in
-          let p : plain h ≡ plan = cc same in
-          let none : 0 ≡ plan.text = ap (λ (q : Plan). q.text) p in
-          absurd (omega (arith, none, some))
-      by false e = in_shared (h.magic == 0o410) refl
-        where
-          in_shared : (x : Bool) → (h.magic == 0o410) ≡ x → length (text_of texts k).bytes ≡ 64 * text_clicks plan
-          in_shared true f =
-              let same : Ok (shared_plan h) ≡ Ok plan = (λ i. if sym e i then Ok (plain h) else (if sym f i then Ok (shared_plan h) else (if h.magic == 0o411 then Err Separate else Err NotExecutable))) ∙ is in
-              let p : shared_plan h ≡ plan = cc same in
-              let bytes : plan.text ≡ h.text_size = sym (ap (λ (q : Plan). q.text) p) in
-              long_by k (ap (is_other texts references (clicks h.text_size)) (sym there) ∙ third (not (h.magic == 0o407)) (not (h.text_size == 0)) other (ap not e) (some_bytes bytes) free)
-              ∙ ap (λ n. 64 * clicks n) (sym bytes)
-          in_shared false f = absurd (no_plan (h.magic == 0o411) ((λ i. if sym e i then Ok (plain h) else (if sym f i then Ok (shared_plan h) else (if h.magic == 0o411 then Err Separate else Err NotExecutable))) ∙ is))
-            where
-              no_plan : (x : Bool) → (if x then Err Separate else Err NotExecutable) ≡ Ok plan → ⊥
-              no_plan true g = cc g
-              no_plan false g = cc g
+text_at : (k : Kept) (e : ℕ) (text : Text) → slice_index_or (texts_in k) e None ≡ Some text → IsAt (shared k e) text
+text_at k e text at = there_by (shared k e) text (sym (get_or-map text_in k.texts e None) ∙ at)
 
-pub shared_then : (result : Result Plan Errno) (planned : Result Plan ExecFault) (h : Header) (texts : List (Option Text)) (references ino : ℕ)
-    → IfOk result (λ plan. planned ≡ Ok plan) → planned ≡ plan_of h
-    → (not (h.magic == 0o407) && not (h.text_size == 0) && is_other texts references (clicks h.text_size) (entry_of texts ino)) ≡ false
-    → IfOk result (λ plan. (k : ℕ) → 0 < plan.text → entry_of texts ino ≡ Some k → length (text_of texts k).bytes ≡ 64 * text_clicks plan)
-shared_then (Ok plan) planned h texts references ino is told free = λ k some there.
-    planned_long h texts references ino plan k (sym told ∙ is) free some there
-shared_then (Err e) planned h texts references ino is told free = tt
+pub all_sized : (k : Kept) (ino t : ℕ) → AreShared k → AreLong k → IsTextOf k ino t
+    → AreSized (texts_in k) ino (row_in (shared k t)).clicks
+all_sized k ino t are long is = λ e text at named.
+    let there = text_at k e text at in
+    let same : e ≡ t =
+    are.apart e t there.x is.0 there.is is.1 (sym (ap (λ (y : Text). y.ino) there.told) ∙ (named ∙ sym is.2)) in
+    ap (λ (y : Text). length y.bytes) there.told ∙ (ap (λ o. length (bytes_in o)) (sym there.is)
+    ∙ (long e ∙ (ap (λ n. 64 * shared_clicks (shared k n)) same ∙ ap (λ n. 64 * n) (sym (row_clicks (shared k t))))))
+
+pub none_sized : (k : Kept) (ino size : ℕ) → HasNoText k ino → AreSized (texts_in k) ino size
+none_sized k ino size none = λ e text at named.
+    let there = text_at k e text at in
+    absurd (none e there.x there.is (sym (ap (λ (y : Text). y.ino) there.told) ∙ named))
+
+pub sized_by : (texts : List (Option Text)) (ino : ℕ) (there : Option ℕ) (plan : Plan)
+    → ((size : ℕ) → AreSized texts ino (unwrap_or there size)) → 0 < text_clicks_by there plan
+    → AreSized texts ino (text_clicks_by there plan)
+sized_by texts ino there plan sized = by (plan.text == 0)
+  where
+    by : (b : Bool) → 0 < (if b then 0 else unwrap_or there (clicks plan.text))
+        → AreSized texts ino (if b then 0 else unwrap_or there (clicks plan.text))
+    by true some = absurd (omega (arith, some))
+    by false some = sized (clicks plan.text)
 
 -- what the header comes to, where none of the refusals before it comes
-pub none_refuses : (error : Option Errno) (is_program is_busy : Bool) (rest : Result Plan Errno)
+pub none_refuses : {A : Type 0} (error : Option Errno) (is_program is_busy : Bool) (rest : Result A Errno)
     → error ≡ None → is_program ≡ true → is_busy ≡ false
     → rest ≡ then_do (unless_error error) (λ _. then_do (must ENOEXEC is_program) (λ _.
     then_do (must ETXTBSY (not is_busy)) (λ _. rest)))
@@ -130,7 +112,7 @@ none_refuses error is_program is_busy rest whole program free =
     sym (λ i. then_do (unless_error (whole i)) (λ _. then_do (must ENOEXEC (program i)) (λ _.
     then_do (must ETXTBSY (not (free i))) (λ _. rest))))
 
-pub busy_refuses : (error : Option Errno) (is_program is_busy : Bool) (rest : Result Plan Errno)
+pub busy_refuses : {A : Type 0} (error : Option Errno) (is_program is_busy : Bool) (rest : Result A Errno)
     → error ≡ None → is_program ≡ true → is_busy ≡ true
     → Err ETXTBSY ≡ then_do (unless_error error) (λ _. then_do (must ENOEXEC is_program) (λ _.
     then_do (must ETXTBSY (not is_busy)) (λ _. rest)))
@@ -138,15 +120,18 @@ busy_refuses error is_program is_busy rest whole program busy =
     sym (λ i. then_do (unless_error (whole i)) (λ _. then_do (must ENOEXEC (program i)) (λ _.
     then_do (must ETXTBSY (not (busy i))) (λ _. rest))))
 
--- The sizes that a header of so many bytes comes to, or the refusal.
-abbrev pub judged : World → ℕ → List ℕ → ℕ → Option Errno → ℕ → Result Plan Errno
-judged w ino head done error limit =
+-- The program that a header of so many bytes comes to, or the refusal.
+abbrev pub program_in : World → ℕ → List (List ℕ) → Plan → Program
+program_in w ino args plan = record { ino = ino; plan = plan; text_clicks = text_clicks_in w.texts ino plan; arguments = args }
+
+abbrev pub judged : World → ℕ → List (List ℕ) → List ℕ → ℕ → Option Errno → ℕ → Result Program Errno
+judged w ino args head done error limit =
     then_do (unless_error error) (λ whole.
     then_do (must ENOEXEC ((done == 16) && is_magic (plan_of (header_of head)))) (λ program.
     then_do (must ETXTBSY (not (is_busy w ino (header_of head)))) (λ free.
     then_do (or_no_memory (plan_of (header_of head))) (λ plan.
-    then_do (must ENOMEM (not (is_refused (text_clicks plan) (data_clicks plan) stack_clicks limit))) (λ fits.
-    Ok plan)))))
+    then_do (must ENOMEM (not (is_refused (text_clicks_in w.texts ino plan) (data_clicks plan) stack_clicks limit))) (λ fits.
+    Ok (program_in w ino args plan))))))
 
 -- Tests that leave the same world are one.
 check_then : {A B : Type 0} (out : World) (r : Result A Errno) (f : A → Result B Errno) (next : B → Tested)
@@ -155,35 +140,36 @@ check_then out (Ok a) f next = refl
 check_then out (Err e) f next = refl
 
 five_checks : {A B C D : Type 0} (out : World) (first : Result A Errno) (second : Result B Errno)
-    (third : Result C Errno) (fourth : Result Plan Errno) (fifth : Plan → Result D Errno) (next : Plan → Tested)
+    (third : Result C Errno) (fourth : Result Plan Errno) (fifth : Plan → Result D Errno) (made : Plan → Program)
+    (next : Program → Tested)
     → check out first (λ _. check out second (λ _. check out third (λ _. check out fourth (λ plan.
-    check out (fifth plan) (λ _. next plan)))))
+    check out (fifth plan) (λ _. next (made plan))))))
     ≡ check out (then_do first (λ _. then_do second (λ _. then_do third (λ _. then_do fourth (λ plan.
-    then_do (fifth plan) (λ _. Ok plan)))))) next
-five_checks out (Err e) second third fourth fifth next = refl
-five_checks out (Ok a) (Err e) third fourth fifth next = refl
-five_checks out (Ok a) (Ok b) (Err e) fourth fifth next = refl
-five_checks out (Ok a) (Ok b) (Ok c) (Err e) fifth next = refl
-five_checks out (Ok a) (Ok b) (Ok c) (Ok plan) fifth next = check_then out (fifth plan) (λ _. Ok plan) next
+    then_do (fifth plan) (λ _. Ok (made plan))))))) next
+five_checks out (Err e) second third fourth fifth made next = refl
+five_checks out (Ok a) (Err e) third fourth fifth made next = refl
+five_checks out (Ok a) (Ok b) (Err e) fourth fifth made next = refl
+five_checks out (Ok a) (Ok b) (Ok c) (Err e) fifth made next = refl
+five_checks out (Ok a) (Ok b) (Ok c) (Ok plan) fifth made next = check_then out (fifth plan) (λ _. Ok (made plan)) next
 
--- a program of these sizes
-abbrev pub goes_on : World → ℕ → List (List ℕ) → Plan → Tested
-goes_on w ino args plan = record { answer = Ok (record { ino = ino; plan = plan; arguments = args }); world = w }
+-- a program that the tests let through
+abbrev pub goes_on : World → Program → Tested
+goes_on w program = record { answer = Ok program; world = w }
 
 pub header_tested : (w : World) (ino : ℕ) (args : List (List ℕ)) (m : Moving (List ℕ)) (head : List ℕ) (done : ℕ)
-    (error : Option Errno) (limit : ℕ) (r : Result Plan Errno)
+    (error : Option Errno) (limit : ℕ) (r : Result Program Errno)
     → m.memory ≡ head → m.done ≡ done → m.error ≡ error → limit ≡ w.limit
-    → r ≡ judged w ino head done error limit
-    → check (let_go w ino) r (goes_on w ino args) ≡ tests_header w ino args m
+    → r ≡ judged w ino args head done error limit
+    → check (let_go w ino) r (goes_on w) ≡ tests_header w ino args m
 header_tested w ino args m head done error limit r memory number ended most is =
-    ap (λ r. check (let_go w ino) r (goes_on w ino args))
-    (is ∙ sym (λ i. judged w ino (memory i) (number i) (ended i) (sym most i)))
+    ap (λ r. check (let_go w ino) r (goes_on w))
+    (is ∙ sym (λ i. judged w ino args (memory i) (number i) (ended i) (sym most i)))
     ∙ sym (five_checks (let_go w ino) (unless_error m.error)
     (must ENOEXEC ((m.done == 16) && is_magic (plan_of (header_of m.memory))))
     (must ETXTBSY (not (is_busy w ino (header_of m.memory))))
     (or_no_memory (plan_of (header_of m.memory)))
-    (λ plan. must ENOMEM (not (is_refused (text_clicks plan) (data_clicks plan) stack_clicks w.limit)))
-    (goes_on w ino args))
+    (λ plan. must ENOMEM (not (is_refused (text_clicks_in w.texts ino plan) (data_clicks plan) stack_clicks w.limit)))
+    (program_in w ino args) (goes_on w))
 
 -- the node of a number that is used
 node_by : (o : Option Node) → IsSome o → o ≡ Some (unwrap_or o no_node)

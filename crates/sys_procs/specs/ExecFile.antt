@@ -1,5 +1,5 @@
 -- exec(II) of the UNIX Programmer's Manual; Lions' Commentary, `exec` in `sys1.c`.
-use Rattle.std.specs.Prelude.{◌≡◌, ◌<◌, ◌≤◌, IsSome, ℕ, ◌+◌, ◌*◌, ◌/◌, ◌%◌, ◌==◌, ◌&&◌, min, nat_lt, Bool, true, false, not, if◌then◌else◌, List, [], ◌∷◌, length, map, replicate, slice_index, Option, Some, None, is_none, Result, Ok, Err, bit_and}
+use Rattle.std.specs.Prelude.{◌≡◌, ◌<◌, ◌≤◌, ℕ, ◌+◌, ◌*◌, ◌/◌, ◌%◌, ◌==◌, ◌&&◌, min, nat_lt, Bool, true, false, not, if◌then◌else◌, List, [], ◌∷◌, length, map, replicate, slice_index, slice_index_or, Option, Some, None, is_none, Result, Ok, Err, bit_and}
 use Rattle.std.specs.Option.{unwrap_or, option_map}
 use Rattle.v6_base.specs.Image.{Image, nseg}
 use Rattle.v6_base.specs.declared.entry.Entry.TheVariants.{Bare}
@@ -7,7 +7,7 @@ use Rattle.v6_base.specs.declared.errno.Errno.{Errno}
 use Rattle.v6_base.specs.declared.errno.Errno.TheVariants.{ENOEXEC, ENOMEM, EACCES, ETXTBSY}
 use Rattle.buf_cache.specs.Blocks.{patched}
 use Rattle.fs_codec.specs.Modes.{file_type}
-use Rattle.fs_codec.specs.Store.{Node, Store, node_numbered}
+use Rattle.fs_codec.specs.Store.{Node, Store}
 use Rattle.fs_codec.specs.declared.modes.TheConstants.{ISUID, ISGID}
 use Rattle.fs_laws.specs.Numbers.{with_node}
 use Rattle.fs_laws.specs.Pieces.{Moving, read_file}
@@ -143,10 +143,12 @@ bare_board b s = applied b (Bare s)
 abbrev pub text_room : Program → ℕ
 text_room program = min program.plan.text (64 * program.text_clicks)
 
+abbrev pub text_in : Store → Program → ℕ → Moving (List ℕ)
+text_in store program time =
+    read_file put_kernel (node_in store program.ino) store.room (replicate (text_room program) 0) 16 (text_room program) time
+
 abbrev pub text_read : World → Program → Moving (List ℕ)
-text_read w program =
-    read_file put_kernel (node_at w program.ino) w.inodes.store.room (replicate (text_room program) 0) 16 (text_room program)
-    w.clock.time
+text_read w program = text_in w.inodes.store program w.clock.time
 
 -- the entry of the text that a process has, or 40 where it has none
 abbrev pub entry_in : World → ℕ → ℕ
@@ -246,12 +248,14 @@ done_by w s (Err e) = fails w e
 unfoldable pub exec_file : World → ℕ → ℕ → ℕ → Comes
 exec_file w s name list = let t : Tested = tests w s name list in done_by t.world s t.answer
 
+-- All texts of an inode have so many clicks.
+abbrev pub AreSized : List (Option Text) → ℕ → ℕ → Type 0
+AreSized texts ino clicks =
+    (k : ℕ) (text : Text) → slice_index_or texts k None ≡ Some text → text.ino ≡ ino → length text.bytes ≡ 64 * clicks
+
 -- What is so of a program that the tests have let through.
 pub record IsTested (w : World) (program : Program) : Type 0 where
   pub referenced : 0 < slice_index w.inodes.references program.ino
-  pub there : IsSome (node_numbered w.inodes.store program.ino)
-  pub text : program.text_clicks ≡ text_clicks_in w.texts program.ino program.plan
   pub sizes : is_refused program.text_clicks (data_clicks program.plan) stack_clicks w.limit ≡ false
   pub init : program.plan.init ≤ 131070
-  pub shared : (k : ℕ) → 0 < program.plan.text → entry_of w.texts program.ino ≡ Some k
-      → length (text_of w.texts k).bytes ≡ 64 * program.text_clicks
+  pub shared : 0 < program.text_clicks → AreSized w.texts program.ino program.text_clicks

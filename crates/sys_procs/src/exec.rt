@@ -1,5 +1,5 @@
 //! exec(II).
-ghost use Rattle.std.specs.Prelude.{◌≡◌, ◌≤◌, ◌<◌, ◌*◌, ◌%◌, ℕ, false, Some, None, List, length, IfOk, IfErr, IfSome, map, slice_index, is_some, count_by};
+ghost use Rattle.std.specs.Prelude.{◌≡◌, ◌≤◌, ◌<◌, ◌*◌, ◌%◌, ℕ, false, Some, None, List, length, IfOk, IfErr, IfSome, map, replicate, slice_index, is_some, count_by};
 ghost use Rattle.v6_base.specs.Image.{nseg};
 ghost use Rattle.fs_laws.specs.Numbers.{with_node};
 ghost use Rattle.fs_nodes.specs.FileSystem.{FileSystem, SameRest};
@@ -9,7 +9,7 @@ ghost use Rattle.sys_procs.specs.TextTable.{is_text_of};
 ghost use Rattle.sys_procs.specs.World.{texts_in, with_process};
 ghost use Rattle.sys_procs.specs.Tests.{node_in};
 ghost use Rattle.sys_procs.specs.Stack.{first_stack};
-ghost use Rattle.sys_procs.specs.ExecFile.{exec_file, loads, begins_anew, data_clicks, cleared_image, data_in, with_text_read, reads_text, kept_handler, begun_area, IsTested};
+ghost use Rattle.sys_procs.specs.ExecFile.{exec_file, loads, begins_anew, data_clicks, cleared_image, data_in, with_text_read, reads_text, text_room, text_in, kept_handler, begun_area, IsTested};
 ghost use Rattle.sys_procs.specs.inside.Begun.{fills, user_in, group_in, row_in, area_in};
 ghost use Rattle.sys_procs.specs.Handed.{AreProcs, AreBare, Calls, IsAlive, IsBare, IsMarked, board, handed, process_here, memory_here};
 ghost use Rattle.sys_procs.specs.Done.{HasDone};
@@ -127,6 +127,22 @@ fn new_area(nodes: &Nodes, u: UArea, program: &Program) -> UArea
     begun
 }
 
+/// Reads the text of a program from its file into bytes that are zeros.
+fn read_bytes(nodes: &mut Nodes, program: &Program, part: &mut [u8], now: u32)
+    requires referenced { 0 < slice_index nodes.old.references program.now.ino }
+    requires zeros { part.old ≡ replicate (text_room program.now) 0 }
+    requires few { text_room program.now ≤ 65535 }
+    ensures long { length part.new ≡ text_room program.now }
+    ensures bytes { part.new ≡ (text_in nodes.old.store program.now now).memory }
+    ensures store { nodes.new.store ≡ with_node nodes.old.store program.now.ino (text_in nodes.old.store program.now now).node
+        (text_in nodes.old.store program.now now).room }
+    ensures references { nodes.new.references ≡ nodes.old.references }
+    ensures blocks { SameRest nodes.old.blocks nodes.new.blocks }
+{
+    let _ = nodes.refs(program.ino);
+    let _ = nodes.read_kernel(program.ino, HEADER, part, now);
+}
+
 /// Reads the text of a program into one that is zeros.
 fn read_text(p: &mut Procs, tree: &mut Tree, s: Slot, t: TextId, program: &Program)
     requires alive { IsAlive p.old s }
@@ -143,9 +159,7 @@ fn read_text(p: &mut Procs, tree: &mut Tree, s: Slot, t: TextId, program: &Progr
     let mut bytes = [0; LONGEST_TEXT];
     let count = usize::from(program.plan.text).min(64 * usize::from(program.text_clicks));
     let part = &mut bytes[..count];
-    let _ = tree
-        .nodes
-        .read_kernel(program.ino, HEADER, part, p.table.now);
+    read_bytes(&mut tree.nodes, program, part, p.table.now);
     p.images.text_bytes(t, 0, part);
 }
 

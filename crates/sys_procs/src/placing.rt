@@ -1,12 +1,12 @@
 //! The place of a new program's image: `exec` in Lions' Commentary, `sys1.c`.
-ghost use Rattle.std.specs.Prelude.{◌≡◌, ◌<◌, ◌+◌, ◌∷◌, [], false, None, Some, MatchResult, IfOk, IfErr};
+ghost use Rattle.std.specs.Prelude.{◌≡◌, ◌<◌, ◌+◌, ℕ, ◌∷◌, [], false, None, Some, MatchResult, IfOk, IfErr};
 ghost use Rattle.v6_base.specs.Trace.{Took, Log};
 ghost use Rattle.fs_nodes.specs.FileSystem.{FileSystem};
 ghost use Rattle.pick_rules.specs.Apply.{change_row};
 ghost use Rattle.pick_rules.specs.Table.{IsTable};
 ghost use Rattle.image_keep.specs.Area.{made_area};
 ghost use Rattle.image_keep.specs.Growth.{most_clicks};
-ghost use Rattle.image_keep.specs.Kept.{Nothing, keeping, with_keeping, text_of, text_bytes, text_clicks, image_of};
+ghost use Rattle.image_keep.specs.Kept.{Shared, Nothing, keeping, with_keeping, shared, text_of, text_bytes, text_clicks, image_of};
 ghost use Rattle.image_keep.specs.Moves.{with_image_moved};
 ghost use Rattle.image_keep.specs.Places as images_of;
 ghost use Rattle.image_keep.specs.Places.{made_image};
@@ -105,7 +105,8 @@ fn new_image(
     images.replace(s, proto, text)
 }
 
-/// Places a new image of so many clicks of data, beside a text of so many, in a slot without one. The image is cleared.
+/// Places a new image of so many clicks of data, beside a text of so many, in a slot without one. The image is cleared. It
+/// isn't in core where its text isn't, which stays there as it is.
 ///
 /// # Errors
 ///
@@ -122,13 +123,16 @@ pub(crate) fn place_image<T: Trace>(
     requires sizes { is_refused t d 20 (most_clicks p.old.images) ≡ false }
     ensures does { (fs : FileSystem) → HasEnded p.old p.new fs result (T.taken trace.old) (T.taken trace.new)
         (takes_image (handed p.old fs) s t d) }
-    ensures image { IfOk result (λ placed. image_of p.new.images s ≡ made_image (text_bytes p.old.images (text_of p.old.images s)) d 20) }
+    ensures image { IfOk result (λ placed. image_of p.new.images s
+        ≡ made_image (text_bytes p.old.images (text_of p.old.images s)) d 20) }
     ensures text { text_of p.new.images s ≡ text_of p.old.images s }
+    ensures stays { (t : ℕ) (x : Shared) → shared p.old.images t ≡ Some x → x.row.loaded ≡ 0 → shared p.new.images t ≡ Some x }
     ensures time { p.new.table.now ≡ p.old.table.now }
     ensures frame { T.leads_to trace.old trace.new }
     ensures alive { IfOk result (λ placed. IsAlive p.new s) }
     ensures bare { IfErr result (λ kind. IsBare p.new s) }
 {
+    let _place = p.images.place(s);
     let text = p.table.rows[s as usize].text;
     match new_image(&mut p.images, s, t, d, text) {
         Ok(place) => {

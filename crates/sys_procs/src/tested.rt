@@ -1,5 +1,6 @@
 //! The tests of exec(II).
-ghost use Rattle.std.specs.Prelude.{◌≡◌, ◌<◌, ◌≤◌, ◌==◌, ◌&&◌, ◌*◌, ℕ, nat_lt, false, not, List, length, Ok, Some, is_none, IfOk, IfSome, slice_index};
+ghost use Rattle.std.specs.Prelude.{◌≡◌, ◌<◌, ◌≤◌, ◌==◌, ◌&&◌, ℕ, nat_lt, false, not, List, Ok, is_none, IfOk, slice_index};
+ghost use Rattle.std.specs.Option.{unwrap_or};
 ghost use Rattle.v6_base.specs.Access.{then_do};
 ghost use Rattle.v6_base.specs.declared.errno.Errno.TheVariants.{EACCES, ENOEXEC, ENOMEM, ETXTBSY};
 ghost use Rattle.fs_codec.specs.Modes.{file_type};
@@ -16,9 +17,9 @@ ghost use Rattle.sys_procs.specs.Tests.{must, user_of, node_in};
 ghost use Rattle.sys_procs.specs.Handed.{Calls, IsAlive, handed, process_here, memory_here};
 ghost use Rattle.sys_procs.specs.ExecFile.{clicks, text_clicks_by, text_clicks_in, entry_clicks, data_clicks, unless_error, is_magic, or_no_memory};
 ghost use Rattle.sys_procs.specs.World.{texts_in};
-ghost use Rattle.sys_procs.specs.TextTable.{text_of, entry_of};
+ghost use Rattle.sys_procs.specs.TextTable.{entry_of};
 ghost use Rattle.image_keep.specs.Growth.{most_clicks};
-ghost use Rattle.sys_procs.specs.ExecFile.{is_busy_in, with_moved, header_read, tests_header, tests_file, tests, IsTested};
+ghost use Rattle.sys_procs.specs.ExecFile.{is_busy_in, with_moved, header_read, tests_header, tests_file, tests, AreSized, IsTested};
 
 use crate::arguments::{Arguments, read_arguments};
 use crate::inodes::{let_go, see};
@@ -151,12 +152,12 @@ fn is_magic(planned: &Result<Plan, ExecFault>) -> bool
 /// The clicks of the text that a file has in the table of texts, if any.
 fn entry_clicks(images: &Images, ino: u16) -> Option<u16>
     ensures clicks { result ≡ entry_clicks (texts_in images.now) ino }
-    ensures none { is_none result ≡ is_none (entry_of (texts_in images.now) ino) }
-    ensures long { (k : ℕ) → entry_of (texts_in images.now) ino ≡ Some k
-        → IfSome result (λ clicks. length (text_of (texts_in images.now) k).bytes ≡ 64 * clicks) }
+    ensures sized { (size : ℕ) → AreSized (texts_in images.now) ino (unwrap_or result size) }
 {
-    let t = images.find_text(ino)?;
-    Some(images.text_row(t).clicks)
+    match images.find_text(ino) {
+        Some(t) => Some(images.text_row(t).clicks),
+        None => None,
+    }
 }
 
 /// Whether the text of a program would be shared, while others use its file, and isn't in the table of texts.
@@ -241,12 +242,11 @@ fn judge_header(
         (most_clicks images.now)))) (λ fits.
         Ok (record { ino = ino; plan = plan; text_clicks = text_clicks_in (texts_in images.now) ino plan; arguments = args })))))) }
     ensures ino { IfOk result (λ program. program.ino ≡ ino) }
-    ensures text { IfOk result (λ program. program.text_clicks ≡ text_clicks_in (texts_in images.now) ino program.plan) }
     ensures fits { IfOk result (λ program.
         is_refused program.text_clicks (data_clicks program.plan) stack_clicks (most_clicks images.now) ≡ false) }
     ensures most { IfOk result (λ program. program.plan.init ≤ 131070) }
-    ensures shared { IfOk result (λ program. (k : ℕ) → 0 < program.plan.text → entry_of (texts_in images.now) ino ≡ Some k
-        → length (text_of (texts_in images.now) k).bytes ≡ 64 * program.text_clicks) }
+    ensures shared { IfOk result (λ program. 0 < program.text_clicks
+        → AreSized (texts_in images.now) ino program.text_clicks) }
 {
     if let Some(e) = read.error {
         return Err(e);

@@ -4,11 +4,11 @@ ghost use Rattle.v6_base.specs.Trace.{Took, Log};
 ghost use Rattle.fs_codec.specs.declared.modes.TheConstants.{ISVTX};
 ghost use Rattle.fs_nodes.specs.FileSystem.{SameRest};
 ghost use Rattle.pick_rules.specs.Apply.{change_row};
-ghost use Rattle.image_keep.specs.Kept.{text_of, shared};
-ghost use Rattle.image_keep.specs.SharedTexts.{found_text};
+ghost use Rattle.image_keep.specs.Kept.{Shared, text_of, shared};
+ghost use Rattle.image_keep.specs.SharedTexts.{AreShared, row_in, found_text};
 ghost use Rattle.sys_procs.specs.Tests.{node_in};
 ghost use Rattle.sys_procs.specs.TextTable.{is_text_of, entry_of};
-ghost use Rattle.sys_procs.specs.Texts.{xfree, xalloc_by};
+ghost use Rattle.sys_procs.specs.Texts.{free_entry, xfree, xalloc_by};
 ghost use Rattle.sys_procs.specs.World.{World, texts_in};
 ghost use Rattle.sys_procs.specs.Comes.{nothing};
 ghost use Rattle.sys_procs.specs.inside.Begun.{leaves, takes, new_entry, taken_by};
@@ -17,10 +17,11 @@ ghost use Rattle.sys_procs.specs.Done.{HasLeft};
 
 use crate::procs::Procs;
 use crate::program::Program;
+use crate::seen::see;
 use fs_codec::ISVTX;
 use fs_nodes::Nodes;
 use fs_tree::Tree;
-use image_keep::TextRefusal;
+use image_keep::{Images, TextRefusal};
 use pick_rules::Table;
 use text_tab::{Left, TextId};
 use v6_base::{Entry, PanicKind, Slot, Trace};
@@ -41,13 +42,30 @@ fn give_text(table: &mut Table, s: Slot, text: Option<TextId>)
     table.rows[s as usize].text = text;
 }
 
+/// Sees what holds of the texts that are kept.
+fn see_texts(images: &Images)
+    ensures shared { AreShared images.now }
+{
+    let _text = images.find_text(0);
+}
+
+/// The inode of the file of a text.
+fn inode_of(images: &Images, t: TextId) -> u16
+    requires { IsSome (shared images.now t) }
+    ensures inode { result ≡ (row_in (shared images.now t)).ino }
+    ensures number { result < 65536 }
+{
+    images.text_row(t).ino
+}
+
 /// A process leaves a text that it has, which goes with its last user, unless its file is sticky. The file of a text that
 /// goes can be written again.
 fn leave_entry<T: Trace>(p: &mut Procs, tree: &mut Tree, s: Slot, t: TextId, trace: &mut T)
     requires alive { IsAlive p.old s }
     requires text { text_of p.old.images s ≡ Some t }
     requires marks { IsMarked p.old tree.old.marks }
-    requires referred { (ino : ℕ) → count_by (is_text_of ino) (texts_in p.old.images) ≤ slice_index tree.old.nodes.references ino }
+    requires referred { (ino : ℕ) → count_by (is_text_of ino) (texts_in p.old.images)
+        ≤ slice_index tree.old.nodes.references ino }
     ensures left { HasLeft p.old p.new tree.new.nodes (T.taken trace.old) (T.taken trace.new)
         (xfree (handed p.old tree.old.nodes) s (Some t) nothing) }
     ensures frame { T.leads_to trace.old trace.new }
@@ -56,7 +74,9 @@ fn leave_entry<T: Trace>(p: &mut Procs, tree: &mut Tree, s: Slot, t: TextId, tra
     ensures marks { IsMarked p.new tree.new.marks }
     ensures blocks { SameRest tree.old.nodes.blocks tree.new.nodes.blocks }
 {
-    let ino = p.images.text_row(t).ino;
+    see(p, s);
+    see_texts(&p.images);
+    let ino = inode_of(&p.images, t);
     let sticky = is_sticky(&tree.nodes, ino);
     give_text(&mut p.table, s, None);
     trace.entry(Entry::Leave {
@@ -74,7 +94,8 @@ fn leave_entry<T: Trace>(p: &mut Procs, tree: &mut Tree, s: Slot, t: TextId, tra
 pub(crate) fn leave_text<T: Trace>(p: &mut Procs, tree: &mut Tree, s: Slot, trace: &mut T)
     requires alive { IsAlive p.old s }
     requires marks { IsMarked p.old tree.old.marks }
-    requires referred { (ino : ℕ) → count_by (is_text_of ino) (texts_in p.old.images) ≤ slice_index tree.old.nodes.references ino }
+    requires referred { (ino : ℕ) → count_by (is_text_of ino) (texts_in p.old.images)
+        ≤ slice_index tree.old.nodes.references ino }
     ensures left { HasLeft p.old p.new tree.new.nodes (T.taken trace.old) (T.taken trace.new)
         (leaves (handed p.old tree.old.nodes) s) }
     ensures frame { T.leads_to trace.old trace.new }
@@ -145,12 +166,15 @@ fn make_text<T: Trace>(
         (xalloc_by (handed p.old tree.old.nodes) s ino clicks None (λ placed is_new. nothing placed))).stop None ≡ Err kind) }
     ensures made { IfOk result (λ t. ((came p.old
         (xalloc_by (handed p.old tree.old.nodes) s ino clicks None (λ placed is_new. nothing placed))).stop ≡ None)
-        × (text_of p.new.images s ≡ Some t)) }
+        × (t ≡ free_entry (texts_in p.old.images)) × (text_of p.new.images s ≡ Some t)) }
+    ensures out { IfOk result (λ t. (x : Shared) × (shared p.new.images t ≡ Some x) × (x.row.loaded ≡ 0)
+        × (x.row.clicks ≡ clicks)) }
     ensures frame { T.leads_to trace.old trace.new }
     ensures bare { IsBare p.new s }
     ensures marks { IsMarked p.new tree.new.marks }
     ensures blocks { tree.new.nodes.blocks ≡ tree.old.nodes.blocks }
 {
+    let _place = p.images.place(s);
     match p.images.new_text(s, ino, clicks) {
         Ok(t) => {
             tree.mark_text(ino);
@@ -196,6 +220,8 @@ pub(crate) fn take_text<T: Trace>(
         (came p.old (takes (handed p.old tree.old.nodes) s program.now.ino program.now.text_clicks)).stop
         (new_entry (texts_in p.old.images) program.now.ino program.now.text_clicks) }
     ensures new { IfOk result (λ new. IfSome new (λ t. text_of p.new.images s ≡ Some t)) }
+    ensures out { IfOk result (λ new. IfSome new (λ t.
+        (x : Shared) × (shared p.new.images t ≡ Some x) × (x.row.loaded ≡ 0) × (x.row.clicks ≡ program.now.text_clicks))) }
     ensures frame { T.leads_to trace.old trace.new }
     ensures bare { IsBare p.new s }
     ensures marks { IsMarked p.new tree.new.marks }

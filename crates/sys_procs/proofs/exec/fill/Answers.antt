@@ -6,7 +6,7 @@ use Rattle.fs_laws.specs.Pieces.{Moving, read_file}
 use Rattle.fs_nodes.specs.Copy.{put_into}
 use Rattle.sys_procs.specs.declared.program.Program.{Program}
 use Rattle.sys_procs.specs.Tests.{node_in}
-use Rattle.sys_procs.specs.ExecFile.{text_clicks, data_clicks, cleared_image, data_in}
+use Rattle.sys_procs.specs.ExecFile.{data_clicks, cleared_image, data_in}
 use Rattle.sys_procs.specs.Stack.{first_stack}
 use Rattle.sys_procs.proofs.LoadData.{few_segments, stack_stays, node_there}
 use Rattle.sys_procs.proofs.exec.fill.Given as given
@@ -14,12 +14,11 @@ use Rattle.sys_procs.proofs.exec.fill.Goals.{After-read_at}
 use Rattle.sys_procs.proofs.exec.fill.Goals as goal
 
 -- the address at which the data begin
-at_is : (g : given.Over) (c : After-read_at g) → c.data_at-at.result ≡ 8192 * nseg (text_clicks c.args.program.now.plan)
+at_is : (g : given.Over) (c : After-read_at g) → c.data_at-at.result ≡ 8192 * nseg c.args.program.now.text_clicks
 at_is g c =
-    let few = few_segments (text_clicks c.args.program.now.plan) (data_clicks c.args.program.now.plan) 20 2048 c.requires.fits in
+    let few = few_segments c.args.program.now.text_clicks (data_clicks c.args.program.now.plan) 20 2048 c.requires.fits in
     c.data_at-at.ensures
-    ∙ (ap (λ n. 8192 * nseg n % 65536) c.text_clicks.ensures.clicks
-    ∙ (let low : 8192 * nseg (text_clicks c.args.program.now.plan) % 65536 ≡ 8192 * nseg (text_clicks c.args.program.now.plan) = omega (arith, few) in low))
+    ∙ (let low : 8192 * nseg c.args.program.now.text_clicks % 65536 ≡ 8192 * nseg c.args.program.now.text_clicks = omega (arith, few) in low)
 
 -- what has been read
 read_is : (g : given.Over) (c : After-read_at g) (text : List ℕ) → g.S.Space.image c.args.space.now ≡ cleared_image text c.args.program.now.plan

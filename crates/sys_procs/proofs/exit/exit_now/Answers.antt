@@ -15,7 +15,7 @@ returns-in-Ok-clause-does g c =
     let fs : FileSystem = c.args.tree.now.nodes in
     let done : Answer → Result Answer PanicKind = λ a. Ok a in
     done_on tt c.in-Ok.is
-    (ap done (exit_answer p fs c.args.s c.area-u.result (calls_alive p fs c.args.s c.requires) c.area-u.ensures))
+    (ap done (exit_answer p fs c.args.s c.area-u.result (calls_alive p fs c.args.s c.requires.calls) c.area-u.ensures))
     (ended_as (exit_row p fs c.args.s c.area-u.result c.area-u.ensures) c.end_proc.ensures.does)
 
 pub returns-in-Err-clause-does : goal.returns-in-Err-clause-does

@@ -1,20 +1,33 @@
-use Rattle.std.proofs.Common.{◌≡◌, ◌∙◌, ◌<◌, sym, ap, subst, slice_index}
+use Rattle.std.proofs.Common.{◌≡◌, ◌∙◌, ◌<◌, ◌≤◌, ℕ, List, map, Option, sym, ap, subst, slice_index}
+use Rattle.std.specs.Prelude.{count_by}
 use Rattle.u_area.specs.declared.area.UArea.{UArea}
 use Rattle.fs_tree.specs.Finding.{Inodes, put_back}
+use Rattle.image_keep.specs.Kept.{Kept, Shared}
+use Rattle.image_keep.proofs.Frames.{with_area_texts}
 use Rattle.sys_procs.specs.Process.{Process}
-use Rattle.sys_procs.specs.World.{World, with_process}
+use Rattle.sys_procs.specs.TextTable.{is_text_of}
+use Rattle.sys_procs.specs.World.{World, with_process, text_in}
 use Rattle.sys_procs.specs.Exit.{ended}
 use Rattle.sys_procs.specs.Handed.{handed, process_here}
-use Rattle.sys_procs.proofs.Alive.{calls_alive, is_here}
+use Rattle.sys_procs.proofs.Referred.{dir_referred, left_referred}
 use Rattle.sys_procs.proofs.exit.leave.Goals as goal
 
 pub let_go-requires : goal.let_go-requires
 let_go-requires c =
-    let here = is_here c.args.p.now c.args.s (calls_alive c.args.p.now c.args.tree.now.nodes c.args.s c.requires) in
     record {
-      referenced = subst (λ (u : UArea). 0 < slice_index c.args.tree.now.nodes.references u.dir)
-          (sym (c.area-u.ensures ∙ ap (λ (q : Process). q.u) here.process_is)) (c.requires.directory here.held here.image_is);
+      referenced = subst (λ (u : UArea). 0 < slice_index c.args.tree.now.nodes.references u.dir) (sym c.area-u.ensures)
+          (dir_referred c.args.p.now c.args.tree.now.nodes c.args.s c.requires);
     }
+
+pub returns-clause-texts : goal.returns-clause-texts
+returns-clause-texts c = ap (λ (k : Kept). k.texts) c.put_area.ensures.images ∙ (with_area_texts c.args.p.now.images c.args.s c.ended.result).texts
+
+pub returns-clause-referred : goal.returns-clause-referred
+returns-clause-referred c = λ ino.
+    let n : List (Option Shared) → ℕ = λ texts. count_by (is_text_of ino) (map text_in texts) in
+    subst (λ m. m ≤ slice_index c.let_go.new.nodes.references ino) (sym (ap n (returns-clause-texts c)))
+    (subst (λ (v : Inodes). n c.args.p.now.images.texts ≤ slice_index v.references ino) (sym c.let_go.ensures.inodes)
+    (left_referred c.args.p.now c.args.tree.now.nodes c.args.s c.requires c.area-u.result.dir (ap (λ (u : UArea). u.dir) c.area-u.ensures) ino))
 
 pub returns-clause-state : goal.returns-clause-state
 returns-clause-state c =

@@ -6,16 +6,16 @@ use Rattle.v6_base.specs.declared.entry.PanicKind.{PanicKind}
 use Rattle.pick_rules.specs.declared.table.Table.{Table}
 use Rattle.pick_rules.specs.Table.{IsTable}
 use Rattle.image_keep.specs.Kept.{Kept, area_of, image_of}
-use Rattle.image_keep.specs.Places.{with_image_at}
+use Rattle.image_keep.specs.Moves.{forked_at}
 use Rattle.fs_nodes.specs.FileSystem.{FileSystem}
 use Rattle.sys_procs.specs.declared.procs.Procs.{Procs}
 use Rattle.sys_procs.specs.Process.{Process, register}
 use Rattle.sys_procs.specs.World.{World, change}
 use Rattle.sys_procs.specs.Fork.{past_word, next_pid, with_child}
 use Rattle.sys_procs.specs.Handed.{IsAlive, board, handed, process_here}
-use Rattle.sys_procs.proofs.Agreement.{no_text_of}
 use Rattle.sys_procs.proofs.Slots.{fifty_processes}
-use Rattle.sys_procs.proofs.Alive.{calls_alive, is_here, no_text_here}
+use Rattle.sys_procs.proofs.Alive.{calls_alive}
+use Rattle.sys_procs.proofs.Referred.{dir_referred}
 use Rattle.sys_procs.proofs.Dones.{done_logged}
 use Rattle.sys_procs.proofs.ForkPlaces.{fork_place}
 use Rattle.sys_procs.proofs.Forks.{IsFreeSlot, free_slot, is_seated, seated, child_pid, gone_on, state_seated, board_seated, parent_alive, child_alive, parent_stays, child_is, world_forked, register_forked, next_is, logged_fork, logged_no_fork}
@@ -29,30 +29,26 @@ returns-in-Err-clause-does g c =
     let child : ℕ = c.args.child in
     let fs : FileSystem = c.args.tree.now.nodes in
     let alive : IsAlive p s = calls_alive p fs s c.requires.calls in
-    let is : c.copy_image.new.images ≡ p.images =
-    c.copy_image.ensures.images
-    ∙ ap (λ (o : Option Place). with_image_at p.images child (area_of p.images s) (image_of p.images s) o) c.in-Err.ensures.place in
+    let is : c.copy_for_fork.new.self ≡ p.images =
+    c.copy_for_fork.ensures.kept
+    ∙ ap (forked_at p.images s child) c.in-Err.ensures.place in
     done_logged (logged_no_fork (board p) s child (handed p fs)
     (fork_place p s alive c.see.ensures.images.slots ∙ c.in-Err.ensures.place)) refl
     (ap (λ (k : Kept). handed (record p { images = k }) fs) is) (ap (λ (k : Kept). board (record p { images = k })) is)
     c.entry-in-Err.ensures.took
 
 -- It finds one.
-pub copy_image-requires-clause-slot : goal.copy_image-requires-clause-slot
-copy_image-requires-clause-slot g c =
+pub copy_for_fork-requires-clause-slot : goal.copy_for_fork-requires-clause-slot
+copy_for_fork-requires-clause-slot g c =
     (free_slot c.args.p.now c.args.s c.args.child (calls_alive c.args.p.now c.args.tree.now.nodes c.args.s c.requires.calls) c.requires.free).low
 
-pub copy_image-requires-clause-nothing : goal.copy_image-requires-clause-nothing
-copy_image-requires-clause-nothing g c =
+pub copy_for_fork-requires-clause-nothing : goal.copy_for_fork-requires-clause-nothing
+copy_for_fork-requires-clause-nothing g c =
     (free_slot c.args.p.now c.args.s c.args.child (calls_alive c.args.p.now c.args.tree.now.nodes c.args.s c.requires.calls) c.requires.free).image
 
-pub copy_image-requires-clause-no_text : goal.copy_image-requires-clause-no_text
-copy_image-requires-clause-no_text g c =
-    no_text_of c.args.p.now.images c.args.s (calls_alive c.args.p.now c.args.tree.now.nodes c.args.s c.requires.calls).agree.no_text
-
-pub copy_image-requires-clause-no_text_there : goal.copy_image-requires-clause-no_text_there
-copy_image-requires-clause-no_text_there g c =
-    no_text_of c.args.p.now.images c.args.child (calls_alive c.args.p.now c.args.tree.now.nodes c.args.s c.requires.calls).agree.no_text
+pub copy_for_fork-requires-clause-no_text : goal.copy_for_fork-requires-clause-no_text
+copy_for_fork-requires-clause-no_text g c =
+    (free_slot c.args.p.now c.args.s c.args.child (calls_alive c.args.p.now c.args.tree.now.nodes c.args.s c.requires.calls) c.requires.free).text
 
 pub add_row-requires-clause-child : goal.add_row-requires-clause-child
 add_row-requires-clause-child g c =
@@ -63,9 +59,9 @@ go_on-requires-clause-parent g c =
     let p : Procs = c.args.p.now in
     let alive : IsAlive p c.args.s = calls_alive p c.args.tree.now.nodes c.args.s c.requires.calls in
     subst (λ (q : Procs). IsAlive q c.args.s)
-    (sym (is_seated p c.args.s c.args.child c.in-Ok.place c.args.rows.now c.add_row.new.table c.copy_image.new.images
-    c.requires.rows c.add_row.ensures.table c.in-Ok.ensures.place c.copy_image.ensures.images))
-    (parent_alive p c.args.s c.args.child c.in-Ok.place alive c.see.ensures.rows.long c.see.ensures.images.slots
+    (sym (is_seated p c.args.s c.args.child c.in-Ok.place c.args.rows.now c.add_row.new.table c.copy_for_fork.new.self
+    c.requires.rows c.add_row.ensures.table c.in-Ok.ensures.place c.copy_for_fork.ensures.kept))
+    (parent_alive p c.args.s c.args.child c.in-Ok.place alive c.see.ensures.rows.long c.see.ensures.images.slots c.see.ensures.images.seats
     (free_slot p c.args.s c.args.child alive c.requires.free) (subst (λ (t : Table). IsTable t) c.add_row.ensures.table c.add_row.ensures.good))
 
 pub go_on-requires-clause-child : goal.go_on-requires-clause-child
@@ -73,9 +69,9 @@ go_on-requires-clause-child g c =
     let p : Procs = c.args.p.now in
     let alive : IsAlive p c.args.s = calls_alive p c.args.tree.now.nodes c.args.s c.requires.calls in
     subst (λ (q : Procs). IsAlive q c.args.child)
-    (sym (is_seated p c.args.s c.args.child c.in-Ok.place c.args.rows.now c.add_row.new.table c.copy_image.new.images
-    c.requires.rows c.add_row.ensures.table c.in-Ok.ensures.place c.copy_image.ensures.images))
-    (child_alive p c.args.s c.args.child c.in-Ok.place alive c.see.ensures.rows.long c.see.ensures.images.slots
+    (sym (is_seated p c.args.s c.args.child c.in-Ok.place c.args.rows.now c.add_row.new.table c.copy_for_fork.new.self
+    c.requires.rows c.add_row.ensures.table c.in-Ok.ensures.place c.copy_for_fork.ensures.kept))
+    (child_alive p c.args.s c.args.child c.in-Ok.place alive c.see.ensures.rows.long c.see.ensures.images.slots c.see.ensures.images.seats
     (free_slot p c.args.s c.args.child alive c.requires.free) (subst (λ (t : Table). IsTable t) c.add_row.ensures.table c.add_row.ensures.good))
 
 pub go_on-requires-clause-apart : goal.go_on-requires-clause-apart
@@ -86,14 +82,13 @@ pub go_on-requires-clause-referenced : goal.go_on-requires-clause-referenced
 go_on-requires-clause-referenced g c =
     let p : Procs = c.args.p.now in
     let alive : IsAlive p c.args.s = calls_alive p c.args.tree.now.nodes c.args.s c.requires.calls in
-    let here = is_here p c.args.s alive in
     subst (λ (q : Process). 0 < slice_index c.args.tree.now.nodes.references q.u.dir)
     (sym (ap (λ (q : Procs). process_here q c.args.s)
-    (is_seated p c.args.s c.args.child c.in-Ok.place c.args.rows.now c.add_row.new.table c.copy_image.new.images
-    c.requires.rows c.add_row.ensures.table c.in-Ok.ensures.place c.copy_image.ensures.images)
-    ∙ (parent_stays p c.args.s c.args.child c.in-Ok.place alive c.see.ensures.rows.long c.see.ensures.images.slots
-    (free_slot p c.args.s c.args.child alive c.requires.free) ∙ here.process_is)))
-    (c.requires.calls.directory here.held here.image_is)
+    (is_seated p c.args.s c.args.child c.in-Ok.place c.args.rows.now c.add_row.new.table c.copy_for_fork.new.self
+    c.requires.rows c.add_row.ensures.table c.in-Ok.ensures.place c.copy_for_fork.ensures.kept)
+    ∙ (parent_stays p c.args.s c.args.child c.in-Ok.place alive c.see.ensures.rows.long c.see.ensures.images.slots c.see.ensures.images.seats
+    (free_slot p c.args.s c.args.child alive c.requires.free))))
+    (dir_referred p c.args.tree.now.nodes c.args.s c.requires.calls)
 
 pub returns-in-Ok-clause-does : goal.returns-in-Ok-clause-does
 returns-in-Ok-clause-does g c =
@@ -107,24 +102,25 @@ returns-in-Ok-clause-does g c =
     let free : IsFreeSlot p s child = free_slot p s child alive c.requires.free in
     let fifty : length p.rows.slots ≡ 50 = c.see.ensures.rows.long in
     let images : length p.images.slots ≡ 50 = c.see.ensures.images.slots in
+    let seats : length p.images.users ≡ 50 = c.see.ensures.images.seats in
     let done : Answer → Result Answer PanicKind = λ a. Ok a in
     let low : s < length w.processes = let below = alive.below in omega (arith, below, fifty_processes p.rows.slots p.images) in
     let child_low : child < length w.processes = let below = free.low in omega (arith, below, fifty_processes p.rows.slots p.images) in
-    let now : ◌≡◌ {A = Procs} (record p { rows = c.args.rows.now; table = c.add_row.new.table; images = c.copy_image.new.images }) (seated p s child place) =
-    is_seated p s child place c.args.rows.now c.add_row.new.table c.copy_image.new.images c.requires.rows c.add_row.ensures.table c.in-Ok.ensures.place c.copy_image.ensures.images in
+    let now : ◌≡◌ {A = Procs} (record p { rows = c.args.rows.now; table = c.add_row.new.table; images = c.copy_for_fork.new.self }) (seated p s child place) =
+    is_seated p s child place c.args.rows.now c.add_row.new.table c.copy_for_fork.new.self c.requires.rows c.add_row.ensures.table c.in-Ok.ensures.place c.copy_for_fork.ensures.kept in
     let pid : (process_here (seated p s child place) child).row.pid ≡ next_pid w =
-    ap (λ (q : Process). q.row.pid) (child_is p s child place alive fifty images free) ∙ next_is p fs fifty in
+    ap (λ (q : Process). q.row.pid) (child_is p s child place alive fifty images seats free) ∙ next_is p fs fifty in
     let r1 : register (process_here (seated p s child place) s) 1 ≡ register (process_here p s) 1 =
-    ap (λ (q : Process). register q 1) (parent_stays p s child place alive fifty images free) in
+    ap (λ (q : Process). register q 1) (parent_stays p s child place alive fifty images seats free) in
     done_logged (logged_fork (board p) s child w place
     (fork_place p s alive images ∙ c.in-Ok.ensures.place))
     (ap done (c.go_on.ensures.answer
     ∙ (ap (λ (q : Procs). Ret (process_here q child).row.pid (register (process_here q s) 1)) now
     ∙ (ap (λ (n : ℕ). Ret n (register (process_here (seated p s child place) s) 1)) pid
-    ∙ ap (λ (n : ℕ). Ret (next_pid w) n) (r1 ∙ register_forked w s child (next_pid w) free.apart child_low low (no_text_here p s alive))))))
+    ∙ ap (λ (n : ℕ). Ret (next_pid w) n) (r1 ∙ register_forked w s child (next_pid w) free.apart child_low low)))))
     (c.go_on.ensures.state
-    ∙ (ap (λ (v : World). gone_on v s child) (ap (λ (q : Procs). handed q fs) now ∙ state_seated p s child place alive fifty images free fs)
-    ∙ (world_forked w s child (child_pid p) free.apart child_low low (no_text_here p s alive)
+    ∙ (ap (λ (v : World). gone_on v s child) (ap (λ (q : Procs). handed q fs) now ∙ state_seated p s child place alive fifty images seats free fs)
+    ∙ (world_forked w s child (child_pid p) free.apart child_low low
     ∙ ap (λ (n : ℕ). change (with_child w s child n) s past_word) (next_is p fs fifty))))
-    (c.go_on.ensures.board ∙ (ap (λ (q : Procs). board q) now ∙ board_seated p s child place alive fifty images free))
+    (c.go_on.ensures.board ∙ (ap (λ (q : Procs). board q) now ∙ board_seated p s child place alive fifty images seats free c.in-Ok.ensures.place))
     c.entry.ensures.took

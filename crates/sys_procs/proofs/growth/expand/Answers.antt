@@ -6,16 +6,16 @@ use Rattle.v6_base.specs.declared.entry.Place.{Place}
 use Rattle.u_area.specs.declared.area.UArea.{UArea}
 use Rattle.pick_rules.specs.declared.table.Table.{Table}
 use Rattle.pick_rules.specs.Table.{IsTable}
-use Rattle.image_keep.specs.Kept.{Kept, area_of, image_of}
+use Rattle.image_keep.specs.Kept.{Alive, Kept, area_of, image_of, place_of, text_of}
 use Rattle.image_keep.specs.Growth.{most_clicks, area_resized, image_resized}
-use Rattle.image_keep.specs.Places.{with_image_at}
+use Rattle.image_keep.specs.Moves.{with_image_moved}
 use Rattle.sys_procs.specs.declared.procs.Procs.{Procs}
 use Rattle.sys_procs.specs.Handed.{IsAlive, board, handed, process_here}
-use Rattle.sys_procs.proofs.Agreement.{no_text_of}
 use Rattle.sys_procs.proofs.Alive.{area_here}
-use Rattle.sys_procs.proofs.PlacingLemmas.{few_segments}
+use Rattle.sys_procs.proofs.LoadData.{few_segments}
 use Rattle.sys_procs.proofs.Dones.{ended_logged}
-use Rattle.sys_procs.proofs.GrowLemmas.{resized, log_stopped, log_sized, grown_alive, grown_state}
+use Rattle.sys_procs.proofs.GrownTexts.{slot_moved}
+use Rattle.sys_procs.proofs.GrowLemmas.{grown, resized, log_stopped, log_sized, grown_alive, grown_state}
 use Rattle.sys_procs.proofs.growth.expand.Goals as goal
 
 pub resize-requires-clause-segments : goal.resize-requires-clause-segments
@@ -24,24 +24,22 @@ resize-requires-clause-segments g c =
     subst (λ (u : UArea). nseg u.text_size + nseg c.args.d + nseg c.args.stack ≤ 8) (sym (area_here p c.args.s c.requires.alive))
     (few_segments (process_here p c.args.s).u.text_size c.args.d c.args.stack (most_clicks p.images) c.requires.sizes)
 
-pub resize-requires-clause-no_text : goal.resize-requires-clause-no_text
-resize-requires-clause-no_text g c = no_text_of c.args.p.now.images c.args.s c.requires.alive.agree.no_text
-
 -- It finds a place.
 now : (p : Procs) (s d stack : ℕ) (place : Place) (o : Option Place) (t : Table) (k : Kept) → o ≡ Some place
-    → k ≡ with_image_at p.images s (area_resized (area_of p.images s) d stack) (image_resized (image_of p.images s) d stack) o
+    → k ≡ with_image_moved p.images s (area_resized (area_of p.images s) d stack) (image_resized (image_of p.images s) d stack) o
     → t ≡ (resized p s d stack place).table → ◌≡◌ {A = Procs} (record p { table = t; images = k }) (resized p s d stack place)
 now p s d stack place o t k found images table = λ i. record p {
   table = table i;
-  images = (images ∙ ap (λ (q : Option Place). with_image_at p.images s (area_resized (area_of p.images s) d stack)
-      (image_resized (image_of p.images s) d stack) q) found) i;
+  images = (images ∙ ap (λ (q : Option Place). with_image_moved p.images s (area_resized (area_of p.images s) d stack)
+      (image_resized (image_of p.images s) d stack) q) found
+      ∙ slot_moved p.images (text_of p.images s) (place_of p.images s) place s (Alive (grown p.images s d stack place))) i;
 }
 
 pub returns-in-Ok-clause-does : goal.returns-in-Ok-clause-does
 returns-in-Ok-clause-does g c = λ fs.
     let p : Procs = c.args.p.now in
-    let is = now p c.args.s c.args.d c.args.stack c.in-Ok.place _ c.put_size-line.new.table c.resize.new.images
-    c.in-Ok.ensures.place c.resize.ensures.images c.put_size-line.ensures.table in
+    let is = now p c.args.s c.args.d c.args.stack c.in-Ok.place _ c.put_size-line.new.table c.resize.new.self
+    c.in-Ok.ensures.place c.resize.ensures.kept c.put_size-line.ensures.table in
     ended_logged (log_sized p c.args.s c.requires.alive c.see.ensures.images.slots c.args.d c.args.stack c.in-Ok.place fs
     c.in-Ok.ensures.place) refl
     (ap (λ (q : Procs). handed q fs) is
@@ -54,25 +52,25 @@ pub returns-in-Ok-clause-agree : goal.returns-in-Ok-clause-agree
 returns-in-Ok-clause-agree g c =
     let p : Procs = c.args.p.now in
     (subst (λ (q : Procs). IsAlive q c.args.s)
-    (sym (now p c.args.s c.args.d c.args.stack c.in-Ok.place _ c.put_size-line.new.table c.resize.new.images
-    c.in-Ok.ensures.place c.resize.ensures.images c.put_size-line.ensures.table))
+    (sym (now p c.args.s c.args.d c.args.stack c.in-Ok.place _ c.put_size-line.new.table c.resize.new.self
+    c.in-Ok.ensures.place c.resize.ensures.kept c.put_size-line.ensures.table))
     (grown_alive p c.args.s c.requires.alive c.see.ensures.images.slots c.args.d c.args.stack c.in-Ok.place
     c.in-Ok.ensures.place
     (subst (λ (t : Table). IsTable t) c.put_size-line.ensures.table c.put_size-line.ensures.good))).agree
 
 -- There is none: nothing changes.
 stays : (p : Procs) (s d stack : ℕ) (o : Option Place) (k : Kept) → o ≡ None
-    → k ≡ with_image_at p.images s (area_resized (area_of p.images s) d stack) (image_resized (image_of p.images s) d stack) o
+    → k ≡ with_image_moved p.images s (area_resized (area_of p.images s) d stack) (image_resized (image_of p.images s) d stack) o
     → k ≡ p.images
 stays p s d stack o k none images =
-    images ∙ ap (λ (q : Option Place). with_image_at p.images s (area_resized (area_of p.images s) d stack)
+    images ∙ ap (λ (q : Option Place). with_image_moved p.images s (area_resized (area_of p.images s) d stack)
     (image_resized (image_of p.images s) d stack) q) none
 
 pub returns-in-Err-clause-does : goal.returns-in-Err-clause-does
 returns-in-Err-clause-does g c = λ fs.
     let p : Procs = c.args.p.now in
-    let is : c.resize.new.images ≡ p.images =
-    stays p c.args.s c.args.d c.args.stack _ c.resize.new.images c.in-Err.ensures.place c.resize.ensures.images in
+    let is : c.resize.new.self ≡ p.images =
+    stays p c.args.s c.args.d c.args.stack _ c.resize.new.self c.in-Err.ensures.place c.resize.ensures.kept in
     ended_logged (log_stopped p c.args.s c.requires.alive c.see.ensures.images.slots c.args.d c.args.stack fs c.in-Err.ensures.place)
     refl (ap (λ (k : Kept). handed (record p { images = k }) fs) is) (ap (λ (k : Kept). board (record p { images = k })) is)
     c.entry-in-Err.ensures.took

@@ -30,4 +30,5 @@ returns-clause-board c = ap board (now c) ∙ board_cleared c.args.p.now c.args.
 pub returns-clause-agree : goal.returns-clause-agree
 returns-clause-agree c =
     subst (λ (p : Procs). AreProcs p) (sym (now c))
-    (agree_cleared c.args.p.now c.args.dead c.requires.low c.requires.rows.long c.requires.images.slots c.requires.above c.requires.agree)
+    (agree_cleared c.args.p.now c.args.dead c.requires.low c.requires.rows.long c.requires.images.slots c.requires.above c.requires.agree
+    c.requires.grave)
