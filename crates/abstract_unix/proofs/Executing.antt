@@ -152,7 +152,7 @@ module _ (s : ℕ) (seen : Seen) where
 record AreTests (w : World) (t : exec.Tested) : Type 0 where
   same : seats_here t.world ≡ seats_here w
   sizes : (program : Program) → t.answer ≡ Ok program
-      → is_refused (exec.text_clicks program.plan) (exec.data_clicks program.plan) 20 t.world.limit ≡ false
+      → is_refused program.text_clicks (exec.data_clicks program.plan) 20 t.world.limit ≡ false
 
 module _ (w : World) where
   refused : (now : World) (e : Errno) → seats_here now ≡ seats_here w
@@ -166,38 +166,35 @@ module _ (w : World) where
 
   fitting : (now : World) (ino : ℕ) (args : List (List ℕ)) (plan : Plan) → seats_here now ≡ seats_here w
       → AreTests w (exec.check (let_go now ino)
-      (must ENOMEM (not (is_refused (exec.text_clicks plan) (exec.data_clicks plan) stack_clicks now.limit)))
-      (λ fits. record { answer = Ok (record { ino = ino; plan = plan; arguments = args }); world = now }))
-  fitting now ino args plan k = by (is_refused (exec.text_clicks plan) (exec.data_clicks plan) stack_clicks now.limit) refl
+      (must ENOMEM (not (is_refused (exec.text_clicks_in now.texts ino plan) (exec.data_clicks plan) stack_clicks now.limit)))
+      (λ fits. record { answer = Ok (record { ino = ino; plan = plan; text_clicks = exec.text_clicks_in now.texts ino plan; arguments = args }); world = now }))
+  fitting now ino args plan k = by (is_refused (exec.text_clicks_in now.texts ino plan) (exec.data_clicks plan) stack_clicks now.limit) refl
     where
-      by : (x : Bool) → is_refused (exec.text_clicks plan) (exec.data_clicks plan) stack_clicks now.limit ≡ x
+      by : (x : Bool) → is_refused (exec.text_clicks_in now.texts ino plan) (exec.data_clicks plan) stack_clicks now.limit ≡ x
           → AreTests w (exec.check (let_go now ino) (must ENOMEM (not x))
-          (λ fits. record { answer = Ok (record { ino = ino; plan = plan; arguments = args }); world = now }))
+          (λ fits. record { answer = Ok (record { ino = ino; plan = plan; text_clicks = exec.text_clicks_in now.texts ino plan; arguments = args }); world = now }))
       by true e = refused (let_go now ino) ENOMEM k
       by false e = record {
         same = k;
-        sizes = λ program f. subst (λ (plan : Plan). is_refused (exec.text_clicks plan) (exec.data_clicks plan) 20 now.limit ≡ false) (plan_is program f) e;
+        sizes = λ program f. subst (λ (q : Program). is_refused q.text_clicks (exec.data_clicks q.plan) 20 now.limit ≡ false) (is program f) e;
       }
         where
           tested : Program
-          tested = record { ino = ino; plan = plan; arguments = args }
+          tested = record { ino = ino; plan = plan; text_clicks = exec.text_clicks_in now.texts ino plan; arguments = args }
 
           answered : Result Program Errno
           answered = Ok tested
 
-          plan_is : (program : Program) → answered ≡ Ok program → plan ≡ program.plan
-          plan_is program f = ap (λ (q : Program). q.plan) (is program f)
-            where
-              is : (program : Program) → answered ≡ Ok program → tested ≡ program
-              is program f = cc f
+          is : (program : Program) → answered ≡ Ok program → tested ≡ program
+          is program f = cc f
 
   header_tests : (now : World) (ino : ℕ) (args : List (List ℕ)) (head : Moving (List ℕ)) → seats_here now ≡ seats_here w
       → AreTests w (exec.tests_header now ino args head)
   header_tests now ino args head k =
       let h : Header = header_of head.memory in
       let out : World = let_go now ino in
-      let last : Plan → exec.Tested = λ plan. exec.check out (must ENOMEM (not (is_refused (exec.text_clicks plan) (exec.data_clicks plan) stack_clicks now.limit)))
-      (λ fits. record { answer = Ok (record { ino = ino; plan = plan; arguments = args }); world = now }) in
+      let last : Plan → exec.Tested = λ plan. exec.check out (must ENOMEM (not (is_refused (exec.text_clicks_in now.texts ino plan) (exec.data_clicks plan) stack_clicks now.limit)))
+      (λ fits. record { answer = Ok (record { ino = ino; plan = plan; text_clicks = exec.text_clicks_in now.texts ino plan; arguments = args }); world = now }) in
       let planned : Unit {0} → exec.Tested = λ free. exec.check out (exec.or_no_memory (plan_of h)) last in
       let idle : Unit {0} → exec.Tested = λ program. exec.check out (must ETXTBSY (not (exec.is_busy now ino h))) planned in
       let good : Unit {0} → exec.Tested = λ read. exec.check out (must ENOEXEC ((head.done == 16) && exec.is_magic (plan_of h))) idle in
@@ -239,7 +236,7 @@ abbrev group_if : Bool → Node → Process → Process
 group_if x node p = cond x (record p { u = record p.u { gid = node.gid } }) p
 
 -- The new image comes, when the old one is given back: whichever text the process has then.
-module _ (s : ℕ) (w : World) (u : UArea) (program : Program) (seats : Seats) (seen : Seen) (i : InExec s seats seen) (sizes : is_refused (exec.text_clicks program.plan) (exec.data_clicks program.plan) 20 w.limit ≡ false) (limit : seats.most ≡ w.limit)
+module _ (s : ℕ) (w : World) (u : UArea) (program : Program) (seats : Seats) (seen : Seen) (i : InExec s seats seen) (sizes : is_refused program.text_clicks (exec.data_clicks program.plan) 20 w.limit ≡ false) (limit : seats.most ≡ w.limit)
     (calm : not (u.pending == 0) ≡ false) (alive : (process_of w s).is_zombie ≡ false) (text : (process_of w s).text ≡ i.turn.seat.text)
     (others : seats_here w ≡ record seats { slots = set seats.slots s (Some (seat_for (process_of w s))) }) where
   abbrev pub plan : Plan
@@ -250,7 +247,7 @@ module _ (s : ℕ) (w : World) (u : UArea) (program : Program) (seats : Seats) (
 
   image_size : IsSize seen.board clicks
   image_size =
-      let few : 16 + exec.data_clicks plan + 20 ≤ w.limit = few_clicks (exec.text_clicks plan) (exec.data_clicks plan) 20 w.limit sizes in
+      let few : 16 + exec.data_clicks plan + 20 ≤ w.limit = few_clicks program.text_clicks (exec.data_clicks plan) 20 w.limit sizes in
       let most = i.most in
       record { least = omega arith; most = omega (arith, few, most, limit) }
 
@@ -308,12 +305,12 @@ module _ (s : ℕ) (w : World) (u : UArea) (program : Program) (seats : Seats) (
 -- What follows when a process has left its text.
 abbrev after_text_of : ℕ → World → Program → Comes
 after_text_of s left program =
-    logs (line.Bare s) (xalloc (change left s exec.bared) s program.ino (exec.text_clicks program.plan) (λ placed is_new.
+    logs (line.Bare s) (xalloc (change left s exec.bared) s program.ino program.text_clicks (λ placed is_new.
     does (effect.Image s (exec.image_clicks program.plan) placed) (exec.executes (exec.reads_text is_new placed s program) s (process_of left s).u program)))
 
 -- A program, by a process that has left its text.
 module _ (s : ℕ) (seen : Seen) (w : World) (program : Program) (i : Calling s w seen) (none : (process_of w s).text ≡ None)
-    (sizes : is_refused (exec.text_clicks program.plan) (exec.data_clicks program.plan) 20 w.limit ≡ false) where
+    (sizes : is_refused program.text_clicks (exec.data_clicks program.plan) 20 w.limit ≡ false) where
   abbrev its_area : UArea
   its_area = (process_of w s).u
 
@@ -512,32 +509,32 @@ module _ (s : ℕ) (seen : Seen) (w : World) (program : Program) (i : Calling s 
         (λ now k free j. subst (λ (made : World). Apt (InCall s false (seats_under w.limit (next made true).state)) now (next made true).effects) (sym (made_is size k free)) (new_fine size k free now j)),
   )
 
-  few_text : exec.text_clicks program.plan ≤ w.limit
+  few_text : program.text_clicks ≤ w.limit
   few_text =
-      let l : exec.text_clicks program.plan + exec.data_clicks program.plan + 20 + 16 ≤ w.limit =
-      ltb-false w.limit (exec.text_clicks program.plan + exec.data_clicks program.plan + 20 + 16)
-      (second_false (nat_lt 8 (nseg (exec.text_clicks program.plan) + nseg (exec.data_clicks program.plan) + nseg 20)) (nat_lt w.limit (exec.text_clicks program.plan + exec.data_clicks program.plan + 20 + 16)) sizes) in
+      let l : program.text_clicks + exec.data_clicks program.plan + 20 + 16 ≤ w.limit =
+      ltb-false w.limit (program.text_clicks + exec.data_clicks program.plan + 20 + 16)
+      (second_false (nat_lt 8 (nseg program.text_clicks + nseg (exec.data_clicks program.plan) + nseg 20)) (nat_lt w.limit (program.text_clicks + exec.data_clicks program.plan + 20 + 16)) sizes) in
       omega (arith, l)
 
   rest_fine : FineComes w.limit s seen (after_text_of s w program)
-  rest_fine = by (exec.text_clicks program.plan == 0) refl
+  rest_fine = by (program.text_clicks == 0) refl
     where
-      by_entry : (o : Option ℕ) → entry_of w.texts program.ino ≡ o → 1 ≤ exec.text_clicks program.plan
-          → FineComes w.limit s seen (logs (line.Bare s) (xalloc_by bared s program.ino (exec.text_clicks program.plan) o next))
-      by_entry None e some = record { fine = text_fine (exec.text_clicks program.plan) some few_text }
+      by_entry : (o : Option ℕ) → entry_of w.texts program.ino ≡ o → 1 ≤ program.text_clicks
+          → FineComes w.limit s seen (logs (line.Bare s) (xalloc_by bared s program.ino program.text_clicks o next))
+      by_entry None e some = record { fine = text_fine program.text_clicks some few_text }
       by_entry (Some k) e some = record { fine = share_fine k e }
 
-      by : (x : Bool) → (exec.text_clicks program.plan == 0) ≡ x
-          → FineComes w.limit s seen (logs (line.Bare s) (cond x (next bared false) (xalloc_by bared s program.ino (exec.text_clicks program.plan) (entry_of w.texts program.ino) next)))
+      by : (x : Bool) → (program.text_clicks == 0) ≡ x
+          → FineComes w.limit s seen (logs (line.Bare s) (cond x (next bared false) (xalloc_by bared s program.ino program.text_clicks (entry_of w.texts program.ino) next)))
       by true e = record { fine = plain_apt }
-      by false e = by_entry (entry_of w.texts program.ino) refl (some_by (exec.text_clicks program.plan) e)
+      by false e = by_entry (entry_of w.texts program.ino) refl (some_by program.text_clicks e)
         where
           some_by : (n : ℕ) → (n == 0) ≡ false → 1 ≤ n
           some_by n f = let ne : n ≢ 0 = eqb-false n 0 f in omega (arith, ne)
 
 -- A program, by a process with a text or without one.
 loads_fine : (s : ℕ) (seen : Seen) (w : World) (program : Program) (i : Calling s w seen)
-    → is_refused (exec.text_clicks program.plan) (exec.data_clicks program.plan) 20 w.limit ≡ false → FineComes w.limit s seen (exec.loads w s program)
+    → is_refused program.text_clicks (exec.data_clicks program.plan) 20 w.limit ≡ false → FineComes w.limit s seen (exec.loads w s program)
 loads_fine s seen w program i sizes = by (process_of w s).text refl
   where
     by : (o : Option ℕ) → (process_of w s).text ≡ o → FineComes w.limit s seen (xfree w s o (λ left. after_text_of s left program))
@@ -548,7 +545,7 @@ loads_fine s seen w program i sizes = by (process_of w s).text refl
         logged_fine w.limit s seen (line.Leave s k (is_sticky w k)) (after_text_of s left program) (fits_left s w seen i k e)
         (subst (λ n. FineComes n s (seen_after seen (line.Leave s k (is_sticky w k))) (after_text_of s left program)) limit
         (rest_fine s (seen_after seen (line.Leave s k (is_sticky w k))) left program (calling_left s w seen i k) (none_left s w seen i k)
-        (subst (λ n. is_refused (exec.text_clicks program.plan) (exec.data_clicks program.plan) 20 n ≡ false) (sym limit) sizes)))
+        (subst (λ n. is_refused program.text_clicks (exec.data_clicks program.plan) 20 n ≡ false) (sym limit) sizes)))
 
 module _ (s : ℕ) (seen : Seen) where
   pub exec_fine : (w : World) (name list : ℕ) → Calling s w seen → FineComes w.limit s seen (exec.exec_file w s name list)

@@ -16,7 +16,7 @@ use Rattle.sys_procs.specs.Process.{Process, image_of}
 use Rattle.sys_procs.specs.World.{World, process_of, with_inodes, let_go}
 use Rattle.sys_procs.specs.Tests.{must, user_of, node_at}
 use Rattle.sys_procs.specs.Stack.{arguments, stack_clicks}
-use Rattle.sys_procs.specs.ExecFile.{Tested, text_clicks, data_clicks, check, with_moved, header_read, unless_error, is_magic, or_no_memory, is_busy, tests_header, tests_file, tests}
+use Rattle.sys_procs.specs.ExecFile.{Tested, text_clicks_in, data_clicks, check, with_moved, header_read, unless_error, is_magic, or_no_memory, is_busy, tests_header, tests_file, tests}
 
 abbrev Keeps : World → Tested → Type 0
 Keeps w t = t.world.processes ≡ w.processes
@@ -35,7 +35,7 @@ keeps_header w v ino args head same =
     keeps_check w out (must ENOEXEC ((head.done == 16) && is_magic (plan_of h))) _ same (λ program.
     keeps_check w out (must ETXTBSY (not (is_busy v ino h))) _ same (λ free.
     keeps_check w out (or_no_memory (plan_of h)) _ same (λ plan.
-    keeps_check w out (must ENOMEM (not (is_refused (text_clicks plan) (data_clicks plan) stack_clicks v.limit))) _ same (λ fits. same)))))
+    keeps_check w out (must ENOMEM (not (is_refused (text_clicks_in v.texts ino plan) (data_clicks plan) stack_clicks v.limit))) _ same (λ fits. same)))))
 
 keeps_file : (w v : World) (s ino list : ℕ) → v.processes ≡ w.processes → Keeps w (tests_file v s ino list)
 keeps_file w v s ino list same =

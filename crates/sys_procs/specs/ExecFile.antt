@@ -1,6 +1,6 @@
 -- exec(II) of the UNIX Programmer's Manual; Lions' Commentary, `exec` in `sys1.c`.
-use Rattle.std.specs.Prelude.{◌≡◌, ◌<◌, ◌≤◌, IsSome, ℕ, ◌+◌, ◌*◌, ◌/◌, ◌%◌, ◌==◌, ◌&&◌, nat_lt, Bool, true, false, not, if◌then◌else◌, List, [], ◌∷◌, length, map, replicate, slice_index, Option, Some, None, Result, Ok, Err, bit_and}
-use Rattle.std.specs.Option.{unwrap_or}
+use Rattle.std.specs.Prelude.{◌≡◌, ◌<◌, ◌≤◌, IsSome, ℕ, ◌+◌, ◌*◌, ◌/◌, ◌%◌, ◌==◌, ◌&&◌, min, nat_lt, Bool, true, false, not, if◌then◌else◌, List, [], ◌∷◌, length, map, replicate, slice_index, Option, Some, None, is_none, Result, Ok, Err, bit_and}
+use Rattle.std.specs.Option.{unwrap_or, option_map}
 use Rattle.v6_base.specs.Image.{Image, nseg}
 use Rattle.v6_base.specs.declared.entry.Entry.TheVariants.{Bare}
 use Rattle.v6_base.specs.declared.errno.Errno.{Errno}
@@ -37,12 +37,9 @@ use Rattle.sys_procs.specs.Stack.{arguments, first_sp, first_stack, stack_clicks
 
 -- The tests.
 
--- The clicks of its text, and of its data with the bss. No sum wraps.
+-- The clicks of so many bytes, and those of a program's data with the bss. No sum wraps.
 abbrev pub clicks : ℕ → ℕ
 clicks bytes = (bytes + 63) / 64
-
-abbrev pub text_clicks : Plan → ℕ
-text_clicks plan = clicks plan.text
 
 abbrev pub data_clicks : Plan → ℕ
 data_clicks plan = clicks (plan.init + plan.bss)
@@ -79,19 +76,25 @@ abbrev pub or_no_memory : Result Plan ExecFault → Result Plan Errno
 or_no_memory (Ok plan) = Ok plan
 or_no_memory (Err fault) = Err ENOMEM
 
--- A text that would be shared is busy while others than this call refer to its file, and it is in no entry. Who shares a text
--- that is in an entry finds it as long as the header says, since nobody writes such a file.
-abbrev pub is_other : List (Option Text) → ℕ → ℕ → Option ℕ → Bool
-is_other texts references size None = nat_lt 1 references
-is_other texts references size (Some k) = not (length (text_of texts k).bytes == 64 * size)
-
+-- A text that would be shared is busy while others than this call refer to its file, and it is in no entry.
 abbrev pub is_busy_in : List (Option Text) → ℕ → ℕ → Header → Bool
 is_busy_in texts references ino h =
-    not (h.magic == 0o407) && not (h.text_size == 0)
-    && is_other texts references (clicks h.text_size) (entry_of texts ino)
+    not (h.magic == 0o407) && not (h.text_size == 0) && nat_lt 1 references && is_none (entry_of texts ino)
 
 abbrev pub is_busy : World → ℕ → Header → Bool
 is_busy w ino h = is_busy_in w.texts (slice_index w.inodes.references ino) ino h
+
+-- the clicks of the text that a file has in an entry, if any
+abbrev pub entry_clicks : List (Option Text) → ℕ → Option ℕ
+entry_clicks texts ino = option_map (λ k. length (text_of texts k).bytes / 64) (entry_of texts ino)
+
+-- The clicks of the text of a program: those of the text in its file's entry, if it has one. They are what the header says, since
+-- nobody writes the file of a text that is shared.
+abbrev pub text_clicks_by : Option ℕ → Plan → ℕ
+text_clicks_by there plan = if plan.text == 0 then 0 else unwrap_or there (clicks plan.text)
+
+abbrev pub text_clicks_in : List (Option Text) → ℕ → Plan → ℕ
+text_clicks_in texts ino plan = text_clicks_by (entry_clicks texts ino) plan
 
 -- the header, when it has been read
 abbrev pub tests_header : World → ℕ → List (List ℕ) → Moving (List ℕ) → Tested
@@ -102,8 +105,9 @@ tests_header w ino args head =
     check out (must ENOEXEC ((head.done == 16) && is_magic (plan_of h))) (λ program.
     check out (must ETXTBSY (not (is_busy w ino h))) (λ free.
     check out (or_no_memory (plan_of h)) (λ plan.
-    check out (must ENOMEM (not (is_refused (text_clicks plan) (data_clicks plan) stack_clicks w.limit))) (λ fits.
-    record { answer = Ok (record { ino = ino; plan = plan; arguments = args }); world = w })))))
+    let text : ℕ = text_clicks_in w.texts ino plan in
+    check out (must ENOMEM (not (is_refused text (data_clicks plan) stack_clicks w.limit))) (λ fits.
+    record { answer = Ok (record { ino = ino; plan = plan; text_clicks = text; arguments = args }); world = w })))))
 
 -- the file, and then the arguments
 abbrev pub tests_file : World → ℕ → ℕ → ℕ → Tested
@@ -135,10 +139,13 @@ bare_board b s = applied b (Bare s)
 -- The old program goes, and the new one comes.
 
 -- Text and data stand after the header, in this order. Each is read by one read, which its first error ends: the rest of
--- it stays zeros.
+-- it stays zeros. No more is read than the clicks of the text have room for.
+abbrev pub text_room : Program → ℕ
+text_room program = min program.plan.text (64 * program.text_clicks)
+
 abbrev pub text_read : World → Program → Moving (List ℕ)
 text_read w program =
-    read_file put_kernel (node_at w program.ino) w.inodes.store.room (replicate program.plan.text 0) 16 program.plan.text
+    read_file put_kernel (node_at w program.ino) w.inodes.store.room (replicate (text_room program) 0) 16 (text_room program)
     w.clock.time
 
 -- the entry of the text that a process has, or 40 where it has none
@@ -166,7 +173,7 @@ cleared_image text plan = record {
 
 abbrev pub data_in : Store → List ℕ → Program → ℕ → Moving Image
 data_in store text program time =
-    read_file (put_into (8192 * nseg (text_clicks program.plan))) (node_in store program.ino) store.room
+    read_file (put_into (8192 * nseg program.text_clicks)) (node_in store program.ino) store.room
     (cleared_image text program.plan) (16 + program.plan.text) program.plan.init time
 
 abbrev pub data_read : World → ℕ → Program → Moving Image
@@ -184,7 +191,7 @@ kept_handler handler = if handler % 2 == 0 then 0 else handler
 abbrev pub begun_area : UArea → Program → UArea
 begun_area u program =
     record (with_state u (0 ∷ 0 ∷ 0 ∷ 0 ∷ 0 ∷ 0 ∷ first_sp program.arguments ∷ 0 ∷ []) 0) {
-      text_size = text_clicks program.plan;
+      text_size = program.text_clicks;
       data_size = data_clicks program.plan;
       stack_size = stack_clicks;
       handlers = map kept_handler u.handlers;
@@ -220,7 +227,7 @@ executes w s u program =
 -- A process without an image, which had this u area, takes the text of a program and an image, and executes it.
 abbrev pub begins_anew : World → ℕ → UArea → Program → Comes
 begins_anew w s u program =
-    xalloc w s program.ino (text_clicks program.plan) (λ placed is_new.
+    xalloc w s program.ino program.text_clicks (λ placed is_new.
     does (effect.Image s (image_clicks program.plan) placed) (
     executes (reads_text is_new placed s program) s u program))
 
@@ -243,7 +250,8 @@ exec_file w s name list = let t : Tested = tests w s name list in done_by t.worl
 pub record IsTested (w : World) (program : Program) : Type 0 where
   pub referenced : 0 < slice_index w.inodes.references program.ino
   pub there : IsSome (node_numbered w.inodes.store program.ino)
-  pub sizes : is_refused (text_clicks program.plan) (data_clicks program.plan) stack_clicks w.limit ≡ false
+  pub text : program.text_clicks ≡ text_clicks_in w.texts program.ino program.plan
+  pub sizes : is_refused program.text_clicks (data_clicks program.plan) stack_clicks w.limit ≡ false
   pub init : program.plan.init ≤ 131070
   pub shared : (k : ℕ) → 0 < program.plan.text → entry_of w.texts program.ino ≡ Some k
-      → length (text_of w.texts k).bytes ≡ 64 * text_clicks program.plan
+      → length (text_of w.texts k).bytes ≡ 64 * program.text_clicks

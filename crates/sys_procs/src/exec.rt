@@ -9,7 +9,7 @@ ghost use Rattle.sys_procs.specs.TextTable.{is_text_of};
 ghost use Rattle.sys_procs.specs.World.{texts_in, with_process};
 ghost use Rattle.sys_procs.specs.Tests.{node_in};
 ghost use Rattle.sys_procs.specs.Stack.{first_stack};
-ghost use Rattle.sys_procs.specs.ExecFile.{exec_file, loads, begins_anew, text_clicks, data_clicks, cleared_image, data_in, with_text_read, reads_text, kept_handler, begun_area, IsTested};
+ghost use Rattle.sys_procs.specs.ExecFile.{exec_file, loads, begins_anew, data_clicks, cleared_image, data_in, with_text_read, reads_text, kept_handler, begun_area, IsTested};
 ghost use Rattle.sys_procs.specs.inside.Begun.{fills, user_in, group_in, row_in, area_in};
 ghost use Rattle.sys_procs.specs.Handed.{AreProcs, AreBare, Calls, IsAlive, IsBare, IsMarked, board, handed, process_here, memory_here};
 ghost use Rattle.sys_procs.specs.Done.{HasDone};
@@ -36,14 +36,6 @@ const HEADER: u32 = 16;
 
 /// The bytes of the longest text.
 const LONGEST_TEXT: usize = 65_535;
-
-/// The clicks of the text of a program.
-fn text_clicks(plan: &Plan) -> u16
-    ensures clicks { result ≡ text_clicks plan.now }
-    ensures few { result ≤ 1024 }
-{
-    plan.text.div_ceil(64)
-}
 
 /// The clicks of the data of a program, with the bss.
 fn data_clicks(plan: &Plan) -> u16
@@ -78,7 +70,7 @@ fn begun_area(u: UArea, program: &Program) -> UArea
     let mut u = u;
     u.r = [0, 0, 0, 0, 0, 0, program.arguments.first_sp(), 0];
     u.cc = 0;
-    u.text_size = text_clicks(&program.plan);
+    u.text_size = program.text_clicks;
     u.data_size = data_clicks(&program.plan);
     u.stack_size = STACK;
     keep_ignored(&mut u.handlers);
@@ -139,7 +131,7 @@ fn new_area(nodes: &Nodes, u: UArea, program: &Program) -> UArea
 fn read_text(p: &mut Procs, tree: &mut Tree, s: Slot, t: TextId, program: &Program)
     requires alive { IsAlive p.old s }
     requires text { text_of p.old.images s ≡ Some t }
-    requires out { (x : Shared) × (shared p.old.images t ≡ Some x) × (x.row.loaded ≡ 0) × (program.now.plan.text ≤ 64 * x.row.clicks) }
+    requires out { (x : Shared) × (shared p.old.images t ≡ Some x) × (x.row.loaded ≡ 0) × (x.row.clicks ≡ program.now.text_clicks) }
     requires referenced { 0 < slice_index tree.old.nodes.references program.now.ino }
     ensures state { handed p.new tree.new.nodes ≡ with_text_read (handed p.old tree.old.nodes) s program.now }
     ensures board { board p.new ≡ board p.old }
@@ -149,7 +141,8 @@ fn read_text(p: &mut Procs, tree: &mut Tree, s: Slot, t: TextId, program: &Progr
     ensures alive { IsAlive p.new s }
 {
     let mut bytes = [0; LONGEST_TEXT];
-    let part = &mut bytes[..usize::from(program.plan.text)];
+    let count = usize::from(program.plan.text).min(64 * usize::from(program.text_clicks));
+    let part = &mut bytes[..count];
     let _ = tree
         .nodes
         .read_kernel(program.ino, HEADER, part, p.table.now);
@@ -161,7 +154,7 @@ fn fill_text(p: &mut Procs, tree: &mut Tree, s: Slot, new: Option<TextId>, progr
     requires alive { IsAlive p.old s }
     requires text { IfSome new (λ t. text_of p.old.images s ≡ Some t) }
     requires out { IfSome new (λ t. (x : Shared) × (shared p.old.images t ≡ Some x) × (x.row.loaded ≡ 0)
-        × (program.now.plan.text ≤ 64 * x.row.clicks)) }
+        × (x.row.clicks ≡ program.now.text_clicks)) }
     requires referenced { 0 < slice_index tree.old.nodes.references program.now.ino }
     ensures state { handed p.new tree.new.nodes ≡ reads_text (is_some new) (handed p.old tree.old.nodes) s program.now }
     ensures board { board p.new ≡ board p.old }
@@ -187,8 +180,8 @@ fn data_at(text: u16) -> u16
 /// the stack.
 fn fill<S: Space>(nodes: &mut Nodes, space: &mut S, program: &Program, now: u32)
     requires referenced { 0 < slice_index nodes.old.references program.now.ino }
-    requires fits { is_refused (text_clicks program.now.plan) (data_clicks program.now.plan) 20 2048 ≡ false }
-    requires cleared { (text : List ℕ) × (length text ≡ 64 * text_clicks program.now.plan)
+    requires fits { is_refused program.now.text_clicks (data_clicks program.now.plan) 20 2048 ≡ false }
+    requires cleared { (text : List ℕ) × (length text ≡ 64 * program.now.text_clicks)
         × (S.image space.old ≡ cleared_image text program.now.plan) }
     ensures image { (text : List ℕ) → S.image space.old ≡ cleared_image text program.now.plan → S.image space.new
         ≡ record (data_in nodes.old.store text program.now now).memory { stack = first_stack program.now.arguments } }
@@ -200,7 +193,7 @@ fn fill<S: Space>(nodes: &mut Nodes, space: &mut S, program: &Program, now: u32)
 {
     let _ = nodes.refs(program.ino);
     let count = program.plan.init as u16;
-    let at = data_at(text_clicks(&program.plan));
+    let at = data_at(program.text_clicks);
     let _ = nodes.read_at(
         program.ino,
         HEADER + u32::from(program.plan.text),
@@ -216,9 +209,9 @@ fn fill<S: Space>(nodes: &mut Nodes, space: &mut S, program: &Program, now: u32)
 fn fill_image(p: &mut Procs, tree: &mut Tree, s: Slot, program: &Program)
     requires alive { IsAlive p.old s }
     requires referenced { 0 < slice_index tree.old.nodes.references program.now.ino }
-    requires fits { is_refused (text_clicks program.now.plan) (data_clicks program.now.plan) 20 2048 ≡ false }
+    requires fits { is_refused program.now.text_clicks (data_clicks program.now.plan) 20 2048 ≡ false }
     requires cleared { memory_here p.old s ≡ cleared_image (memory_here p.old s).text program.now.plan }
-    requires long { length (memory_here p.old s).text ≡ 64 * text_clicks program.now.plan }
+    requires long { length (memory_here p.old s).text ≡ 64 * program.now.text_clicks }
     ensures state { handed p.new tree.new.nodes ≡ fills (handed p.old tree.old.nodes) s program.now }
     ensures references { tree.new.nodes.references ≡ tree.old.nodes.references }
     ensures marks { tree.new.marks ≡ tree.old.marks }
@@ -284,7 +277,7 @@ fn begin_program<T: Trace>(
     place_image(
         p,
         s,
-        text_clicks(&program.plan),
+        program.text_clicks,
         data_clicks(&program.plan),
         trace,
     )?;

@@ -1,5 +1,5 @@
 //! The tests of exec(II).
-ghost use Rattle.std.specs.Prelude.{◌≡◌, ◌<◌, ◌≤◌, ◌==◌, ◌&&◌, ◌*◌, ℕ, false, not, List, length, Ok, Some, IfOk, slice_index};
+ghost use Rattle.std.specs.Prelude.{◌≡◌, ◌<◌, ◌≤◌, ◌==◌, ◌&&◌, ◌*◌, ℕ, nat_lt, false, not, List, length, Ok, Some, is_none, IfOk, IfSome, slice_index};
 ghost use Rattle.v6_base.specs.Access.{then_do};
 ghost use Rattle.v6_base.specs.declared.errno.Errno.TheVariants.{EACCES, ENOEXEC, ENOMEM, ETXTBSY};
 ghost use Rattle.fs_codec.specs.Modes.{file_type};
@@ -14,11 +14,11 @@ ghost use Rattle.seg_regs.specs.Sizes.{is_refused};
 ghost use Rattle.sys_procs.specs.Stack.{arguments, stack_clicks};
 ghost use Rattle.sys_procs.specs.Tests.{must, user_of, node_in};
 ghost use Rattle.sys_procs.specs.Handed.{Calls, IsAlive, handed, process_here, memory_here};
-ghost use Rattle.sys_procs.specs.ExecFile.{clicks, text_clicks, data_clicks, unless_error, is_magic, or_no_memory};
+ghost use Rattle.sys_procs.specs.ExecFile.{clicks, text_clicks_by, text_clicks_in, entry_clicks, data_clicks, unless_error, is_magic, or_no_memory};
 ghost use Rattle.sys_procs.specs.World.{texts_in};
 ghost use Rattle.sys_procs.specs.TextTable.{text_of, entry_of};
 ghost use Rattle.image_keep.specs.Growth.{most_clicks};
-ghost use Rattle.sys_procs.specs.ExecFile.{is_other, is_busy_in, with_moved, header_read, tests_header, tests_file, tests, IsTested};
+ghost use Rattle.sys_procs.specs.ExecFile.{is_busy_in, with_moved, header_read, tests_header, tests_file, tests, IsTested};
 
 use crate::arguments::{Arguments, read_arguments};
 use crate::inodes::{let_go, see};
@@ -148,31 +148,23 @@ fn is_magic(planned: &Result<Plan, ExecFault>) -> bool
     !matches!(planned, Err(ExecFault::NotExecutable))
 }
 
-/// Whether a text of this size would be shared.
-fn is_shared(magic: u16, text: u16) -> bool
-    ensures { result ≡ not (magic == 0o407) && not (text == 0) }
+/// The clicks of the text that a file has in the table of texts, if any.
+fn entry_clicks(images: &Images, ino: u16) -> Option<u16>
+    ensures clicks { result ≡ entry_clicks (texts_in images.now) ino }
+    ensures none { is_none result ≡ is_none (entry_of (texts_in images.now) ino) }
+    ensures long { (k : ℕ) → entry_of (texts_in images.now) ino ≡ Some k
+        → IfSome result (λ clicks. length (text_of (texts_in images.now) k).bytes ≡ 64 * clicks) }
 {
-    magic != PLAIN_MAGIC && text != 0
+    let t = images.find_text(ino)?;
+    Some(images.text_row(t).clicks)
 }
 
-/// Whether a text of so many clicks is another than that which its file has in the table of texts, or is none of these
-/// while others use its file.
-fn is_other(images: &Images, references: u16, ino: u16, clicks: u16) -> bool
-    ensures { result ≡ is_other (texts_in images.now) references clicks (entry_of (texts_in images.now) ino) }
+/// Whether the text of a program would be shared, while others use its file, and isn't in the table of texts.
+fn is_busy(head: &[u8; 16], references: u16, there: Option<u16>) -> bool
+    ensures { result ≡ not ((header_of head.now).magic == 0o407) && not ((header_of head.now).text_size == 0)
+        && nat_lt 1 references && is_none there }
 {
-    match images.find_text(ino) {
-        Some(t) => images.text_row(t).clicks != clicks,
-        None => references > 1,
-    }
-}
-
-/// Whether the text of a program is busy.
-fn is_busy(images: &Images, nodes: &Nodes, ino: u16, head: &[u8; 16]) -> bool
-    ensures { result ≡ is_busy_in (texts_in images.now) (slice_index nodes.now.references ino) ino (header_of head.now) }
-{
-    let text = word_at(head, 2);
-    is_shared(word_at(head, 0), text)
-        && is_other(images, nodes.refs(ino), ino, clicks(u32::from(text)))
+    word_at(head, 0) != PLAIN_MAGIC && word_at(head, 2) != 0 && references > 1 && there.is_none()
 }
 
 /// The clicks of so many bytes.
@@ -183,41 +175,51 @@ fn clicks(bytes: u32) -> u16
     ((bytes + 63) / 64) as u16
 }
 
-/// Whether an image of these sizes is refused, where so many clicks are the most.
-fn is_refused(plan: &Plan, limit: u16) -> bool
-    requires { plan.now.init ≤ 131070 }
-    ensures { result ≡ is_refused (text_clicks plan.now) (data_clicks plan.now) stack_clicks limit }
+/// The clicks of the text of a program, whose file has one of so many in the table of texts, if any.
+fn text_clicks(plan: &Plan, there: Option<u16>) -> u16
+    ensures { result ≡ text_clicks_by there plan.now }
 {
-    let text = clicks(u32::from(plan.text));
+    if plan.text == 0 {
+        0
+    } else {
+        there.unwrap_or(clicks(u32::from(plan.text)))
+    }
+}
+
+/// Whether an image of these sizes is refused, where so many clicks are the most.
+fn is_refused(plan: &Plan, text: u16, limit: u16) -> bool
+    requires { plan.now.init ≤ 131070 }
+    ensures { result ≡ is_refused text (data_clicks plan.now) stack_clicks limit }
+{
     let filled = clicks(plan.init + u32::from(plan.bss));
     Proto::make(text, filled, STACK_CLICKS, limit).is_err()
 }
 
-/// The sizes of a program, where an image can have them.
+/// The sizes of a program, where an image can have them. Its file has a text of so many clicks in the table, if any.
 ///
 /// # Errors
 ///
 /// `ENOMEM`: it can't, or text and data have address spaces of their own.
-fn fitting(planned: Result<Plan, ExecFault>, limit: u16) -> Result<Plan, Errno>
+fn fitting(planned: Result<Plan, ExecFault>, there: Option<u16>, limit: u16) -> Result<Plan, Errno>
     requires { IfOk planned (λ plan. plan.init ≤ 131070) }
     ensures answer { result ≡ then_do (or_no_memory planned) (λ plan.
-        then_do (must ENOMEM (not (is_refused (text_clicks plan) (data_clicks plan) stack_clicks limit))) (λ fits.
+        then_do (must ENOMEM (not (is_refused (text_clicks_by there plan) (data_clicks plan) stack_clicks limit))) (λ fits.
         Ok plan)) }
     ensures fits { IfOk result (λ plan.
-        is_refused (text_clicks plan) (data_clicks plan) stack_clicks limit ≡ false) }
+        is_refused (text_clicks_by there plan) (data_clicks plan) stack_clicks limit ≡ false) }
     ensures most { IfOk result (λ plan. plan.init ≤ 131070) }
     ensures plan { IfOk result (λ plan. planned ≡ Ok plan) }
 {
     let Ok(plan) = planned else {
         return Err(Errno::ENOMEM);
     };
-    if is_refused(&plan, limit) {
+    if is_refused(&plan, text_clicks(&plan, there), limit) {
         return Err(Errno::ENOMEM);
     }
     Ok(plan)
 }
 
-/// The sizes of a program by its header, of which so many bytes were read.
+/// The program of a file by its header, of which so many bytes were read.
 ///
 /// # Errors
 ///
@@ -227,20 +229,24 @@ fn judge_header(
     images: &Images,
     nodes: &Nodes,
     ino: u16,
+    args: Arguments,
     head: &[u8; 16],
     read: Moved,
-) -> Result<Plan, Errno>
+) -> Result<Program, Errno>
     ensures answer { result ≡ then_do (unless_error read.error) (λ whole.
         then_do (must ENOEXEC ((read.done == 16) && is_magic (plan_of (header_of head.now)))) (λ program.
         then_do (must ETXTBSY (not (is_busy_in (texts_in images.now) (slice_index nodes.now.references ino) ino (header_of head.now)))) (λ free.
         then_do (or_no_memory (plan_of (header_of head.now))) (λ plan.
-        then_do (must ENOMEM (not (is_refused (text_clicks plan) (data_clicks plan) stack_clicks (most_clicks images.now)))) (λ fits.
-        Ok plan))))) }
-    ensures fits { IfOk result (λ plan.
-        is_refused (text_clicks plan) (data_clicks plan) stack_clicks (most_clicks images.now) ≡ false) }
-    ensures most { IfOk result (λ plan. plan.init ≤ 131070) }
-    ensures shared { IfOk result (λ plan. (k : ℕ) → 0 < plan.text → entry_of (texts_in images.now) ino ≡ Some k
-        → length (text_of (texts_in images.now) k).bytes ≡ 64 * text_clicks plan) }
+        then_do (must ENOMEM (not (is_refused (text_clicks_in (texts_in images.now) ino plan) (data_clicks plan) stack_clicks
+        (most_clicks images.now)))) (λ fits.
+        Ok (record { ino = ino; plan = plan; text_clicks = text_clicks_in (texts_in images.now) ino plan; arguments = args })))))) }
+    ensures ino { IfOk result (λ program. program.ino ≡ ino) }
+    ensures text { IfOk result (λ program. program.text_clicks ≡ text_clicks_in (texts_in images.now) ino program.plan) }
+    ensures fits { IfOk result (λ program.
+        is_refused program.text_clicks (data_clicks program.plan) stack_clicks (most_clicks images.now) ≡ false) }
+    ensures most { IfOk result (λ program. program.plan.init ≤ 131070) }
+    ensures shared { IfOk result (λ program. (k : ℕ) → 0 < program.plan.text → entry_of (texts_in images.now) ino ≡ Some k
+        → length (text_of (texts_in images.now) k).bytes ≡ 64 * program.text_clicks) }
 {
     if let Some(e) = read.error {
         return Err(e);
@@ -249,10 +255,17 @@ fn judge_header(
     if read.done != HEADER_SIZE || !is_magic(&planned) {
         return Err(Errno::ENOEXEC);
     }
-    if is_busy(images, nodes, ino, head) {
+    let there = entry_clicks(images, ino);
+    if is_busy(head, nodes.refs(ino), there) {
         return Err(Errno::ETXTBSY);
     }
-    fitting(planned, images.limit())
+    let plan = fitting(planned, there, images.limit())?;
+    Ok(Program {
+        ino,
+        text_clicks: text_clicks(&plan, there),
+        plan,
+        arguments: args,
+    })
 }
 
 /// Tests the header of a file that is referred to.
@@ -278,12 +291,8 @@ fn test_header(
     ensures blocks { SameRest tree.old.nodes.blocks tree.new.nodes.blocks }
 {
     see(&tree.nodes);
-    match judge_header(&p.images, &tree.nodes, ino, head, read) {
-        Ok(plan) => Ok(Program {
-            ino,
-            plan,
-            arguments: args,
-        }),
+    match judge_header(&p.images, &tree.nodes, ino, args, head, read) {
+        Ok(program) => Ok(program),
         Err(e) => {
             let_go(&mut tree.nodes, ino, p.table.now);
             Err(e)

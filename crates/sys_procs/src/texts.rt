@@ -1,5 +1,5 @@
 //! The texts that processes share: `xalloc` and `xfree` in Lions' Commentary, `text.c`.
-ghost use Rattle.std.specs.Prelude.{◌≡◌, ◌≤◌, ◌<◌, ◌+◌, ◌/◌, ◌==◌, not, ℕ, Some, None, IfOk, IfErr, IfSome, IsSome, count_by, slice_index, bit_and};
+ghost use Rattle.std.specs.Prelude.{◌≡◌, ◌≤◌, ◌<◌, ◌+◌, ◌==◌, not, ℕ, Some, None, IfOk, IfErr, IfSome, IsSome, count_by, slice_index, bit_and};
 ghost use Rattle.v6_base.specs.Trace.{Took, Log};
 ghost use Rattle.fs_codec.specs.declared.modes.TheConstants.{ISVTX};
 ghost use Rattle.fs_nodes.specs.FileSystem.{SameRest};
@@ -11,7 +11,6 @@ ghost use Rattle.sys_procs.specs.TextTable.{is_text_of, entry_of};
 ghost use Rattle.sys_procs.specs.Texts.{xfree, xalloc_by};
 ghost use Rattle.sys_procs.specs.World.{World, texts_in};
 ghost use Rattle.sys_procs.specs.Comes.{nothing};
-ghost use Rattle.sys_procs.specs.ExecFile.{clicks, text_clicks};
 ghost use Rattle.sys_procs.specs.inside.Begun.{leaves, takes, new_entry, taken_by};
 ghost use Rattle.sys_procs.specs.Handed.{IsAlive, IsBare, IsMarked, came, handed};
 ghost use Rattle.sys_procs.specs.Done.{HasLeft};
@@ -25,13 +24,6 @@ use image_keep::TextRefusal;
 use pick_rules::Table;
 use text_tab::{Left, TextId};
 use v6_base::{Entry, PanicKind, Slot, Trace};
-
-/// The clicks of so many bytes.
-fn clicks(bytes: u16) -> u16
-    ensures { result ≡ clicks bytes }
-{
-    bytes.div_ceil(64)
-}
 
 /// Whether the file of a text is sticky: its text stays when nobody uses it.
 fn is_sticky(nodes: &Nodes, ino: u16) -> bool
@@ -199,17 +191,17 @@ pub(crate) fn take_text<T: Trace>(
     requires few { (i : ℕ) → slice_index tree.old.nodes.references i ≤ 65530 }
     requires marks { IsMarked p.old tree.old.marks }
     ensures left { HasLeft p.old p.new tree.new.nodes (T.taken trace.old) (T.taken trace.new)
-        (takes (handed p.old tree.old.nodes) s program.now.ino (text_clicks program.now.plan)) }
+        (takes (handed p.old tree.old.nodes) s program.now.ino program.now.text_clicks) }
     ensures answer { result ≡ taken_by
-        (came p.old (takes (handed p.old tree.old.nodes) s program.now.ino (text_clicks program.now.plan))).stop
-        (new_entry (texts_in p.old.images) program.now.ino (text_clicks program.now.plan)) }
+        (came p.old (takes (handed p.old tree.old.nodes) s program.now.ino program.now.text_clicks)).stop
+        (new_entry (texts_in p.old.images) program.now.ino program.now.text_clicks) }
     ensures new { IfOk result (λ new. IfSome new (λ t. text_of p.new.images s ≡ Some t)) }
     ensures frame { T.leads_to trace.old trace.new }
     ensures bare { IsBare p.new s }
     ensures marks { IsMarked p.new tree.new.marks }
     ensures blocks { tree.new.nodes.blocks ≡ tree.old.nodes.blocks }
 {
-    if program.plan.text == 0 {
+    if program.text_clicks == 0 {
         return Ok(None);
     }
     match p.images.find_text(program.ino) {
@@ -218,7 +210,7 @@ pub(crate) fn take_text<T: Trace>(
             Ok(None)
         }
         None => {
-            let t = make_text(p, tree, s, program.ino, clicks(program.plan.text), trace)?;
+            let t = make_text(p, tree, s, program.ino, program.text_clicks, trace)?;
             Ok(Some(t))
         }
     }

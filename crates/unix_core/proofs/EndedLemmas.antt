@@ -1,5 +1,5 @@
 -- The world after exit(II): the Unix then, and that it is good; and where the run stops in it.
-use Rattle.std.proofs.Common.{◌≡◌, ◌<◌, ◌*◌, ◌%◌, ◌∙◌, ℕ, Bool, true, false, cond, List, length, get_or, Option, Some, None, slice_index, refl, sym, ap, subst, set, inl, inr, arith}
+use Rattle.std.proofs.Common.{◌≡◌, ◌<◌, ◌∙◌, ℕ, Bool, true, false, cond, List, length, get_or, Option, Some, None, slice_index, refl, sym, ap, subst, set, inl, inr, arith}
 use Rattle.std.proofs.lemmas.Bool.{cases_lt}
 use Rattle.std.proofs.lemmas.List.{get_or-set_same, map-set, set-set}
 use Rattle.std.specs.Prelude.{unwrap_or}

@@ -1,5 +1,5 @@
 -- exec(II): what its tests leave. They refer to the inode of the program once more, where they let it through.
-use Rattle.std.proofs.Common.{◌≡◌, ◌∙◌, ◌<◌, ◌+◌, ◌==◌, ◌&&◌, ℕ, Bool, true, false, not, cond, if◌then◌else◌, List, length, get_or, set, Option, Some, None, IsSome, slice_index, refl, sym, ap, subst, arith}
+use Rattle.std.proofs.Common.{◌≡◌, ◌<◌, ◌+◌, ◌==◌, ◌&&◌, ℕ, Bool, true, false, not, cond, if◌then◌else◌, List, length, Option, Some, None, IsSome, slice_index, refl, sym, ap, arith}
 use Rattle.std.specs.Prelude.{Result, Ok, Err}
 use Rattle.std.proofs.lemmas.Bool.{eq-eqb}
 use Rattle.v6_base.specs.Access.{then_do}
@@ -24,7 +24,7 @@ use Rattle.sys_procs.specs.World as its
 use Rattle.sys_procs.specs.World.{with_inodes, let_go}
 use Rattle.sys_procs.specs.Tests.{must, user_of, node_at}
 use Rattle.sys_procs.specs.Stack.{arguments, stack_clicks}
-use Rattle.sys_procs.specs.ExecFile.{Tested, check, with_moved, header_read, unless_error, is_magic, or_no_memory, is_busy, tests_header, tests_file, tests, text_clicks, data_clicks}
+use Rattle.sys_procs.specs.ExecFile.{Tested, check, with_moved, header_read, unless_error, is_magic, or_no_memory, is_busy, tests_header, tests_file, tests, text_clicks_in, data_clicks}
 use Rattle.unix_core.specs.declared.world.World.{World}
 use Rattle.unix_core.specs.Parts.{unix_of, IsReady}
 use Rattle.abstract_unix.specs.Whole.{told_in, told_of}
@@ -100,7 +100,7 @@ module _ (w : World) (s : ℕ) (ready : IsReady w s) (form : IsFileSystem w.file
       leaves_check base out (must ENOEXEC ((head.done == 16) && is_magic (plan_of h))) _ gone (λ program.
       leaves_check base out (must ETXTBSY (not (is_busy x d h))) _ gone (λ free.
       leaves_check base out (or_no_memory (plan_of h)) _ gone (λ plan.
-      leaves_check base out (must ENOMEM (not (is_refused (text_clicks plan) (data_clicks plan) stack_clicks x.limit))) _ gone (λ fits. is)))))
+      leaves_check base out (must ENOMEM (not (is_refused (text_clicks_in x.texts d plan) (data_clicks plan) stack_clicks x.limit))) _ gone (λ fits. is)))))
 
   leaves_file : (x : its.World) (d list : ℕ) → IsIn base x d → Leaves base (tests_file x s d list).world (tests_file x s d list).answer
   leaves_file x d list is =

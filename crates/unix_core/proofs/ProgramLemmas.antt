@@ -1,5 +1,5 @@
 -- exec(II): what it comes to. Texts, images and a process change, and each process keeps its files and its directory.
-use Rattle.std.proofs.Common.{◌≡◌, ◌∙◌, ◌≤◌, ◌<◌, ◌+◌, ◌==◌, ◌&&◌, ℕ, Bool, true, false, not, cond, List, [], ◌∷◌, map, set, get_or, length, position, is_none, Option, Some, None, IsSome, slice_index, refl, sym, ap, subst, inl, inr, arith}
+use Rattle.std.proofs.Common.{◌≡◌, ◌∙◌, ◌≤◌, ◌<◌, ◌+◌, ◌==◌, ◌&&◌, ℕ, Bool, true, false, not, cond, List, [], ◌∷◌, map, set, get_or, length, position, is_none, Option, Some, None, IsSome, slice_index, refl, sym, ap, inl, inr, arith}
 use Rattle.std.specs.Prelude.{Result, Ok, Err, unwrap_or, bit_and}
 use Rattle.std.proofs.lemmas.Bool.{cases_lt, eq-eqb, ne_eqb}
 use Rattle.std.proofs.lemmas.List.{get_or-set_same, set-set, set-get_or, length-set, get_or_past}
@@ -17,10 +17,10 @@ use Rattle.v6_base.specs.Image.{Image}
 use Rattle.sys_procs.specs.Stack.{first_stack}
 use Rattle.u_area.specs.declared.area.UArea.{UArea}
 use Rattle.pick_rules.specs.Apply.{applied}
-use Rattle.pick_rules.specs.Board.{Board, TextPlace, free_text}
+use Rattle.pick_rules.specs.Board.{Board, free_text}
 use Rattle.pick_rules.specs.Effects.{Effect, Show}
 use Rattle.pick_rules.specs.Effects as effect
-use Rattle.pick_rules.specs.Logged.{Logged, Stop, logged, log_one}
+use Rattle.pick_rules.specs.Logged.{Logged, logged, log_one}
 use Rattle.pick_rules.proofs.Stopping.{stays_stopped}
 use Rattle.log_laws.proofs.Users.{users_of, users_on, left_users, without_users, leave_users, free_users, free_is}
 use Rattle.image_keep.specs.Kept.{Shared, IsKept}
@@ -35,7 +35,7 @@ use Rattle.sys_procs.specs.Comes.{Comes, logs, does}
 use Rattle.sys_procs.specs.Tests.{node_at}
 use Rattle.sys_procs.specs.ExecFile as exec
 use Rattle.sys_procs.specs.ExecFile.{Tested, tests, with_text_read, reads_text, executes, begins_anew, loads, done_by, exec_file}
-use Rattle.sys_procs.specs.Handed.{board, came}
+use Rattle.sys_procs.specs.Handed.{board}
 use Rattle.abstract_unix.specs.Unix.{process_of}
 use Rattle.abstract_unix.specs.Whole.{told_by, told_in}
 use Rattle.abstract_unix.proofs.Owing.{told_change, some_within}
@@ -49,7 +49,7 @@ use Rattle.unix_core.proofs.LoggedLemmas.{logged_after}
 use Rattle.unix_core.proofs.WorldLemmas.{slot_is}
 use Rattle.unix_core.proofs.CameLemmas.{given, shared, IsLike, IsTame, tame_comes}
 use Rattle.unix_core.proofs.TextRefs.{one, left_refs, user_refs, made_refs, read_refs}
-use Rattle.unix_core.proofs.ExecTests.{IsOut, IsIn, Leaves, leaves_tests}
+use Rattle.unix_core.proofs.ExecTests.{IsIn, Leaves, leaves_tests}
 
 -- The board tells the users of each text, as the kernel keeps them.
 one_user : (o : Option Shared) → users_of (text_place o) ≡ users_in (text_in o)
@@ -318,11 +318,11 @@ module _ (w : World) (s : ℕ) (ready : IsReady w s) (form : IsFileSystem w.file
           (image_goes (applied b (line.Share s k)) (shares_text x s k) false (with_entry k q) on.switches (shared_on x q program.ino on k))
 
       begins_goes : GoesOn w b (begins_anew x s u program)
-      begins_goes = by (exec.text_clicks program.plan == 0)
+      begins_goes = by (program.text_clicks == 0)
         where
-          by : (none : Bool) → GoesOn w b (cond none (next x false) (xalloc_by x s program.ino (exec.text_clicks program.plan) (entry_of x.texts program.ino) next))
+          by : (none : Bool) → GoesOn w b (cond none (next x false) (xalloc_by x s program.ino program.text_clicks (entry_of x.texts program.ino) next))
           by true = image_goes b x false q on.switches on
-          by false = entry_goes (exec.text_clicks program.plan) (entry_of x.texts program.ino)
+          by false = entry_goes program.text_clicks (entry_of x.texts program.ino)
 
   -- The old image is given back.
   bare_users : (b : Board) → users_on (applied b (line.Bare s)) ≡ users_on b

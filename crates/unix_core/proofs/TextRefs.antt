@@ -1,5 +1,5 @@
 -- How often texts refer to inodes: where a text is left, shared, made or read, the references of its inode go with it.
-use Rattle.std.proofs.Common.{◌≡◌, ◌∙◌, ◌<◌, ◌≤◌, ◌+◌, ◌-◌, ◌==◌, ◌&&◌, ℕ, Bool, true, false, not, nat_le, cond, if◌then◌else◌, List, length, get_or, set, map, position, Option, Some, None, is_none, slice_index, refl, sym, ap, subst, arith}
+use Rattle.std.proofs.Common.{◌≡◌, ◌∙◌, ◌<◌, ◌≤◌, ◌+◌, ◌-◌, ◌==◌, ℕ, Bool, true, false, cond, if◌then◌else◌, List, length, get_or, set, map, position, Option, Some, None, is_none, slice_index, refl, sym, ap, arith}
 use Rattle.std.specs.Option.{unwrap_or}
 use Rattle.std.proofs.lemmas.List.{set-get_or, map-set, get_or-set_same}
 use Rattle.std.proofs.lemmas.List.Quantifiers.{position-Some}
@@ -9,7 +9,7 @@ use Rattle.std.proofs.Math.ListN.{get_or-map}
 use Rattle.buf_cache.specs.Blocks.{patched}
 use Rattle.sys_procs.specs.declared.program.Program.{Program}
 use Rattle.sys_procs.specs.TextTable.{Text, no_text, text_of, with_text, is_text_of}
-use Rattle.sys_procs.specs.Texts.{free_entry, new_text, goes, remaining, without_text, leaves_text, with_user, shares_text, makes_text}
+use Rattle.sys_procs.specs.Texts.{free_entry, new_text, goes, remaining, without_text, leaves_text, with_user, makes_text}
 use Rattle.sys_procs.specs.World as its
 use Rattle.sys_procs.specs.World.{change, let_go}
 use Rattle.sys_procs.specs.ExecFile.{entry_in, text_read, with_text_read}

@@ -21,7 +21,7 @@ use Rattle.sys_procs.specs.World.{World, process_of, change}
 use Rattle.sys_procs.specs.Comes.{Comes, does, nothing}
 use Rattle.sys_procs.specs.Tests.{node_at}
 use Rattle.sys_procs.specs.Stack.{first_stack, stack_clicks}
-use Rattle.sys_procs.specs.ExecFile.{text_clicks, data_clicks, image_clicks, with_moved, data_read, begun_area}
+use Rattle.sys_procs.specs.ExecFile.{data_clicks, image_clicks, with_moved, data_read, begun_area}
 
 -- A process leaves its text, if it has one.
 abbrev pub leaves : World → ℕ → Comes
