@@ -40,7 +40,8 @@ use Rattle.unix_core.proofs.TextRefs.{left_refs, others_owe}
 use Rattle.unix_core.proofs.WorldLemmas.{slot_is, is_living, told_here}
 
 -- What a process has whose files are closed.
-pub all_closed : (u : Unix) (s : ℕ) (entry : ℕ) → s < length u.processes → length (process_of (with_handed u s (closes_all u s).state) s).u.files ≡ 15
+pub all_closed : (u : Unix) (s : ℕ) (entry : ℕ) → s < length u.processes
+    → length (process_of (with_handed u s (closes_all u s).state) s).u.files ≡ 15
     → times (process_of (with_handed u s (closes_all u s).state) s).u.files entry ≡ 0
 all_closed u s entry low long =
     let h : Handed = (closes_all u s).state in
@@ -77,7 +78,8 @@ module _ (w1 : World) (s : ℕ) (ready : IsReady w1 s) where
   text_moved (Some k) = mild_leave s k (is_sticky (away w1 s ready) k) (board_in w1)
 
   -- what it changes of the slot
-  gone_if : (b : Bool) (ino : ℕ) (y : its.World) → ((cond b (let_go y ino) y).processes ≡ y.processes) × ((cond b (let_go y ino) y).switches ≡ y.switches)
+  gone_if : (b : Bool) (ino : ℕ) (y : its.World)
+      → ((cond b (let_go y ino) y).processes ≡ y.processes) × ((cond b (let_go y ino) y).switches ≡ y.switches)
   gone_if true ino y = (refl, refl)
   gone_if false ino y = (refl, refl)
 
@@ -100,7 +102,8 @@ module _ (w1 : World) (s : ℕ) (ready : IsReady w1 s) where
   same_switches : (o : Option ℕ) → (left_world w1 s ready o).switches ≡ w1.procs.switches
   same_switches None = refl
   same_switches (Some k) =
-      let y : its.World = away w1 s ready in let text : Text = text_of y.texts k in (gone_if (goes text (is_sticky y k)) text.ino (parted k)).1
+      let y : its.World = away w1 s ready in let text : Text = text_of y.texts k in
+      (gone_if (goes text (is_sticky y k)) text.ino (parted k)).1
 
   pub told_gone : told_in (dead (has_left w1 s ready) s).processes ≡ set (told_in x.processes) s None
   told_gone =
@@ -124,22 +127,28 @@ module _ (w1 : World) (s : ℕ) (ready : IsReady w1 s) where
     none_zero = elim (cases_lt 0 (slice_index references 0)) [
       | inl some ↦ absurd (let used = form.used 0 some in let none = form.none in cc (used, none))
       | inr zero ↦
-          let put = put_refs references p.u.dir 0 (dir_referred references w1.files.table x.texts (told_in x.processes) ready.good.owed s (told_of p) (told_here w1 s ready)) in
+          let put = put_refs references p.u.dir 0
+          (dir_referred references w1.files.table x.texts (told_in x.processes) ready.good.owed s (told_of p)
+          (told_here w1 s ready)) in
           omega (arith, zero, put)
     ]
 
-    owes_by : (o : Option ℕ) → Owes (left_world w1 s ready o).inodes.references w1.files.table (left_world w1 s ready o).texts others
+    owes_by : (o : Option ℕ)
+        → Owes (left_world w1 s ready o).inodes.references w1.files.table (left_world w1 s ready o).texts others
     owes_by None = away_owes
     owes_by (Some k) =
         let y : its.World = away w1 s ready in
         others_owe y (left_world w1 s ready (Some k))
-        (left_refs y s k (is_sticky y k) (λ ino. let all = away_owes.referred ino in omega (arith, all)) none_zero) w1.files.table others away_owes
+        (left_refs y s k (is_sticky y k)
+        (λ ino. let all = away_owes.referred ino in omega (arith, all)) none_zero) w1.files.table others away_owes
 
     pub gone_owes : Owes (has_left w1 s ready).inodes.references w1.files.table (has_left w1 s ready).texts others
     gone_owes = owes_by its_own
 
 module _ (w1 now : World) (s : ℕ) (ready : IsReady w1 s) (agree : AreProcs now.procs)
-    (goes : (came w1.procs (ends w1 s ready)).stop ≡ None) (state : handed now.procs now.files.tree.nodes ≡ (ends w1 s ready).state) (shown : board now.procs ≡ (came w1.procs (ends w1 s ready)).board)
+    (goes : (came w1.procs (ends w1 s ready)).stop ≡ None)
+    (state : handed now.procs now.files.tree.nodes ≡ (ends w1 s ready).state)
+    (shown : board now.procs ≡ (came w1.procs (ends w1 s ready)).board)
     (table : now.files.table ≡ w1.files.table) (rests : Rests w1 now) where
   abbrev left_board : Board
   left_board = text_board w1 s ready (its_text w1 s ready)
@@ -160,25 +169,31 @@ module _ (w1 now : World) (s : ℕ) (ready : IsReady w1 s) (agree : AreProcs now
       moved_unix w1 now rests clicks (ends w1 s ready).state w1.files.table state
       (ap (λ (v : its.World). v.switches) (ends_state w1 s ready) ∙ same_switches w1 s ready (its_text w1 s ready)) table
 
-  module _ (form : IsFileSystem w1.files.tree.nodes) (closed : (entry : ℕ) → times (process_of (unix_of w1) s).u.files entry ≡ 0) where
+  module _ (form : IsFileSystem w1.files.tree.nodes)
+      (closed : (entry : ℕ) → times (process_of (unix_of w1) s).u.files entry ≡ 0) where
     owed : Owed now.files.tree.nodes.references (unix_of now)
     owed =
-        let P : its.World → List (Option OpenFile) → Type 0 = λ v files. Owes v.inodes.references files v.texts (told_in v.processes) in
+        let P : its.World → List (Option OpenFile) → Type 0 =
+        λ v files. Owes v.inodes.references files v.texts (told_in v.processes) in
         let left : its.World = has_left w1 s ready in
         subst (P (handed now.procs now.files.tree.nodes)) (sym table) (subst (λ v. P v w1.files.table) (sym gone_state)
-        (subst (Owes left.inodes.references w1.files.table left.texts) (sym (told_gone w1 s ready)) (gone_owes w1 s ready form closed)))
+        (subst (Owes left.inodes.references w1.files.table left.texts) (sym (told_gone w1 s ready))
+        (gone_owes w1 s ready form closed)))
 
     pub ended_good : IsMarked now.procs now.files.tree.marks → IsGood now
     ended_good marks = good_then w1 now rests clicks ready.good agree (λ r is up. absurd (
         let b = its_board in
-        let none : now.procs.table.running ≡ None = ap (λ (x : Board). x.table.running) b.1.1 ∙ end_running left_board s b.0 b.1.0 in
+        let none : now.procs.table.running ≡ None =
+        ap (λ (x : Board). x.table.running) b.1.1 ∙ end_running left_board s b.0 b.1.0 in
         let never : ◌≡◌ {A = Option ℕ} None (Some r) = sym none ∙ is in
         cc never)) owed marks
 
 -- The world where the run stops, since the swap area has no block: the process has left its directory and its text, and still runs.
-module _ (w1 now : World) (s : ℕ) (ready : IsReady w1 s) (stop : Stop its.World) (some : (came w1.procs (ends w1 s ready)).stop ≡ Some stop)
+module _ (w1 now : World) (s : ℕ) (ready : IsReady w1 s) (stop : Stop its.World)
+    (some : (came w1.procs (ends w1 s ready)).stop ≡ Some stop)
     (state : handed now.procs now.files.tree.nodes ≡ left_by (came w1.procs (ends w1 s ready)).stop (ends w1 s ready).state)
-    (shown : board now.procs ≡ (came w1.procs (ends w1 s ready)).board) (table : now.files.table ≡ w1.files.table) (rests : Rests w1 now) where
+    (shown : board now.procs ≡ (came w1.procs (ends w1 s ready)).board) (table : now.files.table ≡ w1.files.table)
+    (rests : Rests w1 now) where
   log : came w1.procs (ends w1 s ready) ≡ of_its_panic w1 s ready
   log = end_stops w1 s ready stop some
 
@@ -190,7 +205,8 @@ module _ (w1 now : World) (s : ℕ) (ready : IsReady w1 s) (stop : Stop its.Worl
 
   before_is : has_left w1 s ready ≡ stop.before
   before_is =
-      let same : ◌≡◌ {A = Option (Stop its.World)} (Some (record { why = panic.Zombie; before = has_left w1 s ready })) (Some stop) =
+      let same : ◌≡◌ {A = Option (Stop its.World)} (Some (record { why = panic.Zombie; before = has_left w1 s ready }))
+      (Some stop) =
       sym (ap (λ (l : Logged its.World). l.stop) log) ∙ some in
       ap (λ (o : Option (Stop its.World)). left_by o (has_left w1 s ready)) same
 

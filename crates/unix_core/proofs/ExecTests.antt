@@ -68,12 +68,14 @@ leaves_check : {A : Type 0} (base out : its.World) (o : Result A Errno) (next : 
 leaves_check base out (Ok a) next is after = after a
 leaves_check base out (Err e) next is after = is
 
-then_gives : {A B : Type 0} (r : Result A Errno) (f : A → Result B Errno) (b : B) → then_do r f ≡ Ok b → (a : A) × (Ok a ≡ r) × (Ok b ≡ f a)
+then_gives : {A B : Type 0} (r : Result A Errno) (f : A → Result B Errno) (b : B) → then_do r f ≡ Ok b
+    → (a : A) × (Ok a ≡ r) × (Ok b ≡ f a)
 then_gives (Ok a) f b is = (a, refl, sym is)
 then_gives (Err e) f b is = absurd (cc is)
 
 -- An inode that is used has its number among the references.
-pub used_within : (w : World) (d : ℕ) → IsFileSystem w.files.tree.nodes → IsSome (node_numbered w.files.tree.nodes.store d) → d < length w.files.tree.nodes.references
+pub used_within : (w : World) (d : ℕ) → IsFileSystem w.files.tree.nodes → IsSome (node_numbered w.files.tree.nodes.store d)
+    → d < length w.files.tree.nodes.references
 used_within w d form used =
     let store : Store = w.files.tree.nodes.store in
     let there = some_node (node_numbered store d) used in
@@ -100,9 +102,12 @@ module _ (w : World) (s : ℕ) (ready : IsReady w s) (form : IsFileSystem w.file
       leaves_check base out (must ENOEXEC ((head.done == 16) && is_magic (plan_of h))) _ gone (λ program.
       leaves_check base out (must ETXTBSY (not (is_busy x d h))) _ gone (λ free.
       leaves_check base out (or_no_memory (plan_of h)) _ gone (λ plan.
-      leaves_check base out (must ENOMEM (not (is_refused (text_clicks_in x.texts d plan) (data_clicks plan) stack_clicks x.limit))) _ gone (λ fits. is)))))
+      leaves_check base out
+      (must ENOMEM (not (is_refused (text_clicks_in x.texts d plan) (data_clicks plan) stack_clicks x.limit))) _ gone
+      (λ fits. is)))))
 
-  leaves_file : (x : its.World) (d list : ℕ) → IsIn base x d → Leaves base (tests_file x s d list).world (tests_file x s d list).answer
+  leaves_file : (x : its.World) (d list : ℕ) → IsIn base x d
+      → Leaves base (tests_file x s d list).world (tests_file x s d list).answer
   leaves_file x d list is =
       let p : Process = its.process_of x s in
       let node : Node = node_at x d in
@@ -113,14 +118,17 @@ module _ (w : World) (s : ℕ) (ready : IsReady w s) (form : IsFileSystem w.file
       leaves_check base out (arguments (image_of x.texts p) list) _ gone (λ args.
       let head : Moving (List ℕ) = header_read x d in
       let y : its.World = with_moved x d head in
-      leaves_header y d args head (record { world = ap (λ (v : its.World). with_inodes v y.inodes) is.world; refs = is.refs; used = is.used }))))
+      leaves_header y d args head
+      (record { world = ap (λ (v : its.World). with_inodes v y.inodes) is.world; refs = is.refs; used = is.used }))))
 
   -- the tests, by what is found
   abbrev tests_by : ℕ → Finding ℕ → Tested
   tests_by list f = check (with_inodes base f.inodes) f.answer (λ ino. tests_file (with_inodes base f.inodes) s ino list)
 
   abbrev referred_if : ℕ → Bool → Finding ℕ
-  referred_if ino b = if b then record { answer = Ok ino; inodes = with_reference base.inodes ino } else record { answer = Err ENFILE; inodes = base.inodes }
+  referred_if ino b =
+      if b then record { answer = Ok ino; inodes = with_reference base.inodes ino }
+      else record { answer = Err ENFILE; inodes = base.inodes }
 
   leaves_referred : (list ino : ℕ) → IsSome (node_numbered base.inodes.store ino) → (b : Bool)
       → Leaves base (tests_by list (referred_if ino b)).world (tests_by list (referred_if ino b)).answer
@@ -140,7 +148,8 @@ module _ (w : World) (s : ℕ) (ready : IsReady w s) (form : IsFileSystem w.file
     where
       dir : IsSome (node_numbered base.inodes.store (process_of (unix_of w) s).u.dir)
       dir = form.used (process_of (unix_of w) s).u.dir
-          (dir_referred w.files.tree.nodes.references w.files.table (unix_of w).texts (told_in (unix_of w).processes) ready.good.owed s (told_of (process_of (unix_of w) s))
+          (dir_referred w.files.tree.nodes.references w.files.table (unix_of w).texts
+          (told_in (unix_of w).processes) ready.good.owed s (told_of (process_of (unix_of w) s))
           (told_here w s ready))
 
       by : (rooted : Bool) → IsSome (node_numbered base.inodes.store (cond rooted 1 (process_of (unix_of w) s).u.dir))
@@ -157,7 +166,8 @@ module _ (w : World) (s : ℕ) (ready : IsReady w s) (form : IsFileSystem w.file
   dir = (its.process_of base s).u.dir
 
   -- what is found is used
-  found_is_used : (bytes : List ℕ) (ino : ℕ) → then_do (way store user dir bytes) (found store) ≡ Ok ino → IsSome (node_numbered store ino)
+  found_is_used : (bytes : List ℕ) (ino : ℕ) → then_do (way store user dir bytes) (found store) ≡ Ok ino
+      → IsSome (node_numbered store ino)
   found_is_used bytes ino is =
       let there = then_gives (way store user dir bytes) (found store) ino is in
       found_used store there.0 ino (way_used store user dir bytes there.0 there.1 (start_used bytes)) there.2

@@ -93,7 +93,8 @@ module _ (w1 : World) (s : ℕ) (ready : IsReady w1 s) where
   state_by None = refl
   state_by (Some k) = refl
 
-  log_by : (o : Option ℕ) → came w1.procs (ends_by o) ≡ after_items (text_items o) (logged (text_board o) (dies (left_world o) s).effects)
+  log_by : (o : Option ℕ)
+      → came w1.procs (ends_by o) ≡ after_items (text_items o) (logged (text_board o) (dies (left_world o) s).effects)
   unfolding log_one effects.came
   log_by None = refl
   log_by (Some k) = logged_after (board_in w1) (text_items (Some k)) (dies (left_world (Some k)) s).effects
@@ -120,7 +121,8 @@ module _ (w1 : World) (s : ℕ) (ready : IsReady w1 s) where
     where
       by : (o : Option ℕ) → swap_fit left_board 1 ≡ o
           → ((block : ℕ) × ((parent : ℕ) × (came w1.procs ends ≡ of_its_end block parent))) ⊎ (came w1.procs ends ≡ of_its_panic)
-      by (Some block) fit = inl (block, (_, its_log ∙ ap (after_items (text_items its_text)) (logged_exit left_board s block _ _ fit)))
+      by (Some block) fit =
+          inl (block, (_, its_log ∙ ap (after_items (text_items its_text)) (logged_exit left_board s block _ _ fit)))
       by None fit = inr (its_log ∙ ap (after_items (text_items its_text)) (logged_panic left_board s _ _ fit))
 
   pub end_goes : (came w1.procs ends).stop ≡ None → (block : ℕ) × ((parent : ℕ) × (came w1.procs ends ≡ of_its_end block parent))
@@ -135,11 +137,13 @@ module _ (w1 : World) (s : ℕ) (ready : IsReady w1 s) where
     | inr full ↦ full
   ]
 
-  pub end_state : (x : its.World) → (came w1.procs ends).stop ≡ None → x ≡ left_by (came w1.procs ends).stop ends.state → x ≡ ends.state
+  pub end_state : (x : its.World) → (came w1.procs ends).stop ≡ None → x ≡ left_by (came w1.procs ends).stop ends.state
+      → x ≡ ends.state
   end_state x none e = e ∙ ap (λ o. left_by o ends.state) none
 
 -- The whole of exit(II).
-module _ (w w1 now : World) (s : ℕ) (ready : IsReady w1 s) (low : s < length (unix_of w).processes) (form : IsFileSystem w1.files.tree.nodes)
+module _ (w w1 now : World) (s : ℕ) (ready : IsReady w1 s) (low : s < length (unix_of w).processes)
+    (form : IsFileSystem w1.files.tree.nodes)
     (unix : unix_of w1 ≡ with_handed (unix_of w) s (closes_all (unix_of w) s).state)
     (shown : board_in w1 ≡ (logged {W = Unix} (board_in w) (map Show (closes_all (unix_of w) s).items)).board) where
   abbrev items : List Item
@@ -161,14 +165,17 @@ module _ (w w1 now : World) (s : ℕ) (ready : IsReady w1 s) (low : s < length (
       let h : Handed = (closes_all (unix_of w) s).state in
       let p : Process = process_of (unix_of w) s in
       let q : Process = record p { u = h.u; row = h.row; «data» = h.image.data; stack = h.image.stack } in
-      let here : (process_of u1 s).u.r ≡ h.u.r = ap (λ o. (unwrap_or o no_process).u.r) (get_or-set_same (unix_of w).processes s (Some q) None low) in
-      ap (λ (r : List ℕ). end_proc (world_of u1) s (256 * (slice_index r 0 % 256))) (here ∙ closed_registers (handed_of (unix_of w) p))
+      let here : (process_of u1 s).u.r ≡ h.u.r =
+      ap (λ o. (unwrap_or o no_process).u.r) (get_or-set_same (unix_of w).processes s (Some q) None low) in
+      ap (λ (r : List ℕ). end_proc (world_of u1) s (256 * (slice_index r 0 % 256)))
+      (here ∙ closed_registers (handed_of (unix_of w) p))
 
   ends_are : ends w1 s ready ≡ end_proc (world_of u1) s status
   ends_are = ap (λ x. exit_now x s) its_world ∙ row_is
 
   -- the log of the whole call
-  whole : logged (board_in w) (exits (unix_of w) s).effects ≡ after_items items (over (with_world u1) (came w1.procs (ends w1 s ready)))
+  whole : logged (board_in w) (exits (unix_of w) s).effects
+      ≡ after_items items (over (with_world u1) (came w1.procs (ends w1 s ready)))
   whole =
       logged_both (with_world u1) (board_in w) items (end_proc (world_of u1) s status).effects
       ∙ ap (λ b. after_items items (over (with_world u1) (logged b (end_proc (world_of u1) s status).effects))) (sym shown)
@@ -190,17 +197,20 @@ module _ (w w1 now : World) (s : ℕ) (ready : IsReady w1 s) (low : s < length (
   exit_come none is board_is = record {
     ending = ap (λ (o : Option (Stop Unix)). ended_as o Ended) (sym (halts None none));
     unix = is ∙ (λ i. with_world (unix i) (ends_are i).state)
-        ∙ ap (λ (o : Option (Stop Unix)). left_by o (with_world u1 (end_proc (world_of u1) s status).state)) (sym (halts None none));
+        ∙ ap (λ (o : Option (Stop Unix)). left_by o (with_world u1 (end_proc (world_of u1) s status).state))
+        (sym (halts None none));
     board = board_is ∙ ap (λ (l : Logged Unix). l.board) (sym whole);
   }
 
   -- The run has stopped, since the swap area has no block.
-  pub exit_stops : (stop : Stop its.World) → (came w1.procs (ends w1 s ready)).stop ≡ Some stop → (e : Ending) → e ≡ Panic stop.why
+  pub exit_stops : (stop : Stop its.World) → (came w1.procs (ends w1 s ready)).stop ≡ Some stop → (e : Ending)
+      → e ≡ Panic stop.why
       → unix_of now ≡ with_world (unix_of w1) stop.before → board now.procs ≡ (came w1.procs (ends w1 s ready)).board
       → HasCome (board_in w) (exits (unix_of w) s) e now
   exit_stops stop some e ended is board_is = record {
     ending = ended ∙ ap (λ (o : Option (Stop Unix)). ended_as o Ended) (sym (halts (Some stop) some));
     unix = is ∙ ap (λ (u : Unix). with_world u stop.before) unix
-        ∙ ap (λ (o : Option (Stop Unix)). left_by o (with_world u1 (end_proc (world_of u1) s status).state)) (sym (halts (Some stop) some));
+        ∙ ap (λ (o : Option (Stop Unix)). left_by o (with_world u1 (end_proc (world_of u1) s status).state))
+        (sym (halts (Some stop) some));
     board = board_is ∙ ap (λ (l : Logged Unix). l.board) (sym whole);
   }

@@ -61,7 +61,8 @@ same_users [] = refl
 same_users (x ∷ xs) = λ i. one_user x i ∷ same_users xs i
 
 -- A line comes first in a log.
-line_first : {W : Type 0} (b : Board) (e : Entry) (es : List (Effect W)) → (logged b (Show (Log e) ∷ es)).stop ≡ (logged (applied b e) es).stop
+line_first : {W : Type 0} (b : Board) (e : Entry) (es : List (Effect W))
+    → (logged b (Show (Log e) ∷ es)).stop ≡ (logged (applied b e) es).stop
 unfolding log_one effect.came
 line_first b e es = ap (λ l. l.stop) (logged_after b (Log e ∷ []) es)
 
@@ -133,7 +134,8 @@ module _ (w : World) (s : ℕ) (ready : IsReady w s) (form : IsFileSystem w.file
   -- The slot is changed again.
   module _ (x : its.World) (q : Process) (d : ℕ) (on : IsOn w s x q d) where
     process_on : its.process_of x s ≡ q
-    process_on = ap (λ l. unwrap_or (get_or l s None) no_process) on.processes ∙ ap (λ o. unwrap_or o no_process) (get_or-set_same ps s (Some q) None low)
+    process_on = ap (λ l. unwrap_or (get_or l s None) no_process) on.processes
+        ∙ ap (λ o. unwrap_or o no_process) (get_or-set_same ps s (Some q) None low)
 
     changed_on : (rule : Process → Process) → (change x s rule).processes ≡ set ps s (Some (rule q))
     changed_on rule = (λ i. set (on.processes i) s (Some (rule (process_on i)))) ∙ set-set ps s (Some q) (Some (rule q))
@@ -143,7 +145,8 @@ module _ (w : World) (s : ℕ) (ready : IsReady w s) (form : IsFileSystem w.file
 
     some_on : 0 < slice_index x.inodes.references d
     some_on =
-        let itself : one d d ≡ 1 = ap (λ b. cond {A = ℕ} b 1 0) (eq-eqb d d refl) in let all = most_on d in omega (arith, itself, all)
+        let itself : one d d ≡ 1 = ap (λ b. cond {A = ℕ} b 1 0) (eq-eqb d d refl) in let all = most_on d in
+        omega (arith, itself, all)
 
     within_on : d < length x.inodes.references
     within_on = elim (cases_lt d (length x.inodes.references)) [
@@ -194,7 +197,9 @@ module _ (w : World) (s : ℕ) (ready : IsReady w s) (form : IsFileSystem w.file
       zero_on : slice_index x.inodes.references 0 ≡ 0
       zero_on =
           let apart : one d 0 ≡ 0 =
-          ap (λ b. cond {A = ℕ} b 1 0) (ne_eqb d 0 (λ (e : d ≡ 0). let none = ap (node_numbered w.files.tree.nodes.store) e ∙ form.none in cc (used, none))) in
+          ap (λ b. cond {A = ℕ} b 1 0)
+          (ne_eqb d 0 (λ (e : d ≡ 0). let none = ap (node_numbered w.files.tree.nodes.store) e ∙ form.none in
+          cc (used, none))) in
           let count = ap (λ l. shared l 0) same in
           let now = on.refs 0 in
           let zero = none_zero in
@@ -211,9 +216,11 @@ module _ (w : World) (s : ℕ) (ready : IsReady w s) (form : IsFileSystem w.file
             omega (arith, now, left);
       }
 
-      left_users_are : (b : Board) → users_on b ≡ users x.texts → users_on (applied b (line.Leave s k sticky)) ≡ users (leaves_text x s k sticky).texts
+      left_users_are : (b : Board) → users_on b ≡ users x.texts
+          → users_on (applied b (line.Leave s k sticky)) ≡ users (leaves_text x s k sticky).texts
       left_users_are b are =
-          leave_users b s k sticky ∙ ap (λ us. left_users us k sticky) are ∙ sym (users_left x.texts k sticky) ∙ ap users (sym (left_texts gone its_ino parted))
+          leave_users b s k sticky ∙ ap (λ us. left_users us k sticky) are ∙ sym (users_left x.texts k sticky)
+          ∙ ap users (sym (left_texts gone its_ino parted))
 
       left_long : length (leaves_text x s k sticky).texts ≡ length x.texts
       left_long = ap length (left_texts gone its_ino parted) ∙ length-set x.texts k (remaining sticky (get_or x.texts k None))
@@ -228,13 +235,15 @@ module _ (w : World) (s : ℕ) (ready : IsReady w s) (form : IsFileSystem w.file
         switches = on.switches;
         processes = changed_on (with_entry (free_entry x.texts));
         lives = on.lives;
-        refs = λ ino. let now = on.refs ino in let more = (made_refs x s d size k free within_on).refs ino in omega (arith, now, more);
+        refs = λ ino. let now = on.refs ino in let more = (made_refs x s d size k free within_on).refs ino in
+            omega (arith, now, more);
       }
 
       its_entry : exec.entry_in made s ≡ k
       its_entry =
           ap (λ l. unwrap_or (unwrap_or (get_or l s None) no_process).text 40) made_on.processes
-          ∙ ap (λ o. unwrap_or (unwrap_or o no_process).text 40) (get_or-set_same ps s (Some (with_entry (free_entry x.texts) q)) None low)
+          ∙ ap (λ o. unwrap_or (unwrap_or o no_process).text 40)
+          (get_or-set_same ps s (Some (with_entry (free_entry x.texts) q)) None low)
           ∙ ap (λ o. unwrap_or o 40) free
 
       read_on : IsOn w s (with_text_read made s program) (with_entry (free_entry x.texts) q) d
@@ -242,7 +251,8 @@ module _ (w : World) (s : ℕ) (ready : IsReady w s) (form : IsFileSystem w.file
         switches = on.switches;
         processes = made_on.processes;
         lives = on.lives;
-        refs = λ ino. let now = made_on.refs ino in let same = read_refs x s d size k free program its_entry ino in omega (arith, now, same);
+        refs = λ ino. let now = made_on.refs ino in let same = read_refs x s d size k free program its_entry ino in
+            omega (arith, now, same);
       }
 
   -- The program begins: the process has its files and its directory.
@@ -253,7 +263,8 @@ module _ (w : World) (s : ℕ) (ready : IsReady w s) (form : IsFileSystem w.file
     abbrev group_if : Bool → Node → Process → Process
     group_if b node q = cond b (record q { u = record q.u { gid = node.gid } }) q
 
-    told_begun : (q : Process) (node : Node) (read : List ℕ) → q.is_zombie ≡ p.is_zombie → told_by (Some (exec.begins u q node program read)) ≡ told_by (Some p)
+    told_begun : (q : Process) (node : Node) (read : List ℕ) → q.is_zombie ≡ p.is_zombie
+        → told_by (Some (exec.begins u q node program read)) ≡ told_by (Some p)
     told_begun q node read lives =
         by (not (bit_and node.mode ISGID == 0)) (not (bit_and node.mode ISUID == 0) && not (u.uid == 0))
         ∙ (λ i. cond (lives i) None (Some (record { files = files i; dir = dir i })))
@@ -282,7 +293,9 @@ module _ (w : World) (s : ℕ) (ready : IsReady w s) (form : IsFileSystem w.file
         }
 
     abbrev next : its.World → Bool → Comes
-    next placed is_new = does (effect.Image s (exec.image_clicks program.plan) placed) (executes (reads_text is_new placed s program) s u program)
+    next placed is_new =
+        does (effect.Image s (exec.image_clicks program.plan) placed)
+        (executes (reads_text is_new placed s program) s u program)
 
     image_goes : (b : Board) (placed : its.World) (is_new : Bool) (q : Process) → placed.switches ≡ w.procs.switches
         → IsOn w s (reads_text is_new placed s program) q program.ino → GoesOn w b (next placed is_new)
@@ -315,12 +328,14 @@ module _ (w : World) (s : ℕ) (ready : IsReady w s) (form : IsFileSystem w.file
       entry_goes size None = made_goes size
       entry_goes size (Some k) =
           line_goes w b (line.Share s k) (next (shares_text x s k) false) (mild_share s k)
-          (image_goes (applied b (line.Share s k)) (shares_text x s k) false (with_entry k q) on.switches (shared_on x q program.ino on k))
+          (image_goes (applied b (line.Share s k)) (shares_text x s k) false (with_entry k q) on.switches
+          (shared_on x q program.ino on k))
 
       begins_goes : GoesOn w b (begins_anew x s u program)
       begins_goes = by (program.text_clicks == 0)
         where
-          by : (none : Bool) → GoesOn w b (cond none (next x false) (xalloc_by x s program.ino program.text_clicks (entry_of x.texts program.ino) next))
+          by : (none : Bool) → GoesOn w b
+              (cond none (next x false) (xalloc_by x s program.ino program.text_clicks (entry_of x.texts program.ino) next))
           by true = image_goes b x false q on.switches on
           by false = entry_goes program.text_clicks (entry_of x.texts program.ino)
 
@@ -330,13 +345,16 @@ module _ (w : World) (s : ℕ) (ready : IsReady w s) (form : IsFileSystem w.file
   bare_users b = without_users b s
 
   module _ (b : Board) (left : its.World) (q : Process) (program : Program) (on : IsOn w s left q program.ino)
-      (are : users_on b ≡ users left.texts) (long : length left.texts ≡ 40) (files : q.u.files ≡ p.u.files) (dir : q.u.dir ≡ p.u.dir) where
+      (are : users_on b ≡ users left.texts) (long : length left.texts ≡ 40) (files : q.u.files ≡ p.u.files)
+      (dir : q.u.dir ≡ p.u.dir) where
     bared_goes : GoesOn w b (logs (line.Bare s) (begins_anew (change left s exec.bared) s (its.process_of left s).u program))
     bared_goes =
         let own = process_on left q program.ino on in
         line_goes w b (line.Bare s) _ (mild_bare s)
-        (begins_goes (its.process_of left s).u (ap (λ (r : Process). r.u.files) own ∙ files) (ap (λ (r : Process). r.u.dir) own ∙ dir) program
-        (applied b (line.Bare s)) (change left s exec.bared) (exec.bared q) (bared_on left q program.ino on) (bare_users b ∙ are) long)
+        (begins_goes (its.process_of left s).u (ap (λ (r : Process). r.u.files) own ∙ files)
+        (ap (λ (r : Process). r.u.dir) own ∙ dir) program
+        (applied b (line.Bare s)) (change left s exec.bared) (exec.bared q) (bared_on left q program.ino on)
+        (bare_users b ∙ are) long)
 
   -- What the call comes to when the tests have let a program through.
   module _ (x : its.World) (program : Program) (is : IsIn (given w) x program.ino) where
@@ -346,7 +364,8 @@ module _ (w : World) (s : ℕ) (ready : IsReady w s) (form : IsFileSystem w.file
     began_on : IsOn w s x p program.ino
     began_on = record {
       switches = ap (λ (v : its.World). v.switches) is.world;
-      processes = ap (λ (v : its.World). v.processes) is.world ∙ sym (ap (set ps s) (sym (slot_is w s ready)) ∙ set-get_or ps s None);
+      processes = ap (λ (v : its.World). v.processes) is.world
+          ∙ sym (ap (set ps s) (sym (slot_is w s ready)) ∙ set-get_or ps s None);
       lives = refl;
       refs = λ ino. let now = is.refs ino in let count = ap (λ l. shared l ino) same_texts in omega (arith, now, count);
     }
@@ -361,23 +380,28 @@ module _ (w : World) (s : ℕ) (ready : IsReady w s) (form : IsFileSystem w.file
     loads_tame = by (its.process_of x s).text
       where
         by : (o : Option ℕ) → GoesOn w (board w.procs)
-            (xfree x s o (λ left. logs (line.Bare s) (begins_anew (change left s exec.bared) s (its.process_of left s).u program)))
+            (xfree x s o (λ left. logs (line.Bare s)
+            (begins_anew (change left s exec.bared) s (its.process_of left s).u program)))
         by None = bared_goes (board w.procs) x p program began_on its_users its_long refl refl
         by (Some k) =
             line_goes w (board w.procs) (line.Leave s k (is_sticky x k)) _ (mild_leave s k (is_sticky x k))
-            (bared_goes (applied (board w.procs) (line.Leave s k (is_sticky x k))) (leaves_text x s k (is_sticky x k)) (without_text p) program
+            (bared_goes (applied (board w.procs) (line.Leave s k (is_sticky x k))) (leaves_text x s k (is_sticky x k))
+            (without_text p) program
             (left_on x p program.ino began_on k same_texts is.used)
             (left_users_are x p program.ino began_on k same_texts is.used (board w.procs) its_users)
             (left_long x p program.ino began_on k same_texts is.used ∙ its_long) refl refl)
 
   done_tame : (x : its.World) (r : Result Program Errno) → Leaves (given w) x r → IsTame w (done_by x s r)
   done_tame x (Ok program) leaves =
-      let on = loads_tame x program leaves in record { still = record { effects = on.effects; switches = on.switches }; like = on.like }
+      let on = loads_tame x program leaves in
+      record { still = record { effects = on.effects; switches = on.switches }; like = on.like }
   done_tame x (Err e) leaves = tame_comes w x (Fail e) (ap (λ (v : its.World). v.switches) leaves.world) (record {
-    refs = λ ino. let same = leaves.refs ino in let count = ap (λ (v : its.World). shared v.texts ino) leaves.world in omega (arith, same, count);
+    refs = λ ino. let same = leaves.refs ino in let count = ap (λ (v : its.World). shared v.texts ino) leaves.world in
+        omega (arith, same, count);
     told = ap (λ (v : its.World). told_in v.processes) leaves.world;
   })
 
   pub exec_tame : (name list : ℕ) → IsTame w (exec_file (given w) s name list)
   unfolding exec_file
-  exec_tame name list = let t : Tested = tests (given w) s name list in done_tame t.world t.answer (leaves_tests w s ready form name list)
+  exec_tame name list = let t : Tested = tests (given w) s name list in
+      done_tame t.world t.answer (leaves_tests w s ready form name list)

@@ -34,7 +34,8 @@ shared_set : (texts : List (Option Text)) (k : ℕ) (o : Option Text) (ino : ℕ
 shared_set texts k o ino low = sum_by-set (refers ino) texts k o None low
 
 -- One of the same file does.
-shared_same : (texts : List (Option Text)) (k : ℕ) (o : Option Text) → ((ino : ℕ) → is_text_of ino o ≡ is_text_of ino (get_or texts k None)) → (ino : ℕ)
+shared_same : (texts : List (Option Text)) (k : ℕ) (o : Option Text)
+    → ((ino : ℕ) → is_text_of ino o ≡ is_text_of ino (get_or texts k None)) → (ino : ℕ)
     → shared (set texts k o) ino ≡ shared texts ino
 shared_same texts k o same ino = same_count texts (set texts k o) (λ ino.
     map-set (is_text_of ino) texts k o
@@ -43,9 +44,11 @@ shared_same texts k o same ino = same_count texts (set texts k o) (λ ino.
 
 -- What is as often referred to by others in one world as in another.
 pub record SameOthers (x y : its.World) : Type 0 where
-  pub refs : (ino : ℕ) → slice_index y.inodes.references ino + shared x.texts ino ≡ slice_index x.inodes.references ino + shared y.texts ino
+  pub refs : (ino : ℕ) → slice_index y.inodes.references ino + shared x.texts ino
+      ≡ slice_index x.inodes.references ino + shared y.texts ino
 
-pub others_owe : (x y : its.World) → SameOthers x y → (files : List (Option OpenFile)) (ts : List (Option Told)) → Owes x.inodes.references files x.texts ts
+pub others_owe : (x y : its.World) → SameOthers x y → (files : List (Option OpenFile)) (ts : List (Option Told))
+    → Owes x.inodes.references files x.texts ts
     → Owes y.inodes.references files y.texts ts
 others_owe x y same files ts owed = record {
   numbers = owed.numbers;
@@ -70,7 +73,8 @@ module _ (x : its.World) (s k : ℕ) (sticky : Bool) (most : (ino : ℕ) → sha
   none_texts none = ap (set x.texts k) (sym none) ∙ set-get_or x.texts k None
 
   none_refs : set refs 0 (slice_index refs 0 - 1) ≡ refs
-  none_refs = (let same : slice_index refs 0 - 1 ≡ slice_index refs 0 = omega (arith, zero) in ap (set refs 0) same) ∙ set-get_or refs 0 0
+  none_refs = (let same : slice_index refs 0 - 1 ≡ slice_index refs 0 = omega (arith, zero) in ap (set refs 0) same)
+      ∙ set-get_or refs 0 0
 
   left_none : get_or x.texts k None ≡ None → (b : Bool) → SameOthers x (left_if b None 0)
   left_none none true = record { refs = λ ino. (λ i. slice_index (none_refs i) ino + shared (sym (none_texts none) i) ino) }
@@ -80,12 +84,14 @@ module _ (x : its.World) (s k : ℕ) (sticky : Bool) (most : (ino : ℕ) → sha
   abbrev fewer : Text → Text
   fewer text = record text { users = text.users - 1 }
 
-  left_some : (text : Text) → get_or x.texts k None ≡ Some text → (b : Bool) → SameOthers x (left_if b (if b then None else Some (fewer text)) text.ino)
+  left_some : (text : Text) → get_or x.texts k None ≡ Some text → (b : Bool)
+      → SameOthers x (left_if b (if b then None else Some (fewer text)) text.ino)
   left_some text is true =
       let low = some_within x.texts k text is in
       let some : 0 < slice_index refs text.ino =
       (let count = shared_set x.texts k None text.ino low in
-      let own : refers text.ino (get_or x.texts k None) ≡ 1 = ap (refers text.ino) is ∙ ap (λ b. cond {A = ℕ} b 1 0) (eq-eqb text.ino text.ino refl) in
+      let own : refers text.ino (get_or x.texts k None) ≡ 1 =
+      ap (refers text.ino) is ∙ ap (λ b. cond {A = ℕ} b 1 0) (eq-eqb text.ino text.ino refl) in
       let all = most text.ino in
       omega (arith, count, own, all)) in
       record {
@@ -95,9 +101,14 @@ module _ (x : its.World) (s k : ℕ) (sticky : Bool) (most : (ino : ℕ) → sha
             let put = put_refs refs text.ino ino some in
             omega (arith, count, own, put);
       }
-  left_some text is false = record { refs = λ ino. ap (λ n. slice_index refs ino + n) (sym (shared_same x.texts k (Some (fewer text)) (λ ino. ap (is_text_of ino) (sym is)) ino)) }
+  left_some text is false =
+      record {
+        refs = λ ino. ap (λ n. slice_index refs ino + n)
+            (sym (shared_same x.texts k (Some (fewer text)) (λ ino. ap (is_text_of ino) (sym is)) ino));
+      }
 
-  left_by : (o : Option Text) → get_or x.texts k None ≡ o → SameOthers x (left_if (goes (unwrap_or o no_text) sticky) (remaining sticky o) (unwrap_or o no_text).ino)
+  left_by : (o : Option Text) → get_or x.texts k None ≡ o
+      → SameOthers x (left_if (goes (unwrap_or o no_text) sticky) (remaining sticky o) (unwrap_or o no_text).ino)
   left_by None is = left_none is (goes no_text sticky)
   left_by (Some text) is = left_some text is (goes text sticky)
 
@@ -135,20 +146,24 @@ module _ (x : its.World) (s d size k : ℕ) (free : position is_none x.texts ≡
         let count = shared_set x.texts k (Some (new_text d size)) ino low in
         let old : refers ino (get_or x.texts k None) ≡ 0 = ap (refers ino) was in
         let more = more_within x.inodes.references d ino within in
-        let now : shared made.texts ino ≡ shared (with_text x.texts k (new_text d size)) ino = ap (λ l. shared l ino) made_texts in
+        let now : shared made.texts ino ≡ shared (with_text x.texts k (new_text d size)) ino =
+        ap (λ l. shared l ino) made_texts in
         omega (arith, count, old, more, now);
   }
 
   -- the process has that entry
   module _ (program : Program) (has : entry_in made s ≡ k) where
     there : text_of made.texts k ≡ new_text d size
-    there = ap (λ l. text_of l k) made_texts ∙ ap (λ o. unwrap_or o no_text) (get_or-set_same x.texts k (Some (new_text d size)) None low)
+    there = ap (λ l. text_of l k) made_texts
+        ∙ ap (λ o. unwrap_or o no_text) (get_or-set_same x.texts k (Some (new_text d size)) None low)
 
     its_file : (ino : ℕ) → is_text_of ino (get_or made.texts k None) ≡ (d == ino)
-    its_file ino = ap (λ l. is_text_of ino (get_or l k None)) made_texts ∙ ap (is_text_of ino) (get_or-set_same x.texts k (Some (new_text d size)) None low)
+    its_file ino = ap (λ l. is_text_of ino (get_or l k None)) made_texts
+        ∙ ap (is_text_of ino) (get_or-set_same x.texts k (Some (new_text d size)) None low)
 
     abbrev filled : ℕ → List (Option Text)
-    filled e = with_text made.texts e (record (text_of made.texts e) { bytes = patched 0 (text_read made program).memory (text_of made.texts e).bytes })
+    filled e = with_text made.texts e
+        (record (text_of made.texts e) { bytes = patched 0 (text_read made program).memory (text_of made.texts e).bytes })
 
     pub read_refs : (ino : ℕ) → shared (with_text_read made s program).texts ino ≡ shared made.texts ino
     read_refs ino =
