@@ -1,17 +1,15 @@
 -- A process without an image is given one, beside its text: where that stands, what the log says, and what agrees then.
-use Rattle.std.proofs.Common.{◌≡◌, ◌≢◌, ◌∙◌, ℕ, ◌+◌, ◌<◌, ◌≤◌, ◌||◌, ◌==◌, not, nat_lt, min, cond, Bool, true, false, List, [], ◌∷◌, length, map, get_or, set, Option, Some, None, Result, Ok, Err, refl, sym, ap, subst, inl, inr, arith}
+use Rattle.std.proofs.Common.{◌≡◌, ◌≢◌, ◌∙◌, ℕ, ◌+◌, ◌<◌, not, cond, Bool, true, false, List, [], ◌∷◌, length, map, get_or, set, Option, Some, None, Ok, Err, refl, sym, ap, subst, inl, inr, arith}
 use Rattle.std.specs.Option.{option_map, option_or, unwrap_or}
-use Rattle.std.proofs.Math.Nat.{min-le_right}
 use Rattle.std.proofs.Math.ListN.{get_or-map}
-use Rattle.std.proofs.lemmas.Bool.{cases_eq, eq-eqb, ltb-false, false≢true}
+use Rattle.std.proofs.lemmas.Bool.{cases_eq, eq-eqb, false≢true}
 use Rattle.std.proofs.lemmas.List.{get_or-set_same, get_or-set_other, length-set, map-set, set-get_or}
 use Rattle.v6_base.specs.Trace.{Taken, Took, Log}
 use Rattle.v6_base.specs.declared.entry.Place.{Place}
 use Rattle.v6_base.specs.declared.entry.Place.TheVariants.{Core, Swap}
 use Rattle.v6_base.specs.declared.entry.Entry.TheVariants as line
-use Rattle.v6_base.specs.declared.entry.PanicKind.{PanicKind}
 use Rattle.v6_base.specs.declared.entry.PanicKind.TheVariants as panic
-use Rattle.v6_base.specs.Image.{Image, nseg}
+use Rattle.v6_base.specs.Image.{Image}
 use Rattle.u_area.specs.declared.area.UArea.{UArea}
 use Rattle.fs_nodes.specs.FileSystem.{FileSystem}
 use Rattle.pick_rules.specs.declared.row.TableRow.{TableRow}
@@ -22,26 +20,24 @@ use Rattle.pick_rules.specs.Board as board_of_log
 use Rattle.pick_rules.specs.Apply.{applied, at_place, enters_core, in_table, change_row}
 use Rattle.pick_rules.specs.Effects.{image_at}
 use Rattle.pick_rules.specs.Effects as effects
-use Rattle.pick_rules.specs.Logged.{Logged, Stop, logged, log_one, nothing_logged, with_what_came}
+use Rattle.pick_rules.specs.Logged.{Logged, logged, log_one, nothing_logged, with_what_came}
 use Rattle.proc_tab.specs.declared.member.Member.{Member}
 use Rattle.proc_tab.specs.Processes.{member_at}
 use Rattle.image_keep.specs.Area.{made_area}
-use Rattle.image_keep.specs.Kept.{Nothing, Alive, Held, Keeping, Kept, Shared, keeping, shared, text_of, place_of, place_in, image_of, image_in, clicks_of, area_in, changed, IsKept}
+use Rattle.image_keep.specs.Kept.{Nothing, Alive, Held, Kept, Shared, keeping, shared, text_of, place_in, image_of, image_in, clicks_of, area_in, changed, IsKept}
 use Rattle.image_keep.specs.Moves.{moved_row, moved_texts, with_image_moved}
 use Rattle.image_keep.specs.Places.{is_text_loaded, may_load, core_fit, swap_fit, placed, blocks, made_image}
 use Rattle.swap_sched.specs.Match.{text_place}
-use Rattle.swap_sched.proofs.Boards.{untimed}
-use Rattle.seg_regs.specs.Sizes.{is_refused}
 use Rattle.sys_procs.specs.declared.procs.Procs.{Procs}
-use Rattle.sys_procs.specs.Process.{Process, no_process, process_by, process_in}
-use Rattle.sys_procs.specs.World.{World, Clock, text_in, texts_in, processes_in, change}
+use Rattle.sys_procs.specs.Process.{no_process, process_by, process_in}
+use Rattle.sys_procs.specs.World.{World, Clock, text_in, processes_in, change}
 use Rattle.sys_procs.specs.Seats.{placed_row, with_place}
-use Rattle.sys_procs.specs.Agree.{Agrees, Agree, Lives, kind_of_member, kind_of_stat, ended_by}
+use Rattle.sys_procs.specs.Agree.{Agrees, Agree, Lives, kind_of_member, kind_of_stat}
 use Rattle.sys_procs.specs.inside.Begun.{sized, takes_image}
 use Rattle.sys_procs.specs.Handed.{IsAlive, IsBare, board, came, handed, process_here}
 use Rattle.sys_procs.specs.Done.{HasEnded}
 use Rattle.sys_procs.proofs.Dones.{ended_logged}
-use Rattle.sys_procs.proofs.MovedTexts.{is_core, more_at, same_texts, entered_texts_board}
+use Rattle.sys_procs.proofs.MovedTexts.{more_at, same_texts, entered_texts_board}
 use Rattle.sys_procs.proofs.Places.{placed_bare}
 use Rattle.sys_procs.proofs.PlacingRows.{untimed_placed, place_text, clock_told, agree_told}
 use Rattle.sys_procs.proofs.Retexted.{there}

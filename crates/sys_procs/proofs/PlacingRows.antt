@@ -9,7 +9,7 @@ use Rattle.pick_rules.specs.declared.table.Table.{Table}
 use Rattle.pick_rules.specs.Table.{IsTable, row_at, with_row, empty_row, is_loaded}
 use Rattle.pick_rules.specs.Sleepers.{made_ready, runout_told}
 use Rattle.pick_rules.specs.Board.{Board}
-use Rattle.pick_rules.specs.Apply.{applied, in_table, change_row, at_place, without_place, leaves_core, enters_core}
+use Rattle.pick_rules.specs.Apply.{applied, in_table, change_row, without_place, leaves_core}
 use Rattle.pick_rules.proofs.Laws.{Stays, runout_stays}
 use Rattle.proc_tab.specs.declared.member.Member.{Member}
 use Rattle.proc_tab.specs.Processes.{Processes, member_at}
@@ -121,5 +121,7 @@ module _ (p : Procs) (s : ℕ) (alive : IsAlive p s) where
     processes_seated m is =
         let k : Kept = with_keeping p.images s (Alive held) in
         one_changed p.rows.slots p.rows.slots p.images k s (Some (process_by m (Alive held) (text_of p.images s))) alive.below
-        (ap (λ x. process_in (member_at p.rows.slots s) x (text_of p.images s)) image_now ∙ ap (λ o. process_in o (Alive held) (text_of p.images s)) is)
-        (λ r below other. ap (λ x. process_in (member_at p.rows.slots r) x (text_of p.images r)) (keeping_other p.images s r (Alive held) other))
+        (ap (λ x. process_in (member_at p.rows.slots s) x (text_of p.images s)) image_now
+        ∙ ap (λ o. process_in o (Alive held) (text_of p.images s)) is)
+        (λ r below other. ap (λ x. process_in (member_at p.rows.slots r) x (text_of p.images r))
+        (keeping_other p.images s r (Alive held) other))
