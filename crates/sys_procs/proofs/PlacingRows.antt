@@ -15,6 +15,7 @@ use Rattle.proc_tab.specs.declared.member.Member.{Member}
 use Rattle.proc_tab.specs.Processes.{Processes, member_at}
 use Rattle.image_keep.specs.Kept.{Held, Alive, Kept, keeping, with_keeping, text_of, clicks_of, area_in, place_of, area_of}
 use Rattle.image_keep.proofs.Frames.{keeping_same, keeping_other}
+use Rattle.swap_sched.proofs.Boards.{untimed, untimed_runout}
 use Rattle.sys_procs.specs.declared.procs.Procs.{Procs}
 use Rattle.sys_procs.specs.Process.{process_by, process_in}
 use Rattle.sys_procs.specs.World.{clock_of, processes_in}
@@ -97,6 +98,14 @@ unfolding applied
 board_placed b s n place low none =
     board_at (in_table b (λ t. change_row t s bared_row)) s n place (text_left b.table s bared_row low none)
     ∙ ap (λ (t : Table). record b { table = t }) (placed_bare b.table s n place low)
+
+pub untimed_placed : (t : Table) (s n : ℕ) (place : Place) → untimed (with_place t s n place) ≡ with_place (untimed t) s n place
+untimed_placed t s n (Core c) = refl
+untimed_placed t s n (Swap block) = untimed_runout (change_row t s (placed_row n (Swap block)))
+
+pub place_text : (n : ℕ) (place : Place) (row : TableRow) → (placed_row n place row).text ≡ row.text
+place_text n (Core c) row = refl
+place_text n (Swap block) row = refl
 
 -- Process 0 is told, or not: the clock stays, and who agreed agrees.
 clock_stays : (t : Table) → clock_of (runout_told t) ≡ clock_of t

@@ -23,7 +23,7 @@ abbrev pub with_its_text : ℕ → TableRow → TableRow
 with_its_text t row = record row { text = Some t }
 
 -- who lives is there
-there : (o : Option Member) → kind_of_member o ≡ Lives → (m : Member) × (o ≡ Some m)
+pub there : (o : Option Member) → kind_of_member o ≡ Lives → (m : Member) × (o ≡ Some m)
 there None e = absurd (cc e)
 there (Some m) e = (m, refl)
 

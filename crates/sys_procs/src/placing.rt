@@ -105,7 +105,8 @@ fn new_image(
     images.replace(s, proto, text)
 }
 
-/// Places a new image of so many clicks of data, beside a text of so many, in a slot without one. The image is cleared.
+/// Places a new image of so many clicks of data, beside a text of so many, in a slot without one. The image is cleared. It
+/// isn't in core where its text isn't, which stays there as it is.
 ///
 /// # Errors
 ///
@@ -130,6 +131,7 @@ pub(crate) fn place_image<T: Trace>(
     ensures alive { IfOk result (λ placed. IsAlive p.new s) }
     ensures bare { IfErr result (λ kind. IsBare p.new s) }
 {
+    let _place = p.images.place(s);
     let text = p.table.rows[s as usize].text;
     match new_image(&mut p.images, s, t, d, text) {
         Ok(place) => {
