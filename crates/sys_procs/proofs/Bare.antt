@@ -31,10 +31,13 @@ module _ (p : Procs) (s : ℕ) (alive : IsAlive p s) (long : length p.images.slo
   nothing_now : keeping (with_keeping p.images s Nothing) s ≡ Nothing
   nothing_now = keeping_same p.images s Nothing low
 
-  bare_by : (m : Member) → process_in (Some m) Nothing (text_of p.images s) ≡ Some (bared (process_by m (Alive (is_here p s alive).held) (text_of p.images s)))
+  bare_by : (m : Member)
+      → process_in (Some m) Nothing (text_of p.images s) ≡ Some
+      (bared (process_by m (Alive (is_here p s alive).held) (text_of p.images s)))
   bare_by m = refl
 
-  processes_bare : processes_in p.rows.slots (with_keeping p.images s Nothing) ≡ set (processes_in p.rows.slots p.images) s (Some (bared (process_here p s)))
+  processes_bare : processes_in p.rows.slots (with_keeping p.images s Nothing) ≡ set (processes_in p.rows.slots p.images) s
+      (Some (bared (process_here p s)))
   processes_bare =
       let here : IsHere p s = is_here p s alive in
       let k : Kept = with_keeping p.images s Nothing in
@@ -42,7 +45,8 @@ module _ (p : Procs) (s : ℕ) (alive : IsAlive p s) (long : length p.images.slo
       (ap (λ x. process_in (member_at p.rows.slots s) x (text_of p.images s)) nothing_now
       ∙ (ap (λ o. process_in o Nothing (text_of p.images s)) here.member_is
       ∙ (bare_by here.member ∙ ap (λ q. Some (bared q)) (sym here.process_is))))
-      (λ r below other. ap (λ x. process_in (member_at p.rows.slots r) x (text_of p.images r)) (keeping_other p.images s r Nothing other))
+      (λ r below other. ap (λ x. process_in (member_at p.rows.slots r) x (text_of p.images r))
+      (keeping_other p.images s r Nothing other))
 
   pub state_bare : (fs : FileSystem) → handed now fs ≡ change (handed p fs) s bared
   state_bare fs = ap (λ (ps : List (Option Process)). record (handed p fs) { processes = ps }) processes_bare
@@ -78,12 +82,14 @@ module _ (p : Procs) (s : ℕ) (alive : IsAlive p s) (long : length p.images.slo
       textless = alive.agree.textless;
       bare = record {
         lives = lives;
-        stat = ap (λ (row : TableRow). kind_of_stat row.stat) row_now ∙ ((alive.agree.each s alive.above alive.below).stat ∙ lives);
+        stat = ap (λ (row : TableRow). kind_of_stat row.stat) row_now
+            ∙ ((alive.agree.each s alive.above alive.below).stat ∙ lives);
         place = ap (λ (row : TableRow). row.place) row_now;
         image = nothing_now;
       };
       others = λ r up below other.
-          subst (λ (row : TableRow). Agrees (member_at p.rows.slots r) row (keeping (with_keeping p.images s Nothing) r)) (sym (other_row r other))
+          subst (λ (row : TableRow). Agrees (member_at p.rows.slots r) row (keeping (with_keeping p.images s Nothing) r))
+          (sym (other_row r other))
           (subst (λ x. Agrees (member_at p.rows.slots r) (row_at p.table r) x) (sym (keeping_other p.images s r Nothing other))
           (alive.agree.each r up below));
       text = text_now;

@@ -47,7 +47,8 @@ module _ (k : Kept) (t : ℕ) where
   place_by None = refl
   place_by (Some x) = refl
 
-  pub places_joined : map text_place more ≡ set (map text_place k.texts) t (board_of_log.changed (get_or (map text_place k.texts) t None) one_more)
+  pub places_joined : map text_place more ≡ set (map text_place k.texts) t
+      (board_of_log.changed (get_or (map text_place k.texts) t None) one_more)
   places_joined =
       map-set text_place k.texts t (changed joined (shared k t))
       ∙ ap (λ o. set (map text_place k.texts) t o) (place_by (shared k t)
@@ -79,6 +80,9 @@ module _ (p : Procs) (s t : ℕ) where
     core = p.images.core;
   }
 
-  pub images_joined : with_joined_text p.images s t ≡ record p.images { texts = more p.images t; users = set p.images.users s (Some t) }
+  pub images_joined : with_joined_text p.images s t ≡ record p.images {
+    texts = more p.images t;
+    users = set p.images.users s (Some t);
+  }
   unfolding with_joined_text
   images_joined = refl

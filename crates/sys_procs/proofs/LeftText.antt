@@ -79,7 +79,8 @@ text_after Used x = Some (fewer_users (text_for x))
 text_after Kept x = Some (fewer_users (text_for x))
 text_after Gone x = None
 
-text_by : (l : Left) (is_in : Bool) (x : Shared) → text_in (with_row x.bytes (remaining l (left_core is_in x.row))) ≡ text_after l x
+text_by : (l : Left) (is_in : Bool) (x : Shared)
+    → text_in (with_row x.bytes (remaining l (left_core is_in x.row))) ≡ text_after l x
 text_by Used true x = refl
 text_by Used false x = refl
 text_by Kept true x = refl
@@ -145,7 +146,8 @@ out_is true texts t y e = ap (λ o. set texts t (board_of_log.changed o one_fewe
 out_is false texts t y e = sym (ap (set texts t) (sym e) ∙ set-get_or texts t None)
 
 kept_twice : (texts : List (Option TextPlace)) (t : ℕ) (y z : TextPlace) → get_or texts t None ≡ Some z
-    → set (set texts t (Some y)) t (board_of_log.kept (get_or (set texts t (Some y)) t None)) ≡ set texts t (board_of_log.kept (Some y))
+    → set (set texts t (Some y)) t (board_of_log.kept (get_or (set texts t (Some y)) t None)) ≡ set texts t
+    (board_of_log.kept (Some y))
 kept_twice [] t y z e = absurd (cc e)
 kept_twice (x ∷ texts) zero y z e = refl
 kept_twice (x ∷ texts) (suc t) y z e = ap (λ l. x ∷ l) (kept_twice texts t y z e)
@@ -164,7 +166,8 @@ place_after Used is_in x = Some (less (fewer_if is_in (place_for x)))
 place_after Kept is_in x = Some (less (fewer_if is_in (place_for x)))
 place_after Gone is_in x = None
 
-place_by : (l : Left) (is_in : Bool) (x : Shared) → text_place (with_row x.bytes (remaining l (left_core is_in x.row))) ≡ place_after l is_in x
+place_by : (l : Left) (is_in : Bool) (x : Shared)
+    → text_place (with_row x.bytes (remaining l (left_core is_in x.row))) ≡ place_after l is_in x
 place_by Used true x = refl
 place_by Used false x = refl
 place_by Kept true x = refl
@@ -185,7 +188,8 @@ place_kept false true is_in x e = refl
 place_kept false false is_in x e =
     ap (λ b. cond b None (Some (less (fewer_if is_in (place_for x))))) (ap (λ n. n == 0) (users_fewer is_in x) ∙ e)
 
-places_left : (texts : List (Option Shared)) (t : ℕ) (x : Shared) (is_in sticky : Bool) → get_or texts t None ≡ Some x → 0 < x.row.users
+places_left : (texts : List (Option Shared)) (t : ℕ) (x : Shared) (is_in sticky : Bool) → get_or texts t None ≡ Some x
+    → 0 < x.row.users
     → kept_if sticky (parted_in (out_of_core is_in (map text_place texts) t) t) t
     ≡ map text_place (set texts t (shared_left is_in sticky (get_or texts t None)))
 places_left texts t x is_in sticky e some =
@@ -195,7 +199,8 @@ places_left texts t x is_in sticky e some =
     ap (λ l. kept_if sticky (parted_in l t) t) (out_is is_in all t (place_for x) here)
     ∙ (ap (λ l. kept_if sticky l t) (set_twice all t y (place_for x) less here)
     ∙ (kept_is sticky all t (less y) (place_for x) here
-    ∙ (ap (set all t) (place_kept (x.row.users == 1) sticky is_in x (none_left x.row.users some) ∙ sym (place_by (left x.row sticky) is_in x))
+    ∙ (ap (set all t) (place_kept (x.row.users == 1) sticky is_in x (none_left x.row.users some)
+    ∙ sym (place_by (left x.row sticky) is_in x))
     ∙ sym (map-set text_place texts t (shared_left is_in sticky (get_or texts t None))
     ∙ ap (λ o. set all t (text_place (shared_left is_in sticky o))) e))))
 
@@ -215,6 +220,9 @@ pub record Shares (p : Procs) (s t : ℕ) : Type 0 where
   pub text : text_of p.images s ≡ Some t
   pub texts : AreShared p.images
   pub images : IsKept p.images
+
+pub shares : {p : Procs} {s t : ℕ} → IsAlive p s → text_of p.images s ≡ Some t → AreShared p.images → IsKept p.images → Shares p s t
+shares {p} {s} {t} alive text texts images = record { alive = alive; text = text; texts = texts; images = images }
 
 module _ {p : Procs} {s t : ℕ} (sticky : Bool) (h : Shares p s t) where
   abbrev x : Shared
@@ -236,7 +244,11 @@ module _ {p : Procs} {s t : ℕ} (sticky : Bool) (h : Shares p s t) where
   texts = set p.images.texts t (shared_left is_in sticky (shared p.images t))
 
   abbrev pub images : kept.Kept
-  images = record p.images { slots = set p.images.slots s (textless (keeping p.images s)); texts = texts; users = set p.images.users s None }
+  images = record p.images {
+    slots = set p.images.slots s (textless (keeping p.images s));
+    texts = texts;
+    users = set p.images.users s None;
+  }
 
   images_left : with_left_text p.images s sticky (Some t) ≡ images
   unfolding with_left_text
@@ -269,7 +281,8 @@ module _ {p : Procs} {s t : ℕ} (sticky : Bool) (h : Shares p s t) where
       ∙ (text_remaining x is_in sticky some ∙ ap (world_texts.remaining sticky) (sym text_is)))
 
   image_now : keeping images s ≡ textless (keeping p.images s)
-  image_now = get_or-set_same p.images.slots s (textless (keeping p.images s)) Nothing (omega (arith, h.alive.below, h.images.slots))
+  image_now = get_or-set_same p.images.slots s (textless (keeping p.images s)) Nothing
+      (omega (arith, h.alive.below, h.images.slots))
 
   other_image : (r : ℕ) → r ≢ s → keeping images r ≡ keeping p.images r
   other_image r other = get_or-set_other p.images.slots s r (textless (keeping p.images s)) Nothing other
@@ -280,7 +293,8 @@ module _ {p : Procs} {s t : ℕ} (sticky : Bool) (h : Shares p s t) where
   other_user : (r : ℕ) → r ≢ s → text_of images r ≡ text_of p.images r
   other_user r other = get_or-set_other p.images.users s r None None other
 
-  processes_now : processes_in p.rows.slots images ≡ set (processes_in p.rows.slots p.images) s (Some (without_text (process_here p s)))
+  processes_now : processes_in p.rows.slots images ≡ set (processes_in p.rows.slots p.images) s
+      (Some (without_text (process_here p s)))
   processes_now =
       let here : IsHere p s = is_here p s h.alive in
       one_changed p.rows.slots p.rows.slots p.images images s (Some (without_text (process_here p s))) h.alive.below
@@ -294,7 +308,10 @@ module _ {p : Procs} {s t : ℕ} (sticky : Bool) (h : Shares p s t) where
 
   abbrev left_state : FileSystem → World
   left_state fs =
-      change (record (handed p fs) { texts = set (texts_in p.images) t (world_texts.remaining sticky (get_or (texts_in p.images) t None)) }) s without_text
+      change (record (handed p fs) {
+        texts = set (texts_in p.images) t
+            (world_texts.remaining sticky (get_or (texts_in p.images) t None));
+      }) s without_text
 
   state_left : (fs : FileSystem) → handed now fs ≡ left_state fs
   state_left fs = λ i. record (handed p fs) { processes = processes_now i; texts = texts_now i }
@@ -302,16 +319,19 @@ module _ {p : Procs} {s t : ℕ} (sticky : Bool) (h : Shares p s t) where
   text_told : texts_of.text_of (texts_in p.images) t ≡ text_for x
   text_told = ap (λ o. unwrap_or o no_text) text_is
 
-  goes_told : (l : Left) → l ≡ left (row_of_text p.images (text_of p.images s)) sticky → goes (texts_of.text_of (texts_in p.images) t) sticky ≡ is_gone l
+  goes_told : (l : Left) → l ≡ left (row_of_text p.images (text_of p.images s)) sticky
+      → goes (texts_of.text_of (texts_in p.images) t) sticky ≡ is_gone l
   goes_told l e =
       ap (λ (y : Text). goes y sticky) text_told
-      ∙ (goes_is x sticky some ∙ ap is_gone (sym (e ∙ ap (λ o. left (row_of_text p.images o) sticky) h.text ∙ ap (λ o. left (row_in o) sticky) there)))
+      ∙ (goes_is x sticky some ∙ ap is_gone (sym (e ∙ ap (λ o. left (row_of_text p.images o) sticky) h.text
+      ∙ ap (λ o. left (row_in o) sticky) there)))
 
   pub state_stays : (fs : FileSystem) (l : Left) → l ≡ left (row_of_text p.images (text_of p.images s)) sticky → is_gone l ≡ false
       → handed now fs ≡ leaves_text (handed p fs) s t sticky
   state_stays fs l e stays =
       state_left fs
-      ∙ sym (ap (λ b. cond b (let_go (left_state fs) (texts_of.text_of (texts_in p.images) t).ino) (left_state fs)) (goes_told l e ∙ stays))
+      ∙ sym (ap (λ b. cond b (let_go (left_state fs) (texts_of.text_of (texts_in p.images) t).ino) (left_state fs))
+      (goes_told l e ∙ stays))
 
   ino_is : (ino : ℕ) → ino ≡ (row_in (shared p.images t)).ino → ino ≡ x.row.ino
   ino_is ino is = is ∙ ap (λ o. (row_in o).ino) there
@@ -322,7 +342,8 @@ module _ {p : Procs} {s t : ℕ} (sticky : Bool) (h : Shares p s t) where
   state_goes fs new ino e is back =
       let same : ino ≡ (texts_of.text_of (texts_in p.images) t).ino = ino_is ino is ∙ sym (ap (λ (y : Text). y.ino) text_told) in
       (λ i. record (state_left fs i) { inodes = (back ∙ ap (put_back (inodes_of fs)) same) i })
-      ∙ sym (ap (λ b. cond b (let_go (left_state fs) (texts_of.text_of (texts_in p.images) t).ino) (left_state fs)) (goes_told Gone e))
+      ∙ sym (ap (λ b. cond b (let_go (left_state fs) (texts_of.text_of (texts_in p.images) t).ino) (left_state fs))
+      (goes_told Gone e))
 
   -- the board
   abbrev board_out : Bool → Option ℕ → Board
@@ -368,17 +389,20 @@ module _ {p : Procs} {s t : ℕ} (sticky : Bool) (h : Shares p s t) where
       by None f g = absurd (cc g)
       by (Some y) f g = h.texts.apart r t y x f there (eqb-true y.row.ino x.row.ino g)
 
-  pub is_marked : (marks : List Bool) (ino : ℕ) → marks ≡ marks_of (texts_in p.images) → ino ≡ (row_in (shared p.images t)).ino → ino < 65536
+  pub is_marked : (marks : List Bool) (ino : ℕ) → marks ≡ marks_of (texts_in p.images) → ino ≡ (row_in (shared p.images t)).ino
+      → ino < 65536
       → get_or marks ino false ≡ true
   is_marked marks ino are is number =
       (λ i. get_or (are i) (ino_is ino is i) false)
       ∙ is_marked_there (texts_in p.images) t (text_for x) low_in text_is (subst (λ n. n < 65536) (ino_is ino is) number)
 
-  pub referenced : (references : List ℕ) → ((ino : ℕ) → count_by (is_text_of ino) (texts_in p.images) ≤ slice_index references ino)
+  pub referenced : (references : List ℕ)
+      → ((ino : ℕ) → count_by (is_text_of ino) (texts_in p.images) ≤ slice_index references ino)
       → 0 < slice_index references (row_in (shared p.images t)).ino
   referenced references referred =
       let most = referred x.row.ino in
-      let mine : is_text_of x.row.ino (get_or (texts_in p.images) t None) ≡ true = ap (is_text_of x.row.ino) text_is ∙ eq-eqb x.row.ino x.row.ino refl in
+      let mine : is_text_of x.row.ino (get_or (texts_in p.images) t None) ≡ true = ap (is_text_of x.row.ino) text_is
+      ∙ eq-eqb x.row.ino x.row.ino refl in
       let least = get_or-le-sum_by (λ o. cond (is_text_of x.row.ino o) 1 0) (texts_in p.images) t None low_in in
       let one : ◌≡◌ {A = ℕ} (cond (is_text_of x.row.ino (get_or (texts_in p.images) t None)) 1 0) 1 = ap (λ b. cond b 1 0) mine in
       subst (λ n. 0 < slice_index references n) (sym (ap (λ o. (row_in o).ino) there)) (omega (arith, least, one, most))
@@ -391,7 +415,15 @@ module _ {p : Procs} {s t : ℕ} (sticky : Bool) (h : Shares p s t) where
   other_row r other = get_or-set_other p.table.rows s r (without_its_text (row_at p.table s)) empty_row other
 
   agrees_left : (m : Option Member) (row : TableRow) (y : Keeping) → Agrees m row y → Agrees m (without_its_text row) (textless y)
-  agrees_left m row Nothing a = record { stat = a.stat; image = a.image; place = a.place; size = λ held e. absurd (cc e); quiet = a.quiet; textless = λ f. refl }
+  agrees_left m row Nothing a =
+      record {
+        stat = a.stat;
+        image = a.image;
+        place = a.place;
+        size = λ held e. absurd (cc e);
+        quiet = a.quiet;
+        textless = λ f. refl;
+      }
   agrees_left m row (Alive held) a = record {
     stat = a.stat;
     image = a.image;
@@ -400,7 +432,15 @@ module _ {p : Procs} {s t : ℕ} (sticky : Bool) (h : Shares p s t) where
     quiet = a.quiet;
     textless = λ f. refl;
   }
-  agrees_left m row (Grave u block) a = record { stat = a.stat; image = a.image; place = a.place; size = λ held e. absurd (cc e); quiet = a.quiet; textless = λ f. refl }
+  agrees_left m row (Grave u block) a =
+      record {
+        stat = a.stat;
+        image = a.image;
+        place = a.place;
+        size = λ held e. absurd (cc e);
+        quiet = a.quiet;
+        textless = λ f. refl;
+      }
 
   zero_other : 0 ≢ s
   zero_other e = let above = h.alive.above in omega (arith, e, above)
@@ -418,19 +458,23 @@ module _ {p : Procs} {s t : ℕ} (sticky : Bool) (h : Shares p s t) where
       images = other_image 0 zero_other ∙ h.alive.agree.images;
       each = λ r up below. elim (cases_eq r s) [
         | inl here ↦
-            subst (λ n. Agrees (member_at p.rows.slots n) (row_at (change_row p.table s without_its_text) n) (keeping images n)) (sym here)
+            subst (λ n. Agrees (member_at p.rows.slots n) (row_at (change_row p.table s without_its_text) n) (keeping images n))
+            (sym here)
             (subst (λ (row : TableRow). Agrees (member_at p.rows.slots s) row (keeping images s)) (sym row_now)
             (subst (λ y. Agrees (member_at p.rows.slots s) (without_its_text (row_at p.table s)) y) (sym image_now)
-            (agrees_left (member_at p.rows.slots s) (row_at p.table s) (keeping p.images s) (h.alive.agree.each s h.alive.above h.alive.below))))
+            (agrees_left (member_at p.rows.slots s) (row_at p.table s) (keeping p.images s)
+            (h.alive.agree.each s h.alive.above h.alive.below))))
         | inr other ↦
             subst (λ (row : TableRow). Agrees (member_at p.rows.slots r) row (keeping images r)) (sym (other_row r other))
-            (subst (λ y. Agrees (member_at p.rows.slots r) (row_at p.table r) y) (sym (other_image r other)) (h.alive.agree.each r up below))
+            (subst (λ y. Agrees (member_at p.rows.slots r) (row_at p.table r) y) (sym (other_image r other))
+            (h.alive.agree.each r up below))
       ];
       text = λ r up below. elim (cases_eq r s) [
         | inl here ↦
             ap (λ n. (row_at (change_row p.table s without_its_text) n).text) here
             ∙ (ap (λ (row : TableRow). row.text) row_now ∙ (sym none_now ∙ ap (text_of images) (sym here)))
-        | inr other ↦ ap (λ (row : TableRow). row.text) (other_row r other) ∙ (h.alive.agree.text r up below ∙ sym (other_user r other))
+        | inr other ↦ ap (λ (row : TableRow). row.text) (other_row r other)
+            ∙ (h.alive.agree.text r up below ∙ sym (other_user r other))
       ];
       textless = other_user 0 zero_other ∙ h.alive.agree.textless;
     };
@@ -449,7 +493,8 @@ module _ {p : Procs} {s t : ℕ} (sticky : Bool) (h : Shares p s t) where
       ap marks_of texts_now
       ∙ marks_same (texts_in p.images) t (world_texts.remaining sticky (get_or (texts_in p.images) t None)) (λ ino.
       ap (λ o. is_text_of ino (world_texts.remaining sticky o)) text_is
-      ∙ (ap (λ b. is_text_of ino (cond b None (Some (fewer_users (text_for x))))) (ap (λ (y : Text). goes y sticky) (sym text_told) ∙ (goes_told l e ∙ stays))
+      ∙ (ap (λ b. is_text_of ino (cond b None (Some (fewer_users (text_for x)))))
+      (ap (λ (y : Text). goes y sticky) (sym text_told) ∙ (goes_told l e ∙ stays))
       ∙ sym (ap (is_text_of ino) text_is)))
 
   pub marks_gone : (marks : List Bool) (ino : ℕ) → marks ≡ marks_of (texts_in p.images) → ino ≡ (row_in (shared p.images t)).ino
@@ -457,19 +502,22 @@ module _ {p : Procs} {s t : ℕ} (sticky : Bool) (h : Shares p s t) where
   marks_gone marks ino are is e =
       ap marks_of (texts_now ∙ ap (set (texts_in p.images) t)
       (ap (world_texts.remaining sticky) text_is
-      ∙ ap (λ b. cond b None (Some (fewer_users (text_for x)))) (ap (λ (y : Text). goes y sticky) (sym text_told) ∙ goes_told Gone e)))
+      ∙ ap (λ b. cond b None (Some (fewer_users (text_for x))))
+      (ap (λ (y : Text). goes y sticky) (sym text_told) ∙ goes_told Gone e)))
       ∙ (marks_go (texts_in p.images) t (text_for x) low_in text_is alone
       ∙ sym (λ i. set (are i) (ino_is ino is i) false))
 
   -- so the call has done what its row says
-  pub has_left : (old_fs new_fs : FileSystem) (new : Procs) (start end : Taken) (ino : ℕ) → new ≡ now → ino ≡ (row_in (shared p.images t)).ino
+  pub has_left : (old_fs new_fs : FileSystem) (new : Procs) (start end : Taken) (ino : ℕ) → new ≡ now
+      → ino ≡ (row_in (shared p.images t)).ino
       → handed now new_fs ≡ leaves_text (handed p old_fs) s t sticky
       → sticky ≡ not (bit_and (node_in old_fs.store ino).mode ISVTX == 0)
       → Took start (Log (line.Leave s t sticky) ∷ []) end
       → HasLeft p new new_fs start end (xfree (handed p old_fs) s (Some t) nothing)
   has_left old_fs new_fs new start end ino is ino_as state told took =
       let w : World = handed p old_fs in
-      let same : ino ≡ (texts_of.text_of (texts_in p.images) t).ino = ino_is ino ino_as ∙ sym (ap (λ (y : Text). y.ino) text_told) in
+      let same : ino ≡ (texts_of.text_of (texts_in p.images) t).ino = ino_is ino ino_as
+      ∙ sym (ap (λ (y : Text). y.ino) text_told) in
       subst (λ b. HasLeft p new new_fs start end (logs (line.Leave s t b) (nothing (leaves_text w s t b))))
       (told ∙ ap (λ n. not (bit_and (node_in old_fs.store n).mode ISVTX == 0)) same)
       (left_logged (logged_line (board p) (line.Leave s t sticky))

@@ -44,9 +44,12 @@ use Rattle.sys_procs.proofs.TextMarks.{mark_at, marks_come}
 
 -- What a demand for a text leaves in the log, by the entry and by the blocks that are found.
 abbrev pub text_log : Board → ℕ → ℕ → World → Option ℕ → Option ℕ → Logged World
-text_log b s n w None fit = record { items = Log (line.Panic panic.Text) ∷ []; board = b; stop = Some (record { why = panic.Text; before = w }) }
-text_log b s n w (Some k) None = record { items = Log (line.Panic panic.Swap) ∷ []; board = b; stop = Some (record { why = panic.Swap; before = w }) }
-text_log b s n w (Some k) (Some block) = record { items = Log (line.Text s k n block) ∷ []; board = applied b (line.Text s k n block); stop = None }
+text_log b s n w None fit =
+    record { items = Log (line.Panic panic.Text) ∷ []; board = b; stop = Some (record { why = panic.Text; before = w }) }
+text_log b s n w (Some k) None =
+    record { items = Log (line.Panic panic.Swap) ∷ []; board = b; stop = Some (record { why = panic.Swap; before = w }) }
+text_log b s n w (Some k) (Some block) =
+    record { items = Log (line.Text s k n block) ∷ []; board = applied b (line.Text s k n block); stop = None }
 
 log_by : (b : Board) (s n : ℕ) (w : World) (free fit : Option ℕ)
     → with_what_came (nothing_logged b) (new_text_at w free fit (λ k block. line.Text s k n block)) ≡ text_log b s n w free fit
@@ -60,7 +63,8 @@ logged_text : (b : Board) (s n : ℕ) (w : World) (free fit : Option ℕ)
     → logged b (effects.Text s n w ∷ []) ≡ text_log b s n w free fit
 unfolding log_one effects.came
 logged_text b s n w free fit e f =
-    (λ i. with_what_came (nothing_logged b) (new_text_at w (e i) (f i) (λ k block. line.Text s k n block))) ∙ log_by b s n w free fit
+    (λ i. with_what_came (nothing_logged b) (new_text_at w (e i) (f i) (λ k block. line.Text s k n block)))
+    ∙ log_by b s n w free fit
 
 -- what comes of the call says which entry and which blocks were found
 pub record IsMade (free fit : Option ℕ) (t : ℕ) : Type 0 where
@@ -68,22 +72,30 @@ pub record IsMade (free fit : Option ℕ) (t : ℕ) : Type 0 where
   pub entry : free ≡ Some t
   pub blocks : fit ≡ Some block
 
-pub made_by : (free fit : Option ℕ) (t : ℕ) → Ok t ≡ making free fit → IsMade free fit t
+made_by : (free fit : Option ℕ) (t : ℕ) → Ok t ≡ making free fit → IsMade free fit t
 made_by None fit t e = absurd (cc e)
 made_by (Some k) None t e = absurd (cc e)
-made_by (Some k) (Some block) t e = record { block = block; entry = let same : t ≡ k = cc e in ap (λ n. Some n) (sym same); blocks = refl }
+made_by (Some k) (Some block) t e =
+    record { block = block; entry = let same : t ≡ k = cc e in ap (λ n. Some n) (sym same); blocks = refl }
 
 -- A text that isn't made.
-pub record Refuses (b : Board) (k : Kept) (s ino n : ℕ) (w : World) (free fit : Option ℕ) (kind : PanicKind) : Type 0 where
+record Refuses (b : Board) (k : Kept) (s ino n : ℕ) (w : World) (free fit : Option ℕ) (kind : PanicKind) : Type 0 where
   pub same : with_made_text k s ino n free fit ≡ k
-  pub log : text_log b s n w free fit ≡ record { items = Log (line.Panic kind) ∷ []; board = b; stop = Some (record { why = kind; before = w }) }
+  pub log : text_log b s n w free fit ≡ record {
+    items = Log (line.Panic kind) ∷ [];
+    board = b;
+    stop = Some (record { why = kind; before = w });
+  }
 
 refused_as : (b : Board) (w : World) (from to : PanicKind) → to ≡ from
-    → ◌≡◌ {A = Logged World} (record { items = Log (line.Panic from) ∷ []; board = b; stop = Some (record { why = from; before = w }) })
+    → ◌≡◌ {A = Logged World}
+    (record { items = Log (line.Panic from) ∷ []; board = b; stop = Some (record { why = from; before = w }) })
     (record { items = Log (line.Panic to) ∷ []; board = b; stop = Some (record { why = to; before = w }) })
-refused_as b w from to e = ap (λ kind. record { items = Log (line.Panic kind) ∷ []; board = b; stop = Some (record { why = kind; before = w }) }) (sym e)
+refused_as b w from to e =
+    ap (λ kind. record { items = Log (line.Panic kind) ∷ []; board = b; stop = Some (record { why = kind; before = w }) }) (sym e)
 
-pub refused_by : (b : Board) (k : Kept) (s ino n : ℕ) (w : World) (free fit : Option ℕ) (r : TextRefusal) (kind : PanicKind) → Err r ≡ making free fit
+refused_by : (b : Board) (k : Kept) (s ino n : ℕ) (w : World) (free fit : Option ℕ) (r : TextRefusal) (kind : PanicKind)
+    → Err r ≡ making free fit
     → (r ≡ refusal.Full → kind ≡ panic.Text) → (r ≡ refusal.NoSwap → kind ≡ panic.Swap) → Refuses b k s ino n w free fit kind
 refused_by b k s ino n w None fit r kind e full swap =
     record { same = refl; log = refused_as b w panic.Text kind (full (let is : r ≡ refusal.Full = cc e in is)) }
@@ -114,7 +126,8 @@ pub unmarked : (k : Kept) (ino : ℕ) (marks : List Bool) → marks ≡ marks_of
 unmarked k ino marks are number none =
     ap (λ l. get_or l ino false) are
     ∙ (mark_at (texts_in k) ino number
-    ∙ none_before (is_text_of ino) 0 (texts_in k) (sym (position_from-zero (is_text_of ino) (texts_in k)) ∙ (entry_is k ino ∙ none)))
+    ∙ none_before (is_text_of ino) 0 (texts_in k)
+    (sym (position_from-zero (is_text_of ino) (texts_in k)) ∙ (entry_is k ino ∙ none)))
 
 free_in : (o : Option Shared) → is_none (text_in o) ≡ is_none o
 free_in None = refl
@@ -124,9 +137,22 @@ free_in (Some x) = refl
 pub entry_free : (k : Kept) (t : ℕ) → free_text k ≡ Some t → t ≡ free_entry (texts_in k)
 entry_free k t e = sym (ap (λ o. unwrap_or o 40) (position_map text_in is_none is_none free_in k.texts ∙ e))
 
+-- the text that a process makes, which has none
+abbrev pub makes_for : Procs → ℕ → ℕ → ℕ → FileSystem → Comes
+makes_for p s ino n fs = xalloc_by (handed p fs) s ino n None (λ placed is_new. nothing placed)
+
+pub made_in : (p : Procs) (n t : ℕ) → Ok t ≡ making (free_text p.images) (swap_fit p.images (blocks n))
+    → IsMade (free_text p.images) (swap_fit p.images (blocks n)) t
+made_in p n t e = made_by (free_text p.images) (swap_fit p.images (blocks n)) t e
+
+-- It isn't made: what is left then, and the panic.
+pub record Refused (p : Procs) (s ino n : ℕ) (fs : FileSystem) (kind : PanicKind) (k : Kept) (start end : Taken) : Type 0 where
+  pub left : HasLeft p (record p { images = k }) fs start end (makes_for p s ino n fs)
+  pub panic : taken_by (came p (makes_for p s ino n fs)).stop None ≡ Err kind
+
 module _ (p : Procs) (s ino n : ℕ) (bare : IsBare p s) (all : IsKept p.images) where
   abbrev makes : FileSystem → Comes
-  makes fs = xalloc_by (handed p fs) s ino n None (λ placed is_new. nothing placed)
+  makes fs = makes_for p s ino n fs
 
   pub text_came : (fs : FileSystem)
       → came p (makes fs) ≡ text_log (board p) s n (handed p fs) (free_text p.images) (swap_fit p.images (blocks n))
@@ -139,13 +165,18 @@ module _ (p : Procs) (s ino n : ℕ) (bare : IsBare p s) (all : IsKept p.images)
       → Err r ≡ making (free_text p.images) (swap_fit p.images (blocks n))
       → (r ≡ refusal.Full → kind ≡ panic.Text) → (r ≡ refusal.NoSwap → kind ≡ panic.Swap)
       → k ≡ with_made_text p.images s ino n (free_text p.images) (swap_fit p.images (blocks n))
-      → Took start (Log (line.Panic kind) ∷ []) end
-      → HasLeft p (record p { images = k }) fs start end (makes fs) × (taken_by (came p (makes fs)).stop None ≡ Err kind)
+      → Took start (Log (line.Panic kind) ∷ []) end → Refused p s ino n fs kind k start end
   left_refused fs r kind k start end e full swap is took =
-      let refuses = refused_by (board p) p.images s ino n (handed p fs) (free_text p.images) (swap_fit p.images (blocks n)) r kind e full swap in
-      let it : ◌≡◌ {A = Procs} (record p { images = k }) p = ap (λ (j : Kept). record p { images = j }) (is ∙ refuses.same) in
-      (left_logged (text_came fs ∙ refuses.log) (ap (λ (q : Procs). handed q fs) it) (ap (λ (q : Procs). board q) it) took,
-      ap (λ (l : Logged World). taken_by l.stop None) (text_came fs ∙ refuses.log))
+      let free : Option ℕ = free_text p.images in
+      let fit : Option ℕ = swap_fit p.images (blocks n) in
+      let refuses = refused_by (board p) p.images s ino n (handed p fs) free fit r kind e full swap in
+      let it : ◌≡◌ {A = Procs} (record p { images = k }) p =
+      ap (λ (j : Kept). record p { images = j }) (is ∙ refuses.same) in
+      record {
+        left = left_logged (text_came fs ∙ refuses.log) (ap (λ (q : Procs). handed q fs) it)
+            (ap (λ (q : Procs). board q) it) took;
+        panic = ap (λ (l : Logged World). taken_by l.stop None) (text_came fs ∙ refuses.log);
+      }
 
   -- It is.
   module _ (t : ℕ) (made : IsMade (free_text p.images) (swap_fit p.images (blocks n)) t) where
@@ -223,7 +254,8 @@ module _ (p : Procs) (s ino n : ℕ) (bare : IsBare p s) (all : IsKept p.images)
         → block ≡ (row_in (shared new.images t)).block → Took start (Log (line.Text s t n block) ∷ []) end
         → HasLeft p new after start end (makes fs)
     left_made new fs after block start end is referred block_is took =
-        let at : block ≡ made.block = block_is ∙ ap (λ (q : Procs). (row_in (shared q.images t)).block) is ∙ ap (λ o. (row_in o).block) text_now in
+        let at : block ≡ made.block = block_is ∙ ap (λ (q : Procs). (row_in (shared q.images t)).block) is
+        ∙ ap (λ o. (row_in o).block) text_now in
         left_logged (log_made fs) (ap (λ (q : Procs). handed q after) is ∙ state_made fs after referred)
         (ap (λ (q : Procs). board q) is ∙ board_made) (subst (λ m. Took start (Log (line.Text s t n m) ∷ []) end) at took)
 
@@ -233,10 +265,12 @@ module _ (p : Procs) (s ino n : ℕ) (bare : IsBare p s) (all : IsKept p.images)
     low_in : t < length (texts_in p.images)
     low_in = let long = length-map p.images.texts text_in in let below = low in omega (arith, below, long)
 
-    pub marks_made : (marks : List Bool) → marks ≡ marks_of (texts_in p.images) → marks_of (map text_in texts) ≡ set marks ino true
+    pub marks_made : (marks : List Bool) → marks ≡ marks_of (texts_in p.images)
+        → marks_of (map text_in texts) ≡ set marks ino true
     marks_made marks are =
         ap marks_of texts_now
-        ∙ (marks_come (texts_in p.images) t (texts_of.new_text ino n) low_in (get_or-map text_in p.images.texts t None ∙ ap text_in free)
+        ∙ (marks_come (texts_in p.images) t (texts_of.new_text ino n) low_in
+        (get_or-map text_in p.images.texts t None ∙ ap text_in free)
         ∙ ap (λ l. set l ino true) (sym are))
 
 -- What a process takes that has no image: none, or the text of an entry or a new one.
@@ -246,22 +280,28 @@ takes_by w s ino size o = xalloc_by w s ino size o (λ placed is_new. nothing pl
 pub takes_none : (w : World) (s ino size : ℕ) → size ≡ 0 → nothing w ≡ takes w s ino size
 takes_none w s ino size e = sym (ap (λ b. cond b (nothing w) (takes_by w s ino size (entry_of w.texts ino))) (eq-eqb size 0 e))
 
-pub takes_as : (w : World) (s ino size : ℕ) (o : Option ℕ) → size ≢ 0 → entry_of w.texts ino ≡ o → takes_by w s ino size o ≡ takes w s ino size
+pub takes_as : (w : World) (s ino size : ℕ) (o : Option ℕ) → size ≢ 0 → entry_of w.texts ino ≡ o
+    → takes_by w s ino size o ≡ takes w s ino size
 takes_as w s ino size o some e =
-    ap (takes_by w s ino size) (sym e) ∙ sym (ap (λ b. cond b (nothing w) (takes_by w s ino size (entry_of w.texts ino))) (ne_eqb size 0 some))
+    ap (takes_by w s ino size) (sym e)
+    ∙ sym (ap (λ b. cond b (nothing w) (takes_by w s ino size (entry_of w.texts ino))) (ne_eqb size 0 some))
 
-pub new_as : (texts : List (Option Text)) (ino size : ℕ) (o : Option ℕ) → size ≢ 0 → entry_of texts ino ≡ o → new_if texts o ≡ new_entry texts ino size
-new_as texts ino size o some e = ap (new_if texts) (sym e) ∙ sym (ap (λ b. cond b None (new_if texts (entry_of texts ino))) (ne_eqb size 0 some))
+pub new_as : (texts : List (Option Text)) (ino size : ℕ) (o : Option ℕ) → size ≢ 0 → entry_of texts ino ≡ o
+    → new_if texts o ≡ new_entry texts ino size
+new_as texts ino size o some e = ap (new_if texts) (sym e)
+    ∙ sym (ap (λ b. cond b None (new_if texts (entry_of texts ino))) (ne_eqb size 0 some))
 
 -- the answer, by the row
-pub answer_as : (p : Procs) (c d : Comes) (a b : Option ℕ) → c ≡ d → a ≡ b → taken_by (came p c).stop a ≡ taken_by (came p d).stop b
+pub answer_as : (p : Procs) (c d : Comes) (a b : Option ℕ) → c ≡ d → a ≡ b
+    → taken_by (came p c).stop a ≡ taken_by (came p d).stop b
 answer_as p c d a b e f = λ i. taken_by (came p (e i)).stop (f i)
 
 pub same_panic : (o : Option (Stop World)) (a b : Option ℕ) (kind : PanicKind) → taken_by o a ≡ Err kind → Err kind ≡ taken_by o b
 same_panic None a b kind e = absurd (cc e)
 same_panic (Some stop) a b kind e = sym e
 
-pub left_as : {old new : Procs} {fs : FileSystem} {start end : Taken} {c d : Comes} → c ≡ d → HasLeft old new fs start end c → HasLeft old new fs start end d
+pub left_as : {old new : Procs} {fs : FileSystem} {start end : Taken} {c d : Comes} → c ≡ d → HasLeft old new fs start end c
+    → HasLeft old new fs start end d
 left_as {old} {new} {fs} {start} {end} e left = let P : Comes → Type 0 = λ x. HasLeft old new fs start end x in subst P e left
 
 -- sharing a text stops nowhere

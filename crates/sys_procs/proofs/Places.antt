@@ -60,7 +60,8 @@ died_keeping Nothing = refl
 died_keeping (Alive held) = refl
 died_keeping (Grave u block) = refl
 
-is_row : (m : Option Member) (row : TableRow) (user : Option ℕ) (x : Keeping) → Agrees m row x → row.text ≡ user → IsRowOf row user x
+is_row : (m : Option Member) (row : TableRow) (user : Option ℕ) (x : Keeping) → Agrees m row x → row.text ≡ user
+    → IsRowOf row user x
 is_row m row user x one text =
     let same : kind_of_stat row.stat ≡ kind_of_keeping x = one.stat ∙ sym one.image in
     record {
@@ -82,7 +83,8 @@ agree_matches v t k a = record {
 }
 
 -- Where an image may stand by its text.
-loaded_at : (texts : List (Option Shared)) (t : ℕ) → board.is_text_loaded (get_or (map text_place texts) t None) ≡ is_text_loaded (get_or texts t None)
+loaded_at : (texts : List (Option Shared)) (t : ℕ)
+    → board.is_text_loaded (get_or (map text_place texts) t None) ≡ is_text_loaded (get_or texts t None)
 loaded_at [] t = refl
 loaded_at (None ∷ texts) zero = refl
 loaded_at (Some x ∷ texts) zero = refl
@@ -101,7 +103,8 @@ module _ (v : Processes) (t : Table) (k : Kept) (a : Agree v t k) (long : length
   same_placed s clicks l h =
       let may : board.may_load (board_of t k) (row_at t s).text ≡ may_load k (text_of k s) =
       ap (board.may_load (board_of t k)) (a.text s l h) ∙ may_same t k (text_of k s) in
-      let core : board.core_fit (board_of t k) clicks ≡ core_fit k clicks = places.same_core_fit t k (agree_matches v t k a) long clicks in
+      let core : board.core_fit (board_of t k) clicks ≡ core_fit k clicks =
+      places.same_core_fit t k (agree_matches v t k a) long clicks in
       λ i. option_or (cond (may i) (option_map Core (core i)) None) (option_map Swap (same_swap_fit (blocks clicks) i))
 
 -- The same while a process of a slot has stopped between its old image and its new one.
@@ -116,7 +119,8 @@ module _ (v : Processes) (t : Table) (k : Kept) (s : ℕ) (a : AgreeBare v t k s
   core_at : (i : ℕ) → i < length t.rows → core_of_row (row_at t i) ≡ core_of (keeping k i)
   core_at i l = elim (cases_eq i 0) [
     | inl first ↦
-        ap (λ n. core_of_row (row_at t n)) first ∙ (core_nothing (row_at t 0) (keeping k 0) a.kernel a.images ∙ sym (ap (λ n. core_of (keeping k n)) first))
+        ap (λ n. core_of_row (row_at t n)) first
+        ∙ (core_nothing (row_at t 0) (keeping k 0) a.kernel a.images ∙ sym (ap (λ n. core_of (keeping k n)) first))
     | inr up ↦ elim (cases_eq i s) [
       | inl here ↦
           ap (λ n. core_of_row (row_at t n)) here
@@ -125,14 +129,16 @@ module _ (v : Processes) (t : Table) (k : Kept) (s : ℕ) (a : AgreeBare v t k s
           let above : 0 < i = omega (arith, up) in
           let below : i < 50 = omega (arith, l, a.rows) in
           core_same (row_at t i) (text_of k i) (keeping k i)
-          (is_row (member_at v.slots i) (row_at t i) (text_of k i) (keeping k i) (a.others i above below other) (a.text i above below))
+          (is_row (member_at v.slots i) (row_at t i) (text_of k i) (keeping k i) (a.others i above below other)
+          (a.text i above below))
     ]
   ]
 
   swap_at : (i : ℕ) → i < length t.rows → swap_of_row (row_at t i) ≡ swap_of (keeping k i)
   swap_at i l = elim (cases_eq i 0) [
     | inl first ↦
-        ap (λ n. swap_of_row (row_at t n)) first ∙ (swap_nothing (row_at t 0) (keeping k 0) a.kernel a.images ∙ sym (ap (λ n. swap_of (keeping k n)) first))
+        ap (λ n. swap_of_row (row_at t n)) first
+        ∙ (swap_nothing (row_at t 0) (keeping k 0) a.kernel a.images ∙ sym (ap (λ n. swap_of (keeping k n)) first))
     | inr up ↦ elim (cases_eq i s) [
       | inl here ↦
           ap (λ n. swap_of_row (row_at t n)) here
@@ -141,20 +147,23 @@ module _ (v : Processes) (t : Table) (k : Kept) (s : ℕ) (a : AgreeBare v t k s
           let above : 0 < i = omega (arith, up) in
           let below : i < 50 = omega (arith, l, a.rows) in
           swap_same (row_at t i) (text_of k i) (keeping k i)
-          (is_row (member_at v.slots i) (row_at t i) (text_of k i) (keeping k i) (a.others i above below other) (a.text i above below))
+          (is_row (member_at v.slots i) (row_at t i) (text_of k i) (keeping k i) (a.others i above below other)
+          (a.text i above below))
     ]
   ]
 
   core_bare : (clicks : ℕ) → board.core_fit (board_of t k) clicks ≡ core_fit k clicks
   unfolding core_fit
   core_bare clicks =
-      let rows : flat_map core_of_row t.rows ≡ flat_map core_of k.slots = same_ranges core_of_row core_of empty_row Nothing t.rows k.slots (a.rows ∙ sym long) core_at in
+      let rows : flat_map core_of_row t.rows ≡ flat_map core_of k.slots =
+      same_ranges core_of_row core_of empty_row Nothing t.rows k.slots (a.rows ∙ sym long) core_at in
       ap (λ taken. first_fit taken 1 k.core clicks) (λ i. rows i ++ core_texts k.texts i)
 
   pub swap_bare : (count : ℕ) → board.swap_fit (board_of t k) count ≡ swap_fit k count
   unfolding swap_fit
   swap_bare count =
-      let rows : flat_map swap_of_row t.rows ≡ flat_map swap_of k.slots = same_ranges swap_of_row swap_of empty_row Nothing t.rows k.slots (a.rows ∙ sym long) swap_at in
+      let rows : flat_map swap_of_row t.rows ≡ flat_map swap_of k.slots =
+      same_ranges swap_of_row swap_of empty_row Nothing t.rows k.slots (a.rows ∙ sym long) swap_at in
       ap (λ taken. first_fit taken 4000 4871 count) (λ i. rows i ++ swap_texts k.texts i)
 
   pub placed_bare : (clicks : ℕ) → 0 < s → s < 50 → board.placed (board_of t k) s clicks ≡ placed k s clicks
@@ -165,7 +174,8 @@ module _ (v : Processes) (t : Table) (k : Kept) (s : ℕ) (a : AgreeBare v t k s
       λ i. option_or (cond (may i) (option_map Core (core_bare clicks i)) None) (option_map Swap (swap_bare (blocks clicks) i))
 
 -- The lowest entry that is free.
-find_free : {X Y : Type 0} (f : ℕ → Option Y) (a : ℕ) (xs : List (Option X)) → ((i : ℕ) → is_none (f (a + i)) ≡ is_none (get_or xs i None))
+find_free : {X Y : Type 0} (f : ℕ → Option Y) (a : ℕ) (xs : List (Option X))
+    → ((i : ℕ) → is_none (f (a + i)) ≡ is_none (get_or xs i None))
     → find (λ k. is_none (f k)) (range_with_len a (length xs)) ≡ position_from is_none a xs
 find_free f a [] same = refl
 find_free f a (x ∷ xs) same =

@@ -49,8 +49,10 @@ use Rattle.sys_procs.proofs.Slots.{one_changed, own_is}
 
 -- What a demand for an image leaves in the log, by the place that is found.
 abbrev pub image_log : Board → ℕ → ℕ → World → Option Place → Logged World
-image_log b s n w None = record { items = Log (line.Panic panic.Swap) ∷ []; board = b; stop = Some (record { why = panic.Swap; before = w }) }
-image_log b s n w (Some place) = record { items = Log (line.Image s n place) ∷ []; board = applied b (line.Image s n place); stop = None }
+image_log b s n w None =
+    record { items = Log (line.Panic panic.Swap) ∷ []; board = b; stop = Some (record { why = panic.Swap; before = w }) }
+image_log b s n w (Some place) =
+    record { items = Log (line.Image s n place) ∷ []; board = applied b (line.Image s n place); stop = None }
 
 log_by : (b : Board) (s n : ℕ) (w : World) (o : Option Place)
     → with_what_came (nothing_logged b) (image_at w o (λ place. line.Image s n place)) ≡ image_log b s n w o
@@ -61,15 +63,18 @@ log_by b s n w (Some place) = refl
 logged_image : (b : Board) (s n : ℕ) (w : World) (o : Option Place) → board_of_log.placed b s n ≡ o
     → logged b (effects.Image s n w ∷ []) ≡ image_log b s n w o
 unfolding log_one effects.came
-logged_image b s n w o e = ap (λ x. with_what_came (nothing_logged b) (image_at w x (λ place. line.Image s n place))) e ∙ log_by b s n w o
+logged_image b s n w o e = ap (λ x. with_what_came (nothing_logged b) (image_at w x (λ place. line.Image s n place))) e
+    ∙ log_by b s n w o
 
 -- An image stands in core only where its text is there.
-core_only : (may : Bool) (core swap : Option ℕ) (c : ℕ) → option_or (cond may (option_map Core core) None) (option_map Swap swap) ≡ Some (Core c) → may ≡ true
+core_only : (may : Bool) (core swap : Option ℕ) (c : ℕ)
+    → option_or (cond may (option_map Core core) None) (option_map Swap swap) ≡ Some (Core c) → may ≡ true
 core_only true core swap c e = refl
 core_only false core None c e = absurd (cc e)
 core_only false core (Some b) c e = absurd (cc e)
 
-pub text_loaded : (k : Kept) (s n c t : ℕ) → placed k s n ≡ Some (Core c) → text_of k s ≡ Some t → is_text_loaded (shared k t) ≡ true
+pub text_loaded : (k : Kept) (s n c t : ℕ) → placed k s n ≡ Some (Core c) → text_of k s ≡ Some t
+    → is_text_loaded (shared k t) ≡ true
 unfolding placed
 text_loaded k s n c t fit text =
     sym (ap (may_load k) text) ∙ core_only (may_load k (text_of k s)) (core_fit k n) (swap_fit k (blocks n)) c fit
@@ -79,7 +84,8 @@ abbrev pub texts_moved : List (Option Shared) → Option ℕ → Place → List 
 texts_moved texts None place = texts
 texts_moved texts (Some t) place = set texts t (changed (moved_row None place) (get_or texts t None))
 
-moved_is : (k : Kept) (o : Option ℕ) (place : Place) → moved_texts k o None place ≡ record k { texts = texts_moved k.texts o place }
+moved_is : (k : Kept) (o : Option ℕ) (place : Place)
+    → moved_texts k o None place ≡ record k { texts = texts_moved k.texts o place }
 moved_is k None place = refl
 moved_is k (Some t) place = refl
 
@@ -88,7 +94,8 @@ same_in place None = refl
 same_in (Core c) (Some x) = refl
 same_in (Swap block) (Some x) = refl
 
-texts_same : (texts : List (Option Shared)) (o : Option ℕ) (place : Place) → map text_in (texts_moved texts o place) ≡ map text_in texts
+texts_same : (texts : List (Option Shared)) (o : Option ℕ) (place : Place)
+    → map text_in (texts_moved texts o place) ≡ map text_in texts
 texts_same texts None place = refl
 texts_same texts (Some t) place =
     map-set text_in texts t (changed (moved_row None place) (get_or texts t None))
@@ -115,7 +122,8 @@ entered_is texts (Some t) (Swap block) loaded = sym (ap (map text_place) (same_t
 entered_is texts (Some t) (Core c) loaded = by (get_or texts t None) refl (loaded c t refl refl)
   where
     by : (x : Option Shared) → get_or texts t None ≡ x → is_text_loaded x ≡ true
-        → more_at (Core c) (map text_place texts) t ≡ map text_place (set texts t (changed (moved_row None (Core c)) (get_or texts t None)))
+        → more_at (Core c) (map text_place texts) t ≡ map text_place
+        (set texts t (changed (moved_row None (Core c)) (get_or texts t None)))
     by None e f = absurd (false≢true f)
     by (Some x) e f = entered_texts_board texts t x (Core c) e (λ is. some_loaded x.row.loaded f)
 
@@ -131,7 +139,9 @@ board_by b s n (Swap block) None e = refl
 board_by b s n (Swap block) (Some t) e = refl
 
 module _ (p : Procs) (s t d : ℕ) (bare : IsBare p s) (all : IsKept p.images) where
-  pub image_came : (fs : FileSystem) → came p (takes_image (handed p fs) s t d) ≡ image_log (board p) s (16 + d + 20) (handed p fs) (placed p.images s (16 + d + 20))
+  pub image_came : (fs : FileSystem)
+      → came p (takes_image (handed p fs) s t d) ≡ image_log (board p) s (16 + d + 20) (handed p fs)
+      (placed p.images s (16 + d + 20))
   image_came fs =
       logged_image (board p) s (16 + d + 20) (handed p fs) (placed p.images s (16 + d + 20))
       (placed_bare p.rows p.table p.images s bare.agree all.slots (16 + d + 20) bare.above bare.below)
@@ -141,7 +151,8 @@ module _ (p : Procs) (s t d : ℕ) (bare : IsBare p s) (all : IsKept p.images) w
 
   -- There is no place.
   pub unplaced : (fs : FileSystem) (image : Image) (k : Kept) (start end : Taken) → placed p.images s (16 + d + 20) ≡ None
-      → k ≡ with_image_moved p.images s u image (placed p.images s (16 + d + 20)) → Took start (Log (line.Panic panic.Swap) ∷ []) end
+      → k ≡ with_image_moved p.images s u image (placed p.images s (16 + d + 20))
+      → Took start (Log (line.Panic panic.Swap) ∷ []) end
       → HasEnded p (record p { images = k }) fs (Err panic.Swap) start end (takes_image (handed p fs) s t d)
   unplaced fs image k start end none is took =
       let it : ◌≡◌ {A = Procs} (record p { images = k }) p =
@@ -170,10 +181,12 @@ module _ (p : Procs) (s t d : ℕ) (bare : IsBare p s) (all : IsKept p.images) w
         ∙ ap (λ (k : Kept). record k { slots = set k.slots s (Alive held) }) (moved_is p.images (text_of p.images s) place))
       where
         with_image_moved_from : Option Place → Kept
-        with_image_moved_from from = let k : Kept = moved_texts p.images (text_of p.images s) from place in record k { slots = set k.slots s (Alive held) }
+        with_image_moved_from from = let k : Kept = moved_texts p.images (text_of p.images s) from place in
+            record k { slots = set k.slots s (Alive held) }
 
     pub it_is : (rows : Table) (k : Kept) → rows ≡ with_place p.table s (16 + d + 20) place
-        → k ≡ with_image_moved p.images s u (made_image text d 20) (placed p.images s (16 + d + 20)) → record p { table = rows; images = k } ≡ now
+        → k ≡ with_image_moved p.images s u (made_image text d 20) (placed p.images s (16 + d + 20))
+        → record p { table = rows; images = k } ≡ now
     it_is rows k table_is is = λ i. record p { table = table_is i; images = (is ∙ images_now) i }
 
     image_now : keeping images s ≡ Alive held
@@ -188,7 +201,8 @@ module _ (p : Procs) (s t d : ℕ) (bare : IsBare p s) (all : IsKept p.images) w
     alone : (m : Member) → process_by m (Alive held) (text_of p.images s) ≡ sized t d (process_by m Nothing (text_of p.images s))
     alone m = refl
 
-    processes_now : processes_in p.rows.slots images ≡ set (processes_in p.rows.slots p.images) s (Some (sized t d (process_here p s)))
+    processes_now : processes_in p.rows.slots images ≡ set (processes_in p.rows.slots p.images) s
+        (Some (sized t d (process_here p s)))
     processes_now =
         let member = there (member_at p.rows.slots s) bare.agree.bare.lives in
         let here : process_here p s ≡ process_by member.0 Nothing (text_of p.images s) =
@@ -217,7 +231,8 @@ module _ (p : Procs) (s t d : ℕ) (bare : IsBare p s) (all : IsKept p.images) w
               (λ c k e f. text_loaded p.images s (16 + d + 20) c k (fit ∙ ap (λ x. Some x) e) f) i;
         }))
 
-    pub has_placed : (fs : FileSystem) (new : Procs) (start end : Taken) → new ≡ now → Took start (Log (line.Image s (16 + d + 20) place) ∷ []) end
+    pub has_placed : (fs : FileSystem) (new : Procs) (start end : Taken) → new ≡ now
+        → Took start (Log (line.Image s (16 + d + 20) place) ∷ []) end
         → HasEnded p new fs (Ok tt) start end (takes_image (handed p fs) s t d)
     has_placed fs new start end is took =
         ended_logged (image_came fs ∙ ap (image_log (board p) s (16 + d + 20) (handed p fs)) fit) refl
@@ -232,7 +247,8 @@ module _ (p : Procs) (s t d : ℕ) (bare : IsBare p s) (all : IsKept p.images) w
       where
         same : (to : Place) → place ≡ to → text_of p.images s ≡ Some k → texts_moved p.images.texts (Some k) to ≡ p.images.texts
         same (Core c) e mine = absurd (
-            let loaded : is_text_loaded (Some x) ≡ true = ap is_text_loaded (sym is) ∙ text_loaded p.images s (16 + d + 20) c k (fit ∙ ap (λ y. Some y) e) mine in
+            let loaded : is_text_loaded (Some x) ≡ true = ap is_text_loaded (sym is)
+            ∙ text_loaded p.images s (16 + d + 20) c k (fit ∙ ap (λ y. Some y) e) mine in
             let some = some_loaded x.row.loaded loaded in
             omega (arith, some, none))
         same (Swap block) e mine = same_texts p.images.texts k
@@ -243,7 +259,8 @@ module _ (p : Procs) (s t d : ℕ) (bare : IsBare p s) (all : IsKept p.images) w
           | inl here ↦
               ap (λ n. get_or (texts_moved p.images.texts (Some n) place) k None) (sym here)
               ∙ (ap (λ l. get_or l k None) (same place refl (e ∙ ap (λ n. Some n) (sym here))) ∙ is)
-          | inr other ↦ get_or-set_other p.images.texts j k (changed (moved_row None place) (get_or p.images.texts j None)) None other ∙ is
+          | inr other ↦ get_or-set_other p.images.texts j k
+              (changed (moved_row None place) (get_or p.images.texts j None)) None other ∙ is
         ]
 
     -- what agrees
@@ -299,7 +316,8 @@ module _ (p : Procs) (s t d : ℕ) (bare : IsBare p s) (all : IsKept p.images) w
             (agrees_placed (member_at p.rows.slots s) (row_at p.table s) place bare.agree.bare.lives bare.agree.bare.stat)))
         | inr other ↦
             subst (λ (one : TableRow). Agrees (member_at p.rows.slots r) one (keeping images r)) (sym (other_row r other))
-            (subst (λ x. Agrees (member_at p.rows.slots r) (row_at p.table r) x) (sym (other_image r other)) (bare.agree.others r up below other))
+            (subst (λ x. Agrees (member_at p.rows.slots r) (row_at p.table r) x) (sym (other_image r other))
+            (bare.agree.others r up below other))
       ];
       text = λ r up below. elim (cases_eq r s) [
         | inl here ↦

@@ -26,4 +26,5 @@ returns-clause-board g c =
 
 pub returns-clause-bare : goal.returns-clause-bare
 returns-clause-bare g c =
-    subst (λ (p : Procs). IsBare p c.args.s) (sym (it_is g c)) (is_bare c.args.p.now c.args.s c.requires.alive c.see.ensures.images.slots)
+    subst (λ (p : Procs). IsBare p c.args.s) (sym (it_is g c))
+    (is_bare c.args.p.now c.args.s c.requires.alive c.see.ensures.images.slots)

@@ -27,7 +27,8 @@ pub returns-clause-left : goal.returns-clause-left
 returns-clause-left g c = λ ino size.
     let p : Procs = c.args.p.now in
     let fs : FileSystem = c.args.tree.now.nodes in
-    left_logged {old = p} {new = it g c} {fs = fs} {c = xalloc_by (handed p fs) c.args.s ino size (Some c.args.t) (λ placed is_new. nothing placed)} (logged_line (board p) (line.Share c.args.s c.args.t))
+    left_logged {old = p} {new = it g c} {fs = fs} {c = xalloc_by (handed p fs) c.args.s ino size (Some c.args.t)
+    (λ placed is_new. nothing placed)} (logged_line (board p) (line.Share c.args.s c.args.t))
     (ap (λ (q : Procs). handed q fs) (it_is g c)
     ∙ (state p c.args.s c.args.t (more p.images c.args.t) c.requires.bare c.place-place.ensures.holds.seats fs
     ∙ (λ i. record (handed p fs) {

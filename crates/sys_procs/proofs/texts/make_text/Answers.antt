@@ -1,86 +1,99 @@
 use Rattle.std.proofs.Common.{◌≡◌, ◌∙◌, ◌<◌, ℕ, Ok, Err, sym, ap, subst, Some, IsSome, refl, arith}
-use Rattle.image_keep.specs.Kept.{Kept, shared, text_of}
+use Rattle.image_keep.specs.Kept.{Kept, IsKept, shared, text_of}
 use Rattle.image_keep.specs.SharedTexts.{zeros_text, free_text}
 use Rattle.image_keep.specs.Places.{swap_fit, blocks}
 use Rattle.sys_procs.specs.declared.procs.Procs.{Procs}
 use Rattle.sys_procs.specs.TextTable.{marks_of}
 use Rattle.sys_procs.specs.World.{texts_in}
 use Rattle.sys_procs.specs.Handed.{IsBare}
-use Rattle.sys_procs.proofs.MadeText.{IsMade, unmarked, made_by, entry_free, left_refused, images_made, now, it_is, text_now, user_now, goes_on, left_made, bare_made, marks_made}
+use Rattle.sys_procs.proofs.MadeText.{IsMade, Refused, unmarked, made_in, entry_free, left_refused, images_made, now, it_is, text_now, user_now, goes_on, left_made, bare_made, marks_made}
 use Rattle.sys_procs.proofs.texts.make_text.Given as given
 use Rattle.sys_procs.proofs.texts.make_text.Goals as goal
 
 pub mark_text-requires-clause-unmarked : goal.mark_text-requires-clause-unmarked
 mark_text-requires-clause-unmarked g c =
-    unmarked c.args.p.now.images c.args.ino c.args.tree.now.marks c.requires.marks (omega (arith, c.ranges.ino.fits)) c.requires.unknown
+    unmarked c.args.p.now.images c.args.ino c.args.tree.now.marks c.requires.marks
+    (omega (arith, c.ranges.ino.fits)) c.requires.unknown
 
 pub text_row-requires : goal.text_row-requires
 text_row-requires g c =
-    let made : IsMade (free_text c.args.p.now.images) (swap_fit c.args.p.now.images (blocks c.args.clicks)) c.in-Ok.t =
-    made_by (free_text c.args.p.now.images) (swap_fit c.args.p.now.images (blocks c.args.clicks)) c.in-Ok.t (sym c.in-Ok.is ∙ c.new_text.ensures.text) in
+    let bare = c.requires.bare in
+    let all = c.place-place.ensures.holds in
+    let made = made_in c.args.p.now c.args.clicks c.in-Ok.t (sym c.in-Ok.is ∙ c.new_text.ensures.text) in
     let there : shared c.new_text.new.self c.in-Ok.t ≡ Some (zeros_text c.args.ino c.args.clicks made.block) =
     ap (λ (k : Kept). shared k c.in-Ok.t)
-    (c.new_text.ensures.kept ∙ images_made c.args.p.now c.args.s c.args.ino c.args.clicks c.requires.bare c.place-place.ensures.holds c.in-Ok.t made)
-    ∙ text_now c.args.p.now c.args.s c.args.ino c.args.clicks c.requires.bare c.place-place.ensures.holds c.in-Ok.t made in
+    (c.new_text.ensures.kept ∙ images_made c.args.p.now c.args.s c.args.ino c.args.clicks bare all c.in-Ok.t made)
+    ∙ text_now c.args.p.now c.args.s c.args.ino c.args.clicks bare all c.in-Ok.t made in
     subst IsSome (sym there) refl
 
 module _ (g : given.Over) (c : goal.After-entry g) where
+  abbrev bare : IsBare c.args.p.now c.args.s
+  bare = c.requires.bare
+
+  abbrev all : IsKept c.args.p.now.images
+  all = c.place-place.ensures.holds
+
   abbrev made : IsMade (free_text c.args.p.now.images) (swap_fit c.args.p.now.images (blocks c.args.clicks)) c.in-Ok.t
-  made = made_by (free_text c.args.p.now.images) (swap_fit c.args.p.now.images (blocks c.args.clicks)) c.in-Ok.t
-      (sym c.in-Ok.is ∙ c.new_text.ensures.text)
+  made = made_in c.args.p.now c.args.clicks c.in-Ok.t (sym c.in-Ok.is ∙ c.new_text.ensures.text)
 
   abbrev it : Procs
   it = record c.args.p.now { table = c.give_text.new.table; images = c.new_text.new.self }
 
-  it_now : it ≡ now c.args.p.now c.args.s c.args.ino c.args.clicks c.requires.bare c.place-place.ensures.holds c.in-Ok.t made
+  it_now : it ≡ now c.args.p.now c.args.s c.args.ino c.args.clicks bare all c.in-Ok.t made
   it_now =
-      it_is c.args.p.now c.args.s c.args.ino c.args.clicks c.requires.bare c.place-place.ensures.holds c.in-Ok.t made
+      it_is c.args.p.now c.args.s c.args.ino c.args.clicks bare all c.in-Ok.t made
       c.give_text.new.table c.new_text.new.self c.give_text.ensures c.new_text.ensures.kept
 
 pub returns-in-Ok-clause-left : goal.returns-in-Ok-clause-left
 returns-in-Ok-clause-left g c =
-    left_made c.args.p.now c.args.s c.args.ino c.args.clicks c.requires.bare c.place-place.ensures.holds c.in-Ok.t (made g c)
-    (it g c) c.args.tree.now.nodes c.mark_text.new.self.nodes c.text_row.result.now.block (g.T.Trace.taken c.args.trace.now) (g.T.Trace.taken c.entry.new.self)
+    left_made c.args.p.now c.args.s c.args.ino c.args.clicks (bare g c) (all g c) c.in-Ok.t (made g c)
+    (it g c) c.args.tree.now.nodes c.mark_text.new.self.nodes c.text_row.result.now.block
+    (g.T.Trace.taken c.args.trace.now) (g.T.Trace.taken c.entry.new.self)
     (it_now g c) c.mark_text.ensures.inodes (ap (λ row. row.block) c.text_row.ensures) c.entry.ensures.took
 
 pub returns-in-Ok-clause-made : goal.returns-in-Ok-clause-made
 returns-in-Ok-clause-made g c = (
-    goes_on c.args.p.now c.args.s c.args.ino c.args.clicks c.requires.bare c.place-place.ensures.holds c.in-Ok.t (made g c) c.args.tree.now.nodes,
-    entry_free c.args.p.now.images c.in-Ok.t (made g c).entry,
-    ap (λ (q : Procs). text_of q.images c.args.s) (it_now g c)
-    ∙ user_now c.args.p.now c.args.s c.args.ino c.args.clicks c.requires.bare c.place-place.ensures.holds c.in-Ok.t (made g c),
+  goes_on c.args.p.now c.args.s c.args.ino c.args.clicks (bare g c) (all g c) c.in-Ok.t (made g c) c.args.tree.now.nodes,
+  entry_free c.args.p.now.images c.in-Ok.t (made g c).entry,
+  ap (λ (q : Procs). text_of q.images c.args.s) (it_now g c)
+      ∙ user_now c.args.p.now c.args.s c.args.ino c.args.clicks (bare g c) (all g c) c.in-Ok.t (made g c),
 )
 
 pub returns-in-Ok-clause-out : goal.returns-in-Ok-clause-out
 returns-in-Ok-clause-out g c = (
-    zeros_text c.args.ino c.args.clicks (made g c).block,
-    ap (λ (q : Procs). shared q.images c.in-Ok.t) (it_now g c)
-    ∙ text_now c.args.p.now c.args.s c.args.ino c.args.clicks c.requires.bare c.place-place.ensures.holds c.in-Ok.t (made g c),
-    refl,
-    refl,
+  zeros_text c.args.ino c.args.clicks (made g c).block,
+  ap (λ (q : Procs). shared q.images c.in-Ok.t) (it_now g c)
+      ∙ text_now c.args.p.now c.args.s c.args.ino c.args.clicks (bare g c) (all g c) c.in-Ok.t (made g c),
+  refl,
+  refl,
 )
 
 pub returns-in-Ok-clause-bare : goal.returns-in-Ok-clause-bare
 returns-in-Ok-clause-bare g c =
     subst (λ (q : Procs). IsBare q c.args.s) (sym (it_now g c))
-    (bare_made c.args.p.now c.args.s c.args.ino c.args.clicks c.requires.bare c.place-place.ensures.holds c.in-Ok.t (made g c))
+    (bare_made c.args.p.now c.args.s c.args.ino c.args.clicks (bare g c) (all g c) c.in-Ok.t (made g c))
 
 pub returns-in-Ok-clause-marks : goal.returns-in-Ok-clause-marks
 returns-in-Ok-clause-marks g c =
     c.mark_text.ensures.marks
     ∙ sym (ap (λ (q : Procs). marks_of (texts_in q.images)) (it_now g c)
-    ∙ marks_made c.args.p.now c.args.s c.args.ino c.args.clicks c.requires.bare c.place-place.ensures.holds c.in-Ok.t (made g c) c.args.tree.now.marks c.requires.marks)
+    ∙ marks_made c.args.p.now c.args.s c.args.ino c.args.clicks (bare g c) (all g c) c.in-Ok.t (made g c)
+    c.args.tree.now.marks c.requires.marks)
+
+-- It isn't made.
+module _ (g : given.Over) (c : goal.After-entry-in-Err g) where
+  refused : Refused c.args.p.now c.args.s c.args.ino c.args.clicks c.args.tree.now.nodes
+      c.panic_of-kind.result c.new_text.new.self
+      (g.T.Trace.taken c.args.trace.now) (g.T.Trace.taken c.entry-in-Err.new.self)
+  refused =
+      left_refused c.args.p.now c.args.s c.args.ino c.args.clicks c.requires.bare c.place-place.ensures.holds
+      c.args.tree.now.nodes c.in-Err.refusal c.panic_of-kind.result c.new_text.new.self
+      (g.T.Trace.taken c.args.trace.now) (g.T.Trace.taken c.entry-in-Err.new.self)
+      (sym c.in-Err.is ∙ c.new_text.ensures.text) c.panic_of-kind.ensures.full c.panic_of-kind.ensures.swap
+      c.new_text.ensures.kept c.entry-in-Err.ensures.took
 
 pub returns-in-Err-clause-left : goal.returns-in-Err-clause-left
-returns-in-Err-clause-left g c = let both =
-    left_refused c.args.p.now c.args.s c.args.ino c.args.clicks c.requires.bare c.place-place.ensures.holds c.args.tree.now.nodes
-    c.in-Err.refusal c.panic_of-kind.result c.new_text.new.self (g.T.Trace.taken c.args.trace.now) (g.T.Trace.taken c.entry-in-Err.new.self)
-    (sym c.in-Err.is ∙ c.new_text.ensures.text) c.panic_of-kind.ensures.full c.panic_of-kind.ensures.swap c.new_text.ensures.kept c.entry-in-Err.ensures.took in
-    both.0
+returns-in-Err-clause-left g c = (refused g c).left
 
 pub returns-in-Err-clause-kind : goal.returns-in-Err-clause-kind
-returns-in-Err-clause-kind g c = let both =
-    left_refused c.args.p.now c.args.s c.args.ino c.args.clicks c.requires.bare c.place-place.ensures.holds c.args.tree.now.nodes
-    c.in-Err.refusal c.panic_of-kind.result c.new_text.new.self (g.T.Trace.taken c.args.trace.now) (g.T.Trace.taken c.entry-in-Err.new.self)
-    (sym c.in-Err.is ∙ c.new_text.ensures.text) c.panic_of-kind.ensures.full c.panic_of-kind.ensures.swap c.new_text.ensures.kept c.entry-in-Err.ensures.took in
-    both.1
+returns-in-Err-clause-kind g c = (refused g c).panic
