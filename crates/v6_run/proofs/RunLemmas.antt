@@ -138,7 +138,7 @@ module _ (words : RunWords) (image bytes : List ℕ) (old middle : Outside) (fil
 
   faulty : (fault : text.ScriptFault) → may_end (Run words) (ScriptFault fault) ≡ true → script_of bytes ≡ Err fault → Answers (Run words) (ScriptFault fault) old middle
   faulty fault may is = before_run (ScriptFault fault) may refl (λ is. cc)
-      (λ _. early_complete (ScriptFault fault) (ap (λ s. lines_completion words image s (signal_line_of bytes)) is)) files.calm
+      (λ _. early_complete (ScriptFault fault) (ap (λ s. lines_completion words.core (run_writes words.outputs (disk_of image)) image s (signal_line_of bytes)) is)) files.calm
 
   pub script_refused : (error : ScriptError) → RefusesScript bytes error → Answers (Run words) (script_status error) old middle
   script_refused (script_error.Faulty fault.TooLong) refused = faulty fault.TooLong refl refused
@@ -146,8 +146,8 @@ module _ (words : RunWords) (image bytes : List ℕ) (old middle : Outside) (fil
   script_refused (script_error.Faulty (fault.TooManySlots n)) refused = faulty (fault.TooManySlots n) refl refused
   script_refused (script_error.Faulty fault.NoMemory) refused = before_run NoMemory refl refl (λ is. cc) (λ decided. not_so _ decided) files.calm
   script_refused (script_error.Unbuilt n) refused = before_run (NotBuilt (unbuilt.Line n)) refl refl (λ is. cc)
-      (λ _. early_complete (NotBuilt (unbuilt.Line n)) (ap (λ s. lines_completion words image s (signal_line_of bytes)) refused.1
-      ∙ ap (events_completion words image refused.0) refused.2)) files.calm
+      (λ _. early_complete (NotBuilt (unbuilt.Line n)) (ap (λ s. lines_completion words.core (run_writes words.outputs (disk_of image)) image s (signal_line_of bytes)) refused.1
+      ∙ ap (events_completion words.core (run_writes words.outputs (disk_of image)) image refused.0) refused.2)) files.calm
 
   module _ (events : List asked.Event) (script_is : script_of bytes ≡ Ok events) (built : signal_line_of bytes ≡ None) where
     -- the system that was booted is that of the image
@@ -157,10 +157,11 @@ module _ (words : RunWords) (image bytes : List ℕ) (old middle : Outside) (fil
     is_of (Some fault) system is = absurd (cc is)
 
     boots_as : (system : System) → boots image words.core ≡ Some system
-        → bytes_completion words image bytes ≡ course_completion words image (course (started system) (events_of events))
+        → bytes_completion words image bytes ≡ course_completion (run_writes words.outputs (disk_of image)) (course (started system) (events_of events))
     boots_as system is =
-        ap (λ s. lines_completion words image s (signal_line_of bytes)) script_is ∙ ap (events_completion words image events) built
-        ∙ ap (λ m. course_completion words image (course (started m) (events_of events))) (is_of (image_fault image) system is)
+        ap (λ s. lines_completion words.core (run_writes words.outputs (disk_of image)) image s (signal_line_of bytes)) script_is
+        ∙ ap (events_completion words.core (run_writes words.outputs (disk_of image)) image events) built
+        ∙ ap (λ m. course_completion (run_writes words.outputs (disk_of image)) (course (started m) (events_of events))) (is_of (image_fault image) system is)
 
     pub boot_refused : Answers (Run words) NoMemory old middle
     boot_refused = before_run NoMemory refl refl (λ is. cc) (λ decided. not_so _ decided) files.calm
@@ -170,7 +171,7 @@ module _ (words : RunWords) (image bytes : List ℕ) (old middle : Outside) (fil
       abbrev run : Course
       run = course (started system) (events_of events)
 
-      run_completion : Tells old → command_completion (Run words) old.fixed ≡ Known (course_completion words image run)
+      run_completion : Tells old → command_completion (Run words) old.fixed ≡ Known (course_completion (run_writes words.outputs (disk_of image)) run)
       run_completion told = run_is told ∙ ap Known (boots_as system boots_is)
 
       run_is_met : IsMet run.ending
