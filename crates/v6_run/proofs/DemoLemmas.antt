@@ -1,20 +1,11 @@
 -- What `demo` answers, exit by exit.
-use Rattle.std.proofs.Common.{◌≡◌, ◌+◌, ◌-◌, ◌*◌, ◌<◌, ◌≤◌, ◌^◌, MatchOption, ℕ, zero, suc, true, false, Option, Some, None, is_some, if◌then◌else◌, List, [], ◌∷◌, ◌++◌, length, length-append, nat_lt, Result, Ok, Err, IfOk, MatchResult, count_by, refl, sym, ◌∙◌, ap, subst, take, drop, arith}
-use Rattle.std.proofs.lemmas.List.{append-nil}
-use Rattle.std.proofs.lemmas.Bool.Decides.{nat_tests}
-use Rattle.std.specs.List.{list_any}
-use Rattle.v6_port.specs.declared.host.OutPort.{OutPort}
+use Rattle.std.proofs.Common.{◌≡◌, ◌<◌, ◌^◌, MatchOption, ℕ, true, Option, Some, None, is_some, if◌then◌else◌, List, [], ◌∷◌, length, Result, Ok, Err, IfOk, MatchResult, refl, sym, ◌∙◌, ap, subst, arith}
 use Rattle.v6_port.specs.declared.host.OutPort.TheVariants as out_port
-use Rattle.v6_port.specs.Outside.{Port, Out, Outside}
+use Rattle.v6_port.specs.Outside.{Out, Outside}
 use Rattle.v6_port.specs.Causes.{Calm, FaultAt}
 use Rattle.v6_port.proofs.CauseLemmas.{calm_still}
-use Rattle.fs_codec.specs.Disk.{disk_of, head}
-use Rattle.fs_codec.specs.Store.{Store}
-use Rattle.fs_codec.specs.Faults.{image_fault, fault_within, disk_fault}
+use Rattle.fs_codec.specs.Faults.{image_fault}
 use Rattle.fs_codec.specs.declared.fault.ImageFault as codec
-use Rattle.fs_codec.specs.declared.fault.ImageFault.TheVariants.{TooLong}
-use Rattle.fs_codec.specs.declared.layout.TheConstants.{DISK_BYTES, SWAP_START}
-use Rattle.fs_codec.specs.Stands.{StandsFor, store_of}
 use Rattle.script_text.specs.declared.script.Event as asked
 use Rattle.script_text.specs.declared.script.Event.TheVariants as ask
 use Rattle.script_text.specs.declared.script.ScriptFault.TheVariants as fault
@@ -28,7 +19,7 @@ use Rattle.abstract_unix.specs.declared.turned.Unbuilt.TheVariants as unbuilt
 use Rattle.abstract_unix.specs.Runs.{Course, system_of, boots, started, course, run_of}
 use Rattle.abstract_unix.proofs.RunsLemmas.{IsMet, started_is, course_is}
 use Rattle.v6_run.specs.declared.status.Status.{Status}
-use Rattle.v6_run.specs.declared.status.Status.TheVariants.{Done, WriteFault, ReadFault, ImageFault, Panic, NoMemory, NotBuilt}
+use Rattle.v6_run.specs.declared.status.Status.TheVariants.{Done, ReadFault, ImageFault, Panic, NoMemory, NotBuilt}
 use Rattle.v6_run.specs.declared.image.ImageError.TheVariants as image
 use Rattle.v6_run.specs.declared.script.ScriptError.{ScriptError}
 use Rattle.v6_run.specs.declared.script.ScriptError.TheVariants as script_error
@@ -40,11 +31,10 @@ use Rattle.v6_run.specs.Words.{Demo}
 use Rattle.v6_run.specs.Events.{events_of}
 use Rattle.v6_run.specs.Status.{fault_port, is_decided}
 use Rattle.v6_run.specs.Errors.{run_status, end_of}
-use Rattle.v6_run.specs.Causes.{IsCaused}
 use Rattle.v6_run.specs.Steps.{RefusesScript}
 use Rattle.v6_run.specs.Fronts.{exactly}
-use Rattle.v6_run.specs.Report.{course_line, summary_line}
-use Rattle.v6_run.specs.Headline.{Writing, Known, IsKnownAnd, ends_with, status_at, fault_completion, lines_completion, events_completion, run_completion, demo_completion, run_line, IsComplete, may_end, is_known}
+use Rattle.v6_run.specs.Report.{summary_line}
+use Rattle.v6_run.specs.Headline.{Writing, Known, IsKnownAnd, status_at, fault_completion, lines_completion, events_completion, run_completion, demo_completion, run_line, IsComplete, may_end, is_known}
 use Rattle.v6_run.specs.Answers.{Answers}
 use Rattle.v6_run.specs.Demo.{RefusesDisk, EndsCourse, StopsCourse}
 use Rattle.v6_run.proofs.AnswerLemmas.{not_so, complete_unwritten}

@@ -1,10 +1,10 @@
 -- What `run` answers, exit by exit.
-use Rattle.std.proofs.Common.{◌≡◌, ℕ, Bool, true, false, Option, Some, None, List, take, refl, sym, Ok, Err, ◌∙◌, ap, subst, is_some, if◌then◌else◌, ◌||◌, ◌&&◌}
+use Rattle.std.proofs.Common.{◌≡◌, ℕ, Bool, true, false, Option, Some, None, List, take, refl, sym, Ok, Err, ◌∙◌, ap, subst, is_some, if◌then◌else◌, ◌||◌}
 use Rattle.std.specs.Option.{option_map}
 use Rattle.v6_port.specs.declared.host.InPort.TheVariants as in_port
 use Rattle.v6_port.specs.declared.host.OutPort.{OutPort}
 use Rattle.v6_port.specs.declared.host.OutPort.TheVariants as out_port
-use Rattle.v6_port.specs.Outside.{In, Out, same, is_report, PortState, Environment, Outside, Tells, OnlyAt}
+use Rattle.v6_port.specs.Outside.{In, Out, same, PortState, Environment, Outside, Tells, OnlyAt}
 use Rattle.v6_port.specs.Calls.{is_given}
 use Rattle.v6_port.specs.Causes.{Calm}
 use Rattle.fs_codec.specs.Disk.{disk_of}
@@ -16,7 +16,7 @@ use Rattle.abstract_unix.specs.Runs.{Course, system_of, started, boots, course}
 use Rattle.v6_run.specs.declared.image.TheConstants.{IMAGE_LIMIT}
 use Rattle.v6_run.specs.declared.run.TheConstants.{SCRIPT_LIMIT}
 use Rattle.v6_run.specs.declared.status.Status.{Status}
-use Rattle.v6_run.specs.declared.status.Status.TheVariants.{ReadFault, WriteFault, ScriptFault, Panic, NoMemory, NotBuilt}
+use Rattle.v6_run.specs.declared.status.Status.TheVariants.{ReadFault, WriteFault, ScriptFault, NoMemory, NotBuilt}
 use Rattle.abstract_unix.specs.declared.ends.Ends.{Ends}
 use Rattle.abstract_unix.specs.declared.ends.Ends.TheVariants as ends
 use Rattle.abstract_unix.specs.declared.ends.Ends.TheVariants.{AtEnd}
@@ -41,7 +41,7 @@ use Rattle.v6_run.specs.declared.outputs.Output.TheVariants as file
 use Rattle.v6_run.specs.Outputs.{port_of, is_output, run_writes, EndsRun, StopsRun}
 use Rattle.v6_run.specs.Causes.{IsCaused}
 use Rattle.v6_run.specs.Steps.{StopsReading, StopsImage, RefusesScript}
-use Rattle.v6_run.specs.Headline.{Known, IsKnownAnd, ends_with, course_completion, events_completion, lines_completion, bytes_completion, script_completion, fault_completion, image_completion, command_completion, IsComplete, IsPartial, status_at, is_named, may_end, run_knows, outputs_know, reports_done, is_known}
+use Rattle.v6_run.specs.Headline.{Known, IsKnownAnd, ends_with, course_completion, events_completion, lines_completion, bytes_completion, script_completion, fault_completion, image_completion, command_completion, IsComplete, IsPartial, status_at, is_named, may_end, run_knows, outputs_know, is_known}
 use Rattle.v6_run.specs.Answers.{Answers, HasFiles}
 use Rattle.v6_run.proofs.ImageLemmas.{fault_given}
 use Rattle.v6_port.proofs.CauseLemmas.{still_tells, only_then, calm_then, fault_then}

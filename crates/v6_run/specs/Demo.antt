@@ -1,5 +1,5 @@
 -- How `demo` comes to its end, or stops before it, by docs/manual/demo.md.
-use Rattle.std.specs.Prelude.{◌≡◌, ⊤, ℕ, Option, Some}
+use Rattle.std.specs.Prelude.{◌≡◌, ⊤, ℕ, Some}
 use Rattle.fs_codec.specs.Faults.{image_fault}
 use Rattle.make_image.specs.Image.{build_of}
 use Rattle.abstract_unix.specs.declared.ends.Ends.TheVariants as ends

@@ -1,5 +1,5 @@
 -- What goes out on two ports, one thing after another: the laws of the trace over a host.
-use Rattle.std.proofs.Common.{◌≡◌, true, false, Option, Some, None, is_some, MatchOption, [], ◌++◌, refl, sym, ◌∙◌, ap, subst, append_assoc}
+use Rattle.std.proofs.Common.{◌≡◌, true, Option, Some, None, MatchOption, [], ◌++◌, refl, sym, ◌∙◌, ap, subst, append_assoc}
 use Rattle.std.proofs.lemmas.List.{append-nil}
 use Rattle.v6_port.specs.Outside.{Out, PortState, Outside, Tells}
 use Rattle.v6_port.specs.Causes.{Calm, FaultAt}

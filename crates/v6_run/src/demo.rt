@@ -177,11 +177,7 @@ fn demo_events(alloc: Global) -> Result<Script, RunError>
 }
 
 /// The command `demo`: takes the disk of this number through the script of the demo.
-pub(crate) fn demo<H: Host>(
-    alloc: Global,
-    number: u32,
-    host: &mut H,
-) -> Result<Summary, RunError>
+pub(crate) fn demo<H: Host>(alloc: Global, number: u32, host: &mut H) -> Result<Summary, RunError>
     ensures answers { Answers (Demo number) (end_of run_status result) (H.outside host.old) (H.outside host.new) }
     ensures line { IfOk result (λ summary. run_line number (script_of demo_text) ≡ summary_line summary) }
 {

@@ -1,11 +1,9 @@
-use Rattle.std.proofs.Common.{◌≡◌, ◌≤◌, ◌∙◌, sym, ap, subst, None, Some, Ok, MatchResult}
+use Rattle.std.proofs.Common.{◌≡◌, ◌≤◌, ◌∙◌, sym, subst, None, Some, MatchResult}
 use Rattle.fs_codec.specs.Disk.{head}
 use Rattle.fs_codec.specs.Faults.{image_fault}
 use Rattle.fs_codec.specs.declared.layout.TheConstants.{SWAP_START}
 use Rattle.buf_cache.specs.Blocks.{block_at, blocks_of}
 use Rattle.abstract_unix.specs.Runs.{boots, started, course}
-use Rattle.script_text.specs.Script.{script_of}
-use Rattle.make_image.specs.Demo.{demo_text}
 use Rattle.v6_port.specs.Outside.{Outside}
 use Rattle.v6_run.specs.declared.demo.TheConstants.{DEMO_CORE}
 use Rattle.v6_run.specs.Words.{Demo}
@@ -14,7 +12,6 @@ use Rattle.v6_run.specs.Events.{events_of}
 use Rattle.v6_run.specs.Answers.{Answers}
 use Rattle.v6_run.specs.Demo.{EndsCourse, StopsCourse}
 use Rattle.v6_run.proofs.FinalLemmas.{image_below}
-use Rattle.v6_run.proofs.ResultLemmas.{value_where_ok}
 use Rattle.v6_run.proofs.DemoLemmas.{demo_answers, demo_tells}
 use Rattle.v6_run.proofs.demo.demo.Goals as goal
 

@@ -1,5 +1,4 @@
-use Rattle.std.proofs.Common.{◌≡◌, ◌<◌, ◌^◌, ◌∙◌, sym, ap, subst, length}
-use Rattle.make_image.specs.Demo.{demo_text}
+use Rattle.std.proofs.Common.{◌<◌, ◌^◌, ◌∙◌, sym, ap, subst, length}
 use Rattle.v6_run.specs.Errors.{script_status}
 use Rattle.v6_run.specs.Steps.{RefusesScript}
 use Rattle.v6_run.proofs.DemoLemmas.{demo_short, only_memory}

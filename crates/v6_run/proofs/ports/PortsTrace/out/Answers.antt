@@ -1,4 +1,4 @@
-use Rattle.std.proofs.Common.{◌≡◌, sym, ◌∙◌, subst, [], ◌∷◌}
+use Rattle.std.proofs.Common.{sym, ◌∙◌, subst, [], ◌∷◌}
 use Rattle.v6_base.specs.Trace.{Byte, Took, Appends}
 use Rattle.v6_run.specs.Ports.{taken_by}
 use Rattle.v6_run.proofs.PortLemmas.{took_written, took_kept, byte_silently, byte_appended}
