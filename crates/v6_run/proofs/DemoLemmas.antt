@@ -32,9 +32,8 @@ use Rattle.v6_run.specs.Events.{events_of}
 use Rattle.v6_run.specs.Status.{fault_port, is_decided}
 use Rattle.v6_run.specs.Errors.{run_status, end_of}
 use Rattle.v6_run.specs.Steps.{RefusesScript}
-use Rattle.v6_run.specs.Fronts.{exactly}
 use Rattle.v6_run.specs.Report.{summary_line}
-use Rattle.v6_run.specs.Headline.{Writing, Known, IsKnownAnd, status_at, fault_completion, lines_completion, events_completion, run_completion, demo_completion, run_line, IsComplete, may_end, is_known}
+use Rattle.v6_run.specs.Headline.{no_writing, Known, IsKnownAnd, status_at, fault_completion, lines_completion, events_completion, run_completion, demo_completion, run_line, IsComplete, may_end, is_known}
 use Rattle.v6_run.specs.Answers.{Answers}
 use Rattle.v6_run.specs.Demo.{RefusesDisk, EndsCourse, StopsCourse}
 use Rattle.v6_run.proofs.AnswerLemmas.{not_so, complete_unwritten}
@@ -87,7 +86,8 @@ module _ (number : ℕ) (o : Outside) where
 
   pub disk_refused : (e : RunError) → RefusesDisk number e → Answers (Demo number) (run_status e) o o
   disk_refused (run.Image (image.Faulty f)) refused = answers_by (ImageFault f) refl refl
-      (λ _. subst (λ x. IsKnownAnd (fault_completion x (Known (run_completion DEMO_CORE (λ c port. exactly []) (build_of number) demo_text))) (IsComplete (ImageFault f) o o)) (sym refused) (complete_unwritten (ImageFault f) o o (λ p. refl)))
+      (λ _. subst (λ x. IsKnownAnd (fault_completion x (Known (run_completion DEMO_CORE no_writing (build_of number) demo_text))) (IsComplete (ImageFault f) o o))
+      (sym refused) (complete_unwritten (ImageFault f) o o (λ p. refl)))
   disk_refused run.NoMemory refused = no_memory
   disk_refused (run.Image (image.Unread e)) refused = absurd refused
   disk_refused (run.Script e) refused = absurd refused
@@ -104,13 +104,10 @@ module _ (number : ℕ) (o : Outside) where
     abbrev all : Course
     all = run_of (build_of number) DEMO_CORE (events_of events)
 
-    abbrev nothing : Writing
-    nothing = λ c port. exactly []
-
     complete : IsKnownAnd (demo_completion number) (IsComplete (status_at all.ending) o o)
-    complete = subst (λ f. IsKnownAnd (fault_completion f (Known (run_completion DEMO_CORE nothing (build_of number) demo_text))) (IsComplete (status_at all.ending) o o)) (sym good)
-        (subst (λ r. IsComplete (status_at all.ending) o o (lines_completion DEMO_CORE nothing (build_of number) r (signal_line_of demo_text))) (sym read)
-        (subst (λ s. IsComplete (status_at all.ending) o o (events_completion DEMO_CORE nothing (build_of number) events s)) (sym demo_built)
+    complete = subst (λ f. IsKnownAnd (fault_completion f (Known (run_completion DEMO_CORE no_writing (build_of number) demo_text))) (IsComplete (status_at all.ending) o o)) (sym good)
+        (subst (λ r. IsComplete (status_at all.ending) o o (lines_completion DEMO_CORE no_writing (build_of number) r (signal_line_of demo_text))) (sym read)
+        (subst (λ s. IsComplete (status_at all.ending) o o (events_completion DEMO_CORE no_writing (build_of number) events s)) (sym demo_built)
         (complete_unwritten (status_at all.ending) o o (λ p. refl))))
 
     met : IsMet all.ending

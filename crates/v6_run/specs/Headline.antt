@@ -113,9 +113,12 @@ image_completion None rest = Unknown
 image_completion (Some bytes) rest = fault_completion (image_fault (take IMAGE_LIMIT bytes)) (rest (take IMAGE_LIMIT bytes))
 
 -- `demo` is a run of the script of the demo over the disk that `make` builds. It writes no file.
+abbrev pub no_writing : Writing
+no_writing c port = exactly []
+
 abbrev pub demo_completion : ℕ → MaybeCompletion
 demo_completion number =
-    fault_completion (image_fault (build_of number)) (Known (run_completion DEMO_CORE (λ c port. exactly []) (build_of number) demo_text))
+    fault_completion (image_fault (build_of number)) (Known (run_completion DEMO_CORE no_writing (build_of number) demo_text))
 
 -- what a command comes to
 abbrev pub command_completion : Command → Environment → MaybeCompletion

@@ -99,7 +99,8 @@ taken_by o kept.Unwanted = taken_of o kept.Unwanted
 -- one byte more is counted, where there is room
 abbrev pub screened : Kept → ℕ → Kept
 screened (kept.Screen bytes) byte =
-    if nat_le SCREEN_ROOM (length bytes.items) then kept.Screen bytes else kept.Screen (record { items = bytes.items ++ byte ∷ [] })
+    if nat_le SCREEN_ROOM (length bytes.items) then kept.Screen bytes
+    else kept.Screen (record { items = bytes.items ++ byte ∷ [] })
 screened k byte = k
 
 -- so many have been, and there was room for them all

@@ -88,11 +88,11 @@ ok_line nodes free = line_of (codes "ok " ++ decimal nodes ++ codes " nodes " ++
 abbrev pub store_line : Store → List ℕ
 store_line store = ok_line (count_by is_some store.nodes) store.room
 
--- what `demo` tells of the run of a number: how many bytes the terminal was shown, and how many nodes and free blocks are left
+-- what `demo` tells of the run of a number: how many bytes the terminal is shown, and how many nodes and free blocks are left
 abbrev pub demo_line : ℕ → ℕ → ℕ → ℕ → List ℕ
 demo_line number shown nodes free = line_of (
-    codes "demo " ++ decimal number ++ codes ": 60000 slots, " ++ decimal shown ++ codes " shown, " ++ decimal nodes ++ codes " nodes, "
-    ++ decimal free ++ codes " free")
+    codes "demo " ++ decimal number ++ codes ": 60000 slots, " ++ decimal shown ++ codes " shown, "
+    ++ decimal nodes ++ codes " nodes, " ++ decimal free ++ codes " free")
 
 abbrev pub shown_line : ℕ → ℕ → Store → List ℕ
 shown_line number shown store = demo_line number shown (count_by is_some store.nodes) store.room

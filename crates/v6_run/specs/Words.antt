@@ -28,7 +28,8 @@ pub record RunWords : Type 0 where
   pub script : List ℕ
   pub outputs : Outputs
 
--- a command: what `run` or `memory` is told, the image that `check` reads, the number and the file of `make`, or the number of `demo`
+-- a command: what `run` or `memory` is told, the image that `check` reads, the number and the file of `make`, or the number
+-- of `demo`
 pub data Command : Type 0 where
   Run : RunWords → Command
   Check : List ℕ → Command
