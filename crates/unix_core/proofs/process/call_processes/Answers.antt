@@ -1,4 +1,4 @@
-use Rattle.std.proofs.Common.{◌≡◌, ◌⊎◌, ℕ, List, refl, sym, subst}
+use Rattle.std.proofs.Common.{◌⊎◌, ℕ, List, refl, sym, subst}
 use Rattle.std.proofs.lemmas.Result.{IfOk-at_ok, IfErr-at_err}
 use Rattle.v6_base.specs.Trace.{Took}
 use Rattle.v6_base.specs.declared.answer.Answer.{Answer}
