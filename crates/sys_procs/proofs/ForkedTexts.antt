@@ -1,5 +1,5 @@
 -- The texts when a child shares its parent's: what is kept, what a call is handed, and the board.
-use Rattle.std.proofs.Common.{◌≡◌, ◌∙◌, ◌+◌, ◌<◌, ◌==◌, ℕ, Bool, true, false, cond, List, length, get_or, set, map, Option, Some, None, refl, sym, ap, subst, arith}
+use Rattle.std.proofs.Common.{◌≡◌, ◌∙◌, ◌+◌, ◌<◌, ℕ, true, cond, List, length, get_or, set, map, Option, Some, None, refl, sym, ap, arith}
 use Rattle.std.specs.Option.{option_map}
 use Rattle.std.proofs.lemmas.Bool.{ne_eqb}
 use Rattle.std.proofs.lemmas.List.{map-set, get_or-set_same}
@@ -12,7 +12,7 @@ use Rattle.pick_rules.specs.declared.table.Table.{Table}
 use Rattle.pick_rules.specs.Table.{row_at, with_row, empty_row, child_row}
 use Rattle.pick_rules.specs.Sleepers.{runout_told}
 use Rattle.pick_rules.specs.Board.{TextPlace, Board}
-use Rattle.pick_rules.specs.Apply.{applied, in_table, change_row, change_text, at_place, joins, changed}
+use Rattle.pick_rules.specs.Apply.{applied, in_table, change_row, joins, changed}
 use Rattle.pick_rules.proofs.Placing.{text_table, text_core, again_row, core_table, core_core, row_in, row_out}
 use Rattle.image_keep.specs.Kept.{Shared, Keeping, Kept, with_keeping, with_text_of, text_of}
 use Rattle.image_keep.specs.Kept as kept
@@ -20,7 +20,6 @@ use Rattle.image_keep.specs.Moves.{forked_row, forked_texts}
 use Rattle.image_keep.specs.Places.{placed, is_text_loaded, may_load}
 use Rattle.swap_sched.specs.Match.{text_place}
 use Rattle.swap_sched.proofs.Texts.{one_more, text_at_map, set_twice}
-use Rattle.sys_procs.specs.TextTable.{Text}
 use Rattle.sys_procs.specs.Texts as texts
 use Rattle.sys_procs.specs.World.{text_in}
 use Rattle.sys_procs.specs.Seats.{with_image_row}

@@ -1,5 +1,5 @@
 -- The texts when the image of a process goes from its place to another: what is kept, what a call is handed, and the board.
-use Rattle.std.proofs.Common.{◌≡◌, ◌∙◌, ◌<◌, ◌==◌, ◌||◌, ℕ, Bool, true, false, cond, List, length, get_or, set, map, Option, Some, None, refl, sym, ap, subst, arith}
+use Rattle.std.proofs.Common.{◌≡◌, ◌∙◌, ◌<◌, ◌||◌, ℕ, Bool, true, false, cond, List, length, get_or, set, map, Option, Some, None, refl, sym, ap, arith}
 use Rattle.std.specs.Option.{option_map, option_or}
 use Rattle.std.proofs.lemmas.Bool.{ne_eqb}
 use Rattle.std.proofs.lemmas.List.{map-set, set-get_or, get_or-set_same}
@@ -17,13 +17,11 @@ use Rattle.text_tab.specs.declared.row.TextRow.{TextRow}
 use Rattle.proc_tab.specs.declared.member.Member.{Member}
 use Rattle.image_keep.specs.Kept.{Shared, Keeping, Kept, with_keeping, shared, changed}
 use Rattle.image_keep.specs.Moves.{moved_row, moved_texts}
-use Rattle.image_keep.specs.Places.{is_text_loaded, may_load, core_fit, swap_fit, placed, blocks}
+use Rattle.image_keep.specs.Places.{may_load, core_fit, swap_fit, placed, blocks}
 use Rattle.image_keep.specs.Kept as kept
 use Rattle.swap_sched.specs.Match.{text_place}
 use Rattle.swap_sched.proofs.Texts.{one_more}
-use Rattle.sys_procs.specs.Process.{Process}
-use Rattle.sys_procs.specs.TextTable.{Text}
-use Rattle.sys_procs.specs.World.{text_in, texts_in, processes_in}
+use Rattle.sys_procs.specs.World.{text_in, processes_in}
 use Rattle.sys_procs.specs.Seats.{with_place}
 use Rattle.sys_procs.proofs.MovedTexts.{fewer_if, more_at, is_core, moved_texts_board}
 

@@ -1,5 +1,5 @@
 -- How often a process that calls, which is in its directory, and the texts refer to inodes.
-use Rattle.std.proofs.Common.{◌≡◌, ◌≢◌, ◌∙◌, ◌+◌, ◌-◌, ◌<◌, ◌≤◌, ◌==◌, ℕ, Bool, true, false, cond, List, length, get_or, set, map, Option, refl, sym, ap, subst, inl, inr, arith}
+use Rattle.std.proofs.Common.{◌≡◌, ◌∙◌, ◌+◌, ◌-◌, ◌<◌, ◌≤◌, ◌==◌, ℕ, Bool, true, false, cond, List, length, get_or, set, map, Option, refl, sym, ap, subst, inl, inr, arith}
 use Rattle.std.specs.Prelude.{count_by, slice_index}
 use Rattle.std.proofs.lemmas.Bool.{cases_eq, cases_lt, eq-eqb}
 use Rattle.std.proofs.lemmas.List.{get_or-set_same, get_or-set_other, get_or_past}
@@ -10,7 +10,7 @@ use Rattle.sys_procs.specs.declared.procs.Procs.{Procs}
 use Rattle.sys_procs.specs.TextTable.{is_text_of}
 use Rattle.sys_procs.specs.World.{text_in, texts_in}
 use Rattle.sys_procs.specs.Agree.{refers}
-use Rattle.sys_procs.specs.Handed.{Calls, IsAlive, process_here}
+use Rattle.sys_procs.specs.Handed.{Calls, process_here}
 use Rattle.sys_procs.proofs.Alive.{calls_alive, area_here}
 
 -- those of the texts are among them, and that of the directory is one more
