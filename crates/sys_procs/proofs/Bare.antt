@@ -1,10 +1,9 @@
 -- A process whose image is given back, and who has no new one yet: what it is, and what agrees.
-use Rattle.std.proofs.Common.{◌≡◌, ◌≢◌, ◌∙◌, ℕ, ◌<◌, List, length, set, Option, Some, None, refl, sym, ap, subst, inl, inr, arith}
+use Rattle.std.proofs.Common.{◌≡◌, ◌≢◌, ◌∙◌, ℕ, ◌<◌, List, length, set, Option, Some, refl, sym, ap, subst, inl, inr, arith}
 use Rattle.std.proofs.lemmas.Bool.{cases_eq}
 use Rattle.std.proofs.lemmas.List.{get_or-set_same, get_or-set_other, length-set}
 use Rattle.fs_nodes.specs.FileSystem.{FileSystem}
 use Rattle.pick_rules.specs.declared.row.TableRow.{TableRow}
-use Rattle.pick_rules.specs.declared.table.Table.{Table}
 use Rattle.pick_rules.specs.Table.{row_at, empty_row}
 use Rattle.pick_rules.specs.Apply.{change_row}
 use Rattle.proc_tab.specs.declared.member.Member.{Member}
@@ -14,9 +13,9 @@ use Rattle.image_keep.proofs.Frames.{keeping_same, keeping_other}
 use Rattle.sys_procs.specs.declared.procs.Procs.{Procs}
 use Rattle.sys_procs.specs.Process.{Process, process_by, process_in}
 use Rattle.sys_procs.specs.World.{processes_in, change}
-use Rattle.sys_procs.specs.Agree.{Agrees, AgreesBare, Lives, kind_of_member, kind_of_stat, kind_by}
+use Rattle.sys_procs.specs.Agree.{Agrees, Lives, kind_of_member, kind_of_stat, kind_by}
 use Rattle.sys_procs.specs.ExecFile.{bared}
-use Rattle.sys_procs.specs.Handed.{IsAlive, IsBare, AreBare, board, handed, process_here}
+use Rattle.sys_procs.specs.Handed.{IsAlive, IsBare, handed, process_here}
 use Rattle.sys_procs.proofs.Alive.{IsHere, is_here}
 use Rattle.sys_procs.proofs.Slots.{one_changed}
 use Rattle.sys_procs.proofs.PlacingRows.{bared_row, row_low, text_row}

@@ -1,18 +1,11 @@
 -- A text has one user more: the texts that a call is handed, the board, and the marks.
-use Rattle.std.proofs.Common.{◌≡◌, ◌∙◌, ◌+◌, ◌||◌, ℕ, zero, suc, Bool, List, [], ◌∷◌, map, get_or, set, Option, Some, None, refl, sym, ap}
+use Rattle.std.proofs.Common.{◌≡◌, ◌∙◌, ◌+◌, ℕ, List, map, get_or, set, Option, Some, None, refl, sym, ap}
 use Rattle.std.specs.Option.{option_map}
 use Rattle.std.proofs.lemmas.List.{map-set}
 use Rattle.std.proofs.Math.ListN.{get_or-map}
-use Rattle.std.specs.List.{list_any, range_with_len}
-use Rattle.v6_base.specs.Trace.{Log}
-use Rattle.v6_base.specs.declared.entry.Entry.{Entry}
 use Rattle.v6_base.specs.declared.entry.Entry.TheVariants as line
-use Rattle.fs_tree.specs.declared.marks.TheConstants.{INODE_NUMBERS}
-use Rattle.pick_rules.specs.Board.{Board, TextPlace}
+use Rattle.pick_rules.specs.Board.{TextPlace}
 use Rattle.pick_rules.specs.Apply.{applied, change_row}
-use Rattle.pick_rules.specs.Effects.{Show}
-use Rattle.pick_rules.specs.Effects as effects
-use Rattle.pick_rules.specs.Logged.{logged, log_one}
 use Rattle.pick_rules.specs.Apply as board_of_log
 use Rattle.text_tab.specs.Table.{joined}
 use Rattle.image_keep.specs.Kept.{Shared, Kept, shared, changed}
@@ -21,7 +14,7 @@ use Rattle.image_keep.specs.SharedTexts.{with_joined_text}
 use Rattle.sys_procs.specs.declared.procs.Procs.{Procs}
 use Rattle.sys_procs.specs.TextTable.{is_text_of, marks_of}
 use Rattle.sys_procs.specs.Texts as texts
-use Rattle.sys_procs.specs.World.{World, text_in, texts_in}
+use Rattle.sys_procs.specs.World.{text_in, texts_in}
 use Rattle.sys_procs.specs.Handed.{board}
 use Rattle.sys_procs.proofs.Retexted.{with_its_text}
 use Rattle.sys_procs.proofs.TextMarks.{marks_same}

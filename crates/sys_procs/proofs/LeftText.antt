@@ -1,5 +1,5 @@
 -- A process leaves its text: the texts that a call is handed then, the board, the marks, and what agrees.
-use Rattle.std.proofs.Common.{◌≡◌, ◌≢◌, ◌∙◌, ◌+◌, ◌-◌, ◌<◌, ◌≤◌, ◌==◌, ◌&&◌, ◌||◌, ℕ, zero, suc, cond, nat_le, not, bit_and, Bool, true, false, List, [], ◌∷◌, length, map, get_or, set, count_by, slice_index, Option, Some, None, IsSome, refl, sym, ap, subst, inl, inr, arith}
+use Rattle.std.proofs.Common.{◌≡◌, ◌≢◌, ◌∙◌, ◌-◌, ◌<◌, ◌≤◌, ◌==◌, ◌&&◌, ◌||◌, ℕ, zero, suc, cond, nat_le, not, bit_and, Bool, true, false, List, [], ◌∷◌, length, map, get_or, set, count_by, slice_index, Option, Some, None, IsSome, refl, sym, ap, subst, inl, inr, arith}
 use Rattle.std.specs.Option.{unwrap_or}
 use Rattle.std.proofs.lemmas.Bool.{cases_eq, cases_lt, eq-eqb, ne_eqb, eqb-true, eqb-false, leb-true, leb-false}
 use Rattle.std.proofs.lemmas.List.{get_or-set_same, get_or-set_other, get_or_past, length-set, length-map, map-set, set-get_or}
@@ -21,7 +21,6 @@ use Rattle.pick_rules.specs.Apply.{applied, change_row, in_table, leaves_core, p
 use Rattle.pick_rules.specs.Apply as board_of_log
 use Rattle.proc_tab.specs.declared.member.Member.{Member}
 use Rattle.proc_tab.specs.Processes.{member_at}
-use Rattle.text_tab.specs.declared.row.TextRow.{TextRow}
 use Rattle.text_tab.specs.declared.left.Left.{Left}
 use Rattle.text_tab.specs.declared.left.Left.TheVariants.{Used, Kept, Gone}
 use Rattle.text_tab.specs.Table.{left, remaining}
@@ -31,7 +30,7 @@ use Rattle.image_keep.specs.SharedTexts.{AreShared, is_loaded, left_core, with_r
 use Rattle.swap_sched.specs.Match.{text_place}
 use Rattle.swap_sched.proofs.Texts.{text_at_map, set_twice, one_fewer}
 use Rattle.sys_procs.specs.declared.procs.Procs.{Procs}
-use Rattle.sys_procs.specs.Process.{Process, process_by, process_in}
+use Rattle.sys_procs.specs.Process.{Process, process_in}
 use Rattle.sys_procs.specs.TextTable.{Text, no_text, is_text_of, marks_of}
 use Rattle.sys_procs.specs.TextTable as texts_of
 use Rattle.sys_procs.specs.Texts.{goes, without_text, leaves_text, xfree}
@@ -40,7 +39,7 @@ use Rattle.sys_procs.specs.World.{World, text_in, texts_in, processes_in, change
 use Rattle.sys_procs.specs.Comes.{logs, nothing}
 use Rattle.sys_procs.specs.Tests.{node_in}
 use Rattle.sys_procs.specs.Done.{HasLeft}
-use Rattle.sys_procs.specs.Agree.{Agrees, Agree}
+use Rattle.sys_procs.specs.Agree.{Agrees}
 use Rattle.sys_procs.specs.Handed.{IsAlive, board, handed, process_here}
 use Rattle.sys_procs.proofs.Alive.{IsHere, is_here}
 use Rattle.sys_procs.proofs.Slots.{one_changed}
@@ -221,7 +220,8 @@ pub record Shares (p : Procs) (s t : ℕ) : Type 0 where
   pub texts : AreShared p.images
   pub images : IsKept p.images
 
-pub shares : {p : Procs} {s t : ℕ} → IsAlive p s → text_of p.images s ≡ Some t → AreShared p.images → IsKept p.images → Shares p s t
+pub shares : {p : Procs} {s t : ℕ} → IsAlive p s → text_of p.images s ≡ Some t → AreShared p.images → IsKept p.images
+    → Shares p s t
 shares {p} {s} {t} alive text texts images = record { alive = alive; text = text; texts = texts; images = images }
 
 module _ {p : Procs} {s t : ℕ} (sticky : Bool) (h : Shares p s t) where

@@ -1,7 +1,7 @@
 -- A process without an image makes a text: the log, the texts that a call is handed then, and the marks.
-use Rattle.std.proofs.Common.{◌≡◌, ◌≢◌, ◌∙◌, ◌<◌, ◌+◌, ◌||◌, ◌==◌, ℕ, Bool, true, false, cond, List, [], ◌∷◌, length, map, get_or, set, Option, Some, None, IsSome, is_none, Result, Ok, Err, refl, sym, ap, subst, arith}
+use Rattle.std.proofs.Common.{◌≡◌, ◌≢◌, ◌∙◌, ◌<◌, ◌+◌, ◌||◌, ℕ, Bool, true, false, cond, List, [], ◌∷◌, length, map, get_or, set, Option, Some, None, is_none, Ok, Err, refl, sym, ap, subst, arith}
 use Rattle.std.specs.Option.{unwrap_or}
-use Rattle.std.specs.List.{position, position_from, list_any}
+use Rattle.std.specs.List.{position_from, list_any}
 use Rattle.std.proofs.lemmas.Bool.{false≢true, eq-eqb, ne_eqb}
 use Rattle.std.proofs.lemmas.List.{get_or-set_same, length-map, map-set}
 use Rattle.std.proofs.lemmas.List.Quantifiers.{position-Some}
@@ -24,7 +24,7 @@ use Rattle.image_keep.specs.declared.texts.TextRefusal.{TextRefusal}
 use Rattle.image_keep.specs.declared.texts.TextRefusal.TheVariants as refusal
 use Rattle.image_keep.specs.Kept.{Kept, Shared, shared, text_of, IsKept}
 use Rattle.image_keep.specs.Places.{swap_fit, blocks}
-use Rattle.image_keep.specs.SharedTexts.{zeros_text, with_new_text, is_of_inode, found_text, free_text, making, with_made_text, row_in}
+use Rattle.image_keep.specs.SharedTexts.{zeros_text, with_new_text, found_text, free_text, making, with_made_text, row_in}
 use Rattle.image_keep.proofs.TextSearch.{position_map}
 use Rattle.swap_sched.specs.Match.{text_place}
 use Rattle.sys_procs.specs.declared.procs.Procs.{Procs}
@@ -40,6 +40,7 @@ use Rattle.sys_procs.proofs.Dones.{left_logged}
 use Rattle.sys_procs.proofs.Tables.{logged_line}
 use Rattle.sys_procs.proofs.Places.{same_free, swap_bare}
 use Rattle.sys_procs.proofs.Retexted.{with_its_text, state, is_bare}
+use Rattle.sys_procs.proofs.TestsLemmas.{entry_is}
 use Rattle.sys_procs.proofs.TextMarks.{mark_at, marks_come}
 
 -- What a demand for a text leaves in the log, by the entry and by the blocks that are found.
@@ -102,14 +103,6 @@ refused_by b k s ino n w None fit r kind e full swap =
 refused_by b k s ino n w (Some j) None r kind e full swap =
     record { same = refl; log = refused_as b w panic.Swap kind (swap (let is : r ≡ refusal.NoSwap = cc e in is)) }
 refused_by b k s ino n w (Some j) (Some block) r kind e full swap = absurd (cc e)
-
--- the text of an inode is found in the same entry in a call's words
-of_inode : (ino : ℕ) (o : Option Shared) → is_text_of ino (text_in o) ≡ is_of_inode ino o
-of_inode ino None = refl
-of_inode ino (Some x) = refl
-
-pub entry_is : (k : Kept) (ino : ℕ) → entry_of (texts_in k) ino ≡ found_text k ino
-entry_is k ino = position_map text_in (is_of_inode ino) (is_text_of ino) (of_inode ino) k.texts
 
 -- an inode that no text is of has no mark
 none_before : {X : Type 0} (p : X → Bool) (a : ℕ) (xs : List X) → position_from p a xs ≡ None → list_any p xs ≡ false

@@ -61,10 +61,11 @@ moved_texts_board texts u (Swap a) (Core c) loaded =
     more_texts texts u c there.0 there.1 (let some = there.2 in ne_eqb there.0.row.loaded 0 (λ f. omega (arith, f, some)))
 moved_texts_board texts u (Swap a) (Swap b) loaded = sym (ap (map text_place) (same_texts texts u))
 
--- The counts when an image is made beside a text: it stands in core only where the text is there.
-pub entered_texts_board : (texts : List (Option Shared)) (u : ℕ) (x : Shared) (to : Place) → get_or texts u None ≡ Some x
-    → (is_core to ≡ true → 0 < x.row.loaded)
+-- The same when an image is made beside a text.
+pub entered_texts_board : (texts : List (Option Shared)) (u : ℕ) (to : Place)
+    → (is_core to ≡ true → is_text_loaded (get_or texts u None) ≡ true)
     → more_at to (map text_place texts) u ≡ map text_place (set texts u (kept.changed (moved_row None to) (get_or texts u None)))
-entered_texts_board texts u x (Core c) e new =
-    more_texts texts u c x e (let some = new refl in ne_eqb x.row.loaded 0 (λ f. omega (arith, f, some)))
-entered_texts_board texts u x (Swap b) e new = sym (ap (map text_place) (same_texts texts u))
+entered_texts_board texts u (Core c) loaded =
+    let there = has_loaded (get_or texts u None) (loaded refl) in
+    more_texts texts u c there.0 there.1 (let some = there.2 in ne_eqb there.0.row.loaded 0 (λ f. omega (arith, f, some)))
+entered_texts_board texts u (Swap b) loaded = sym (ap (map text_place) (same_texts texts u))

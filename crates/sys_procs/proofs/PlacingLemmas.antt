@@ -1,17 +1,15 @@
 -- A process without an image is given one, beside its text: where that stands, what the log says, and what agrees then.
-use Rattle.std.proofs.Common.{◌≡◌, ◌≢◌, ◌∙◌, ℕ, ◌+◌, ◌<◌, ◌≤◌, ◌||◌, ◌==◌, not, nat_lt, min, cond, Bool, true, false, List, [], ◌∷◌, length, map, get_or, set, Option, Some, None, Result, Ok, Err, refl, sym, ap, subst, inl, inr, arith}
+use Rattle.std.proofs.Common.{◌≡◌, ◌≢◌, ◌∙◌, ℕ, ◌+◌, ◌<◌, not, cond, Bool, true, false, List, [], ◌∷◌, length, map, get_or, set, Option, Some, None, Ok, Err, refl, sym, ap, subst, inl, inr, arith}
 use Rattle.std.specs.Option.{option_map, option_or, unwrap_or}
-use Rattle.std.proofs.Math.Nat.{min-le_right}
 use Rattle.std.proofs.Math.ListN.{get_or-map}
-use Rattle.std.proofs.lemmas.Bool.{cases_eq, ltb-false, false≢true, both_ways, eqb-false}
+use Rattle.std.proofs.lemmas.Bool.{cases_eq, eq-eqb, false≢true}
 use Rattle.std.proofs.lemmas.List.{get_or-set_same, get_or-set_other, length-set, map-set, set-get_or}
 use Rattle.v6_base.specs.Trace.{Taken, Took, Log}
 use Rattle.v6_base.specs.declared.entry.Place.{Place}
 use Rattle.v6_base.specs.declared.entry.Place.TheVariants.{Core, Swap}
 use Rattle.v6_base.specs.declared.entry.Entry.TheVariants as line
-use Rattle.v6_base.specs.declared.entry.PanicKind.{PanicKind}
 use Rattle.v6_base.specs.declared.entry.PanicKind.TheVariants as panic
-use Rattle.v6_base.specs.Image.{Image, nseg}
+use Rattle.v6_base.specs.Image.{Image}
 use Rattle.u_area.specs.declared.area.UArea.{UArea}
 use Rattle.fs_nodes.specs.FileSystem.{FileSystem}
 use Rattle.pick_rules.specs.declared.row.TableRow.{TableRow}
@@ -22,26 +20,24 @@ use Rattle.pick_rules.specs.Board as board_of_log
 use Rattle.pick_rules.specs.Apply.{applied, at_place, enters_core, in_table, change_row}
 use Rattle.pick_rules.specs.Effects.{image_at}
 use Rattle.pick_rules.specs.Effects as effects
-use Rattle.pick_rules.specs.Logged.{Logged, Stop, logged, log_one, nothing_logged, with_what_came}
+use Rattle.pick_rules.specs.Logged.{Logged, logged, log_one, nothing_logged, with_what_came}
 use Rattle.proc_tab.specs.declared.member.Member.{Member}
 use Rattle.proc_tab.specs.Processes.{member_at}
 use Rattle.image_keep.specs.Area.{made_area}
-use Rattle.image_keep.specs.Kept.{Nothing, Alive, Held, Keeping, Kept, Shared, keeping, shared, text_of, place_of, place_in, image_of, image_in, clicks_of, area_in, changed, IsKept}
+use Rattle.image_keep.specs.Kept.{Nothing, Alive, Held, Kept, Shared, keeping, shared, text_of, place_in, image_of, image_in, clicks_of, area_in, changed, IsKept}
 use Rattle.image_keep.specs.Moves.{moved_row, moved_texts, with_image_moved}
 use Rattle.image_keep.specs.Places.{is_text_loaded, may_load, core_fit, swap_fit, placed, blocks, made_image}
 use Rattle.swap_sched.specs.Match.{text_place}
-use Rattle.swap_sched.proofs.Boards.{untimed}
-use Rattle.seg_regs.specs.Sizes.{is_refused}
 use Rattle.sys_procs.specs.declared.procs.Procs.{Procs}
-use Rattle.sys_procs.specs.Process.{Process, no_process, process_by, process_in}
-use Rattle.sys_procs.specs.World.{World, Clock, text_in, texts_in, processes_in, change}
+use Rattle.sys_procs.specs.Process.{no_process, process_by, process_in}
+use Rattle.sys_procs.specs.World.{World, Clock, text_in, processes_in, change}
 use Rattle.sys_procs.specs.Seats.{placed_row, with_place}
-use Rattle.sys_procs.specs.Agree.{Agrees, Agree, Lives, kind_of_member, kind_of_stat, ended_by}
+use Rattle.sys_procs.specs.Agree.{Agrees, Agree, Lives, kind_of_member, kind_of_stat}
 use Rattle.sys_procs.specs.inside.Begun.{sized, takes_image}
 use Rattle.sys_procs.specs.Handed.{IsAlive, IsBare, board, came, handed, process_here}
 use Rattle.sys_procs.specs.Done.{HasEnded}
 use Rattle.sys_procs.proofs.Dones.{ended_logged}
-use Rattle.sys_procs.proofs.MovedTexts.{is_core, more_at, same_texts, entered_texts_board}
+use Rattle.sys_procs.proofs.MovedTexts.{more_at, same_texts, entered_texts_board}
 use Rattle.sys_procs.proofs.Places.{placed_bare}
 use Rattle.sys_procs.proofs.PlacingRows.{untimed_placed, place_text, clock_told, agree_told}
 use Rattle.sys_procs.proofs.Retexted.{there}
@@ -107,25 +103,12 @@ abbrev entered : Place → List (Option TextPlace) → Option ℕ → List (Opti
 entered place texts None = texts
 entered place texts (Some t) = more_at place texts t
 
-some_loaded : (n : ℕ) → not (n == 0) ≡ true → 0 < n
-some_loaded n e = by (n == 0) refl e
-  where
-    by : (b : Bool) → (n == 0) ≡ b → not b ≡ true → 0 < n
-    by true f g = absurd (both_ways false refl g)
-    by false f g = let other = eqb-false n 0 f in omega (arith, other)
-
 entered_is : (texts : List (Option Shared)) (o : Option ℕ) (place : Place)
     → ((c t : ℕ) → place ≡ Core c → o ≡ Some t → is_text_loaded (get_or texts t None) ≡ true)
     → entered place (map text_place texts) o ≡ map text_place (texts_moved texts o place)
 entered_is texts None place loaded = refl
-entered_is texts (Some t) (Swap block) loaded = sym (ap (map text_place) (same_texts texts t))
-entered_is texts (Some t) (Core c) loaded = by (get_or texts t None) refl (loaded c t refl refl)
-  where
-    by : (x : Option Shared) → get_or texts t None ≡ x → is_text_loaded x ≡ true
-        → more_at (Core c) (map text_place texts) t ≡ map text_place
-        (set texts t (changed (moved_row None (Core c)) (get_or texts t None)))
-    by None e f = absurd (false≢true f)
-    by (Some x) e f = entered_texts_board texts t x (Core c) e (λ is. some_loaded x.row.loaded f)
+entered_is texts (Some t) (Swap block) loaded = entered_texts_board texts t (Swap block) (λ e. absurd (false≢true e))
+entered_is texts (Some t) (Core c) loaded = entered_texts_board texts t (Core c) (λ e. loaded c t refl refl)
 
 board_by : (b : Board) (s n : ℕ) (place : Place) (o : Option ℕ) → (row_at b.table s).text ≡ o
     → at_place b s n place ≡ record b { table = with_place b.table s n place; texts = entered place b.texts o }
@@ -249,8 +232,7 @@ module _ (p : Procs) (s t d : ℕ) (bare : IsBare p s) (all : IsKept p.images) w
         same (Core c) e mine = absurd (
             let loaded : is_text_loaded (Some x) ≡ true = ap is_text_loaded (sym is)
             ∙ text_loaded p.images s (16 + d + 20) c k (fit ∙ ap (λ y. Some y) e) mine in
-            let some = some_loaded x.row.loaded loaded in
-            omega (arith, some, none))
+            false≢true (sym (ap not (eq-eqb x.row.loaded 0 none)) ∙ loaded))
         same (Swap block) e mine = same_texts p.images.texts k
 
         by : (o : Option ℕ) → text_of p.images s ≡ o → get_or (texts_moved p.images.texts o place) k None ≡ Some x
@@ -337,26 +319,3 @@ module _ (p : Procs) (s t d : ℕ) (bare : IsBare p s) (all : IsKept p.images) w
       below = bare.below;
       image = (held, image_now);
     }
-
--- No image is large.
-second : (a b : Bool) → (a || b) ≡ false → b ≡ false
-second false false e = refl
-second false true e = absurd (cc e)
-second true b e = absurd (cc e)
-
-pub few_clicks : (t d stack core : ℕ) → is_refused t d stack (min core 2048) ≡ false → t + d + stack + 16 ≤ 2048
-few_clicks t d stack core e =
-    let most : ℕ = min core 2048 in
-    let low : t + d + stack + 16 ≤ most =
-    ltb-false most (t + d + stack + 16)
-    (second (nat_lt 8 (nseg t + nseg d + nseg stack)) (nat_lt most (t + d + stack + 16)) e) in
-    omega (arith, low, min-le_right core 2048)
-
-neither : (a b : Bool) → (a || b) ≡ false → a ≡ false
-neither false b e = refl
-neither true b e = absurd (cc e)
-
-pub few_segments : (t d stack most : ℕ) → is_refused t d stack most ≡ false → nseg t + nseg d + nseg stack ≤ 8
-few_segments t d stack most e =
-    ltb-false 8 (nseg t + nseg d + nseg stack)
-    (neither (nat_lt 8 (nseg t + nseg d + nseg stack)) (nat_lt most (t + d + stack + 16)) e)

@@ -1,4 +1,4 @@
--- A slot's image is given back, and has a place again: what becomes of its row, and of the board.
+-- A slot's image is given back, and has a place again: what becomes of its row.
 use Rattle.std.proofs.Common.{◌≡◌, ◌∙◌, ℕ, ◌<◌, Bool, true, false, cond, List, length, set, Some, None, refl, sym, ap, arith}
 use Rattle.std.proofs.lemmas.List.{get_or-set_same, set-set}
 use Rattle.v6_base.specs.declared.entry.Place.{Place}
@@ -9,7 +9,7 @@ use Rattle.pick_rules.specs.declared.table.Table.{Table}
 use Rattle.pick_rules.specs.Table.{IsTable, row_at, with_row, empty_row, is_loaded}
 use Rattle.pick_rules.specs.Sleepers.{made_ready, runout_told}
 use Rattle.pick_rules.specs.Board.{Board}
-use Rattle.pick_rules.specs.Apply.{applied, in_table, change_row, at_place, without_place, leaves_core, enters_core}
+use Rattle.pick_rules.specs.Apply.{applied, in_table, change_row, without_place, leaves_core}
 use Rattle.pick_rules.proofs.Laws.{Stays, runout_stays}
 use Rattle.proc_tab.specs.declared.member.Member.{Member}
 use Rattle.proc_tab.specs.Processes.{Processes, member_at}
@@ -48,33 +48,6 @@ without b s none =
     let rest : Board → Board = λ left. in_table left (λ t. change_row t s (λ row. record row { place = None })) in
     ap (λ x. rest (cond (is_loaded b.table s) (leaves_core b x) b)) none ∙ ap rest (either (is_loaded b.table s) b)
 
-pub board_at : (b : Board) (s n : ℕ) (place : Place) → (row_at b.table s).text ≡ None
-    → at_place b s n place ≡ in_table b (λ t. with_place t s n place)
-board_at b s n (Core c) none = ap (λ x. in_table (enters_core b x) (λ t. change_row t s (placed_row n (Core c)))) none
-board_at b s n (Swap block) none = refl
-
-text_left : (t : Table) (s : ℕ) (f : TableRow → TableRow) → s < length t.rows → (f (row_at t s)).text ≡ None
-    → (row_at (change_row t s f) s).text ≡ None
-text_left t s f low none =
-    ap (λ (row : TableRow). row.text) (get_or-set_same t.rows s (f (row_at t s)) empty_row low) ∙ none
-
--- a row whose place has gone takes another
-over_bared : (n : ℕ) (place : Place) (row : TableRow) → placed_row n place (bared_row row) ≡ placed_row n place row
-over_bared n (Core c) row = refl
-over_bared n (Swap block) row = refl
-
-placed_after : (t : Table) (s n : ℕ) (place : Place) (f : TableRow → TableRow) → s < length t.rows
-    → placed_row n place (f (row_at t s)) ≡ placed_row n place (row_at t s)
-    → with_place (change_row t s f) s n place ≡ with_place t s n place
-placed_after t s n (Core c) f low same =
-    twice t s f (placed_row n (Core c)) low ∙ ap (λ (row : TableRow). with_row t s row) same
-placed_after t s n (Swap block) f low same =
-    ap runout_told (twice t s f (placed_row n (Swap block)) low ∙ ap (λ (row : TableRow). with_row t s row) same)
-
-pub placed_bare : (t : Table) (s n : ℕ) (place : Place) → s < length t.rows
-    → with_place (change_row t s bared_row) s n place ≡ with_place t s n place
-placed_bare t s n place low = placed_after t s n place bared_row low (over_bared n place (row_at t s))
-
 -- an image that doesn't grow stays where it is
 abbrev pub sized_row : ℕ → TableRow → TableRow
 sized_row n row = record row { size = n }
@@ -91,14 +64,7 @@ board_bared b s low none =
     ∙ ap (λ (t : Table). record b { table = t })
     (twice b.table s (λ row. record row { place = None }) (λ row. record row { size = 0 }) low)
 
-pub board_placed : (b : Board) (s n : ℕ) (place : Place) → s < length b.table.rows → (row_at b.table s).text ≡ None
-    → applied (in_table b (λ t. change_row t s bared_row)) (line.Image s n place)
-    ≡ in_table b (λ t. with_place t s n place)
-unfolding applied
-board_placed b s n place low none =
-    board_at (in_table b (λ t. change_row t s bared_row)) s n place (text_left b.table s bared_row low none)
-    ∙ ap (λ (t : Table). record b { table = t }) (placed_bare b.table s n place low)
-
+-- A row has a place again.
 pub untimed_placed : (t : Table) (s n : ℕ) (place : Place) → untimed (with_place t s n place) ≡ with_place (untimed t) s n place
 untimed_placed t s n (Core c) = refl
 untimed_placed t s n (Swap block) = untimed_runout (change_row t s (placed_row n (Swap block)))

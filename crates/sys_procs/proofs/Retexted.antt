@@ -1,21 +1,20 @@
 -- A process without an image has a text from now on, and the texts are others: what it is then, and what agrees.
-use Rattle.std.proofs.Common.{◌≡◌, ◌≢◌, ◌∙◌, ℕ, ◌<◌, List, length, map, get_or, set, Option, Some, None, refl, sym, ap, subst, inl, inr, arith}
+use Rattle.std.proofs.Common.{◌≡◌, ◌≢◌, ◌∙◌, ℕ, ◌<◌, List, length, map, set, Option, Some, None, refl, sym, ap, subst, inl, inr, arith}
 use Rattle.std.specs.Option.{unwrap_or}
 use Rattle.std.proofs.lemmas.Bool.{cases_eq}
 use Rattle.std.proofs.lemmas.List.{get_or-set_same, get_or-set_other, length-set}
 use Rattle.fs_nodes.specs.FileSystem.{FileSystem}
 use Rattle.pick_rules.specs.declared.row.TableRow.{TableRow}
-use Rattle.pick_rules.specs.declared.table.Table.{Table}
 use Rattle.pick_rules.specs.Table.{row_at, empty_row}
 use Rattle.pick_rules.specs.Apply.{change_row}
 use Rattle.proc_tab.specs.declared.member.Member.{Member}
 use Rattle.proc_tab.specs.Processes.{member_at}
 use Rattle.image_keep.specs.Kept.{Nothing, Shared, Kept, keeping, text_of}
 use Rattle.sys_procs.specs.declared.procs.Procs.{Procs}
-use Rattle.sys_procs.specs.Process.{Process, no_process, process_by, process_in}
+use Rattle.sys_procs.specs.Process.{Process, no_process, process_in}
 use Rattle.sys_procs.specs.World.{text_in, processes_in}
 use Rattle.sys_procs.specs.Texts.{with_entry}
-use Rattle.sys_procs.specs.Agree.{Agrees, AgreesBare, Free, Lives, kind_of_member, kind_of_stat}
+use Rattle.sys_procs.specs.Agree.{Agrees, Lives, kind_of_member, kind_of_stat}
 use Rattle.sys_procs.specs.Handed.{IsBare, handed, process_here}
 use Rattle.sys_procs.proofs.Slots.{one_changed, own_is}
 

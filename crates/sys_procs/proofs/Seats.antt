@@ -23,29 +23,14 @@ use Rattle.swap_sched.specs.Match.{text_place}
 use Rattle.swap_sched.proofs.Boards.{untimed, untimed_runout}
 use Rattle.sys_procs.proofs.Agreement.{agree_with}
 use Rattle.sys_procs.proofs.Alive.{is_here}
-use Rattle.sys_procs.proofs.PlacingRows.{bared_row, sized_row, board_placed, clock_told, agree_told, row_low, image_now}
+use Rattle.sys_procs.proofs.PlacingRows.{sized_row, untimed_placed, place_text, clock_told, agree_told, row_low, image_now}
 use Rattle.sys_procs.proofs.GrownTexts.{grown_table, grown_core}
 
 -- Of the table.
 pub clock_placed : (t : Table) (s n : ℕ) (place : Place) → clock_of (with_place t s n place) ≡ clock_of t
 clock_placed t s n place = clock_told t s (placed_row n place (row_at t s)) place
 
-untimed_placed : (t : Table) (s n : ℕ) (place : Place) → untimed (with_place t s n place) ≡ with_place (untimed t) s n place
-untimed_placed t s n (Core c) = refl
-untimed_placed t s n (Swap block) = untimed_runout (change_row t s (placed_row n (Swap block)))
-
-place_text : (n : ℕ) (place : Place) (row : TableRow) → (placed_row n place row).text ≡ row.text
-place_text n (Core c) row = refl
-place_text n (Swap block) row = refl
-
--- A process has this image, and its row the size and the place: a new one, or the one that it had.
-abbrev pub put_at : Procs → ℕ → ℕ → Held → Procs
-put_at p s n held = record p {
-  table = with_place p.table s n held.place;
-  images = with_keeping p.images s (Alive held);
-}
-
--- the same with other counts of the texts
+-- A process has this image, and its row the size and the place: a new one, or the one that it had; and the texts these counts.
 abbrev pub grown_at : Procs → ℕ → ℕ → Held → List (Option Shared) → Procs
 grown_at p s n held texts = record p {
   table = with_place p.table s n held.place;
@@ -59,15 +44,6 @@ kept_at p s n held texts = record p {
 }
 
 -- Of the board.
-board_put : (p : Procs) (s n : ℕ) (held : Held)
-    → in_table (board p) (λ t. with_place t s n held.place) ≡ board (put_at p s n held)
-board_put p s n held =
-    ap (λ (t : Table). record (board p) { table = t }) (sym (untimed_placed p.table s n held.place))
-
-pub board_at_place : (p : Procs) (s n : ℕ) (held : Held) → s < length p.table.rows → (row_at p.table s).text ≡ None
-    → applied (in_table (board p) (λ t. change_row t s bared_row)) (line.Image s n held.place) ≡ board (put_at p s n held)
-board_at_place p s n held low none = board_placed (board p) s n held.place low none ∙ board_put p s n held
-
 pub board_at_size : (p : Procs) (s n : ℕ) (held : Held) (texts : List (Option Shared)) → s < length p.table.rows
     → (applied (board p) (line.Size s n held.place)).texts ≡ map text_place texts
     → applied (board p) (line.Size s n held.place) ≡ board (grown_at p s n held texts)

@@ -288,7 +288,13 @@ fn begin_program<T: Trace>(
     ensures blocks { SameRest tree.old.nodes.blocks tree.new.nodes.blocks }
 {
     let new = take_text(p, tree, s, program, trace)?;
-    place_image(p, s, program.text_clicks, data_clicks(&program.plan), trace)?;
+    place_image(
+        p,
+        s,
+        program.text_clicks,
+        data_clicks(&program.plan),
+        trace,
+    )?;
     fill_text(p, tree, s, new, program);
     fill_image(p, tree, s, program);
     begin(p, s, row, u);

@@ -123,7 +123,8 @@ pub(crate) fn place_image<T: Trace>(
     requires sizes { is_refused t d 20 (most_clicks p.old.images) ≡ false }
     ensures does { (fs : FileSystem) → HasEnded p.old p.new fs result (T.taken trace.old) (T.taken trace.new)
         (takes_image (handed p.old fs) s t d) }
-    ensures image { IfOk result (λ placed. image_of p.new.images s ≡ made_image (text_bytes p.old.images (text_of p.old.images s)) d 20) }
+    ensures image { IfOk result (λ placed. image_of p.new.images s
+        ≡ made_image (text_bytes p.old.images (text_of p.old.images s)) d 20) }
     ensures text { text_of p.new.images s ≡ text_of p.old.images s }
     ensures stays { (t : ℕ) (x : Shared) → shared p.old.images t ≡ Some x → x.row.loaded ≡ 0 → shared p.new.images t ≡ Some x }
     ensures time { p.new.table.now ≡ p.old.table.now }

@@ -64,7 +64,8 @@ fn leave_entry<T: Trace>(p: &mut Procs, tree: &mut Tree, s: Slot, t: TextId, tra
     requires alive { IsAlive p.old s }
     requires text { text_of p.old.images s ≡ Some t }
     requires marks { IsMarked p.old tree.old.marks }
-    requires referred { (ino : ℕ) → count_by (is_text_of ino) (texts_in p.old.images) ≤ slice_index tree.old.nodes.references ino }
+    requires referred { (ino : ℕ) → count_by (is_text_of ino) (texts_in p.old.images)
+        ≤ slice_index tree.old.nodes.references ino }
     ensures left { HasLeft p.old p.new tree.new.nodes (T.taken trace.old) (T.taken trace.new)
         (xfree (handed p.old tree.old.nodes) s (Some t) nothing) }
     ensures frame { T.leads_to trace.old trace.new }
@@ -93,7 +94,8 @@ fn leave_entry<T: Trace>(p: &mut Procs, tree: &mut Tree, s: Slot, t: TextId, tra
 pub(crate) fn leave_text<T: Trace>(p: &mut Procs, tree: &mut Tree, s: Slot, trace: &mut T)
     requires alive { IsAlive p.old s }
     requires marks { IsMarked p.old tree.old.marks }
-    requires referred { (ino : ℕ) → count_by (is_text_of ino) (texts_in p.old.images) ≤ slice_index tree.old.nodes.references ino }
+    requires referred { (ino : ℕ) → count_by (is_text_of ino) (texts_in p.old.images)
+        ≤ slice_index tree.old.nodes.references ino }
     ensures left { HasLeft p.old p.new tree.new.nodes (T.taken trace.old) (T.taken trace.new)
         (leaves (handed p.old tree.old.nodes) s) }
     ensures frame { T.leads_to trace.old trace.new }
@@ -165,7 +167,8 @@ fn make_text<T: Trace>(
     ensures made { IfOk result (λ t. ((came p.old
         (xalloc_by (handed p.old tree.old.nodes) s ino clicks None (λ placed is_new. nothing placed))).stop ≡ None)
         × (t ≡ free_entry (texts_in p.old.images)) × (text_of p.new.images s ≡ Some t)) }
-    ensures out { IfOk result (λ t. (x : Shared) × (shared p.new.images t ≡ Some x) × (x.row.loaded ≡ 0) × (x.row.clicks ≡ clicks)) }
+    ensures out { IfOk result (λ t. (x : Shared) × (shared p.new.images t ≡ Some x) × (x.row.loaded ≡ 0)
+        × (x.row.clicks ≡ clicks)) }
     ensures frame { T.leads_to trace.old trace.new }
     ensures bare { IsBare p.new s }
     ensures marks { IsMarked p.new tree.new.marks }

@@ -12,7 +12,7 @@ use Rattle.image_keep.specs.Moves.{with_image_moved}
 use Rattle.sys_procs.specs.declared.procs.Procs.{Procs}
 use Rattle.sys_procs.specs.Handed.{IsAlive, board, handed, process_here}
 use Rattle.sys_procs.proofs.Alive.{area_here}
-use Rattle.sys_procs.proofs.PlacingLemmas.{few_segments}
+use Rattle.sys_procs.proofs.LoadData.{few_segments}
 use Rattle.sys_procs.proofs.Dones.{ended_logged}
 use Rattle.sys_procs.proofs.GrownTexts.{slot_moved}
 use Rattle.sys_procs.proofs.GrowLemmas.{grown, resized, log_stopped, log_sized, grown_alive, grown_state}

@@ -1,8 +1,5 @@
 use Rattle.std.proofs.Common.{◌≡◌, ◌∙◌, sym, ap, subst}
-use Rattle.fs_nodes.specs.FileSystem.{FileSystem}
 use Rattle.sys_procs.specs.declared.procs.Procs.{Procs}
-use Rattle.sys_procs.specs.ExecFile.{bared}
-use Rattle.sys_procs.specs.World.{change}
 use Rattle.sys_procs.specs.Handed.{IsBare, board, handed}
 use Rattle.sys_procs.proofs.PlacingRows.{row_low, text_row, board_bared}
 use Rattle.sys_procs.proofs.Bare.{now, state_bare, is_bare}

@@ -1,4 +1,4 @@
-use Rattle.std.proofs.Common.{◌≡◌, ◌∙◌, ◌+◌, Some, None, MatchResult, sym, subst}
+use Rattle.std.proofs.Common.{◌≡◌, ◌∙◌, ◌+◌, Some, None, MatchResult, subst}
 use Rattle.image_keep.specs.Area.{made_area}
 use Rattle.image_keep.specs.Kept.{text_bytes}
 use Rattle.image_keep.specs.Moves.{with_image_moved}

@@ -1,6 +1,5 @@
-use Rattle.std.proofs.Common.{◌≡◌, ◌∙◌, ◌<◌, ℕ, Bool, true, false, slice_index, inl, inr, refl, sym, ap, subst, arith}
-use Rattle.text_tab.specs.declared.left.Left.{Left}
-use Rattle.text_tab.specs.declared.left.Left.TheVariants.{Used, Kept, Gone}
+use Rattle.std.proofs.Common.{◌≡◌, ◌∙◌, ◌<◌, true, false, slice_index, inl, inr, sym, ap, subst}
+use Rattle.text_tab.specs.declared.left.Left.TheVariants.{Gone}
 use Rattle.fs_laws.proofs.RestLemmas.{rest_stays}
 use Rattle.image_keep.specs.Kept.{text_of}
 use Rattle.image_keep.specs.SharedTexts.{row_of_text}

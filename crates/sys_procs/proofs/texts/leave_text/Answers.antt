@@ -1,4 +1,4 @@
-use Rattle.std.proofs.Common.{◌≡◌, ◌∙◌, ℕ, Option, Some, None, refl, sym, ap, subst}
+use Rattle.std.proofs.Common.{◌≡◌, ◌∙◌, ℕ, refl, sym, ap, subst}
 use Rattle.v6_base.proofs.Took.{took_none}
 use Rattle.pick_rules.specs.Table.{row_at}
 use Rattle.sys_procs.specs.declared.procs.Procs.{Procs}

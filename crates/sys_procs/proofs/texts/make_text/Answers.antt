@@ -1,4 +1,4 @@
-use Rattle.std.proofs.Common.{◌≡◌, ◌∙◌, ◌<◌, ℕ, Ok, Err, sym, ap, subst, Some, IsSome, refl, arith}
+use Rattle.std.proofs.Common.{◌≡◌, ◌∙◌, sym, ap, subst, Some, IsSome, refl, arith}
 use Rattle.image_keep.specs.Kept.{Kept, IsKept, shared, text_of}
 use Rattle.image_keep.specs.SharedTexts.{zeros_text, free_text}
 use Rattle.image_keep.specs.Places.{swap_fit, blocks}

@@ -1,4 +1,4 @@
-use Rattle.std.proofs.Common.{◌≡◌, ◌≢◌, ◌∙◌, ℕ, Option, Some, None, Ok, Err, refl, sym, ap}
+use Rattle.std.proofs.Common.{◌≡◌, ◌≢◌, ◌∙◌, ℕ, Option, Some, None, Err, refl, sym, ap}
 use Rattle.std.proofs.lemmas.Result.{err_from_is_err_and}
 use Rattle.v6_base.proofs.Took.{took_none}
 use Rattle.fs_nodes.specs.FileSystem.{FileSystem}
@@ -9,7 +9,8 @@ use Rattle.image_keep.specs.SharedTexts.{found_text}
 use Rattle.sys_procs.specs.World.{World, texts_in}
 use Rattle.sys_procs.specs.Handed.{came, handed}
 use Rattle.sys_procs.specs.inside.Begun.{new_if, new_entry, takes, taken_by}
-use Rattle.sys_procs.proofs.MadeText.{entry_is, takes_none, takes_as, new_as, takes_by, answer_as, same_panic, left_as, shares_on}
+use Rattle.sys_procs.proofs.TestsLemmas.{entry_is}
+use Rattle.sys_procs.proofs.MadeText.{takes_none, takes_as, new_as, takes_by, answer_as, same_panic, left_as, shares_on}
 use Rattle.sys_procs.proofs.texts.take_text.Goals as goal
 
 pub returns-then-program-eq0-clause-left : goal.returns-then-program-eq0-clause-left
