@@ -39,7 +39,8 @@ pub done_logged : {old new : Procs} {fs : FileSystem} {result : Result Answer Pa
 done_logged {old} {new} {fs} {result} {start} {end} {c} {l} log answer state shown items =
     done_left (answer ∙ sym (ap (λ (x : Logged World). answered x.stop c.answer) log)) (left_logged log state shown items)
 
-pub ended_logged : {old new : Procs} {fs : FileSystem} {result : Result (Unit {0}) PanicKind} {start end : Taken} {c : Comes} {l : Logged World}
+pub ended_logged : {old new : Procs} {fs : FileSystem} {result : Result
+    (Unit {0}) PanicKind} {start end : Taken} {c : Comes} {l : Logged World}
     → came old c ≡ l → result ≡ ended_by l.stop → handed new fs ≡ left_by l.stop c.state → board new ≡ l.board
     → Took start l.items end → HasEnded old new fs result start end c
 ended_logged {old} {new} {fs} {result} {start} {end} {c} {l} log answer state shown items = record {
@@ -53,13 +54,15 @@ pub done_as : {old new : Procs} {fs : FileSystem} {result : Result Answer PanicK
 done_as {old} {new} {fs} {result} {start} {end} is done =
     let P : Comes → Type 0 = λ x. HasDone old new fs result start end x in subst P is done
 
-pub ended_as : {old new : Procs} {fs : FileSystem} {result : Result (Unit {0}) PanicKind} {start end : Taken} {c row : Comes} → c ≡ row
+pub ended_as : {old new : Procs} {fs : FileSystem} {result : Result (Unit {0}) PanicKind} {start end : Taken} {c row : Comes}
+    → c ≡ row
     → HasEnded old new fs result start end c → HasEnded old new fs result start end row
 ended_as {old} {new} {fs} {result} {start} {end} is ended =
     let P : Comes → Type 0 = λ x. HasEnded old new fs result start end x in subst P is ended
 
 -- a call that shows nothing
-pub done_none : {old new : Procs} {fs : FileSystem} {result : Result Answer PanicKind} {t : Taken} {c : Comes} (w : World) (a : Answer)
+pub done_none : {old new : Procs} {fs : FileSystem} {result : Result Answer PanicKind} {t : Taken} {c : Comes} (w : World)
+    (a : Answer)
     → comes w a ≡ c → result ≡ Ok a → handed new fs ≡ w → board new ≡ board old → HasDone old new fs result t t c
 done_none {old} {new} {fs} {result} {t} {c} w a is answer state same =
     done_as is (record { answer = answer; state = state; shown = same; items = took_none t })
@@ -69,7 +72,8 @@ pub not_stopped : (o : Option (Stop World)) (u : Unit {0}) → ended_by o ≡ Ok
 not_stopped None u e = refl
 not_stopped (Some stop) u e = absurd (cc e)
 
-pub stopped : (o : Option (Stop World)) (kind : PanicKind) (answer : Answer) → ended_by o ≡ Err kind → answered o answer ≡ Err kind
+pub stopped : (o : Option (Stop World)) (kind : PanicKind) (answer : Answer) → ended_by o ≡ Err kind
+    → answered o answer ≡ Err kind
 stopped None kind answer e = absurd (cc e)
 stopped (Some stop) kind answer e = let same : stop.why ≡ kind = cc e in ap (λ k. Err k) same
 
@@ -78,10 +82,12 @@ grown_stopped None kind grows e = absurd (cc e)
 grown_stopped (Some stop) kind grows e = let same : stop.why ≡ kind = cc e in ap (λ k. Err k) same
 
 -- a call that answers as this end does
-pub done_on : {old new : Procs} {fs : FileSystem} {r : Result (Unit {0}) PanicKind} {result : Result Answer PanicKind} {start end : Taken} {c : Comes}
+pub done_on : {old new : Procs} {fs : FileSystem} {r : Result
+    (Unit {0}) PanicKind} {result : Result Answer PanicKind} {start end : Taken} {c : Comes}
     (u : Unit {0}) → r ≡ Ok u → result ≡ Ok c.answer → HasEnded old new fs r start end c → HasDone old new fs result start end c
 done_on {old} {new} {fs} {r} {result} {start} {end} {c} u ok answer ended =
-    done_left (answer ∙ sym (ap (λ (o : Option (Stop World)). answered o c.answer) (not_stopped (came old c).stop u (sym ended.answer ∙ ok)))) ended.left
+    done_left (answer ∙ sym (ap (λ (o : Option (Stop World)). answered o c.answer)
+    (not_stopped (came old c).stop u (sym ended.answer ∙ ok)))) ended.left
 
 pub done_stopped : {old new : Procs} {fs : FileSystem} {r : Result (Unit {0}) PanicKind} {start end : Taken} {c : Comes}
     (kind : PanicKind) → r ≡ Err kind → HasEnded old new fs r start end c → HasDone old new fs (Err kind) start end c
@@ -102,16 +108,19 @@ answer_stays p fs s rule u alive is stays =
 
 -- The growth of a stack.
 module _ {old new : Procs} {fs : FileSystem} (w : World) (s : ℕ) where
-  pub grown_on : {r : Result (Unit {0}) PanicKind} {start end : Taken} {c : Comes} {row : Option Comes} (u : Unit {0}) → r ≡ Ok u → Some c ≡ row
+  pub grown_on : {r : Result (Unit {0}) PanicKind} {start end : Taken} {c : Comes} {row : Option Comes} (u : Unit {0})
+      → r ≡ Ok u → Some c ≡ row
       → HasEnded old new fs r start end c → HasGrown old new fs w s (Ok true) start end row
   grown_on {r} {start} {end} {c} {row} u ok is ended =
       let P : Option Comes → Type 0 = λ x. HasGrown old new fs w s (Ok true) start end x in
       subst P is (record {
-        answer = sym (ap (λ (o : Option (Stop World)). grown_by o true) (not_stopped (came old c).stop u (sym ended.answer ∙ ok)));
+        answer = sym (ap (λ (o : Option (Stop World)). grown_by o true)
+            (not_stopped (came old c).stop u (sym ended.answer ∙ ok)));
         left = ended.left;
       })
 
-  pub grown_no_further : {r : Result (Unit {0}) PanicKind} {start end : Taken} {c : Comes} {row : Option Comes} (kind : PanicKind) → r ≡ Err kind
+  pub grown_no_further : {r : Result (Unit {0}) PanicKind} {start end : Taken} {c : Comes} {row : Option Comes}
+      (kind : PanicKind) → r ≡ Err kind
       → Some c ≡ row → HasEnded old new fs r start end c → HasGrown old new fs w s (Err kind) start end row
   grown_no_further {r} {start} {end} {c} {row} kind err is ended =
       let P : Option Comes → Type 0 = λ x. HasGrown old new fs w s (Err kind) start end x in

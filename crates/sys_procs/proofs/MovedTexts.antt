@@ -46,11 +46,13 @@ pub moved_texts_board : (texts : List (Option Shared)) (u : ℕ) (from to : Plac
 moved_texts_board texts u (Core f) (Core c) loaded =
     let there = has_loaded (get_or texts u None) (loaded refl) in
     let x : Shared = there.0 in
-    let now : TextPlace = record { clicks = x.row.clicks; users = x.row.users; loaded = x.row.loaded; click = x.row.at; block = x.row.block } in
+    let now : TextPlace =
+    record { clicks = x.row.clicks; users = x.row.users; loaded = x.row.loaded; click = x.row.at; block = x.row.block } in
     let at : get_or (map text_place texts) u None ≡ Some now = text_at_map texts u ∙ ap text_place there.1 in
     let some = there.2 in
     let back : x.row.loaded - 1 + 1 ≡ x.row.loaded = omega (arith, some) in
-    ap (λ (o : Option TextPlace). set (set (map text_place texts) u (changed o one_fewer)) u (changed (get_or (set (map text_place texts) u (changed o one_fewer)) u None) one_more)) at
+    ap (λ (o : Option TextPlace). set (set (map text_place texts) u (changed o one_fewer)) u
+    (changed (get_or (set (map text_place texts) u (changed o one_fewer)) u None) one_more)) at
     ∙ set_twice (map text_place texts) u (one_fewer now) now one_more at
     ∙ ap (λ n. set (map text_place texts) u (Some (record now { loaded = n }))) back
     ∙ ap (set (map text_place texts) u) (sym at) ∙ set-get_or (map text_place texts) u None

@@ -121,5 +121,7 @@ module _ (p : Procs) (s : ℕ) (alive : IsAlive p s) where
     processes_seated m is =
         let k : Kept = with_keeping p.images s (Alive held) in
         one_changed p.rows.slots p.rows.slots p.images k s (Some (process_by m (Alive held) (text_of p.images s))) alive.below
-        (ap (λ x. process_in (member_at p.rows.slots s) x (text_of p.images s)) image_now ∙ ap (λ o. process_in o (Alive held) (text_of p.images s)) is)
-        (λ r below other. ap (λ x. process_in (member_at p.rows.slots r) x (text_of p.images r)) (keeping_other p.images s r (Alive held) other))
+        (ap (λ x. process_in (member_at p.rows.slots s) x (text_of p.images s)) image_now
+        ∙ ap (λ o. process_in o (Alive held) (text_of p.images s)) is)
+        (λ r below other. ap (λ x. process_in (member_at p.rows.slots r) x (text_of p.images r))
+        (keeping_other p.images s r (Alive held) other))
