@@ -91,7 +91,8 @@ loaded_by t s from above at =
 texts_out : (b : Board) (s : ℕ) (here : Bool) → is_loaded b.table s ≡ here
     → (without_place b s).texts ≡ fewer_of here b.texts (row_at b.table s).text
 texts_out b s here e =
-    ap (λ x. (in_table (cond x (leaves_core b (row_at b.table s).text) b) (λ t. change_row t s (λ row. record row { place = None }))).texts) e
+    ap (λ x. (in_table (cond x (leaves_core b (row_at b.table s).text) b)
+    (λ t. change_row t s (λ row. record row { place = None }))).texts) e
     ∙ by here (row_at b.table s).text
   where
     by : (here : Bool) (o : Option ℕ)
@@ -110,7 +111,8 @@ texts_at b s n (Swap block) = by (row_at b.table s).text
     by (Some u) = refl
 texts_at b s n (Core click) = by (row_at b.table s).text
   where
-    by : (o : Option ℕ) → (in_table (change_text b o one_more) (λ t. change_row t s (λ row. record row { size = n; place = Some (Core click) }))).texts
+    by : (o : Option ℕ)
+        → (in_table (change_text b o one_more) (λ t. change_row t s (λ row. record row { size = n; place = Some (Core click) }))).texts
         ≡ more_of (Core click) b.texts o
     by None = refl
     by (Some u) = refl
@@ -118,7 +120,8 @@ texts_at b s n (Core click) = by (row_at b.table s).text
 text_out : (b : Board) (s : ℕ) → s < length b.table.rows → (row_at (without_place b s).table s).text ≡ (row_at b.table s).text
 text_out b s low =
     ap (λ (t : Table). (row_at t s).text) (bare_table b s)
-    ∙ ap (λ (row : TableRow). row.text) (get_or-set_same b.table.rows s (record (row_at b.table s) { place = None }) empty_row low)
+    ∙ ap (λ (row : TableRow). row.text)
+    (get_or-set_same b.table.rows s (record (row_at b.table s) { place = None }) empty_row low)
 
 -- the parts of a board on which an image has grown to a place
 pub grown_table : (b : Board) (s n : ℕ) (to : Place) → s < length b.table.rows
