@@ -18,11 +18,12 @@ use Rattle.image_keep.specs.SharedTexts.{filled, retexted, with_text}
 use Rattle.image_keep.specs.Counts.{is_text}
 use Rattle.sys_procs.specs.declared.procs.Procs.{Procs}
 use Rattle.sys_procs.specs.Process.{process_in}
-use Rattle.sys_procs.specs.TextTable.{Text, no_text}
+use Rattle.sys_procs.specs.TextTable.{Text, no_text, is_text_of, marks_of}
 use Rattle.sys_procs.specs.TextTable as table
 use Rattle.sys_procs.specs.World.{processes_in, text_in, texts_in}
 use Rattle.sys_procs.specs.Agree.{Agrees}
 use Rattle.sys_procs.specs.Handed.{IsAlive}
+use Rattle.sys_procs.proofs.TextMarks.{marks_same}
 
 -- what a slot keeps has another text
 process_with : (m : Option Member) (x : Keeping) (bytes : List ℕ) (user : Option ℕ) → process_in m (with_text bytes x) user ≡ process_in m x user
@@ -114,6 +115,18 @@ module _ (p : Procs) (l : Kept) (t : ℕ) (bytes : List ℕ) (x : Shared) (there
       ∙ (map-set text_in k.texts t (filled 0 bytes (shared k t))
       ∙ ap (λ o. set (texts_in k) t o)
       (ap (λ o. text_in (filled 0 bytes o)) there ∙ filled_by (table.text_of (texts_in k) t) text_there))
+
+  same_marks : (ino : ℕ) (o : Option Text) (y : Text) → o ≡ Some y → is_text_of ino (Some (record (unwrap_or o no_text) { bytes = patched 0 bytes (unwrap_or o no_text).bytes }))
+      ≡ is_text_of ino o
+  same_marks ino None y e = absurd (cc e)
+  same_marks ino (Some z) y e = refl
+
+  pub marks_filled : marks_of (texts_in l) ≡ marks_of (texts_in k)
+  marks_filled =
+      ap (λ ts. marks_of ts) texts_filled
+      ∙ marks_same (texts_in k) t (Some (record (table.text_of (texts_in k) t) { bytes = patched 0 bytes (table.text_of (texts_in k) t).bytes }))
+      (λ ino. same_marks ino (get_or (texts_in k) t None) (record { ino = x.row.ino; bytes = x.bytes; users = x.row.users })
+      (get_or-map text_in k.texts t None ∙ ap text_in there))
 
   pub places_filled : map text_place l.texts ≡ map text_place k.texts
   places_filled =

@@ -1,5 +1,5 @@
 -- What a read leaves of a file: its owner and its group, and whether it sets them.
-use Rattle.std.proofs.Common.{◌≡◌, ◌∙◌, ◌+◌, ◌/◌, ◌==◌, ◌&&◌, ℕ, Bool, true, false, not, cond, if◌then◌else◌, List, [], ◌∷◌, length, min, get_or, get_or-set_same, bit_and, bit_or, slice_range, Option, Some, None, IsSome, refl, sym, ap, inl, inr, arith}
+use Rattle.std.proofs.Common.{◌≡◌, ◌∙◌, ◌+◌, ◌/◌, ◌==◌, ◌&&◌, ℕ, Bool, true, false, not, cond, if◌then◌else◌, List, [], ◌∷◌, length, min, get_or, get_or-set_same, bit_and, bit_or, slice_range, Option, Some, None, IsSome, replicate, refl, sym, ap, subst, inl, inr, arith}
 use Rattle.std.specs.Prelude.{◌-◌, ◌<◌, ◌≤◌}
 use Rattle.std.specs.Option.{unwrap_or}
 use Rattle.std.proofs.lemmas.Bool.{cases_lt}
@@ -14,7 +14,11 @@ use Rattle.fs_codec.specs.declared.modes.TheConstants.{ISUID, ISGID, ILARG}
 use Rattle.fs_laws.specs.Numbers.{with_node}
 use Rattle.fs_laws.specs.Touch.{Touching, gained, take_names, touching}
 use Rattle.fs_laws.specs.Pieces.{Moving, going_on, stopped, reading, read_file, pieces, beginning}
-use Rattle.sys_procs.specs.Tests.{no_node, node_in}
+use Rattle.fs_nodes.specs.Copy.{put_kernel}
+use Rattle.sys_procs.specs.declared.program.Program.{Program}
+use Rattle.sys_procs.specs.World.{World}
+use Rattle.sys_procs.specs.Tests.{no_node, node_in, node_at}
+use Rattle.sys_procs.specs.ExecFile.{text_read, text_room, reads_text}
 
 pub record SameOwner (old new : Node) : Type 0 where
   pub uid : new.uid ≡ old.uid
@@ -54,13 +58,17 @@ gained_same node Dbl = record { uid = refl; gid = refl; sets_uid = refl; sets_gi
 
 take_same : (base : Node) (names : List BlockName) (node : Node) (room : ℕ) → SameOwner base node → SameOwner base (take_names names node room).node
 take_same base [] node room h = h
-take_same base (name ∷ names) node room h = by (holds node name) (room == 0)
+take_same base (name ∷ names) node room h =
+    by (holds node name) (room == 0) (take_same base names node room h)
+    (take_same base names (gained node name) (room - 1) (then_same base node (gained node name) h (gained_same node name)))
   where
-    by : (held full : Bool) → SameOwner base (if held then take_names names node room else
+    by : (held full : Bool) → SameOwner base (take_names names node room).node
+        → SameOwner base (take_names names (gained node name) (room - 1)).node
+        → SameOwner base (if held then take_names names node room else
         (if full then record { node = node; room = room; is_done = false } else take_names names (gained node name) (room - 1))).node
-    by true full = take_same base names node room h
-    by false true = h
-    by false false = take_same base names (gained node name) (room - 1) (then_same base node (gained node name) h (gained_same node name))
+    by true full one two = one
+    by false true one two = h
+    by false false one two = two
 
 module _ {Memory : Type 0} (put : Memory → ℕ → List ℕ → Option Memory) (base : Node) where
   going_same : (o : Option Memory) (next : Memory → Moving Memory) (end : Moving Memory) → SameOwner base end.node
@@ -112,3 +120,12 @@ pub node_put : (store : Store) (i : ℕ) (node : Node) (room : ℕ) → IsSome (
     → node_in (with_node store i node room) i ≡ node
 node_put store i node room is =
     ap (λ o. unwrap_or o no_node) (get_or-set_same store.nodes i (Some node) None (some_low store.nodes i is))
+
+-- The text of a program is read from its file.
+pub text_owner : (w : World) (s : ℕ) (program : Program) (b : Bool) → IsSome (node_numbered w.inodes.store program.ino)
+    → SameOwner (node_at w program.ino) (node_at (reads_text b w s program) program.ino)
+text_owner w s program false there = same_owner (node_at w program.ino)
+text_owner w s program true there =
+    let m : Moving (List ℕ) = text_read w program in
+    subst (λ (node : Node). SameOwner (node_at w program.ino) node) (sym (node_put w.inodes.store program.ino m.node m.room there))
+    (read_same put_kernel (node_at w program.ino) w.inodes.store.room (replicate (text_room program) 0) 16 (text_room program) w.clock.time)

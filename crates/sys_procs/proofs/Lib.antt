@@ -28,10 +28,12 @@ pub mod StackBytesLemmas
 pub mod TestsLemmas
 pub mod LoadData
 pub mod LoadLemmas
-pub mod LoadForms
 pub mod FilledText
 pub mod KeptOwner
 pub mod Following
+pub mod LoadForms
+pub mod TakenText
+pub mod BegunProgram
 pub mod Bare
 pub mod TextMarks
 pub mod LeftText

@@ -1,61 +1,43 @@
--- What exec(II) comes to for a program without a text of its own, and for one that finds no place.
-use Rattle.std.proofs.Common.{◌≡◌, ◌∙◌, ℕ, ◌+◌, ◌*◌, ◌==◌, ◌&&◌, ◌<◌, Bool, true, false, not, cond, List, [], ◌∷◌, length, map, set, Option, Some, None, is_some, Result, Ok, Err, refl, ap, arith}
+-- What exec(II) comes to, part by part.
+use Rattle.std.proofs.Common.{◌≡◌, ◌∙◌, ℕ, ◌+◌, ◌==◌, ◌&&◌, ◌<◌, Bool, true, false, not, cond, if◌then◌else◌, List, length, set, bit_and, Option, Some, None, is_some, Result, Ok, Err, refl, sym, ap, arith}
 use Rattle.std.specs.Option.{unwrap_or}
-use Rattle.std.specs.Prelude.{bit_and}
-use Rattle.std.proofs.lemmas.Bool.{eqb-true}
-use Rattle.std.proofs.lemmas.List.{get_or-set_same}
-use Rattle.v6_base.specs.Image.{Image, nseg}
-use Rattle.v6_base.specs.Trace.{Log}
-use Rattle.v6_base.specs.declared.entry.Entry.TheVariants.{Bare}
+use Rattle.std.proofs.lemmas.List.{length-set, set-set}
+use Rattle.v6_base.specs.Image.{Image}
 use Rattle.v6_base.specs.declared.answer.Answer.TheVariants.{Ret}
+use Rattle.v6_base.specs.declared.errno.Errno.{Errno}
+use Rattle.buf_cache.specs.Blocks.{patched}
 use Rattle.fs_codec.specs.Store.{Node}
 use Rattle.fs_codec.specs.declared.modes.TheConstants.{ISUID, ISGID}
-use Rattle.fs_laws.specs.Pieces.{Moving, read_file}
-use Rattle.fs_nodes.specs.Copy.{put_into}
-use Rattle.fs_tree.specs.Finding.{put_back}
-use Rattle.v6_base.specs.declared.entry.Place.{Place}
-use Rattle.v6_base.specs.declared.entry.PanicKind.{PanicKind}
-use Rattle.v6_base.specs.declared.entry.PanicKind.TheVariants as panic
-use Rattle.v6_base.specs.declared.errno.Errno.{Errno}
-use Rattle.aout_head.specs.declared.parts.Plan.{Plan}
-use Rattle.pick_rules.specs.Effects.{Show}
+use Rattle.fs_laws.specs.Pieces.{Moving}
+use Rattle.u_area.specs.declared.area.UArea.{UArea}
+use Rattle.proc_tab.specs.declared.row.Row.{Row}
 use Rattle.pick_rules.specs.Effects as effect
-use Rattle.pick_rules.specs.Board.{Board, placed}
-use Rattle.pick_rules.specs.Logged.{logged}
-use Rattle.fs_nodes.specs.FileSystem.{FileSystem}
-use Rattle.sys_procs.specs.declared.procs.Procs.{Procs}
 use Rattle.sys_procs.specs.declared.program.Program.{Program}
-use Rattle.sys_procs.specs.Process.{Process, no_process, register}
-use Rattle.sys_procs.specs.World.{World, process_of, with_process, text_in, texts_in, let_go}
-use Rattle.image_keep.specs.Kept.{Kept, no_texts}
-use Rattle.sys_procs.specs.TextTable.{text_bytes, entry_of}
-use Rattle.sys_procs.specs.Texts.{xfree, xalloc, xalloc_by, makes_text}
+use Rattle.sys_procs.specs.Process.{Process, register}
+use Rattle.sys_procs.specs.TextTable.{Text, text_of, with_text, text_bytes, entry_of}
+use Rattle.sys_procs.specs.Texts.{xalloc, xalloc_by}
+use Rattle.sys_procs.specs.World.{World, process_of, with_process, change, let_go}
 use Rattle.sys_procs.specs.Tests.{node_at}
-use Rattle.sys_procs.specs.Agree.{HasNoText}
-use Rattle.sys_procs.specs.Comes.{Comes, does, logs, fails}
+use Rattle.sys_procs.specs.Comes.{Comes, nothing, does, fails}
 use Rattle.sys_procs.specs.Stack.{first_stack}
-use Rattle.sys_procs.specs.ExecFile.{text_clicks, image_clicks, with_moved, data_read, cleared_image, begins, reads_text, executes, loads, begun_area, Tested, tests, done_by, exec_file, bare_board}
-use Rattle.sys_procs.specs.inside.Begun.{unplaced, data_of, store_after, filled_image, row_in, area_in}
-use Rattle.sys_procs.specs.Handed.{IsAlive, board, came, handed}
-use Rattle.sys_procs.proofs.PlacingLemmas.{left_bare, logged_text, log_unplaced}
-use Rattle.sys_procs.proofs.Alive.{no_text_here}
+use Rattle.sys_procs.specs.ExecFile.{Tested, tests, done_by, loads, exec_file, data_clicks, image_clicks, data_in, data_read, text_read, with_moved, entry_in, reads_text, begun_area, begins, begins_anew, executes}
+use Rattle.sys_procs.specs.inside.Begun.{takes, takes_image, new_if, new_entry, sized, filled, fills, row_in, area_in}
+use Rattle.sys_procs.proofs.Alive.{put_here}
+use Rattle.sys_procs.proofs.Following.{both}
+use Rattle.sys_procs.proofs.KeptOwner.{SameOwner}
 
--- a text of no clicks has no bytes
-pub no_bytes : (plan : Plan) → text_clicks plan ≡ 0 → 16 + plan.text ≡ 16
-no_bytes plan none = omega (arith, none)
-
--- A process that begins, with the ids that the file gives it.
-abbrev pub begun : Process → Node → Program → Image → Process
-begun old node program image = record old {
-  row = row_in node old.u.uid old.row;
-  u = area_in node old.u program;
-  «data» = image.data;
-  stack = image.stack;
+-- A process that begins, with the ids that the file gives it. It had this u area.
+abbrev pub begun : UArea → Process → Node → Program → List ℕ → Process
+begun v old node program read = record old {
+  row = row_in node v.uid old.row;
+  u = area_in node v program;
+  «data» = read;
+  stack = first_stack program.arguments;
 }
 
-module _ (old : Process) (node : Node) (program : Program) (read : List ℕ) where
+module _ (v : UArea) (old : Process) (node : Node) (program : Program) (read : List ℕ) where
   abbrev plain : Process
-  plain = record old { u = begun_area old.u program; «data» = read; stack = first_stack program.arguments }
+  plain = record old { u = begun_area v program; «data» = read; stack = first_stack program.arguments }
 
   -- with these bits of the mode
   abbrev as_owner_by : Bool → Process
@@ -68,7 +50,7 @@ module _ (old : Process) (node : Node) (program : Program) (read : List ℕ) whe
   abbrev begun_by : Bool → Bool → Process
   begun_by b c = record plain {
     row = record old.row { uid = cond b node.uid old.row.uid };
-    u = record plain.u { uid = cond b node.uid old.u.uid; gid = cond c node.gid old.u.gid };
+    u = record plain.u { uid = cond b node.uid v.uid; gid = cond c node.gid v.gid };
   }
 
   begun_cases : (b c : Bool) → in_group_by c (as_owner_by b) ≡ begun_by b c
@@ -77,130 +59,148 @@ module _ (old : Process) (node : Node) (program : Program) (read : List ℕ) whe
   begun_cases false true = refl
   begun_cases false false = refl
 
-  abbrev its_image : Image
-  its_image = record { text = []; «data» = read; stack = first_stack program.arguments }
-
-  pub begins_is : begins old node program read ≡ begun old node program its_image
+  pub begins_is : begins v old node program read ≡ begun v old node program read
   begins_is =
-      begun_cases (not (bit_and node.mode ISUID == 0) && not (old.u.uid == 0)) (not (bit_and node.mode ISGID == 0))
+      begun_cases (not (bit_and node.mode ISUID == 0) && not (v.uid == 0)) (not (bit_and node.mode ISGID == 0))
 
--- A program that a process without a text executes.
-module _ (w : World) (s : ℕ) (program : Program) (alone : (process_of w s).text ≡ None) where
-  -- what comes after the text
-  abbrev next : World → Bool → Comes
-  next placed is_new =
-      does (effect.Image s (image_clicks program.plan) placed) (executes (reads_text is_new placed s program) s program)
+-- The ids that a file gives are the same where its owner is.
+pub row_kept : (a b : Node) (uid : ℕ) (row : Row) → SameOwner a b → row_in b uid row ≡ row_in a uid row
+row_kept a b uid row same = λ i. record row {
+  uid = if not (same.sets_uid i == 0) && not (uid == 0) then same.uid i else row.uid;
+}
 
-  loads_alone : loads w s program ≡ logs (Bare s) (xalloc w s program.ino (text_clicks program.plan) next)
-  loads_alone =
-      ap (λ o. xfree w s o (λ left. logs (Bare s) (xalloc left s program.ino (text_clicks program.plan) next))) alone
+pub area_kept : (a b : Node) (v : UArea) (program : Program) → SameOwner a b → area_in b v program ≡ area_in a v program
+area_kept a b v program same = λ i. record (begun_area v program) {
+  uid = if not (same.sets_uid i == 0) && not (v.uid == 0) then same.uid i else v.uid;
+  gid = if not (same.sets_gid i == 0) then same.gid i else v.gid;
+}
 
-  -- it would share its text, which is in no entry
-  loads_shares : (text_clicks program.plan == 0) ≡ false → entry_of w.texts program.ino ≡ None
-      → loads w s program ≡ logs (Bare s) (does (effect.Text s (text_clicks program.plan) w)
-      (next (makes_text w s program.ino (text_clicks program.plan)) true))
-  loads_shares some free =
-      let size : ℕ = text_clicks program.plan in
-      let by : Bool → Comes = λ x.
-      logs (Bare s) (cond x (next w false) (xalloc_by w s program.ino size (entry_of w.texts program.ino) next)) in
-      loads_alone ∙ ap by some ∙ ap (λ o. logs (Bare s) (xalloc_by w s program.ino size o next)) free
+pub put_twice : (w : World) (s : ℕ) (q r : Process) → with_process (with_process w s q) s r ≡ with_process w s r
+put_twice w s q r =
+    ap (λ (ps : List (Option Process)). record w { processes = ps }) (set-set w.processes s (Some q) (Some r))
 
-  module _ (none : text_clicks program.plan ≡ 0) where
-    abbrev pub old : Process
-    old = process_of w s
+-- Who is in the slots stays as a text is read.
+pub there_still : (w : World) (s : ℕ) (program : Program) (b : Bool) → process_of (reads_text b w s program) s ≡ process_of w s
+there_still w s program true = refl
+there_still w s program false = refl
 
-    loads_does : loads w s program
-        ≡ logs (Bare s) (does (effect.Image s (image_clicks program.plan) w) (executes w s program))
-    loads_does = loads_alone ∙ ap (λ n. logs (Bare s) (xalloc w s program.ino n next)) none
+-- A process that has an image is filled with a program.
+module _ (w : World) (s : ℕ) (program : Program) (p : Process) (low : s < length w.processes) (text : p.text ≡ (process_of w s).text) where
+  abbrev read : Moving Image
+  read = data_read w s program
 
-    pub loads_effects : (loads w s program).effects
-        ≡ Show (Log (Bare s)) ∷ effect.Image s (image_clicks program.plan) w ∷ []
-    loads_effects = ap (λ (c : Comes). c.effects) loads_does
+  here : process_of (with_process w s p) s ≡ p
+  here = put_here w.processes s p low
 
-    abbrev pub read : Moving Image
-    read = data_of w.inodes.store program w.clock.time
+  read_is : data_read (with_process w s p) s program ≡ read
+  read_is =
+      ap (λ o. data_in w.inodes.store (text_bytes w.texts o) program w.clock.time) (ap (λ (q : Process). q.text) here ∙ text)
 
-    read_is : data_read w s program ≡ read
-    read_is = λ i.
-        read_file (put_into (8192 * nseg (none i))) (node_at w program.ino) w.inodes.store.room
-        (cleared_image (text_bytes w.texts (alone i)) program.plan) (no_bytes program.plan none i)
-        program.plan.init w.clock.time
+  pub fills_is : fills (with_process w s p) s program
+      ≡ with_process (with_moved w program.ino read) s (filled program read.memory p)
+  fills_is =
+      (λ i. with_process (with_moved (with_process w s p) program.ino (read_is i)) s (filled program (read_is i).memory (here i)))
+      ∙ put_twice (with_moved w program.ino read) s p (filled program read.memory p)
 
-    abbrev pub image : Image
-    image = filled_image w.inodes.store program w.clock.time
+-- A process that takes an image, whose text is read then, is filled, and begins in a row and in a u area.
+module _ (w : World) (s t : ℕ) (program : Program) (low : s < length w.processes) where
+  abbrev pub imaged : World
+  imaged = change w s (sized t (data_clicks program.plan))
 
-    -- the world in which the program begins
-    abbrev pub last : World
-    last = record w {
-      processes = set w.processes s (Some (begun old (node_at w program.ino) program image));
-      inodes = put_back (record w.inodes { store = store_after w.inodes.store program w.clock.time }) program.ino;
-    }
+  abbrev old : Process
+  old = process_of w s
 
-    process_is : begins old (node_at w program.ino) program (data_read w s program).memory.data
-        ≡ begun old (node_at w program.ino) program image
-    process_is =
-        (λ i. begins old (node_at w program.ino) program (read_is i).memory.data)
-        ∙ begins_is old (node_at w program.ino) program read.memory.data
+  abbrev big : Process
+  big = sized t (data_clicks program.plan) old
 
-    state_is : (executes w s program).state ≡ last
-    state_is = λ i. let_go (with_process (with_moved w program.ino (read_is i)) s (process_is i)) program.ino
+  big_here : process_of imaged s ≡ big
+  big_here = put_here w.processes s big low
 
-    pub loads_state : (loads w s program).state ≡ last
-    loads_state = ap (λ (c : Comes). c.state) loads_does ∙ state_is
+  texts_with : ℕ → List (Option Text)
+  texts_with k =
+      with_text w.texts k (record (text_of w.texts k) { bytes = patched 0 (text_read w program).memory (text_of w.texts k).bytes })
 
-    last_process : s < length w.processes → process_of last s ≡ begun old (node_at w program.ino) program image
-    last_process low = ap (λ o. unwrap_or o no_process)
-        (get_or-set_same w.processes s (Some (begun old (node_at w program.ino) program image)) None low)
+  pub sized_first : (b : Bool) → reads_text b imaged s program ≡ with_process (reads_text b w s program) s big
+  sized_first false = refl
+  sized_first true =
+      ap (λ k. record (with_moved imaged program.ino (text_read w program)) {
+        texts = with_text w.texts k (record (text_of w.texts k) {
+          bytes = patched 0 (text_read w program).memory (text_of w.texts k).bytes;
+        });
+      }) (ap (λ (p : Process). unwrap_or p.text 40) big_here)
 
-    pub loads_answer : s < length w.processes → (loads w s program).answer ≡ Ret 0 0
-    loads_answer low =
-        ap (λ (c : Comes). c.answer) loads_does
-        ∙ ap (λ (v : World). Ret (register (process_of v s) 0) (register (process_of v s) 1)) state_is
-        ∙ ap (λ (p : Process). Ret (register p 0) (register p 1)) (last_process low)
+  processes_stay : (b : Bool) → (reads_text b w s program).processes ≡ w.processes
+  processes_stay true = refl
+  processes_stay false = refl
 
--- Where nothing stands against it, there is a place for the new image.
-abbrev unplaced_by : Bool → Option Place → Option PanicKind
-unplaced_by no_text place = cond (not no_text) (Some panic.Text) (cond (is_some place) None (Some panic.Swap))
+  module _ (b : Bool) where
+    abbrev pub whole : World
+    whole = reads_text b w s program
 
-place_by : (no_text : Bool) (place : Option Place) → unplaced_by no_text place ≡ None → is_some place ≡ true
-place_by false place none = absurd (cc none)
-place_by true (Some at) none = refl
-place_by true None none = absurd (cc none)
+    abbrev pub it : Process
+    it = filled program (data_read whole s program).memory big
 
-pub has_place_then : (b : Board) (s : ℕ) (program : Program) → unplaced b s program ≡ None
-    → is_some (placed (bare_board b s) s (image_clicks program.plan)) ≡ true
-has_place_then b s program none =
-    place_by (text_clicks program.plan == 0) (placed (bare_board b s) s (image_clicks program.plan)) none
+    abbrev moved : World
+    moved = with_moved whole program.ino (data_read whole s program)
 
--- no text is in an entry
-pub no_entry : (k : Kept) (ino : ℕ) → HasNoText k → entry_of (texts_in k) ino ≡ None
-unfolding no_texts
-no_entry k ino none = ap (λ texts. entry_of (map text_in texts) ino) none.texts
+    long : s < length whole.processes
+    long = let same = ap length (processes_stay b) in omega (arith, same, low)
 
--- Where a demand finds no place, this is what the log says.
-module _ (p : Procs) (s : ℕ) (alive : IsAlive p s) (long : length p.images.slots ≡ 50) (program : Program) (fs : FileSystem) where
-  abbrev w : World
-  w = handed p fs
+    old_there : process_of whole s ≡ old
+    old_there = there_still w s program b
 
-  stops_by : (kind : PanicKind) (no_text : Bool) (place : Option Place) → (text_clicks program.plan == 0) ≡ no_text
-      → placed (bare_board (board p) s) s (image_clicks program.plan) ≡ place → Some kind ≡ unplaced_by no_text place
-      → came p (loads w s program) ≡ left_bare (board p) s kind w
-  stops_by kind false place text found is =
-      let same : panic.Text ≡ kind = cc is in
-      let later : Comes = next w s program (no_text_here p s alive) (makes_text w s program.ino (text_clicks program.plan)) true in
-      ap (λ (c : Comes). came p c) (loads_shares w s program (no_text_here p s alive) text (no_entry p.images program.ino alive.agree.no_text))
-      ∙ (logged_text (board p) s (text_clicks program.plan) w later.effects ∙ ap (λ k. left_bare (board p) s k w) same)
-  stops_by kind true (Some at) text found is = absurd (cc is)
-  stops_by kind true None text found is =
-      let same : panic.Swap ≡ kind = cc is in
-      ap (λ es. logged (board p) es)
-      (loads_effects w s program (no_text_here p s alive) (eqb-true (text_clicks program.plan) 0 text))
-      ∙ (log_unplaced p s alive long (image_clicks program.plan) w found ∙ ap (λ k. left_bare (board p) s k w) same)
+    pub filled_is : fills (reads_text b imaged s program) s program ≡ with_process moved s it
+    filled_is =
+        ap (λ (v : World). fills v s program) (sized_first b)
+        ∙ fills_is whole s program big long (sym (ap (λ (p : Process). p.text) old_there))
 
-  pub unplaced_stops : (kind : PanicKind) → Some kind ≡ unplaced (board p) s program
-      → came p (loads w s program) ≡ left_bare (board p) s kind w
-  unplaced_stops kind is = stops_by kind (text_clicks program.plan == 0)
-      (placed (bare_board (board p) s) s (image_clicks program.plan)) refl refl is
+    pub it_there : process_of (fills (reads_text b imaged s program) s program) s ≡ it
+    it_there = ap (λ (v : World). process_of v s) filled_is ∙ put_here moved.processes s it long
+
+    pub begun_is : (row : Row) (u v : UArea) → row ≡ row_in (node_at whole program.ino) v.uid old.row
+        → u ≡ area_in (node_at whole program.ino) v program
+        → with_process (fills (reads_text b imaged s program) s program) s
+        (record (process_of (fills (reads_text b imaged s program) s program) s) { row = row; u = u })
+        ≡ change moved s (λ p. begins v p (node_at whole program.ino) program (data_read whole s program).memory.data)
+    begun_is row u v row_is u_is =
+        (λ i. with_process (filled_is i) s (record (it_there i) { row = row; u = u }))
+        ∙ put_twice moved s it (record it { row = row; u = u })
+        ∙ (λ i. with_process moved s (record it { row = row_is i; u = u_is i }))
+        ∙ ap (λ (p : Process). with_process moved s p)
+        (ap (λ (p : Process). begun v p (node_at whole program.ino) program (data_read whole s program).memory.data) (sym old_there)
+        ∙ sym (begins_is v (process_of moved s) (node_at whole program.ino) program (data_read whole s program).memory.data))
+
+    pub answer_is : (v : UArea) → (executes whole s v program).answer ≡ Ret 0 0
+    answer_is v =
+        ap (λ (p : Process). Ret (register p 0) (register p 1))
+        (put_here moved.processes s
+        (begins v (process_of moved s) (node_at whole program.ino) program (data_read whole s program).memory.data) long
+        ∙ begins_is v (process_of moved s) (node_at whole program.ino) program (data_read whole s program).memory.data)
+
+-- The text, and then the rest.
+module _ (w : World) (s ino size : ℕ) (next : World → Bool → Comes) where
+  abbrev taken_or : Bool → Option ℕ → Comes
+  taken_or b o = if b then nothing w else xalloc_by w s ino size o (λ placed is_new. nothing placed)
+
+  abbrev new_or : Bool → Option ℕ → Option ℕ
+  new_or b o = if b then None else new_if w.texts o
+
+  xalloc_or : (b : Bool) (o : Option ℕ) → (if b then next w false else xalloc_by w s ino size o next)
+      ≡ both (taken_or b o) (next (taken_or b o).state (is_some (new_or b o)))
+  xalloc_or true o = refl
+  xalloc_or false (Some k) = refl
+  xalloc_or false None = refl
+
+  pub xalloc_is : xalloc w s ino size next ≡ both (takes w s ino size) (next (takes w s ino size).state (is_some (new_entry w.texts ino size)))
+  xalloc_is = xalloc_or (size == 0) (entry_of w.texts ino)
+
+pub anew_is : (w : World) (s : ℕ) (v : UArea) (program : Program) → begins_anew w s v program
+    ≡ both (takes w s program.ino program.text_clicks)
+    (both (takes_image (takes w s program.ino program.text_clicks).state s program.text_clicks (data_clicks program.plan))
+    (executes (reads_text (is_some (new_entry w.texts program.ino program.text_clicks)) (takes w s program.ino program.text_clicks).state s program) s v program))
+anew_is w s v program =
+    xalloc_is w s program.ino program.text_clicks
+    (λ placed is_new. does (effect.Image s (image_clicks program.plan) placed) (executes (reads_text is_new placed s program) s v program))
 
 -- What the call comes to when the tests have come to this.
 module _ (w : World) (s name list : ℕ) where

@@ -1,24 +1,24 @@
 //! exec(II).
-ghost use Rattle.std.specs.Prelude.{◌≡◌, ◌≤◌, ◌<◌, ◌*◌, ◌%◌, ℕ, false, Some, None, List, length, IfOk, IfErr, IfSome, map, replicate, slice_index, is_some, count_by};
+ghost use Rattle.std.specs.Prelude.{◌≡◌, ◌≤◌, ◌<◌, ◌+◌, ◌*◌, ◌%◌, ◌==◌, if◌then◌else◌, ℕ, false, Some, None, List, length, IfOk, IfErr, IfSome, map, replicate, slice_index, is_some, count_by};
 ghost use Rattle.v6_base.specs.Image.{nseg};
 ghost use Rattle.fs_laws.specs.Numbers.{with_node};
 ghost use Rattle.fs_nodes.specs.FileSystem.{FileSystem, SameRest};
 ghost use Rattle.seg_regs.specs.Sizes.{is_refused};
 ghost use Rattle.image_keep.specs.Kept.{Shared, shared, text_of};
-ghost use Rattle.sys_procs.specs.TextTable.{is_text_of};
+ghost use Rattle.sys_procs.specs.TextTable.{is_text_of, marks_of};
 ghost use Rattle.sys_procs.specs.World.{texts_in, with_process};
 ghost use Rattle.sys_procs.specs.Tests.{node_in};
 ghost use Rattle.sys_procs.specs.Stack.{first_stack};
 ghost use Rattle.sys_procs.specs.ExecFile.{exec_file, loads, begins_anew, data_clicks, cleared_image, data_in, with_text_read, reads_text, text_room, text_in, kept_handler, begun_area, IsTested};
-ghost use Rattle.sys_procs.specs.inside.Begun.{fills, user_in, group_in, row_in, area_in};
+ghost use Rattle.sys_procs.specs.inside.Begun.{fills, begins_in, user_in, group_in, row_in, area_in};
 ghost use Rattle.sys_procs.specs.Handed.{AreProcs, AreBare, Calls, IsAlive, IsBare, IsMarked, board, handed, process_here, memory_here};
 ghost use Rattle.sys_procs.specs.Done.{HasDone};
 
-use crate::inodes::let_go;
+use crate::inodes::{let_go, see as see_nodes};
 use crate::placing::{STACK, leave_place, place_image};
 use crate::procs::Procs;
 use crate::program::Program;
-use crate::seen::see;
+use crate::seen::{see, see_texts};
 use crate::stack::put_stack;
 use crate::tested::test_program;
 use crate::texts::{leave_text, take_text};
@@ -154,6 +154,7 @@ fn read_text(p: &mut Procs, tree: &mut Tree, s: Slot, t: TextId, program: &Progr
     ensures references { tree.new.nodes.references ≡ tree.old.nodes.references }
     ensures marks { tree.new.marks ≡ tree.old.marks }
     ensures blocks { SameRest tree.old.nodes.blocks tree.new.nodes.blocks }
+    ensures marked { marks_of (texts_in p.new.images) ≡ marks_of (texts_in p.old.images) }
     ensures alive { IsAlive p.new s }
 {
     let mut bytes = [0; LONGEST_TEXT];
@@ -175,6 +176,7 @@ fn fill_text(p: &mut Procs, tree: &mut Tree, s: Slot, new: Option<TextId>, progr
     ensures references { tree.new.nodes.references ≡ tree.old.nodes.references }
     ensures marks { tree.new.marks ≡ tree.old.marks }
     ensures blocks { SameRest tree.old.nodes.blocks tree.new.nodes.blocks }
+    ensures marked { marks_of (texts_in p.new.images) ≡ marks_of (texts_in p.old.images) }
     ensures alive { IsAlive p.new s }
 {
     if let Some(t) = new {
@@ -225,7 +227,7 @@ fn fill_image(p: &mut Procs, tree: &mut Tree, s: Slot, program: &Program)
     requires referenced { 0 < slice_index tree.old.nodes.references program.now.ino }
     requires fits { is_refused program.now.text_clicks (data_clicks program.now.plan) 20 2048 ≡ false }
     requires cleared { memory_here p.old s ≡ cleared_image (memory_here p.old s).text program.now.plan }
-    requires long { length (memory_here p.old s).text ≡ 64 * program.now.text_clicks }
+    requires text_size { (process_here p.old s).u.text_size ≡ program.now.text_clicks }
     ensures state { handed p.new tree.new.nodes ≡ fills (handed p.old tree.old.nodes) s program.now }
     ensures references { tree.new.nodes.references ≡ tree.old.nodes.references }
     ensures marks { tree.new.marks ≡ tree.old.marks }
@@ -256,6 +258,45 @@ fn begin(p: &mut Procs, s: Slot, row: Row, u: &UArea)
     p.put_area(s, u);
 }
 
+/// Fills the image of a process, which is cleared, and its text, if that is new, with a program. The process begins in
+/// another row and another u area, and the call lets the file go.
+fn fill_program(
+    p: &mut Procs,
+    tree: &mut Tree,
+    s: Slot,
+    new: Option<TextId>,
+    program: &Program,
+    row: Row,
+    u: &UArea,
+)
+    requires alive { IsAlive p.old s }
+    requires text { IfSome new (λ t. text_of p.old.images s ≡ Some t) }
+    requires out { IfSome new (λ t. (x : Shared) × (shared p.old.images t ≡ Some x) × (x.row.loaded ≡ 0)
+        × (x.row.clicks ≡ program.now.text_clicks)) }
+    requires referenced { 0 < slice_index tree.old.nodes.references program.now.ino }
+    requires fits { is_refused program.now.text_clicks (data_clicks program.now.plan) 20 2048 ≡ false }
+    requires zeros { (process_here p.old s).data ≡ replicate (64 * data_clicks program.now.plan) 0 }
+    requires stack { (process_here p.old s).stack ≡ replicate 1280 0 }
+    requires here { (process_here p.old s).u.text_size ≡ program.now.text_clicks }
+    requires pid { row.pid ≡ (process_here p.old s).row.pid }
+    requires ppid { row.ppid ≡ (process_here p.old s).row.ppid }
+    requires text_size { u.now.text_size ≡ (process_here p.old s).u.text_size }
+    requires data_size { u.now.data_size ≡ (process_here p.old s).u.data_size }
+    requires stack_size { u.now.stack_size ≡ (process_here p.old s).u.stack_size }
+    ensures state { handed p.new tree.new.nodes
+        ≡ begins_in (fills (reads_text (is_some new) (handed p.old tree.old.nodes) s program.now) s program.now) s program.now.ino row u.now }
+    ensures board { board p.new ≡ board p.old }
+    ensures marks { tree.new.marks ≡ tree.old.marks }
+    ensures marked { marks_of (texts_in p.new.images) ≡ marks_of (texts_in p.old.images) }
+    ensures blocks { SameRest tree.old.nodes.blocks tree.new.nodes.blocks }
+    ensures alive { IsAlive p.new s }
+{
+    fill_text(p, tree, s, new, program);
+    fill_image(p, tree, s, program);
+    begin(p, s, row, u);
+    let_go(&mut tree.nodes, program.ino, p.table.now);
+}
+
 /// Lets a process without an image execute a program that the tests have let through.
 ///
 /// # Errors
@@ -277,6 +318,9 @@ fn begin_program<T: Trace>(
     requires few { (i : ℕ) → slice_index tree.old.nodes.references i ≤ 65530 }
     requires pid { row.pid ≡ (process_here p.old s).row.pid }
     requires ppid { row.ppid ≡ (process_here p.old s).row.ppid }
+    requires text_size { u.now.text_size ≡ program.now.text_clicks }
+    requires data_size { u.now.data_size ≡ data_clicks program.now.plan }
+    requires stack_size { u.now.stack_size ≡ 20 }
     ensures does { (v : UArea) → row ≡ row_in (node_in tree.old.nodes.store program.now.ino) v.uid (process_here p.old s).row
         → u.now ≡ area_in (node_in tree.old.nodes.store program.now.ino) v program.now
         → HasDone p.old p.new tree.new.nodes result (T.taken trace.old) (T.taken trace.new)
@@ -287,7 +331,9 @@ fn begin_program<T: Trace>(
     ensures marks { IsMarked p.new tree.new.marks }
     ensures blocks { SameRest tree.old.nodes.blocks tree.new.nodes.blocks }
 {
+    see_nodes(&tree.nodes);
     let new = take_text(p, tree, s, program, trace)?;
+    see_texts(&p.images);
     place_image(
         p,
         s,
@@ -295,10 +341,7 @@ fn begin_program<T: Trace>(
         data_clicks(&program.plan),
         trace,
     )?;
-    fill_text(p, tree, s, new, program);
-    fill_image(p, tree, s, program);
-    begin(p, s, row, u);
-    let_go(&mut tree.nodes, program.ino, p.table.now);
+    fill_program(p, tree, s, new, program, row, u);
     Ok(Answer::Ret { r0: 0, r1: 0 })
 }
 
@@ -316,7 +359,8 @@ fn load<T: Trace>(
 ) -> Result<Answer, PanicKind>
     requires alive { IsAlive p.old s }
     requires marks { IsMarked p.old tree.old.marks }
-    requires referred { (ino : ℕ) → count_by (is_text_of ino) (texts_in p.old.images) ≤ slice_index tree.old.nodes.references ino }
+    requires referred { (ino : ℕ) → count_by (is_text_of ino) (texts_in p.old.images) + (if ino == program.now.ino then 1 else 0)
+        ≤ slice_index tree.old.nodes.references ino }
     requires tested { IsTested (handed p.old tree.old.nodes) program.now }
     requires few { (i : ℕ) → slice_index tree.old.nodes.references i ≤ 65530 }
     ensures does { HasDone p.old p.new tree.new.nodes result (T.taken trace.old) (T.taken trace.new)
@@ -328,6 +372,7 @@ fn load<T: Trace>(
     ensures blocks { SameRest tree.old.nodes.blocks tree.new.nodes.blocks }
 {
     see(p, s);
+    see_texts(&p.images);
     let u = p.area(s);
     let row = p.row(s);
     let row = new_row(&tree.nodes, program.ino, u.uid, row);

@@ -17,7 +17,7 @@ use Rattle.sys_procs.specs.declared.program.Program.{Program}
 use Rattle.sys_procs.specs.Process.{Process}
 use Rattle.sys_procs.specs.TextTable.{Text, entry_of}
 use Rattle.sys_procs.specs.Texts.{free_entry, xfree, xalloc}
-use Rattle.sys_procs.specs.World.{World, process_of, change}
+use Rattle.sys_procs.specs.World.{World, process_of, change, let_go}
 use Rattle.sys_procs.specs.Comes.{Comes, does, nothing}
 use Rattle.sys_procs.specs.Tests.{node_at}
 use Rattle.sys_procs.specs.Stack.{first_stack, stack_clicks}
@@ -58,6 +58,10 @@ filled program image p = record p { «data» = image.data; stack = first_stack p
 abbrev pub fills : World → ℕ → Program → World
 fills w s program =
     let m : Moving Image = data_read w s program in change (with_moved w program.ino m) s (filled program m.memory)
+
+-- It begins in this row and in this u area, and the call's reference to the file goes.
+abbrev pub begins_in : World → ℕ → ℕ → Row → UArea → World
+begins_in w s ino row u = let_go (change w s (λ p. record p { row = row; u = u })) ino
 
 -- A file with the bit of set-uid gives its user to a process, unless the super-user executes it; one with that of
 -- set-gid gives its group.

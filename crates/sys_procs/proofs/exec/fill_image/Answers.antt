@@ -1,16 +1,19 @@
-use Rattle.std.proofs.Common.{◌≡◌, ◌∙◌, List, ℕ, Option, Some, set, sym, ap}
+use Rattle.std.proofs.Common.{◌≡◌, ◌∙◌, ◌*◌, List, length, ℕ, Option, Some, set, sym, ap}
 use Rattle.v6_base.specs.Image.{Image}
+use Rattle.u_area.specs.declared.area.UArea.{UArea}
+use Rattle.sys_procs.proofs.Alive.{area_here}
 use Rattle.fs_laws.specs.Pieces.{Moving}
 use Rattle.fs_nodes.specs.FileSystem.{FileSystem}
 use Rattle.fs_tree.specs.Finding.{Inodes}
-use Rattle.image_keep.specs.Kept.{Kept}
+use Rattle.image_keep.specs.Kept.{Kept, IsKept}
 use Rattle.image_keep.specs.Kept as kept
 use Rattle.image_keep.specs.Lent.{Lent, left_of}
+use Rattle.sys_procs.specs.declared.procs.Procs.{Procs}
 use Rattle.sys_procs.specs.Process.{Process}
 use Rattle.sys_procs.specs.World.{World, with_process}
 use Rattle.sys_procs.specs.Stack.{first_stack}
 use Rattle.sys_procs.specs.ExecFile.{cleared_image, data_read}
-use Rattle.sys_procs.specs.Handed.{handed, process_here, memory_here}
+use Rattle.sys_procs.specs.Handed.{IsAlive, handed, process_here, memory_here}
 use Rattle.sys_procs.proofs.MemoryLemmas.{image_here, loan_state, loan_board, loan_alive}
 use Rattle.sys_procs.proofs.exec.fill_image.Goals as goal
 
@@ -57,10 +60,18 @@ returns-clause-state c =
       };
     }) c.args.s (record old { «data» = (image_is c i).data; stack = (image_is c i).stack }))
 
+-- The text of a process is as long as its u area says.
+long_is : (p : Procs) (s size : ℕ) → IsAlive p s → IsKept p.images → (process_here p s).u.text_size ≡ size
+    → length (memory_here p s).text ≡ 64 * size
+long_is p s size alive holds same =
+    ap (λ (m : Image). length m.text) (image_here p s alive holds)
+    ∙ ((holds.sizes s alive.image).text_size
+    ∙ (ap (λ (u : UArea). 64 * u.text_size) (area_here p s alive) ∙ ap (λ n. 64 * n) same))
+
 pub fill-requires-clause-cleared : goal.fill-requires-clause-cleared
 fill-requires-clause-cleared c = (
   (memory_here c.args.p.now c.args.s).text,
-  c.requires.long,
+  long_is c.args.p.now c.args.s c.args.program.now.text_clicks c.requires.alive c.area-area.ensures.holds c.requires.text_size,
   ap (kept.image_of c.space-space.result.images.now) c.space-space.ensures.slot
       ∙ (ap (λ (k : Kept). kept.image_of k c.args.s) c.space-space.ensures.images
       ∙ (sym (image_here c.args.p.now c.args.s c.requires.alive c.area-area.ensures.holds) ∙ c.requires.cleared)),

@@ -12,7 +12,7 @@ use Rattle.sys_procs.specs.World.{World}
 use Rattle.sys_procs.specs.ExecFile.{text_read, text_room, entry_in, with_moved}
 use Rattle.sys_procs.specs.Handed.{handed, board}
 use Rattle.sys_procs.proofs.Alive.{is_here}
-use Rattle.sys_procs.proofs.FilledText.{alive_filled, places_filled, processes_filled, texts_filled}
+use Rattle.sys_procs.proofs.FilledText.{alive_filled, places_filled, marks_filled, processes_filled, texts_filled}
 use Rattle.sys_procs.proofs.exec.read_text.Goals as goal
 
 pub returns-clause-alive : goal.returns-clause-alive
@@ -66,3 +66,8 @@ read_bytes-requires-clause-zeros c =
     let count : c.min-count.result ≡ n = c.min-count.ensures ∙ (λ i. min (c.from.ensures i) (64 * c.from-2.ensures i)) in
     take-replicate c.min-count.result 65535 nought (omega (arith, count, min-le_left c.args.program.now.plan.text (64 * c.args.program.now.text_clicks)))
     ∙ ap (λ k. replicate k nought) count
+
+pub returns-clause-marked : goal.returns-clause-marked
+returns-clause-marked c =
+    marks_filled c.args.p.now c.text_bytes.new.self c.args.t c.read_bytes.new.part c.requires.out.0 c.requires.out.1
+    c.text_bytes.ensures.texts c.text_bytes.ensures.slots c.text_bytes.ensures.users
