@@ -34,6 +34,7 @@ pub mod Following
 pub mod LoadForms
 pub mod TakenText
 pub mod BegunProgram
+pub mod LeftWorld
 pub mod Bare
 pub mod TextMarks
 pub mod LeftText
