@@ -334,13 +334,7 @@ fn begin_program<T: Trace>(
     see_nodes(&tree.nodes);
     let new = take_text(p, tree, s, program, trace)?;
     see_texts(&p.images);
-    place_image(
-        p,
-        s,
-        program.text_clicks,
-        data_clicks(&program.plan),
-        trace,
-    )?;
+    place_image(p, s, program.text_clicks, data_clicks(&program.plan), trace)?;
     fill_program(p, tree, s, new, program, row, u);
     Ok(Answer::Ret { r0: 0, r1: 0 })
 }

@@ -79,6 +79,7 @@ begin-requires-clause-stack_size c =
     c.requires.stack_size ∙ ap (λ (u : UArea). u.stack_size)
     (area_is c.args.p.now c.fill_text.new.p c.args.tree.now.nodes c.fill_text.new.tree.nodes c.args.s c.args.program.now (is_some c.args.new)
     c.fill_text.ensures.state c.fill_image.new.p c.fill_image.new.tree.nodes c.requires.alive.below c.fill_image.ensures.state)
+
 pub returns-clause-state : goal.returns-clause-state
 returns-clause-state c =
     let p : Procs = c.fill_image.new.p in
