@@ -1,12 +1,13 @@
 #!/usr/bin/env python3
 """Compares what `v6 memory` leaves of random runs with a reference.
 
-    bench/memory.py COMMAND COUNT [FIRST]
+    bench/memory.py [full] COMMAND COUNT [FIRST]
 
 COMMAND is a built v6. The runs are by turns those of bench/processes.py, those with the word `execs`, and both with the word
-`small`, COUNT seeds from FIRST on (0 where it isn't given). Compared are the status, the report, the number of bytes, and each byte of core and of the
-swap area that is prescribed: u areas, data and stacks of processes that live, half of the u area of each that has ended,
-and texts; and the same of the swap area of the disk that `v6 run` leaves. Where a run comes to what isn't built, nothing may be
+`small`, or all of them those with the word `full`; COUNT seeds from FIRST on (0 where it isn't given). Compared are the status,
+the report, the number of bytes, and each byte of core and of the swap area that is prescribed: u areas, data and stacks of
+processes that live, half of the u area of each that has ended, and texts; and the same of the swap area of the disk that `v6 run`
+leaves. Where a run comes to what isn't built, nothing may be
 written, and nothing is compared; where it comes to a panic `memory` may write nothing, and the disk alone is compared.
 
 The reference is the Python module `abstract_unix`; the environment variable ABSTRACT_UNIX names the folder in which it is.
@@ -21,7 +22,7 @@ import sys
 import tempfile
 
 from file_calls import NOT_BUILT, SWAP_AT
-from processes import PANIC, Case, ExecCase, in_small_core
+from processes import PANIC, Case, ExecCase, FullCase, in_small_core
 
 KINDS = (Case, ExecCase, in_small_core(Case), in_small_core(ExecCase))
 
@@ -81,6 +82,8 @@ def told(what, came, wanted, mask):
 
 
 def main(words):
+    kinds = (FullCase,) if words[:1] == ["full"] else KINDS
+    words = words[kinds is not KINDS :]
     if len(words) not in (2, 3):
         sys.exit(__doc__)
     sys.path.insert(0, os.environ["ABSTRACT_UNIX"])
@@ -88,7 +91,7 @@ def main(words):
     command, first = shlex.split(words[0]), int(words[2]) if len(words) == 3 else 0
     done = wrong = prescribed = 0
     for seed in range(first, first + int(words[1])):
-        case = KINDS[seed % len(KINDS)](seed)
+        case = kinds[seed % len(kinds)](seed)
         with tempfile.TemporaryDirectory() as folder:
             is_done, count, found = differences(command, oracle, case, folder)
         done, prescribed = done + is_done, prescribed + count

@@ -6,6 +6,7 @@
     bench/processes.py alone COUNT [FIRST]
     bench/processes.py smallest COMMAND SEED FOLDER
     bench/processes.py execs make SEED FOLDER, or one of the others
+    bench/processes.py full make SEED FOLDER, or one of the others
     bench/processes.py small [execs] make SEED FOLDER, or one of the others
 
 A seed gives a small disk made at random, whose /etc/init makes processes, which make calls on processes and on files
@@ -16,7 +17,9 @@ difference in status, report, bytes of the terminal, lines of the log and what t
 the programs came to. `alone` does the same with the reference alone. `smallest` leaves out lines of a script and
 steps of a program as long as there is a difference, and makes what is left. With the word `execs` the disks hold more
 programs, which execute one another, move the end of their data, let their stacks grow, share texts, and remove and write one
-another's files, as random_execs has them. With the word `small` core has from 64 to 163 clicks, so that most images are out of it.
+another's files, as random_execs has them; with the word `full` such programs fill the swap area and the table of texts, as
+random_full has them, so that many runs come to a panic. With the word `small` core has from 64 to 163 clicks, so that most
+images are out of it.
 
 The reference is the Python module `abstract_unix`, of which this uses `runs`, `script`, `disk` and `errors`; the
 environment variable ABSTRACT_UNIX names the folder in which it is. Where a run comes to what isn't built (a signal,
@@ -37,6 +40,7 @@ import time
 from file_calls import DISK_BYTES, NOT_BUILT, SWAP_AT, by_command, first_difference, line_difference, node_differences
 from random_disk import Tree
 from random_execs import Programs, data_at
+from random_full import CORES, FullPrograms, tree_for
 from random_processes import assembled, init_of, listed, random_program, random_script
 
 PANIC = 7
@@ -73,15 +77,21 @@ class Case:
 class ExecCase(Case):
     """The same with programs that execute one another."""
 
+    slots = (200, 500, 1000, 2000, 4000)
+
     def __init__(self, seed, script=None, program=None):
-        rng = random.Random(f"execs {seed}")
-        self.seed, self.tree = seed, Tree(random.Random(f"tree {seed}"))
-        self.core = rng.choice((3968, 3968, 3968, 1200, 600, 300, 200, 120, rng.randrange(64, 400)))
-        self.programs = Programs(random.Random(f"programs {seed}"), self.tree)
+        self.seed = seed
+        self.choose(random.Random(f"execs {seed}"), random.Random(f"programs {seed}"))
         self.program = self.programs.init = program or self.programs.init
-        self.script = script or random_script(random.Random(f"script {seed}"), (200, 500, 1000, 2000, 4000))
+        self.script = script or random_script(random.Random(f"script {seed}"), self.slots)
         init = self.programs.put(self.tree, random.Random(f"files {seed}"))
         self.image = self.tree.image(init, random.Random(f"disk {seed}"))
+
+    def choose(self, rng, programs):
+        """The disk, the size of core and the programs."""
+        self.tree = Tree(random.Random(f"tree {self.seed}"))
+        self.core = rng.choice((3968, 3968, 3968, 1200, 600, 300, 200, 120, rng.randrange(64, 400)))
+        self.programs = Programs(programs, self.tree)
 
     def listing(self):
         lines = []
@@ -89,6 +99,17 @@ class ExecCase(Case):
             assembled(program, data_at(self.programs.texts[name]))
             lines += ["", name, *listed(program.all_steps())]
         return super().listing() + "\n".join(lines) + "\n"
+
+
+class FullCase(ExecCase):
+    """The same with programs that fill the swap area and the table of texts."""
+
+    slots = (1000, 2000, 4000, 8000)
+
+    def choose(self, rng, programs):
+        self.tree = tree_for(self.seed)
+        self.core = rng.choice((*CORES, rng.randrange(64, 400)))
+        self.programs = FullPrograms(programs, self.tree, self.core)
 
 
 def in_small_core(kind):
@@ -106,8 +127,8 @@ def kind_of(words):
     """The kind of cases that the first of these words ask for, and the others."""
     is_small = words[:1] == ["small"]
     words = words[is_small:]
-    kind = ExecCase if words[:1] == ["execs"] else Case
-    return (in_small_core(kind) if is_small else kind), words[kind is ExecCase :]
+    kind = {"execs": ExecCase, "full": FullCase}.get(" ".join(words[:1]), Case)
+    return (in_small_core(kind) if is_small else kind), words[kind is not Case :]
 
 
 # the reference
@@ -205,6 +226,8 @@ def count(want, counts):
     log = want.log.decode()
     counts["runs to what isn't built"] += want.report.startswith(b"not built: pc")
     counts["runs to a panic"] += want.status == PANIC
+    for line in PANICS:
+        counts["runs to " + line] += log.endswith(line + "\n")
     counts["runs in which nobody is left to run"] += log.endswith("idle\nend\n")
     counts["results told"] += len(re.findall(rb"[01][0-7]{6}\r?\n", want.term))
     counts["most processes of a run"] = max(counts["most processes of a run"], most_processes(log))

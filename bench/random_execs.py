@@ -181,8 +181,7 @@ class ExecChooser(Chooser):
         return [Does(Call(self.rng.choice((GETUID, GETGID))))]
 
 
-def program_of(rng, tree, names, first, is_init, text=0):
-    chooser = ExecChooser(rng, tree, names, text)
+def program_of(rng, chooser, first, is_init):
     ending = [WaitsForAll()] if rng.random() < 0.4 else []
     ending += chooser.exits() if not is_init and rng.random() < 0.7 else []
     steps, most = [], rng.choice((400, 700, 1000, 2000))
@@ -235,16 +234,25 @@ class Programs:
                 continue
             ino = tree.add(parent, label, Inode(rng.choice(MODES)))
             inode = tree.inodes[ino]
-            self.texts[name] = rng.choice(TEXTS) if rng.random() < 0.75 else 0
+            self.texts[name] = self.text_size()
             inode.mode |= rng.choice((0, 0, 0o1000))
             inode.nlink = rng.choice((0, 1, 1, 1, 1, 1, 1))
             inode.owner, inode.group = rng.choice((0, 0, 1, 7)), rng.choice((0, 7))
             self.names.append(name)
             self.inodes[name] = ino
-        console = [Does(Call(OPEN, ("/dev/tty8", 0), 2), 0)]
-        self.init = program_of(rng, tree, self.names, console, True)
-        self.others = {name: program_of(rng, tree, self.names, [TELLS_STACK], False, self.texts[name])
+        self.init = program_of(rng, self.chooser(tree, 0), self.first_steps(tree), True)
+        self.others = {name: program_of(rng, self.chooser(tree, self.texts[name]), [TELLS_STACK], False)
                        for name in self.names}
+
+    def text_size(self):
+        return self.rng.choice(TEXTS) if self.rng.random() < 0.75 else 0
+
+    def chooser(self, tree, text):
+        return ExecChooser(self.rng, tree, self.names, text)
+
+    def first_steps(self, _):
+        """What /etc/init begins with: it opens the console."""
+        return [Does(Call(OPEN, ("/dev/tty8", 0), 2), 0)]
 
     def put(self, tree, rng):
         """Gives the inodes their bytes, of which a block may be a hole."""

@@ -193,8 +193,8 @@ def assembled(plan):
 
 
 def with_skip(w, word):
-    """The address of a name of which some bytes are left out."""
-    return w.labels[word[0]] + word[1] if isinstance(word, tuple) else word
+    """The address of a name of which some bytes are left out, which wraps round."""
+    return (w.labels[word[0]] + word[1]) % 65536 if isinstance(word, tuple) else word
 
 
 def init_of(rng, plan):

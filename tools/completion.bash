@@ -3,7 +3,7 @@
 _v6() {
     local word=${COMP_WORDS[COMP_CWORD]} words=
     case ${COMP_WORDS[0]##*/} in
-    v6) [ "$COMP_CWORD" -eq 1 ] && words='run memory check make' ;;
+    v6) [ "$COMP_CWORD" -eq 1 ] && words='run memory check make demo' ;;
     v6-disk | disk.py)
         [ "$COMP_CWORD" -eq 1 ] && words='list cat get put new mkdir rm mv ln chmod chown grow check repair --v6 --help'
         case $word in -*) words='--as --blocks --damaged --help --inodes --mode --replace --short --table --time -l -r' ;; esac ;;

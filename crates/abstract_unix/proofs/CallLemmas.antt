@@ -1,6 +1,26 @@
--- What is so of the parts where a call on processes stops: they belong together, or the call says what it has left.
-use Rattle.std.proofs.Common.{◌⊎◌, inl, inr}
-use Rattle.std.specs.Prelude.{Result, Ok, Err, IfErr}
+-- What is so of the parts after a call on processes. Where it stops they belong together, or the call says what it has left; and
+-- a call that isn't exec leaves the texts, and with them which inodes are marked.
+use Rattle.std.proofs.Common.{◌≡◌, ◌⊎◌, ◌∙◌, ℕ, Bool, true, false, cond, List, Option, Some, None, slice_index, refl, sym, ap, inl, inr}
+use Rattle.std.specs.Prelude.{⊤, Result, Ok, Err, IfErr}
+use Rattle.v6_base.specs.Trace.{Taken}
+use Rattle.v6_base.specs.declared.answer.Answer.{Answer}
+use Rattle.v6_base.specs.declared.entry.PanicKind.{PanicKind}
+use Rattle.pick_rules.specs.Logged.{Stop, left_by}
+use Rattle.fs_nodes.specs.FileSystem.{FileSystem}
+use Rattle.seg_regs.specs.Sizes.{is_refused}
+use Rattle.sys_procs.specs.declared.procs.Procs.{Procs}
+use Rattle.sys_procs.specs.World.{World, process_of, change, without_process, texts_in}
+use Rattle.sys_procs.specs.Times.{with_time}
+use Rattle.sys_procs.specs.Comes.{Comes}
+use Rattle.sys_procs.specs.Break.{clicks_up_to, break_at}
+use Rattle.sys_procs.specs.TextTable.{Text, marks_of}
+use Rattle.sys_procs.specs.Handed.{handed, board, came, IsMarked}
+use Rattle.sys_procs.specs.Done.{HasDone}
+use Rattle.abstract_unix.specs.declared.calls.ProcessCall.{ProcessCall}
+use Rattle.abstract_unix.specs.declared.calls.ProcessCall.TheVariants as process
+use Rattle.abstract_unix.specs.Calls.{process_row}
+use Rattle.abstract_unix.proofs.Moved.{AreTamed, tamed_moves, tamed_mild, mild_wake, mild_nice, mild_time, mild_reap}
+use Rattle.abstract_unix.proofs.ProcessRows.{Plain, gives, refuses, waits, changes, due, nice, wakes, dated, buries, plain_row}
 
 pub stops_whole : {A E : Type 0} (r : Result A E) (P Q : Type 0) → P → IfErr r (λ e. P ⊎ Q)
 stops_whole (Ok a) P Q p = tt
@@ -9,3 +29,61 @@ stops_whole (Err e) P Q p = inl p
 pub stops_so : {A E : Type 0} (r : Result A E) (P Q : Type 0) → IfErr r (λ e. Q) → IfErr r (λ e. P ⊎ Q)
 stops_so (Ok a) P Q q = tt
 stops_so (Err e) P Q q = inr q
+
+-- A call that leaves these texts, also where it stops.
+pub record Leaves (texts : List (Option Text)) (c : Comes) : Type 0 where
+  pub effects : AreTamed (λ (x : World). x.texts ≡ texts) c.effects
+  pub state : c.state.texts ≡ texts
+
+mild_leaves : (texts : List (Option Text)) (c : Comes) → AreTamed (λ (x : World). ⊥) c.effects → c.state.texts ≡ texts → Leaves texts c
+mild_leaves texts c tamed state = record { effects = tamed_mild _ c.effects tamed; state = state }
+
+-- A call that wants no place for an image makes no demand, and leaves the texts.
+plain_quiet : (s : ℕ) (w : World) (c : Comes) → Plain s w c → AreTamed (λ (x : World). ⊥) c.effects × (c.state.texts ≡ w.texts)
+plain_quiet s w c (gives v r0 r1) = (tt, refl)
+plain_quiet s w c (refuses v e) = (tt, refl)
+plain_quiet s w c (waits v rule pri chan same sleeping is range) = (tt, refl)
+plain_quiet s w c (changes v rule d same pending rest) = plain_quiet s (change w s rule) c rest
+plain_quiet s w c (due v tout d rest) = plain_quiet s (record w { clock = record w.clock { tout = tout } }) c rest
+plain_quiet s w c (nice v value d range rest) = let q = plain_quiet s w d rest in ((mild_nice s value, q.0), q.1)
+plain_quiet s w c (wakes v chan d range rest) = let q = plain_quiet s w d rest in ((mild_wake chan, q.0), q.1)
+plain_quiet s w c (dated v time d range rest) = let q = plain_quiet s (with_time w time) d rest in ((mild_time time, q.0), q.1)
+plain_quiet s w c (buries v k d grave rest) = let q = plain_quiet s (without_process w k) d rest in ((mild_reap k, q.0), q.1)
+
+plain_leaves : (s : ℕ) (w : World) (c : Comes) → Plain s w c → Leaves w.texts c
+plain_leaves s w c plain = let q = plain_quiet s w c plain in mild_leaves w.texts c q.0 q.1
+
+leaves_if : (texts : List (Option Text)) (b : Bool) (x y : Comes) → Leaves texts x → Leaves texts y → Leaves texts (cond b x y)
+leaves_if texts true x y f g = f
+leaves_if texts false x y f g = g
+
+break_leaves : (w : World) (s at : ℕ) → Leaves w.texts (break_at w s at)
+unfolding break_at
+break_leaves w s at =
+    let u = (process_of w s).u in
+    leaves_if w.texts (is_refused u.text_size (clicks_up_to u.text_size at) u.stack_size w.limit) _ _
+    (record { effects = tt; state = refl }) (record { effects = (refl, tt); state = refl })
+
+abbrev pub IsNotExec : ProcessCall → Type 0
+IsNotExec process.Exec = ⊥
+IsNotExec call = ⊤
+
+row_leaves : (call : ProcessCall) → IsNotExec call → (s : ℕ) (w : World) (args : List ℕ) → Leaves w.texts (process_row call w s args)
+row_leaves process.Exec is s w a = absurd is
+row_leaves process.Break is s w a = break_leaves w s (slice_index a 0)
+row_leaves call is s w a = plain_leaves s w _ (plain_row call tt s w a)
+
+left_so : (old new : Procs) (fs : FileSystem) (texts : List (Option Text)) {r : Result Answer PanicKind} {start end : Taken} (c : Comes) → Leaves texts c
+    → HasDone old new fs r start end c → texts_in new.images ≡ texts
+left_so old new fs texts c leaves done = ap (λ (x : World). x.texts) done.state ∙ by (came old c).stop refl
+  where
+    by : (o : Option (Stop World)) → (came old c).stop ≡ o → (left_by o c.state).texts ≡ texts
+    by None none = leaves.state
+    by (Some stop) some = (tamed_moves (λ (x : World). x.texts ≡ texts) (board old) c.effects leaves.effects).before stop some
+
+-- The marks after a call that isn't exec.
+pub marks_stay : (call : ProcessCall) → IsNotExec call → (old new : Procs) (was now : FileSystem) (s : ℕ) (args : List ℕ) (before after : List Bool)
+    {r : Result Answer PanicKind} {start end : Taken} → HasDone old new now r start end (process_row call (handed old was) s args)
+    → IsMarked old before → after ≡ before → IsMarked new after
+marks_stay call is old new was now s args before after done marked same =
+    same ∙ marked ∙ ap marks_of (sym (left_so old new now (texts_in old.images) _ (row_leaves call is s (handed old was) args) done))

@@ -4,7 +4,6 @@ use Rattle.std.proofs.Math.ListN.{get_or-map}
 use Rattle.std.specs.List.{range_with_len}
 use Rattle.v6_base.specs.declared.errno.Errno.TheVariants.{EAGAIN}
 use Rattle.proc_tab.specs.Processes.{member_at, lowest}
-use Rattle.pick_rules.specs.Effects.{Fork}
 use Rattle.pick_rules.specs.Lawful.{Seen}
 use Rattle.image_keep.specs.Kept.{clicks_of}
 use Rattle.log_laws.proofs.Fitting.{Apt}

@@ -1,7 +1,7 @@
 -- exit(II): a process that has closed its files names none, and what is owed when it has ended.
-use Rattle.std.proofs.Common.{◌≡◌, ◌<◌, ◌+◌, ◌-◌, ◌∙◌, ℕ, zero, suc, Bool, true, false, cond, is_none, ◌==◌, if◌then◌else◌, List, [], ◌∷◌, ◌++◌, length, get_or, set, map, fold, Option, Some, None, slice_index, refl, sym, ap, subst, inl, inr, arith}
+use Rattle.std.proofs.Common.{◌≡◌, ◌<◌, ◌+◌, ◌-◌, ◌∙◌, ℕ, zero, suc, Bool, true, false, cond, is_none, ◌==◌, if◌then◌else◌, List, [], ◌∷◌, ◌++◌, length, get_or, set, map, fold, Option, Some, None, slice_index, refl, sym, ap, inl, inr, arith}
 use Rattle.std.proofs.lemmas.Bool.{cases_lt, cases_eq, ne_eqb, eq-eqb, eqb-true}
-use Rattle.std.proofs.lemmas.List.{get_or_past, get_or-set_same, get_or-set_other, map-set, set-set}
+use Rattle.std.proofs.lemmas.List.{get_or_past, get_or-set_same, get_or-set_other, map-set}
 use Rattle.open_files.specs.declared.file.OpenFile.{OpenFile}
 use Rattle.open_files.specs.declared.file.Closed.{Closed}
 use Rattle.open_files.specs.declared.file.Closed.TheVariants.{Still, Last}
@@ -14,7 +14,7 @@ use Rattle.std.specs.List.{range_with_len}
 use Rattle.sys_files.proofs.ClosingLemmas.{closed_below, below_more, below_all}
 use Rattle.sys_procs.specs.Process.{Process}
 use Rattle.sys_procs.specs.World.{World, process_of}
-use Rattle.sys_procs.specs.Exit.{slot_of, adopted, ended, leaves, dead}
+use Rattle.sys_procs.specs.Exit.{slot_of, adopted, dead}
 use Rattle.abstract_unix.specs.Whole.{Told, told_of, told_by, told_in, names, stands, Owes}
 use Rattle.abstract_unix.proofs.Owing.{told_at, some_within, names_set, stand_set, dir_referred, fifteen_set}
 
@@ -67,7 +67,7 @@ closed_none h entry long =
     ])
 
 -- A reference goes.
-put_refs : (l : List ℕ) (d ino : ℕ) → 0 < slice_index l d → slice_index (set l d (slice_index l d - 1)) ino + (if d == ino then 1 else 0) ≡ slice_index l ino
+pub put_refs : (l : List ℕ) (d ino : ℕ) → 0 < slice_index l d → slice_index (set l d (slice_index l d - 1)) ino + (if d == ino then 1 else 0) ≡ slice_index l ino
 put_refs l d ino some =
     let within : d < length l = elim (cases_lt d (length l)) [
       | inl low ↦ low
@@ -123,40 +123,37 @@ told_strays : (b : Bool) (ppid : ℕ) (ps : List (Option Process)) → told_in (
 told_strays true ppid ps = told_adopted ppid ps
 told_strays false ppid ps = refl
 
--- A process that has closed its files ends, in any world.
-module _ (w : World) (s status : ℕ) where
-  -- it is told no more
-  pub told_ended : told_in (dead (leaves w s status) s).processes ≡ set (told_in w.processes) s None
-  told_ended =
-      let z : Process = record (process_of (leaves w s status) s) { is_zombie = true; «data» = []; stack = [] } in
-      let ppid = (process_of (leaves w s status) s).row.ppid in
-      told_adopted (process_of (leaves w s status) s).row.pid _
-      ∙ told_strays (is_none (slot_of (leaves w s status) ppid)) ppid _
-      ∙ map-set told_by _ s (Some z)
-      ∙ ap (λ l. set l s None) (map-set told_by w.processes s (Some (ended status (process_of w s))))
-      ∙ set-set (told_in w.processes) s _ _
+-- A process ends, in any world: it is told no more.
+pub told_dead : (w : World) (s : ℕ) → told_in (dead w s).processes ≡ set (told_in w.processes) s None
+told_dead w s =
+    let z : Process = record (process_of w s) { is_zombie = true; «data» = []; stack = [] } in
+    let ppid = (process_of w s).row.ppid in
+    told_adopted (process_of w s).row.pid _
+    ∙ told_strays (is_none (slot_of w ppid)) ppid _
+    ∙ map-set told_by w.processes s (Some z)
 
-  pub end_owes : (files : List (Option OpenFile)) → get_or w.processes s None ≡ Some (process_of w s) → (process_of w s).is_zombie ≡ false
-      → ((entry : ℕ) → times (process_of w s).u.files entry ≡ 0) → Owes w.inodes.references files w.texts (told_in w.processes)
-      → Owes (put_back w.inodes (process_of w s).u.dir).references files w.texts (told_in (dead (leaves w s status) s).processes)
-  end_owes files is lives closed owed =
-      let p : Process = process_of w s in
-      let ts : List (Option Told) = told_in w.processes in
-      let at = told_at w.processes s p is lives in
-      let low = some_within ts s (told_of p) at in
-      subst (λ (l : List (Option Told)). Owes (put_back w.inodes p.u.dir).references files w.texts l) (sym told_ended) (record {
-        numbers = λ entry.
-            let before = owed.numbers entry in
-            let change = names_set ts s None entry low in
-            let old = ap (names entry) at in
-            let gone = closed entry in
-            omega (arith, before, change, old, gone);
-        referred = λ ino.
-            let put = put_refs w.inodes.references p.u.dir ino (dir_referred w.inodes.references files w.texts ts owed s (told_of p) at) in
-            let before = owed.referred ino in
-            let change = stand_set ts s None ino low in
-            let old = ap (stands ino) at in
-            omega (arith, put, before, change, old);
-        no_pipe = owed.no_pipe;
-        fifteen = fifteen_set ts s None owed.fifteen (λ t e. absurd (cc e));
-      })
+-- What is owed where it has left its directory, and is told of no more. Its files are closed.
+pub end_owes : (w : World) (s : ℕ) (files : List (Option OpenFile)) → get_or w.processes s None ≡ Some (process_of w s) → (process_of w s).is_zombie ≡ false
+    → ((entry : ℕ) → times (process_of w s).u.files entry ≡ 0) → Owes w.inodes.references files w.texts (told_in w.processes)
+    → Owes (put_back w.inodes (process_of w s).u.dir).references files w.texts (set (told_in w.processes) s None)
+end_owes w s files is lives closed owed =
+    let p : Process = process_of w s in
+    let ts : List (Option Told) = told_in w.processes in
+    let at = told_at w.processes s p is lives in
+    let low = some_within ts s (told_of p) at in
+    record {
+      numbers = λ entry.
+          let before = owed.numbers entry in
+          let change = names_set ts s None entry low in
+          let old = ap (names entry) at in
+          let gone = closed entry in
+          omega (arith, before, change, old, gone);
+      referred = λ ino.
+          let put = put_refs w.inodes.references p.u.dir ino (dir_referred w.inodes.references files w.texts ts owed s (told_of p) at) in
+          let before = owed.referred ino in
+          let change = stand_set ts s None ino low in
+          let old = ap (stands ino) at in
+          omega (arith, put, before, change, old);
+      no_pipe = owed.no_pipe;
+      fifteen = fifteen_set ts s None owed.fifteen (λ t e. absurd (cc e));
+    }

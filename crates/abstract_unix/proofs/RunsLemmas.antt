@@ -3,8 +3,6 @@ use Rattle.std.specs.Bool.{⊤}
 use Rattle.std.proofs.Common.{◌≡◌, ◌≢◌, ℕ, zero, suc, cond, subst, Bool, true, false, List, [], ◌∷◌, ◌++◌, Option, Some, None, refl, sym, ◌∙◌, ap, append_assoc}
 use Rattle.std.proofs.lemmas.List.{append-nil}
 use Rattle.v6_base.specs.Trace.{Item}
-use Rattle.v6_base.specs.declared.entry.PanicKind.{PanicKind}
-use Rattle.v6_base.specs.declared.entry.PanicKind.TheVariants as panic
 use Rattle.pick_rules.specs.Logged.{Stop, logged}
 use Rattle.sys_procs.specs.Process.{register}
 use Rattle.abstract_unix.specs.declared.ending.Ending.{Ending}

@@ -79,24 +79,25 @@ shared_no_pipe files mine none entry file is = elim (cases_lt entry (length file
 ]
 
 -- A reference is taken.
+pub more_within : (l : List ℕ) (d ino : ℕ) → d < length l → slice_index (set l d (slice_index l d + 1)) ino ≡ slice_index l ino + (if d == ino then 1 else 0)
+more_within l d ino within = elim (cases_eq ino d) [
+  | inl here ↦
+      let now : slice_index (set l d (slice_index l d + 1)) ino ≡ slice_index l d + 1 =
+      ap (slice_index (set l d (slice_index l d + 1))) here ∙ get_or-set_same l d (slice_index l d + 1) 0 within in
+      let was : slice_index l ino ≡ slice_index l d = ap (slice_index l) here in
+      let one : ◌≡◌ {A = ℕ} (if d == ino then 1 else 0) 1 = ap (λ b. cond {A = ℕ} b 1 0) (eq-eqb d ino (sym here)) in
+      omega (arith, now, was, one)
+  | inr other ↦
+      let same : slice_index (set l d (slice_index l d + 1)) ino ≡ slice_index l ino = get_or-set_other l d ino (slice_index l d + 1) 0 other in
+      let none : ◌≡◌ {A = ℕ} (if d == ino then 1 else 0) 0 = ap (λ b. cond {A = ℕ} b 1 0) (ne_eqb d ino (λ e. other (sym e))) in
+      omega (arith, same, none)
+]
+
 more_refs : (l : List ℕ) (d ino : ℕ) → 0 < slice_index l d → slice_index (set l d (slice_index l d + 1)) ino ≡ slice_index l ino + (if d == ino then 1 else 0)
-more_refs l d ino some =
-    let within : d < length l = elim (cases_lt d (length l)) [
-      | inl low ↦ low
-      | inr high ↦ absurd (let none = get_or_past l d 0 high in omega (arith, none, some))
-    ] in
-    elim (cases_eq ino d) [
-      | inl here ↦
-          let now : slice_index (set l d (slice_index l d + 1)) ino ≡ slice_index l d + 1 =
-          ap (slice_index (set l d (slice_index l d + 1))) here ∙ get_or-set_same l d (slice_index l d + 1) 0 within in
-          let was : slice_index l ino ≡ slice_index l d = ap (slice_index l) here in
-          let one : ◌≡◌ {A = ℕ} (if d == ino then 1 else 0) 1 = ap (λ b. cond {A = ℕ} b 1 0) (eq-eqb d ino (sym here)) in
-          omega (arith, now, was, one)
-      | inr other ↦
-          let same : slice_index (set l d (slice_index l d + 1)) ino ≡ slice_index l ino = get_or-set_other l d ino (slice_index l d + 1) 0 other in
-          let none : ◌≡◌ {A = ℕ} (if d == ino then 1 else 0) 0 = ap (λ b. cond {A = ℕ} b 1 0) (ne_eqb d ino (λ e. other (sym e))) in
-          omega (arith, same, none)
-    ]
+more_refs l d ino some = elim (cases_lt d (length l)) [
+  | inl low ↦ more_within l d ino low
+  | inr high ↦ absurd (let none = get_or_past l d 0 high in omega (arith, none, some))
+]
 
 -- One more process, in a slot that is free, and one reference more.
 pub child_owes : (refs : List ℕ) (files : List (Option OpenFile)) (texts : List (Option Text)) (ts : List (Option Told)) (s c : ℕ) (t : Told) → Owes refs files texts ts

@@ -1,5 +1,5 @@
 -- The system calls that are built: section II of the UNIX Programmer's Manual; Lions' Commentary, `sysent` and `trap`.
-use Rattle.std.specs.Prelude.{ℕ, Bool, ◌+◌, ◌-◌, ◌*◌, ◌%◌, ◌==◌, ◌&&◌, ◌||◌, nat_lt, nat_le, true, false, if◌then◌else◌, List, [], ◌∷◌, ◌++◌, map, find, Option, Some, None, Result, Ok, Err, slice_index, slice_set}
+use Rattle.std.specs.Prelude.{ℕ, ◌+◌, ◌-◌, ◌*◌, ◌%◌, ◌==◌, ◌&&◌, ◌||◌, nat_lt, nat_le, true, false, if◌then◌else◌, List, [], ◌∷◌, ◌++◌, map, find, Option, Some, None, Result, Ok, Err, slice_index, slice_set}
 use Rattle.std.specs.Option.{option_map}
 use Rattle.v6_base.specs.Access.{load_word}
 use Rattle.v6_base.specs.Image.{Image}
@@ -40,7 +40,7 @@ use Rattle.abstract_unix.specs.declared.calls.SystemCall.{SystemCall}
 use Rattle.abstract_unix.specs.declared.calls.SystemCall.TheVariants.{Indirect, Exit, Fork, OnFiles, OnProcesses}
 use Rattle.abstract_unix.specs.declared.calls.Sysent.{Sysent}
 use Rattle.abstract_unix.specs.declared.ending.Ending.TheVariants.{Ended, Trapped}
-use Rattle.abstract_unix.specs.Unix.{Text, Unix, process_of, with_process}
+use Rattle.abstract_unix.specs.Unix.{Unix, process_of, with_process}
 use Rattle.abstract_unix.specs.References.{references_of}
 use Rattle.abstract_unix.specs.Errors.{error_number}
 use Rattle.abstract_unix.specs.Steps.{Steps, returns, sleeps, not_built, signals, sigsegv, sigsys}

@@ -5,7 +5,7 @@ use Rattle.std.specs.List.{range_with_len}
 use Rattle.sys_files.specs.Sound.{is_of}
 use Rattle.sys_procs.specs.Process.{Process}
 pub use Rattle.sys_procs.specs.TextTable.{is_text_of}
-use Rattle.abstract_unix.specs.Unix.{Text, Unix}
+use Rattle.abstract_unix.specs.Unix.{Unix}
 
 -- a process whose current directory is this inode; one that has ended has left it
 abbrev pub is_in : ℕ → Option Process → Bool

@@ -6,7 +6,6 @@ ghost use Rattle.fs_laws.specs.Rest.{SameRest};
 ghost use Rattle.sys_files.specs.Handed as parts;
 ghost use Rattle.sys_files.specs.Sound.{IsSound};
 ghost use Rattle.sys_files.specs.Does.{Does};
-ghost use Rattle.pick_rules.specs.Apply.{change_row};
 ghost use Rattle.sys_procs.specs.Done.{HasDone};
 ghost use Rattle.sys_procs.specs.Handed.{handed, AreProcs, AreBare, Calls, IsMarked};
 ghost use Rattle.abstract_unix.specs.Calls.{sysent_of, file_row, process_row};
@@ -196,7 +195,7 @@ pub fn do_file_call<S: Space, T: Trace>(
     }
 }
 
-/// Does a call on processes. Where it stops in exec(II), its process may have given its place back.
+/// Does a call on processes. Where it stops in exec(II), its process may have neither its old image nor its new one.
 #[tactic(auto, using(crate::proofs::CallLemmas::stops_whole, crate::proofs::CallLemmas::stops_so))]
 pub fn do_process_call<T: Trace>(
     call: ProcessCall,

@@ -48,15 +48,15 @@ module _ (v : Stock) (table : AreTexts v.texts) (counted : IsCounted v.rows v.te
         text = record { row = row; bytes = text_in v.line v.core (Some row) };
         there = shared_at v t ∙ ap (shared_in v.line v.core) f;
         users =
-          let has : has_text t (row_at v.rows s) ≡ true = ap (is_text t) e ∙ eq-eqb t t refl in
-          let least : one true ≤ count_by (has_text t) v.rows = subst (λ b. one b ≤ count_by (has_text t) v.rows) has (count_at (has_text t) v.rows s (low s t e)) in
-          let users = counted.users t row f in omega (arith, least, users);
+            let has : has_text t (row_at v.rows s) ≡ true = ap (is_text t) e ∙ eq-eqb t t refl in
+            let least : one true ≤ count_by (has_text t) v.rows = subst (λ b. one b ≤ count_by (has_text t) v.rows) has (count_at (has_text t) v.rows s (low s t e)) in
+            let users = counted.users t row f in omega (arith, least, users);
         loaded = λ is.
-          let r : Row = row_at v.rows s in
-          let here : is_in_core r.state ≡ true = sym (in_core v.line v.core (text_for v.line v.core v.texts r.text) r.state r.data_size r.stack_size) ∙ ap is_loaded (sym (slot_at v s)) ∙ is in
-          let has : has_loaded t r ≡ true = ap (λ b. b && is_text t r.text) here ∙ ap (is_text t) e ∙ eq-eqb t t refl in
-          let least : one true ≤ count_by (has_loaded t) v.rows = subst (λ b. one b ≤ count_by (has_loaded t) v.rows) has (count_at (has_loaded t) v.rows s (low s t e)) in
-          let loaded = counted.loaded t row f in omega (arith, least, loaded);
+            let r : Row = row_at v.rows s in
+            let here : is_in_core r.state ≡ true = sym (in_core v.line v.core (text_for v.line v.core v.texts r.text) r.state r.data_size r.stack_size) ∙ ap is_loaded (sym (slot_at v s)) ∙ is in
+            let has : has_loaded t r ≡ true = ap (λ b. b && is_text t r.text) here ∙ ap (is_text t) e ∙ eq-eqb t t refl in
+            let least : one true ≤ count_by (has_loaded t) v.rows = subst (λ b. one b ≤ count_by (has_loaded t) v.rows) has (count_at (has_loaded t) v.rows s (low s t e)) in
+            let loaded = counted.loaded t row f in omega (arith, least, loaded);
       }
 
   are_shared : AreShared (kept_of v)

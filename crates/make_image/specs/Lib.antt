@@ -4,3 +4,4 @@ pub mod FreeList
 pub mod Image
 pub mod Adding
 pub mod FreeBlocks
+pub mod Demo

@@ -205,15 +205,6 @@ impl Holes {
         are_apart(self.holes.as_slice(), at, n)
     }
 
-    /// A map of the same holes.
-    pub fn copy(&self) -> Holes
-        ensures { result ≡ self.now }
-    {
-        let mut holes = ArrayVec::new();
-        let _ = holes.try_extend_from_slice(self.holes.as_slice());
-        Holes { holes }
-    }
-
     /// How many holes there are: no more than one more than there are ranges that are taken.
     pub fn count(&self) -> usize
         ensures count { result ≡ length self.now }

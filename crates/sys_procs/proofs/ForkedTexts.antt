@@ -1,5 +1,5 @@
 -- The texts when a child shares its parent's: what is kept, what a call is handed, and the board.
-use Rattle.std.proofs.Common.{◌≡◌, ◌∙◌, ◌+◌, ◌<◌, ◌==◌, ℕ, Bool, true, false, cond, List, length, get_or, set, map, Option, Some, None, refl, sym, ap, subst, arith}
+use Rattle.std.proofs.Common.{◌≡◌, ◌∙◌, ◌+◌, ◌<◌, ℕ, true, cond, List, length, get_or, set, map, Option, Some, None, refl, sym, ap, arith}
 use Rattle.std.specs.Option.{option_map}
 use Rattle.std.proofs.lemmas.Bool.{ne_eqb}
 use Rattle.std.proofs.lemmas.List.{map-set, get_or-set_same}
@@ -12,7 +12,7 @@ use Rattle.pick_rules.specs.declared.table.Table.{Table}
 use Rattle.pick_rules.specs.Table.{row_at, with_row, empty_row, child_row}
 use Rattle.pick_rules.specs.Sleepers.{runout_told}
 use Rattle.pick_rules.specs.Board.{TextPlace, Board}
-use Rattle.pick_rules.specs.Apply.{applied, in_table, change_row, change_text, at_place, joins, changed}
+use Rattle.pick_rules.specs.Apply.{applied, in_table, change_row, joins, changed}
 use Rattle.pick_rules.proofs.Placing.{text_table, text_core, again_row, core_table, core_core, row_in, row_out}
 use Rattle.image_keep.specs.Kept.{Shared, Keeping, Kept, with_keeping, with_text_of, text_of}
 use Rattle.image_keep.specs.Kept as kept
@@ -20,7 +20,6 @@ use Rattle.image_keep.specs.Moves.{forked_row, forked_texts}
 use Rattle.image_keep.specs.Places.{placed, is_text_loaded, may_load}
 use Rattle.swap_sched.specs.Match.{text_place}
 use Rattle.swap_sched.proofs.Texts.{one_more, text_at_map, set_twice}
-use Rattle.sys_procs.specs.TextTable.{Text}
 use Rattle.sys_procs.specs.Texts as texts
 use Rattle.sys_procs.specs.World.{text_in}
 use Rattle.sys_procs.specs.Seats.{with_image_row}
@@ -122,19 +121,27 @@ forked_at_text : (texts : List (Option Shared)) (u : ℕ) (place : Place)
     ≡ map text_place (set texts u (kept.changed (forked_row place) (get_or texts u None)))
 forked_at_text texts u (Swap block) loaded =
     sym (map-set text_place texts u (kept.changed (forked_row (Swap block)) (get_or texts u None))
-    ∙ ap (set (map text_place texts) u) (same_place (get_or texts u None) block ∙ ap (λ o. changed o one_user) (sym (text_at_map texts u))))
+    ∙ ap (set (map text_place texts) u)
+    (same_place (get_or texts u None) block ∙ ap (λ o. changed o one_user) (sym (text_at_map texts u))))
 forked_at_text texts u (Core click) loaded =
     let there = has_loaded (get_or texts u None) (loaded refl) in
     let x : Shared = there.0 in
-    let now : TextPlace = record { clicks = x.row.clicks; users = x.row.users; loaded = x.row.loaded; click = x.row.at; block = x.row.block } in
+    let now : TextPlace = record {
+      clicks = x.row.clicks;
+      users = x.row.users;
+      loaded = x.row.loaded;
+      click = x.row.at;
+      block = x.row.block;
+    } in
     let at : get_or (map text_place texts) u None ≡ Some now = text_at_map texts u ∙ ap text_place there.1 in
     let some = there.2 in
     let l : List (Option TextPlace) = map text_place texts in
-    ap (λ (o : Option TextPlace). set (set l u (changed o one_user)) u (changed (get_or (set l u (changed o one_user)) u None) one_more)) at
+    ap (λ (o : Option TextPlace). set (set l u (changed o one_user)) u
+    (changed (get_or (set l u (changed o one_user)) u None) one_more)) at
     ∙ set_twice l u (one_user now) now one_more at
     ∙ sym (map-set text_place texts u (kept.changed (forked_row (Core click)) (get_or texts u None))
     ∙ ap (set l u) (ap (λ o. text_place (kept.changed (forked_row (Core click)) o)) there.1
-    ∙ ap (λ b. Some (record { clicks = x.row.clicks; users = x.row.users + 1; loaded = x.row.loaded + 1; click = cond b click x.row.at; block = x.row.block }))
+    ∙ ap (λ b. Some (record (one_more (one_user now)) { click = cond b click x.row.at }))
     (ne_eqb x.row.loaded 0 (λ f. omega (arith, f, some)))))
 
 by_text : (k : Kept) (o : Option ℕ) (place : Place) → (is_core place ≡ true → may_load k o ≡ true)

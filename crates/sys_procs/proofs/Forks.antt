@@ -10,10 +10,9 @@ use Rattle.v6_base.specs.declared.entry.Place.TheVariants.{Core, Swap}
 use Rattle.u_area.specs.declared.area.UArea.{UArea}
 use Rattle.pick_rules.specs.declared.row.TableRow.{TableRow}
 use Rattle.pick_rules.specs.declared.table.Table.{Table}
-use Rattle.pick_rules.specs.Table.{row_at, with_row, IsTable, empty_row, child_row}
-use Rattle.pick_rules.specs.Sleepers.{runout_told}
+use Rattle.pick_rules.specs.Table.{row_at, with_row, IsTable, empty_row}
 use Rattle.pick_rules.specs.Board.{Board, placed}
-use Rattle.pick_rules.specs.Apply.{applied, at_place, joins, in_table, change_row, enters_core}
+use Rattle.pick_rules.specs.Apply.{applied}
 use Rattle.pick_rules.specs.Effects.{Fork}
 use Rattle.pick_rules.specs.Effects as effects
 use Rattle.pick_rules.specs.Logged.{logged, log_one}
@@ -30,7 +29,7 @@ use Rattle.fs_nodes.specs.FileSystem.{FileSystem}
 use Rattle.fs_tree.specs.Finding.{with_reference}
 use Rattle.sys_procs.specs.declared.procs.Procs.{Procs}
 use Rattle.sys_procs.specs.Process.{Process, no_process, process_by, process_in, register, with_register}
-use Rattle.sys_procs.specs.World.{World, Clock, process_of, with_process, change, processes_in}
+use Rattle.sys_procs.specs.World.{World, process_of, with_process, change, processes_in}
 use Rattle.sys_procs.specs.Texts.{joined_by_child}
 use Rattle.sys_procs.specs.Fork.{copied, past_word, next_pid, with_child, fork_into, fork_one}
 use Rattle.sys_procs.specs.Seats.{with_image_row}

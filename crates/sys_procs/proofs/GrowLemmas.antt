@@ -128,7 +128,8 @@ module _ (p : Procs) (s : ℕ) (alive : IsAlive p s) (long : length p.images.slo
     there found keeps e = ap (λ b. cond b (place_of p.images s) (placed p.images s n)) (sym e) ∙ (sym (expanded_is n) ∙ found)
 
     -- the texts, where it keeps its place
-    texts_kept : expanded p.images s n ≡ Some place → nat_le n (row_at p.table s).size ≡ true → (kept_grown p.images s d stack place).texts ≡ p.images.texts
+    texts_kept : expanded p.images s n ≡ Some place → nat_le n (row_at p.table s).size ≡ true
+        → (kept_grown p.images s d stack place).texts ≡ p.images.texts
     texts_kept found e =
         ap (λ (o : Option Place). texts_moved p.images.texts (text_of p.images s) o place) (there found true e)
         ∙ texts_stay p.images.texts (text_of p.images s) place
@@ -143,7 +144,8 @@ module _ (p : Procs) (s : ℕ) (alive : IsAlive p s) (long : length p.images.slo
     places : expanded p.images s n ≡ Some place → nat_le n (row_at p.table s).size ≡ false
         → (applied (board p) (line.Size s n place)).texts ≡ map text_place (kept_grown p.images s d stack place).texts
     places found e =
-        grown_places (board p) p.images s n stood place alive.above (row_low p s alive) refl (place_is p s alive ∙ stood_at) (text_row p s alive) (there found false e)
+        grown_places (board p) p.images s n stood place alive.above (row_low p s alive) refl
+        (place_is p s alive ∙ stood_at) (text_row p s alive) (there found false e)
         ∙ ap (λ (o : Option Place). map text_place (texts_moved p.images.texts (text_of p.images s) o place)) (sym stood_at)
 
     pub log_sized : (fs : FileSystem) → expanded p.images s n ≡ Some place → came p (expands (handed p fs) s d stack) ≡ record {

@@ -1,5 +1,5 @@
 -- The texts when the image of a process goes from its place to another: what is kept, what a call is handed, and the board.
-use Rattle.std.proofs.Common.{◌≡◌, ◌∙◌, ◌<◌, ◌==◌, ◌||◌, ℕ, Bool, true, false, cond, List, length, get_or, set, map, Option, Some, None, refl, sym, ap, subst, arith}
+use Rattle.std.proofs.Common.{◌≡◌, ◌∙◌, ◌<◌, ◌||◌, ℕ, Bool, true, false, cond, List, length, get_or, set, map, Option, Some, None, refl, sym, ap, arith}
 use Rattle.std.specs.Option.{option_map, option_or}
 use Rattle.std.proofs.lemmas.Bool.{ne_eqb}
 use Rattle.std.proofs.lemmas.List.{map-set, set-get_or, get_or-set_same}
@@ -17,13 +17,11 @@ use Rattle.text_tab.specs.declared.row.TextRow.{TextRow}
 use Rattle.proc_tab.specs.declared.member.Member.{Member}
 use Rattle.image_keep.specs.Kept.{Shared, Keeping, Kept, with_keeping, shared, changed}
 use Rattle.image_keep.specs.Moves.{moved_row, moved_texts}
-use Rattle.image_keep.specs.Places.{is_text_loaded, may_load, core_fit, swap_fit, placed, blocks}
+use Rattle.image_keep.specs.Places.{may_load, core_fit, swap_fit, placed, blocks}
 use Rattle.image_keep.specs.Kept as kept
 use Rattle.swap_sched.specs.Match.{text_place}
 use Rattle.swap_sched.proofs.Texts.{one_more}
-use Rattle.sys_procs.specs.Process.{Process}
-use Rattle.sys_procs.specs.TextTable.{Text}
-use Rattle.sys_procs.specs.World.{text_in, texts_in, processes_in}
+use Rattle.sys_procs.specs.World.{text_in, processes_in}
 use Rattle.sys_procs.specs.Seats.{with_place}
 use Rattle.sys_procs.proofs.MovedTexts.{fewer_if, more_at, is_core, moved_texts_board}
 
@@ -93,7 +91,8 @@ loaded_by t s from above at =
 texts_out : (b : Board) (s : ℕ) (here : Bool) → is_loaded b.table s ≡ here
     → (without_place b s).texts ≡ fewer_of here b.texts (row_at b.table s).text
 texts_out b s here e =
-    ap (λ x. (in_table (cond x (leaves_core b (row_at b.table s).text) b) (λ t. change_row t s (λ row. record row { place = None }))).texts) e
+    ap (λ x. (in_table (cond x (leaves_core b (row_at b.table s).text) b)
+    (λ t. change_row t s (λ row. record row { place = None }))).texts) e
     ∙ by here (row_at b.table s).text
   where
     by : (here : Bool) (o : Option ℕ)
@@ -112,7 +111,8 @@ texts_at b s n (Swap block) = by (row_at b.table s).text
     by (Some u) = refl
 texts_at b s n (Core click) = by (row_at b.table s).text
   where
-    by : (o : Option ℕ) → (in_table (change_text b o one_more) (λ t. change_row t s (λ row. record row { size = n; place = Some (Core click) }))).texts
+    by : (o : Option ℕ)
+        → (in_table (change_text b o one_more) (λ t. change_row t s (λ row. record row { size = n; place = Some (Core click) }))).texts
         ≡ more_of (Core click) b.texts o
     by None = refl
     by (Some u) = refl
@@ -120,7 +120,8 @@ texts_at b s n (Core click) = by (row_at b.table s).text
 text_out : (b : Board) (s : ℕ) → s < length b.table.rows → (row_at (without_place b s).table s).text ≡ (row_at b.table s).text
 text_out b s low =
     ap (λ (t : Table). (row_at t s).text) (bare_table b s)
-    ∙ ap (λ (row : TableRow). row.text) (get_or-set_same b.table.rows s (record (row_at b.table s) { place = None }) empty_row low)
+    ∙ ap (λ (row : TableRow). row.text)
+    (get_or-set_same b.table.rows s (record (row_at b.table s) { place = None }) empty_row low)
 
 -- the parts of a board on which an image has grown to a place
 pub grown_table : (b : Board) (s n : ℕ) (to : Place) → s < length b.table.rows

@@ -35,7 +35,8 @@ module _ (w : World) (s : ℕ) (next : World → Comes) where
   left_goes b None = refl
   left_goes b (Some k) = refl
 
-module _ {p q r : Procs} {fs gs : FileSystem} {result : Result (Unit {0}) PanicKind} {start mid end : Taken} (w : World) (s : ℕ) (o : Option ℕ)
+module _ {p q r : Procs} {fs gs : FileSystem} {result : Result (Unit {0}) PanicKind} {start mid end : Taken}
+    (w : World) (s : ℕ) (o : Option ℕ)
     (next : World → Comes) (left : HasLeft p q fs start mid (xfree w s o nothing))
     (rest : HasEnded q r gs result mid end (next (parts.handed q fs))) where
   is_left : parts.handed q fs ≡ (xfree w s o nothing).state
@@ -47,7 +48,8 @@ module _ {p q r : Procs} {fs gs : FileSystem} {result : Result (Unit {0}) PanicK
       ≡ after_items (parts.came p (xfree w s o nothing)).items (parts.came q (next (parts.handed q fs)))
   both =
       ap (logged (parts.board p)) (left_effects w s next o)
-      ∙ logged_after (parts.board p) (xfree w s o nothing).effects (next (xfree w s o nothing).state).effects (left_goes w s next (parts.board p) o)
+      ∙ logged_after (parts.board p) (xfree w s o nothing).effects (next (xfree w s o nothing).state).effects
+      (left_goes w s next (parts.board p) o)
       ∙ (λ i. after_items (parts.came p (xfree w s o nothing)).items (logged (sym left.shown i) (next (sym is_left i)).effects))
 
   ends : (next (parts.handed q fs)).state ≡ (xfree w s o next).state
@@ -60,7 +62,8 @@ module _ {p q r : Procs} {fs gs : FileSystem} {result : Result (Unit {0}) PanicK
       state = rest.left.state ∙ (λ i. left_by (sym both i).stop (ends i));
       shown = rest.left.shown ∙ sym (ap (λ (l : Logged World). l.board) both);
       items = subst (λ (l : Logged World). Took start l.items end) (sym both)
-          (took_more start mid end (parts.came p (xfree w s o nothing)).items (parts.came q (next (parts.handed q fs))).items left.items rest.left.items);
+          (took_more start mid end (parts.came p (xfree w s o nothing)).items
+          (parts.came q (next (parts.handed q fs))).items left.items rest.left.items);
     };
   }
 

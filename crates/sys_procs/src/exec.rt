@@ -389,9 +389,9 @@ fn load<T: Trace>(
 /// the file may not be executed, or is no plain file. `EFAULT`: an argument can't be read. `E2BIG`: the arguments have
 /// more than 510 bytes. `ENOSPC`: no block is free for a hole in the header. `ENOEXEC`: the file has no header of a
 /// program. `ETXTBSY`: its text would be shared, and others use the file. `ENOMEM`: the sizes are refused.
-/// The system stops where the old image has been given back, and one of these finds no place: `Text`, the program's text,
-/// where forty texts are there; `Swap`, its text or its image, where the swap area has no room. Both are panics. The
-/// process has no place then.
+/// The system stops where the old image has been given back, and one of these finds no place: `Text`, a new text, where
+/// forty are there; `Swap`, a new text for which the swap area has no room, or the image, where core has none for it either.
+/// Then the process has neither an image nor a place.
 #[tactic(auto, using(crate::proofs::Alive::calls))]
 pub fn exec_file<T: Trace>(
     p: &mut Procs,

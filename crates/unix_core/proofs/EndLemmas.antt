@@ -79,6 +79,7 @@ module _ (v : Processes) (k : Kept) (t : Table) (s : ℕ) (agree : Agree v t k) 
         place = old.place;
         size = old.size;
         quiet = λ f. absurd (f kind);
+        textless = old.textless;
       } in
       let here : row_at (asleep t s pri w) s ≡ lain_row t s pri w =
       get_or-set_same t.rows s (lain_row t s pri w) empty_row (let long = agree.rows in omega (arith, long, low)) in

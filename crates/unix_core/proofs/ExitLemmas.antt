@@ -14,6 +14,7 @@ use Rattle.pick_rules.specs.Effects as effects
 use Rattle.pick_rules.specs.Logged.{Logged, Stop, logged, log_one, left_by}
 use Rattle.sys_procs.specs.World as its
 use Rattle.sys_procs.specs.Comes.{Comes}
+use Rattle.sys_procs.specs.Texts.{leaves_text, is_sticky, xfree}
 use Rattle.sys_procs.specs.Exit.{leaves, dies, exit_status, end_proc, exit_now}
 use Rattle.sys_procs.specs.Handed.{handed, board, came}
 use Rattle.fs_nodes.specs.FileSystem.{IsFileSystem}
@@ -24,12 +25,9 @@ use Rattle.abstract_unix.specs.Unix.{Unix, process_of}
 use Rattle.sys_procs.specs.Process.{Process, no_process}
 use Rattle.sys_files.specs.Handed.{Handed}
 use Rattle.abstract_unix.proofs.Dying.{closed_registers}
-use Rattle.sys_procs.proofs.Ends.{end_alone}
-use Rattle.sys_procs.proofs.Alive.{no_text_here}
-use Rattle.unix_core.proofs.WorldLemmas.{ready_alive}
 use Rattle.abstract_unix.specs.Calls.{handed_of, exits, closes_all, with_handed, with_world, world_of}
 use Rattle.unix_core.specs.Parts.{unix_of, board_in, IsReady, HasCome, ended_as}
-use Rattle.unix_core.proofs.LoggedLemmas.{over, stop_of, after_items, logged_both}
+use Rattle.unix_core.proofs.LoggedLemmas.{over, stop_of, after_items, logged_after, logged_both}
 use Rattle.unix_core.proofs.CameLemmas.{world_is}
 
 -- What the log says of an end.
@@ -62,44 +60,90 @@ module _ (w1 : World) (s : ℕ) (ready : IsReady w1 s) where
   abbrev pub ends : Comes
   ends = exit_now (handed w1.procs w1.files.tree.nodes) s
 
-  -- the process has no text to leave
-  pub ends_is : ends ≡ dies (leaves (handed w1.procs w1.files.tree.nodes) s (exit_status (process_of (unix_of w1) s))) s
-  unfolding exit_now
-  ends_is = end_alone (handed w1.procs w1.files.tree.nodes) s (exit_status (process_of (unix_of w1) s)) (no_text_here w1.procs s (ready_alive w1 s ready))
-
   -- the process has left its directory
+  abbrev pub away : its.World
+  away = leaves (handed w1.procs w1.files.tree.nodes) s (exit_status (process_of (unix_of w1) s))
+
+  abbrev pub its_text : Option ℕ
+  its_text = (process_of (unix_of w1) s).text
+
+  -- and its text, if it has one, which the log tells
+  abbrev pub left_world : Option ℕ → its.World
+  left_world None = away
+  left_world (Some k) = leaves_text away s k (is_sticky away k)
+
+  abbrev pub text_items : Option ℕ → List Item
+  text_items None = []
+  text_items (Some k) = Log (line.Leave s k (is_sticky away k)) ∷ []
+
+  abbrev pub text_board : Option ℕ → Board
+  text_board None = board_in w1
+  text_board (Some k) = applied (board_in w1) (line.Leave s k (is_sticky away k))
+
   abbrev pub has_left : its.World
-  has_left = leaves (handed w1.procs w1.files.tree.nodes) s (exit_status (process_of (unix_of w1) s))
+  has_left = left_world its_text
 
-  -- a block of the swap area is there for it, or the run stops
-  end_log : ((block : ℕ) × ((parent : ℕ) × (came w1.procs ends ≡ of_end (board_in w1) s block parent)))
-      ⊎ (came w1.procs ends ≡ of_panic (board_in w1) has_left)
-  end_log = by (swap_fit (board_in w1) 1) refl
+  abbrev left_board : Board
+  left_board = text_board its_text
+
+  abbrev ends_by : Option ℕ → Comes
+  ends_by o = xfree away s o (λ left. dies left s)
+
+  state_by : (o : Option ℕ) → (ends_by o).state ≡ (dies (left_world o) s).state
+  state_by None = refl
+  state_by (Some k) = refl
+
+  log_by : (o : Option ℕ)
+      → came w1.procs (ends_by o) ≡ after_items (text_items o) (logged (text_board o) (dies (left_world o) s).effects)
+  unfolding log_one effects.came
+  log_by None = refl
+  log_by (Some k) = logged_after (board_in w1) (text_items (Some k)) (dies (left_world (Some k)) s).effects
+
+  ends_are_by : ends ≡ ends_by its_text
+  unfolding exit_now end_proc
+  ends_are_by = refl
+
+  pub ends_state : ends.state ≡ (dies has_left s).state
+  ends_state = ap (λ (c : Comes). c.state) ends_are_by ∙ state_by its_text
+
+  its_log : came w1.procs ends ≡ after_items (text_items its_text) (logged left_board (dies has_left s).effects)
+  its_log = ap (λ (c : Comes). came w1.procs c) ends_are_by ∙ log_by its_text
+
+  -- what the log says of it, where there is a block of the swap area, and where the run stops
+  abbrev pub of_its_end : ℕ → ℕ → Logged its.World
+  of_its_end block parent = after_items (text_items its_text) (of_end left_board s block parent)
+
+  abbrev pub of_its_panic : Logged its.World
+  of_its_panic = after_items (text_items its_text) (of_panic left_board has_left)
+
+  end_log : ((block : ℕ) × ((parent : ℕ) × (came w1.procs ends ≡ of_its_end block parent))) ⊎ (came w1.procs ends ≡ of_its_panic)
+  end_log = by (swap_fit left_board 1) refl
     where
-      by : (o : Option ℕ) → swap_fit (board_in w1) 1 ≡ o
-          → ((block : ℕ) × ((parent : ℕ) × (came w1.procs ends ≡ of_end (board_in w1) s block parent)))
-          ⊎ (came w1.procs ends ≡ of_panic (board_in w1) has_left)
-      by (Some block) fit = inl (block, (_, ap (λ (c : Comes). came w1.procs c) ends_is ∙ logged_exit (board_in w1) s block _ _ fit))
-      by None fit = inr (ap (λ (c : Comes). came w1.procs c) ends_is ∙ logged_panic (board_in w1) s _ _ fit)
+      by : (o : Option ℕ) → swap_fit left_board 1 ≡ o
+          → ((block : ℕ) × ((parent : ℕ) × (came w1.procs ends ≡ of_its_end block parent))) ⊎ (came w1.procs ends ≡ of_its_panic)
+      by (Some block) fit =
+          inl (block, (_, its_log ∙ ap (after_items (text_items its_text)) (logged_exit left_board s block _ _ fit)))
+      by None fit = inr (its_log ∙ ap (after_items (text_items its_text)) (logged_panic left_board s _ _ fit))
 
-  pub end_goes : (came w1.procs ends).stop ≡ None
-      → (block : ℕ) × ((parent : ℕ) × (came w1.procs ends ≡ of_end (board_in w1) s block parent))
+  pub end_goes : (came w1.procs ends).stop ≡ None → (block : ℕ) × ((parent : ℕ) × (came w1.procs ends ≡ of_its_end block parent))
   end_goes none = elim end_log [
     | inl there ↦ there
     | inr full ↦ absurd (let some = sym none ∙ ap (λ (l : Logged its.World). l.stop) full in cc some)
   ]
 
-  pub end_stops : (stop : Stop its.World) → (came w1.procs ends).stop ≡ Some stop → came w1.procs ends ≡ of_panic (board_in w1) has_left
+  pub end_stops : (stop : Stop its.World) → (came w1.procs ends).stop ≡ Some stop → came w1.procs ends ≡ of_its_panic
   end_stops stop some = elim end_log [
     | inl there ↦ absurd (let none = sym some ∙ ap (λ (l : Logged its.World). l.stop) there.1.1 in cc none)
     | inr full ↦ full
   ]
 
-  pub end_state : (x : its.World) → (came w1.procs ends).stop ≡ None → x ≡ left_by (came w1.procs ends).stop ends.state → x ≡ ends.state
+  pub end_state : (x : its.World) → (came w1.procs ends).stop ≡ None → x ≡ left_by (came w1.procs ends).stop ends.state
+      → x ≡ ends.state
   end_state x none e = e ∙ ap (λ o. left_by o ends.state) none
 
 -- The whole of exit(II).
-module _ (w w1 now : World) (s : ℕ) (ready : IsReady w1 s) (low : s < length (unix_of w).processes) (form : IsFileSystem w1.files.tree.nodes)
+module _ (w w1 now : World) (s : ℕ) (ready : IsReady w1 s) (low : s < length (unix_of w).processes)
+    (form : IsFileSystem w1.files.tree.nodes)
     (unix : unix_of w1 ≡ with_handed (unix_of w) s (closes_all (unix_of w) s).state)
     (shown : board_in w1 ≡ (logged {W = Unix} (board_in w) (map Show (closes_all (unix_of w) s).items)).board) where
   abbrev items : List Item
@@ -121,14 +165,17 @@ module _ (w w1 now : World) (s : ℕ) (ready : IsReady w1 s) (low : s < length (
       let h : Handed = (closes_all (unix_of w) s).state in
       let p : Process = process_of (unix_of w) s in
       let q : Process = record p { u = h.u; row = h.row; «data» = h.image.data; stack = h.image.stack } in
-      let here : (process_of u1 s).u.r ≡ h.u.r = ap (λ o. (unwrap_or o no_process).u.r) (get_or-set_same (unix_of w).processes s (Some q) None low) in
-      ap (λ (r : List ℕ). end_proc (world_of u1) s (256 * (slice_index r 0 % 256))) (here ∙ closed_registers (handed_of (unix_of w) p))
+      let here : (process_of u1 s).u.r ≡ h.u.r =
+      ap (λ o. (unwrap_or o no_process).u.r) (get_or-set_same (unix_of w).processes s (Some q) None low) in
+      ap (λ (r : List ℕ). end_proc (world_of u1) s (256 * (slice_index r 0 % 256)))
+      (here ∙ closed_registers (handed_of (unix_of w) p))
 
   ends_are : ends w1 s ready ≡ end_proc (world_of u1) s status
   ends_are = ap (λ x. exit_now x s) its_world ∙ row_is
 
   -- the log of the whole call
-  whole : logged (board_in w) (exits (unix_of w) s).effects ≡ after_items items (over (with_world u1) (came w1.procs (ends w1 s ready)))
+  whole : logged (board_in w) (exits (unix_of w) s).effects
+      ≡ after_items items (over (with_world u1) (came w1.procs (ends w1 s ready)))
   whole =
       logged_both (with_world u1) (board_in w) items (end_proc (world_of u1) s status).effects
       ∙ ap (λ b. after_items items (over (with_world u1) (logged b (end_proc (world_of u1) s status).effects))) (sym shown)
@@ -150,17 +197,20 @@ module _ (w w1 now : World) (s : ℕ) (ready : IsReady w1 s) (low : s < length (
   exit_come none is board_is = record {
     ending = ap (λ (o : Option (Stop Unix)). ended_as o Ended) (sym (halts None none));
     unix = is ∙ (λ i. with_world (unix i) (ends_are i).state)
-        ∙ ap (λ (o : Option (Stop Unix)). left_by o (with_world u1 (end_proc (world_of u1) s status).state)) (sym (halts None none));
+        ∙ ap (λ (o : Option (Stop Unix)). left_by o (with_world u1 (end_proc (world_of u1) s status).state))
+        (sym (halts None none));
     board = board_is ∙ ap (λ (l : Logged Unix). l.board) (sym whole);
   }
 
   -- The run has stopped, since the swap area has no block.
-  pub exit_stops : (stop : Stop its.World) → (came w1.procs (ends w1 s ready)).stop ≡ Some stop → (e : Ending) → e ≡ Panic stop.why
+  pub exit_stops : (stop : Stop its.World) → (came w1.procs (ends w1 s ready)).stop ≡ Some stop → (e : Ending)
+      → e ≡ Panic stop.why
       → unix_of now ≡ with_world (unix_of w1) stop.before → board now.procs ≡ (came w1.procs (ends w1 s ready)).board
       → HasCome (board_in w) (exits (unix_of w) s) e now
   exit_stops stop some e ended is board_is = record {
     ending = ended ∙ ap (λ (o : Option (Stop Unix)). ended_as o Ended) (sym (halts (Some stop) some));
     unix = is ∙ ap (λ (u : Unix). with_world u stop.before) unix
-        ∙ ap (λ (o : Option (Stop Unix)). left_by o (with_world u1 (end_proc (world_of u1) s status).state)) (sym (halts (Some stop) some));
+        ∙ ap (λ (o : Option (Stop Unix)). left_by o (with_world u1 (end_proc (world_of u1) s status).state))
+        (sym (halts (Some stop) some));
     board = board_is ∙ ap (λ (l : Logged Unix). l.board) (sym whole);
   }

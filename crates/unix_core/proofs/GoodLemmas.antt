@@ -1,5 +1,5 @@
 -- What is so of a good world: who has an image is told by the counts, and who is told has an image.
-use Rattle.std.proofs.Common.{◌≡◌, ◌<◌, ◌∙◌, ℕ, false, List, [], map, min, get_or, length, Option, Some, None, refl, sym, ap, subst}
+use Rattle.std.proofs.Common.{◌≡◌, ◌<◌, ◌∙◌, ℕ, false, List, [], min, get_or, length, Option, Some, None, refl, sym, ap, subst}
 use Rattle.std.specs.Prelude.{⊤, MatchOption, unwrap_or}
 use Rattle.std.proofs.lemmas.List.{length-map}
 use Rattle.pick_rules.specs.declared.table.Table.{Table}

@@ -7,14 +7,15 @@ use Rattle.v6_base.specs.declared.errno.Errno.{Errno}
 use Rattle.seg_regs.specs.Sizes.{is_refused}
 use Rattle.fs_tree.specs.Finding.{with_reference}
 use Rattle.pick_rules.specs.Effects as effect
+use Rattle.u_area.specs.declared.area.UArea.{UArea}
 use Rattle.sys_procs.specs.Process.{Process}
-use Rattle.sys_procs.specs.World.{World, process_of}
+use Rattle.sys_procs.specs.World.{World, process_of, change}
 use Rattle.sys_procs.specs.Comes.{Comes, does, logs}
-use Rattle.sys_procs.specs.TextTable.{entry_of, text_of, with_text}
-use Rattle.sys_procs.specs.Texts.{free_entry, new_text, joined, with_entry, shares_text, makes_text, xalloc_by, xalloc}
+use Rattle.sys_procs.specs.TextTable.{entry_of, with_text}
+use Rattle.sys_procs.specs.Texts.{free_entry, new_text, with_user, with_entry, shares_text, makes_text, xalloc_by, xalloc}
 use Rattle.sys_procs.specs.Tests.{node_at}
 use Rattle.sys_procs.specs.Break.{break_at, grow, grown_stack, clicks_up_to, sized, expands}
-use Rattle.sys_procs.specs.ExecFile.{Tested, tests, with_moved, data_read, reads_text, image_clicks, begins, executes, loads, done_by, exec_file}
+use Rattle.sys_procs.specs.ExecFile.{Tested, tests, with_moved, data_read, reads_text, image_clicks, bared, begins, executes, begins_anew, loads, done_by, exec_file}
 use Rattle.sys_procs.proofs.TestedSlots.{tests_processes}
 use Rattle.abstract_unix.specs.declared.calls.ProcessCall.{ProcessCall}
 use Rattle.abstract_unix.specs.declared.calls.ProcessCall.TheVariants as process
@@ -27,11 +28,11 @@ module _ (ps : List (Option Process)) (r s : ℕ) (other : r ≢ s) where
   abbrev SparedIn : World → Type 0
   SparedIn w = Spared ps w.processes r
 
-  -- A text that would be shared.
+  -- A text is shared.
   sparing_xalloc_by : (w : World) (ino size : ℕ) (o : Option ℕ) (next : World → Bool → Comes) → SparedIn w
       → ((v : World) (b : Bool) → SparedIn v → IsSparing ps r (next v b)) → IsSparing ps r (xalloc_by w s ino size o next)
   sparing_xalloc_by w ino size (Some k) next h rest =
-      let entry = record w { texts = with_text w.texts k (joined (text_of w.texts k)) } in
+      let entry = record w { texts = with_user w.texts k } in
       sparing_logs ps r s other (Share s k) _ (rest (shares_text w s k) false (spared_change ps r s other entry (with_entry k) h))
   sparing_xalloc_by w ino size None next h rest =
       let k = free_entry w.texts in
@@ -50,24 +51,28 @@ module _ (ps : List (Option Process)) (r s : ℕ) (other : r ≢ s) where
   spared_read true w program h = h
   spared_read false w program h = h
 
-  sparing_executes : (w : World) (program : _) → SparedIn w → IsSparing ps r (executes w s program)
-  sparing_executes w program h =
+  sparing_executes : (w : World) (u : UArea) (program : _) → SparedIn w → IsSparing ps r (executes w s u program)
+  sparing_executes w u program h =
       let m = data_read w s program in
       let read : World = with_moved w program.ino m in
-      sparing_comes ps r s other _ _ (spared_change ps r s other read (λ p. begins p (node_at w program.ino) program m.memory.data) h)
+      sparing_comes ps r s other _ _ (spared_change ps r s other read (λ p. begins u p (node_at w program.ino) program m.memory.data) h)
 
+  sparing_begins : (w : World) (u : UArea) (program : _) → SparedIn w → IsSparing ps r (begins_anew w s u program)
+  sparing_begins w u program h =
+      let places : World → Bool → Comes = λ placed is_new.
+      does (effect.Image s (image_clicks program.plan) placed) (executes (reads_text is_new placed s program) s u program) in
+      let placed : (v : World) (b : Bool) → SparedIn v → IsSparing ps r (places v b) = λ v b k.
+      let rest : IsSparing ps r (executes (reads_text b v s program) s u program) =
+      sparing_executes (reads_text b v s program) u program (spared_read b v program k) in
+      record { effects = (k, rest.effects); state = rest.state } in
+      sparing_xalloc w program.ino _ places h placed
+
+  -- The old image goes.
   sparing_loads : (w : World) (program : _) → SparedIn w → IsSparing ps r (loads w s program)
   sparing_loads w program h =
-      let size = program.text_clicks in
-      let places : World → Bool → Comes = λ placed is_new.
-      does (effect.Image s (image_clicks program.plan) placed) (executes (reads_text is_new placed s program) s program) in
-      let placed : (v : World) (b : Bool) → SparedIn v → IsSparing ps r (places v b) = λ v b k.
-      let rest : IsSparing ps r (executes (reads_text b v s program) s program) =
-      sparing_executes (reads_text b v s program) program (spared_read b v program k) in
-      record { effects = (k, rest.effects); state = rest.state } in
-      let fills : World → Comes = λ left. logs (Bare s) (xalloc left s program.ino size places) in
+      let fills : World → Comes = λ left. logs (Bare s) (begins_anew (change left s bared) s (process_of left s).u program) in
       let filled : (v : World) → SparedIn v → IsSparing ps r (fills v) = λ v k.
-      sparing_logs ps r s other (Bare s) (xalloc v s program.ino size places) (sparing_xalloc v program.ino size places k placed) in
+      sparing_logs ps r s other (Bare s) _ (sparing_begins (change v s bared) (process_of v s).u program (spared_change ps r s other v bared k)) in
       sparing_xfree ps r s other w (process_of w s).text fills h filled
 
   sparing_done : (w : World) (a : Result _ Errno) → SparedIn w → IsSparing ps r (done_by w s a)

@@ -1,6 +1,6 @@
 -- The calls on processes but for exec and break: each leaves the processes of other slots alone.
 use Rattle.std.proofs.Common.{◌≡◌, ◌≢◌, ◌∙◌, ℕ, Bool, true, false, if◌then◌else◌, List, [], get_or, set, Option, Some, None, is_none, sym, ap}
-use Rattle.std.specs.Prelude.{unwrap_or, slice_set}
+use Rattle.std.specs.Prelude.{unwrap_or, slice_set, slice_index_or}
 use Rattle.std.proofs.lemmas.List.{get_or-map}
 use Rattle.v6_base.specs.declared.answer.Answer.{Answer}
 use Rattle.v6_base.specs.declared.entry.Entry.{Entry}
@@ -81,7 +81,7 @@ module _ (ps : List (Option Process)) (r s : ℕ) (other : r ≢ s) where
   sparing_xfree w None next h rest = rest w h
   sparing_xfree w (Some k) next h rest =
       let sticky = is_sticky w k in
-      let entry = record w { texts = slice_set w.texts k (remaining (text_of w.texts k) sticky) } in
+      let entry = record w { texts = slice_set w.texts k (remaining sticky (slice_index_or w.texts k None)) } in
       sparing_logs (line.Leave s k sticky) _
       (rest (leaves_text w s k sticky) (spared_gone (goes (text_of w.texts k) sticky) (change entry s without_text) (text_of w.texts k).ino (spared_change entry without_text h)))
 

@@ -34,7 +34,7 @@ found p [] = refl
 found p (x ∷ xs) = ap (λ b. p x || b) (found p xs)
 
 module _ (old new : List (Option Text)) (same : (ino : ℕ) → map (is_text_of ino) new ≡ map (is_text_of ino) old) where
-  same_count : (ino : ℕ) → count_by (is_text_of ino) new ≡ count_by (is_text_of ino) old
+  pub same_count : (ino : ℕ) → count_by (is_text_of ino) new ≡ count_by (is_text_of ino) old
   same_count ino =
       counted (is_text_of ino) new 0 ∙ ap (fold (λ c b. c + cond {A = ℕ} b 1 0) 0) (same ino) ∙ sym (counted (is_text_of ino) old 0)
 

@@ -1,12 +1,15 @@
 -- The pass of the swapper: the parts belong together before and after it, and it changes nothing of the Unix.
 use Rattle.std.specs.List.{range_with_len}
-use Rattle.std.proofs.Common.{◌≡◌, ◌∙◌, ◌<◌, ◌++◌, ℕ, zero, suc, Bool, true, false, cond, List, [], ◌∷◌, length, map, min, replicate, get_or, Option, Some, None, Result, Ok, Err, refl, sym, ap, subst, arith}
-use Rattle.v6_base.specs.Trace.{Taken, Took}
+use Rattle.std.proofs.Common.{◌≡◌, ◌∙◌, ◌<◌, ◌++◌, ℕ, zero, suc, Bool, true, false, cond, List, [], ◌∷◌, length, map, min, get_or, Option, Some, None, Result, Ok, Err, refl, sym, ap, subst, arith}
+use Rattle.std.proofs.lemmas.List.{same_lists, get_or_default, length-map, length-set}
+use Rattle.std.proofs.Math.ListN.{get_or-map}
+use Rattle.v6_base.specs.Trace.{Item, Byte, Log, Taken, Took}
 use Rattle.v6_base.proofs.Took.{took_then}
 use Rattle.v6_base.specs.declared.entry.Chan.{Chan}
 use Rattle.v6_base.specs.declared.entry.Chan.TheVariants.{RunIn, RunOut}
 use Rattle.v6_base.specs.declared.entry.PanicKind.{PanicKind}
 use Rattle.v6_base.specs.declared.entry.PanicKind.TheVariants as panic
+use Rattle.v6_base.specs.declared.entry.Entry.{Entry}
 use Rattle.v6_base.specs.declared.entry.Entry.TheVariants as line
 use Rattle.pick_rules.specs.declared.row.Stat.{Stat}
 use Rattle.pick_rules.specs.declared.row.Stat.TheVariants.{Ready}
@@ -25,17 +28,20 @@ use Rattle.pick_rules.proofs.Movers.{Lives, IsMover, mover}
 use Rattle.pick_rules.proofs.Placing.{row_out, loaded_row, HasCome, comes_in, goes_out}
 use Rattle.proc_tab.specs.declared.member.Member.{Member}
 use Rattle.proc_tab.specs.Processes.{Processes, AreProcesses, member_at}
-use Rattle.image_keep.specs.Kept.{Kept, IsKept, Keeping, Nothing, Alive, Grave, Shared, keeping, shared, text_of}
-use Rattle.image_keep.specs.Kept as kept
+use Rattle.image_keep.specs.Kept.{Kept, IsKept, Keeping, Nothing, Alive, Grave, Shared, keeping, shared, text_of, changed}
+use Rattle.image_keep.specs.Moves.{come_shared, leave_shared, swapped_in, swapped_out}
+use Rattle.text_tab.specs.Table as text_tab
+use Rattle.text_tab.specs.Table.{loaded_at}
 use Rattle.swap_sched.specs.Match.{is_nothing, is_grave}
-use Rattle.swap_sched.specs.Moved.{HasMoved, SameImages, unplaced, unloaded, answered}
+use Rattle.swap_sched.specs.Moved.{HasMoved, SameImages, unplaced, unloaded, answered, kept_by_line, kept_by_item, kept_after}
 use Rattle.swap_sched.specs.Pass.{over, moved, moves_after, pass}
 use Rattle.swap_sched.specs.inside.Does.{logged_move, next_logged}
 use Rattle.swap_sched.proofs.PassLemmas.{next_move, rests_asleep, rests_stopped, none_stopped, some_stopped}
 use Rattle.sys_procs.specs.Process.{process_in}
-use Rattle.sys_procs.specs.World.{clock_of, processes_in}
+use Rattle.sys_procs.specs.World.{clock_of, processes_in, text_in, texts_in}
+use Rattle.sys_procs.specs.TextTable.{marks_of}
 use Rattle.sys_procs.specs.Agree as kind
-use Rattle.sys_procs.specs.Agree.{Kind, kind_of_stat, kind_of_keeping, HasNoText, Agree, board_of}
+use Rattle.sys_procs.specs.Agree.{Kind, kind_of_stat, kind_of_keeping, Agree, board_of}
 use Rattle.sys_procs.proofs.Places.{is_free, has_died, free_stat, died_stat, free_keeping, died_keeping}
 use Rattle.abstract_unix.specs.Unix.{System, Started}
 use Rattle.abstract_unix.specs.declared.ends.Ends.TheVariants as ends
@@ -48,7 +54,6 @@ use Rattle.unix_core.specs.declared.machine.Stage.{Stage}
 use Rattle.unix_core.specs.declared.machine.Stage.TheVariants as stage
 use Rattle.unix_core.specs.Parts.{unix_of, board_in, system_at, phase_of, IsGood, IsNew, IsKernel, Takes}
 use Rattle.unix_core.proofs.BootKernelLemmas.{stopped_kernel}
-use Rattle.unix_core.proofs.GoodLemmas.{texts_none}
 use Rattle.unix_core.proofs.CoverLemmas.{agree_covered}
 
 -- What moves leave of the table: the clock, and who of the processes sleeps for nothing.
@@ -168,27 +173,41 @@ process_unplaced (Some m) Nothing text = refl
 process_unplaced (Some m) (Alive held) text = refl
 process_unplaced (Some m) (Grave u block) text = refl
 
--- no text is there
-unloaded_none : (x : Option Shared) → unloaded x ≡ None → x ≡ None
-unloaded_none None e = refl
-unloaded_none (Some x) e = absurd (cc e)
+-- The table of texts keeps its length.
+come_long : (k : Kept) (o : Option ℕ) (at : ℕ) → length (come_shared k o at).texts ≡ length k.texts
+come_long k None at = refl
+come_long k (Some t) at = length-set k.texts t (changed (loaded_at at) (shared k t))
 
-none_at : (n t : ℕ) → get_or {A = Option Shared} (replicate n None) t None ≡ None
-none_at zero t = refl
-none_at (suc n) zero = refl
-none_at (suc n) (suc t) = none_at n t
+leave_long : (k : Kept) (o : Option ℕ) → length (leave_shared k o).texts ≡ length k.texts
+leave_long k None = refl
+leave_long k (Some t) = length-set k.texts t (changed text_tab.unloaded (shared k t))
 
-all_none : (xs : List (Option Shared)) → ((t : ℕ) → get_or xs t None ≡ None) → xs ≡ replicate (length xs) None
-all_none [] each = refl
-all_none (x ∷ xs) each = λ i. each 0 i ∷ all_none xs (λ t. each (suc t)) i
+line_long : (k : Kept) (e : Entry) → length (kept_by_line k e).texts ≡ length k.texts
+unfolding swapped_in swapped_out
+line_long k (line.SwapIn s c) = come_long k (text_of k s) c
+line_long k (line.SwapOut s block) = leave_long k (text_of k s)
+line_long k e = refl
 
-no_text_moved : (k n : Kept) → HasNoText k → length n.texts ≡ 40 → SameImages k n → HasNoText n
-unfolding kept.no_texts
-no_text_moved k n none long same = record {
-  texts = all_none n.texts (λ t. unloaded_none (shared n t) (same.texts t ∙ ap unloaded (ap (λ (l : List (Option Shared)). get_or l t None) none.texts ∙ none_at 40 t)))
-      ∙ ap (λ m. replicate m None) long;
-  users = same.users ∙ none.users;
-}
+item_long : (k : Kept) (item : Item) → length (kept_by_item k item).texts ≡ length k.texts
+item_long k (Log e) = line_long k e
+item_long k (Byte l byte) = refl
+
+all_long : (k : Kept) (items : List Item) → length (kept_after k items).texts ≡ length k.texts
+all_long k [] = refl
+all_long k (item ∷ items) = all_long (kept_by_item k item) items ∙ item_long k item
+
+-- A text is told by what a move leaves of it.
+told_text : (x : Option Shared) → text_in (unloaded x) ≡ text_in x
+told_text None = refl
+told_text (Some x) = refl
+
+same_texts : (k n : Kept) → length n.texts ≡ length k.texts → SameImages k n → texts_in n ≡ texts_in k
+same_texts k n long same =
+    let size : length (texts_in n) ≡ length (texts_in k) = length-map n.texts text_in ∙ long ∙ sym (length-map k.texts text_in) in
+    same_lists (texts_in n) (texts_in k) size (λ t d low.
+    get_or_default (texts_in n) t d None low
+    ∙ get_or-map text_in n.texts t None ∙ sym (told_text (shared n t)) ∙ ap text_in (same.texts t) ∙ told_text (shared k t) ∙ sym (get_or-map text_in k.texts t None)
+    ∙ get_or_default (texts_in k) t None d (subst (λ m. t < m) size low))
 
 -- The swapper has moved images.
 module _ (v : Processes) (t u : Table) (k n : Kept) (a z : Taken) (agree : Agree v t k) (moved : HasMoved t k a (pass (board_of t k)) u n z)
@@ -269,10 +288,14 @@ module _ (w : World) (u : Table) (n : Kept) (a z : Taken) (good : IsGood w) (mov
   after_agree : Agree w.procs.rows u n
   after_agree = moved_agree w.procs.rows w.procs.table u w.procs.images n a z good.agree moved same holds
 
+  texts_after : texts_in n ≡ texts_in w.procs.images
+  texts_after =
+      same_texts w.procs.images n (ap (λ (k : Kept). length k.texts) moved.images ∙ all_long w.procs.images (pass (board_in w)).items) same
+
   after_unix : unix_of now ≡ unix_of w
   after_unix =
       let processes = moved_processes w.procs.rows w.procs.table u w.procs.images n a z good.agree moved same holds in
-      let texts = texts_none n after_agree.no_text ∙ sym (texts_none w.procs.images good.agree.no_text) in
+      let texts = texts_after in
       let clock = moved_clock w.procs.rows w.procs.table u w.procs.images n a z good.agree moved same holds in
       λ i. record (unix_of w) { processes = processes i; texts = texts i; clock = clock i; limit = min (same.core i) 2048 }
 
@@ -281,7 +304,7 @@ module _ (w : World) (u : Table) (n : Kept) (a z : Taken) (good : IsGood w) (mov
     agree = after_agree;
     running = λ s runs above. absurd (cc (none, runs));
     owed = subst (Owed w.files.tree.nodes.references) (sym after_unix) good.owed;
-    marks = good.marks;
+    marks = good.marks ∙ ap marks_of (sym texts_after);
     rooms = good.rooms;
     core = good.core ∙ sym same.core;
   }

@@ -6,13 +6,17 @@ use Rattle.abstract_unix.specs.declared.calls.ProcessCall.{ProcessCall}
 use Rattle.abstract_unix.specs.declared.calls.ProcessCall.TheVariants as process
 use Rattle.abstract_unix.specs.Calls.{process_row}
 use Rattle.abstract_unix.proofs.ProcessRows.{plain_row}
+use Rattle.fs_nodes.specs.FileSystem.{IsFileSystem}
+use Rattle.image_keep.specs.Kept.{IsKept}
 use Rattle.unix_core.specs.Parts.{IsReady}
 use Rattle.abstract_unix.proofs.Mild.{mild_plain}
 use Rattle.unix_core.proofs.CameLemmas.{given, IsTame, mild_tame, near_here}
 use Rattle.unix_core.proofs.GrowthLemmas.{break_tame}
 use Rattle.unix_core.proofs.ProgramLemmas.{exec_tame}
 
-pub tame_row : (w : World) (s : ℕ) → IsReady w s → (call : ProcessCall) (args : List ℕ) → IsTame w (process_row call (given w) s args)
-tame_row w s ready process.Exec a = exec_tame w s ready (slice_index a 0) (slice_index a 1)
-tame_row w s ready process.Break a = break_tame w s ready (slice_index a 0)
-tame_row w s ready call a = mild_tame w _ (mild_plain (given w) s (given w) _ (plain_row call tt s (given w) a) (near_here w s ready))
+pub tame_row : (w : World) (s : ℕ) → IsReady w s → IsFileSystem w.files.tree.nodes → IsKept w.procs.images
+    → (call : ProcessCall) (args : List ℕ) → IsTame w (process_row call (given w) s args)
+tame_row w s ready form holds process.Exec a = exec_tame w s ready form holds (slice_index a 0) (slice_index a 1)
+tame_row w s ready form holds process.Break a = break_tame w s ready (slice_index a 0)
+tame_row w s ready form holds call a =
+    mild_tame w _ (mild_plain (given w) s (given w) _ (plain_row call tt s (given w) a) (near_here w s ready))

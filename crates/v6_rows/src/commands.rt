@@ -44,9 +44,10 @@ const RUNS: [Ended<'static>; 3] = [
     ),
 ];
 
-/// Where `check` is done, its fourth call is the report.
-const OTHERS: [Ended<'static>; 3] = [
+/// Where `check` is done, its fourth call is the report; of `demo` it is the first.
+const OTHERS: [Ended<'static>; 4] = [
     ("check image", 4, Status::WriteFault(OutPort::Report), b""),
+    ("demo 12", 1, Status::WriteFault(OutPort::Report), b""),
     (
         "make 12 final",
         1,
@@ -98,7 +99,7 @@ fn runs_whose_files_fail_end_before_their_first_slot(rt: HostRuntime) -> Result<
 }
 
 #[test]
-fn check_and_make_whose_files_fail_end_as_the_manual_says(rt: HostRuntime) -> Result<(), Fail> {
+fn other_commands_whose_files_fail_end_as_the_manual_says(rt: HostRuntime) -> Result<(), Fail> {
     for row in OTHERS {
         assert!(rt; least_disk_gives(rt.alloc(), &row)?, "{}, {}", row.0, row.1);
     }
@@ -126,14 +127,23 @@ fn statuses_have_their_numbers(rt: HostRuntime) {
     }
 }
 
-/// The report's port has room for the first five bytes of the line.
+/// Whether a command whose report has room for five bytes ends with a fault of that port, which has these.
+fn report_is_cut(alloc: Global, words: &str, front: &[u8]) -> Result<bool, AllocError> {
+    let image = hi_image(alloc, HI_BYTES, &[])?;
+    let rooms = Rooms { report: 5, ..ROOMS };
+    let mut host = host_in(alloc, &image, b"", rooms)?;
+    let status = end_over(alloc, words, &mut host)?;
+    Ok(host.bytes(OutPort::Report) == front && status == Status::WriteFault(OutPort::Report))
+}
+
 #[test]
 fn failed_report_of_check_is_a_write_fault(rt: HostRuntime) -> Result<(), Fail> {
-    let image = hi_image(rt.alloc(), HI_BYTES, &[])?;
-    let rooms = Rooms { report: 5, ..ROOMS };
-    let mut host = host_in(rt.alloc(), &image, b"", rooms)?;
-    let status = end_over(rt.alloc(), "check image", &mut host)?;
-    let is_front = host.bytes(OutPort::Report) == b"ok 7 ".as_slice();
-    assert!(rt; is_front && status == Status::WriteFault(OutPort::Report));
+    assert!(rt; report_is_cut(rt.alloc(), "check image", b"ok 7 ")?);
+    Ok(())
+}
+
+#[test]
+fn failed_report_of_demo_is_a_write_fault(rt: HostRuntime) -> Result<(), Fail> {
+    assert!(rt; report_is_cut(rt.alloc(), "demo 12", b"demo ")?);
     Ok(())
 }

@@ -1,5 +1,5 @@
 -- What a command answers before it has written anything.
-use Rattle.std.proofs.Common.{◌≡◌, ℕ, true, false, Option, Some, None, List, [], take, refl, sym, ◌∙◌, ap, subst, IsSomeAnd}
+use Rattle.std.proofs.Common.{◌≡◌, ℕ, true, false, ◌||◌, Option, Some, None, List, [], take, refl, sym, ◌∙◌, ap, subst, IsSomeAnd}
 use Rattle.std.proofs.lemmas.List.{append-nil}
 use Rattle.v6_port.specs.declared.host.InPort.TheVariants as in_port
 use Rattle.v6_port.specs.declared.host.OutPort.{OutPort}
@@ -19,7 +19,7 @@ use Rattle.v6_run.specs.Status.{is_decided, has_written, is_closed, is_unfinishe
 use Rattle.v6_run.specs.Errors.{image_status}
 use Rattle.v6_run.specs.Causes.{IsCaused}
 use Rattle.v6_run.specs.Steps.{StopsImage}
-use Rattle.v6_run.specs.Headline.{MaybeCompletion, Known, IsKnownAnd, ends_with, fault_completion, image_completion, command_completion, IsComplete, IsImageGood, is_named, may_end, is_known}
+use Rattle.v6_run.specs.Headline.{MaybeCompletion, Known, IsKnownAnd, ends_with, fault_completion, image_completion, command_completion, IsComplete, IsImageGood, is_named, is_demo, may_end, is_known}
 use Rattle.v6_run.specs.Answers.{Answers}
 use Rattle.v6_run.proofs.CauseLemmas.{only_within, fault_known}
 
@@ -97,7 +97,7 @@ module _ (command : Command) (name : List ℕ) (rest : List ℕ → MaybeComplet
       stops_with (ReadFault in_port.Image) reads refl (λ is. cc) (λ decided. not_so _ decided) (fault_known _ _ _ old new known stops)
   image_stops (image.Unread reading.NoMemory) stops = stops_with NoMemory refl refl (λ is. cc) (λ decided. not_so _ decided) stops
   image_stops (image.Faulty f) stops =
-      stops_with (ImageFault f) reads refl (λ is. cc)
+      stops_with (ImageFault f) (ap (λ b. b || is_demo command) reads) refl (λ is. cc)
       (λ _ told. subst (λ m. IsKnownAnd m (IsComplete (ImageFault f) old new)) (sym (completion ∙ completion_at_fault _ rest f (stops.1 told)))
       (complete_unwritten (ImageFault f) old new (no_output old new only)))
       stops.0

@@ -7,7 +7,6 @@ use Rattle.v6_port.specs.declared.host.OutPort.{OutPort}
 use Rattle.v6_port.specs.declared.host.OutPort.TheVariants as out_port
 use Rattle.v6_port.specs.Outside.{Port, Out, same, is_report, IsIdle, PortState, Outside, Tells, Rose, OnlyAt}
 use Rattle.v6_port.specs.Causes.{Calm, FaultAt}
-use Rattle.fs_check.specs.declared.counts.Tally.{Tally}
 use Rattle.v6_run.specs.declared.status.Status.{Status}
 use Rattle.v6_run.specs.declared.status.Status.TheVariants.{Done, Usage, ReadFault, WriteFault, CoreSize}
 use Rattle.v6_run.specs.declared.files.ReadError.{ReadError}
@@ -21,12 +20,13 @@ use Rattle.v6_run.specs.declared.run.RunError.TheVariants as run_error
 use Rattle.v6_run.specs.declared.make.MakeError.TheVariants as make_error
 use Rattle.v6_run.specs.declared.error.CommandError.{CommandError}
 use Rattle.v6_run.specs.declared.error.CommandError.TheVariants as error
-use Rattle.v6_run.specs.Words.{Outputs, ToDisk, ToMemory, Command, Run, Check, Make}
+use Rattle.v6_run.specs.declared.report.Found.{Found}
+use Rattle.v6_run.specs.Words.{Outputs, ToDisk, ToMemory, Command, Run, Check, Make, Demo}
 use Rattle.v6_run.specs.Outputs.{is_output}
 use Rattle.v6_run.specs.Status.{fault_port, is_decided, has_written}
 use Rattle.v6_run.specs.Errors.{read_status, image_status, command_status, end_of}
 use Rattle.v6_run.specs.Fronts.{HoldsFront, HoldsSome, HoldsFrontOfSome}
-use Rattle.v6_run.specs.Report.{report, status_line, report_line, tally_line, answer_line}
+use Rattle.v6_run.specs.Report.{report, status_line, report_line, told_line, answer_line}
 use Rattle.v6_run.specs.Causes.{IsCaused, IsFaultOf, IsFaultless, HasCause, MissesUnknown}
 use Rattle.v6_run.specs.Headline.{MaybeCompletion, Unknown, Known, IsKnownAnd, has_core_size, refused_by, words_completion, IsComplete, IsPartial, is_named, is_touched, reports_done, may_end, words_may_end, is_known}
 use Rattle.v6_run.specs.Answers.{Answers, AnswersWords, Reports}
@@ -63,6 +63,7 @@ unnamed : (c : Command) → is_named c (Out out_port.Report) ≡ false
 unnamed (Run words) = unwritten_report words.outputs
 unnamed (Check image) = refl
 unnamed (Make number final) = refl
+unnamed (Demo number) = refl
 
 at_fault : (p : Port) (known : Port → Bool) (a b : Outside) → FaultAt p (known p) a b → Tells a → (q : Port) → known q ≡ true → (b.port q).missing ≡ (a.port q).missing
 at_fault p known a b fault told q is = by_test (same p q) _
@@ -138,7 +139,7 @@ module _ (done : List ℕ) where
   error_line (error.Make make_error.NoMemory) = refl
   error_line (error.Make make_error.Fault) = refl
 
-  line_is : (answer : Result (Option Tally) CommandError) (status : Status) → IfOk answer (λ found. done ≡ tally_line found)
+  line_is : (answer : Result (Option Found) CommandError) (status : Status) → IfOk answer (λ found. done ≡ told_line found)
       → (status ≡ end_of command_status answer) ⊎ (IsOkAnd answer (λ t. is_some t ≡ true) × (status ≡ WriteFault out_port.Report)) → answer_line answer ≡ report_line done status
   line_is (Ok found) status line (inl kept) = sym line ∙ ap (report_line done) (sym kept)
   line_is (Ok found) status line (inr lost) = sym line ∙ ap (report_line done) (sym lost.1)
@@ -170,26 +171,26 @@ partial_of_done a b (Known c) complete = record {
 }
 
 -- what a command has come to, and what it has told
-pub data Came (command : Option Command) (answer : Result (Option Tally) CommandError) (old middle : Outside) : Type 0 where
+pub data Came (command : Option Command) (answer : Result (Option Found) CommandError) (old middle : Outside) : Type 0 where
   Refused : (s : Status) → refused_by command ≡ Some s → end_of command_status answer ≡ s → middle ≡ old → Came command answer old middle
   Good : (c : Command) → command ≡ Some c → refused_by command ≡ None → Answers c (end_of command_status answer) old middle → Came command answer old middle
 
-came_by : (command : Option Command) (answer : Result (Option Tally) CommandError) (old middle : Outside) (refusal : Option Status) → refused_by command ≡ refusal
+came_by : (command : Option Command) (answer : Result (Option Found) CommandError) (old middle : Outside) (refusal : Option Status) → refused_by command ≡ refusal
     → AnswersWords command (end_of command_status answer) old middle → Came command answer old middle
 came_by command answer old middle None is answers = let good = answers.good is in Good good.0 good.1 is good.2
 came_by command answer old middle (Some s) is answers = let refused = answers.refused s is in Refused s is refused.0 refused.1
 
-report_before : (command : Option Command) (answer : Result (Option Tally) CommandError) (old middle : Outside) → Came command answer old middle
+report_before : (command : Option Command) (answer : Result (Option Found) CommandError) (old middle : Outside) → Came command answer old middle
     → middle.port (Out out_port.Report) ≡ old.port (Out out_port.Report)
 report_before command answer old middle (Refused s is answered unopened) = ap (λ (o : Outside). o.port (Out out_port.Report)) unopened
 report_before command answer old middle (Good c is good all) = all.only.others (Out out_port.Report) (unnamed c)
 
 -- before its report a command leaves Report as it was
-pub report_left : (command : Option Command) (answer : Result (Option Tally) CommandError) (old middle : Outside) → AnswersWords command (end_of command_status answer) old middle
+pub report_left : (command : Option Command) (answer : Result (Option Found) CommandError) (old middle : Outside) → AnswersWords command (end_of command_status answer) old middle
     → middle.port (Out out_port.Report) ≡ old.port (Out out_port.Report)
 report_left command answer old middle answers = report_before command answer old middle (came_by command answer old middle (refused_by command) refl answers)
 
-module _ (command : Option Command) (answer : Result (Option Tally) CommandError) (status : Status) (old middle new : Outside)
+module _ (command : Option Command) (answer : Result (Option Found) CommandError) (status : Status) (old middle new : Outside)
     (answers : AnswersWords command (end_of command_status answer) old middle) (reports : Reports answer status middle new)
     (found : IfOk answer (λ t. option_map reports_done command ≡ Some (is_some t))) where
   came : Came command answer old middle
@@ -199,7 +200,7 @@ module _ (command : Option Command) (answer : Result (Option Tally) CommandError
   report_is = report_before command answer old middle came
 
   -- how the report has left the status
-  lost_done : (r : Result (Option Tally) CommandError) → IsOkAnd r (λ t. is_some t ≡ true) → end_of command_status r ≡ Done
+  lost_done : (r : Result (Option Found) CommandError) → IsOkAnd r (λ t. is_some t ≡ true) → end_of command_status r ≡ Done
   lost_done (Ok t) lost = refl
   lost_done (Err s) lost = absurd lost
 
@@ -240,7 +241,7 @@ module _ (command : Option Command) (answer : Result (Option Tally) CommandError
       go (Good c is good all) = absurd (let none : IsSome {T = Status} None = subst IsSome good some in cc)
 
   -- the words
-  lost_tells : (c : Command) (r : Result (Option Tally) CommandError) → IsOkAnd r (λ t. is_some t ≡ true) → IfOk r (λ t. option_map reports_done command ≡ Some (is_some t)) → command ≡ Some c
+  lost_tells : (c : Command) (r : Result (Option Found) CommandError) → IsOkAnd r (λ t. is_some t ≡ true) → IfOk r (λ t. option_map reports_done command ≡ Some (is_some t)) → command ≡ Some c
       → reports_done c ≡ true
   lost_tells c (Ok t) some tells is = let same_command : option_map reports_done (Some c) ≡ Some (is_some t) = ap (option_map reports_done) (sym is) ∙ tells in cc
   lost_tells c (Err s) some tells is = absurd some
@@ -249,6 +250,7 @@ module _ (command : Option Command) (answer : Result (Option Tally) CommandError
   may_lose (Run words) tells = not_so _ tells
   may_lose (Check image) tells = refl
   may_lose (Make number final) tells = not_so _ tells
+  may_lose (Demo number) tells = refl
 
   pub of_words : MatchOption (refused_by command) (words_may_end command status ≡ true) (λ s. status ≡ s)
   of_words = go came
@@ -323,7 +325,7 @@ module _ (command : Option Command) (answer : Result (Option Tally) CommandError
       ∙ missing_at (fault_port (end_of command_status answer)) (is_known command old.fixed) old middle (cause_before came) told q known)
 
   -- the report
-  module _ (done : List ℕ) (told : Tells old) (line : IfOk answer (λ t. done ≡ tally_line t)) where
+  module _ (done : List ℕ) (told : Tells old) (line : IfOk answer (λ t. done ≡ told_line t)) where
     line_told : answer_line answer ≡ report_line done status
     line_told = line_is done answer status line (⊎_elim (λ k. inl k.0) (λ l. inr (l.0, l.1)) reports.ends)
 
@@ -336,6 +338,6 @@ module _ (command : Option Command) (answer : Result (Option Tally) CommandError
     report_front = subst (λ l. HoldsFront (report old).bytes l (report new).bytes) line_told
         (subst (λ (state : PortState). HoldsFront state.bytes (answer_line answer) (report new).bytes) report_is (reports.front (tells_then told)))
 
-pub line_where_told : (T : Type 0) (answer : Result (Option Tally) CommandError) (done : List ℕ) → T → IfOk answer (λ t. T → done ≡ tally_line t) → IfOk answer (λ t. done ≡ tally_line t)
+pub line_where_told : (T : Type 0) (answer : Result (Option Found) CommandError) (done : List ℕ) → T → IfOk answer (λ t. T → done ≡ told_line t) → IfOk answer (λ t. done ≡ told_line t)
 line_where_told T (Ok t) done told line = line told
 line_where_told T (Err s) done told line = line

@@ -1,12 +1,14 @@
 -- The text of a disk reads as its blocks, and is written block by block.
-use Rattle.std.proofs.Common.{◌≡◌, ◌+◌, ◌-◌, ◌*◌, ◌<◌, ◌≤◌, ℕ, zero, suc, None, List, ◌++◌, length, length-append, slice_index, refl, sym, ap, ◌∙◌, subst, append_assoc, arith}
-use Rattle.std.proofs.lemmas.List.{append-nil, take_all, get_or_append_left, get_or-append_right}
+use Rattle.std.proofs.Common.{◌≡◌, ◌+◌, ◌-◌, ◌*◌, ◌<◌, ◌≤◌, ℕ, zero, suc, false, None, is_some, count_by, nat_lt, List, [], ◌∷◌, ◌++◌, length, length-append, slice_index, refl, sym, ap, ◌∙◌, subst, append_assoc, arith}
+use Rattle.std.proofs.lemmas.List.{append-nil, drop_all, take_all, get_or_append_left, get_or-append_right}
 use Rattle.std.specs.List.{flat_map, range_with_len}
 use Rattle.fs_codec.specs.Disk.{Disk, disk_of, head}
 use Rattle.fs_codec.specs.Fields.{super_of}
-use Rattle.fs_codec.specs.Faults.{image_fault}
-use Rattle.fs_codec.specs.Stands.{StandsFor}
-use Rattle.fs_codec.specs.declared.layout.TheConstants.{DISK_BLOCKS, SWAP_START}
+use Rattle.fs_codec.specs.Store.{Store}
+use Rattle.fs_codec.specs.Faults.{first_some, when, disk_fault, fault_within, image_fault}
+use Rattle.fs_codec.specs.declared.fault.ImageFault.TheVariants.{TooLong}
+use Rattle.fs_codec.specs.Stands.{StandsFor, store_of}
+use Rattle.fs_codec.specs.declared.layout.TheConstants.{DISK_BLOCKS, DISK_BYTES, SWAP_START}
 use Rattle.fs_codec.proofs.ImageLemmas.{bytes_by_places}
 use Rattle.fs_check.proofs.TallyLemmas.{no_fault}
 use Rattle.buf_cache.specs.Blocks.{block_at, blocks_of, IsDisk}
@@ -16,8 +18,8 @@ use Rattle.fs_laws.proofs.WholeLemmas.{whole_is, whole_within, within_whole}
 use Rattle.fs_laws.proofs.FreeLemmas.{good_head}
 use Rattle.fs_laws.proofs.AgreeLemmas.{SameFiles, files_whole, files_store}
 use Rattle.fs_laws.proofs.ImageLemmas.{block_of_image}
-use Rattle.core_mem.specs.Bytes.{part}
-use Rattle.core_mem.proofs.Parts.{part-right}
+use Rattle.core_mem.specs.Bytes.{part, over}
+use Rattle.core_mem.proofs.Parts.{part-right, over-over}
 use Rattle.image_keep.specs.Holds.{SwapHolds}
 use Rattle.abstract_unix.specs.Unix.{System}
 use Rattle.unix_core.specs.Memory.{kept_in}
@@ -171,3 +173,62 @@ bytes_more blocks old now new piece n was is more =
 pub no_blocks : (blocks : List (List ℕ)) (old : List ℕ) → old ≡ old ++ so_far blocks 0
 unfolding so_far
 no_blocks blocks old = sym (append-nil old)
+
+-- Blocks that are put over an image one after the other.
+pub put_none : (blocks : List (List ℕ)) (image : List ℕ) → image ≡ over image 0 (so_far blocks 0)
+unfolding over so_far
+put_none blocks image = refl
+
+pub none_long : (blocks : List (List ℕ)) → length (so_far blocks 0) ≡ 512 * 0
+unfolding so_far
+none_long blocks = refl
+
+pub more_long : (blocks : List (List ℕ)) (block : List ℕ) (n : ℕ) → block ≡ block_at blocks n → length block ≡ 512 → length (so_far blocks n) ≡ 512 * n → length (so_far blocks (n + 1)) ≡ 512 * (n + 1)
+more_long blocks block n is whole long =
+    ap length (so_far_more blocks n) ∙ length-append (so_far blocks n) (block_at blocks n)
+    ∙ (let b : length (block_at blocks n) ≡ 512 = ap length (sym is) ∙ whole in omega (arith, b, long))
+
+pub put_more : (blocks : List (List ℕ)) (first now new block : List ℕ) (n : ℕ) → now ≡ over first 0 (so_far blocks n) → length (so_far blocks n) ≡ 512 * n → block ≡ block_at blocks n → length block ≡ 512
+    → 512 * n + 512 ≤ length first → new ≡ over now (512 * n) block → new ≡ over first 0 (so_far blocks (n + 1))
+put_more blocks first now new block n was long is whole inside put =
+    put ∙ ap (λ l. over l (512 * n) block) was
+    ∙ over-over first 0 (so_far blocks n) block (512 * n) (omega (arith, long)) (omega (arith, long, whole, inside))
+    ∙ ap (λ l. over first 0 (so_far blocks n ++ l)) is ∙ ap (over first 0) (sym (so_far_more blocks n))
+
+pub put_all : (blocks : List (List ℕ)) (first now : List ℕ) (n : ℕ) → now ≡ over first 0 (so_far blocks n) → length (so_far blocks n) ≡ 512 * n → SWAP_START ≤ n → n ≤ SWAP_START → length first ≡ 512 * SWAP_START
+    → now ≡ disk_text blocks
+unfolding over
+put_all blocks first now n was long low high whole =
+    was ∙ ap (λ l. so_far blocks n ++ l) (drop_all (0 + length (so_far blocks n)) first (omega (arith, long, low, whole))) ∙ append-nil (so_far blocks n) ∙ so_far_all blocks n low high
+
+-- The blocks before the swap area are an image without a fault, and stand for the store that is left.
+module _ (blocks : List (List ℕ)) (form : IsDisk blocks) (store : Store) (stands : StandsFor SWAP_START (block_at blocks) store) where
+  within : IsWhole (block_at blocks) × ((head (block_at blocks)).f_size ≤ SWAP_START)
+  within = within_whole SWAP_START (block_at blocks) (omega arith) stands.sound
+
+  text_same : (k : ℕ) → k < SWAP_START → disk_of (disk_text blocks) k ≡ block_at blocks k
+  text_same k low = subst (λ l. disk_of l k ≡ block_at blocks k) (append-nil (disk_text blocks)) (text_block blocks form [] k low)
+
+  text_files : SameFiles (block_at blocks) (disk_of (disk_text blocks))
+  text_files = record { blocks = λ k inside. text_same k (let end = within.1 in omega (arith, inside, end)) }
+
+  text_sound : disk_fault SWAP_START (disk_of (disk_text blocks)) ≡ None
+  text_sound =
+      let size : (head (disk_of (disk_text blocks))).f_size ≡ (head (block_at blocks)).f_size = ap (λ l. (super_of l).f_size) (text_same 1 (omega arith)) in
+      let end = within.1 in
+      whole_within SWAP_START (disk_of (disk_text blocks)) (files_whole (block_at blocks) (disk_of (disk_text blocks)) within.0 text_files) (omega (arith, size, end))
+
+  pub text_good : image_fault (disk_text blocks) ≡ None
+  unfolding image_fault fault_within
+  text_good =
+      ap (λ n. first_some (when (nat_lt DISK_BYTES n) TooLong ∷ disk_fault SWAP_START (disk_of (disk_text blocks)) ∷ [])) (text_long blocks form)
+      ∙ ap (λ f. first_some (None ∷ f ∷ [])) text_sound
+
+  same_store : record store { mark = false } ≡ store_of (disk_of (disk_text blocks))
+  same_store = stands.same ∙ sym (files_store (block_at blocks) (disk_of (disk_text blocks)) within.0 text_files)
+
+  pub text_nodes : count_by is_some (store_of (disk_of (disk_text blocks))).nodes ≡ count_by is_some store.nodes
+  text_nodes = ap (λ (s : Store). count_by is_some s.nodes) (sym same_store)
+
+  pub text_room : (store_of (disk_of (disk_text blocks))).room ≡ store.room
+  text_room = ap (λ (s : Store). s.room) (sym same_store)

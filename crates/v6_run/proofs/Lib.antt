@@ -15,3 +15,4 @@ pub mod RunLemmas
 pub mod CheckLemmas
 pub mod CommandLemmas
 pub mod MemoryLemmas
+pub mod DemoLemmas

@@ -1,5 +1,5 @@
 -- One byte, or one line of the log, more in the trace over a host.
-use Rattle.std.proofs.Common.{◌≡◌, ℕ, Bool, true, false, ◌&&◌, is_some, List, [], ◌∷◌, ◌++◌, refl, sym, ◌∙◌, ap, append_assoc, take, drop, Result, Ok, Err, is_err, eqb, cond, arith}
+use Rattle.std.proofs.Common.{◌≡◌, ℕ, Bool, true, false, ◌&&◌, is_some, List, [], ◌∷◌, ◌++◌, length, nat_le, refl, sym, ◌∙◌, ap, subst, append_assoc, take, drop, Result, Ok, Err, is_err, eqb, cond, arith}
 use Rattle.std.proofs.lemmas.List.{append-nil, take-append-drop}
 use Rattle.v6_base.specs.declared.entry.Entry.{Entry}
 use Rattle.v6_base.specs.LogLine.{entry_line}
@@ -12,19 +12,22 @@ use Rattle.v6_port.specs.Outside.{Out, same, PortState, Environment, Outside, Te
 use Rattle.v6_port.specs.Calls.{Writes}
 use Rattle.v6_run.specs.declared.ports.Kept.{Kept}
 use Rattle.v6_run.specs.declared.ports.Kept.TheVariants as kept
-use Rattle.v6_run.specs.Ports.{term, log_of, failed_output, is_silent, is_wanted, kept_byte, kept_text, of_line_0, taken_of}
+use Rattle.v6_run.specs.declared.ports.TheConstants.{SCREEN_ROOM}
+use Rattle.v6_run.specs.Ports.{term, log_of, failed_output, is_silent, is_wanted, is_counted, kept_byte, kept_text, of_line_0, taken_of, shown_on, taken_by, screened}
 
 pub no_byte : (k : Kept) → is_some (failed_output k) ≡ false → kept_byte k ≡ []
 no_byte kept.Nothing goes = refl
 no_byte (kept.Byte byte) goes = cc
 no_byte (kept.Line rest) goes = refl
 no_byte kept.Unwanted goes = refl
+no_byte (kept.Screen bytes) goes = refl
 
 pub no_text : (k : Kept) → is_some (failed_output k) ≡ false → kept_text k ≡ []
 no_text kept.Nothing goes = refl
 no_text (kept.Byte byte) goes = refl
 no_text (kept.Line rest) goes = cc
 no_text kept.Unwanted goes = refl
+no_text (kept.Screen bytes) goes = refl
 
 -- what isn't silent has kept nothing yet, and is wanted
 pub none_failed : (k : Kept) → is_silent k ≡ false → is_some (failed_output k) ≡ false
@@ -32,12 +35,35 @@ none_failed kept.Nothing goes = refl
 none_failed (kept.Byte byte) goes = cc
 none_failed (kept.Line rest) goes = cc
 none_failed kept.Unwanted goes = cc
+none_failed (kept.Screen bytes) goes = cc
 
 pub wanted : (k : Kept) → is_silent k ≡ false → is_wanted k ≡ true
 wanted kept.Nothing goes = refl
 wanted (kept.Byte byte) goes = cc
 wanted (kept.Line rest) goes = cc
 wanted kept.Unwanted goes = cc
+wanted (kept.Screen bytes) goes = cc
+
+-- and is written, not counted
+pub uncounted : (o : Outside) (k : Kept) → is_counted k ≡ false → taken_by o k ≡ taken_of o k
+uncounted o kept.Nothing is = refl
+uncounted o (kept.Byte byte) is = refl
+uncounted o (kept.Line rest) is = refl
+uncounted o kept.Unwanted is = refl
+uncounted o (kept.Screen bytes) is = cc
+
+pub loud_written : (k : Kept) → is_silent k ≡ false → is_counted k ≡ false
+loud_written kept.Nothing goes = refl
+loud_written (kept.Byte byte) goes = cc
+loud_written (kept.Line rest) goes = cc
+loud_written kept.Unwanted goes = cc
+loud_written (kept.Screen bytes) goes = cc
+
+took_by : (old new : Outside) (before after : Kept) (items : List Item) → is_silent before ≡ false → is_counted after ≡ false
+    → Took (taken_of old before) items (taken_of new after) → Took (taken_by old before) items (taken_by new after)
+took_by old new before after items loud plain took =
+    subst (λ t. Took t items (taken_by new after)) (sym (uncounted old before (loud_written before loud)))
+    (subst (λ t. Took (taken_of old before) items t) (sym (uncounted new after plain)) took)
 
 both_told : (a b : Bool) → (a && b) ≡ true → b ≡ true
 both_told true b is = is
@@ -89,11 +115,8 @@ holds_unwanted o item = record {
   text = λ told. absurd (let untold : false ≡ true = told in cc);
 }
 
-pub took_silently : (o : Outside) (k : Kept) (item : Item) → is_silent k ≡ true → Took (taken_of o k) (item ∷ []) (taken_of o k)
-took_silently o kept.Nothing item silent = cc
-took_silently o (kept.Byte byte) item silent = took_while_cut o (kept.Byte byte) item refl
-took_silently o (kept.Line rest) item silent = took_while_cut o (kept.Line rest) item refl
-took_silently o kept.Unwanted item silent = record {
+took_unwanted : (o : Outside) (item : Item) → Took (taken_of o kept.Unwanted) (item ∷ []) (taken_of o kept.Unwanted)
+took_unwanted o item = record {
   part = item ∷ [];
   rest = [];
   split = refl;
@@ -102,16 +125,129 @@ took_silently o kept.Unwanted item silent = record {
   refused = λ is_cut. absurd (let never : false ≡ true = is_cut in cc);
 }
 
-pub appended_silently : (o : Outside) (k : Kept) (item : Item) → is_silent k ≡ true → Appends (taken_of o k) item (taken_of o k)
-appended_silently o kept.Nothing item silent = cc
-appended_silently o (kept.Byte byte) item silent = λ uncut. absurd (let never : true ≡ false = uncut in cc)
-appended_silently o (kept.Line rest) item silent = λ uncut. absurd (let never : true ≡ false = uncut in cc)
-appended_silently o kept.Unwanted item silent = λ uncut. holds_unwanted o item
-
 -- one byte more on line 0 is none on another
 on_line : (line byte : ℕ) (old new : List ℕ) → new ≡ old ++ byte ∷ [] → of_line_0 new line ≡ of_line_0 old line ++ line_bytes line (trace.Byte 0 byte ∷ [])
 on_line line byte old new is = elim (eqb 0 line) as (λ b. (cond b new []) ≡ (cond b old []) ++ (cond b (byte ∷ []) [])) [
   | true ↦ is
+  | false ↦ refl
+]
+
+-- A trace that counts takes a line of the log, and tells nothing of it.
+holds_uncounted : (bytes : List ℕ) (entry : Entry) → HoldsMore (shown_on bytes) (trace.Log entry ∷ []) (shown_on bytes)
+holds_uncounted bytes entry = record {
+  tells_bytes = refl;
+  bytes = λ told line. sym (append-nil (of_line_0 bytes line));
+  tells_entries = refl;
+  entries = λ told. absurd (let untold : false ≡ true = told in cc);
+  tells_text = refl;
+  text = λ told. absurd (let untold : false ≡ true = told in cc);
+}
+
+-- and it takes a byte, where there is room
+holds_counted : (bytes : List ℕ) (byte : ℕ) → HoldsMore (shown_on bytes) (trace.Byte 0 byte ∷ []) (shown_on (bytes ++ byte ∷ []))
+holds_counted bytes byte = record {
+  tells_bytes = refl;
+  bytes = λ told line. on_line line byte bytes (bytes ++ byte ∷ []) refl;
+  tells_entries = refl;
+  entries = λ told. absurd (let untold : false ≡ true = told in cc);
+  tells_text = refl;
+  text = λ told. absurd (let untold : false ≡ true = told in cc);
+}
+
+-- without room it takes nothing
+took_full : (bytes : List ℕ) (item : Item) → nat_le SCREEN_ROOM (length bytes) ≡ true → Took (shown_on bytes) (item ∷ []) (shown_on bytes)
+took_full bytes item full = record {
+  part = [];
+  rest = item ∷ [];
+  split = refl;
+  holds = holds_same (shown_on bytes);
+  whole = λ uncut. absurd (let never : true ≡ false = sym full ∙ uncut in cc);
+  refused = λ _. (full, refl);
+}
+
+took_with_room : (bytes : List ℕ) (item : Item) (new : trace.Taken) → nat_le SCREEN_ROOM (length bytes) ≡ false → HoldsMore (shown_on bytes) (item ∷ []) new → Took (shown_on bytes) (item ∷ []) new
+took_with_room bytes item new room holds = record {
+  part = item ∷ [];
+  rest = [];
+  split = refl;
+  holds = holds;
+  whole = λ uncut. refl;
+  refused = λ is_cut. absurd (let never : false ≡ true = sym room ∙ is_cut in cc);
+}
+
+took_uncounted : (bytes : List ℕ) (entry : Entry) (full : Bool) → nat_le SCREEN_ROOM (length bytes) ≡ full → Took (shown_on bytes) (trace.Log entry ∷ []) (shown_on bytes)
+took_uncounted bytes entry true is = took_full bytes (trace.Log entry) is
+took_uncounted bytes entry false is = took_with_room bytes (trace.Log entry) (shown_on bytes) is (holds_uncounted bytes entry)
+
+-- A line of the log, where nothing is written.
+pub line_silently : (o : Outside) (k : Kept) (entry : Entry) → is_silent k ≡ true → Took (taken_by o k) (trace.Log entry ∷ []) (taken_by o k)
+line_silently o kept.Nothing entry silent = cc
+line_silently o (kept.Byte byte) entry silent = took_while_cut o (kept.Byte byte) (trace.Log entry) refl
+line_silently o (kept.Line rest) entry silent = took_while_cut o (kept.Line rest) (trace.Log entry) refl
+line_silently o kept.Unwanted entry silent = took_unwanted o (trace.Log entry)
+line_silently o (kept.Screen bytes) entry silent = took_uncounted bytes.items entry _ refl
+
+pub line_appended : (o : Outside) (k : Kept) (entry : Entry) → is_silent k ≡ true → Appends (taken_by o k) (trace.Log entry) (taken_by o k)
+line_appended o kept.Nothing entry silent = cc
+line_appended o (kept.Byte byte) entry silent = λ uncut. absurd (let never : true ≡ false = uncut in cc)
+line_appended o (kept.Line rest) entry silent = λ uncut. absurd (let never : true ≡ false = uncut in cc)
+line_appended o kept.Unwanted entry silent = λ uncut. holds_unwanted o (trace.Log entry)
+line_appended o (kept.Screen bytes) entry silent = λ uncut. holds_uncounted bytes.items entry
+
+-- A byte, where nothing is written.
+module _ (o : Outside) (byte : ℕ) where
+  took_on : (k : Kept) (bytes : List ℕ) (full : Bool) → nat_le SCREEN_ROOM (length bytes) ≡ full → taken_by o k ≡ shown_on bytes
+      → Took (shown_on bytes) (trace.Byte 0 byte ∷ []) (taken_by o (cond full k (kept.Screen (record { items = bytes ++ byte ∷ [] }))))
+  took_on k bytes true is same_taken = subst (λ t. Took (shown_on bytes) (trace.Byte 0 byte ∷ []) t) (sym same_taken) (took_full bytes (trace.Byte 0 byte) is)
+  took_on k bytes false is same_taken = took_with_room bytes (trace.Byte 0 byte) (shown_on (bytes ++ byte ∷ [])) is (holds_counted bytes byte)
+
+  appended_on : (k : Kept) (bytes : List ℕ) (full : Bool) → nat_le SCREEN_ROOM (length bytes) ≡ full
+      → Appends (shown_on bytes) (trace.Byte 0 byte) (taken_by o (cond full k (kept.Screen (record { items = bytes ++ byte ∷ [] }))))
+  appended_on k bytes true is = λ uncut. absurd (let never : true ≡ false = sym is ∙ uncut in cc)
+  appended_on k bytes false is = λ uncut. holds_counted bytes byte
+
+  pub byte_silently : (k : Kept) → is_silent k ≡ true → Took (taken_by o k) (trace.Byte 0 byte ∷ []) (taken_by o (screened k byte))
+  byte_silently kept.Nothing silent = cc
+  byte_silently (kept.Byte kept_byte) silent = took_while_cut o (kept.Byte kept_byte) (trace.Byte 0 byte) refl
+  byte_silently (kept.Line rest) silent = took_while_cut o (kept.Line rest) (trace.Byte 0 byte) refl
+  byte_silently kept.Unwanted silent = took_unwanted o (trace.Byte 0 byte)
+  byte_silently (kept.Screen bytes) silent = took_on (kept.Screen bytes) bytes.items _ refl refl
+
+  pub byte_appended : (k : Kept) → is_silent k ≡ true → Appends (taken_by o k) (trace.Byte 0 byte) (taken_by o (screened k byte))
+  byte_appended kept.Nothing silent = cc
+  byte_appended (kept.Byte kept_byte) silent = λ uncut. absurd (let never : true ≡ false = uncut in cc)
+  byte_appended (kept.Line rest) silent = λ uncut. absurd (let never : true ≡ false = uncut in cc)
+  byte_appended kept.Unwanted silent = λ uncut. holds_unwanted o (trace.Byte 0 byte)
+  byte_appended (kept.Screen bytes) silent = appended_on (kept.Screen bytes) bytes.items _ refl
+
+-- Counting, or not, goes on so.
+pub still_silent : (k : Kept) (byte : ℕ) → is_silent k ≡ true → is_silent (screened k byte) ≡ true
+still_silent kept.Nothing byte silent = cc
+still_silent (kept.Byte kept_byte) byte silent = refl
+still_silent (kept.Line rest) byte silent = refl
+still_silent kept.Unwanted byte silent = refl
+still_silent (kept.Screen bytes) byte silent = elim (nat_le SCREEN_ROOM (length bytes.items)) as (λ b. is_silent (cond b (kept.Screen bytes) (kept.Screen (record { items = bytes.items ++ byte ∷ [] }))) ≡ true) [
+  | true ↦ refl
+  | false ↦ refl
+]
+
+pub still_counted : (k : Kept) (byte : ℕ) → is_counted (screened k byte) ≡ is_counted k
+still_counted kept.Nothing byte = refl
+still_counted (kept.Byte kept_byte) byte = refl
+still_counted (kept.Line rest) byte = refl
+still_counted kept.Unwanted byte = refl
+still_counted (kept.Screen bytes) byte = elim (nat_le SCREEN_ROOM (length bytes.items)) as (λ b. is_counted (cond b (kept.Screen bytes) (kept.Screen (record { items = bytes.items ++ byte ∷ [] }))) ≡ true) [
+  | true ↦ refl
+  | false ↦ refl
+]
+
+pub still_failed : (k : Kept) (byte : ℕ) → failed_output (screened k byte) ≡ failed_output k
+still_failed kept.Nothing byte = refl
+still_failed (kept.Byte kept_byte) byte = refl
+still_failed (kept.Line rest) byte = refl
+still_failed kept.Unwanted byte = refl
+still_failed (kept.Screen bytes) byte = elim (nat_le SCREEN_ROOM (length bytes.items)) as (λ b. failed_output (cond b (kept.Screen bytes) (kept.Screen (record { items = bytes.items ++ byte ∷ [] }))) ≡ failed_output (kept.Screen bytes)) [
+  | true ↦ refl
   | false ↦ refl
 ]
 
@@ -168,11 +304,13 @@ module _ (old new : Outside) (before : Kept) (byte : ℕ) (r : Result ℕ Failed
   failed (Ok n) writes bad told = cc
   failed (Err e) writes bad told = ap (λ l. l ++ byte ∷ []) writes.outcome.failed.bytes
 
-  pub took_written : is_err r ≡ false → Took (taken_of old before) (trace.Byte 0 byte ∷ []) (taken_of new before)
-  took_written good = took_byte old new before before byte (wanted before loud) (wanted before loud) goes write.only (no_text before goes) (written r write good)
+  pub took_written : is_err r ≡ false → Took (taken_by old before) (trace.Byte 0 byte ∷ []) (taken_by new before)
+  took_written good = took_by old new before before _ loud (loud_written before loud)
+      (took_byte old new before before byte (wanted before loud) (wanted before loud) goes write.only (no_text before goes) (written r write good))
 
-  pub took_kept : is_err r ≡ true → Took (taken_of old before) (trace.Byte 0 byte ∷ []) (taken_of new (kept.Byte byte))
-  took_kept bad = took_byte old new before (kept.Byte byte) byte (wanted before loud) refl goes write.only refl (failed r write bad)
+  pub took_kept : is_err r ≡ true → Took (taken_by old before) (trace.Byte 0 byte ∷ []) (taken_by new (kept.Byte byte))
+  took_kept bad = took_by old new before (kept.Byte byte) _ loud refl
+      (took_byte old new before (kept.Byte byte) byte (wanted before loud) refl goes write.only refl (failed r write bad))
 
 -- A line goes out, which is the bytes of `line`, in as many writes as it takes.
 module _ (old new : Outside) (before : Kept) (entry : Entry) (line : List ℕ) (loud : is_silent before ≡ false) (only : OnlyAt (same (Out out_port.Log)) old new)
@@ -186,8 +324,9 @@ module _ (old new : Outside) (before : Kept) (entry : Entry) (line : List ℕ) (
     line_written told =
         ap (λ l. (log_of new).bytes ++ l) (no_text before line_goes) ∙ append-nil (log_of new).bytes ∙ whole told ∙ ap (λ l. (log_of old).bytes ++ l) line_is
 
-    pub took_all : Took (taken_of old before) (trace.Log entry ∷ []) (taken_of new before)
-    took_all = took_line old new before before entry (wanted before loud) (wanted before loud) line_goes only (no_byte before line_goes) line_written
+    pub took_all : Took (taken_by old before) (trace.Log entry ∷ []) (taken_by new before)
+    took_all = took_by old new before before _ loud (loud_written before loud)
+        (took_line old new before before entry (wanted before loud) (wanted before loud) line_goes only (no_byte before line_goes) line_written)
 
   -- its first bytes
   module _ (count : ℕ) (front : Tells old → (log_of new).bytes ≡ (log_of old).bytes ++ take count line) (rest : List ℕ) (rest_is : rest ≡ drop count line) where
@@ -196,5 +335,6 @@ module _ (old new : Outside) (before : Kept) (entry : Entry) (line : List ℕ) (
         ap (λ l. l ++ rest) (front told) ∙ append_assoc (log_of old).bytes (take count line) rest ∙ ap (λ l. (log_of old).bytes ++ (take count line ++ l)) rest_is
         ∙ ap (λ l. (log_of old).bytes ++ l) (take-append-drop count line ∙ line_is)
 
-    pub took_front : Took (taken_of old before) (trace.Log entry ∷ []) (taken_of new (kept.Line (record { items = rest })))
-    took_front = took_line old new before (kept.Line (record { items = rest })) entry (wanted before loud) refl line_goes only refl line_kept
+    pub took_front : Took (taken_by old before) (trace.Log entry ∷ []) (taken_by new (kept.Line (record { items = rest })))
+    took_front = took_by old new before (kept.Line (record { items = rest })) _ loud refl
+        (took_line old new before (kept.Line (record { items = rest })) entry (wanted before loud) refl line_goes only refl line_kept)

@@ -1,10 +1,10 @@
 -- What `run` answers, exit by exit.
-use Rattle.std.proofs.Common.{◌≡◌, ℕ, Bool, true, false, Option, Some, None, List, take, refl, sym, Ok, Err, ◌∙◌, ap, subst, is_some, if◌then◌else◌, ◌||◌, ◌&&◌}
+use Rattle.std.proofs.Common.{◌≡◌, ℕ, Bool, true, false, Option, Some, None, List, take, refl, sym, Ok, Err, ◌∙◌, ap, subst, is_some, if◌then◌else◌, ◌||◌}
 use Rattle.std.specs.Option.{option_map}
 use Rattle.v6_port.specs.declared.host.InPort.TheVariants as in_port
 use Rattle.v6_port.specs.declared.host.OutPort.{OutPort}
 use Rattle.v6_port.specs.declared.host.OutPort.TheVariants as out_port
-use Rattle.v6_port.specs.Outside.{In, Out, same, is_report, PortState, Environment, Outside, Tells, OnlyAt}
+use Rattle.v6_port.specs.Outside.{In, Out, same, PortState, Environment, Outside, Tells, OnlyAt}
 use Rattle.v6_port.specs.Calls.{is_given}
 use Rattle.v6_port.specs.Causes.{Calm}
 use Rattle.fs_codec.specs.Disk.{disk_of}
@@ -16,7 +16,7 @@ use Rattle.abstract_unix.specs.Runs.{Course, system_of, started, boots, course}
 use Rattle.v6_run.specs.declared.image.TheConstants.{IMAGE_LIMIT}
 use Rattle.v6_run.specs.declared.run.TheConstants.{SCRIPT_LIMIT}
 use Rattle.v6_run.specs.declared.status.Status.{Status}
-use Rattle.v6_run.specs.declared.status.Status.TheVariants.{ReadFault, WriteFault, ScriptFault, Panic, NoMemory, NotBuilt}
+use Rattle.v6_run.specs.declared.status.Status.TheVariants.{ReadFault, WriteFault, ScriptFault, NoMemory, NotBuilt}
 use Rattle.abstract_unix.specs.declared.ends.Ends.{Ends}
 use Rattle.abstract_unix.specs.declared.ends.Ends.TheVariants as ends
 use Rattle.abstract_unix.specs.declared.ends.Ends.TheVariants.{AtEnd}
@@ -41,7 +41,7 @@ use Rattle.v6_run.specs.declared.outputs.Output.TheVariants as file
 use Rattle.v6_run.specs.Outputs.{port_of, is_output, run_writes, EndsRun, StopsRun}
 use Rattle.v6_run.specs.Causes.{IsCaused}
 use Rattle.v6_run.specs.Steps.{StopsReading, StopsImage, RefusesScript}
-use Rattle.v6_run.specs.Headline.{Known, IsKnownAnd, ends_with, course_completion, events_completion, lines_completion, bytes_completion, script_completion, fault_completion, image_completion, command_completion, IsComplete, IsPartial, status_at, is_named, may_end, run_knows, outputs_know, reports_done, is_known}
+use Rattle.v6_run.specs.Headline.{Known, IsKnownAnd, ends_with, course_completion, events_completion, lines_completion, bytes_completion, script_completion, fault_completion, image_completion, command_completion, IsComplete, IsPartial, status_at, is_named, may_end, run_knows, outputs_know, is_known}
 use Rattle.v6_run.specs.Answers.{Answers, HasFiles}
 use Rattle.v6_run.proofs.ImageLemmas.{fault_given}
 use Rattle.v6_port.proofs.CauseLemmas.{still_tells, only_then, calm_then, fault_then}
@@ -138,7 +138,7 @@ module _ (words : RunWords) (image bytes : List ℕ) (old middle : Outside) (fil
 
   faulty : (fault : text.ScriptFault) → may_end (Run words) (ScriptFault fault) ≡ true → script_of bytes ≡ Err fault → Answers (Run words) (ScriptFault fault) old middle
   faulty fault may is = before_run (ScriptFault fault) may refl (λ is. cc)
-      (λ _. early_complete (ScriptFault fault) (ap (λ s. lines_completion words image s (signal_line_of bytes)) is)) files.calm
+      (λ _. early_complete (ScriptFault fault) (ap (λ s. lines_completion words.core (run_writes words.outputs (disk_of image)) image s (signal_line_of bytes)) is)) files.calm
 
   pub script_refused : (error : ScriptError) → RefusesScript bytes error → Answers (Run words) (script_status error) old middle
   script_refused (script_error.Faulty fault.TooLong) refused = faulty fault.TooLong refl refused
@@ -146,8 +146,8 @@ module _ (words : RunWords) (image bytes : List ℕ) (old middle : Outside) (fil
   script_refused (script_error.Faulty (fault.TooManySlots n)) refused = faulty (fault.TooManySlots n) refl refused
   script_refused (script_error.Faulty fault.NoMemory) refused = before_run NoMemory refl refl (λ is. cc) (λ decided. not_so _ decided) files.calm
   script_refused (script_error.Unbuilt n) refused = before_run (NotBuilt (unbuilt.Line n)) refl refl (λ is. cc)
-      (λ _. early_complete (NotBuilt (unbuilt.Line n)) (ap (λ s. lines_completion words image s (signal_line_of bytes)) refused.1
-      ∙ ap (events_completion words image refused.0) refused.2)) files.calm
+      (λ _. early_complete (NotBuilt (unbuilt.Line n)) (ap (λ s. lines_completion words.core (run_writes words.outputs (disk_of image)) image s (signal_line_of bytes)) refused.1
+      ∙ ap (events_completion words.core (run_writes words.outputs (disk_of image)) image refused.0) refused.2)) files.calm
 
   module _ (events : List asked.Event) (script_is : script_of bytes ≡ Ok events) (built : signal_line_of bytes ≡ None) where
     -- the system that was booted is that of the image
@@ -157,10 +157,11 @@ module _ (words : RunWords) (image bytes : List ℕ) (old middle : Outside) (fil
     is_of (Some fault) system is = absurd (cc is)
 
     boots_as : (system : System) → boots image words.core ≡ Some system
-        → bytes_completion words image bytes ≡ course_completion words image (course (started system) (events_of events))
+        → bytes_completion words image bytes ≡ course_completion (run_writes words.outputs (disk_of image)) (course (started system) (events_of events))
     boots_as system is =
-        ap (λ s. lines_completion words image s (signal_line_of bytes)) script_is ∙ ap (events_completion words image events) built
-        ∙ ap (λ m. course_completion words image (course (started m) (events_of events))) (is_of (image_fault image) system is)
+        ap (λ s. lines_completion words.core (run_writes words.outputs (disk_of image)) image s (signal_line_of bytes)) script_is
+        ∙ ap (events_completion words.core (run_writes words.outputs (disk_of image)) image events) built
+        ∙ ap (λ m. course_completion (run_writes words.outputs (disk_of image)) (course (started m) (events_of events))) (is_of (image_fault image) system is)
 
     pub boot_refused : Answers (Run words) NoMemory old middle
     boot_refused = before_run NoMemory refl refl (λ is. cc) (λ decided. not_so _ decided) files.calm
@@ -170,7 +171,7 @@ module _ (words : RunWords) (image bytes : List ℕ) (old middle : Outside) (fil
       abbrev run : Course
       run = course (started system) (events_of events)
 
-      run_completion : Tells old → command_completion (Run words) old.fixed ≡ Known (course_completion words image run)
+      run_completion : Tells old → command_completion (Run words) old.fixed ≡ Known (course_completion (run_writes words.outputs (disk_of image)) run)
       run_completion told = run_is told ∙ ap Known (boots_as system boots_is)
 
       run_is_met : IsMet run.ending

@@ -1,14 +1,16 @@
 -- What a host's terminal and log have got of what a run shows.
-use Rattle.std.proofs.Common.{◌≡◌, ℕ, false, is_some, List, [], ◌++◌, sym, ◌∙◌, ap, subst, append_assoc}
+use Rattle.std.proofs.Common.{◌≡◌, ℕ, false, is_some, List, [], ◌++◌, length, nat_le, refl, sym, ◌∙◌, ap, subst, append_assoc}
 use Rattle.std.proofs.lemmas.List.{append-nil, append_cancel_left}
 use Rattle.v6_base.specs.Trace.{Item, Took, line_bytes, text_of}
 use Rattle.v6_base.proofs.Took.{line_bytes-append, text_of-append}
 use Rattle.v6_port.specs.Outside.{Outside, Tells}
 use Rattle.v6_run.specs.Fronts.{HoldsFront}
 use Rattle.v6_run.specs.declared.ports.Kept.{Kept}
+use Rattle.v6_run.specs.declared.ports.Kept.TheVariants as kept
 use Rattle.v6_run.specs.declared.ports.Kept.TheVariants.{Nothing}
-use Rattle.v6_run.specs.Ports.{term, log_of, failed_output, kept_byte, kept_text, taken_of, Extends, Goes, HasShown, HasShownFronts}
-use Rattle.v6_run.proofs.PortLemmas.{no_byte, no_text}
+use Rattle.v6_run.specs.declared.ports.TheConstants.{SCREEN_ROOM}
+use Rattle.v6_run.specs.Ports.{term, log_of, failed_output, kept_byte, kept_text, taken_of, taken_by, shown_on, is_counted, HasCounted, Extends, Goes, HasShown, HasShownFronts}
+use Rattle.v6_run.proofs.PortLemmas.{no_byte, no_text, uncounted}
 
 -- What was written with what was kept is what was taken: so what was written is a front of it all.
 front_written : (old new kept part rest all : List ℕ) → Extends old new → new ++ kept ≡ old ++ part → all ≡ part ++ rest → HoldsFront old all new
@@ -53,9 +55,13 @@ module _ (old new : Outside) (kept : Kept) (items : List Item) (took : Took (tak
 
 -- the same, where the trace began as one over the host at hand
 module _ (old start new : Outside) (start_kept kept : Kept) (items : List Item) (same_start : start ≡ old) (fresh : start_kept ≡ Nothing)
-    (took : Took (taken_of start start_kept) items (taken_of new kept)) (goes : Goes start start_kept new kept) where
+    (took : Took (taken_by start start_kept) items (taken_by new kept)) (goes : Goes start start_kept new kept) where
+  taken_now : taken_by new kept ≡ taken_of new kept
+  taken_now = uncounted new kept (goes.counted ∙ ap is_counted fresh)
+
   took_all : Took (taken_of old Nothing) items (taken_of new kept)
-  took_all = subst (λ s. Took (taken_of s Nothing) items (taken_of new kept)) same_start (subst (λ k. Took (taken_of start k) items (taken_of new kept)) fresh took)
+  took_all = subst (λ t. Took (taken_of old Nothing) items t) taken_now
+      (subst (λ s. Took (taken_of s Nothing) items (taken_by new kept)) same_start (subst (λ k. Took (taken_by start k) items (taken_by new kept)) fresh took))
 
   goes_all : Goes old Nothing new kept
   goes_all = subst (λ s. Goes s Nothing new kept) same_start (subst (λ k. Goes start k new kept) fresh goes)
@@ -65,3 +71,21 @@ module _ (old start new : Outside) (start_kept kept : Kept) (items : List Item) 
 
   pub all_from : is_some (failed_output kept) ≡ false → Tells old → HasShown items old new
   all_from uncut told = all_shown old new kept items took_all goes_all told uncut
+
+-- What was counted, where it all had room, are the bytes that the run shows.
+counted_on : (bytes : List ℕ) (items : List Item) → Took (shown_on []) items (shown_on bytes) → nat_le SCREEN_ROOM (length bytes) ≡ false → bytes ≡ line_bytes 0 items
+counted_on bytes items took room =
+    let all : items ≡ took.part = took.split ∙ ap (λ l. took.part ++ l) (took.whole room) ∙ append-nil took.part in
+    took.holds.bytes refl 0 ∙ ap (line_bytes 0) (sym all)
+
+counted_by : (new : Outside) (k : Kept) (items : List Item) (count : ℕ) → Took (shown_on []) items (taken_by new k) → HasCounted k count → count ≡ length (line_bytes 0 items)
+counted_by new (kept.Screen bytes) items count took has =
+    has.0 ∙ ap length (counted_on bytes.items items took (ap (nat_le SCREEN_ROOM) (sym has.0) ∙ has.1))
+counted_by new kept.Nothing items count took has = absurd has
+counted_by new (kept.Byte byte) items count took has = absurd has
+counted_by new (kept.Line rest) items count took has = absurd has
+counted_by new kept.Unwanted items count took has = absurd has
+
+pub counted_from : (start new : Outside) (start_kept k : Kept) (items : List Item) (count : ℕ) → start_kept ≡ kept.Screen (record { items = [] })
+    → Took (taken_by start start_kept) items (taken_by new k) → HasCounted k count → count ≡ length (line_bytes 0 items)
+counted_from start new start_kept k items count fresh took has = counted_by new k items count (subst (λ s. Took (taken_by start s) items (taken_by new k)) fresh took) has

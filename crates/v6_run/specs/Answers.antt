@@ -7,12 +7,12 @@ use Rattle.v6_port.specs.declared.host.OutPort.TheVariants as out_port
 use Rattle.v6_port.specs.Outside.{Out, same, Outside, Tells, Rose, OnlyAt}
 use Rattle.v6_port.specs.Causes.{Calm}
 use Rattle.fs_codec.specs.Faults.{image_fault}
-use Rattle.fs_check.specs.declared.counts.Tally.{Tally}
 use Rattle.v6_run.specs.declared.image.TheConstants.{IMAGE_LIMIT}
 use Rattle.v6_run.specs.declared.run.TheConstants.{SCRIPT_LIMIT}
 use Rattle.v6_run.specs.declared.status.Status.{Status}
 use Rattle.v6_run.specs.declared.status.Status.TheVariants.{Done, ReadFault, WriteFault}
 use Rattle.v6_run.specs.declared.error.CommandError.{CommandError}
+use Rattle.v6_run.specs.declared.report.Found.{Found}
 use Rattle.v6_run.specs.Words.{RunWords, Command, Run}
 use Rattle.v6_run.specs.Status.{is_decided, has_written, is_closed, is_unfinished}
 use Rattle.v6_run.specs.Errors.{command_status, end_of}
@@ -42,7 +42,7 @@ pub record AnswersWords (command : Option Command) (status : Status) (old new : 
 
 -- The report of what a command has come to: nothing else changes, and the status stays but where a command that was done has found
 -- something and that can't be told.
-pub record Reports (answer : Result (Option Tally) CommandError) (status : Status) (old new : Outside) : Type 0 where
+pub record Reports (answer : Result (Option Found) CommandError) (status : Status) (old new : Outside) : Type 0 where
   pub only : OnlyAt (same (Out out_port.Report)) old new
   pub missing : Tells old → (report new).missing ≡ (report old).missing
   pub ends : ((status ≡ end_of command_status answer) × (status ≡ Done → (report new).faults ≡ (report old).faults))

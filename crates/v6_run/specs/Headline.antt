@@ -16,20 +16,22 @@ use Rattle.script_text.specs.declared.script.ScriptFault.TheVariants.{NoMemory}
 use Rattle.script_text.specs.declared.script.Event.{Event}
 use Rattle.script_text.specs.Script.{script_of, signal_line_of}
 use Rattle.make_image.specs.Image.{build_of}
+use Rattle.make_image.specs.Demo.{demo_text}
 use Rattle.abstract_unix.specs.Runs.{Course, run_of}
 use Rattle.v6_run.specs.declared.image.TheConstants.{IMAGE_LIMIT}
 use Rattle.v6_run.specs.declared.run.TheConstants.{SCRIPT_LIMIT}
+use Rattle.v6_run.specs.declared.demo.TheConstants.{DEMO_CORE}
 use Rattle.v6_run.specs.declared.status.Status.{Status}
 use Rattle.v6_run.specs.declared.status.Status.TheVariants as status
 use Rattle.abstract_unix.specs.declared.ends.Ends.{Ends}
 use Rattle.abstract_unix.specs.declared.ends.Ends.TheVariants.{AtEnd, NotBuilt, Panic}
 use Rattle.abstract_unix.specs.declared.turned.Unbuilt.TheVariants as unbuilt
-use Rattle.v6_run.specs.Words.{Outputs, ToDisk, ToMemory, RunWords, Command, Run, Check, Make}
+use Rattle.v6_run.specs.Words.{Outputs, ToDisk, ToMemory, RunWords, Command, Run, Check, Make, Demo}
 use Rattle.v6_run.specs.Events.{events_of}
-use Rattle.v6_run.specs.Status.{has_written}
+use Rattle.v6_run.specs.Status.{has_written, is_unfinished}
 use Rattle.v6_run.specs.Fronts.{HoldsSome, HoldsFrontOfSome, exactly}
 use Rattle.v6_run.specs.Outputs.{is_output, run_writes}
-use Rattle.v6_run.specs.Report.{store_line}
+use Rattle.v6_run.specs.Report.{store_line, course_line}
 
 abbrev pub is_core_size : ℕ → Bool
 is_core_size core = nat_le 64 core && nat_le core 3968
@@ -71,22 +73,30 @@ status_at AtEnd = status.Done
 status_at (NotBuilt place) = status.NotBuilt place
 status_at (Panic kind) = status.Panic kind
 
+-- which texts a run may write to each file, by its course
+abbrev pub Writing : Type 1
+Writing = Course → OutPort → List ℕ → Type 0
+
+abbrev pub course_completion : Writing → Course → Completion
+course_completion writes c = record { status = status_at c.ending; writes = writes c }
+
+-- In so much core, from an image without a fault, a script without a fault, and its first line that types a key which makes a
+-- signal
+abbrev pub events_completion : ℕ → Writing → List ℕ → List Event → Option ℕ → Completion
+events_completion core writes image events (Some n) = ends_with (status.NotBuilt (unbuilt.Line n))
+events_completion core writes image events None = course_completion writes (run_of image core (events_of events))
+
+abbrev pub lines_completion : ℕ → Writing → List ℕ → Result (List Event) ScriptFault → Option ℕ → Completion
+lines_completion core writes image (Err fault) signal = ends_with (status.ScriptFault fault)
+lines_completion core writes image (Ok events) signal = events_completion core writes image events signal
+
+abbrev pub run_completion : ℕ → Writing → List ℕ → List ℕ → Completion
+run_completion core writes image bytes = lines_completion core writes image (script_of bytes) (signal_line_of bytes)
+
 -- Of `run` the terminal and LOG get what the run shows, and FINAL the disk that it leaves. Of `memory` FINAL gets core and the
 -- swap area.
-abbrev pub course_completion : RunWords → List ℕ → Course → Completion
-course_completion words image c = record { status = status_at c.ending; writes = run_writes words.outputs (disk_of image) c }
-
--- from a script without a fault, and its first line that types a key which makes a signal
-abbrev pub events_completion : RunWords → List ℕ → List Event → Option ℕ → Completion
-events_completion words image events (Some n) = ends_with (status.NotBuilt (unbuilt.Line n))
-events_completion words image events None = course_completion words image (run_of image words.core (events_of events))
-
-abbrev pub lines_completion : RunWords → List ℕ → Result (List Event) ScriptFault → Option ℕ → Completion
-lines_completion words image (Err fault) signal = ends_with (status.ScriptFault fault)
-lines_completion words image (Ok events) signal = events_completion words image events signal
-
 abbrev pub bytes_completion : RunWords → List ℕ → List ℕ → Completion
-bytes_completion words image bytes = lines_completion words image (script_of bytes) (signal_line_of bytes)
+bytes_completion words image bytes = run_completion words.core (run_writes words.outputs (disk_of image)) image bytes
 
 -- from the bytes of SCRIPT, of which at most one more is read than a script may have
 abbrev pub script_completion : RunWords → Option (List ℕ) → List ℕ → MaybeCompletion
@@ -102,26 +112,41 @@ abbrev pub image_completion : Option (List ℕ) → (List ℕ → MaybeCompletio
 image_completion None rest = Unknown
 image_completion (Some bytes) rest = fault_completion (image_fault (take IMAGE_LIMIT bytes)) (rest (take IMAGE_LIMIT bytes))
 
+-- `demo` is a run of the script of the demo over the disk that `make` builds. It writes no file.
+abbrev pub no_writing : Writing
+no_writing c port = exactly []
+
+abbrev pub demo_completion : ℕ → MaybeCompletion
+demo_completion number =
+    fault_completion (image_fault (build_of number)) (Known (run_completion DEMO_CORE no_writing (build_of number) demo_text))
+
 -- what a command comes to
 abbrev pub command_completion : Command → Environment → MaybeCompletion
 command_completion (Run words) fixed = image_completion (fixed.given words.image) (script_completion words (fixed.given words.script))
 command_completion (Check image) fixed = image_completion (fixed.given image) (λ bytes. Known (ends_with status.Done))
 command_completion (Make number final) fixed = Known (record { status = status.Done; writes = only_to out_port.Final (build_of number) })
+command_completion (Demo number) fixed = demo_completion number
 
 abbrev pub words_completion : Option Command → Environment → MaybeCompletion
 words_completion None fixed = Unknown
 words_completion (Some command) fixed = command_completion command fixed
 
--- the line that a command reports when it was done: that of `check` tells what the disk holds, and the others have none
+-- The line that a command reports when it was done: that of `check` tells what the disk holds, that of `demo` what its run has
+-- come to, and the others have none.
 abbrev pub image_line : Option (List ℕ) → List ℕ
 image_line None = []
 image_line (Some bytes) = store_line (store_of (disk_of (take IMAGE_LIMIT bytes)))
+
+abbrev pub run_line : ℕ → Result (List Event) ScriptFault → List ℕ
+run_line number (Err fault) = []
+run_line number (Ok events) = course_line number (run_of (build_of number) DEMO_CORE (events_of events))
 
 abbrev pub done_line : Option Command → Environment → List ℕ
 done_line None fixed = []
 done_line (Some (Run words)) fixed = []
 done_line (Some (Check image)) fixed = image_line (fixed.given image)
 done_line (Some (Make number final)) fixed = []
+done_line (Some (Demo number)) fixed = run_line number (script_of demo_text)
 
 -- The command is complete: the status is its, and each file has got all of a text that may be written to it.
 pub record IsComplete (s : Status) (old new : Outside) (completion : Completion) : Type 0 where
@@ -143,20 +168,26 @@ abbrev pub is_named : Command → Port → Bool
 is_named (Run words) q = same (In in_port.Image) q || same (In in_port.Script) q || is_output words.outputs q
 is_named (Check image) q = same (In in_port.Image) q
 is_named (Make number final) q = same (Out out_port.Final) q
+is_named (Demo number) q = false
 
 -- a command touches these, and Report
 abbrev pub is_touched : Option Command → Port → Bool
 is_touched None q = is_report q
 is_touched (Some command) q = is_named command q || is_report q
 
--- only `check` reports that it was done
+-- only `check` and `demo` report that they were done
 abbrev pub reports_done : Command → Bool
 reports_done (Check image) = true
+reports_done (Demo number) = true
 reports_done _ = false
 
 abbrev pub is_run : Command → Bool
 is_run (Run words) = true
 is_run _ = false
+
+abbrev pub is_demo : Command → Bool
+is_demo (Demo number) = true
+is_demo _ = false
 
 -- want of memory is a status of its own
 abbrev pub is_script_fault : ScriptFault → Bool
@@ -164,16 +195,16 @@ is_script_fault NoMemory = false
 is_script_fault _ = true
 
 -- The statuses that a good command may end with. A fault is one of a port for which its words have a name, or of a report that
--- is all that the command has to say.
+-- is all that the command has to say. The script of `demo` has no fault, and all its lines are built.
 abbrev pub may_end : Command → Status → Bool
 may_end command status.Done = true
 may_end command (status.ReadFault port) = is_named command (In port)
 may_end command (status.WriteFault port) = is_named command (Out port) || (is_report (Out port) && reports_done command)
 may_end command (status.ScriptFault fault) = is_run command && is_script_fault fault
-may_end command (status.ImageFault fault) = is_named command (In in_port.Image)
+may_end command (status.ImageFault fault) = is_named command (In in_port.Image) || is_demo command
 may_end command status.NoMemory = true
-may_end command (status.Panic kind) = is_run command
-may_end command (status.NotBuilt place) = is_run command
+may_end command (status.Panic kind) = is_run command || is_demo command
+may_end command (status.NotBuilt place) = is_run command || (is_demo command && is_unfinished (status.NotBuilt place))
 may_end command _ = false
 
 abbrev pub words_may_end : Option Command → Status → Bool
@@ -202,3 +233,4 @@ is_known None fixed q = true
 is_known (Some (Run words)) fixed q = run_knows words fixed q
 is_known (Some (Check image)) fixed q = not (same (In in_port.Image) q) || is_given (fixed.given image)
 is_known (Some (Make number final)) fixed q = not (same (Out out_port.Final) q) || is_expected (fixed.expects out_port.Final) final
+is_known (Some (Demo number)) fixed q = true

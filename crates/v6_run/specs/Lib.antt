@@ -13,4 +13,5 @@ pub mod Courses
 pub mod Final
 pub mod Outputs
 pub mod Headline
+pub mod Demo
 pub mod Answers

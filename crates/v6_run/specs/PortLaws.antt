@@ -1,5 +1,5 @@
 -- What goes out on two ports, one thing after another: the laws of the trace over a host.
-use Rattle.std.proofs.Common.{◌≡◌, true, false, Option, Some, None, is_some, MatchOption, [], ◌++◌, refl, sym, ◌∙◌, ap, subst, append_assoc}
+use Rattle.std.proofs.Common.{◌≡◌, true, Option, Some, None, MatchOption, [], ◌++◌, refl, sym, ◌∙◌, ap, subst, append_assoc}
 use Rattle.std.proofs.lemmas.List.{append-nil}
 use Rattle.v6_port.specs.Outside.{Out, PortState, Outside, Tells}
 use Rattle.v6_port.specs.Causes.{Calm, FaultAt}
@@ -33,7 +33,8 @@ Goes-same o kept = record {
   terminal = grows_not (Tells o) (term o);
   log = grows_not (Tells o) (log_of o);
   cause = calm_at o (failed_output kept);
-  stopped = λ is_cut. (refl, refl);
+  stopped = λ is_cut. (refl, is_cut, refl);
+  counted = refl;
 }
 
 -- after a failure nothing is written
@@ -42,6 +43,7 @@ silent_failed kept.Nothing output is = absurd (cc is)
 silent_failed (kept.Byte byte) output is = refl
 silent_failed (kept.Line rest) output is = refl
 silent_failed kept.Unwanted output is = refl
+silent_failed (kept.Screen bytes) output is = refl
 
 -- a fault comes after calm, or else nothing changes after it
 module _ (a b c : Outside) (b_kept c_kept : Kept) (second : Goes b b_kept c c_kept) (fixed : b.fixed ≡ a.fixed) where
@@ -55,7 +57,7 @@ module _ (a b c : Outside) (b_kept c_kept : Kept) (second : Goes b b_kept c c_ke
   cause_on None is calm = after_calm (failed_output c_kept) calm (second.cause is)
   cause_on (Some output) is fault =
       let still = second.stopped (silent_failed b_kept output is) in
-      subst (λ o. MatchOption o (Calm a c) (λ output. FaultAt (Out (port_of output)) true a c)) (sym (ap failed_output still.1 ∙ is))
+      subst (λ o. MatchOption o (Calm a c) (λ output. FaultAt (Out (port_of output)) true a c)) (sym (still.2 ∙ is))
       (subst (λ o. FaultAt (Out (port_of output)) true a o) (sym still.0) fault)
 
 pub Goes-on : (a : Outside) (a_kept : Kept) (b : Outside) (b_kept : Kept) (c : Outside) (c_kept : Kept)
@@ -67,6 +69,7 @@ Goes-on a a_kept b b_kept c c_kept first second = record {
   cause = λ goes. cause_on a b c b_kept c_kept second first.only.fixed (failed_output b_kept) refl (first.cause goes);
   stopped = λ is_cut.
       let one = first.stopped is_cut in
-      let two = second.stopped (ap is_silent one.1 ∙ is_cut) in
-      (two.0 ∙ one.0, two.1 ∙ one.1);
+      let two = second.stopped one.1 in
+      (two.0 ∙ one.0, two.1, two.2 ∙ one.2);
+  counted = second.counted ∙ first.counted;
 }

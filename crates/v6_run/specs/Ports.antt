@@ -1,5 +1,5 @@
 -- The ports of a host as a trace of what a run shows: the terminal's bytes go to Term, and the lines of the log to Log.
-use Rattle.std.specs.Prelude.{◌≡◌, ℕ, Bool, true, false, ◌&&◌, Option, Some, None, is_some, MatchOption, List, [], ◌∷◌, ◌++◌, ◌==◌, if◌then◌else◌}
+use Rattle.std.specs.Prelude.{◌≡◌, ℕ, Bool, true, false, ◌&&◌, Option, Some, None, is_some, MatchOption, List, [], ◌∷◌, ◌++◌, length, ◌==◌, nat_le, if◌then◌else◌}
 use Rattle.v6_base.specs.Trace.{Taken, Item, line_bytes, text_of}
 use Rattle.v6_port.specs.declared.host.OutPort.TheVariants as out_port
 use Rattle.v6_port.specs.Outside.{Out, PortState, Outside, Tells, OnlyAt}
@@ -8,6 +8,7 @@ use Rattle.v6_run.specs.declared.outputs.Output.{Output}
 use Rattle.v6_run.specs.declared.outputs.Output.TheVariants.{Term, Log}
 use Rattle.v6_run.specs.declared.ports.Kept.{Kept}
 use Rattle.v6_run.specs.declared.ports.Kept.TheVariants as kept
+use Rattle.v6_run.specs.declared.ports.TheConstants.{SCREEN_ROOM}
 use Rattle.v6_run.specs.Fronts.{HoldsFront}
 use Rattle.v6_run.specs.Outputs.{port_of, is_shown}
 
@@ -26,6 +27,7 @@ failed_output kept.Nothing = None
 failed_output (kept.Byte byte) = Some Term
 failed_output (kept.Line rest) = Some Log
 failed_output kept.Unwanted = None
+failed_output (kept.Screen bytes) = None
 
 -- the byte that could not be written
 abbrev pub kept_byte : Kept → List ℕ
@@ -47,12 +49,19 @@ is_silent kept.Nothing = false
 is_silent (kept.Byte byte) = true
 is_silent (kept.Line rest) = true
 is_silent kept.Unwanted = true
+is_silent (kept.Screen bytes) = true
 
 abbrev pub is_wanted : Kept → Bool
 is_wanted kept.Nothing = true
 is_wanted (kept.Byte byte) = true
 is_wanted (kept.Line rest) = true
 is_wanted kept.Unwanted = false
+is_wanted (kept.Screen bytes) = false
+
+-- the bytes of the terminal are counted
+abbrev pub is_counted : Kept → Bool
+is_counted (kept.Screen bytes) = true
+is_counted _ = false
 
 -- What has been taken are the bytes of line 0, those written to Term, and the text of the log, what was written to Log: each
 -- with the byte, or the rest of the line, that is kept because its writing failed. With that the trace is cut. A trace of which
@@ -68,6 +77,37 @@ taken_of o k = record {
   text = (log_of o).bytes ++ kept_text k;
 }
 
+-- A trace that counts tells the bytes of line 0, and is cut where they have no more room.
+abbrev pub shown_on : List ℕ → Taken
+shown_on bytes = record {
+  cut = nat_le SCREEN_ROOM (length bytes);
+  tells_bytes = true;
+  bytes = of_line_0 bytes;
+  tells_entries = false;
+  entries = [];
+  tells_text = false;
+  text = [];
+}
+
+abbrev pub taken_by : Outside → Kept → Taken
+taken_by o (kept.Screen bytes) = shown_on bytes.items
+taken_by o kept.Nothing = taken_of o kept.Nothing
+taken_by o (kept.Byte byte) = taken_of o (kept.Byte byte)
+taken_by o (kept.Line rest) = taken_of o (kept.Line rest)
+taken_by o kept.Unwanted = taken_of o kept.Unwanted
+
+-- one byte more is counted, where there is room
+abbrev pub screened : Kept → ℕ → Kept
+screened (kept.Screen bytes) byte =
+    if nat_le SCREEN_ROOM (length bytes.items) then kept.Screen bytes
+    else kept.Screen (record { items = bytes.items ++ byte ∷ [] })
+screened k byte = k
+
+-- so many have been, and there was room for them all
+abbrev pub HasCounted : Kept → ℕ → Type 0
+HasCounted (kept.Screen bytes) count = (count ≡ length bytes.items) × (nat_le SCREEN_ROOM count ≡ false)
+HasCounted k count = ⊥
+
 pub record Extends (old new : List ℕ) : Type 0 where
   pub more : List ℕ
   pub is : new ≡ old ++ more
@@ -78,14 +118,15 @@ pub record Grows (told : Type 0) (old new : PortState) : Type 0 where
   pub bytes : told → Extends old.bytes new.bytes
 
 -- What stays while bytes and lines go out: only Term and Log change, and more is written to them. No count changes until a write has
--- failed: then the faults of its port have risen, and from then on nothing changes; nor does it where nothing is wanted.
+-- failed: then the faults of its port have risen, and from then on nothing changes; nor does it where nothing is to be written.
 pub record Goes (a : Outside) (a_kept : Kept) (b : Outside) (b_kept : Kept) : Type 0 where
   pub only : OnlyAt is_shown a b
   pub terminal : Grows (Tells a) (term a) (term b)
   pub log : Grows (Tells a) (log_of a) (log_of b)
   pub cause : failed_output a_kept ≡ None
       → MatchOption (failed_output b_kept) (Calm a b) (λ output. FaultAt (Out (port_of output)) true a b)
-  pub stopped : is_silent a_kept ≡ true → (b ≡ a) × (b_kept ≡ a_kept)
+  pub stopped : is_silent a_kept ≡ true → (b ≡ a) × (is_silent b_kept ≡ true) × (failed_output b_kept ≡ failed_output a_kept)
+  pub counted : is_counted b_kept ≡ is_counted a_kept
 
 -- the terminal and the log have got all of what is shown
 pub record HasShown (items : List Item) (old new : Outside) : Type 0 where

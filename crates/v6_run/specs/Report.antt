@@ -1,5 +1,5 @@
--- The lines that commands write to Report, by docs/manual/commands.md: how a command ended, and what `check` has found.
-use Rattle.std.specs.Prelude.{ℕ, is_some, count_by, Option, Some, None, List, [], ◌∷◌, ◌++◌, codes, decimal, Result, Ok, Err}
+-- The lines that commands write to Report, by docs/manual/commands.md: how a command ended, and what `check` or `demo` has found.
+use Rattle.std.specs.Prelude.{ℕ, is_some, count_by, Option, Some, None, List, [], ◌∷◌, ◌++◌, length, codes, decimal, Result, Ok, Err}
 use Rattle.v6_port.specs.declared.host.InPort.{InPort}
 use Rattle.v6_port.specs.declared.host.InPort.TheVariants as in_port
 use Rattle.v6_port.specs.declared.host.OutPort.{OutPort}
@@ -10,7 +10,8 @@ use Rattle.script_text.specs.declared.script.ScriptFault.TheVariants as script
 use Rattle.fs_codec.specs.declared.fault.ImageFault.{ImageFault}
 use Rattle.fs_codec.specs.declared.fault.ImageFault.TheVariants.{TooLong, BadSuper, NoSwap, FreeCount, FreeOutside, NodeOutside, BlockTwice, NoRoot}
 use Rattle.fs_codec.specs.Store.{Store}
-use Rattle.fs_check.specs.declared.counts.Tally.{Tally}
+use Rattle.abstract_unix.specs.Runs.{Course, shown_by, finished}
+use Rattle.v6_base.specs.Trace.{line_bytes}
 use Rattle.v6_run.specs.declared.status.Status.{Status}
 use Rattle.v6_run.specs.declared.status.Status.TheVariants as status
 use Rattle.v6_base.specs.declared.entry.PanicKind.{PanicKind}
@@ -18,6 +19,9 @@ use Rattle.v6_base.specs.declared.entry.PanicKind.TheVariants as panic
 use Rattle.abstract_unix.specs.declared.turned.Unbuilt.{Unbuilt}
 use Rattle.abstract_unix.specs.declared.turned.Unbuilt.TheVariants.{Line, At}
 use Rattle.v6_run.specs.declared.error.CommandError.{CommandError}
+use Rattle.v6_run.specs.declared.report.Found.{Found}
+use Rattle.v6_run.specs.declared.report.Found.TheVariants as found
+use Rattle.v6_run.specs.declared.demo.Summary.{Summary}
 use Rattle.v6_run.specs.Errors.{command_status}
 
 abbrev pub line_of : List ℕ → List ℕ
@@ -84,13 +88,32 @@ ok_line nodes free = line_of (codes "ok " ++ decimal nodes ++ codes " nodes " ++
 abbrev pub store_line : Store → List ℕ
 store_line store = ok_line (count_by is_some store.nodes) store.room
 
--- the line of a command that has come to this, with a tally where it is `check`
-abbrev pub tally_line : Option Tally → List ℕ
-tally_line None = []
-tally_line (Some tally) = ok_line tally.nodes tally.free
+-- what `demo` tells of the run of a number: how many bytes the terminal is shown, and how many nodes and free blocks are left
+abbrev pub demo_line : ℕ → ℕ → ℕ → ℕ → List ℕ
+demo_line number shown nodes free = line_of (
+    codes "demo " ++ decimal number ++ codes ": 60000 slots, " ++ decimal shown ++ codes " shown, "
+    ++ decimal nodes ++ codes " nodes, " ++ decimal free ++ codes " free")
 
-abbrev pub answer_line : Result (Option Tally) CommandError → List ℕ
-answer_line (Ok tally) = tally_line tally
+abbrev pub shown_line : ℕ → ℕ → Store → List ℕ
+shown_line number shown store = demo_line number shown (count_by is_some store.nodes) store.room
+
+abbrev pub course_line : ℕ → Course → List ℕ
+course_line number c = shown_line number (length (line_bytes 0 (shown_by c))) (finished c.system).unix.store
+
+abbrev pub summary_line : Summary → List ℕ
+summary_line summary = demo_line summary.number summary.shown summary.tally.nodes summary.tally.free
+
+-- the line of a command that has found this, and of one that was done
+abbrev pub found_line : Found → List ℕ
+found_line (found.Disk tally) = ok_line tally.nodes tally.free
+found_line (found.Run summary) = summary_line summary
+
+abbrev pub told_line : Option Found → List ℕ
+told_line None = []
+told_line (Some found) = found_line found
+
+abbrev pub answer_line : Result (Option Found) CommandError → List ℕ
+answer_line (Ok found) = told_line found
 answer_line (Err error) = status_line (command_status error)
 
 -- what a command reports that would tell this if it was done: also where that was all that failed

@@ -1,5 +1,5 @@
 -- The words of a command, without the program's name, by docs/manual/commands.md.
-use Rattle.std.specs.Prelude.{ℕ, Bool, true, false, Option, Some, None, List, [], ◌∷◌, map, nat_eq, codes, String, string_bytes}
+use Rattle.std.specs.Prelude.{ℕ, Bool, true, false, if◌then◌else◌, Option, Some, None, List, [], ◌∷◌, map, nat_eq, codes, String, string_bytes}
 use Rattle.std.specs.declared.alloc.Global.{Global}
 use Rattle.std.specs.Cmp.Lexicographic.{pointwise}
 use Rattle.script_text.specs.Number.{number_of}
@@ -28,11 +28,13 @@ pub record RunWords : Type 0 where
   pub script : List ℕ
   pub outputs : Outputs
 
--- a command: what `run` or `memory` is told, the image that `check` reads, or the number and the file of `make`
+-- a command: what `run` or `memory` is told, the image that `check` reads, the number and the file of `make`, or the number
+-- of `demo`
 pub data Command : Type 0 where
   Run : RunWords → Command
   Check : List ℕ → Command
   Make : ℕ → List ℕ → Command
+  Demo : ℕ → Command
 
 -- the words of `run` and of `memory` are good where CORE is a number
 abbrev pub run_words : Bool → Option ℕ → List ℕ → List ℕ → Outputs → Option Command
@@ -50,15 +52,25 @@ make_words true (Some number) final = Some (Make number final)
 make_words true None final = None
 make_words false number final = None
 
+-- and so are those of `demo`
+abbrev pub demo_words : Option ℕ → Option Command
+demo_words (Some number) = Some (Demo number)
+demo_words None = None
+
 abbrev pub is_word : List ℕ → List ℕ → Bool
 is_word word name = pointwise nat_eq word name
 
--- run IMAGE CORE SCRIPT TERM LOG FINAL, memory IMAGE CORE SCRIPT FINAL, check IMAGE, make N FINAL
+-- check IMAGE, demo N
+abbrev pub short_words : List ℕ → List ℕ → Option Command
+short_words verb word =
+    if is_word verb (codes "demo") then demo_words (number_of word) else check_words (is_word verb (codes "check")) word
+
+-- run IMAGE CORE SCRIPT TERM LOG FINAL, memory IMAGE CORE SCRIPT FINAL, check IMAGE, make N FINAL, demo N
 abbrev pub command_of : List (List ℕ) → Option Command
 command_of (verb ∷ image ∷ core ∷ script ∷ term ∷ log ∷ final ∷ []) =
     run_words (is_word verb (codes "run")) (number_of core) image script (ToDisk (record { term = term; log = log; final_disk = final }))
 command_of (verb ∷ image ∷ core ∷ script ∷ final ∷ []) = run_words (is_word verb (codes "memory")) (number_of core) image script (ToMemory final)
-command_of (verb ∷ image ∷ []) = check_words (is_word verb (codes "check")) image
+command_of (verb ∷ word ∷ []) = short_words verb word
 command_of (verb ∷ number ∷ final ∷ []) = make_words (is_word verb (codes "make")) (number_of number) final
 command_of _ = None
 
@@ -81,3 +93,4 @@ abbrev pub command_value : written.Command → Command
 command_value (variant.Run words) = Run (run_words_value words)
 command_value (variant.Check image) = Check image.now
 command_value (variant.Make number final) = Make number final.now
+command_value (variant.Demo number) = Demo number

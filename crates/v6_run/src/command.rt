@@ -7,7 +7,7 @@ ghost use Rattle.v6_port.specs.declared.host.InPort.TheVariants.{Script};
 ghost use Rattle.abstract_unix.specs.Law.{LogsAreLawful};
 ghost use Rattle.v6_run.specs.Words.{command_in, command_value};
 ghost use Rattle.v6_run.specs.Fronts.{HoldsFront};
-ghost use Rattle.v6_run.specs.Report.{report, report_line, tally_line};
+ghost use Rattle.v6_run.specs.Report.{report, report_line, told_line};
 ghost use Rattle.v6_run.specs.Status.{is_decided, has_written, is_closed, is_unfinished};
 ghost use Rattle.v6_run.specs.Errors.{command_status, end_of};
 ghost use Rattle.v6_run.specs.Causes.{HasCause, MissesUnknown};
@@ -15,13 +15,13 @@ ghost use Rattle.v6_run.specs.Headline.{is_core_size, has_core_size, refused_by,
 ghost use Rattle.v6_run.specs.Answers.{Answers, AnswersWords};
 
 use crate::check::check;
+use crate::demo::demo;
 use crate::error::CommandError;
 use crate::make::make;
-use crate::report::report;
+use crate::report::{Found, report};
 use crate::run::run;
 use crate::status::Status;
 use crate::words::{Command, command_of};
-use fs_check::Tally;
 use std::alloc::Global;
 use v6_port::Host;
 
@@ -48,12 +48,12 @@ fn done<H: Host>(
     alloc: Global,
     command: &Command<'_>,
     host: &mut H,
-) -> Result<Option<Tally>, CommandError>
+) -> Result<Option<Found>, CommandError>
     requires idle { IsIdle (H.outside host.old) }
     requires good { has_core_size (command_value command.now) ≡ true }
     ensures answers { Answers (command_value command.now) (end_of command_status result) (H.outside host.old) (H.outside host.new) }
     ensures line { IfOk result (λ found. Tells (H.outside host.old)
-        → done_line (Some (command_value command.now)) (H.outside host.old).fixed ≡ tally_line found) }
+        → done_line (Some (command_value command.now)) (H.outside host.old).fixed ≡ told_line found) }
     ensures found { IfOk result (λ found. is_some found ≡ reports_done (command_value command.now)) }
 {
     match command {
@@ -62,12 +62,16 @@ fn done<H: Host>(
             Err(error) => Err(CommandError::Run(error)),
         },
         Command::Check(image) => match check(alloc, image, host) {
-            Ok(tally) => Ok(Some(tally)),
+            Ok(tally) => Ok(Some(Found::Disk(tally))),
             Err(error) => Err(CommandError::Check(error)),
         },
         Command::Make(number, name) => match make(alloc, *number, name, host) {
             Ok(()) => Ok(None),
             Err(error) => Err(CommandError::Make(error)),
+        },
+        Command::Demo(number) => match demo(alloc, *number, host) {
+            Ok(summary) => Ok(Some(Found::Run(summary))),
+            Err(error) => Err(CommandError::Run(error)),
         },
     }
 }
@@ -77,11 +81,11 @@ fn answer<H: Host>(
     alloc: Global,
     words: &[String],
     host: &mut H,
-) -> Result<Option<Tally>, CommandError>
+) -> Result<Option<Found>, CommandError>
     requires { IsIdle (H.outside host.old) }
     ensures answers { AnswersWords (command_in words.now) (end_of command_status result) (H.outside host.old) (H.outside host.new) }
     ensures line { IfOk result (λ found. Tells (H.outside host.old)
-        → done_line (command_in words.now) (H.outside host.old).fixed ≡ tally_line found) }
+        → done_line (command_in words.now) (H.outside host.old).fixed ≡ told_line found) }
     ensures found { IfOk result (λ found. option_map reports_done (command_in words.now) ≡ Some (is_some found)) }
 {
     let Some(command) = command_of(words) else {
@@ -104,6 +108,8 @@ fn answer<H: Host>(
 ///   area.
 /// - `check IMAGE` tells how many nodes and free blocks the disk IMAGE has, or the first of its faults.
 /// - `make N FINAL` writes the disk image of the number N to FINAL.
+/// - `demo N` takes this disk, with 100 clicks of core, through a script that shows the most of the kernel, and tells what that
+///   came to. It reads and writes no file.
 ///
 /// Any other words are [`Status::Usage`]. `run`, `memory` and `make` report nothing where they were done; any other status is reported in
 /// one line.

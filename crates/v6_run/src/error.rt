@@ -19,7 +19,7 @@ pub(crate) enum CommandError {
     Usage,
     /// The size of core is not 64 to 3968 clicks.
     CoreSize,
-    /// `run` has failed.
+    /// `run`, `memory` or `demo` has failed.
     Run(RunError),
     /// `check` has no image.
     Check(ImageError),

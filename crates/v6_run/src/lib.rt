@@ -1,11 +1,12 @@
 //! The commands: `run` takes a disk image and a script, and writes what the terminal shows, the log of what the kernel
 //! decides, and the disk that is left; `memory` writes the core and the swap area that such a run leaves; `check` tells whether
-//! an image has a fault, and what it holds; `make` writes an image that is known to the last byte.
+//! an image has a fault, and what it holds; `make` writes an image that is known to the last byte; `demo` runs such an image.
 #![tactic(auto)]
 
 mod check;
 mod clock;
 mod command;
+mod demo;
 mod error;
 mod files;
 mod image;

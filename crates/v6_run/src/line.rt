@@ -30,7 +30,7 @@ fn push_digits(line: &mut Line, number: u32)
 }
 
 /// Appends a number of at most ten digits.
-fn push_number(line: &mut Line, number: u32)
+pub(crate) fn push_number(line: &mut Line, number: u32)
     requires { array_string_len line.old ≤ 118 }
     ensures bytes { line.new.bytes ≡ line.old.bytes ++ decimal number }
     ensures len { array_string_len line.new ≤ array_string_len line.old + 10 }

@@ -1,9 +1,9 @@
 //! What a run shows, written to the ports of a host.
-ghost use Rattle.std.specs.Prelude.{◌≡◌, false, ◌++◌, ◌∷◌, [], ◌≤◌, drop, length};
+ghost use Rattle.std.specs.Prelude.{◌≡◌, false, ◌++◌, ◌∷◌, [], ◌≤◌, drop, length, IfSome};
 ghost use Rattle.v6_base.specs.LogLine.{entry_line};
 ghost use Rattle.v6_port.specs.Outside.{Out, IsOpen};
 ghost use Rattle.v6_port.specs.declared.host.OutPort.TheVariants.{Term, Log};
-ghost use Rattle.v6_run.specs.Ports.{is_silent, failed_output};
+ghost use Rattle.v6_run.specs.Ports.{is_silent, failed_output, screened, HasCounted};
 
 use crate::files::write_text;
 use crate::outputs::Output;
@@ -14,7 +14,10 @@ use v6_port::{Host, OutPort};
 /// How many bytes a line of the log has at most, with its line feed.
 const LINE_ROOM: usize = 81;
 
-/// What could not be written.
+/// For how many bytes of the terminal there is room where they aren't written.
+const SCREEN_ROOM: usize = 4096;
+
+/// What was not written.
 #[derive(Drop)]
 enum Kept {
     Nothing,
@@ -24,11 +27,14 @@ enum Kept {
     Line(ArrayVec<u8, LINE_ROOM>),
     /// All of it: nobody wants what the run shows.
     Unwanted,
+    /// All bytes of the terminal: nobody wants more than to count them.
+    Screen(ArrayVec<u8, SCREEN_ROOM>),
 }
 
 /// A trace over the ports of the terminal and the log. A line of the log goes out as one piece. The trace is cut where a
 /// write fails, and keeps what was not written of that byte or line. A trace of which nothing is wanted writes nothing, and is
-/// never cut: a run with either is the same code, so that the loop over slots stands once.
+/// never cut; one that counts writes nothing, and is cut where the bytes of the terminal have no more room. A run with each of
+/// them is the same code, so that the loop over slots stands once.
 #[derive(Drop)]
 pub(crate) struct Ports<'a, H: Host> {
     host: &'a mut H,
@@ -38,7 +44,8 @@ pub(crate) struct Ports<'a, H: Host> {
 }
 
 impl<'a, H: Host> Ports<'a, H> {
-    ghost use Rattle.v6_run.specs.declared.ports.Kept.TheVariants.{Nothing, Unwanted};
+    ghost use Rattle.std.specs.Prelude.{◌∷◌, []};
+    ghost use Rattle.v6_run.specs.declared.ports.Kept.TheVariants.{Nothing, Unwanted, Screen};
 
     /// A trace of which nothing is taken yet.
     pub(crate) fn new(host: &'a mut H) -> Self
@@ -66,13 +73,25 @@ impl<'a, H: Host> Ports<'a, H> {
         }
     }
 
+    /// A trace that writes nothing and counts the bytes of the terminal.
+    pub(crate) fn counting(host: &'a mut H) -> Self
+        ensures same_reference { result.host.ghost_name ≡ host.entry.ghost_name }
+        ensures outside { result.host.now ≡ host.old }
+        ensures kept { result.kept ≡ Screen (record { items = [] }) }
+    {
+        Ports {
+            host,
+            kept: Kept::Screen(ArrayVec::new()),
+        }
+    }
+
     /// Whether nothing is written any more, or nothing is to be written.
     fn is_silent(&self) -> bool
         ensures { result ≡ is_silent self.now.kept }
     {
         match &self.kept {
             Kept::Nothing => false,
-            Kept::Byte(_) | Kept::Line(_) | Kept::Unwanted => true,
+            Kept::Byte(_) | Kept::Line(_) | Kept::Unwanted | Kept::Screen(_) => true,
         }
     }
 
@@ -81,10 +100,29 @@ impl<'a, H: Host> Ports<'a, H> {
         ensures { result ≡ failed_output self.now.kept }
     {
         match &self.kept {
-            Kept::Nothing | Kept::Unwanted => None,
+            Kept::Nothing | Kept::Unwanted | Kept::Screen(_) => None,
             Kept::Byte(_) => Some(Output::Term),
             Kept::Line(_) => Some(Output::Log),
         }
+    }
+
+    /// How many bytes the terminal was shown, of a trace that counts them, where they had room.
+    pub(crate) fn count(&self) -> Option<u16>
+        ensures { IfSome result (λ count. HasCounted self.now.kept count) }
+    {
+        match &self.kept {
+            Kept::Screen(bytes) if !bytes.is_full() => Some(bytes.len() as u16),
+            _ => None,
+        }
+    }
+}
+
+/// Takes a byte of the terminal that isn't written, where such bytes are counted.
+fn keep(kept: &mut Kept, byte: u8)
+    ensures { kept.new ≡ screened kept.old byte }
+{
+    if let Kept::Screen(bytes) = kept {
+        let _ = bytes.try_push(byte);
     }
 }
 
@@ -115,10 +153,10 @@ fn rest_of(line: &ArrayVec<u8, LINE_ROOM>, count: usize) -> ArrayVec<u8, LINE_RO
 
 impl<'a, H: Host> Trace for Ports<'a, H> {
     ghost use Rattle.std.proofs.Common.{refl, ◌∙◌};
-    ghost use Rattle.v6_run.specs.Ports.{taken_of, Goes};
+    ghost use Rattle.v6_run.specs.Ports.{taken_by, Goes};
     ghost use Rattle.v6_run.specs.PortLaws.{Goes-same, Goes-on};
 
-    ghost taken = { λ t. taken_of (H.outside t.host.now) t.kept };
+    ghost taken = { λ t. taken_by (H.outside t.host.now) t.kept };
 
     ghost leads_to = { λ a b. Goes (H.outside a.host.now) a.kept (H.outside b.host.now) b.kept
         × (b.host.ghost_name ≡ a.host.ghost_name) };
@@ -139,6 +177,7 @@ impl<'a, H: Host> Trace for Ports<'a, H> {
 
     fn out(&mut self, byte: u8) {
         if self.is_silent() {
+            keep(&mut self.kept, byte);
             return;
         }
         if self.host.write(OutPort::Term, &[byte]).is_err() {

@@ -4,18 +4,28 @@ ghost use Rattle.v6_port.specs.Outside.{Out, OnlyAt, Tells, same};
 ghost use Rattle.v6_port.specs.declared.host.OutPort.TheVariants.{Report};
 ghost use Rattle.v6_port.specs.Causes.{Calm, FaultAt};
 ghost use Rattle.v6_run.specs.Fronts.{HoldsFront};
-ghost use Rattle.v6_run.specs.Report.{report, status_line, unbuilt_line, panic_line, script_line, fault_line, ok_line};
+ghost use Rattle.v6_run.specs.Report.{report, status_line, unbuilt_line, panic_line, script_line, fault_line, ok_line, demo_line, found_line};
 ghost use Rattle.v6_run.specs.Answers.{Reports};
 
+use crate::demo::Summary;
 use crate::error::CommandError;
 use crate::files::write_all;
-use crate::line::{Line, numbered, plain, twice_numbered};
+use crate::line::{Line, numbered, plain, push_number, twice_numbered};
 use crate::status::Status;
 use fs_check::{ImageFault, Tally};
 use script_text::ScriptFault;
 use unix_core::Unbuilt;
 use v6_base::PanicKind;
 use v6_port::{Failed, Host, InPort, OutPort};
+
+/// What a command has found that was done.
+#[derive(Clone, Copy)]
+pub(crate) enum Found {
+    /// What `check` has found on a disk.
+    Disk(Tally),
+    /// What `demo` has come to.
+    Run(Summary),
+}
 
 const USAGE: &str =
     "usage: v6 run IMAGE CORE SCRIPT TERM LOG FINAL, memory IMAGE CORE SCRIPT FINAL, check IMAGE, make N FINAL, demo N";
@@ -106,6 +116,33 @@ fn ok_line(tally: Tally) -> Line
     )
 }
 
+/// What `demo` tells of its run.
+fn demo_line(summary: Summary) -> Line
+    ensures { result.bytes ≡ demo_line summary.number summary.shown summary.tally.nodes summary.tally.free }
+{
+    let mut line = Line::new();
+    line.push_str("demo ");
+    push_number(&mut line, summary.number);
+    line.push_str(": 60000 slots, ");
+    push_number(&mut line, u32::from(summary.shown));
+    line.push_str(" shown, ");
+    push_number(&mut line, u32::from(summary.tally.nodes));
+    line.push_str(" nodes, ");
+    push_number(&mut line, u32::from(summary.tally.free));
+    line.push_str(" free\n");
+    line
+}
+
+/// What a command tells that has found this.
+fn found_line(found: Found) -> Line
+    ensures { result.bytes ≡ found_line found }
+{
+    match found {
+        Found::Disk(tally) => ok_line(tally),
+        Found::Run(summary) => demo_line(summary),
+    }
+}
+
 /// Writes a line to Report.
 fn write_line<H: Host>(host: &mut H, line: &Line) -> Result<(), Failed>
     ensures only { OnlyAt (same (Out Report)) (H.outside host.old) (H.outside host.new) }
@@ -121,13 +158,13 @@ fn write_line<H: Host>(host: &mut H, line: &Line) -> Result<(), Failed>
 
 /// Reports what a command came to: its status, or what it has found where it was done. Where the status can't be written, it
 /// stays; where the command was done and its finding can't be written, that is the fault.
-pub(crate) fn report<H: Host>(answer: Result<Option<Tally>, CommandError>, host: &mut H) -> Status
+pub(crate) fn report<H: Host>(answer: Result<Option<Found>, CommandError>, host: &mut H) -> Status
     requires { (report (H.outside host.old)).faults < 2 ^ 64 - 1 }
     ensures { Reports answer result (H.outside host.old) (H.outside host.new) }
 {
     match answer {
         Ok(None) => Status::Done,
-        Ok(Some(tally)) => match write_line(host, &ok_line(tally)) {
+        Ok(Some(found)) => match write_line(host, &found_line(found)) {
             Ok(()) => Status::Done,
             Err(Failed) => Status::WriteFault(OutPort::Report),
         },

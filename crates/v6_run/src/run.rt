@@ -92,7 +92,7 @@ impl From<ScriptError> for RunError {
 }
 
 /// The kernel for an image and so many clicks of core.
-fn boot(alloc: Global, image: &[u8], core: u32) -> Result<Kernel, RunError>
+pub(crate) fn boot(alloc: Global, image: &[u8], core: u32) -> Result<Kernel, RunError>
     requires least { 64 ≤ core }
     requires most { core ≤ 3968 }
     requires good { image_fault image.now ≡ None }

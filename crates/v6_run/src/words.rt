@@ -1,7 +1,7 @@
 //! The words of a command.
 ghost use Rattle.std.specs.Prelude.{◌≡◌, option_map, string_bytes, codes};
 ghost use Rattle.script_text.specs.Number.{number_of};
-ghost use Rattle.v6_run.specs.Words.{command_in, run_words, check_words, make_words, is_word, outputs_value, command_value};
+ghost use Rattle.v6_run.specs.Words.{command_in, run_words, check_words, make_words, demo_words, short_words, is_word, outputs_value, command_value};
 
 use script_text::number_of;
 
@@ -40,6 +40,8 @@ pub(crate) enum Command<'a> {
     Check(&'a str),
     /// `make N FINAL`
     Make(u32, &'a str),
+    /// `demo N`
+    Demo(u32),
 }
 
 /// The words of a run, where its verb is the one that is wanted.
@@ -72,6 +74,23 @@ fn check_words<'a>(verb: &str, image: &'a str) -> Option<Command<'a>>
         return None;
     }
     Some(Command::Check(image))
+}
+
+fn demo_words<'a>(number: &str) -> Option<Command<'a>>
+    ensures { option_map command_value result ≡ demo_words (number_of number.now) }
+{
+    let number = number_of(number.as_bytes())?;
+    Some(Command::Demo(number))
+}
+
+/// The command of two words.
+fn short_words<'a>(verb: &str, word: &'a str) -> Option<Command<'a>>
+    ensures { option_map command_value result ≡ short_words verb.now word.now }
+{
+    if verb == "demo" {
+        return demo_words(word);
+    }
+    check_words(verb, word)
 }
 
 fn make_words<'a>(verb: &str, number: &str, name: &'a str) -> Option<Command<'a>>
@@ -107,7 +126,7 @@ pub(crate) fn command_of(words: &[String]) -> Option<Command<'_>>
             script.as_str(),
             Outputs::Memory(final_memory.as_str()),
         ),
-        [verb, image] => check_words(verb.as_str(), image.as_str()),
+        [verb, word] => short_words(verb.as_str(), word.as_str()),
         [verb, number, name] => make_words(verb.as_str(), number.as_str(), name.as_str()),
         _ => None,
     }

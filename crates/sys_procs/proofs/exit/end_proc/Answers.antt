@@ -1,12 +1,11 @@
-use Rattle.std.proofs.Common.{◌≡◌, ◌∙◌, ◌<◌, ℕ, length, Option, sym, ap, subst, arith}
+use Rattle.std.proofs.Common.{◌<◌, ℕ, length, Option, subst, arith}
 use Rattle.fs_nodes.specs.FileSystem.{FileSystem}
 use Rattle.sys_procs.specs.declared.procs.Procs.{Procs}
-use Rattle.sys_procs.specs.Process.{Process}
 use Rattle.sys_procs.specs.World.{World, process_of}
 use Rattle.sys_procs.specs.Exit.{leaves, dies}
 use Rattle.sys_procs.specs.Texts.{xfree}
 use Rattle.sys_procs.specs.Comes.{nothing}
-use Rattle.sys_procs.specs.Handed.{handed, process_here}
+use Rattle.sys_procs.specs.Handed.{handed}
 use Rattle.sys_procs.specs.Done.{HasLeft}
 use Rattle.sys_procs.proofs.Alive.{calls_alive}
 use Rattle.sys_procs.proofs.Slots.{fifty_processes}

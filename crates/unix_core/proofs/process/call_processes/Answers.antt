@@ -1,10 +1,12 @@
-use Rattle.std.proofs.Common.{◌≡◌, ◌⊎◌, ℕ, List, sym, subst}
+use Rattle.std.proofs.Common.{◌⊎◌, ℕ, List, refl, sym, subst}
 use Rattle.std.proofs.lemmas.Result.{IfOk-at_ok, IfErr-at_err}
 use Rattle.v6_base.specs.Trace.{Took}
 use Rattle.v6_base.specs.declared.answer.Answer.{Answer}
 use Rattle.v6_base.specs.declared.entry.PanicKind.{PanicKind}
 use Rattle.fs_laws.specs.Rest.{SameRest}
 use Rattle.pick_rules.specs.Logged.{logged}
+use Rattle.fs_nodes.specs.FileSystem.{IsFileSystem}
+use Rattle.image_keep.specs.Kept.{IsKept}
 use Rattle.sys_procs.specs.Comes.{Comes}
 use Rattle.sys_procs.specs.Handed.{AreProcs, AreBare}
 use Rattle.unix_core.specs.declared.world.World.{World}
@@ -20,8 +22,8 @@ use Rattle.unix_core.proofs.process.call_processes.Goals as goal
 abbrev row : World → ProcessCall → ℕ → List ℕ → Comes
 row w call s args = process_row call (given w) s args
 
-tame : (w : World) (call : ProcessCall) (s : ℕ) (args : List ℕ) → IsReady w s → IsTame w (row w call s args)
-tame w call s args ready = tame_row w s ready call args
+tame : (w : World) (call : ProcessCall) (s : ℕ) (args : List ℕ) → IsReady w s → IsFileSystem w.files.tree.nodes → IsKept w.procs.images → IsTame w (row w call s args)
+tame w call s args ready form holds = tame_row w s ready form holds call args
 
 pub do_process_call-requires-clause-calls : goal.do_process_call-requires-clause-calls
 do_process_call-requires-clause-calls g c = ready_calls c.args.world.now c.args.s c.requires c.see_table.ensures c.see_kept.ensures
@@ -34,7 +36,7 @@ conclude-requires g c =
     let w : World = c.args.world.now in
     let e = c.do_process_call.ensures in
     call_ready w (after w c.do_process_call.new.tree c.do_process_call.new.p) c.args.s (row w c.args.call c.args.s c.args.args)
-    (tame w c.args.call c.args.s c.args.args c.requires) (beside w c.do_process_call.new.tree c.do_process_call.new.p) e.does
+    (tame w c.args.call c.args.s c.args.args c.requires c.see_nodes.ensures c.see_kept.ensures) (beside w c.do_process_call.new.tree c.do_process_call.new.p) e.does
     c.in-Ok.answer c.in-Ok.is c.requires
     (IfOk-at_ok (λ (a : Answer). AreProcs c.do_process_call.new.p) c.in-Ok.is e.agree) e.marks
 
@@ -46,7 +48,7 @@ returns-in-Ok-clause-come g c =
     subst (λ x. HasCome (board_in w) (came_by (unix_of w) s (process_row c.args.call x s c.args.args)) c.conclude.result c.conclude.new.world)
     (world_is w s c.requires c.see_nodes.ensures)
     (call_come w (after w c.do_process_call.new.tree c.do_process_call.new.p) s (row w c.args.call s c.args.args)
-    (tame w c.args.call s c.args.args c.requires) (beside w c.do_process_call.new.tree c.do_process_call.new.p) e.does
+    (tame w c.args.call s c.args.args c.requires c.see_nodes.ensures c.see_kept.ensures) (beside w c.do_process_call.new.tree c.do_process_call.new.p) e.does
     c.in-Ok.answer c.in-Ok.is c.conclude.new.world c.conclude.result c.conclude.ensures.ending c.conclude.ensures.unix c.conclude.ensures.board)
 
 pub returns-in-Ok-clause-items : goal.returns-in-Ok-clause-items
@@ -58,7 +60,7 @@ returns-in-Ok-clause-items g c =
     (g.T.Trace.taken c.do_process_call.new.trace))
     (world_is w s c.requires c.see_nodes.ensures)
     (call_took w (after w c.do_process_call.new.tree c.do_process_call.new.p) s (row w c.args.call s c.args.args)
-    (tame w c.args.call s c.args.args c.requires) (beside w c.do_process_call.new.tree c.do_process_call.new.p) e.does)
+    (tame w c.args.call s c.args.args c.requires c.see_nodes.ensures c.see_kept.ensures) (beside w c.do_process_call.new.tree c.do_process_call.new.p) e.does)
 
 pub returns-in-Ok-clause-rest : goal.returns-in-Ok-clause-rest
 returns-in-Ok-clause-rest g c =
@@ -73,7 +75,7 @@ returns-in-Err-clause-come g c =
     (after w c.do_process_call.new.tree c.do_process_call.new.p))
     (world_is w s c.requires c.see_nodes.ensures)
     (call_stops w (after w c.do_process_call.new.tree c.do_process_call.new.p) s (row w c.args.call s c.args.args)
-    (tame w c.args.call s c.args.args c.requires) (beside w c.do_process_call.new.tree c.do_process_call.new.p) e.does
+    (tame w c.args.call s c.args.args c.requires c.see_nodes.ensures c.see_kept.ensures) (beside w c.do_process_call.new.tree c.do_process_call.new.p) e.does
     c.in-Err.kind (Panic c.in-Err.kind) c.in-Err.is refl)
 
 pub returns-in-Err-clause-ready : goal.returns-in-Err-clause-ready
@@ -88,7 +90,7 @@ returns-in-Err-clause-items g c =
     (g.T.Trace.taken c.do_process_call.new.trace))
     (world_is w s c.requires c.see_nodes.ensures)
     (call_took w (after w c.do_process_call.new.tree c.do_process_call.new.p) s (row w c.args.call s c.args.args)
-    (tame w c.args.call s c.args.args c.requires) (beside w c.do_process_call.new.tree c.do_process_call.new.p) e.does)
+    (tame w c.args.call s c.args.args c.requires c.see_nodes.ensures c.see_kept.ensures) (beside w c.do_process_call.new.tree c.do_process_call.new.p) e.does)
 
 pub returns-in-Err-clause-covered : goal.returns-in-Err-clause-covered
 returns-in-Err-clause-covered g c ends =

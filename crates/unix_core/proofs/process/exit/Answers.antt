@@ -66,11 +66,10 @@ returns-in-Ok-clause-come g c =
     let e = c.exit_now-ended.ensures in
     let rests : Rests w1 now = record { line = refl; tape = refl; core = refl } in
     let unix = unix_then w new s c.pass_on.new.table c.close_files.ensures.unix c.pass_on.ensures.table in
-    let closed = closed_then w w1 s c.requires ready unix in
     let none = (goes_on _ _ _ _ e.does.answer c.in-Ok.is).0 in
     exit_come w w1 now s ready (slot_low w s c.requires) c.see_nodes.ensures unix
     (ap (λ t. board_in (with_table new t)) c.pass_on.ensures.table ∙ shown_board w new s _ c.close_files.ensures.shown) none
-    (ended_unix w1 now s ready closed e.agree none (end_state w1 s ready _ none e.does.state) e.does.shown refl rests) e.does.shown
+    (ended_unix w1 now s ready e.agree none (end_state w1 s ready _ none e.does.state) e.does.shown refl rests) e.does.shown
 
 pub returns-in-Ok-clause-good : goal.returns-in-Ok-clause-good
 returns-in-Ok-clause-good g c goes =
@@ -85,7 +84,7 @@ returns-in-Ok-clause-good g c goes =
     let unix = unix_then w new s c.pass_on.new.table c.close_files.ensures.unix c.pass_on.ensures.table in
     let closed = closed_then w w1 s c.requires ready unix in
     let none = (goes_on _ _ _ _ e.does.answer c.in-Ok.is).0 in
-    ended_good w1 now s ready closed e.agree none (end_state w1 s ready _ none e.does.state) e.does.shown refl rests
+    ended_good w1 now s ready e.agree none (end_state w1 s ready _ none e.does.state) e.does.shown refl rests c.see_nodes.ensures closed e.marks
 
 pub returns-in-Ok-clause-items : goal.returns-in-Ok-clause-items
 returns-in-Ok-clause-items g c =

@@ -3,7 +3,7 @@ use Rattle.std.specs.Option.{option_map}
 use Rattle.v6_port.specs.declared.host.OutPort.TheVariants as out_port
 use Rattle.v6_port.specs.Outside.{Out, PortState, Tells}
 use Rattle.v6_run.specs.Words.{command_in}
-use Rattle.v6_run.specs.Report.{tally_line}
+use Rattle.v6_run.specs.Report.{told_line}
 use Rattle.v6_run.specs.Errors.{command_status, end_of}
 use Rattle.v6_run.specs.Headline.{reports_done, done_line}
 use Rattle.v6_run.specs.Answers.{AnswersWords}
@@ -115,7 +115,7 @@ returns-clause-reported g c =
     let answer = c.answer-answer.result in
     let answers = subst (λ l. AnswersWords (command_in l) (end_of command_status answer) old middle) c.as_slice.ensures.value c.answer-answer.ensures.answers in
     let found = subst (λ l. IfOk answer (λ t. option_map reports_done (command_in l) ≡ Some (is_some t))) c.as_slice.ensures.value c.answer-answer.ensures.found in
-    let line = subst (λ l. IfOk answer (λ t. Tells old → done_line (command_in l) old.fixed ≡ tally_line t)) c.as_slice.ensures.value c.answer-answer.ensures.line in
+    let line = subst (λ l. IfOk answer (λ t. Tells old → done_line (command_in l) old.fixed ≡ told_line t)) c.as_slice.ensures.value c.answer-answer.ensures.line in
     λ told. command.reported (command_in items) answer c.report.result old middle new answers c.report.ensures found
     (done_line (command_in items) old.fixed) told (command.line_where_told (Tells old) answer (done_line (command_in items) old.fixed) told line)
 
@@ -128,7 +128,7 @@ returns-clause-report_front g c =
     let answer = c.answer-answer.result in
     let answers = subst (λ l. AnswersWords (command_in l) (end_of command_status answer) old middle) c.as_slice.ensures.value c.answer-answer.ensures.answers in
     let found = subst (λ l. IfOk answer (λ t. option_map reports_done (command_in l) ≡ Some (is_some t))) c.as_slice.ensures.value c.answer-answer.ensures.found in
-    let line = subst (λ l. IfOk answer (λ t. Tells old → done_line (command_in l) old.fixed ≡ tally_line t)) c.as_slice.ensures.value c.answer-answer.ensures.line in
+    let line = subst (λ l. IfOk answer (λ t. Tells old → done_line (command_in l) old.fixed ≡ told_line t)) c.as_slice.ensures.value c.answer-answer.ensures.line in
     λ told. command.report_front (command_in items) answer c.report.result old middle new answers c.report.ensures found
     (done_line (command_in items) old.fixed) told (command.line_where_told (Tells old) answer (done_line (command_in items) old.fixed) told line)
 

@@ -1,10 +1,9 @@
-use Rattle.std.proofs.Common.{◌≡◌, ◌⊎◌, ◌∙◌, refl, ap, sym, subst, arith}
+use Rattle.std.proofs.Common.{◌≡◌, ◌⊎◌, ◌∙◌, ap, sym, subst, arith}
 use Rattle.fs_codec.specs.Disk.{head}
 use Rattle.buf_cache.specs.Blocks.{block_at}
 use Rattle.unix_core.specs.State.{KernelState}
 use Rattle.abstract_unix.specs.Unix.{Phase, Started, Stopped}
 use Rattle.abstract_unix.specs.Runs.{finished}
-use Rattle.unix_core.specs.Parts.{system_at}
 use Rattle.unix_core.proofs.BootLemmas.{stands_below}
 use Rattle.unix_core.proofs.BootKernelLemmas.{updated, finished_kernel, updated_system, updated_covered}
 use Rattle.unix_core.proofs.CoverLemmas.{kernel_covered}

@@ -1,14 +1,14 @@
 use Rattle.std.proofs.Common.{sym, ◌∙◌, ap, drop}
-use Rattle.v6_run.proofs.PortLemmas.{took_all, took_front, took_silently, appended_silently}
+use Rattle.v6_run.proofs.PortLemmas.{took_all, took_front, line_silently, line_appended}
 use Rattle.v6_run.proofs.ports.PortsTrace.entry.Goals as goal
 
 pub returns-then-is_silent-clause-took : goal.returns-then-is_silent-clause-took
 returns-then-is_silent-clause-took g c =
-    took_silently (g.H.Host.outside c.args.self.now.host.now) c.args.self.now.kept _ (sym c.is_silent.ensures ∙ c.if-is_silent.true)
+    line_silently (g.H.Host.outside c.args.self.now.host.now) c.args.self.now.kept _ (sym c.is_silent.ensures ∙ c.if-is_silent.true)
 
 pub returns-then-is_silent-clause-whole : goal.returns-then-is_silent-clause-whole
 returns-then-is_silent-clause-whole g c =
-    appended_silently (g.H.Host.outside c.args.self.now.host.now) c.args.self.now.kept _ (sym c.is_silent.ensures ∙ c.if-is_silent.true)
+    line_appended (g.H.Host.outside c.args.self.now.host.now) c.args.self.now.kept _ (sym c.is_silent.ensures ∙ c.if-is_silent.true)
 
 pub write_text-requires : goal.write_text-requires
 write_text-requires g c = c.args.self.now.log_is_open (sym c.is_silent.ensures ∙ c.if-is_silent.false)

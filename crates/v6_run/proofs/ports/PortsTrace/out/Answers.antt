@@ -1,14 +1,22 @@
-use Rattle.std.proofs.Common.{sym, ◌∙◌}
-use Rattle.v6_run.proofs.PortLemmas.{took_written, took_kept, took_silently, appended_silently}
+use Rattle.std.proofs.Common.{sym, ◌∙◌, subst, [], ◌∷◌}
+use Rattle.v6_base.specs.Trace.{Byte, Took, Appends}
+use Rattle.v6_run.specs.Ports.{taken_by}
+use Rattle.v6_run.proofs.PortLemmas.{took_written, took_kept, byte_silently, byte_appended}
 use Rattle.v6_run.proofs.ports.PortsTrace.out.Goals as goal
 
 pub returns-then-is_silent-clause-took : goal.returns-then-is_silent-clause-took
 returns-then-is_silent-clause-took g c =
-    took_silently (g.H.Host.outside c.args.self.now.host.now) c.args.self.now.kept _ (sym c.is_silent.ensures ∙ c.if-is_silent.true)
+    let o = g.H.Host.outside c.args.self.now.host.now in
+    let byte = c.args.byte in
+    let silent = sym c.is_silent.ensures ∙ c.if-is_silent.true in
+    subst (λ k. Took (taken_by o c.args.self.now.kept) (Byte 0 byte ∷ []) (taken_by o k)) (sym c.keep.ensures) (byte_silently o byte c.args.self.now.kept silent)
 
 pub returns-then-is_silent-clause-whole : goal.returns-then-is_silent-clause-whole
 returns-then-is_silent-clause-whole g c =
-    appended_silently (g.H.Host.outside c.args.self.now.host.now) c.args.self.now.kept _ (sym c.is_silent.ensures ∙ c.if-is_silent.true)
+    let o = g.H.Host.outside c.args.self.now.host.now in
+    let byte = c.args.byte in
+    let silent = sym c.is_silent.ensures ∙ c.if-is_silent.true in
+    subst (λ k. Appends (taken_by o c.args.self.now.kept) (Byte 0 byte) (taken_by o k)) (sym c.keep.ensures) (byte_appended o byte c.args.self.now.kept silent)
 
 pub write-requires : goal.write-requires
 write-requires g c = c.args.self.now.term_is_open (sym c.is_silent.ensures ∙ c.if-is_silent.false)

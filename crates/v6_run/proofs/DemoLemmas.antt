@@ -1,0 +1,157 @@
+-- What `demo` answers, exit by exit.
+use Rattle.std.proofs.Common.{◌≡◌, ◌<◌, ◌^◌, MatchOption, ℕ, true, Option, Some, None, is_some, if◌then◌else◌, List, [], ◌∷◌, length, Result, Ok, Err, IfOk, MatchResult, refl, sym, ◌∙◌, ap, subst, arith}
+use Rattle.v6_port.specs.declared.host.OutPort.TheVariants as out_port
+use Rattle.v6_port.specs.Outside.{Out, Outside}
+use Rattle.v6_port.specs.Causes.{Calm, FaultAt}
+use Rattle.v6_port.proofs.CauseLemmas.{calm_still}
+use Rattle.fs_codec.specs.Faults.{image_fault}
+use Rattle.fs_codec.specs.declared.fault.ImageFault as codec
+use Rattle.script_text.specs.declared.script.Event as asked
+use Rattle.script_text.specs.declared.script.Event.TheVariants as ask
+use Rattle.script_text.specs.declared.script.ScriptFault.TheVariants as fault
+use Rattle.script_text.specs.Script.{script_of, signal_line_of}
+use Rattle.make_image.specs.Image.{build_of}
+use Rattle.make_image.specs.Demo.{demo_text}
+use Rattle.abstract_unix.specs.Unix.{System}
+use Rattle.abstract_unix.specs.declared.ends.Ends.{Ends}
+use Rattle.abstract_unix.specs.declared.ends.Ends.TheVariants as ends
+use Rattle.abstract_unix.specs.declared.turned.Unbuilt.TheVariants as unbuilt
+use Rattle.abstract_unix.specs.Runs.{Course, system_of, boots, started, course, run_of}
+use Rattle.abstract_unix.proofs.RunsLemmas.{IsMet, started_is, course_is}
+use Rattle.v6_run.specs.declared.status.Status.{Status}
+use Rattle.v6_run.specs.declared.status.Status.TheVariants.{Done, ReadFault, ImageFault, Panic, NoMemory, NotBuilt}
+use Rattle.v6_run.specs.declared.image.ImageError.TheVariants as image
+use Rattle.v6_run.specs.declared.script.ScriptError.{ScriptError}
+use Rattle.v6_run.specs.declared.script.ScriptError.TheVariants as script_error
+use Rattle.v6_run.specs.declared.run.RunError.{RunError}
+use Rattle.v6_run.specs.declared.run.RunError.TheVariants as run
+use Rattle.v6_run.specs.declared.demo.TheConstants.{DEMO_CORE}
+use Rattle.v6_run.specs.declared.demo.Summary.{Summary}
+use Rattle.v6_run.specs.Words.{Demo}
+use Rattle.v6_run.specs.Events.{events_of}
+use Rattle.v6_run.specs.Status.{fault_port, is_decided}
+use Rattle.v6_run.specs.Errors.{run_status, end_of}
+use Rattle.v6_run.specs.Steps.{RefusesScript}
+use Rattle.v6_run.specs.Report.{summary_line}
+use Rattle.v6_run.specs.Headline.{no_writing, Known, IsKnownAnd, status_at, fault_completion, lines_completion, events_completion, run_completion, demo_completion, run_line, IsComplete, may_end, is_known}
+use Rattle.v6_run.specs.Answers.{Answers}
+use Rattle.v6_run.specs.Demo.{RefusesDisk, EndsCourse, StopsCourse}
+use Rattle.v6_run.proofs.AnswerLemmas.{not_so, complete_unwritten}
+
+-- The script of the demo has no fault, and no line of it types a key that makes a signal.
+pub demo_events : List asked.Event
+demo_events =
+    ask.Clock 100 ∷ ask.Run 20000 ∷ ask.Byte 104 ∷ ask.Byte 101 ∷ ask.Byte 108 ∷ ask.Byte 108 ∷ ask.Byte 111 ∷ ask.Byte 13 ∷ ask.Run 20000
+    ∷ ask.Byte 4 ∷ ask.Run 20000 ∷ []
+
+pub demo_read : script_of demo_text ≡ Ok demo_events
+unfolding demo_text demo_events
+demo_read = refl
+
+pub demo_built : signal_line_of demo_text ≡ None
+unfolding demo_text
+demo_built = refl
+
+pub demo_short : length demo_text < 2 ^ 32
+unfolding demo_text
+demo_short = let is : length demo_text ≡ 60 = refl in omega (arith, is)
+
+-- So it is refused for want of memory alone.
+pub only_memory : (e : ScriptError) → RefusesScript demo_text e → e ≡ script_error.Faulty fault.NoMemory
+only_memory (script_error.Faulty fault.TooLong) refused = let never : Ok demo_events ≡ Err fault.TooLong = sym demo_read ∙ refused in cc
+only_memory (script_error.Faulty (fault.BadLine n)) refused = let never : Ok demo_events ≡ Err (fault.BadLine n) = sym demo_read ∙ refused in cc
+only_memory (script_error.Faulty (fault.TooManySlots n)) refused = let never : Ok demo_events ≡ Err (fault.TooManySlots n) = sym demo_read ∙ refused in cc
+only_memory (script_error.Faulty fault.NoMemory) refused = refl
+only_memory (script_error.Unbuilt n) refused = let never : None ≡ Some n = sym demo_built ∙ refused.2 in cc
+
+-- Nothing of the outside changes, and no port is at fault.
+module _ (number : ℕ) (o : Outside) where
+  answers_by : (s : Status) → may_end (Demo number) s ≡ true → fault_port s ≡ None → (is_decided s ≡ true → IsKnownAnd (demo_completion number) (IsComplete s o o))
+      → Answers (Demo number) s o o
+  answers_by s may none complete = record {
+    only = record { fixed = refl; others = λ q other. refl };
+    ends = may;
+    unreported = λ is. let some : fault_port s ≡ Some (Out out_port.Report) = ap fault_port is in cc;
+    complete = λ decided told. complete decided;
+    partial = λ p is. absurd (let some : fault_port s ≡ Some (Out p) = ap fault_port is in cc);
+    order = λ is. absurd (let some : fault_port s ≡ fault_port (ReadFault _) = ap fault_port is in cc);
+    none = λ before p. refl;
+    closed = λ is p named. not_so _ named;
+    unfinished = λ is p named. not_so _ named;
+    cause = subst (λ at. MatchOption at (Calm o o) (λ p. FaultAt p (is_known (Some (Demo number)) o.fixed p) o o)) (sym none) (calm_still o);
+  }
+
+  no_memory : Answers (Demo number) NoMemory o o
+  no_memory = answers_by NoMemory refl refl (λ decided. not_so _ decided)
+
+  pub disk_refused : (e : RunError) → RefusesDisk number e → Answers (Demo number) (run_status e) o o
+  disk_refused (run.Image (image.Faulty f)) refused = answers_by (ImageFault f) refl refl
+      (λ _. subst (λ x. IsKnownAnd (fault_completion x (Known (run_completion DEMO_CORE no_writing (build_of number) demo_text))) (IsComplete (ImageFault f) o o))
+      (sym refused) (complete_unwritten (ImageFault f) o o (λ p. refl)))
+  disk_refused run.NoMemory refused = no_memory
+  disk_refused (run.Image (image.Unread e)) refused = absurd refused
+  disk_refused (run.Script e) refused = absurd refused
+  disk_refused (run.Refused e) refused = absurd refused
+  disk_refused (run.Write output) refused = absurd refused
+  disk_refused (run.Panic kind) refused = absurd refused
+  disk_refused (run.NotBuilt place) refused = absurd refused
+
+  -- the disk has no fault, and the script is read
+  module _ (good : image_fault (build_of number) ≡ None) (events : List asked.Event) (read : script_of demo_text ≡ Ok events) where
+    abbrev system : System
+    system = system_of (build_of number) DEMO_CORE
+
+    abbrev all : Course
+    all = run_of (build_of number) DEMO_CORE (events_of events)
+
+    complete : IsKnownAnd (demo_completion number) (IsComplete (status_at all.ending) o o)
+    complete = subst (λ f. IsKnownAnd (fault_completion f (Known (run_completion DEMO_CORE no_writing (build_of number) demo_text))) (IsComplete (status_at all.ending) o o)) (sym good)
+        (subst (λ r. IsComplete (status_at all.ending) o o (lines_completion DEMO_CORE no_writing (build_of number) r (signal_line_of demo_text))) (sym read)
+        (subst (λ s. IsComplete (status_at all.ending) o o (events_completion DEMO_CORE no_writing (build_of number) events s)) (sym demo_built)
+        (complete_unwritten (status_at all.ending) o o (λ p. refl))))
+
+    met : IsMet all.ending
+    met = course_is (started system) (events_of events) (started_is system)
+
+    ends_so : (e : Ends) → all.ending ≡ e → IsMet e → Answers (Demo number) (status_at e) o o
+    ends_so ends.AtEnd is has_met = answers_by Done refl refl (λ _. subst (λ e. IsKnownAnd (demo_completion number) (IsComplete (status_at e) o o)) is complete)
+    ends_so (ends.NotBuilt (unbuilt.Line n)) is has_met = absurd has_met
+    ends_so (ends.NotBuilt (unbuilt.At pc)) is has_met = answers_by (NotBuilt (unbuilt.At pc)) refl refl
+        (λ _. subst (λ e. IsKnownAnd (demo_completion number) (IsComplete (status_at e) o o)) is complete)
+    ends_so (ends.Panic kind) is has_met = answers_by (Panic kind) refl refl (λ _. subst (λ e. IsKnownAnd (demo_completion number) (IsComplete (status_at e) o o)) is complete)
+
+    stops_so : (e : RunError) → StopsCourse all e → Answers (Demo number) (run_status e) o o
+    stops_so run.NoMemory stops = no_memory
+    stops_so (run.Panic kind) stops = ends_so (ends.Panic kind) stops (subst IsMet stops met)
+    stops_so (run.NotBuilt place) stops = ends_so (ends.NotBuilt place) stops (subst IsMet stops met)
+    stops_so (run.Image e) stops = absurd stops
+    stops_so (run.Script e) stops = absurd stops
+    stops_so (run.Refused e) stops = absurd stops
+    stops_so (run.Write output) stops = absurd stops
+
+    outcome_so : (r : Result Summary RunError) → MatchResult r (EndsCourse number all) (StopsCourse all) → Answers (Demo number) (end_of run_status r) o o
+    outcome_so (Ok summary) outcome = ends_so ends.AtEnd outcome.ended (subst IsMet outcome.ended met)
+    outcome_so (Err e) outcome = stops_so e outcome
+
+    line_so : (r : Result Summary RunError) → MatchResult r (EndsCourse number all) (StopsCourse all) → IfOk r (λ summary. run_line number (script_of demo_text) ≡ summary_line summary)
+    line_so (Ok summary) outcome = ap (run_line number) read ∙ outcome.line
+    line_so (Err e) outcome = _
+
+    -- the system that was booted is that of the disk
+    module _ (booted : System) (boots_is : boots (build_of number) DEMO_CORE ≡ Some booted) where
+      of_disk : (f : Option codec.ImageFault) → (if is_some f then None else Some system) ≡ Some booted → system ≡ booted
+      of_disk None is = cc is
+      of_disk (Some f) is = absurd (cc is)
+
+      same : course (started booted) (events_of events) ≡ all
+      same = ap (λ m. course (started m) (events_of events)) (sym (of_disk (image_fault (build_of number)) boots_is))
+
+      module _ (r : Result Summary RunError) (outcome : MatchResult r (EndsCourse number (course (started booted) (events_of events))) (StopsCourse (course (started booted) (events_of events)))) where
+        outcome_all : MatchResult r (EndsCourse number all) (StopsCourse all)
+        outcome_all = subst (λ c. MatchResult r (EndsCourse number c) (StopsCourse c)) same outcome
+
+        pub demo_answers : Answers (Demo number) (end_of run_status r) o o
+        demo_answers = outcome_so r outcome_all
+
+        pub demo_tells : IfOk r (λ summary. run_line number (script_of demo_text) ≡ summary_line summary)
+        demo_tells = line_so r outcome_all
