@@ -1,5 +1,5 @@
 -- A process without an image takes a text and an image, and executes a program: what that comes to.
-use Rattle.std.proofs.Common.{◌≡◌, ◌∙◌, ℕ, ◌+◌, ◌<◌, Bool, [], ◌∷◌, List, length, Option, Some, None, is_some, IfSome, IsSome, Result, Ok, Err, slice_index, min, refl, sym, ap, subst, arith}
+use Rattle.std.proofs.Common.{◌≡◌, ◌∙◌, ℕ, ◌+◌, ◌<◌, [], ◌∷◌, length, Option, Some, None, is_some, IfSome, IsSome, Result, Ok, Err, slice_index, min, refl, sym, ap, subst, arith}
 use Rattle.v6_base.specs.Trace.{Taken}
 use Rattle.v6_base.specs.declared.answer.Answer.{Answer}
 use Rattle.v6_base.specs.declared.answer.Answer.TheVariants.{Ret}
@@ -22,7 +22,6 @@ use Rattle.sys_procs.specs.declared.procs.Procs.{Procs}
 use Rattle.sys_procs.specs.declared.program.Program.{Program}
 use Rattle.sys_procs.specs.Process.{Process}
 use Rattle.sys_procs.specs.World.{World, process_of, change, let_go, texts_in}
-use Rattle.sys_procs.specs.TextTable.{marks_of}
 use Rattle.sys_procs.specs.Comes.{Comes}
 use Rattle.sys_procs.specs.Tests.{node_in, node_at}
 use Rattle.sys_procs.specs.ExecFile.{AreSized, data_clicks, reads_text, begins_anew, executes}
@@ -36,7 +35,7 @@ use Rattle.sys_procs.proofs.Dones.{done_as, done_none, not_stopped}
 use Rattle.sys_procs.proofs.Following.{both, done_after, done_first}
 use Rattle.sys_procs.proofs.KeptOwner.{SameOwner, text_owner}
 use Rattle.sys_procs.proofs.LoadForms.{anew_is, begun_is, answer_is, row_kept, area_kept}
-use Rattle.sys_procs.proofs.TakenText.{Stopped, after, goes_on, bare_text, taken_clicks, taken_row, taken_long, taken_store, taken_limit, taken_references}
+use Rattle.sys_procs.proofs.TakenText.{Stopped, goes_on, bare_text, taken_clicks, taken_row, taken_long, taken_store, taken_limit, taken_references}
 
 fresh_by : (k : Kept) (s size : ℕ) (o : Option ℕ) → IfSome o (λ t. text_of k s ≡ Some t)
     → IfSome o (λ t. (x : Shared) × (shared k t ≡ Some x) × (x.row.loaded ≡ 0) × (x.row.clicks ≡ size))
@@ -68,17 +67,20 @@ stop_before b w None entry stop is =
     sym (ap (λ (x : Stop World). x.before) same)
 stop_before b w (Some place) entry stop is = absurd (cc is)
 
-image_before : (b : Board) (s n : ℕ) (w : World) (stop : Stop World) → (logged b (effect.Image s n w ∷ [])).stop ≡ Some stop → stop.before ≡ w
+image_before : (b : Board) (s n : ℕ) (w : World) (stop : Stop World) → (logged b (effect.Image s n w ∷ [])).stop ≡ Some stop
+    → stop.before ≡ w
 unfolding log_one effect.came
 image_before b s n w stop is = stop_before b w (places.placed b s n) _ stop is
 
 -- The texts stay as an image is placed, or is not.
-pub texts_still : {p q : Procs} {fs : FileSystem} {result : Result (Unit {0}) PanicKind} {start end : Taken} (w : World) (s t d : ℕ)
+pub texts_still : {p q : Procs} {fs : FileSystem} {result : Result (Unit {0}) PanicKind} {start end : Taken} (w : World)
+    (s t d : ℕ)
     → HasEnded p q fs result start end (takes_image w s t d) → texts_in q.images ≡ w.texts
 texts_still {p} {q} {fs} {result} {start} {end} w s t d ended =
     ap (λ (v : World). v.texts) ended.left.state ∙ by (came p (takes_image w s t d)).stop refl
   where
-    by : (o : Option (Stop World)) → (came p (takes_image w s t d)).stop ≡ o → (left_by o (takes_image w s t d).state).texts ≡ w.texts
+    by : (o : Option (Stop World)) → (came p (takes_image w s t d)).stop ≡ o → (left_by o (takes_image w s t d).state).texts
+        ≡ w.texts
     by None e = refl
     by (Some stop) e = ap (λ (v : World). v.texts) (image_before (board p) s (16 + d + 20) w stop e)
 
@@ -119,7 +121,8 @@ module _ (p q : Procs) (fs gs : FileSystem) (s : ℕ) (program : Program) (bare 
       (done_first first (both second (last v)) it.stop it.is left))
 
   -- A text that is taken.
-  module _ (new : Option ℕ) (answer : Ok new ≡ taken_by (came p first).stop entry) {start middle : Taken} (left : HasLeft p q gs start middle first) where
+  module _ (new : Option ℕ) (answer : Ok new ≡ taken_by (came p first).stop entry) {start middle : Taken}
+      (left : HasLeft p q gs start middle first) where
     free : (came p first).stop ≡ None
     free = (goes_on (came p first).stop entry new answer).0
 
@@ -181,8 +184,10 @@ module _ (p q : Procs) (fs gs : FileSystem) (s : ℕ) (program : Program) (bare 
 
         -- The program begins.
         module _ (z : Procs) (hs : FileSystem) (row : Row) (u_area v : UArea) (there : IsSome (node_numbered fs.store ino))
-            (row_is : row ≡ row_in (node_in fs.store ino) v.uid (process_here p s).row) (area_is : u_area ≡ area_in (node_in fs.store ino) v program)
-            (state : handed z hs ≡ begins_in (fills (reads_text (is_some new) (handed r gs) s program) s program) s ino row u_area)
+            (row_is : row ≡ row_in (node_in fs.store ino) v.uid (process_here p s).row)
+            (area_is : u_area ≡ area_in (node_in fs.store ino) v program)
+            (state : handed z hs ≡ begins_in (fills (reads_text (is_some new) (handed r gs) s program) s program) s ino row
+            u_area)
             (shown : board z ≡ board r) where
           abbrev before : World
           before = reads_text (is_some entry) first.state s program
@@ -214,5 +219,6 @@ module _ (p q : Procs) (fs gs : FileSystem) (s : ℕ) (program : Program) (bare 
               (done_after {mid = q} first free left.shown left.items
               (done_after {mid = r} second place_free placed.left.shown placed.left.items
               (done_none (last v).state (last v).answer refl
-              (ap (λ (a : Answer). Ok a) (sym (answer_is first.state s size program (taken_long w s ino size low) (is_some entry) v)))
+              (ap (λ (a : Answer). Ok a)
+              (sym (answer_is first.state s size program (taken_long w s ino size low) (is_some entry) v)))
               state_is shown)))

@@ -1,5 +1,5 @@
 -- The bytes of a text are others: what is handed then, and what agrees.
-use Rattle.std.proofs.Common.{◌≡◌, ◌∙◌, ◌+◌, ◌<◌, ◌++◌, ℕ, Bool, true, false, if◌then◌else◌, List, length, map, get_or, set, drop, Option, Some, None, refl, sym, ap, subst}
+use Rattle.std.proofs.Common.{◌≡◌, ◌∙◌, ℕ, Bool, true, false, if◌then◌else◌, List, map, get_or, set, Option, Some, None, refl, sym, ap, subst}
 use Rattle.std.specs.Option.{unwrap_or}
 use Rattle.std.specs.List.{range_with_len}
 use Rattle.std.proofs.lemmas.List.{map-set, set-get_or}
@@ -7,7 +7,6 @@ use Rattle.std.proofs.Math.ListN.{get_or-map}
 use Rattle.v6_base.specs.Runs.{run_set}
 use Rattle.buf_cache.specs.Blocks.{patched}
 use Rattle.image_keep.proofs.Storing.{run_over}
-use Rattle.pick_rules.specs.Board.{TextPlace}
 use Rattle.pick_rules.specs.declared.row.TableRow.{TableRow}
 use Rattle.pick_rules.specs.Table.{row_at}
 use Rattle.proc_tab.specs.declared.member.Member.{Member}
@@ -26,20 +25,23 @@ use Rattle.sys_procs.specs.Handed.{IsAlive}
 use Rattle.sys_procs.proofs.TextMarks.{marks_same}
 
 -- what a slot keeps has another text
-process_with : (m : Option Member) (x : Keeping) (bytes : List ℕ) (user : Option ℕ) → process_in m (with_text bytes x) user ≡ process_in m x user
+process_with : (m : Option Member) (x : Keeping) (bytes : List ℕ) (user : Option ℕ) → process_in m (with_text bytes x) user
+    ≡ process_in m x user
 process_with None x bytes user = refl
 process_with (Some m) Nothing bytes user = refl
 process_with (Some m) (Alive held) bytes user = refl
 process_with (Some m) (Grave u block) bytes user = refl
 
-process_filled : (m : Option Member) (x : Keeping) (t : ℕ) (bytes : List ℕ) (user : Option ℕ) → process_in m (retexted t bytes user x) user ≡ process_in m x user
+process_filled : (m : Option Member) (x : Keeping) (t : ℕ) (bytes : List ℕ) (user : Option ℕ)
+    → process_in m (retexted t bytes user x) user ≡ process_in m x user
 process_filled m x t bytes user = by (is_text t user)
   where
     by : (b : Bool) → process_in m (if b then with_text bytes x else x) user ≡ process_in m x user
     by true = process_with m x bytes user
     by false = refl
 
-agrees_with : (m : Option Member) (row : TableRow) (x : Keeping) (bytes : List ℕ) → Agrees m row x → Agrees m row (with_text bytes x)
+agrees_with : (m : Option Member) (row : TableRow) (x : Keeping) (bytes : List ℕ) → Agrees m row x
+    → Agrees m row (with_text bytes x)
 agrees_with m row Nothing bytes a = a
 agrees_with m row (Alive held) bytes a = record {
   stat = a.stat;
@@ -51,7 +53,8 @@ agrees_with m row (Alive held) bytes a = record {
 }
 agrees_with m row (Grave u block) bytes a = a
 
-agrees_filled : (m : Option Member) (row : TableRow) (x : Keeping) (t : ℕ) (bytes : List ℕ) (user : Option ℕ) → Agrees m row x → Agrees m row (retexted t bytes user x)
+agrees_filled : (m : Option Member) (row : TableRow) (x : Keeping) (t : ℕ) (bytes : List ℕ) (user : Option ℕ) → Agrees m row x
+    → Agrees m row (retexted t bytes user x)
 agrees_filled m row x t bytes user a = by (is_text t user)
   where
     by : (b : Bool) → Agrees m row (if b then with_text bytes x else x)
@@ -59,12 +62,14 @@ agrees_filled m row x t bytes user a = by (is_text t user)
     by false = a
 
 -- who has an image has one then
-image_with : (x : Keeping) (bytes : List ℕ) → ((held : Held) × (x ≡ Alive held)) → (held : Held) × (with_text bytes x ≡ Alive held)
+image_with : (x : Keeping) (bytes : List ℕ) → ((held : Held) × (x ≡ Alive held))
+    → (held : Held) × (with_text bytes x ≡ Alive held)
 image_with Nothing bytes has = absurd (let e = has.1 in cc e)
 image_with (Alive held) bytes has = (record held { image = record held.image { text = bytes } }, refl)
 image_with (Grave u block) bytes has = absurd (let e = has.1 in cc e)
 
-image_filled : (x : Keeping) (t : ℕ) (bytes : List ℕ) (user : Option ℕ) → ((held : Held) × (x ≡ Alive held)) → (held : Held) × (retexted t bytes user x ≡ Alive held)
+image_filled : (x : Keeping) (t : ℕ) (bytes : List ℕ) (user : Option ℕ) → ((held : Held) × (x ≡ Alive held))
+    → (held : Held) × (retexted t bytes user x ≡ Alive held)
 image_filled x t bytes user has = by (is_text t user)
   where
     by : (b : Bool) → (held : Held) × ((if b then with_text bytes x else x) ≡ Alive held)
@@ -77,7 +82,8 @@ place_filled bytes (Some x) = refl
 
 module _ (p : Procs) (l : Kept) (t : ℕ) (bytes : List ℕ) (x : Shared) (there : shared p.images t ≡ Some x)
     (texts : l.texts ≡ set p.images.texts t (filled 0 bytes (shared p.images t)))
-    (slots : (s : ℕ) → keeping l s ≡ retexted t (bytes_in (filled 0 bytes (shared p.images t))) (text_of p.images s) (keeping p.images s))
+    (slots : (s : ℕ) → keeping l s ≡ retexted t (bytes_in (filled 0 bytes (shared p.images t))) (text_of p.images s)
+    (keeping p.images s))
     (users : l.users ≡ p.images.users) where
   abbrev k : Kept
   k = p.images
@@ -116,7 +122,8 @@ module _ (p : Procs) (l : Kept) (t : ℕ) (bytes : List ℕ) (x : Shared) (there
       ∙ ap (λ o. set (texts_in k) t o)
       (ap (λ o. text_in (filled 0 bytes o)) there ∙ filled_by (table.text_of (texts_in k) t) text_there))
 
-  same_marks : (ino : ℕ) (o : Option Text) (y : Text) → o ≡ Some y → is_text_of ino (Some (record (unwrap_or o no_text) { bytes = patched 0 bytes (unwrap_or o no_text).bytes }))
+  same_marks : (ino : ℕ) (o : Option Text) (y : Text) → o ≡ Some y
+      → is_text_of ino (Some (record (unwrap_or o no_text) { bytes = patched 0 bytes (unwrap_or o no_text).bytes }))
       ≡ is_text_of ino o
   same_marks ino None y e = absurd (cc e)
   same_marks ino (Some z) y e = refl
@@ -124,7 +131,8 @@ module _ (p : Procs) (l : Kept) (t : ℕ) (bytes : List ℕ) (x : Shared) (there
   pub marks_filled : marks_of (texts_in l) ≡ marks_of (texts_in k)
   marks_filled =
       ap (λ ts. marks_of ts) texts_filled
-      ∙ marks_same (texts_in k) t (Some (record (table.text_of (texts_in k) t) { bytes = patched 0 bytes (table.text_of (texts_in k) t).bytes }))
+      ∙ marks_same (texts_in k) t
+      (Some (record (table.text_of (texts_in k) t) { bytes = patched 0 bytes (table.text_of (texts_in k) t).bytes }))
       (λ ino. same_marks ino (get_or (texts_in k) t None) (record { ino = x.row.ino; bytes = x.bytes; users = x.row.users })
       (get_or-map text_in k.texts t None ∙ ap text_in there))
 

@@ -1,5 +1,5 @@
 -- Effects that follow others: what the log says of all, and what a call has done that does one part after another.
-use Rattle.std.proofs.Common.{◌≡◌, ◌∙◌, List, [], ◌∷◌, ◌++◌, fold, append_assoc, append-nil, Option, Some, None, Result, Ok, Err, refl, sym, ap, subst}
+use Rattle.std.proofs.Common.{◌≡◌, ◌∙◌, List, [], ◌∷◌, ◌++◌, fold, append_assoc, append-nil, Option, Some, None, Result, Err, refl, sym, ap, subst}
 use Rattle.v6_base.specs.Trace.{Item, Log, Taken, Took}
 use Rattle.v6_base.specs.declared.answer.Answer.{Answer}
 use Rattle.v6_base.specs.declared.entry.Entry.TheVariants as line
@@ -8,7 +8,7 @@ use Rattle.v6_base.proofs.Took.{took_more}
 use Rattle.fs_nodes.specs.FileSystem.{FileSystem}
 use Rattle.pick_rules.specs.Board.{Board}
 use Rattle.pick_rules.specs.Effects.{Effect, Came, Lets, Stops, came}
-use Rattle.pick_rules.specs.Logged.{Logged, Stop, board_after, left_by, logged, log_one, nothing_logged, unless_stopped, with_item, with_what_came}
+use Rattle.pick_rules.specs.Logged.{Logged, Stop, left_by, logged, log_one, nothing_logged, unless_stopped, with_item, with_what_came}
 use Rattle.pick_rules.proofs.Stopping.{stays_stopped}
 use Rattle.sys_procs.specs.declared.procs.Procs.{Procs}
 use Rattle.sys_procs.specs.World.{World}
@@ -25,10 +25,12 @@ after_items xs l = record l { items = xs ++ l.items }
 item_after : (xs : List Item) (l : Logged World) (x : Item) → with_item (after_items xs l) x ≡ after_items xs (with_item l x)
 item_after xs l x = ap (λ items. record (with_item l x) { items = items }) (append_assoc xs l.items (x ∷ []))
 
-came_after : (xs : List Item) (l : Logged World) (c : Came World) → with_what_came (after_items xs l) c ≡ after_items xs (with_what_came l c)
+came_after : (xs : List Item) (l : Logged World) (c : Came World) → with_what_came (after_items xs l) c
+    ≡ after_items xs (with_what_came l c)
 came_after xs l (Lets x) = item_after xs l x
 came_after xs l (Stops kind before) =
-    ap (λ (m : Logged World). record m { stop = Some (record { why = kind; before = before }) }) (item_after xs l (Log (line.Panic kind)))
+    ap (λ (m : Logged World). record m { stop = Some (record { why = kind; before = before }) })
+    (item_after xs l (Log (line.Panic kind)))
 
 one_after : (xs : List Item) (l : Logged World) (e : Effect World) → log_one (after_items xs l) e ≡ after_items xs (log_one l e)
 unfolding log_one
@@ -39,7 +41,8 @@ one_after xs l e = by l.stop
     by None = came_after xs l (came l.board e)
     by (Some stop) = refl
 
-all_after : (xs : List Item) (l : Logged World) (es : List (Effect World)) → fold log_one (after_items xs l) es ≡ after_items xs (fold log_one l es)
+all_after : (xs : List Item) (l : Logged World) (es : List (Effect World)) → fold log_one (after_items xs l) es
+    ≡ after_items xs (fold log_one l es)
 all_after xs l [] = refl
 all_after xs l (e ∷ es) = ap (λ (m : Logged World). fold log_one m es) (one_after xs l e) ∙ all_after xs (log_one l e) es
 
@@ -61,7 +64,8 @@ pub logged_stopped : (b : Board) (es fs : List (Effect World)) (stop : Stop Worl
     → logged b (es ++ fs) ≡ logged b es
 logged_stopped b es fs stop is =
     let l : Logged World = logged b es in
-    let whole : l ≡ record { items = l.items; board = l.board; stop = Some stop } = λ i. record { items = l.items; board = l.board; stop = is i } in
+    let whole : l ≡ record { items = l.items; board = l.board; stop = Some stop } =
+    λ i. record { items = l.items; board = l.board; stop = is i } in
     fold_both (nothing_logged b) es fs
     ∙ (ap (λ (m : Logged World). fold log_one m fs) whole ∙ (stays_stopped l.items l.board stop fs ∙ sym whole))
 
@@ -69,8 +73,10 @@ logged_stopped b es fs stop is =
 abbrev pub both : Comes → Comes → Comes
 both first rest = record rest { effects = first.effects ++ rest.effects }
 
-pub done_after : {old mid new : Procs} {fs : FileSystem} {result : Result Answer PanicKind} {start middle end : Taken} (first : Comes) {rest : Comes}
-    → (parts.came old first).stop ≡ None → board mid ≡ (parts.came old first).board → Took start (parts.came old first).items middle
+pub done_after : {old mid new : Procs} {fs : FileSystem} {result : Result Answer PanicKind} {start middle end : Taken}
+    (first : Comes) {rest : Comes}
+    → (parts.came old first).stop ≡ None → board mid ≡ (parts.came old first).board
+    → Took start (parts.came old first).items middle
     → HasDone mid new fs result middle end rest → HasDone old new fs result start end (both first rest)
 done_after {old} {mid} {new} {fs} {result} {start} {middle} {end} first {rest} free shown items done =
     let l : Logged World = parts.came old first in

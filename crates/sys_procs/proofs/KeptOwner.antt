@@ -1,6 +1,6 @@
 -- What a read leaves of a file: its owner and its group, and whether it sets them.
-use Rattle.std.proofs.Common.{◌≡◌, ◌∙◌, ◌+◌, ◌/◌, ◌==◌, ◌&&◌, ℕ, Bool, true, false, not, cond, if◌then◌else◌, List, [], ◌∷◌, length, min, get_or, get_or-set_same, bit_and, bit_or, slice_range, Option, Some, None, IsSome, replicate, refl, sym, ap, subst, inl, inr, arith}
-use Rattle.std.specs.Prelude.{◌-◌, ◌<◌, ◌≤◌}
+use Rattle.std.proofs.Common.{◌≡◌, ◌∙◌, ◌+◌, ◌/◌, ◌==◌, ℕ, Bool, true, false, not, cond, if◌then◌else◌, List, [], ◌∷◌, length, min, get_or, get_or-set_same, bit_and, bit_or, Option, Some, None, IsSome, replicate, refl, sym, ap, subst, inl, inr}
+use Rattle.std.specs.Prelude.{◌-◌, ◌<◌}
 use Rattle.std.specs.Option.{unwrap_or}
 use Rattle.std.proofs.lemmas.Bool.{cases_lt}
 use Rattle.std.proofs.lemmas.List.{get_or_past}
@@ -13,7 +13,7 @@ use Rattle.fs_codec.specs.Store.{Node, Store, node_numbered, holds}
 use Rattle.fs_codec.specs.declared.modes.TheConstants.{ISUID, ISGID, ILARG}
 use Rattle.fs_laws.specs.Numbers.{with_node}
 use Rattle.fs_laws.specs.Touch.{Touching, gained, take_names, touching}
-use Rattle.fs_laws.specs.Pieces.{Moving, going_on, stopped, reading, read_file, pieces, beginning}
+use Rattle.fs_laws.specs.Pieces.{Moving, going_on, reading, read_file, pieces, beginning}
 use Rattle.fs_nodes.specs.Copy.{put_kernel}
 use Rattle.sys_procs.specs.declared.program.Program.{Program}
 use Rattle.sys_procs.specs.World.{World}
@@ -56,7 +56,8 @@ gained_same node (Ind k) = record {
 }
 gained_same node Dbl = record { uid = refl; gid = refl; sets_uid = refl; sets_gid = refl }
 
-take_same : (base : Node) (names : List BlockName) (node : Node) (room : ℕ) → SameOwner base node → SameOwner base (take_names names node room).node
+take_same : (base : Node) (names : List BlockName) (node : Node) (room : ℕ) → SameOwner base node
+    → SameOwner base (take_names names node room).node
 take_same base [] node room h = h
 take_same base (name ∷ names) node room h =
     by (holds node name) (room == 0) (take_same base names node room h)
@@ -65,7 +66,8 @@ take_same base (name ∷ names) node room h =
     by : (held full : Bool) → SameOwner base (take_names names node room).node
         → SameOwner base (take_names names (gained node name) (room - 1)).node
         → SameOwner base (if held then take_names names node room else
-        (if full then record { node = node; room = room; is_done = false } else take_names names (gained node name) (room - 1))).node
+        (if full then record { node = node; room = room; is_done = false } else take_names names (gained node name)
+        (room - 1))).node
     by true full one two = one
     by false true one two = h
     by false false one two = two
@@ -100,7 +102,8 @@ module _ {Memory : Type 0} (put : Memory → ℕ → List ℕ → Option Memory)
   begins_same true node room memory places h = h
   begins_same false node room memory places h = reading_same places (beginning node room memory) h
 
-  pub read_same : (room : ℕ) (memory : Memory) (at count time : ℕ) → SameOwner base (read_file put base room memory at count time).node
+  pub read_same : (room : ℕ) (memory : Memory) (at count time : ℕ)
+      → SameOwner base (read_file put base room memory at count time).node
   read_same room memory at count time =
       begins_same (is_device base.mode) (if count == 0 then base else record base { actime = time }) room memory
       (pieces at (min base.size (at + count))) (dated (count == 0) time)
@@ -127,5 +130,7 @@ pub text_owner : (w : World) (s : ℕ) (program : Program) (b : Bool) → IsSome
 text_owner w s program false there = same_owner (node_at w program.ino)
 text_owner w s program true there =
     let m : Moving (List ℕ) = text_read w program in
-    subst (λ (node : Node). SameOwner (node_at w program.ino) node) (sym (node_put w.inodes.store program.ino m.node m.room there))
-    (read_same put_kernel (node_at w program.ino) w.inodes.store.room (replicate (text_room program) 0) 16 (text_room program) w.clock.time)
+    subst (λ (node : Node). SameOwner (node_at w program.ino) node)
+    (sym (node_put w.inodes.store program.ino m.node m.room there))
+    (read_same put_kernel (node_at w program.ino) w.inodes.store.room (replicate (text_room program) 0) 16
+    (text_room program) w.clock.time)

@@ -1,7 +1,6 @@
 -- A process leaves its text and gives its image back, and executes a program: what the world is then, and what that comes to.
-use Rattle.std.proofs.Common.{◌≡◌, ◌≢◌, ◌∙◌, ◌+◌, ◌-◌, ◌<◌, ◌≤◌, ◌==◌, ◌&&◌, ℕ, Bool, true, false, not, cond, if◌then◌else◌, [], ◌∷◌, List, length, map, get_or, set, count_by, slice_index, Option, Some, None, Result, refl, sym, ap, subst, inl, inr, arith}
+use Rattle.std.proofs.Common.{◌≡◌, ◌≢◌, ◌∙◌, ◌+◌, ◌-◌, ◌<◌, ◌≤◌, ◌==◌, ◌&&◌, ℕ, Bool, true, false, not, cond, if◌then◌else◌, [], ◌∷◌, List, length, get_or, set, count_by, slice_index, Option, Some, None, Result, refl, sym, ap, subst, inl, inr, arith}
 use Rattle.std.specs.Option.{unwrap_or}
-use Rattle.std.specs.Prelude.{slice_index_or}
 use Rattle.std.proofs.Math.ListN.{get_or-map}
 use Rattle.std.proofs.lemmas.Bool.{cases_eq, cases_lt, eq-eqb, eqb-true}
 use Rattle.std.proofs.lemmas.List.{get_or-set_same, get_or-set_other, get_or_past, length-set}
@@ -10,34 +9,30 @@ use Rattle.v6_base.specs.Trace.{Log, Taken, Took}
 use Rattle.v6_base.specs.declared.entry.Entry.TheVariants.{Bare}
 use Rattle.v6_base.specs.declared.answer.Answer.{Answer}
 use Rattle.v6_base.specs.declared.entry.PanicKind.{PanicKind}
-use Rattle.u_area.specs.declared.area.UArea.{UArea}
-use Rattle.proc_tab.specs.declared.row.Row.{Row}
 use Rattle.fs_codec.specs.Store.{Node, Store}
 use Rattle.fs_laws.specs.Numbers.{without_reference, without_node}
 use Rattle.fs_nodes.specs.FileSystem.{FileSystem}
 use Rattle.fs_tree.specs.Finding.{Inodes, put_in, put_back}
-use Rattle.image_keep.specs.Kept.{shared, text_of}
+use Rattle.image_keep.specs.Kept.{text_of}
 use Rattle.image_keep.specs.SharedTexts.{AreShared}
 use Rattle.pick_rules.specs.Board.{Board}
 use Rattle.pick_rules.specs.Effects.{came}
-use Rattle.pick_rules.specs.Logged.{Logged, left_by, logged, log_one}
+use Rattle.pick_rules.specs.Logged.{Logged, logged, log_one}
 use Rattle.sys_procs.specs.declared.procs.Procs.{Procs}
 use Rattle.sys_procs.specs.declared.program.Program.{Program}
 use Rattle.sys_procs.specs.Process.{Process}
 use Rattle.sys_procs.specs.TextTable as table
 use Rattle.sys_procs.specs.TextTable.{Text, no_text, is_text_of}
 use Rattle.sys_procs.specs.Texts.{goes, is_sticky, remaining, without_text, leaves_text, xfree}
-use Rattle.sys_procs.specs.World.{World, process_of, change, with_inodes, text_in, texts_in}
+use Rattle.sys_procs.specs.World.{World, process_of, change, with_inodes, text_in}
 use Rattle.sys_procs.specs.Tests.{no_node, node_in}
 use Rattle.sys_procs.specs.Comes.{Comes, nothing, logs}
-use Rattle.sys_procs.specs.ExecFile.{AreSized, IsTested, bared, bare_board, begins_anew, loads}
-use Rattle.sys_procs.specs.inside.Begun.{leaves, row_in, area_in}
-use Rattle.sys_procs.specs.Handed.{IsAlive, board, handed, process_here}
-use Rattle.sys_procs.specs.Handed as parts
+use Rattle.sys_procs.specs.ExecFile.{AreSized, bared, bare_board, begins_anew, loads}
+use Rattle.sys_procs.specs.inside.Begun.{leaves, area_in}
+use Rattle.sys_procs.specs.Handed.{IsAlive, board, handed}
 use Rattle.sys_procs.specs.Done.{HasDone, HasLeft}
 use Rattle.sys_procs.proofs.Alive.{put_here, is_here}
 use Rattle.sys_procs.proofs.Dones.{done_as}
-use Rattle.sys_procs.proofs.Slots.{fifty_processes}
 use Rattle.sys_procs.proofs.Tables.{logged_line}
 use Rattle.sys_procs.proofs.Following.{both, done_after}
 
@@ -56,7 +51,8 @@ fewer_at l i j = elim (cases_eq j i) [
   | inr other ↦ (let is = get_or-set_other l i j (slice_index l i - 1) 0 other in omega (arith, is))
 ]
 
-some_at : (l : List ℕ) (i j : ℕ) → 0 < slice_index l j → (i ≡ j → 2 ≤ slice_index l j) → 0 < slice_index (set l i (slice_index l i - 1)) j
+some_at : (l : List ℕ) (i j : ℕ) → 0 < slice_index l j → (i ≡ j → 2 ≤ slice_index l j)
+    → 0 < slice_index (set l i (slice_index l i - 1)) j
 some_at l i j some two = elim (cases_eq j i) [
   | inl here ↦ elim (cases_lt i (length l)) [
     | inl low ↦
@@ -65,13 +61,15 @@ some_at l i j some two = elim (cases_eq j i) [
         let same : slice_index l j ≡ slice_index l i = ap (λ n. slice_index l n) here in
         let more = two (sym here) in
         omega (arith, is, same, more))
-    | inr past ↦ absurd (let none : slice_index l j ≡ 0 = ap (λ n. slice_index l n) here ∙ get_or_past l i 0 past in omega (arith, none, some))
+    | inr past ↦ absurd (let none : slice_index l j ≡ 0 = ap (λ n. slice_index l n) here
+    ∙ get_or_past l i 0 past in omega (arith, none, some))
   ]
   | inr other ↦ (let is = get_or-set_other l i j (slice_index l i - 1) 0 other in omega (arith, is, some))
 ]
 
 -- An inode that is still referred to stays as it is.
-node_kept : (store : Store) (i count j : ℕ) (o : Option Node) → (i ≡ j → count ≢ 1) → node_in (put_in store i count o) j ≡ node_in store j
+node_kept : (store : Store) (i count j : ℕ) (o : Option Node) → (i ≡ j → count ≢ 1) → node_in (put_in store i count o) j
+    ≡ node_in store j
 node_kept store i count j None last = refl
 node_kept store i count j (Some node) last = by (count == 1) refl
   where
@@ -185,7 +183,8 @@ module _ (w : World) (s ino size : ℕ) (low : s < length w.processes)
         sized = sized_still w.texts k sticky ino size;
       }
 
-      left_by_going : (b : Bool) → IsAfter w (if b then with_inodes left (put_back w.inodes (table.text_of w.texts k).ino) else left) s ino size
+      left_by_going : (b : Bool)
+          → IsAfter w (if b then with_inodes left (put_back w.inodes (table.text_of w.texts k).ino) else left) s ino size
       left_by_going true =
           let i : ℕ = (table.text_of w.texts k).ino in
           left_with (put_back w.inodes i) (some_at w.inodes.references i ino some_own two) (fewer_at w.inodes.references i)
@@ -223,7 +222,10 @@ pub text_there : (p : Procs) (fs : FileSystem) (s : ℕ) → IsAlive p s → Are
 text_there p fs s alive are k has =
     let here : text_of p.images s ≡ Some k = sym (ap (λ (q : Process). q.text) (is_here p s alive).process_is) ∙ has in
     let it = are.used s k here in
-    (record { ino = it.text.row.ino; bytes = it.text.bytes; users = it.text.row.users }, get_or-map text_in p.images.texts k None ∙ ap text_in it.there)
+    (
+      record { ino = it.text.row.ino; bytes = it.text.bytes; users = it.text.row.users },
+      get_or-map text_in p.images.texts k None ∙ ap text_in it.there,
+    )
 
 -- The log goes on.
 free_by : (b : Board) (w : World) (s : ℕ) (o : Option ℕ) → (logged b (xfree w s o nothing).effects).stop ≡ None
@@ -251,7 +253,8 @@ module _ (w : World) (s : ℕ) (program : Program) where
   left_or o = (xfree w s o nothing).state
 
   loads_by : (o : Option ℕ) → loads_or o ≡ both (xfree w s o nothing)
-      (both (logs (Bare s) (nothing (change (left_or o) s bared))) (begins_anew (change (left_or o) s bared) s (process_of (left_or o) s).u program))
+      (both (logs (Bare s) (nothing (change (left_or o) s bared)))
+      (begins_anew (change (left_or o) s bared) s (process_of (left_or o) s).u program))
   loads_by None = refl
   loads_by (Some k) = refl
 

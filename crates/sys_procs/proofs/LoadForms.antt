@@ -1,7 +1,7 @@
 -- What exec(II) comes to, part by part.
-use Rattle.std.proofs.Common.{◌≡◌, ◌∙◌, ℕ, ◌+◌, ◌==◌, ◌&&◌, ◌<◌, Bool, true, false, not, cond, if◌then◌else◌, List, length, set, bit_and, Option, Some, None, is_some, Result, Ok, Err, refl, sym, ap, arith}
+use Rattle.std.proofs.Common.{◌≡◌, ◌∙◌, ℕ, ◌==◌, ◌&&◌, ◌<◌, Bool, true, false, not, cond, if◌then◌else◌, List, length, bit_and, Option, Some, None, is_some, Result, Ok, Err, refl, sym, ap, arith}
 use Rattle.std.specs.Option.{unwrap_or}
-use Rattle.std.proofs.lemmas.List.{length-set, set-set}
+use Rattle.std.proofs.lemmas.List.{set-set}
 use Rattle.v6_base.specs.Image.{Image}
 use Rattle.v6_base.specs.declared.answer.Answer.TheVariants.{Ret}
 use Rattle.v6_base.specs.declared.errno.Errno.{Errno}
@@ -16,11 +16,11 @@ use Rattle.sys_procs.specs.declared.program.Program.{Program}
 use Rattle.sys_procs.specs.Process.{Process, register}
 use Rattle.sys_procs.specs.TextTable.{Text, text_of, with_text, text_bytes, entry_of}
 use Rattle.sys_procs.specs.Texts.{xalloc, xalloc_by}
-use Rattle.sys_procs.specs.World.{World, process_of, with_process, change, let_go}
+use Rattle.sys_procs.specs.World.{World, process_of, with_process, change}
 use Rattle.sys_procs.specs.Tests.{node_at}
 use Rattle.sys_procs.specs.Comes.{Comes, nothing, does, fails}
 use Rattle.sys_procs.specs.Stack.{first_stack}
-use Rattle.sys_procs.specs.ExecFile.{Tested, tests, done_by, loads, exec_file, data_clicks, image_clicks, data_in, data_read, text_read, with_moved, entry_in, reads_text, begun_area, begins, begins_anew, executes}
+use Rattle.sys_procs.specs.ExecFile.{Tested, tests, done_by, loads, exec_file, data_clicks, image_clicks, data_in, data_read, text_read, with_moved, reads_text, begun_area, begins, begins_anew, executes}
 use Rattle.sys_procs.specs.inside.Begun.{takes, takes_image, new_if, new_entry, sized, filled, fills, row_in, area_in}
 use Rattle.sys_procs.proofs.Alive.{put_here}
 use Rattle.sys_procs.proofs.Following.{both}
@@ -85,7 +85,8 @@ there_still w s program true = refl
 there_still w s program false = refl
 
 -- A process that has an image is filled with a program.
-module _ (w : World) (s : ℕ) (program : Program) (p : Process) (low : s < length w.processes) (text : p.text ≡ (process_of w s).text) where
+module _ (w : World) (s : ℕ) (program : Program) (p : Process) (low : s < length w.processes)
+    (text : p.text ≡ (process_of w s).text) where
   abbrev read : Moving Image
   read = data_read w s program
 
@@ -118,7 +119,8 @@ module _ (w : World) (s t : ℕ) (program : Program) (low : s < length w.process
 
   texts_with : ℕ → List (Option Text)
   texts_with k =
-      with_text w.texts k (record (text_of w.texts k) { bytes = patched 0 (text_read w program).memory (text_of w.texts k).bytes })
+      with_text w.texts k
+      (record (text_of w.texts k) { bytes = patched 0 (text_read w program).memory (text_of w.texts k).bytes })
 
   pub sized_first : (b : Bool) → reads_text b imaged s program ≡ with_process (reads_text b w s program) s big
   sized_first false = refl
@@ -167,7 +169,8 @@ module _ (w : World) (s t : ℕ) (program : Program) (low : s < length w.process
         ∙ put_twice moved s it (record it { row = row; u = u })
         ∙ (λ i. with_process moved s (record it { row = row_is i; u = u_is i }))
         ∙ ap (λ (p : Process). with_process moved s p)
-        (ap (λ (p : Process). begun v p (node_at whole program.ino) program (data_read whole s program).memory.data) (sym old_there)
+        (ap (λ (p : Process). begun v p (node_at whole program.ino) program (data_read whole s program).memory.data)
+        (sym old_there)
         ∙ sym (begins_is v (process_of moved s) (node_at whole program.ino) program (data_read whole s program).memory.data))
 
     pub answer_is : (v : UArea) → (executes whole s v program).answer ≡ Ret 0 0
@@ -191,16 +194,20 @@ module _ (w : World) (s ino size : ℕ) (next : World → Bool → Comes) where
   xalloc_or false (Some k) = refl
   xalloc_or false None = refl
 
-  pub xalloc_is : xalloc w s ino size next ≡ both (takes w s ino size) (next (takes w s ino size).state (is_some (new_entry w.texts ino size)))
+  pub xalloc_is : xalloc w s ino size next
+      ≡ both (takes w s ino size) (next (takes w s ino size).state (is_some (new_entry w.texts ino size)))
   xalloc_is = xalloc_or (size == 0) (entry_of w.texts ino)
 
 pub anew_is : (w : World) (s : ℕ) (v : UArea) (program : Program) → begins_anew w s v program
     ≡ both (takes w s program.ino program.text_clicks)
     (both (takes_image (takes w s program.ino program.text_clicks).state s program.text_clicks (data_clicks program.plan))
-    (executes (reads_text (is_some (new_entry w.texts program.ino program.text_clicks)) (takes w s program.ino program.text_clicks).state s program) s v program))
+    (executes
+    (reads_text (is_some (new_entry w.texts program.ino program.text_clicks)) (takes w s program.ino program.text_clicks).state
+    s program) s v program))
 anew_is w s v program =
     xalloc_is w s program.ino program.text_clicks
-    (λ placed is_new. does (effect.Image s (image_clicks program.plan) placed) (executes (reads_text is_new placed s program) s v program))
+    (λ placed is_new. does (effect.Image s (image_clicks program.plan) placed)
+    (executes (reads_text is_new placed s program) s v program))
 
 -- What the call comes to when the tests have come to this.
 module _ (w : World) (s name list : ℕ) where

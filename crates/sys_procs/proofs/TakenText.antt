@@ -1,24 +1,20 @@
 -- A process without an image has taken a text, if it is to have one: what it has then.
-use Rattle.std.proofs.Common.{◌≡◌, ◌∙◌, ℕ, ◌+◌, ◌*◌, ◌<◌, ◌==◌, Bool, true, false, if◌then◌else◌, List, length, get_or, set, map, Option, Some, None, IfSome, Result, Ok, Err, slice_index, refl, sym, ap, subst, inl, inr, arith}
+use Rattle.std.proofs.Common.{◌≡◌, ◌∙◌, ℕ, ◌+◌, ◌*◌, ◌<◌, ◌==◌, Bool, true, false, if◌then◌else◌, List, length, get_or, set, Option, Some, None, IfSome, Ok, Err, slice_index, refl, sym, ap, inl, inr, arith}
 use Rattle.std.specs.Option.{unwrap_or, option_map}
-use Rattle.std.specs.Prelude.{position}
 use Rattle.std.proofs.lemmas.Bool.{eqb-true, eqb-false, cases_eq, cases_lt}
 use Rattle.std.proofs.lemmas.List.{get_or-set_same, get_or-set_other, get_or_past, length-set}
 use Rattle.std.proofs.lemmas.List.Quantifiers.{position-Some}
 use Rattle.v6_base.specs.declared.entry.PanicKind.{PanicKind}
-use Rattle.fs_codec.specs.Store.{Store}
-use Rattle.image_keep.specs.Kept.{Kept, Shared, Nothing, shared, shared_clicks, bytes_in, text_of, text_clicks, keeping}
+use Rattle.image_keep.specs.Kept.{Kept, Nothing, shared, shared_clicks, bytes_in, text_of, text_clicks}
 use Rattle.image_keep.specs.SharedTexts.{AreLong}
-use Rattle.pick_rules.specs.Logged.{Stop, left_by}
+use Rattle.pick_rules.specs.Logged.{Stop}
 use Rattle.proc_tab.specs.declared.member.Member.{Member}
 use Rattle.proc_tab.specs.Processes.{member_at}
-use Rattle.proc_tab.specs.declared.row.Row.{Row}
-use Rattle.fs_nodes.specs.FileSystem.{FileSystem}
 use Rattle.sys_procs.specs.declared.procs.Procs.{Procs}
 use Rattle.sys_procs.specs.Process.{Process, no_process, process_in}
 use Rattle.sys_procs.specs.TextTable.{Text, no_text, is_text_of, entry_of}
-use Rattle.sys_procs.specs.Texts.{free_entry, joined, with_user, with_entry, shares_text, makes_text, xalloc_by}
-use Rattle.sys_procs.specs.World.{World, process_of, with_process, texts_in}
+use Rattle.sys_procs.specs.Texts.{free_entry, joined, with_user, with_entry, xalloc_by}
+use Rattle.sys_procs.specs.World.{World, process_of, texts_in}
 use Rattle.sys_procs.specs.Comes.{Comes, nothing}
 use Rattle.sys_procs.specs.ExecFile.{AreSized}
 use Rattle.sys_procs.specs.inside.Begun.{takes, new_if, new_entry, taken_by}
@@ -29,7 +25,8 @@ use Rattle.sys_procs.proofs.Slots.{own_is}
 use Rattle.sys_procs.proofs.MemoryLemmas.{bytes_at}
 
 -- The text of a process without an image is that of its slot.
-text_by : (m : Option Member) (text : Option ℕ) → kind_of_member m ≡ Lives → (unwrap_or (process_in m Nothing text) no_process).text ≡ text
+text_by : (m : Option Member) (text : Option ℕ) → kind_of_member m ≡ Lives
+    → (unwrap_or (process_in m Nothing text) no_process).text ≡ text
 text_by None text e = absurd (cc e)
 text_by (Some m) text e = refl
 
@@ -62,7 +59,8 @@ more_references l i j some = elim (cases_eq j i) [
         (let is : slice_index (set l i (slice_index l i + 1)) j ≡ slice_index l i + 1 =
         ap (λ n. slice_index (set l i (slice_index l i + 1)) n) here ∙ get_or-set_same l i (slice_index l i + 1) 0 low in
         omega (arith, is))
-    | inr past ↦ absurd (let none : slice_index l j ≡ 0 = ap (λ n. slice_index l n) here ∙ get_or_past l i 0 past in omega (arith, none, some))
+    | inr past ↦ absurd (let none : slice_index l j ≡ 0 = ap (λ n. slice_index l n) here
+    ∙ get_or_past l i 0 past in omega (arith, none, some))
   ]
   | inr other ↦ (let is = get_or-set_other l i j (slice_index l i + 1) 0 other in omega (arith, is, some))
 ]
@@ -107,7 +105,8 @@ module _ (w : World) (s ino size : ℕ) where
   pub taken_limit : after.limit ≡ w.limit
   taken_limit = limit_by (size == 0) (entry_of w.texts ino)
 
-  references_by : (b : Bool) (o : Option ℕ) (j : ℕ) → 0 < slice_index w.inodes.references j → 0 < slice_index (taken b o).state.inodes.references j
+  references_by : (b : Bool) (o : Option ℕ) (j : ℕ) → 0 < slice_index w.inodes.references j
+      → 0 < slice_index (taken b o).state.inodes.references j
   references_by true o j some = some
   references_by false (Some k) j some = some
   references_by false None j some = more_references w.inodes.references ino j some
@@ -154,7 +153,8 @@ module _ (w : World) (s ino size : ℕ) where
       joined_clicks e it sized is =
           let now : get_or (texts_in k) e None ≡ Some (joined it.text) =
           ap (λ ts. get_or ts e None) is
-          ∙ (get_or-set_same w.texts e (option_map joined (get_or w.texts e None)) None it.low ∙ ap (λ o. option_map joined o) it.there) in
+          ∙ (get_or-set_same w.texts e (option_map joined (get_or w.texts e None)) None it.low
+          ∙ ap (λ o. option_map joined o) it.there) in
           clicks_at e (ap (λ o. length (unwrap_or o no_text).bytes) now ∙ sized e it.text it.there it.named)
 
       clicks_by : (b : Bool) (o : Option ℕ) → (size == 0) ≡ b → entry_of w.texts ino ≡ o → (0 < size → AreSized w.texts ino size)

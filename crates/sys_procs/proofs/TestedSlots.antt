@@ -40,7 +40,8 @@ keeps_header w v ino args head same =
     keeps_check w out (must ENOEXEC ((head.done == 16) && is_magic (plan_of h))) _ same (λ program.
     keeps_check w out (must ETXTBSY (not (is_busy v ino h))) _ same (λ free.
     keeps_check w out (or_no_memory (plan_of h)) _ same (λ plan.
-    keeps_check w out (must ENOMEM (not (is_refused (text_clicks_in v.texts ino plan) (data_clicks plan) stack_clicks v.limit))) _ same (λ fits. same)))))
+    keeps_check w out (must ENOMEM (not (is_refused (text_clicks_in v.texts ino plan) (data_clicks plan) stack_clicks v.limit)))
+    _ same (λ fits. same)))))
 
 keeps_file : (w v : World) (s ino list : ℕ) → v.processes ≡ w.processes → Keeps w (tests_file v s ino list)
 keeps_file w v s ino list same =
@@ -57,7 +58,8 @@ pub tests_processes : (w : World) (s name list : ℕ) → (tests w s name list).
 tests_processes w s name list =
     let p : Process = process_of w s in
     let found : Finding ℕ = find_in w.inodes (user_of p) p.u.dir (name_at (image_of w.texts p) name) in
-    keeps_check w (with_inodes w found.inodes) found.answer _ refl (λ ino. keeps_file w (with_inodes w found.inodes) s ino list refl)
+    keeps_check w (with_inodes w found.inodes) found.answer _ refl
+    (λ ino. keeps_file w (with_inodes w found.inodes) s ino list refl)
 
 -- A program that is let through is referred to once more, and no other inode is.
 abbrev more : List ℕ → ℕ → List ℕ
@@ -66,7 +68,8 @@ more l ino = set l ino (slice_index l ino + 1)
 abbrev Refers : List ℕ → Tested → Type 0
 Refers base t = (program : Program) → t.answer ≡ Ok program → t.world.inodes.references ≡ more base program.ino
 
-refers_check : {A : Type 0} (base : List ℕ) (out : World) (r : Result A Errno) (next : A → Tested) → ((a : A) → r ≡ Ok a → Refers base (next a))
+refers_check : {A : Type 0} (base : List ℕ) (out : World) (r : Result A Errno) (next : A → Tested)
+    → ((a : A) → r ≡ Ok a → Refers base (next a))
     → Refers base (check out r next)
 refers_check base out (Ok a) next rest = rest a refl
 refers_check base out (Err e) next rest = λ program is. absurd (cc is)
@@ -77,7 +80,8 @@ refers_last base v made is = λ program same.
     let it : made ≡ program = cc same in
     is ∙ ap (λ (p : Program). more base p.ino) it
 
-refers_header : (base : List ℕ) (v : World) (ino : ℕ) (args : List (List ℕ)) (head : Moving (List ℕ)) → v.inodes.references ≡ more base ino
+refers_header : (base : List ℕ) (v : World) (ino : ℕ) (args : List (List ℕ)) (head : Moving (List ℕ)) → v.inodes.references
+    ≡ more base ino
     → Refers base (tests_header v ino args head)
 refers_header base v ino args head is =
     let h : Header = header_of head.memory in
@@ -86,10 +90,13 @@ refers_header base v ino args head is =
     refers_check base out (must ENOEXEC ((head.done == 16) && is_magic (plan_of h))) _ (λ program _.
     refers_check base out (must ETXTBSY (not (is_busy v ino h))) _ (λ free _.
     refers_check base out (or_no_memory (plan_of h)) _ (λ plan _.
-    refers_check base out (must ENOMEM (not (is_refused (text_clicks_in v.texts ino plan) (data_clicks plan) stack_clicks v.limit))) _ (λ fits _.
-    refers_last base v (record { ino = ino; plan = plan; text_clicks = text_clicks_in v.texts ino plan; arguments = args }) is)))))
+    refers_check base out
+    (must ENOMEM (not (is_refused (text_clicks_in v.texts ino plan) (data_clicks plan) stack_clicks v.limit))) _ (λ fits _.
+    refers_last base v
+    (record { ino = ino; plan = plan; text_clicks = text_clicks_in v.texts ino plan; arguments = args }) is)))))
 
-refers_file : (base : List ℕ) (v : World) (s ino list : ℕ) → v.inodes.references ≡ more base ino → Refers base (tests_file v s ino list)
+refers_file : (base : List ℕ) (v : World) (s ino list : ℕ) → v.inodes.references ≡ more base ino
+    → Refers base (tests_file v s ino list)
 refers_file base v s ino list is =
     let p : Process = process_of v s in
     let node : Node = node_at v ino in
@@ -103,7 +110,8 @@ refers_file base v s ino list is =
 abbrev found_if : Inodes → ℕ → Bool → Finding ℕ
 found_if n i b = if b then record { answer = Ok i; inodes = with_reference n i } else record { answer = Err ENFILE; inodes = n }
 
-found_refers : (n : Inodes) (o : Result ℕ Errno) (ino : ℕ) → (finding n o).answer ≡ Ok ino → (finding n o).inodes.references ≡ more n.references ino
+found_refers : (n : Inodes) (o : Result ℕ Errno) (ino : ℕ) → (finding n o).answer ≡ Ok ino → (finding n o).inodes.references
+    ≡ more n.references ino
 found_refers n (Err e) ino is = absurd (cc is)
 found_refers n (Ok i) ino is = by (can_refer n i) is
   where
@@ -115,7 +123,8 @@ pub tests_refer : (w : World) (s name list : ℕ) (program : Program) → (tests
     → (tests w s name list).world.inodes.references ≡ more w.inodes.references program.ino
 tests_refer w s name list =
     let p : Process = process_of w s in
-    let o : Result ℕ Errno = then_do (way w.inodes.store (user_of p) p.u.dir (name_at (image_of w.texts p) name)) (found w.inodes.store) in
+    let o : Result ℕ Errno = then_do (way w.inodes.store (user_of p) p.u.dir (name_at (image_of w.texts p) name))
+    (found w.inodes.store) in
     let f : Finding ℕ = finding w.inodes o in
     refers_check w.inodes.references (with_inodes w f.inodes) f.answer _ (λ ino is.
     refers_file w.inodes.references (with_inodes w f.inodes) s ino list (found_refers w.inodes o ino is))
@@ -135,7 +144,8 @@ module _ (l : List ℕ) (ino : ℕ) where
         let none = get_or_past (more l ino) ino 0 (omega (arith, long, past)) in omega (arith, none, some))
   ]
 
-  pub more_few : (most : ℕ) → 0 < slice_index (more l ino) ino → ((j : ℕ) → slice_index l j ≤ most) → (j : ℕ) → slice_index (more l ino) j ≤ most + 1
+  pub more_few : (most : ℕ) → 0 < slice_index (more l ino) ino → ((j : ℕ) → slice_index l j ≤ most) → (j : ℕ)
+      → slice_index (more l ino) j ≤ most + 1
   more_few most some few j = elim (cases_eq j ino) [
     | inl here ↦
         (let one = more_same (more_low some) in
@@ -151,7 +161,8 @@ module _ (l : List ℕ) (ino : ℕ) where
         (let one = more_same (more_low some) in
         let before = referred ino in
         let yes : ◌≡◌ {A = ℕ} (if ino == ino then 1 else 0) 1 = ap (λ (b : Bool). if b then 1 else 0) (eq-eqb ino ino refl) in
-        subst (λ i. count i + (if i == ino then 1 else 0) ≤ slice_index (more l ino) i) (sym here) (omega (arith, one, before, yes)))
+        subst (λ i. count i + (if i == ino then 1 else 0) ≤ slice_index (more l ino) i) (sym here)
+        (omega (arith, one, before, yes)))
     | inr other ↦
         (let same = more_other j other in
         let before = referred j in

@@ -1,7 +1,6 @@
 -- The tests of exec(II): those that leave the same world are one, which leaves that world where one of them refuses.
-use Rattle.std.proofs.Common.{◌≡◌, ◌∙◌, ◌==◌, ◌&&◌, ◌/◌, ℕ, Bool, true, false, not, List, map, Option, Some, None, is_none}
-use Rattle.std.proofs.Common.{if◌then◌else◌, Result, Ok, Err, IsSome, IfSome, ◌*◌, ◌<◌, length, slice_index, inl, inr, refl, sym, ap, arith}
-use Rattle.std.proofs.lemmas.Bool.{ne_eqb}
+use Rattle.std.proofs.Common.{◌≡◌, ◌∙◌, ◌==◌, ◌&&◌, ◌/◌, ℕ, Bool, true, false, not, List, Option, Some, None}
+use Rattle.std.proofs.Common.{if◌then◌else◌, Result, Ok, Err, IsSome, ◌*◌, ◌<◌, length, refl, sym, ap, arith}
 use Rattle.std.specs.Option.{unwrap_or, option_map}
 use Rattle.std.proofs.Math.ListN.{get_or-map}
 use Rattle.std.specs.Prelude.{slice_index_or}
@@ -16,9 +15,7 @@ use Rattle.fs_tree.specs.declared.user.Want.TheVariants.{Execute}
 use Rattle.fs_tree.specs.Permission.{permission}
 use Rattle.fs_tree.specs.Name.{name_at}
 use Rattle.fs_tree.specs.Finding.{Inodes, inodes_of, find_in}
-use Rattle.aout_head.specs.Header.{Header, header_of, plan_of}
-use Rattle.aout_head.specs.declared.parts.ExecFault.{ExecFault}
-use Rattle.aout_head.specs.declared.parts.ExecFault.TheVariants.{Separate, NotExecutable}
+use Rattle.aout_head.specs.Header.{header_of, plan_of}
 use Rattle.aout_head.specs.declared.parts.Plan.{Plan}
 use Rattle.seg_regs.specs.Sizes.{is_refused}
 use Rattle.sys_procs.specs.declared.procs.Procs.{Procs}

@@ -147,7 +147,8 @@ fn read_bytes(nodes: &mut Nodes, program: &Program, part: &mut [u8], now: u32)
 fn read_text(p: &mut Procs, tree: &mut Tree, s: Slot, t: TextId, program: &Program)
     requires alive { IsAlive p.old s }
     requires text { text_of p.old.images s ≡ Some t }
-    requires out { (x : Shared) × (shared p.old.images t ≡ Some x) × (x.row.loaded ≡ 0) × (x.row.clicks ≡ program.now.text_clicks) }
+    requires out { (x : Shared) × (shared p.old.images t ≡ Some x) × (x.row.loaded ≡ 0)
+        × (x.row.clicks ≡ program.now.text_clicks) }
     requires referenced { 0 < slice_index tree.old.nodes.references program.now.ino }
     ensures state { handed p.new tree.new.nodes ≡ with_text_read (handed p.old tree.old.nodes) s program.now }
     ensures board { board p.new ≡ board p.old }
@@ -203,7 +204,8 @@ fn fill<S: Space>(nodes: &mut Nodes, space: &mut S, program: &Program, now: u32)
         ≡ record (data_in nodes.old.store text program.now now).memory { stack = first_stack program.now.arguments } }
     ensures rest { S.rest space.new ≡ S.rest space.old }
     ensures store { (text : List ℕ) → S.image space.old ≡ cleared_image text program.now.plan → nodes.new.store
-        ≡ with_node nodes.old.store program.now.ino (data_in nodes.old.store text program.now now).node (data_in nodes.old.store text program.now now).room }
+        ≡ with_node nodes.old.store program.now.ino (data_in nodes.old.store text program.now now).node
+        (data_in nodes.old.store text program.now now).room }
     ensures references { nodes.new.references ≡ nodes.old.references }
     ensures blocks { SameRest nodes.old.blocks nodes.new.blocks }
 {
@@ -284,7 +286,8 @@ fn fill_program(
     requires data_size { u.now.data_size ≡ (process_here p.old s).u.data_size }
     requires stack_size { u.now.stack_size ≡ (process_here p.old s).u.stack_size }
     ensures state { handed p.new tree.new.nodes
-        ≡ begins_in (fills (reads_text (is_some new) (handed p.old tree.old.nodes) s program.now) s program.now) s program.now.ino row u.now }
+        ≡ begins_in (fills (reads_text (is_some new) (handed p.old tree.old.nodes) s program.now) s program.now) s
+        program.now.ino row u.now }
     ensures board { board p.new ≡ board p.old }
     ensures marks { tree.new.marks ≡ tree.old.marks }
     ensures marked { marks_of (texts_in p.new.images) ≡ marks_of (texts_in p.old.images) }

@@ -236,11 +236,17 @@ fn judge_header(
 ) -> Result<Program, Errno>
     ensures answer { result ≡ then_do (unless_error read.error) (λ whole.
         then_do (must ENOEXEC ((read.done == 16) && is_magic (plan_of (header_of head.now)))) (λ program.
-        then_do (must ETXTBSY (not (is_busy_in (texts_in images.now) (slice_index nodes.now.references ino) ino (header_of head.now)))) (λ free.
+        then_do (must ETXTBSY (not (is_busy_in (texts_in images.now) (slice_index nodes.now.references ino) ino
+        (header_of head.now)))) (λ free.
         then_do (or_no_memory (plan_of (header_of head.now))) (λ plan.
         then_do (must ENOMEM (not (is_refused (text_clicks_in (texts_in images.now) ino plan) (data_clicks plan) stack_clicks
         (most_clicks images.now)))) (λ fits.
-        Ok (record { ino = ino; plan = plan; text_clicks = text_clicks_in (texts_in images.now) ino plan; arguments = args })))))) }
+        Ok (record {
+          ino = ino;
+          plan = plan;
+          text_clicks = text_clicks_in (texts_in images.now) ino plan;
+          arguments = args;
+        })))))) }
     ensures ino { IfOk result (λ program. program.ino ≡ ino) }
     ensures fits { IfOk result (λ program.
         is_refused program.text_clicks (data_clicks program.plan) stack_clicks (most_clicks images.now) ≡ false) }

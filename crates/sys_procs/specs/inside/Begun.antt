@@ -1,6 +1,6 @@
 -- How a program begins: the parts of exec(II), each with what it comes to. Lions' Commentary, `exec` in `sys1.c`, `xalloc` and
 -- `xfree` in `text.c`.
-use Rattle.std.specs.Prelude.{ℕ, ◌+◌, ◌==◌, ◌&&◌, not, if◌then◌else◌, bit_and, List, Bool, Option, Some, None, Result, Ok, Err}
+use Rattle.std.specs.Prelude.{ℕ, ◌+◌, ◌==◌, ◌&&◌, not, if◌then◌else◌, bit_and, List, Option, Some, None, Result, Ok, Err}
 use Rattle.v6_base.specs.Image.{Image}
 use Rattle.v6_base.specs.declared.entry.PanicKind.{PanicKind}
 use Rattle.fs_codec.specs.Store.{Node}
@@ -10,7 +10,6 @@ use Rattle.image_keep.specs.Area.{made_area}
 use Rattle.image_keep.specs.Places.{cleared}
 use Rattle.u_area.specs.declared.area.UArea.{UArea}
 use Rattle.proc_tab.specs.declared.row.Row.{Row}
-use Rattle.aout_head.specs.declared.parts.Plan.{Plan}
 use Rattle.pick_rules.specs.Effects as effect
 use Rattle.pick_rules.specs.Logged.{Stop}
 use Rattle.sys_procs.specs.declared.program.Program.{Program}
@@ -19,9 +18,8 @@ use Rattle.sys_procs.specs.TextTable.{Text, entry_of}
 use Rattle.sys_procs.specs.Texts.{free_entry, xfree, xalloc}
 use Rattle.sys_procs.specs.World.{World, process_of, change, let_go}
 use Rattle.sys_procs.specs.Comes.{Comes, does, nothing}
-use Rattle.sys_procs.specs.Tests.{node_at}
-use Rattle.sys_procs.specs.Stack.{first_stack, stack_clicks}
-use Rattle.sys_procs.specs.ExecFile.{data_clicks, image_clicks, with_moved, data_read, begun_area}
+use Rattle.sys_procs.specs.Stack.{first_stack}
+use Rattle.sys_procs.specs.ExecFile.{with_moved, data_read, begun_area}
 
 -- A process leaves its text, if it has one.
 abbrev pub leaves : World → ℕ → Comes

@@ -23,7 +23,8 @@ load-requires-clause-alive g c =
 
 -- The program that they let through is referred to once more, so that its own text, if it has one, isn't all that refers to it.
 module _ (p q : Procs) (fs gs : FileSystem) (s name list : ℕ) (program : Program) (calls : Calls p fs s)
-    (state : handed q gs ≡ (tests (handed p fs) s name list).world) (answer : Ok program ≡ (tests (handed p fs) s name list).answer)
+    (state : handed q gs ≡ (tests (handed p fs) s name list).world)
+    (answer : Ok program ≡ (tests (handed p fs) s name list).answer)
     (some : 0 < slice_index gs.references program.ino) where
   abbrev more : List ℕ
   more = set fs.references program.ino (slice_index fs.references program.ino + 1)
@@ -40,22 +41,26 @@ module _ (p q : Procs) (fs gs : FileSystem) (s name list : ℕ) (program : Progr
       let same = ap (λ l. slice_index l i) is in
       omega (arith, most, same)
 
-  referred : (i : ℕ) → count_by (is_text_of i) (texts_in p.images) + (if i == program.ino then 1 else 0) ≤ slice_index gs.references i
+  referred : (i : ℕ) → count_by (is_text_of i) (texts_in p.images) + (if i == program.ino then 1 else 0) ≤ slice_index
+      gs.references i
   referred =
-      subst (λ l. (i : ℕ) → count_by (is_text_of i) (texts_in p.images) + (if i == program.ino then 1 else 0) ≤ slice_index l i) (sym is)
+      subst (λ l. (i : ℕ) → count_by (is_text_of i) (texts_in p.images) + (if i == program.ino then 1 else 0) ≤ slice_index l i)
+      (sym is)
       (more_referred fs.references program.ino (λ i. count_by (is_text_of i) (texts_in p.images)) some_more
       (λ i. let most = calls.referred i in omega (arith, most)))
 
 pub load-requires-clause-few : goal.load-requires-clause-few
 load-requires-clause-few g c =
-    few c.args.p.now c.test_program.new.p c.args.tree.now.nodes c.test_program.new.tree.nodes c.args.s (get_or c.args.args 0 0) (get_or c.args.args 1 0)
+    few c.args.p.now c.test_program.new.p c.args.tree.now.nodes c.test_program.new.tree.nodes c.args.s (get_or c.args.args 0 0)
+    (get_or c.args.args 1 0)
     c.in-Ok.program c.requires.calls c.test_program.ensures.state c.in-Ok.ensures.answer c.in-Ok.ensures.tested.referenced
 
 pub load-requires-clause-referred : goal.load-requires-clause-referred
 load-requires-clause-referred g c =
     subst (λ (p : Procs). (i : ℕ) → count_by (is_text_of i) (texts_in p.images) + (if i == c.in-Ok.program.ino then 1 else 0)
     ≤ slice_index c.test_program.new.tree.nodes.references i) (sym c.test_program.ensures.procs)
-    (referred c.args.p.now c.test_program.new.p c.args.tree.now.nodes c.test_program.new.tree.nodes c.args.s (get_or c.args.args 0 0)
+    (referred c.args.p.now c.test_program.new.p c.args.tree.now.nodes c.test_program.new.tree.nodes c.args.s
+    (get_or c.args.args 0 0)
     (get_or c.args.args 1 0) c.in-Ok.program c.requires.calls c.test_program.ensures.state c.in-Ok.ensures.answer
     c.in-Ok.ensures.tested.referenced)
 

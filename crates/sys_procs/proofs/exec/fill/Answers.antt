@@ -18,10 +18,12 @@ at_is : (g : given.Over) (c : After-read_at g) → c.data_at-at.result ≡ 8192 
 at_is g c =
     let few = few_segments c.args.program.now.text_clicks (data_clicks c.args.program.now.plan) 20 2048 c.requires.fits in
     c.data_at-at.ensures
-    ∙ (let low : 8192 * nseg c.args.program.now.text_clicks % 65536 ≡ 8192 * nseg c.args.program.now.text_clicks = omega (arith, few) in low)
+    ∙ (let low : 8192 * nseg c.args.program.now.text_clicks % 65536
+    ≡ 8192 * nseg c.args.program.now.text_clicks = omega (arith, few) in low)
 
 -- what has been read
-read_is : (g : given.Over) (c : After-read_at g) (text : List ℕ) → g.S.Space.image c.args.space.now ≡ cleared_image text c.args.program.now.plan
+read_is : (g : given.Over) (c : After-read_at g) (text : List ℕ) → g.S.Space.image c.args.space.now
+    ≡ cleared_image text c.args.program.now.plan
     → ◌≡◌ {A = Moving Image}
     (read_file (put_into c.data_at-at.result) (node_in c.args.nodes.now.store c.args.program.now.ino) c.args.nodes.now.store.room
     (g.S.Space.image c.args.space.now) (16 + c.from.result) c.args.program.now.plan.init c.args.now)
@@ -33,7 +35,8 @@ read_is g c text is =
     (16 + c.from.ensures i) program.plan.init c.args.now)
 
 moved_is : (g : given.Over) (c : After-read_at g) → g.S.Space.image c.read_at.new.space
-    ≡ (read_file (put_into c.data_at-at.result) (node_in c.args.nodes.now.store c.args.program.now.ino) c.args.nodes.now.store.room
+    ≡ (read_file (put_into c.data_at-at.result) (node_in c.args.nodes.now.store c.args.program.now.ino)
+    c.args.nodes.now.store.room
     (g.S.Space.image c.args.space.now) (16 + c.from.result) c.args.program.now.plan.init c.args.now).memory
 moved_is g c =
     let program : Program = c.args.program.now in
@@ -43,7 +46,8 @@ moved_is g c =
 pub put_stack-requires : goal.put_stack-requires
 put_stack-requires g c =
     let at = (goal.at.put_stack-requires g c).After-read_at in
-    ap (λ (m : Image). m.stack) (moved_is g at ∙ ap (λ (m : Moving Image). m.memory) (read_is g at c.requires.cleared.0 c.requires.cleared.2))
+    ap (λ (m : Image). m.stack)
+    (moved_is g at ∙ ap (λ (m : Moving Image). m.memory) (read_is g at c.requires.cleared.0 c.requires.cleared.2))
     ∙ stack_stays c.args.nodes.now.store c.requires.cleared.0 c.args.program.now c.args.now c.requires.cleared.1 c.requires.fits
 
 pub returns-clause-image : goal.returns-clause-image

@@ -1,16 +1,15 @@
-use Rattle.std.proofs.Common.{◌≡◌, ◌∙◌, ◌*◌, List, length, ℕ, Option, Some, set, sym, ap}
+use Rattle.std.proofs.Common.{◌≡◌, ◌∙◌, ◌*◌, length, ℕ, sym, ap}
 use Rattle.v6_base.specs.Image.{Image}
 use Rattle.u_area.specs.declared.area.UArea.{UArea}
 use Rattle.sys_procs.proofs.Alive.{area_here}
 use Rattle.fs_laws.specs.Pieces.{Moving}
 use Rattle.fs_nodes.specs.FileSystem.{FileSystem}
-use Rattle.fs_tree.specs.Finding.{Inodes}
 use Rattle.image_keep.specs.Kept.{Kept, IsKept}
 use Rattle.image_keep.specs.Kept as kept
 use Rattle.image_keep.specs.Lent.{Lent, left_of}
 use Rattle.sys_procs.specs.declared.procs.Procs.{Procs}
 use Rattle.sys_procs.specs.Process.{Process}
-use Rattle.sys_procs.specs.World.{World, with_process}
+use Rattle.sys_procs.specs.World.{with_process}
 use Rattle.sys_procs.specs.Stack.{first_stack}
 use Rattle.sys_procs.specs.ExecFile.{cleared_image, data_read}
 use Rattle.sys_procs.specs.Handed.{IsAlive, handed, process_here, memory_here}

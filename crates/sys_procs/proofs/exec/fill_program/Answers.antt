@@ -31,7 +31,8 @@ module _ (p q : Procs) (fs gs : FileSystem) (s : ℕ) (program : Program) (b : B
     filled_here : process_here r s ≡ filled program memory (process_here p s)
     filled_here =
         ap (λ (w : World). process_of w s) is
-        ∙ (put_here (handed q gs).processes s (filled program memory (process_here q s)) (omega (arith, low, fifty_processes q.rows.slots q.images))
+        ∙ (put_here (handed q gs).processes s (filled program memory (process_here q s))
+        (omega (arith, low, fifty_processes q.rows.slots q.images))
         ∙ ap (λ (x : Process). filled program memory x) here)
 
     row_is : (process_here p s).row ≡ (process_here r s).row
@@ -53,38 +54,44 @@ fill_image-requires-clause-cleared c =
 pub begin-requires-clause-pid : goal.begin-requires-clause-pid
 begin-requires-clause-pid c =
     c.requires.pid ∙ ap (λ (row : Row). row.pid)
-    (row_is c.args.p.now c.fill_text.new.p c.args.tree.now.nodes c.fill_text.new.tree.nodes c.args.s c.args.program.now (is_some c.args.new)
+    (row_is c.args.p.now c.fill_text.new.p c.args.tree.now.nodes c.fill_text.new.tree.nodes c.args.s c.args.program.now
+    (is_some c.args.new)
     c.fill_text.ensures.state c.fill_image.new.p c.fill_image.new.tree.nodes c.requires.alive.below c.fill_image.ensures.state)
 
 pub begin-requires-clause-ppid : goal.begin-requires-clause-ppid
 begin-requires-clause-ppid c =
     c.requires.ppid ∙ ap (λ (row : Row). row.ppid)
-    (row_is c.args.p.now c.fill_text.new.p c.args.tree.now.nodes c.fill_text.new.tree.nodes c.args.s c.args.program.now (is_some c.args.new)
+    (row_is c.args.p.now c.fill_text.new.p c.args.tree.now.nodes c.fill_text.new.tree.nodes c.args.s c.args.program.now
+    (is_some c.args.new)
     c.fill_text.ensures.state c.fill_image.new.p c.fill_image.new.tree.nodes c.requires.alive.below c.fill_image.ensures.state)
 
 pub begin-requires-clause-text : goal.begin-requires-clause-text
 begin-requires-clause-text c =
     c.requires.text_size ∙ ap (λ (u : UArea). u.text_size)
-    (area_is c.args.p.now c.fill_text.new.p c.args.tree.now.nodes c.fill_text.new.tree.nodes c.args.s c.args.program.now (is_some c.args.new)
+    (area_is c.args.p.now c.fill_text.new.p c.args.tree.now.nodes c.fill_text.new.tree.nodes c.args.s c.args.program.now
+    (is_some c.args.new)
     c.fill_text.ensures.state c.fill_image.new.p c.fill_image.new.tree.nodes c.requires.alive.below c.fill_image.ensures.state)
 
 pub begin-requires-clause-data_size : goal.begin-requires-clause-data_size
 begin-requires-clause-data_size c =
     c.requires.data_size ∙ ap (λ (u : UArea). u.data_size)
-    (area_is c.args.p.now c.fill_text.new.p c.args.tree.now.nodes c.fill_text.new.tree.nodes c.args.s c.args.program.now (is_some c.args.new)
+    (area_is c.args.p.now c.fill_text.new.p c.args.tree.now.nodes c.fill_text.new.tree.nodes c.args.s c.args.program.now
+    (is_some c.args.new)
     c.fill_text.ensures.state c.fill_image.new.p c.fill_image.new.tree.nodes c.requires.alive.below c.fill_image.ensures.state)
 
 pub begin-requires-clause-stack_size : goal.begin-requires-clause-stack_size
 begin-requires-clause-stack_size c =
     c.requires.stack_size ∙ ap (λ (u : UArea). u.stack_size)
-    (area_is c.args.p.now c.fill_text.new.p c.args.tree.now.nodes c.fill_text.new.tree.nodes c.args.s c.args.program.now (is_some c.args.new)
+    (area_is c.args.p.now c.fill_text.new.p c.args.tree.now.nodes c.fill_text.new.tree.nodes c.args.s c.args.program.now
+    (is_some c.args.new)
     c.fill_text.ensures.state c.fill_image.new.p c.fill_image.new.tree.nodes c.requires.alive.below c.fill_image.ensures.state)
 
 pub returns-clause-state : goal.returns-clause-state
 returns-clause-state c =
     let p : Procs = c.fill_image.new.p in
     let fs : FileSystem = c.fill_image.new.tree.nodes in
-    let last : World = with_process (handed p fs) c.args.s (record (process_here p c.args.s) { row = c.args.row; u = c.args.u.now }) in
+    let last : World = with_process (handed p fs) c.args.s
+    (record (process_here p c.args.s) { row = c.args.row; u = c.args.u.now }) in
     c.begin.ensures.state c.let_go.new.nodes
     ∙ (ap (λ (n : Inodes). record last { inodes = n }) c.let_go.ensures.inodes
     ∙ ap (λ (w : World). begins_in w c.args.s c.args.program.now.ino c.args.row c.args.u.now)
@@ -98,4 +105,5 @@ returns-clause-marked c =
 pub returns-clause-blocks : goal.returns-clause-blocks
 returns-clause-blocks c =
     rest_then c.args.tree.now.nodes.blocks c.fill_text.new.tree.nodes.blocks c.let_go.new.nodes.blocks c.fill_text.ensures.blocks
-    (rest_then c.fill_text.new.tree.nodes.blocks c.fill_image.new.tree.nodes.blocks c.let_go.new.nodes.blocks c.fill_image.ensures.blocks c.let_go.ensures.rest)
+    (rest_then c.fill_text.new.tree.nodes.blocks c.fill_image.new.tree.nodes.blocks c.let_go.new.nodes.blocks
+    c.fill_image.ensures.blocks c.let_go.ensures.rest)

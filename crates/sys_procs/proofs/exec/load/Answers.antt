@@ -1,7 +1,6 @@
-use Rattle.std.proofs.Common.{◌≡◌, ◌∙◌, ◌+◌, ◌<◌, ◌≤◌, ◌==◌, ℕ, if◌then◌else◌, List, [], ◌∷◌, length, Result, count_by, slice_index, false, sym, ap, subst, arith}
+use Rattle.std.proofs.Common.{◌≡◌, ◌∙◌, ◌+◌, ◌<◌, ◌≤◌, ◌==◌, ℕ, if◌then◌else◌, [], ◌∷◌, length, Result, count_by, slice_index, false, sym, ap, subst, arith}
 use Rattle.u_area.specs.declared.area.UArea.{UArea}
 use Rattle.proc_tab.specs.declared.row.Row.{Row}
-use Rattle.fs_codec.specs.Store.{Node, Store}
 use Rattle.fs_nodes.specs.FileSystem.{FileSystem}
 use Rattle.image_keep.specs.SharedTexts.{AreShared}
 use Rattle.pick_rules.specs.Logged.{left_by}
@@ -23,12 +22,12 @@ use Rattle.sys_procs.specs.Done.{HasDone, HasLeft}
 use Rattle.sys_procs.proofs.Alive.{put_here}
 use Rattle.sys_procs.proofs.Slots.{fifty_processes}
 use Rattle.sys_procs.proofs.LeftWorld.{IsAfter, gone, is_after, text_there, leaves_free, loads_done}
-use Rattle.sys_procs.proofs.exec.load.Given as given
 use Rattle.sys_procs.proofs.exec.load.Goals as goal
 
 -- The world when the text has been left, and the image has been given back.
 module _ (p q r : Procs) (fs gs : FileSystem) (s : ℕ) (program : Program) (alive : IsAlive p s) (shared : AreShared p.images)
-    (referred : (i : ℕ) → count_by (is_text_of i) (texts_in p.images) + (if i == program.ino then 1 else 0) ≤ slice_index fs.references i)
+    (referred : (i : ℕ) → count_by (is_text_of i) (texts_in p.images) + (if i == program.ino then 1 else 0) ≤ slice_index
+    fs.references i)
     {start middle : Taken} (left : HasLeft p q gs start middle (leaves (handed p fs) s))
     (bare : (hs : FileSystem) → handed r hs ≡ change (handed q hs) s bared) where
   abbrev w : World
@@ -64,7 +63,8 @@ module _ (p q r : Procs) (fs gs : FileSystem) (s : ℕ) (program : Program) (ali
   few most i =
       let before = most i in
       let fewer = facts.fewer i in
-      let same : slice_index gs.references i ≡ slice_index l.inodes.references i = ap (λ (x : World). slice_index x.inodes.references i) left_is in
+      let same : slice_index gs.references i
+      ≡ slice_index l.inodes.references i = ap (λ (x : World). slice_index x.inodes.references i) left_is in
       omega (arith, before, fewer, same)
 
   tested : IsTested w program → IsTested (handed r gs) program
@@ -78,7 +78,8 @@ module _ (p q r : Procs) (fs gs : FileSystem) (s : ℕ) (program : Program) (ali
 
   -- The row and the u area that were made before are those that are made from what has been left.
   module _ (row before : Row) (u old : UArea) (old_is : old ≡ (process_here p s).u) (before_is : before ≡ (process_here p s).row)
-      (made : row ≡ row_in (node_in fs.store program.ino) old.uid before) (area : u ≡ area_in (node_in fs.store program.ino) old program) where
+      (made : row ≡ row_in (node_in fs.store program.ino) old.uid before)
+      (area : u ≡ area_in (node_in fs.store program.ino) old program) where
     abbrev v : UArea
     v = (process_of l s).u
 
@@ -95,42 +96,53 @@ module _ (p q r : Procs) (fs gs : FileSystem) (s : ℕ) (program : Program) (ali
 
     does : (z : Procs) (hs : FileSystem) {later end : Taken} {result : Result Answer PanicKind}
         → ((x : UArea) → row ≡ row_in (node_in gs.store program.ino) x.uid (process_here r s).row
-        → u ≡ area_in (node_in gs.store program.ino) x program → HasDone r z hs result later end (begins_anew (handed r gs) s x program))
-        → board r ≡ bare_board (board q) s → Took middle (Log (Bare s) ∷ []) later → HasDone p z hs result start end (loads w s program)
+        → u ≡ area_in (node_in gs.store program.ino) x program
+        → HasDone r z hs result later end (begins_anew (handed r gs) s x program))
+        → board r ≡ bare_board (board q) s → Took middle (Log (Bare s) ∷ []) later
+        → HasDone p z hs result start end (loads w s program)
     does z hs {later} {end} {result} begun shown items =
         loads_done w s program {q = q} {r = r} left shown items
         (subst (λ (x : World). HasDone r z hs result later end (begins_anew x s v program)) gone_is (begun v row_then area_then))
 
 pub begin_program-requires-clause-tested : goal.begin_program-requires-clause-tested
 begin_program-requires-clause-tested g c =
-    tested c.args.p.now c.leave_text.new.p c.leave_place.new.p c.args.tree.now.nodes c.leave_text.new.tree.nodes c.args.s c.args.program.now
-    c.requires.alive c.see_texts.ensures.shared c.requires.referred c.leave_text.ensures.left c.leave_place.ensures.state c.requires.tested
+    tested c.args.p.now c.leave_text.new.p c.leave_place.new.p c.args.tree.now.nodes c.leave_text.new.tree.nodes c.args.s
+    c.args.program.now
+    c.requires.alive c.see_texts.ensures.shared c.requires.referred c.leave_text.ensures.left c.leave_place.ensures.state
+    c.requires.tested
 
 pub begin_program-requires-clause-few : goal.begin_program-requires-clause-few
 begin_program-requires-clause-few g c =
-    few c.args.p.now c.leave_text.new.p c.leave_place.new.p c.args.tree.now.nodes c.leave_text.new.tree.nodes c.args.s c.args.program.now
-    c.requires.alive c.see_texts.ensures.shared c.requires.referred c.leave_text.ensures.left c.leave_place.ensures.state c.requires.few
+    few c.args.p.now c.leave_text.new.p c.leave_place.new.p c.args.tree.now.nodes c.leave_text.new.tree.nodes c.args.s
+    c.args.program.now
+    c.requires.alive c.see_texts.ensures.shared c.requires.referred c.leave_text.ensures.left c.leave_place.ensures.state
+    c.requires.few
 
 pub begin_program-requires-clause-pid : goal.begin_program-requires-clause-pid
 begin_program-requires-clause-pid g c =
     ap (λ (row : Row). row.pid) (c.new_row-row.ensures)
     ∙ ap (λ (row : Row). row.pid) (c.row-row.ensures
-    ∙ row_is c.args.p.now c.leave_text.new.p c.leave_place.new.p c.args.tree.now.nodes c.leave_text.new.tree.nodes c.args.s c.args.program.now
+    ∙ row_is c.args.p.now c.leave_text.new.p c.leave_place.new.p c.args.tree.now.nodes c.leave_text.new.tree.nodes c.args.s
+    c.args.program.now
     c.requires.alive c.see_texts.ensures.shared c.requires.referred c.leave_text.ensures.left c.leave_place.ensures.state)
 
 pub begin_program-requires-clause-ppid : goal.begin_program-requires-clause-ppid
 begin_program-requires-clause-ppid g c =
     ap (λ (row : Row). row.ppid) (c.new_row-row.ensures)
     ∙ ap (λ (row : Row). row.ppid) (c.row-row.ensures
-    ∙ row_is c.args.p.now c.leave_text.new.p c.leave_place.new.p c.args.tree.now.nodes c.leave_text.new.tree.nodes c.args.s c.args.program.now
+    ∙ row_is c.args.p.now c.leave_text.new.p c.leave_place.new.p c.args.tree.now.nodes c.leave_text.new.tree.nodes c.args.s
+    c.args.program.now
     c.requires.alive c.see_texts.ensures.shared c.requires.referred c.leave_text.ensures.left c.leave_place.ensures.state)
 
 pub returns-clause-does : goal.returns-clause-does
 returns-clause-does g c =
-    does c.args.p.now c.leave_text.new.p c.leave_place.new.p c.args.tree.now.nodes c.leave_text.new.tree.nodes c.args.s c.args.program.now
+    does c.args.p.now c.leave_text.new.p c.leave_place.new.p c.args.tree.now.nodes c.leave_text.new.tree.nodes c.args.s
+    c.args.program.now
     c.requires.alive c.see_texts.ensures.shared c.requires.referred c.leave_text.ensures.left c.leave_place.ensures.state
-    c.new_row-row.result c.row-row.result c.new_area-u.result c.area-u.result c.area-u.ensures c.row-row.ensures c.new_row-row.ensures
-    c.new_area-u.ensures c.begin_program.new.p c.begin_program.new.tree.nodes c.begin_program.ensures.does c.leave_place.ensures.board
+    c.new_row-row.result c.row-row.result c.new_area-u.result c.area-u.result c.area-u.ensures c.row-row.ensures
+    c.new_row-row.ensures
+    c.new_area-u.ensures c.begin_program.new.p c.begin_program.new.tree.nodes c.begin_program.ensures.does
+    c.leave_place.ensures.board
     c.leave_place.ensures.items
 
 pub returns-clause-frame : goal.returns-clause-frame

@@ -1,4 +1,4 @@
-use Rattle.std.proofs.Common.{◌≡◌, ◌∙◌, ◌+◌, ℕ, List, length, replicate, ap}
+use Rattle.std.proofs.Common.{◌≡◌, ◌∙◌, ℕ, List, length, replicate, ap}
 use Rattle.std.proofs.lemmas.List.{length-replicate}
 use Rattle.fs_codec.specs.Store.{Store}
 use Rattle.fs_laws.specs.Numbers.{with_node}
@@ -21,18 +21,21 @@ read_is c =
     let n : ℕ = text_room c.args.program.now in
     let nought : ℕ = 0 in
     ap (reads c) c.requires.zeros
-    ∙ ap (λ k. read_file put_kernel (node_in store c.args.program.now.ino) store.room (replicate n 0) 16 k c.args.now) (length-replicate n nought)
+    ∙ ap (λ k. read_file put_kernel (node_in store c.args.program.now.ino) store.room (replicate n 0) 16 k c.args.now)
+    (length-replicate n nought)
 
 pub returns-clause-bytes : goal.returns-clause-bytes
 returns-clause-bytes c =
     let store : Store = c.args.nodes.now.store in
     let ino = c.args.program.now.ino in
-    (c.read_kernel.ensures.moved (node_in store ino) (node_there store ino (c.refs.ensures.form.used ino c.requires.referenced))).memory
+    (c.read_kernel.ensures.moved (node_in store ino)
+    (node_there store ino (c.refs.ensures.form.used ino c.requires.referenced))).memory
     ∙ ap (λ (m : Moving (List ℕ)). m.memory) (read_is (goal.at.returns-clause-bytes c).After-read_kernel)
 
 pub returns-clause-store : goal.returns-clause-store
 returns-clause-store c =
     let store : Store = c.args.nodes.now.store in
     let ino = c.args.program.now.ino in
-    (c.read_kernel.ensures.moved (node_in store ino) (node_there store ino (c.refs.ensures.form.used ino c.requires.referenced))).store
+    (c.read_kernel.ensures.moved (node_in store ino)
+    (node_there store ino (c.refs.ensures.form.used ino c.requires.referenced))).store
     ∙ ap (λ (m : Moving (List ℕ)). with_node store ino m.node m.room) (read_is (goal.at.returns-clause-store c).After-read_kernel)

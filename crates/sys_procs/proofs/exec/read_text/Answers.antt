@@ -57,14 +57,16 @@ text_bytes-requires c =
     let out = c.requires.out in
     let long = c.read_bytes.ensures.long in
     let clicks = out.3 in
-    (out.0, out.1, out.2, omega (arith, long, clicks, min-le_right c.args.program.now.plan.text (64 * c.args.program.now.text_clicks)))
+    (out.0, out.1, out.2, omega
+    (arith, long, clicks, min-le_right c.args.program.now.plan.text (64 * c.args.program.now.text_clicks)))
 
 pub read_bytes-requires-clause-zeros : goal.read_bytes-requires-clause-zeros
 read_bytes-requires-clause-zeros c =
     let nought : ℕ = 0 in
     let n = text_room c.args.program.now in
     let count : c.min-count.result ≡ n = c.min-count.ensures ∙ (λ i. min (c.from.ensures i) (64 * c.from-2.ensures i)) in
-    take-replicate c.min-count.result 65535 nought (omega (arith, count, min-le_left c.args.program.now.plan.text (64 * c.args.program.now.text_clicks)))
+    take-replicate c.min-count.result 65535 nought
+    (omega (arith, count, min-le_left c.args.program.now.plan.text (64 * c.args.program.now.text_clicks)))
     ∙ ap (λ k. replicate k nought) count
 
 pub returns-clause-marked : goal.returns-clause-marked

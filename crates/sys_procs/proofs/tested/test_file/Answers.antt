@@ -1,4 +1,4 @@
-use Rattle.std.proofs.Common.{◌∙◌, sym, ap}
+use Rattle.std.proofs.Common.{◌∙◌, ap}
 use Rattle.fs_nodes.specs.FileSystem.{FileSystem}
 use Rattle.fs_tree.specs.Finding.{Inodes}
 use Rattle.sys_procs.specs.declared.procs.Procs.{Procs}

@@ -11,21 +11,24 @@ pub returns-in-Ok-clause-answer : goal.returns-in-Ok-clause-answer
 returns-in-Ok-clause-answer c = λ m memory done error.
     let w : World = handed c.args.p.now c.args.tree.now.nodes in
     ap (λ (t : Tested). t.answer)
-    (header_tested w c.args.ino c.args.args m c.args.head.now c.args.read.done c.args.read.error (most_clicks c.args.p.now.images) _
+    (header_tested w c.args.ino c.args.args m c.args.head.now c.args.read.done c.args.read.error
+    (most_clicks c.args.p.now.images) _
     memory done error refl (c.in-Ok.ensures.answer))
 
 pub returns-in-Ok-clause-state : goal.returns-in-Ok-clause-state
 returns-in-Ok-clause-state c = λ m memory done error.
     let w : World = handed c.args.p.now c.args.tree.now.nodes in
     ap (λ (t : Tested). t.world)
-    (header_tested w c.args.ino c.args.args m c.args.head.now c.args.read.done c.args.read.error (most_clicks c.args.p.now.images) _
+    (header_tested w c.args.ino c.args.args m c.args.head.now c.args.read.done c.args.read.error
+    (most_clicks c.args.p.now.images) _
     memory done error refl (c.in-Ok.ensures.answer))
 
 pub returns-in-Err-clause-answer : goal.returns-in-Err-clause-answer
 returns-in-Err-clause-answer c = λ m memory done error.
     let w : World = handed c.args.p.now c.args.tree.now.nodes in
     ap (λ (t : Tested). t.answer)
-    (header_tested w c.args.ino c.args.args m c.args.head.now c.args.read.done c.args.read.error (most_clicks c.args.p.now.images) _
+    (header_tested w c.args.ino c.args.args m c.args.head.now c.args.read.done c.args.read.error
+    (most_clicks c.args.p.now.images) _
     memory done error refl (c.in-Err.ensures.answer))
 
 pub returns-in-Err-clause-state : goal.returns-in-Err-clause-state
@@ -33,7 +36,8 @@ returns-in-Err-clause-state c = λ m memory done error.
     let w : World = handed c.args.p.now c.args.tree.now.nodes in
     ap (λ (n : Inodes). record w { inodes = n }) c.let_go.ensures.inodes
     ∙ ap (λ (t : Tested). t.world)
-    (header_tested w c.args.ino c.args.args m c.args.head.now c.args.read.done c.args.read.error (most_clicks c.args.p.now.images) _
+    (header_tested w c.args.ino c.args.args m c.args.head.now c.args.read.done c.args.read.error
+    (most_clicks c.args.p.now.images) _
     memory done error refl (c.in-Err.ensures.answer))
 
 pub returns-in-Ok-clause-tested : goal.returns-in-Ok-clause-tested
