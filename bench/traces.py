@@ -45,7 +45,7 @@ def name_of(process):
     if process.pending:
         return PENDING[process.pending]
     image = process.image
-    data = bytes(image.data).ljust(65536 - len(image.stack), b"\0") + bytes(image.stack)
+    data = (bytes(image.text).ljust(image.base, b"\0") + bytes(image.data)).ljust(image.low, b"\0") + bytes(image.stack)
 
     def word(at):
         return data[at % 65536] | data[(at + 1) % 65536] << 8

@@ -62,7 +62,7 @@ some_at l i j some two = elim (cases_eq j i) [
         let more = two (sym here) in
         omega (arith, is, same, more))
     | inr past ↦ absurd (let none : slice_index l j ≡ 0 = ap (λ n. slice_index l n) here
-    ∙ get_or_past l i 0 past in omega (arith, none, some))
+        ∙ get_or_past l i 0 past in omega (arith, none, some))
   ]
   | inr other ↦ (let is = get_or-set_other l i j (slice_index l i - 1) 0 other in omega (arith, is, some))
 ]
@@ -221,8 +221,7 @@ pub text_there : (p : Procs) (fs : FileSystem) (s : ℕ) → IsAlive p s → Are
     → (process_of (handed p fs) s).text ≡ Some k → (text : Text) × (get_or (handed p fs).texts k None ≡ Some text)
 text_there p fs s alive are k has =
     let here : text_of p.images s ≡ Some k = sym (ap (λ (q : Process). q.text) (is_here p s alive).process_is) ∙ has in
-    let it = are.used s k here in
-    (
+    let it = are.used s k here in (
       record { ino = it.text.row.ino; bytes = it.text.bytes; users = it.text.row.users },
       get_or-map text_in p.images.texts k None ∙ ap text_in it.there,
     )

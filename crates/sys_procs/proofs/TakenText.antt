@@ -60,7 +60,7 @@ more_references l i j some = elim (cases_eq j i) [
         ap (λ n. slice_index (set l i (slice_index l i + 1)) n) here ∙ get_or-set_same l i (slice_index l i + 1) 0 low in
         omega (arith, is))
     | inr past ↦ absurd (let none : slice_index l j ≡ 0 = ap (λ n. slice_index l n) here
-    ∙ get_or_past l i 0 past in omega (arith, none, some))
+        ∙ get_or_past l i 0 past in omega (arith, none, some))
   ]
   | inr other ↦ (let is = get_or-set_other l i j (slice_index l i + 1) 0 other in omega (arith, is, some))
 ]

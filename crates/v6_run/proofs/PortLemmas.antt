@@ -220,37 +220,6 @@ module _ (o : Outside) (byte : ℕ) where
   byte_appended kept.Unwanted silent = λ uncut. holds_unwanted o (trace.Byte 0 byte)
   byte_appended (kept.Screen bytes) silent = appended_on (kept.Screen bytes) bytes.items _ refl
 
--- Counting, or not, goes on so.
-pub still_silent : (k : Kept) (byte : ℕ) → is_silent k ≡ true → is_silent (screened k byte) ≡ true
-still_silent kept.Nothing byte silent = cc
-still_silent (kept.Byte kept_byte) byte silent = refl
-still_silent (kept.Line rest) byte silent = refl
-still_silent kept.Unwanted byte silent = refl
-still_silent (kept.Screen bytes) byte silent = elim (nat_le SCREEN_ROOM (length bytes.items)) as (λ b. is_silent (cond b (kept.Screen bytes) (kept.Screen (record { items = bytes.items ++ byte ∷ [] }))) ≡ true) [
-  | true ↦ refl
-  | false ↦ refl
-]
-
-pub still_counted : (k : Kept) (byte : ℕ) → is_counted (screened k byte) ≡ is_counted k
-still_counted kept.Nothing byte = refl
-still_counted (kept.Byte kept_byte) byte = refl
-still_counted (kept.Line rest) byte = refl
-still_counted kept.Unwanted byte = refl
-still_counted (kept.Screen bytes) byte = elim (nat_le SCREEN_ROOM (length bytes.items)) as (λ b. is_counted (cond b (kept.Screen bytes) (kept.Screen (record { items = bytes.items ++ byte ∷ [] }))) ≡ true) [
-  | true ↦ refl
-  | false ↦ refl
-]
-
-pub still_failed : (k : Kept) (byte : ℕ) → failed_output (screened k byte) ≡ failed_output k
-still_failed kept.Nothing byte = refl
-still_failed (kept.Byte kept_byte) byte = refl
-still_failed (kept.Line rest) byte = refl
-still_failed kept.Unwanted byte = refl
-still_failed (kept.Screen bytes) byte = elim (nat_le SCREEN_ROOM (length bytes.items)) as (λ b. failed_output (cond b (kept.Screen bytes) (kept.Screen (record { items = bytes.items ++ byte ∷ [] }))) ≡ failed_output (kept.Screen bytes)) [
-  | true ↦ refl
-  | false ↦ refl
-]
-
 -- the byte is written, or kept
 module _ (old new : Outside) (before after : Kept) (byte : ℕ) (was : is_wanted before ≡ true) (stays : is_wanted after ≡ true) (goes : is_some (failed_output before) ≡ false) (only : OnlyAt (same (Out out_port.Term)) old new)
     (quiet : kept_text after ≡ []) (takes : Tells old → (term new).bytes ++ kept_byte after ≡ (term old).bytes ++ byte ∷ []) where

@@ -118,6 +118,7 @@ impl<'a, H: Host> Ports<'a, H> {
 }
 
 /// Takes a byte of the terminal that isn't written, where such bytes are counted.
+#[inline(never)]
 fn keep(kept: &mut Kept, byte: u8)
     ensures { kept.new ≡ screened kept.old byte }
 {
@@ -151,6 +152,24 @@ fn rest_of(line: &ArrayVec<u8, LINE_ROOM>, count: usize) -> ArrayVec<u8, LINE_RO
     rest
 }
 
+/// A byte could not be written. It stands by itself, as the next does, so that a byte that is written pays nothing for the room
+/// of what is kept.
+#[inline(never)]
+fn keep_byte(kept: &mut Kept, byte: u8)
+    ensures { kept.new ≡ Kept.Byte byte }
+{
+    *kept = Kept::Byte(byte);
+}
+
+/// So many bytes of a line were written, and the others could not be.
+#[inline(never)]
+fn keep_line(kept: &mut Kept, line: &ArrayVec<u8, LINE_ROOM>, count: usize)
+    requires { count ≤ length line.now.items }
+    ensures { kept.new ≡ Kept.Line (record { items = drop count line.now.items }) }
+{
+    *kept = Kept::Line(rest_of(line, count));
+}
+
 impl<'a, H: Host> Trace for Ports<'a, H> {
     ghost use Rattle.std.proofs.Common.{refl, ◌∙◌};
     ghost use Rattle.v6_run.specs.Ports.{taken_by, Goes};
@@ -171,7 +190,7 @@ impl<'a, H: Host> Trace for Ports<'a, H> {
         }
         let line = line_of(&e);
         if let Err(count) = write_text(self.host, OutPort::Log, line.as_slice()) {
-            self.kept = Kept::Line(rest_of(&line, count));
+            keep_line(&mut self.kept, &line, count);
         }
     }
 
@@ -181,7 +200,7 @@ impl<'a, H: Host> Trace for Ports<'a, H> {
             return;
         }
         if self.host.write(OutPort::Term, &[byte]).is_err() {
-            self.kept = Kept::Byte(byte);
+            keep_byte(&mut self.kept, byte);
         }
     }
 }

@@ -18,7 +18,7 @@ use unix_core::Unbuilt;
 use v6_base::PanicKind;
 use v6_port::{Failed, Host, InPort, OutPort};
 
-/// What a command has found that was done.
+/// What a command that was done has found.
 #[derive(Clone, Copy)]
 pub(crate) enum Found {
     /// What `check` has found on a disk.

@@ -27,7 +27,7 @@ pub enum Status {
     ImageFault(ImageFault),
     /// The run came to a panic: a demand for a place in the swap area, or for a text, can't be met.
     Panic(PanicKind),
-    /// There was no memory, before the first slot of a run and before anything else is written.
+    /// There was no memory, before the first slot of a run, or before a demo reports, and before anything else is written.
     NoMemory,
     /// The run comes to something that is not built yet.
     NotBuilt(Unbuilt),

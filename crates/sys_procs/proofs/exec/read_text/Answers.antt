@@ -56,9 +56,13 @@ pub text_bytes-requires : goal.text_bytes-requires
 text_bytes-requires c =
     let out = c.requires.out in
     let long = c.read_bytes.ensures.long in
-    let clicks = out.3 in
-    (out.0, out.1, out.2, omega
-    (arith, long, clicks, min-le_right c.args.program.now.plan.text (64 * c.args.program.now.text_clicks)))
+    let clicks = out.3 in (
+      out.0,
+      out.1,
+      out.2,
+      omega
+          (arith, long, clicks, min-le_right c.args.program.now.plan.text (64 * c.args.program.now.text_clicks)),
+    )
 
 pub read_bytes-requires-clause-zeros : goal.read_bytes-requires-clause-zeros
 read_bytes-requires-clause-zeros c =

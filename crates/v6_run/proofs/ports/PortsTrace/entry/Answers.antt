@@ -1,4 +1,6 @@
-use Rattle.std.proofs.Common.{sym, ◌∙◌, ap, drop}
+use Rattle.std.proofs.Common.{sym, ◌∙◌, ap, subst, drop, [], ◌∷◌}
+use Rattle.v6_base.specs.Trace.{Log, Took}
+use Rattle.v6_run.specs.Ports.{taken_by}
 use Rattle.v6_run.proofs.PortLemmas.{took_all, took_front, line_silently, line_appended}
 use Rattle.v6_run.proofs.ports.PortsTrace.entry.Goals as goal
 
@@ -17,8 +19,12 @@ pub returns-in-Err-clause-took : goal.returns-in-Err-clause-took
 returns-in-Err-clause-took g c =
     let loud = sym c.is_silent.ensures ∙ c.if-is_silent.false in
     let line = c.as_slice.ensures.value in
-    took_front _ _ c.args.self.now.kept c.args.e _ loud c.in-Err.ensures.only (line ∙ c.line_of-line.ensures) c.in-Err.count c.in-Err.ensures.front c.rest_of.result.items
-    (c.rest_of.ensures ∙ ap (drop c.in-Err.count) (sym line))
+    let old = g.H.Host.outside c.args.self.now.host.now in
+    let new = g.H.Host.outside c.write_text.new.host in
+    let rest = drop c.in-Err.count c.line_of-line.result.items in
+    let took = took_front old new c.args.self.now.kept c.args.e _ loud c.in-Err.ensures.only (line ∙ c.line_of-line.ensures) c.in-Err.count
+    c.in-Err.ensures.front rest (ap (drop c.in-Err.count) (sym line)) in
+    subst (λ k. Took (taken_by old c.args.self.now.kept) (Log c.args.e ∷ []) (taken_by new k)) (sym c.keep_line.ensures) took
 
 pub returns-in_default-clause-took : goal.returns-in_default-clause-took
 returns-in_default-clause-took g c =

@@ -23,7 +23,11 @@ write-requires g c = c.args.self.now.term_is_open (sym c.is_silent.ensures ∙ c
 
 pub returns-then-is_err-clause-took : goal.returns-then-is_err-clause-took
 returns-then-is_err-clause-took g c =
-    took_kept _ _ c.args.self.now.kept _ _ (sym c.is_silent.ensures ∙ c.if-is_silent.false) c.write.ensures (sym c.is_err.ensures.value ∙ c.if-is_err.true)
+    let old = g.H.Host.outside c.args.self.now.host.now in
+    let new = g.H.Host.outside c.write.new.self in
+    let took = took_kept old new c.args.self.now.kept c.args.byte _ (sym c.is_silent.ensures ∙ c.if-is_silent.false) c.write.ensures
+    (sym c.is_err.ensures.value ∙ c.if-is_err.true) in
+    subst (λ k. Took (taken_by old c.args.self.now.kept) (Byte 0 c.args.byte ∷ []) (taken_by new k)) (sym c.keep_byte.ensures) took
 
 pub returns-else-is_err-clause-took : goal.returns-else-is_err-clause-took
 returns-else-is_err-clause-took g c =
