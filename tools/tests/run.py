@@ -29,6 +29,8 @@ def run(name):
 if __name__ == "__main__":
     began = time.monotonic()
     names = sorted(set(classes(unittest.defaultTestLoader.discover(HERE))))
+    if unittest.defaultTestLoader.errors:  # a file of tests that can't be read
+        sys.exit("\n".join(unittest.defaultTestLoader.errors))
     with ProcessPoolExecutor() as pool:
         results = list(pool.map(run, names))
     print("".join(text for _, _, text, _ in results), end="", file=sys.stderr)

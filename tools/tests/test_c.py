@@ -67,8 +67,8 @@ class WithoutCompiler(Program):
 
     def test_a_shared_text(self):
         """With -n the text is apart from the data; the calls whose words change stand in the data."""
-        source = MAIN + "\tmov\t$9.,-(sp)\n\tjsr\tpc,_dup\n\ttst\t(sp)+\n\tmov\t_errno,r0\n"
-                  "\tadd\ttwo,r0\n\trts\tpc\n\t.data\ntwo:\t2\n"
+        source = (MAIN + "\tmov\t$9.,-(sp)\n\tjsr\tpc,_dup\n\ttst\t(sp)+\n\tmov\t_errno,r0\n\tadd\ttwo,r0\n\trts\tpc\n"
+                  "\t.data\ntwo:\t2\n")
         for options, magic in (((), b"\x07\x01"), (("-n",), b"\x08\x01")):
             program = self.made(source, "it.s", "--compiler", self.folder, *options)
             self.assertEqual(read(program)[:2], magic)
