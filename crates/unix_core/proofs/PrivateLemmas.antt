@@ -234,7 +234,7 @@ module _ (m : System) (r : ℕ) where
       (spared_same before r)
 
 -- settling leaves the Unix as it is
-settled_unix : (h : Happened) → (settled_after h).next.unix ≡ h.unix
+pub settled_unix : (h : Happened) → (settled_after h).next.unix ≡ h.unix
 settled_unix h = by (calls_for_settling h)
   where
     by : (b : Bool) → (cond b (settles h) (stays h)).next.unix ≡ h.unix

@@ -56,7 +56,7 @@ one_user : (o : Option Shared) → users_of (text_place o) ≡ users_in (text_in
 one_user None = refl
 one_user (Some x) = refl
 
-same_users : (xs : List (Option Shared)) → map users_of (map text_place xs) ≡ map users_in (map text_in xs)
+pub same_users : (xs : List (Option Shared)) → map users_of (map text_place xs) ≡ map users_in (map text_in xs)
 same_users [] = refl
 same_users (x ∷ xs) = λ i. one_user x i ∷ same_users xs i
 
