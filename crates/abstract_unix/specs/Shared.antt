@@ -1,4 +1,5 @@
--- A text that processes share stays as the exec(II) that made it has loaded it, until its entry goes: `text.h` in Lions' Commentary.
+-- A text that processes share stays as the exec(II) that made it has loaded it, until its entry goes. `text.h` in Lions'
+-- Commentary.
 use Rattle.std.specs.Prelude.{◌≡◌, ℕ, ◌==◌, Bool, false, List, Option, Some, None, slice_index_or}
 use Rattle.std.specs.List.{list_any}
 use Rattle.v6_base.specs.Trace.{Item, Log}

@@ -20,7 +20,7 @@ use Rattle.pick_rules.specs.Apply.{applied}
 use Rattle.pick_rules.specs.Board.{Board, free_text}
 use Rattle.pick_rules.specs.Effects.{Effect, lifted}
 use Rattle.pick_rules.specs.Effects as effect
-use Rattle.log_laws.proofs.Users.{users_on, left_users, without_users, leave_users, free_users, free_is}
+use Rattle.log_laws.proofs.Users.{users_on, left_users, leave_users, free_users, free_is}
 use Rattle.sys_procs.specs.declared.program.Program.{Program}
 use Rattle.sys_procs.specs.Process.{Process, no_process, image_of}
 use Rattle.sys_procs.specs.World.{World, process_of, change, with_inodes, let_go}
@@ -35,6 +35,7 @@ use Rattle.abstract_unix.specs.Unix.{Unix}
 use Rattle.abstract_unix.specs.Calls.{with_world}
 use Rattle.abstract_unix.specs.Shared.{TextStays}
 use Rattle.abstract_unix.proofs.Sitting.{users, users_left, free_users_is}
+use Rattle.unix_core.proofs.ProgramLemmas.{bare_users}
 use Rattle.unix_core.proofs.PrivateSlots.{AllCarry, carry_both, carry_lifted}
 use Rattle.unix_core.proofs.StayingTexts.{stays_then, stays_other, stays_joined, Leaves, leaves_carried, leaves_line, leaves_made}
 use Rattle.unix_core.proofs.StayingRows.{IsStaying, staying_comes, stays_without, left_texts, left_slots}
@@ -79,7 +80,8 @@ tests_texts w s name list =
     (λ ino. keeps_file w (with_inodes w found.inodes) s ino list refl)
 
 -- A board tells the users of the texts, there are forty entries, a process has its slot, and an entry has what it had.
-pub record IsAt (ts : List (Option Text)) (k s : ℕ) (b : Board) (texts : List (Option Text)) (slots : List (Option Process)) : Type 0 where
+pub record IsAt (ts : List (Option Text)) (k s : ℕ) (b : Board) (texts : List (Option Text)) (slots : List (Option Process))
+    : Type 0 where
   pub users : users_on b ≡ users texts
   pub forty : length texts ≡ 40
   pub low : s < length slots
@@ -107,7 +109,8 @@ module _ (ts : List (Option Text)) (k s : ℕ) (u : Unix) where
       leaves_carried Stays k b _ after (carried c h more carry) (subst (λ l. TextStays ts l k) (sym same) h.state)
 
   goes_line : (b : Board) (e : Entry) (c : Comes) → Goes (applied b e) c → Goes b (logs e c)
-  goes_line b e c h more after carry same = leaves_line Stays k b e (map (lifted (with_world u)) c.effects ++ more) after (h more after carry same)
+  goes_line b e c h more after carry same =
+      leaves_line Stays k b e (map (lifted (with_world u)) c.effects ++ more) after (h more after carry same)
 
   goes_made : (b : Board) (n : ℕ) (w : World) (c : Comes) → TextStays ts w.texts k
       → ((j : ℕ) → free_text b ≡ Some j → k ≢ j → IsStaying ts k c) → Goes b (does (effect.Text s n w) c)
@@ -133,7 +136,8 @@ module _ (ts : List (Option Text)) (k s : ℕ) (u : Unix) where
         made = makes_text x s program.ino size
 
         entry_is : free_entry x.texts ≡ j
-        entry_is = ap (λ o. unwrap_or o 40) (sym (free_users_is x.texts is.forty) ∙ ap free_users (sym is.users) ∙ free_is b ∙ free)
+        entry_is = ap (λ o. unwrap_or o 40)
+            (sym (free_users_is x.texts is.forty) ∙ ap free_users (sym is.users) ∙ free_is b ∙ free)
 
         made_stays : TextStays ts made.texts k
         made_stays = stays_then ts x.texts made.texts k is.stays
@@ -165,18 +169,16 @@ module _ (ts : List (Option Text)) (k s : ℕ) (u : Unix) where
           by false = entry_goes program.text_clicks (entry_of x.texts program.ino)
 
   -- The old image is given back,
-  bare_users : (b : Board) → users_on (applied b (line.Bare s)) ≡ users_on b
-  unfolding applied
-  bare_users b = without_users b s
-
   abbrev anew : World → Program → Comes
   anew left program = begins_anew (change left s bared) s (process_of left s).u program
 
-  bared_goes : (b : Board) (left : World) (program : Program) → IsIn ts k s b left → Goes b (logs (line.Bare s) (anew left program))
+  bared_goes : (b : Board) (left : World) (program : Program) → IsIn ts k s b left
+      → Goes b (logs (line.Bare s) (anew left program))
   bared_goes b left program is =
-      goes_line b (line.Bare s) (anew left program) (begins_goes (process_of left s).u program (applied b (line.Bare s)) (change left s bared)
+      goes_line b (line.Bare s) (anew left program)
+      (begins_goes (process_of left s).u program (applied b (line.Bare s)) (change left s bared)
       (record {
-        users = bare_users b ∙ is.users;
+        users = bare_users s b ∙ is.users;
         forty = is.forty;
         low = subst (λ n. s < n) (sym (length-set left.processes s (Some (bared (process_of left s))))) is.low;
         stays = is.stays;

@@ -7,7 +7,6 @@ use Rattle.std.proofs.lemmas.List.Folds.{list_any-append}
 use Rattle.v6_base.specs.Trace.{Item, Log, sent}
 use Rattle.v6_base.specs.declared.answer.Answer.{Answer}
 use Rattle.v6_base.specs.declared.answer.Answer.TheVariants.{Ret, Fail, Sleep}
-use Rattle.v6_base.specs.declared.entry.Chan.{Chan}
 use Rattle.v6_base.specs.declared.entry.Chan.TheVariants.{Keys, Tout}
 use Rattle.pdp_step.specs.declared.outcome.Outcome.{Outcome}
 use Rattle.pdp_step.specs.declared.outcome.Outcome.TheVariants.{Next, Call, Fault}
@@ -60,8 +59,8 @@ use Rattle.unix_core.proofs.BootKernelLemmas.{kernel_good}
 use Rattle.unix_core.proofs.GoodLemmas.{forty, runs_low}
 use Rattle.unix_core.proofs.ProgramLemmas.{same_users}
 use Rattle.unix_core.proofs.PrivateSlots.{AllCarry, left_carried, carry_shown, carry_both, carry_lifted}
-use Rattle.unix_core.proofs.PrivateLemmas.{settled_unix}
-use Rattle.unix_core.proofs.StayingTexts.{stays_same, Leaves, leaves_carried}
+use Rattle.unix_core.proofs.PrivateLemmas.{carry_end, carry_wakes, settled_unix}
+use Rattle.unix_core.proofs.StayingTexts.{first_false, stays_same, Leaves, leaves_carried}
 use Rattle.unix_core.proofs.StayingRows.{IsStaying, staying_plain, staying_break, staying_fork, staying_end, staying_resume, staying_grow}
 use Rattle.unix_core.proofs.StayingExec.{IsAt, exec_goes}
 
@@ -75,14 +74,6 @@ module _ (ts : List (Option Text)) (k s : ℕ) where
   abbrev Stays : Unix → Type 0
   Stays u = TextStays ts u.texts k
 
-  carry_end : (e : Ending) → AllCarry Stays (end_effects s e)
-  carry_end ending.Next = tt
-  carry_end ending.Trapped = (tt, tt)
-  carry_end (ending.Slept pri chan) = (tt, tt)
-  carry_end ending.Ended = tt
-  carry_end ending.NotBuilt = tt
-  carry_end (ending.Panic kind) = tt
-
   -- A turn of the process leaves a text in its entry, on a board.
   abbrev StaysAfter : Board → Steps → Type 0
   StaysAfter b steps = Leaves Stays k b (steps.effects ++ end_effects s steps.ending) steps.unix
@@ -94,7 +85,7 @@ module _ (ts : List (Option Text)) (k s : ℕ) where
 
   after_steps : (b : Board) (steps : Steps) → AreStaying steps → StaysAfter b steps
   after_steps b steps h = leaves_carried Stays k b _ steps.unix
-      (carry_both Stays steps.effects (end_effects s steps.ending) h.effects (carry_end steps.ending)) h.unix
+      (carry_both Stays steps.effects (end_effects s steps.ending) h.effects (carry_end Stays s steps.ending)) h.unix
 
   staying_quiet : (u : Unix) (e : Ending) → Stays u → AreStaying (quietly u e)
   staying_quiet u e h = record { effects = tt; unix = h }
@@ -164,12 +155,13 @@ module _ (ts : List (Option Text)) (k s : ℕ) where
       after_row process.Exec a =
           let c : Comes = process_row process.Exec (world_of u) s a in
           let steps : Steps = came_by u s c in
-          exec_goes ts k s u b (world_of u) _ _ is (end_effects s steps.ending) steps.unix (carry_end steps.ending)
+          exec_goes ts k s u b (world_of u) _ _ is (end_effects s steps.ending) steps.unix (carry_end Stays s steps.ending)
           (answered_texts (with_world u c.state) c.answer)
       after_row process.Break a =
           after_steps b _ (staying_came u is.stays _ (staying_break ts k s (world_of u) _ is.stays))
       after_row call a =
-          after_steps b _ (staying_came u is.stays _ (staying_plain ts k s (world_of u) _ (plain_row call tt s (world_of u) a) is.stays))
+          after_steps b _ (staying_came u is.stays _
+          (staying_plain ts k s (world_of u) _ (plain_row call tt s (world_of u) a) is.stays))
 
       after_call : (call : SystemCall) (args : List ℕ) → StaysAfter b (does_call u s call args)
       after_call Indirect a = after_steps b _ (staying_quiet u ending.Trapped is.stays)
@@ -265,30 +257,24 @@ module _ (m : System) (k : ℕ) where
       by true = refl
       by false = refl
 
-  carry_woken : (b : Bool) (chan : Chan) → AllCarry HasStayed (wakes b chan)
-  carry_woken true chan = (tt, tt)
-  carry_woken false chan = tt
-
   stays_tick : HasStayed (tick_of m).unix
   stays_tick = left_carried HasStayed m.board (Show (Log (tick_entry (mode_of m))) ∷ wakes (is_due m.unix.clock) Tout) (ticked m)
-      (tt, carry_woken (is_due m.unix.clock) Tout)
+      (tt, carry_wakes HasStayed (is_due m.unix.clock) Tout)
       (subst (λ l. TextStays before l k) (sym (charged_texts (mode_of m) m.board.table.running)) (stays_same before k))
 
   stays_typed : (byte : ℕ) → HasStayed (typed_of m byte).unix
   stays_typed byte =
       let t : Typed = typed m.unix.line byte in
-      left_carried HasStayed m.board (map Show (sent 0 t.shown) ++ wakes (calls t.keyed) Keys) (record m.unix { line = t.terminal })
+      left_carried HasStayed m.board (map Show (sent 0 t.shown) ++ wakes (calls t.keyed) Keys)
+      (record m.unix { line = t.terminal })
       (carry_both HasStayed (map Show (sent 0 t.shown)) (wakes (calls t.keyed) Keys) (carry_shown HasStayed (sent 0 t.shown))
-      (carry_woken (calls t.keyed) Keys)) (stays_same before k)
+      (carry_wakes HasStayed (calls t.keyed) Keys)) (stays_same before k)
 
 -- Settling adds lines and leaves the Unix as it is.
-settled_items : (h : Happened) (test : Item → Bool) → list_any test (settled_after h).items ≡ false → list_any test h.log.items ≡ false
+settled_items : (h : Happened) (test : Item → Bool) → list_any test (settled_after h).items ≡ false
+    → list_any test h.log.items ≡ false
 settled_items h test = by (calls_for_settling h)
   where
-    first_false : (x y : Bool) → (x || y) ≡ false → x ≡ false
-    first_false true y is = absurd (cc is)
-    first_false false y is = refl
-
     by : (b : Bool) → list_any test (cond b (settles h) (stays h)).items ≡ false → list_any test h.log.items ≡ false
     by true none = first_false (list_any test h.log.items) (list_any test (settled h.log.board).items)
         (sym (list_any-append test h.log.items (settled h.log.board).items) ∙ none)

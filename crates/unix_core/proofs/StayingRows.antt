@@ -70,7 +70,8 @@ module _ (ts : List (Option Text)) (k s : ℕ) where
   staying_plain w c (nice v value d range rest) h = staying_logs (line.Nice s value) d (staying_plain w d rest h)
   staying_plain w c (wakes v chan d range rest) h = staying_logs (line.Wake chan) d (staying_plain w d rest h)
   staying_plain w c (dated v time d range rest) h = staying_logs (line.Time time) d (staying_plain (with_time w time) d rest h)
-  staying_plain w c (buries v slot d grave rest) h = staying_logs (line.Reap slot) d (staying_plain (without_process w slot) d rest h)
+  staying_plain w c (buries v slot d grave rest) h =
+      staying_logs (line.Reap slot) d (staying_plain (without_process w slot) d rest h)
 
   -- a text is left
   pub stays_without : (w : World) (j : ℕ) (sticky : Bool) → StaysIn w → StaysIn (leaves_text w s j sticky)

@@ -1,4 +1,4 @@
--- What a change of the table of texts leaves in an entry, and what is so of every Unix that effects leave that make no text there.
+-- What a change of the table of texts leaves in an entry, and what effects leave that make no text there.
 use Rattle.std.proofs.Common.{◌≡◌, ◌≢◌, ◌≤◌, ◌||◌, ◌==◌, ◌+◌, ◌-◌, ◌∙◌, ℕ, Bool, true, false, cond, List, [], ◌∷◌, length, get_or, set, fold, Option, Some, None, option_map, refl, sym, ap, subst, inl, inr}
 use Rattle.std.specs.List.{list_any}
 use Rattle.std.proofs.lemmas.Bool.{cases_eq, cases_lt, eq-eqb}
@@ -87,6 +87,10 @@ stays_left ts j k sticky = stays_changed ts j k (remaining sticky (get_or ts j N
     by (Some old) text is = stays old text (goes old sticky) (old.users - 1) is
 
 -- Effects, of which no line makes a text in an entry, leave a state of which this is so.
+pub first_false : (x y : Bool) → (x || y) ≡ false → x ≡ false
+first_false true y is = absurd (cc is)
+first_false false y is = refl
+
 second_false : (x y : Bool) → (x || y) ≡ false → y ≡ false
 second_false true y is = absurd (cc is)
 second_false false y is = is
@@ -130,14 +134,10 @@ module _ {W : Type 0} (P : W → Type 0) (k : ℕ) where
     by None block free = halts panic.Text
     by (Some j) None free = halts panic.Swap
     by (Some j) (Some at) free = subst (λ (l : Logged W). LeavesIn l after) (sym (line_is b (line.Text s j n at) es)) (λ none.
-        let others = rest j free (λ is. (let itself = eq-eqb j k (sym is) in
-        let first = first_false (j == k) (list_any (is_made_by k) (logged (applied b (line.Text s j n at)) es).items) none in
-        let never : true ≡ false = sym itself ∙ first in cc never)) in
-        left_carried P (applied b (line.Text s j n at)) es after others.0 others.1)
-      where
-        first_false : (x y : Bool) → (x || y) ≡ false → x ≡ false
-        first_false true y is = absurd (cc is)
-        first_false false y is = refl
+        let now : Board = applied b (line.Text s j n at) in
+        let not_it = first_false (j == k) (list_any (is_made_by k) (logged now es).items) none in
+        let others = rest j free (λ is. let never : true ≡ false = sym (eq-eqb j k (sym is)) ∙ not_it in cc never) in
+        left_carried P now es after others.0 others.1)
 
     pub leaves_made : Leaves b (Text s n before ∷ es) after
     unfolding log_one came
