@@ -21,7 +21,7 @@ TextStays before after k = (text : Text) → slice_index_or after k None ≡ Som
 abbrev pub AllTextsStay : System → System → Type 0
 AllTextsStay before after = (k : ℕ) → TextStays before.unix.texts after.unix.texts k
 
--- or each but one that a line of the log makes: in its entry a process that executes a program makes a text anew.
+-- or each but one that a line of the event's log makes: a process that executes a program has made a text in that entry.
 abbrev pub is_made_by : ℕ → Item → Bool
 is_made_by k (Log (line.Text s text clicks block)) = text == k
 is_made_by k item = false
