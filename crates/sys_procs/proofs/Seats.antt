@@ -1,5 +1,5 @@
 -- An image goes to a place, in core or in the swap area: the row of its slot, the board, and what belongs together then.
-use Rattle.std.proofs.Common.{◌≡◌, ◌∙◌, ℕ, ◌<◌, List, length, map, Option, Some, None, refl, sym, ap, subst}
+use Rattle.std.proofs.Common.{◌≡◌, ◌∙◌, ℕ, ◌<◌, List, length, map, Option, Some, refl, sym, ap, subst}
 use Rattle.std.proofs.lemmas.List.{get_or-set_same, get_or-set_other, length-set}
 use Rattle.v6_base.specs.declared.entry.Place.{Place}
 use Rattle.v6_base.specs.declared.entry.Place.TheVariants.{Core, Swap}
@@ -9,7 +9,7 @@ use Rattle.u_area.specs.declared.area.UArea.{UArea}
 use Rattle.pick_rules.specs.declared.row.TableRow.{TableRow}
 use Rattle.pick_rules.specs.declared.table.Table.{Table}
 use Rattle.pick_rules.specs.Table.{row_at, with_row, empty_row, IsTable}
-use Rattle.pick_rules.specs.Apply.{applied, in_table, change_row}
+use Rattle.pick_rules.specs.Apply.{applied, change_row}
 use Rattle.proc_tab.specs.declared.member.Member.{Member}
 use Rattle.proc_tab.specs.Processes.{member_at}
 use Rattle.image_keep.specs.Kept.{Held, Alive, Kept, Shared, keeping, with_keeping, clicks_of, area_in}
@@ -20,7 +20,6 @@ use Rattle.sys_procs.specs.Seats.{placed_row, with_place}
 use Rattle.sys_procs.specs.Agree.{Agrees, Agree}
 use Rattle.sys_procs.specs.Handed.{IsAlive, board}
 use Rattle.swap_sched.specs.Match.{text_place}
-use Rattle.swap_sched.proofs.Boards.{untimed, untimed_runout}
 use Rattle.sys_procs.proofs.Agreement.{agree_with}
 use Rattle.sys_procs.proofs.Alive.{is_here}
 use Rattle.sys_procs.proofs.PlacingRows.{sized_row, untimed_placed, place_text, clock_told, agree_told, row_low, image_now}

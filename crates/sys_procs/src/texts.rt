@@ -5,7 +5,7 @@ ghost use Rattle.fs_codec.specs.declared.modes.TheConstants.{ISVTX};
 ghost use Rattle.fs_nodes.specs.FileSystem.{SameRest};
 ghost use Rattle.pick_rules.specs.Apply.{change_row};
 ghost use Rattle.image_keep.specs.Kept.{Shared, text_of, shared};
-ghost use Rattle.image_keep.specs.SharedTexts.{AreShared, row_in, found_text};
+ghost use Rattle.image_keep.specs.SharedTexts.{row_in, found_text};
 ghost use Rattle.sys_procs.specs.Tests.{node_in};
 ghost use Rattle.sys_procs.specs.TextTable.{is_text_of, entry_of};
 ghost use Rattle.sys_procs.specs.Texts.{free_entry, xfree, xalloc_by};
@@ -17,7 +17,7 @@ ghost use Rattle.sys_procs.specs.Done.{HasLeft};
 
 use crate::procs::Procs;
 use crate::program::Program;
-use crate::seen::see;
+use crate::seen::{see, see_texts};
 use fs_codec::ISVTX;
 use fs_nodes::Nodes;
 use fs_tree::Tree;
@@ -40,13 +40,6 @@ fn give_text(table: &mut Table, s: Slot, text: Option<TextId>)
     ensures { table.new ≡ change_row table.old s (λ row. record row { text = text }) }
 {
     table.rows[s as usize].text = text;
-}
-
-/// Sees what holds of the texts that are kept.
-fn see_texts(images: &Images)
-    ensures shared { AreShared images.now }
-{
-    let _text = images.find_text(0);
 }
 
 /// The inode of the file of a text.
