@@ -30,7 +30,8 @@ at_first a x y all = ap (λ t. cond t x y) all
 
 -- the answer of a round, after its tests
 abbrev pub after_tests : ℕ → WriteCall → Writing → PipeWrite
-after_tests more c w = unless_error (appended w (append_of c w)) (append_of c w).error (rounds more c (appended w (append_of c w)))
+after_tests more c w =
+    unless_error (appended w (append_of c w)) (append_of c w).error (rounds more c (appended w (append_of c w)))
 
 some_left : (w : Writing) → 0 < w.left → (w.left == 0) ≡ false
 some_left w some = ne_eqb w.left 0 (λ e. omega (arith, some, e))
@@ -39,7 +40,8 @@ done_in : (f : ℕ) (c : WriteCall) (w : Writing) → w.left ≡ 0 → rounds (s
 done_in f c w none = at_first (w.left == 0) _ _ (eq-eqb w.left 0 none)
 
 broken_in : (f : ℕ) (c : WriteCall) (w : Writing) → 0 < w.left → c.ends < 2 → rounds (suc f) c w ≡ ends_as w Broken
-broken_in f c w some few = past (w.left == 0) _ _ (some_left w some) ∙ at_first (nat_lt c.ends 2) _ _ (lt-ltb c.ends 2 few)
+broken_in f c w some few =
+    past (w.left == 0) _ _ (some_left w some) ∙ at_first (nat_lt c.ends 2) _ _ (lt-ltb c.ends 2 few)
 
 waits_in : (f : ℕ) (c : WriteCall) (w : Writing) → 0 < w.left → 2 ≤ c.ends → PIPSIZ ≤ size_in w → rounds (suc f) c w ≡ waits w
 waits_in f c w some both full =
@@ -54,11 +56,13 @@ broken_at : (f : ℕ) (c : WriteCall) (w : Writing) → 0 < w.left → c.ends < 
 broken_at zero c w some few more = absurd (omega (arith, more))
 broken_at (suc f) c w some few more = broken_in f c w some few
 
-waits_at : (f : ℕ) (c : WriteCall) (w : Writing) → 0 < w.left → 2 ≤ c.ends → PIPSIZ ≤ size_in w → w.left < f → rounds f c w ≡ waits w
+waits_at : (f : ℕ) (c : WriteCall) (w : Writing) → 0 < w.left → 2 ≤ c.ends → PIPSIZ ≤ size_in w → w.left < f
+    → rounds f c w ≡ waits w
 waits_at zero c w some both full more = absurd (omega (arith, more))
 waits_at (suc f) c w some both full more = waits_in f c w some both full
 
-appends_at : (f : ℕ) (c : WriteCall) (w : Writing) → 0 < w.left → 2 ≤ c.ends → size_in w < PIPSIZ → rounds (suc f) c w ≡ after_tests f c w
+appends_at : (f : ℕ) (c : WriteCall) (w : Writing) → 0 < w.left → 2 ≤ c.ends → size_in w < PIPSIZ
+    → rounds (suc f) c w ≡ after_tests f c w
 appends_at f c w some both room =
     past (w.left == 0) _ _ (some_left w some) ∙ past (nat_lt c.ends 2) _ _ (le-ltb c.ends 2 both)
     ∙ past (nat_le PIPSIZ (size_in w)) _ _ (lt-leb PIPSIZ (size_in w) room)
@@ -68,11 +72,13 @@ pub comes_done : (c : WriteCall) (w : Writing) (all : PipeWrite) → ComesTo c w
 comes_done c w all k none = sym k.same ∙ done_at k.fuel c w none k.enough
 
 -- an end is gone
-pub comes_broken : (c : WriteCall) (w : Writing) (all : PipeWrite) → ComesTo c w all → 0 < w.left → c.ends < 2 → all ≡ ends_as w Broken
+pub comes_broken : (c : WriteCall) (w : Writing) (all : PipeWrite) → ComesTo c w all → 0 < w.left → c.ends < 2
+    → all ≡ ends_as w Broken
 comes_broken c w all k some few = sym k.same ∙ broken_at k.fuel c w some few k.enough
 
 -- the pipe is full
-pub comes_waits : (c : WriteCall) (w : Writing) (all : PipeWrite) → ComesTo c w all → 0 < w.left → 2 ≤ c.ends → PIPSIZ ≤ size_in w → all ≡ waits w
+pub comes_waits : (c : WriteCall) (w : Writing) (all : PipeWrite) → ComesTo c w all → 0 < w.left → 2 ≤ c.ends
+    → PIPSIZ ≤ size_in w → all ≡ waits w
 comes_waits c w all k some both full = sym k.same ∙ waits_at k.fuel c w some both full k.enough
 
 -- what is appended is a byte at least
@@ -80,33 +86,38 @@ less_left : (w : Writing) (f : ℕ) → 0 < w.left → size_in w < PIPSIZ → w.
 less_left w f some room more = omega (arith, some, room, more)
 
 -- an append has an error
-error_by : (f : ℕ) (c : WriteCall) (w : Writing) (e : Errno) → w.left < f → 0 < w.left → 2 ≤ c.ends → size_in w < PIPSIZ → (append_of c w).error ≡ Some e
-    → rounds f c w ≡ ends_as (appended w (append_of c w)) (Error e)
+error_by : (f : ℕ) (c : WriteCall) (w : Writing) (e : Errno) → w.left < f → 0 < w.left → 2 ≤ c.ends → size_in w < PIPSIZ
+    → (append_of c w).error ≡ Some e → rounds f c w ≡ ends_as (appended w (append_of c w)) (Error e)
 error_by zero c w e more some both room is = absurd (omega (arith, more))
 error_by (suc f) c w e more some both room is =
-    appends_at f c w some both room ∙ ap (λ o. unless_error (appended w (append_of c w)) o (rounds f c (appended w (append_of c w)))) is
+    let next : Writing = appended w (append_of c w) in
+    appends_at f c w some both room ∙ ap (λ o. unless_error next o (rounds f c next)) is
 
-pub comes_error : (c : WriteCall) (w : Writing) (all : PipeWrite) (e : Errno) → ComesTo c w all → 0 < w.left → 2 ≤ c.ends → size_in w < PIPSIZ → (append_of c w).error ≡ Some e
-    → all ≡ ends_as (appended w (append_of c w)) (Error e)
+pub comes_error : (c : WriteCall) (w : Writing) (all : PipeWrite) (e : Errno) → ComesTo c w all → 0 < w.left → 2 ≤ c.ends
+    → size_in w < PIPSIZ → (append_of c w).error ≡ Some e → all ≡ ends_as (appended w (append_of c w)) (Error e)
 comes_error c w all e k some both room is = sym k.same ∙ error_by k.fuel c w e k.enough some both room is
 
 -- an append has none, and the tests come once more
-goes_by : (f : ℕ) (c : WriteCall) (w : Writing) (all : PipeWrite) → w.left < f → rounds f c w ≡ all → 0 < w.left → 2 ≤ c.ends → size_in w < PIPSIZ → (append_of c w).error ≡ None
-    → ComesTo c (appended w (append_of c w)) all
+goes_by : (f : ℕ) (c : WriteCall) (w : Writing) (all : PipeWrite) → w.left < f → rounds f c w ≡ all → 0 < w.left
+    → 2 ≤ c.ends → size_in w < PIPSIZ → (append_of c w).error ≡ None → ComesTo c (appended w (append_of c w)) all
 goes_by zero c w all more same some both room is = absurd (omega (arith, more))
-goes_by (suc f) c w all more same some both room is = record {
-  fuel = f;
-  enough = less_left w f some room more;
-  same = sym (ap (λ o. unless_error (appended w (append_of c w)) o (rounds f c (appended w (append_of c w)))) is) ∙ sym (appends_at f c w some both room) ∙ same;
-}
+goes_by (suc f) c w all more same some both room is =
+    let next : Writing = appended w (append_of c w) in
+    record {
+      fuel = f;
+      enough = less_left w f some room more;
+      same = sym (ap (λ o. unless_error next o (rounds f c next)) is) ∙ sym (appends_at f c w some both room) ∙ same;
+    }
 
-pub comes_on : (c : WriteCall) (w : Writing) (all : PipeWrite) → ComesTo c w all → 0 < w.left → 2 ≤ c.ends → size_in w < PIPSIZ → (append_of c w).error ≡ None
-    → ComesTo c (appended w (append_of c w)) all
+pub comes_on : (c : WriteCall) (w : Writing) (all : PipeWrite) → ComesTo c w all → 0 < w.left → 2 ≤ c.ends
+    → size_in w < PIPSIZ → (append_of c w).error ≡ None → ComesTo c (appended w (append_of c w)) all
 comes_on c w all k some both room is = goes_by k.fuel c w all k.enough k.same some both room is
 
 -- what a test of the ends says, where neither the pipe nor its references have changed
-pub ends_tell : (xs ys : List ℕ) (i j : ℕ) (b t : Bool) → xs ≡ ys → i ≡ j → b ≡ nat_lt (slice_index xs i) 2 → b ≡ t → nat_lt (slice_index ys j) 2 ≡ t
-ends_tell xs ys i j b t e f h k = sym (ap (λ zs. nat_lt (slice_index zs j) 2) e) ∙ sym (ap (λ n. nat_lt (slice_index xs n) 2) f) ∙ sym h ∙ k
+pub ends_tell : (xs ys : List ℕ) (i j : ℕ) (b t : Bool) → xs ≡ ys → i ≡ j → b ≡ nat_lt (slice_index xs i) 2 → b ≡ t
+    → nat_lt (slice_index ys j) 2 ≡ t
+ends_tell xs ys i j b t e f h k =
+    sym (ap (λ zs. nat_lt (slice_index zs j) 2) e) ∙ sym (ap (λ n. nat_lt (slice_index xs n) 2) f) ∙ sym h ∙ k
 
 pub same_writing : (w v : Writing) → w.store ≡ v.store → w.pipe ≡ v.pipe → w.at ≡ v.at → w.left ≡ v.left → w ≡ v
 same_writing w v store pipe at left =
@@ -116,11 +127,13 @@ same_writing w v store pipe at left =
     ∙ ap (λ (x : ℕ). let r : Writing = record { store = v.store; pipe = v.pipe; at = v.at; left = x } in r) left
 
 -- the next byte comes from behind what was appended
-pub wraps : (at count left n : ℕ) → left ≤ count → n ≤ left → (at + (count - (left - n))) % 65536 ≡ ((at + (count - left)) % 65536 + n) % 65536
+pub wraps : (at count left n : ℕ) → left ≤ count → n ≤ left
+    → (at + (count - (left - n))) % 65536 ≡ ((at + (count - left)) % 65536 + n) % 65536
 wraps at count left n few less = omega (arith, few, less)
 
 -- What is so of each way in which a round ends is so of what a write comes to.
-by_error : (P : PipeWrite → Type 0) (w : Writing) (o : Option Errno) (on : PipeWrite) → ((e : Errno) → P (ends_as w (Error e))) → P on → P (unless_error w o on)
+by_error : (P : PipeWrite → Type 0) (w : Writing) (o : Option Errno) (on : PipeWrite) → ((e : Errno) → P (ends_as w (Error e)))
+    → P on → P (unless_error w o on)
 by_error P w None on error next = next
 by_error P w (Some e) on error next = error e
 
@@ -138,7 +151,10 @@ by_rounds c P all few full error (suc f) w = elim (cases_eq w.left 0) [
       elim (cases_lt c.ends 2) [
         | inl less ↦ subst P (sym (broken_in f c w some less)) (few w less)
         | inr both ↦ elim (cases_lt (size_in w) PIPSIZ) [
-          | inl room ↦ subst P (sym (appends_at f c w some both room)) (by_error P (appended w (append_of c w)) (append_of c w).error _ (λ e. error (appended w (append_of c w)) e) (by_rounds c P all few full error f (appended w (append_of c w))))
+          | inl room ↦
+              let next : Writing = appended w (append_of c w) in
+              subst P (sym (appends_at f c w some both room))
+              (by_error P next (append_of c w).error _ (λ e. error next e) (by_rounds c P all few full error f next))
           | inr above ↦ subst P (sym (waits_in f c w some both above)) (full w some both above)
         ]
       ]
@@ -146,7 +162,9 @@ by_rounds c P all few full error (suc f) w = elim (cases_eq w.left 0) [
 
 -- Broken says that bytes were left and an end was gone.
 broken_says : (c : WriteCall) (w : Writing) (f : ℕ) → (rounds f c w).answer ≡ Broken → c.ends < 2
-broken_says c w f = by_rounds c (λ r. r.answer ≡ Broken → c.ends < 2) (λ v is. absurd (cc)) (λ v few is. few) (λ v some both full is. absurd (cc)) (λ v e is. absurd (cc)) f w
+broken_says c w f =
+    by_rounds c (λ r. r.answer ≡ Broken → c.ends < 2) (λ v is. absurd (cc)) (λ v few is. few)
+    (λ v some both full is. absurd (cc)) (λ v e is. absurd (cc)) f w
 
 some_written : (c : WriteCall) (w : Writing) (f : ℕ) → (rounds (suc f) c w).answer ≡ Broken → 0 < w.left
 some_written c w f is = elim (cases_eq w.left 0) [
