@@ -1,5 +1,4 @@
-//! Signals as one process gets them, by hand from signal(II), and from psignal, issig, psig and sendsig of Lions' Commentary,
-//! `sig.c` and `machdep.c`.
+//! Signals as one process gets them, by hand from signal(II), and from psignal, issig and psig of Lions' Commentary, `sig.c`.
 mod delivered;
 mod sent;
 
