@@ -177,9 +177,10 @@ pub broken_where : (store : Store) (ends : ℕ) (p : Pipe) (image : Image) (at c
 unfolding writes
 broken_where store ends p image at count time =
     let c : WriteCall = write_call ends image count time in
-    let w : Writing = record { store = store; pipe = p; at = at; left = count } in
-    (λ is. (some_written c w count is, broken_says c w (suc count) is),
-    λ h. ap (λ (r : PipeWrite). r.answer) (broken_in count c w h.0 h.1))
+    let w : Writing = record { store = store; pipe = p; at = at; left = count } in (
+      λ is. (some_written c w count is, broken_says c w (suc count) is),
+      λ h. ap (λ (r : PipeWrite). r.answer) (broken_in count c w h.0 h.1),
+    )
 
 -- Wait says that bytes are left, both ends are there and the pipe is full, and that the writer counts as waiting.
 pub record IsFull (ends left : ℕ) (r : PipeWrite) : Type 0 where
@@ -195,6 +196,6 @@ waits_where store ends p image at count time left =
     by_rounds (write_call ends image count time) (λ r. r.answer ≡ Wait left → IsFull ends left r)
     (λ v is. absurd (cc)) (λ v few is. absurd (cc))
     (λ v some both full is.
-      let same : v.left ≡ left = cc in
-      record { some = omega (arith, same, some); both = both; full = full; marked = refl })
+    let same : v.left ≡ left = cc in
+    record { some = omega (arith, same, some); both = both; full = full; marked = refl })
     (λ v e is. absurd (cc)) (suc count) (record { store = store; pipe = p; at = at; left = count })

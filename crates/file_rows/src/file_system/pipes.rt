@@ -189,7 +189,13 @@ static SCENES: [Scene; 13] = [
         disk: &[],
         steps: &[
             (Write(0, 1000), Done(1000), 1000, 0, Nobody),
-            (Read(END - 600, 1000), Error(Errno::EFAULT), 1000, 512, Nobody),
+            (
+                Read(END - 600, 1000),
+                Error(Errno::EFAULT),
+                1000,
+                512,
+                Nobody,
+            ),
             (Read(0, 1000), Done(488), 1000, 1000, Nobody),
         ],
     },
@@ -364,7 +370,11 @@ fn passes(p: &mut Plumbing) -> Option<()> {
         }
         done = done.wrapping_add(reads_on(p, done)?);
     }
-    if left == 0 && done == 10_000 { Some(()) } else { None }
+    if left == 0 && done == 10_000 {
+        Some(())
+    } else {
+        None
+    }
 }
 
 fn arrive(alloc: Global) -> Result<bool, AllocError> {

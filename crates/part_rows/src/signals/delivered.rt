@@ -37,7 +37,7 @@ fn has(space: &Whole, words: &[(u16, u16)]) -> bool {
 /// The signal, its routine, R6 and the codes; what the process has asked for after it; and what was pushed.
 type Caught = (u8, u16, u16, u8, u16, Words);
 
-static CAUGHT: [Caught; 14] = [
+static CAUGHT: [Caught; 15] = [
     // PS is 0170000 with the codes, and stands above the PC. The next one is not caught.
     (2, 0o100, 0o160, 5, 0, &[(0o156, 0o170005), (0o154, 0o42)]),
     (2, 0o100, 0o160, 0, 0, &[(0o156, 0o170000), (0o154, 0o42)]),
@@ -45,9 +45,25 @@ static CAUGHT: [Caught; 14] = [
     (19, 0o177776, 4, 8, 0, &[(2, 0o170010), (0, 0o42)]),
     // An illegal instruction and a trace are caught again. Their neighbours are not.
     (3, 0o100, 0o160, 5, 0, &[(0o156, 0o170005), (0o154, 0o42)]),
-    (4, 0o100, 0o160, 5, 0o100, &[(0o156, 0o170005), (0o154, 0o42)]),
-    (5, 0o100, 0o160, 5, 0o100, &[(0o156, 0o170005), (0o154, 0o42)]),
+    (
+        4,
+        0o100,
+        0o160,
+        5,
+        0o100,
+        &[(0o156, 0o170005), (0o154, 0o42)],
+    ),
+    (
+        5,
+        0o100,
+        0o160,
+        5,
+        0o100,
+        &[(0o156, 0o170005), (0o154, 0o42)],
+    ),
     (6, 0o100, 0o160, 5, 0, &[(0o156, 0o170005), (0o154, 0o42)]),
+    // Here a kill is as any other: signal(II) alone keeps its handler at the default.
+    (9, 0o100, 0o160, 5, 0, &[(0o156, 0o170005), (0o154, 0o42)]),
     // There is no memory from 0200 on, and each word by itself is left out where it can't be written.
     (2, 0o100, 0o204, 5, 0, &[]),
     (2, 0o100, 0o202, 5, 0, &[(0o176, 0o42)]),
@@ -83,7 +99,10 @@ fn is_caught(alloc: Global, caught: &Caught) -> Result<bool, AllocError> {
 #[test]
 fn a_routine_goes_on_below_what_was_pushed(rt: HostRuntime) {
     for (k, caught) in CAUGHT.iter().enumerate() {
-        assert!(rt; is_caught(rt.alloc(), caught).expect(&rt, "memory"), "row {k}");
+        assert!(rt;
+            is_caught(rt.alloc(), caught).expect(&rt, "memory"),
+            "row {k}"
+        );
     }
 }
 

@@ -38,7 +38,7 @@ loop-left-init g c =
     let ends : ℕ = ends_of c.args.n.now.references c.args.p.now in
     let w : WriteCall = write_call ends (g.S.Space.image c.args.space.now) c.args.count c.args.time in
     let from : ℕ → PipeWrite = λ a.
-      rounds (suc c.args.count) w (record { store = c.args.n.now.store; pipe = c.args.p.now; at = a; left = c.args.count }) in
+    rounds (suc c.args.count) w (record { store = c.args.n.now.store; pipe = c.args.p.now; at = a; left = c.args.count }) in
     record {
       comes = record {
         fuel = suc c.args.count;
@@ -59,7 +59,7 @@ broken g c is =
     let held = c.loop-left.invariant in
     comes_broken _ _ _ held.comes (omega (arith, some))
     (ltb-true _ 2 (ends_tell c.loop-left.n.references _ c.loop-left.p.ino _ c.is_broken.result true held.references held.ino
-        c.is_broken.ensures is))
+    c.is_broken.ensures is))
 
 pub returns-then-is_broken-clause-store : goal.returns-then-is_broken-clause-store
 returns-then-is_broken-clause-store g c =
@@ -76,7 +76,7 @@ both : (g : Over) (c : After-size_of-size g) → 2 ≤ ends_of c.args.n.now.refe
 both g c =
     let held = c.loop-left.invariant in
     ltb-false _ 2 (ends_tell c.loop-left.n.references _ c.loop-left.p.ino _ c.is_broken.result false held.references held.ino
-        c.is_broken.ensures c.if-is_broken.false)
+    c.is_broken.ensures c.if-is_broken.false)
 
 -- the pipe is full
 full : (g : Over) (c : After-size_of-size g) → PIPSIZ ≤ c.size_of-size.result → all g (sized g c) ≡ waits (begun g (sized g c))

@@ -22,7 +22,7 @@ returns-clause-waits g c = λ left is.
     let w : PipeWrite = writes c.args.n.now.store ends c.args.p.now image c.args.at c.args.count c.args.time in
     let e = c.repeat_tests.ensures in
     let Q : Store → Pipe → Type 0 = λ s p.
-      (0 < left) × (2 ≤ ends) × (PIPSIZ ≤ (pipe_file s p).size) × (p.writer_waits ≡ true) in
+    (0 < left) × (2 ≤ ends) × (PIPSIZ ≤ (pipe_file s p).size) × (p.writer_waits ≡ true) in
     let of_store : Store → Type 0 = λ s. Q s c.repeat_tests.new.p in
     let of_pipe : Pipe → Type 0 = λ p. Q w.store p in
     let full = waits_where c.args.n.now.store ends c.args.p.now image c.args.at c.args.count c.args.time left (sym e.answer ∙ is) in
