@@ -19,6 +19,7 @@ mod numbers;
 pub(crate) mod opened;
 mod permission;
 mod pieces;
+mod pipes;
 mod shared;
 mod touch;
 mod truncate;

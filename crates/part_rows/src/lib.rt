@@ -26,6 +26,8 @@ mod passes;
 #[cfg(test)]
 mod scripts;
 #[cfg(test)]
+mod signals;
+#[cfg(test)]
 mod tables;
 #[cfg(test)]
 mod words;
