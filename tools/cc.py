@@ -21,13 +21,15 @@ def compile_all(options):
             program.add(name)
         put_out(options.out, "".join(f"{source.rstrip()}\n" for _, source in program.sources).encode("latin-1"))
     else:
-        put_out(options.out, program_of(options.sources, options.compiler, words, options.symbols)[0], 0o755)
+        data, _ = program_of(options.sources, options.compiler, words, options.symbols, options.shared)
+        put_out(options.out, data, 0o755)
 
 
 def main(words):
     parser = argparse.ArgumentParser(prog="cc.py", description="A compiler for the PDP-11/40: docs/tools/c.md")
     parser.add_argument("sources", metavar="FILE", nargs="+", help="a source in C, NAME.c, or in assembly, NAME.s")
     parser.add_argument("-o", dest="out", default="a.out", help="the program that is made (a.out)")
+    parser.add_argument("-n", dest="shared", action="store_true", help="with a text that is shared: magic 0410")
     parser.add_argument("-S", dest="assembly", action="store_true", help="make assembly of the files, and no program")
     parser.add_argument("-s", dest="symbols", action="store_true", help="with a table of symbols")
     parser.add_argument("-I", dest="folders", metavar="FOLDER", action="append", default=[], help="where headers are, too")

@@ -95,13 +95,13 @@ def told(errors):
     return lines + sorted({f"{name[1] or name[2]}: neither in the program nor in the library" for name in names if name})
 
 
-def program_of(names, folder=HOME, words=(), symbols=False):
+def program_of(names, folder=HOME, words=(), symbols=False, shared=False):
     """The program of these sources, and the assembler that has made it."""
     program = Program(Compiler(folder, words))
     for name in names:
         program.add(name)
     assembler = Assembler()
-    data = assembler.assemble(program.whole(), symbols=symbols)
+    data = assembler.assemble(program.whole(), shared, symbols)
     if data is None:
         raise CompileError("\n".join(told(assembler.errors)))
     return data, assembler

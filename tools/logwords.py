@@ -9,8 +9,12 @@ PANICS = {"swap": "there is no room in the swap area", "zombie": "there is no bl
 FEW = 12  # processes that a line names
 
 
+def clicks(count):
+    return f"{count} click" + "s" * (count != 1)
+
+
 class Teller:
-    """Says what a line tells, by the table before it. A program is named where no other of the disk has an image as large."""
+    """Says what a line tells, by the table before it. A program is named where it alone of the disk has image and text as large."""
 
     def __init__(self, table, programs=None):
         self.table, self.programs = table, programs or {}
@@ -78,27 +82,35 @@ class Teller:
 
     def tell_size(self, entry):
         image = f"the image of {self.who(entry['S'])} becomes {entry['N']} clicks"
-        return image + (f", {self.place(entry)}" if "place" in entry else ", where it stands")
+        return image + (f", {self.place(entry)}{self.without(entry)}" if "place" in entry else ", where it stands")
+
+    def without(self, entry):
+        """That a text leaves core with an image that goes to the swap area."""
+        text = self.table.leaves_core(self.table.row(entry["S"])) if entry["place"].where == "swap" else None
+        return "" if text is None else f"; text {text} leaves core"
 
     def tell_fork(self, entry):
         return (f"{self.who(entry['S'])} makes process {self.table.next_number()} in slot {entry['T']}, "
                 f"{self.place(entry)}")
 
     def tell_drop(self, entry):
-        stays = entry["kind"] == "sticky" and self.table.text(entry["K"]).users == 1
-        return f"{self.who(entry['S'])} leaves text {entry['K']}" + (", which stays" if stays else "")
+        row, is_last = self.table.row(entry["S"]), self.table.text(entry["K"]).users == 1
+        left = "which leaves core" if self.table.leaves_core(row) == entry["K"] else ""
+        if is_last:
+            left = "which stays" if entry["kind"] == "sticky" else "which goes"
+        return ", ".join(filter(None, [f"{self.who(entry['S'])} leaves text {entry['K']}", left]))
 
     def tell_bare(self, entry):
         return f"{self.who(entry['S'])} gives back its image for a new program"
 
     def tell_text(self, entry):
-        return f"{self.who(entry['S'])} makes text {entry['K']} of {entry['N']} clicks, {self.place(entry)}"
+        return f"{self.who(entry['S'])} makes text {entry['K']} of {clicks(entry['N'])}, {self.place(entry)}"
 
     def tell_share(self, entry):
         return f"{self.who(entry['S'])} takes text {entry['K']}"
 
     def tell_image(self, entry):
-        name = self.programs.get(entry["N"], [])
+        name = self.programs.get(self.table.program(self.table.row(entry["S"]), entry["N"]), [])
         what = f" of {name[0]}" if len(name) == 1 else ""
         return f"{self.who(entry['S'])} has its new image{what}, of {entry['N']} clicks, {self.place(entry)}"
 
@@ -108,7 +120,7 @@ class Teller:
         return f"{self.who(entry['S'])} comes into core at click {entry['C']}" + (f", text {text} first" if first else "")
 
     def tell_out(self, entry):
-        return f"{self.who(entry['S'])} goes out of core, to block {entry['B']}"
+        return f"{self.who(entry['S'])} goes out of core, to block {entry['B']}{self.without(entry)}"
 
     def tell_exit(self, entry):
         return f"{self.who(entry['S'])} ends; block {entry['B']} keeps what its parent may ask for"

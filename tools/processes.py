@@ -2,7 +2,7 @@
 from dataclasses import dataclass
 
 from assembler import HEADER
-from pdp11 import MAGIC
+from pdp11 import MAGIC, SHARED
 from volume import Volume
 
 # What a machine comes to when the slots of a line are done.
@@ -18,12 +18,14 @@ DOES = {"keys": "reads the terminal", "tout": "sleeps for a time", "runs": "runs
 
 
 def programs_of(disk):
-    """The paths of the programs of magic 0407 on a disk, by the clicks of the images that exec(II) makes of them."""
+    """The paths of the programs on a disk, by the clicks of the image and of the shared text that exec(II) makes of them."""
     volume, found = Volume(disk), {}
     for path, inode in volume.files():
         header = volume.read(inode)[: HEADER.size]
-        if len(header) == HEADER.size and HEADER.unpack(header)[0] == MAGIC:
-            clicks = U_AREA + STACK + -(-sum(HEADER.unpack(header)[1:4]) // CLICK)
+        magic, *sizes = HEADER.unpack(header)[:4] if len(header) == HEADER.size else (None,)
+        if magic in (MAGIC, SHARED):
+            text = sizes.pop(0) if magic == SHARED else 0
+            clicks = U_AREA + STACK + -(-sum(sizes) // CLICK), -(-text // CLICK)
             found.setdefault(clicks, []).append(path)
     return {clicks: sorted(names) for clicks, names in found.items()}
 
@@ -33,7 +35,7 @@ class Process:
     number: int
     parent: int
     does: str = "runs"
-    image: int = 0  # the clicks of the image that exec(II) made of its program
+    program: tuple = (0, 0)  # the clicks of the image and of the text that exec(II) made of its program
 
 
 class Processes:
@@ -41,6 +43,7 @@ class Processes:
 
     def __init__(self, log):
         self.slots, self.last, self.idle = {1: Process(1, 0)}, 1, False
+        self.texts, self.taken = {}, 0  # the clicks of each text, and of that of the program which is executed next
         self.woken = set()  # who was woken by keys, and has neither read the terminal again nor ended
         self.answered = []  # for each time that keys woke somebody: whether the machine was idle
         for line in log.split(b"\n"):
@@ -81,11 +84,18 @@ class Processes:
             if self.last not in taken:
                 break
         parent = self.slots[int(words[1])]
-        self.slots[int(words[2])] = Process(self.last, parent.number, image=parent.image)
+        self.slots[int(words[2])] = Process(self.last, parent.number, program=parent.program)
+
+    def text(self, words):
+        self.taken = self.texts[words[2]] = int(words[3])
+
+    def share(self, words):
+        self.taken = self.texts.get(words[2], 0)
 
     def image(self, words):
         if int(words[1]) in self.slots:
-            self.slots[int(words[1])].image = int(words[2])
+            self.slots[int(words[1])].program = int(words[2]), self.taken
+        self.taken = 0
 
     def exit(self, words):
         gone = self.slots[int(words[1])]
@@ -107,16 +117,17 @@ class Processes:
         return SLEEPS if self.sleepers(TIME) else OVER
 
     def told(self, programs=None):
-        """What each process does, in words, and the programs whose image is as large as its own: see programs_of."""
+        """What each process does, in words, and the programs whose image and text are as large as its own: see programs_of."""
         lines = []
         for _, one in sorted(self.slots.items()):
             does = DOES.get(one.does) or "waits for a child"
-            if one.image in (programs or {}) and one.does != "ended":
-                does += f" ({' or '.join(programs[one.image])})"
+            if one.program in (programs or {}) and one.does != "ended":
+                does += f" ({' or '.join(programs[one.program])})"
             lines.append(f"process {one.number}, a child of {one.parent}, {does}" if one.parent else
                          f"process {one.number} {does}")
         return lines
 
 
 LINES = {b"go": Processes.choice, b"idle": Processes.choice, b"sleep": Processes.sleep, b"wake": Processes.wake,
-         b"signal": Processes.signal, b"image": Processes.image, b"fork": Processes.fork, b"exit": Processes.exit, b"reap": Processes.reap}
+         b"signal": Processes.signal, b"text": Processes.text, b"share": Processes.share, b"image": Processes.image,
+         b"fork": Processes.fork, b"exit": Processes.exit, b"reap": Processes.reap}

@@ -86,7 +86,7 @@ class Row:
     channel: str = ""
     priority: int = 0
     text: int = None
-    program: int = 0  # the clicks of the image that exec(II) made of its program
+    program: tuple = (0, 0)  # the clicks of the image and of the text that exec(II) made of its program
     time: int = 0
 
     def is_loaded(self):
@@ -145,6 +145,15 @@ class Table:
         if place not in self.texts:
             raise LogFault(self.number, f"text {place} isn't in use there")
         return self.texts[place]
+
+    def program(self, row, clicks):
+        """What a program of so many clicks is known by: these, and those of the text that its process has."""
+        return clicks, 0 if row.text is None else self.text(row.text).clicks
+
+    def leaves_core(self, row):
+        """The text that leaves core with an image, or None."""
+        text = None if row.text is None or row.place is None or row.place.where != "at" else self.text(row.text)
+        return row.text if text and text.loaded == 1 else None
 
     def take_boot(self, entry):
         self.core, self.time = entry["C"], entry["TIME"]
@@ -278,7 +287,7 @@ class Table:
 
     def take_image(self, entry):
         row = self.row(entry["S"])
-        row.size = row.program = entry["N"]
+        row.size, row.program = entry["N"], self.program(row, entry["N"])
         self.move(row, entry["place"])
 
     def take_in(self, entry):

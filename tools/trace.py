@@ -12,7 +12,7 @@ from dataclasses import dataclass
 sys.path.insert(0, os.path.dirname(os.path.abspath(__file__)))
 from callwords import Call, answer, call_at, kept, name_of
 from files import guarded, read_bytes
-from logwords import CHANNELS
+from logwords import CHANNELS, clicks
 from moments import WORKERS, MomentError, Run, is_turn
 from program import CORE, V6, ProgramError, add_version
 from proctable import LogFault, Table
@@ -57,6 +57,12 @@ def channel(name, own):
     if kind == "wait":
         return "for a child" if number == own else f"for a child in slot {number}"
     return CHANNELS.get(kind) or f"for {'bytes' if kind == 'read' else 'room'} in the pipe of inode {number}"
+
+
+def shared(turn):
+    """What an exec does with a text that is shared: makes it, or takes the one that is there."""
+    made, taken = turn.made("text"), turn.made("share")
+    return f", makes text {made[2]} of {clicks(int(made[3]))}" if made else f", takes text {taken[2]}" if taken else ""
 
 
 class Tracer:
@@ -150,7 +156,7 @@ class Tracer:
             return who + (f"a larger stack: the image has {grown[2]} clicks" if grown else "a fault")
         if call.name == "exec" and turn.made("image"):
             self.names[slot] = name_of(old)
-        return f"{who}{call.told()} = {answer(call, new)}{self.waited(turn, call)}"
+        return f"{who}{call.told()} = {answer(call, new)}{self.waited(turn, call)}{shared(turn)}"
 
     def sleeps(self, turn, call, who):
         slot, what = turn.place(), channel(turn.words[3], turn.words[1])

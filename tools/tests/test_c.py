@@ -65,6 +65,15 @@ class WithoutCompiler(Program):
         program = self.assembled(MAIN + "\tmov\t4(sp),r1\n\tmov\t2(r1),r1\n\tmovb\t(r1),r0\n\tadd\t2(sp),r0\n\trts\tpc\n")
         self.assertEqual(self.run_it(program, "A", "b", "c"), (ord("A") + 4, "", ""))
 
+    def test_a_shared_text(self):
+        """With -n the text is apart from the data; the calls whose words change stand in the data."""
+        source = MAIN + "\tmov\t$9.,-(sp)\n\tjsr\tpc,_dup\n\ttst\t(sp)+\n\tmov\t_errno,r0\n"
+                  "\tadd\ttwo,r0\n\trts\tpc\n\t.data\ntwo:\t2\n"
+        for options, magic in (((), b"\x07\x01"), (("-n",), b"\x08\x01")):
+            program = self.made(source, "it.s", "--compiler", self.folder, *options)
+            self.assertEqual(read(program)[:2], magic)
+            self.assertEqual(self.run_it(program), (11, "", ""))
+
     def test_errors_of_calls(self):
         """A call that is refused gives -1, and errno."""
         program = self.assembled(MAIN + "\tmov\t$9.,-(sp)\n\tjsr\tpc,_close\n\ttst\t(sp)+\n\tadd\t_errno,r0\n\trts\tpc\n")
@@ -275,6 +284,9 @@ class Compiled(Program):
         self.assertIn(b"_main\0\0\0", with_symbols[len(plain) :])
         self.assertEqual(self.call(cc.main, "-S", *words), (0, "", ""))
         self.assertIn(b"\n_main:\n", read(self.path("it")))
+        self.assertEqual(self.call(cc.main, "-n", *words), (0, "", ""))
+        self.assertEqual(read(self.path("it"))[:2], b"\x08\x01")
+        self.assertEqual(self.run_it(self.path("it")), (11, "", ""))
 
     def test_wrong(self):
         """What the compiler refuses is told, and no program is written."""

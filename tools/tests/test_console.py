@@ -268,7 +268,7 @@ class Sessions(Case):
                                              "(034) make signals, which aren't built yet\nconsole: this line is taken back\n"))
 
     def test_names_of_programs(self):
-        """Programs of 100 and 200 bytes have images of 16, 20 and two or four clicks; one that isn't 0407 has none."""
+        """Programs of 100 and 200 bytes have images of 16, 20 and two or four clicks; a text of 0410 is no part of one."""
         for name, words in (("one", (0o407, 60, 20, 20)), ("two", (0o407, 200, 0, 0)), ("three", (0o407, 0, 0, 193)),
                             ("four", (0o410, 60, 20, 20))):
             folder = "bin/more" if name == "three" else "bin"
@@ -276,10 +276,14 @@ class Sessions(Case):
             self.put(f"disk/{folder}/{name}", struct.pack("<8H", *words, 0, 0, 0, 0) + bytes(80))
         self.assertEqual(self.call(tool("disk").main, "--v6", V6, "new", self.path("image"), self.path("disk"))[0], 0)
         found = programs_of(read(self.path("image")))
-        self.assertEqual(found, {38: ["/bin/one"], 40: ["/bin/more/three", "/bin/two"]})
+        self.assertEqual(found, {(38, 0): ["/bin/one"], (40, 0): ["/bin/more/three", "/bin/two"], (37, 1): ["/bin/four"]})
         log = "bare 1\nimage 1 40 at 1\nfork 1 2 at 41\ngo 2\nbare 2\nimage 2 38 at 81\nsize 2 40 at 81\nsleep 2 10 keys\n"
         self.assertEqual(Processes((BOOT + log).encode()).told(found),
                          ["process 1 runs (/bin/more/three or /bin/two)", "process 2, a child of 1, reads the terminal (/bin/one)"])
+        log += "bare 2\ntext 2 0 1 swap 4000\nimage 2 37 swap 4001\nfork 2 3 swap 4006\nbare 1\nshare 1 0\nimage 1 37 at 1\n"
+        self.assertEqual([line.rpartition(" ")[2] for line in Processes((BOOT + log).encode()).told(found)], ["(/bin/four)"] * 3)
+        log += "bare 2\nimage 2 37 at 81\n"  # of a program that is not on the disk
+        self.assertEqual(Processes((BOOT + log).encode()).told(found)[1], "process 2, a child of 1, reads the terminal")
 
     def test_back_and_forth(self):
         status, term, said = self.session("chdir /usr\nls\n~u 2\n~l\nls\nls\n~u\n~l\n~w\n~g 2\n~u 3\n~g 4\n", "--script",

@@ -1,11 +1,12 @@
 """log.py: what it tells of a log line by line, the picture, and where two logs part."""
 import os
+import struct
 import unittest
 import xml.etree.ElementTree as tree
 
 from common import TOP, V6, Case, read, tool, v6
 
-log_main = tool("log").main
+log_main, disk_main = tool("log").main, tool("disk").main
 SVG = "{http://www.w3.org/2000/svg}"
 LOG = """boot 100 7
 sleep 0 -100 runout
@@ -56,11 +57,11 @@ TOLD = """line  012
   11  rRo  process 1 makes process 2 in slot 2, in the swap area at block 4003
   12  rwo  process 1 waits for bytes in the pipe of inode 9, at priority 1
   13  Rwo  the swapper runs
-  14  RWo  process 1 goes out of core, to block 4007
+  14  RWo  process 1 goes out of core, to block 4007; text 0 leaves core
   15  RWr  process 2 comes into core at click 1, text 0 first
   16  sWr  the swapper waits until somebody may go out of core, at priority -100
   17  sWR  process 2 runs
-  18  sWR  process 2 leaves text 0
+  18  sWR  process 2 leaves text 0, which leaves core
   19  sWz  process 2 ends; block 4003 keeps what its parent may ask for
   20  sWz  woken are those who wait for a child of process 1: nobody
   21  sWz  nobody can run
@@ -100,6 +101,36 @@ class Log(Case):
         self.assertEqual(passed[:4], [7, 10, 1010, 2010])
         self.assertEqual((len(passed), passed[-1]), (51, 49010))
         self.assertTrue(any("has its new image of /bin/ls" in line for line in out.splitlines()))
+
+    def test_what_becomes_of_a_text(self):
+        """It leaves core with the last image there, by whatever line, and goes with its last user, where it isn't sticky."""
+        begins = "boot 99 0\nsleep 0 -100 runout\ngo 1\nbare 1\ntext 1 0 1 swap 4000\nimage 1 30 swap 4001\ngo 0\nin 1 1\n"
+        begins += "sleep 0 -100 runout\ngo 1\n"
+        for lines, wanted in ((("size 1 99 swap 4001", "drop 1 0 plain"), ("; text 0 leaves core", ", which goes")),
+                              (("size 1 31 at 32", "drop 1 0 sticky"), ("", ", which stays")),
+                              (("fork 1 2 at 32", "drop 1 0 plain"), ("", "")),
+                              (("fork 1 2 swap 4001", "size 1 99 swap 4005", "drop 1 0 sticky"),
+                               ("", "; text 0 leaves core", ""))):
+            name = self.text("log", begins + "\n".join([*lines, "panic swap\n"]))
+            told = self.log("show", name, "--from", "11", "--to", str(10 + len(lines)))[1].splitlines()[1:]
+            self.assertEqual(len(told), len(wanted))
+            for line, end in zip(told, wanted):
+                self.assertRegex(line, "(at (click|block) [0-9]+|leaves text 0)" + end + "$")
+        self.assertIn("  process 1 makes text 0 of 1 click, in", self.log("show", name)[1])
+
+    def test_programs_with_texts(self):
+        """A program whose text is shared is known by its image and its text together."""
+        for name, header in (("one", (0o407, 0, 64, 0)), ("two", (0o410, 100, 64, 0)), ("three", (0o410, 200, 64, 0))):
+            self.put(name, struct.pack("<8H", *header, 0, 0, 0, 0) + bytes(264))
+        self.assertEqual(v6("make", "0", self.path("disk"))[0], 0)
+        for name in ("one", "two", "three"):
+            self.assertEqual(self.call(disk_main, "--v6", V6, "put", self.path("disk"), self.path(name), "/" + name)[0], 0)
+        lines = ("bare 1", "image 1 37 at 1", "bare 1", "text 1 0 4 swap 4000", "image 1 37 swap 4001", "drop 1 0 sticky",
+                 "bare 1", "text 1 1 2 swap 4006", "image 1 37 swap 4007", "bare 1", "share 1 0", "image 1 37 swap 4007")
+        name = self.text("log", "\n".join(["boot 99 0", "sleep 0 -100 runout", "go 1", *lines, "end\n"]))
+        told = self.log("show", "--disk", self.path("disk"), name)[1].splitlines()
+        self.assertEqual([line.partition(" image of ")[2].partition(",")[0] for line in told if "has its new image" in line],
+                         ["/one", "/three", "/two", "/three"])
 
     def test_seconds(self):
         """The sixtieth tick ends a second, whatever it comes in."""

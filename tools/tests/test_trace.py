@@ -213,6 +213,20 @@ class Traces(Case):
                                 "read(3, A, 512) = 0", "close(3) = done", "exit(0)"])
         self.assertEqual({line.partition("[")[2].partition("]")[0] for line in out.splitlines()}, {"2 /etc/init", "2 /bin/cat"})
 
+    @unittest.skipUnless(HAS_MEMORY, "v6 has no command memory yet")
+    def test_a_shared_text(self):
+        """The first of two execs makes the text, the other one takes it, and the code is there for both."""
+        image = self.disk("crew.s")
+        self.assertEqual(self.call(as_main, "-n", "-o", self.path("line"), os.path.join(SOURCES, "line.s"))[0], 0)
+        self.assertEqual(self.call(disk_main, "--v6", V6, "put", image, self.path("line"), "/line")[0], 0)
+        status, out, error = self.trace("--v6", V6, image, "1200", self.put("script", b"run 40\ntype go\n"))
+        self.assertEqual((status, error), (0, ""))
+        execs = [line.partition("exec")[2] for line in out.splitlines() if "exec" in line]
+        does = "makes text 0 of 16 clicks", "takes text 0"
+        self.assertEqual(execs[1:], [f'("/line", ["/line"]) = done, {one}' for one in does])
+        opens = {line.partition("[")[2] for line in out.splitlines() if "/line] open" in line}
+        self.assertEqual(opens, {f'{number} /line] open("/dev/tty8", 0) = 0' for number in (2, 3)})
+
     def test_what_is_refused(self):
         image, bad = os.path.join(HI, "image"), self.put("bad", b"run 5\nwalk\n")
         self.assertEqual(self.trace("--v6", V6, image, "1200", bad), (1, "", "trace.py: script: line 2\n"))

@@ -7,6 +7,7 @@ pub mod Outside
 pub mod Private
 pub mod References
 pub mod Runs
+pub mod Shared
 pub mod Steps
 pub mod Turn
 pub mod Unix

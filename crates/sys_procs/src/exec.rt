@@ -143,7 +143,9 @@ fn read_bytes(nodes: &mut Nodes, program: &Program, part: &mut [u8], now: u32)
     let _ = nodes.read_kernel(program.ino, HEADER, part, now);
 }
 
-/// Reads the text of a program into one that is zeros.
+/// Reads the text of a program into one that is zeros. It stands out of line, since a call whose frame had all these bytes would
+/// touch each of their pages, whatever it does.
+#[inline(never)]
 fn read_text(p: &mut Procs, tree: &mut Tree, s: Slot, t: TextId, program: &Program)
     requires alive { IsAlive p.old s }
     requires text { text_of p.old.images s ≡ Some t }

@@ -167,13 +167,19 @@ module _ (ps : List (Option Process)) (r s : ℕ) (other : r ≢ s) where
         (sparing_came u h (resume_proc (world_of u) s) (sparing_resume ps r s other (world_of u) h))
         (sparing_quiet u ending.NotBuilt h))
 
-  carry_end : (e : Ending) → AllCarry (HasSpared ps r) (end_effects s e)
-  carry_end ending.Next = tt
-  carry_end ending.Trapped = (tt, tt)
-  carry_end (ending.Slept pri chan) = (tt, tt)
-  carry_end ending.Ended = tt
-  carry_end ending.NotBuilt = tt
-  carry_end (ending.Panic kind) = tt
+-- The lines with which a turn ends and which wake sleepers carry no state.
+module _ (P : Unix → Type 0) where
+  pub carry_end : (s : ℕ) (e : Ending) → AllCarry P (end_effects s e)
+  carry_end s ending.Next = tt
+  carry_end s ending.Trapped = (tt, tt)
+  carry_end s (ending.Slept pri chan) = (tt, tt)
+  carry_end s ending.Ended = tt
+  carry_end s ending.NotBuilt = tt
+  carry_end s (ending.Panic kind) = tt
+
+  pub carry_wakes : (b : Bool) (chan : Chan) → AllCarry P (wakes b chan)
+  carry_wakes true chan = (tt, tt)
+  carry_wakes false chan = tt
 
 module _ (m : System) (r : ℕ) where
   -- the processes as they were
@@ -190,7 +196,7 @@ module _ (m : System) (r : ℕ) where
       let done : Steps = turn m s in
       left_carried (HasSpared before r) m.board (done.effects ++ end_effects s done.ending) done.unix
       (carry_both (HasSpared before r) done.effects (end_effects s done.ending) h.effects
-      (carry_end before r s other done.ending)) h.unix
+      (carry_end (HasSpared before r) s done.ending)) h.unix
 
   -- a pass of the swapper changes no process
   spared_pass : IsUndisturbed m.unix (pass_of m).unix r
@@ -214,15 +220,11 @@ module _ (m : System) (r : ℕ) where
       by true = spared_same before r
       by false = spared_timed before s r mode
 
-  carry_wakes : (b : Bool) (chan : Chan) → AllCarry (HasSpared before r) (wakes b chan)
-  carry_wakes true chan = (tt, tt)
-  carry_wakes false chan = tt
-
   spared_tick : IsUndisturbed m.unix (tick_of m).unix r
   spared_tick =
       left_carried (HasSpared before r) m.board
       (Show (Log (tick_entry (mode_of m))) ∷ wakes (is_due m.unix.clock) Tout) (ticked m)
-      (tt, carry_wakes (is_due m.unix.clock) Tout) (spared_charged (mode_of m) m.board.table.running)
+      (tt, carry_wakes (HasSpared before r) (is_due m.unix.clock) Tout) (spared_charged (mode_of m) m.board.table.running)
 
   spared_typed : (byte : ℕ) → IsUndisturbed m.unix (typed_of m byte).unix r
   spared_typed byte =
@@ -230,11 +232,11 @@ module _ (m : System) (r : ℕ) where
       left_carried (HasSpared before r) m.board (map Show (sent 0 k.shown) ++ wakes (calls k.keyed) Keys)
       (record m.unix { line = k.terminal })
       (carry_both (HasSpared before r) (map Show (sent 0 k.shown)) (wakes (calls k.keyed) Keys)
-      (carry_shown (HasSpared before r) (sent 0 k.shown)) (carry_wakes (calls k.keyed) Keys))
+      (carry_shown (HasSpared before r) (sent 0 k.shown)) (carry_wakes (HasSpared before r) (calls k.keyed) Keys))
       (spared_same before r)
 
 -- settling leaves the Unix as it is
-settled_unix : (h : Happened) → (settled_after h).next.unix ≡ h.unix
+pub settled_unix : (h : Happened) → (settled_after h).next.unix ≡ h.unix
 settled_unix h = by (calls_for_settling h)
   where
     by : (b : Bool) → (cond b (settles h) (stays h)).next.unix ≡ h.unix

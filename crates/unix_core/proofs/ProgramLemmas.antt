@@ -56,9 +56,14 @@ one_user : (o : Option Shared) → users_of (text_place o) ≡ users_in (text_in
 one_user None = refl
 one_user (Some x) = refl
 
-same_users : (xs : List (Option Shared)) → map users_of (map text_place xs) ≡ map users_in (map text_in xs)
+pub same_users : (xs : List (Option Shared)) → map users_of (map text_place xs) ≡ map users_in (map text_in xs)
 same_users [] = refl
 same_users (x ∷ xs) = λ i. one_user x i ∷ same_users xs i
+
+-- An image that is given back changes none.
+pub bare_users : (s : ℕ) (b : Board) → users_on (applied b (line.Bare s)) ≡ users_on b
+unfolding applied
+bare_users s b = without_users b s
 
 -- A line comes first in a log.
 line_first : {W : Type 0} (b : Board) (e : Entry) (es : List (Effect W))
@@ -340,10 +345,6 @@ module _ (w : World) (s : ℕ) (ready : IsReady w s) (form : IsFileSystem w.file
           by false = entry_goes program.text_clicks (entry_of x.texts program.ino)
 
   -- The old image is given back.
-  bare_users : (b : Board) → users_on (applied b (line.Bare s)) ≡ users_on b
-  unfolding applied
-  bare_users b = without_users b s
-
   module _ (b : Board) (left : its.World) (q : Process) (program : Program) (on : IsOn w s left q program.ino)
       (are : users_on b ≡ users left.texts) (long : length left.texts ≡ 40) (files : q.u.files ≡ p.u.files)
       (dir : q.u.dir ≡ p.u.dir) where
@@ -354,7 +355,7 @@ module _ (w : World) (s : ℕ) (ready : IsReady w s) (form : IsFileSystem w.file
         (begins_goes (its.process_of left s).u (ap (λ (r : Process). r.u.files) own ∙ files)
         (ap (λ (r : Process). r.u.dir) own ∙ dir) program
         (applied b (line.Bare s)) (change left s exec.bared) (exec.bared q) (bared_on left q program.ino on)
-        (bare_users b ∙ are) long)
+        (bare_users s b ∙ are) long)
 
   -- What the call comes to when the tests have let a program through.
   module _ (x : its.World) (program : Program) (is : IsIn (given w) x program.ino) where

@@ -12,6 +12,7 @@ ghost use Rattle.abstract_unix.specs.declared.ends.Ends.TheVariants.{AtEnd};
 ghost use Rattle.abstract_unix.specs.Turn.{turned, NobodyCanRun};
 ghost use Rattle.abstract_unix.specs.Outside.{is_signal_key};
 ghost use Rattle.abstract_unix.specs.Private.{AllUndisturbed, TickUndisturbed, OthersUndisturbed};
+ghost use Rattle.abstract_unix.specs.Shared.{AllTextsStay, OtherTextsStay};
 
 use crate::files::{ROOT, see_kept, see_nodes, see_procs};
 use crate::init::put_program;
@@ -133,6 +134,7 @@ impl Kernel {
         ensures next { self.new.system ≡ (start_of self.old.system).next }
         ensures goes { (start_of self.old.system).ending ≡ AtEnd }
         ensures private { AllUndisturbed self.old.system self.new.system }
+        ensures texts { AllTextsStay self.old.system self.new.system }
         ensures rest { SameRest self.old.blocks self.new.blocks }
         ensures items { Took (T.taken trace.old) (start_of self.old.system).items (T.taken trace.new) }
         ensures frame { T.leads_to trace.old trace.new }
@@ -154,13 +156,14 @@ impl Kernel {
         ensures idle { result ≡ Turned.Idle → NobodyCanRun self.old.system.board.table }
         ensures next { self.new.system ≡ (event_of Slot self.old.system).next }
         ensures private { OthersUndisturbed self.old.system self.new.system }
+        ensures texts { OtherTextsStay self.old.system (event_of Slot self.old.system).items self.new.system }
         ensures rest { SameRest self.old.blocks self.new.blocks }
         ensures items { Took (T.taken trace.old) (event_of Slot self.old.system).items (T.taken trace.new) }
         ensures frame { T.leads_to trace.old trace.new }
     {
+        see_kept(&self.machine.world.procs.images);
         match &self.machine.stage {
             Stage::Running(fixed) => {
-                see_kept(&self.machine.world.procs.images);
                 let at = self.machine.world.procs.images.area_at(fixed).r[7];
                 match execute(&mut self.machine.world.procs, fixed) {
                     Outcome::Next => Turned::Ran,
@@ -185,6 +188,7 @@ impl Kernel {
         ensures answer { result ≡ Ok tt }
         ensures next { self.new.system ≡ (event_of Tick self.old.system).next }
         ensures private { TickUndisturbed self.old.system self.new.system }
+        ensures texts { AllTextsStay self.old.system self.new.system }
         ensures rest { SameRest self.old.blocks self.new.blocks }
         ensures items { Took (T.taken trace.old) (event_of Tick self.old.system).items (T.taken trace.new) }
         ensures frame { T.leads_to trace.old trace.new }
@@ -201,6 +205,7 @@ impl Kernel {
         ensures phase { self.new.phase ≡ Started }
         ensures next { self.new.system ≡ (event_of (Byte b) self.old.system).next }
         ensures private { AllUndisturbed self.old.system self.new.system }
+        ensures texts { AllTextsStay self.old.system self.new.system }
         ensures rest { SameRest self.old.blocks self.new.blocks }
         ensures items { Took (T.taken trace.old) (event_of (Byte b) self.old.system).items (T.taken trace.new) }
         ensures frame { T.leads_to trace.old trace.new }
@@ -214,6 +219,7 @@ impl Kernel {
         ensures phase { self.new.phase ≡ Started }
         ensures next { self.new.system ≡ (event_of (Switch w) self.old.system).next }
         ensures private { AllUndisturbed self.old.system self.new.system }
+        ensures texts { AllTextsStay self.old.system self.new.system }
         ensures blocks { self.new.blocks ≡ self.old.blocks }
     {
         self.machine.world.procs.switches = w;

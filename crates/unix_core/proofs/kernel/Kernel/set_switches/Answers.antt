@@ -5,6 +5,8 @@ use Rattle.abstract_unix.specs.Runs.{event_of, Switch}
 use Rattle.unix_core.proofs.BootKernelLemmas.{switched_kernel, switched_system}
 use Rattle.abstract_unix.specs.Private.{AllUndisturbed}
 use Rattle.unix_core.proofs.PrivateLemmas.{switched_private}
+use Rattle.abstract_unix.specs.Shared.{AllTextsStay}
+use Rattle.unix_core.proofs.StayingLemmas.{switched_stays}
 use Rattle.unix_core.proofs.kernel.Kernel.set_switches.Goals as goal
 
 pub invariant_of-self : goal.invariant_of-self
@@ -19,3 +21,8 @@ pub returns-clause-private : goal.returns-clause-private
 returns-clause-private c =
     let m : System = c.args.self.now.system in
     subst (λ (n : System). AllUndisturbed m n) (sym (returns-clause-next c)) (switched_private m c.args.w)
+
+pub returns-clause-texts : goal.returns-clause-texts
+returns-clause-texts c =
+    let m : System = c.args.self.now.system in
+    subst (λ (n : System). AllTextsStay m n) (sym (returns-clause-next c)) (switched_stays m c.args.w)

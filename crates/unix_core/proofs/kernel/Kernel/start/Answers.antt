@@ -8,6 +8,8 @@ use Rattle.unix_core.proofs.SwapLemmas.{first_goes}
 use Rattle.unix_core.proofs.BootKernelLemmas.{new_stage, start_items}
 use Rattle.abstract_unix.specs.Private.{AllUndisturbed}
 use Rattle.unix_core.proofs.PrivateLemmas.{start_private}
+use Rattle.abstract_unix.specs.Shared.{AllTextsStay}
+use Rattle.unix_core.proofs.StayingLemmas.{start_stays}
 use Rattle.unix_core.proofs.kernel.Kernel.start.Goals as goal
 
 pub pass-ran-requires-clause-good : goal.pass-ran-requires-clause-good
@@ -31,6 +33,11 @@ pub returns-clause-private : goal.returns-clause-private
 returns-clause-private g c =
     let m : System = c.args.self.now.system in
     subst (λ (n : System). AllUndisturbed m n) (sym (returns-clause-next g c)) (start_private m)
+
+pub returns-clause-texts : goal.returns-clause-texts
+returns-clause-texts g c =
+    let m : System = c.args.self.now.system in
+    subst (λ (n : System). AllTextsStay m n) (sym (returns-clause-next g c)) (start_stays m)
 
 pub returns-clause-items : goal.returns-clause-items
 returns-clause-items g c =

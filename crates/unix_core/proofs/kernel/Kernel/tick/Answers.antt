@@ -5,6 +5,8 @@ use Rattle.abstract_unix.specs.Turn.{settled_after}
 use Rattle.abstract_unix.specs.Outside.{tick_of}
 use Rattle.abstract_unix.specs.Private.{AllUndisturbed}
 use Rattle.unix_core.proofs.PrivateLemmas.{tick_private}
+use Rattle.abstract_unix.specs.Shared.{AllTextsStay}
+use Rattle.unix_core.proofs.StayingLemmas.{tick_stays}
 use Rattle.unix_core.proofs.kernel.Kernel.tick.Goals as goal
 
 pub tick-requires-clause-started : goal.tick-requires-clause-started
@@ -20,3 +22,8 @@ pub returns-clause-private : goal.returns-clause-private
 returns-clause-private g c =
     let m : System = c.args.self.now.system in
     subst (λ (n : System). AllUndisturbed m n) (sym (returns-clause-next g c)) (tick_private m)
+
+pub returns-clause-texts : goal.returns-clause-texts
+returns-clause-texts g c =
+    let m : System = c.args.self.now.system in
+    subst (λ (n : System). AllTextsStay m n) (sym (returns-clause-next g c)) (tick_stays m)

@@ -16,6 +16,7 @@ use Rattle.unix_core.proofs.MachineLemmas.{runs_kernel}
 use Rattle.unix_core.proofs.TurnSteps.{has_stepped, stepped_user, user_slot, quiet_system, plain_answer, plain_goes, plain_next, plain_items}
 use Rattle.abstract_unix.specs.Private.{OthersUndisturbed}
 use Rattle.unix_core.proofs.PrivateLemmas.{slot_private}
+use Rattle.unix_core.proofs.StayingLemmas.{turned_stays}
 use Rattle.unix_core.proofs.IdleLemmas.{idle_nobody}
 use Rattle.unix_core.proofs.kernel.Kernel.turn.Goals as goal
 
@@ -73,6 +74,13 @@ returns-in-Next-clause-private g c =
     let was : System = c.args.self.now.system in
     subst (λ (n : System). OthersUndisturbed was n) (sym (returns-in-Next-clause-next g c)) (slot_private was)
 
+pub returns-in-Next-clause-texts : goal.returns-in-Next-clause-texts
+returns-in-Next-clause-texts g c =
+    let m = c.self.inside.machine in
+    let started = ap (λ (x : KernelState). x.phase) c.self.view_is ∙ c.requires in
+    turned_stays m.stage m.world started c.self.invariant c.see_kept.ensures _ _
+    (ap (λ (x : KernelState). x.system) c.self.view_is) (returns-in-Next-clause-next g c)
+
 pub returns-in-Next-clause-items : goal.returns-in-Next-clause-items
 returns-in-Next-clause-items g c =
     let w : World = c.self.inside.machine.world in
@@ -123,6 +131,8 @@ returns-in_default g c =
       idle = idle_nobody c.self.inside.machine.stage w (ap (λ (x : KernelState). x.phase) c.self.view_is ∙ c.requires) c.self.invariant was same _ answer;
       next = next;
       private = subst (λ (n : System). OthersUndisturbed was n) (sym next) (slot_private was);
+      texts = turned_stays c.self.inside.machine.stage w (ap (λ (x : KernelState). x.phase) c.self.view_is ∙ c.requires)
+          c.self.invariant c.see_kept.ensures was _ same next;
       rest = subst (λ b. SameRest b after.new.self.world.files.tree.nodes.blocks) (ap (λ (x : KernelState). x.blocks) c.self.view_is) after.ensures.rest;
       items = subst (λ (t : Turn). Took (g.T.Trace.taken c.args.trace.now) t.items (g.T.Trace.taken after.new.trace)) slot (after.ensures.items (system_at w) done);
       frame = after.ensures.frame;
@@ -144,6 +154,8 @@ returns-in-Resting g c =
       idle = idle_nobody m.stage m.world (ap phase_of c.in-Resting.is) c.self.invariant was (ap (λ (x : KernelState). x.system) c.self.view_is) _ answer;
       next = next;
       private = subst (λ (n : System). OthersUndisturbed was n) (sym next) (slot_private was);
+      texts = turned_stays m.stage m.world (ap (λ (x : KernelState). x.phase) c.self.view_is ∙ c.requires) c.self.invariant
+          c.see_kept.ensures was _ (ap (λ (x : KernelState). x.system) c.self.view_is) next;
       rest = subst (λ b. SameRest b other.new.self.world.files.tree.nodes.blocks) (ap (λ (x : KernelState). x.blocks) c.self.view_is) other.ensures.rest;
       items = subst (λ (t : Turn). Took (g.T.Trace.taken c.args.trace.now) t.items (g.T.Trace.taken other.new.trace)) same other.ensures.items;
       frame = other.ensures.frame;

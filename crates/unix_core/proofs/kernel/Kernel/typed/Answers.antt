@@ -6,6 +6,8 @@ use Rattle.abstract_unix.specs.Turn.{settled_after}
 use Rattle.abstract_unix.specs.Outside.{typed_of}
 use Rattle.abstract_unix.specs.Private.{AllUndisturbed}
 use Rattle.unix_core.proofs.PrivateLemmas.{typed_private}
+use Rattle.abstract_unix.specs.Shared.{AllTextsStay}
+use Rattle.unix_core.proofs.StayingLemmas.{typed_stays}
 use Rattle.unix_core.proofs.kernel.Kernel.typed.Goals as goal
 
 pub typed-requires-clause-started : goal.typed-requires-clause-started
@@ -21,6 +23,11 @@ pub returns-clause-private : goal.returns-clause-private
 returns-clause-private g c =
     let m : System = c.args.self.now.system in
     subst (λ (n : System). AllUndisturbed m n) (sym (returns-clause-next g c)) (typed_private m c.args.b)
+
+pub returns-clause-texts : goal.returns-clause-texts
+returns-clause-texts g c =
+    let m : System = c.args.self.now.system in
+    subst (λ (n : System). AllTextsStay m n) (sym (returns-clause-next g c)) (typed_stays m c.args.b)
 
 pub returns-clause-items : goal.returns-clause-items
 returns-clause-items g c =

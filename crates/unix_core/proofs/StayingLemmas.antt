@@ -1,0 +1,319 @@
+-- Texts stay as they were made: what each event leaves of those that are shared.
+use Rattle.std.proofs.Common.{◌≡◌, ◌<◌, ◌∙◌, ◌||◌, ◌==◌, ℕ, zero, suc, Bool, true, false, cond, nat_lt, if◌then◌else◌, List, ◌∷◌, ◌++◌, length, set, map, Option, Some, None, refl, sym, subst}
+use Rattle.std.specs.Prelude.{⊤, MatchOption}
+use Rattle.std.specs.List.{list_any}
+use Rattle.std.proofs.lemmas.List.{length-set}
+use Rattle.std.proofs.lemmas.List.Folds.{list_any-append}
+use Rattle.v6_base.specs.Trace.{Item, Log, sent}
+use Rattle.v6_base.specs.declared.answer.Answer.{Answer}
+use Rattle.v6_base.specs.declared.answer.Answer.TheVariants.{Ret, Fail, Sleep}
+use Rattle.v6_base.specs.declared.entry.Chan.TheVariants.{Keys, Tout}
+use Rattle.pdp_step.specs.declared.outcome.Outcome.{Outcome}
+use Rattle.pdp_step.specs.declared.outcome.Outcome.TheVariants.{Next, Call, Fault}
+use Rattle.pdp_step.specs.Instruction.{Stepped, instr}
+use Rattle.pdp_step.specs.declared.outcome.Kind.{Kind}
+use Rattle.pdp_step.specs.declared.outcome.Kind.TheVariants as kind
+use Rattle.pick_rules.specs.declared.row.Mode.{Mode}
+use Rattle.pick_rules.specs.Board.{Board}
+use Rattle.pick_rules.specs.Effects.{Show}
+use Rattle.pick_rules.specs.Logged.{Stop, left_by}
+use Rattle.swap_sched.specs.Pass.{pass, stop_over}
+use Rattle.sys_files.specs.Did.{Did}
+use Rattle.sys_files.specs.Descriptors.{Closing}
+use Rattle.sys_files.specs.Moving.{resume_read}
+use Rattle.tty_line.specs.Input.{Typed, typed}
+use Rattle.log_laws.proofs.Users.{users_on}
+use Rattle.abstract_unix.proofs.Sitting.{users}
+use Rattle.sys_procs.specs.Process.{Process, register, image_of}
+use Rattle.sys_procs.specs.TextTable.{Text}
+use Rattle.sys_procs.specs.Comes.{Comes}
+use Rattle.sys_procs.specs.Break.{grow}
+use Rattle.sys_procs.specs.Times.{pending_sleep}
+use Rattle.sys_procs.specs.Wait.{pending_wait}
+use Rattle.sys_procs.specs.Exit.{exit_status, end_proc}
+use Rattle.sys_procs.specs.Fork.{fork_one}
+use Rattle.sys_procs.specs.Resume.{resume_proc}
+use Rattle.abstract_unix.specs.declared.asked.Asked.{Asked}
+use Rattle.abstract_unix.specs.declared.calls.ProcessCall.{ProcessCall}
+use Rattle.abstract_unix.specs.declared.calls.ProcessCall.TheVariants as process
+use Rattle.abstract_unix.specs.declared.calls.SystemCall.{SystemCall}
+use Rattle.abstract_unix.specs.declared.calls.SystemCall.TheVariants.{Indirect, Exit, Fork, OnFiles, OnProcesses}
+use Rattle.abstract_unix.specs.declared.calls.Sysent.{Sysent}
+use Rattle.abstract_unix.specs.declared.ending.Ending.{Ending}
+use Rattle.abstract_unix.specs.declared.ending.Ending.TheVariants as ending
+use Rattle.abstract_unix.specs.Unix.{Unix, System, Started, process_of, with_process}
+use Rattle.abstract_unix.specs.Steps.{Steps, quietly, returns, not_built}
+use Rattle.abstract_unix.specs.Errors.{error_number}
+use Rattle.abstract_unix.specs.Calls.{handed_of, with_handed, world_of, with_world, with_area, entered_area, words_passed, asked, refused_area, answers, file_row, process_row, did_by, came_by, forks, closes_all, exits_with, grown_by, does_call, sysent_of, does_if_built, pending_read, resumed}
+use Rattle.abstract_unix.specs.Turn.{Happened, settled, stays, settles, calls_for_settling, settled_after, machine_of, with_machine, faults, comes_to, instruction, is_user, turn, end_effects, turn_of, pass_of, slot_of}
+use Rattle.abstract_unix.specs.Outside.{mode_of, timed, charged, ticked, is_due, wakes, tick_entry, tick_of, calls, typed_of}
+use Rattle.abstract_unix.specs.Runs.{Slot, Tick, Byte, Switch, event_of, start_of}
+use Rattle.abstract_unix.specs.Shared.{TextStays, is_made_by, AllTextsStay, OtherTextsStay}
+use Rattle.abstract_unix.proofs.ProcessRows.{plain_row}
+use Rattle.sys_procs.proofs.Slots.{fifty_processes}
+use Rattle.image_keep.specs.Kept.{IsKept}
+use Rattle.unix_core.specs.declared.machine.Stage.{Stage}
+use Rattle.unix_core.specs.declared.world.World.{World}
+use Rattle.unix_core.specs.Parts.{system_at, phase_of, IsGood, IsKernel}
+use Rattle.unix_core.proofs.BootKernelLemmas.{kernel_good}
+use Rattle.unix_core.proofs.GoodLemmas.{forty, runs_low}
+use Rattle.unix_core.proofs.ProgramLemmas.{same_users}
+use Rattle.unix_core.proofs.PrivateSlots.{AllCarry, left_carried, carry_shown, carry_both, carry_lifted}
+use Rattle.unix_core.proofs.PrivateLemmas.{carry_end, carry_wakes, settled_unix}
+use Rattle.unix_core.proofs.StayingTexts.{first_false, stays_same, Leaves, leaves_carried}
+use Rattle.unix_core.proofs.StayingRows.{IsStaying, staying_plain, staying_break, staying_fork, staying_end, staying_resume, staying_grow}
+use Rattle.unix_core.proofs.StayingExec.{IsAt, exec_goes}
+
+-- what is so of a system in which a turn begins
+pub record AreTexts (m : System) : Type 0 where
+  pub users : users_on m.board ≡ users m.unix.texts
+  pub forty : length m.unix.texts ≡ 40
+  pub low : (s : ℕ) → m.board.table.running ≡ Some (suc s) → suc s < length m.unix.processes
+
+module _ (ts : List (Option Text)) (k s : ℕ) where
+  abbrev Stays : Unix → Type 0
+  Stays u = TextStays ts u.texts k
+
+  -- A turn of the process leaves a text in its entry, on a board.
+  abbrev StaysAfter : Board → Steps → Type 0
+  StaysAfter b steps = Leaves Stays k b (steps.effects ++ end_effects s steps.ending) steps.unix
+
+  -- Most leave it whatever the log tells.
+  record AreStaying (steps : Steps) : Type 0 where
+    pub effects : AllCarry Stays steps.effects
+    pub unix : Stays steps.unix
+
+  after_steps : (b : Board) (steps : Steps) → AreStaying steps → StaysAfter b steps
+  after_steps b steps h = leaves_carried Stays k b _ steps.unix
+      (carry_both Stays steps.effects (end_effects s steps.ending) h.effects (carry_end Stays s steps.ending)) h.unix
+
+  staying_quiet : (u : Unix) (e : Ending) → Stays u → AreStaying (quietly u e)
+  staying_quiet u e h = record { effects = tt; unix = h }
+
+  -- answers
+  answered_texts : (u : Unix) (a : Answer) → (answers u s a).unix.texts ≡ u.texts
+  answered_texts u (Ret r0 r1) = refl
+  answered_texts u (Fail e) = by (nat_lt (error_number e) 100)
+    where
+      by : (b : Bool) → (if b then returns (with_area u s (refused_area (error_number e))) else not_built u).unix.texts ≡ u.texts
+      by true = refl
+      by false = refl
+  answered_texts u (Sleep pri chan) = refl
+
+  stays_answered : (u : Unix) (a : Answer) → Stays u → Stays (answers u s a).unix
+  stays_answered u a h = subst (λ l. TextStays ts l k) (sym (answered_texts u a)) h
+
+  module _ (u : Unix) (h : Stays u) where
+    staying_did : (did : Did) → AreStaying (did_by u s did)
+    staying_did did =
+        record { effects = carry_shown Stays did.items; unix = stays_answered (with_handed u s did.state) did.answer h }
+
+    staying_came : (c : Comes) → IsStaying ts k c → AreStaying (came_by u s c)
+    staying_came c staying = record {
+      effects = carry_lifted (with_world u) Stays c.effects staying.effects;
+      unix = stays_answered (with_world u c.state) c.answer staying.state;
+    }
+
+    staying_forks : AreStaying (forks u s)
+    staying_forks =
+        let came : AreStaying (came_by u s (fork_one (world_of u) s)) =
+        staying_came (fork_one (world_of u) s) (staying_fork ts k s (world_of u) h) in
+        record { effects = came.effects; unix = came.unix }
+
+    staying_exits : (status : ℕ) → AreStaying (exits_with u s status)
+    staying_exits status =
+        let closed : Closing = closes_all u s in
+        let now : Unix = with_handed u s closed.state in
+        let c : Comes = end_proc (world_of now) s status in
+        let came : IsStaying ts k c = staying_end ts k s (world_of now) status h in
+        record {
+          effects = carry_both Stays (map Show closed.items) _ (carry_shown Stays closed.items)
+              (carry_lifted (with_world now) Stays c.effects came.effects);
+          unix = came.state;
+        }
+
+    staying_grown : (o : Option Comes) → MatchOption o ⊤ (IsStaying ts k) → AreStaying (grown_by u s o)
+    staying_grown None staying = staying_quiet u ending.NotBuilt h
+    staying_grown (Some c) staying =
+        record { effects = carry_lifted (with_world u) Stays c.effects staying.effects; unix = staying.state }
+
+  module _ (b : Board) where
+    abbrev IsIn : Unix → Type 0
+    IsIn u = IsAt ts k s b u.texts u.processes
+
+    -- each slot keeps its place
+    put_in : (u : Unix) (o : Option Process) → IsIn u → IsAt ts k s b u.texts (set u.processes s o)
+    put_in u o is = record {
+      users = is.users;
+      forty = is.forty;
+      low = subst (λ n. s < n) (sym (length-set u.processes s o)) is.low;
+      stays = is.stays;
+    }
+
+    module _ (u : Unix) (is : IsIn u) where
+      after_row : (call : ProcessCall) (args : List ℕ) → StaysAfter b (came_by u s (process_row call (world_of u) s args))
+      after_row process.Exec a =
+          let c : Comes = process_row process.Exec (world_of u) s a in
+          let steps : Steps = came_by u s c in
+          exec_goes ts k s u b (world_of u) _ _ is (end_effects s steps.ending) steps.unix (carry_end Stays s steps.ending)
+          (answered_texts (with_world u c.state) c.answer)
+      after_row process.Break a =
+          after_steps b _ (staying_came u is.stays _ (staying_break ts k s (world_of u) _ is.stays))
+      after_row call a =
+          after_steps b _ (staying_came u is.stays _
+          (staying_plain ts k s (world_of u) _ (plain_row call tt s (world_of u) a) is.stays))
+
+      after_call : (call : SystemCall) (args : List ℕ) → StaysAfter b (does_call u s call args)
+      after_call Indirect a = after_steps b _ (staying_quiet u ending.Trapped is.stays)
+      after_call Exit a = after_steps b _ (staying_exits u is.stays (exit_status (process_of u s)))
+      after_call Fork a = after_steps b _ (staying_forks u is.stays)
+      after_call (OnFiles call) a =
+          after_steps b _ (staying_did u is.stays (file_row call (handed_of u (process_of u s)) a u.clock.time))
+      after_call (OnProcesses call) a = after_row call a
+
+    module _ (u : Unix) (is : IsIn u) where
+      after_built : (a : Asked) (o : Option Sysent) → StaysAfter b (does_if_built u s a o)
+      after_built a None = after_steps b _ (staying_quiet u ending.NotBuilt is.stays)
+      after_built a (Some entry) =
+          after_call (with_area u s (entered_area (words_passed a entry.count))) (put_in u _ is) entry.call a.args
+
+      nothing_built : StaysAfter b (not_built u)
+      nothing_built = after_steps b _ (staying_quiet u ending.NotBuilt is.stays)
+
+      after_fault : (kind : Kind) → StaysAfter b (faults u s kind)
+      after_fault kind.Odd = nothing_built
+      after_fault (kind.Segment sp) =
+          after_steps b _ (staying_grown u is.stays (grow (world_of u) s sp) (staying_grow ts k s (world_of u) sp is.stays))
+      after_fault (kind.Illegal word) = nothing_built
+      after_fault kind.Bpt = nothing_built
+      after_fault kind.Iot = nothing_built
+      after_fault kind.Emt = nothing_built
+
+      after_outcome : (o : Outcome) → StaysAfter b (comes_to u s o)
+      after_outcome Next = after_steps b _ (staying_quiet u ending.Next is.stays)
+      after_outcome (Call number) =
+          let p : Process = process_of u s in
+          let a : Asked = asked (image_of u.texts p) (register p 7) number in
+          after_built a (sysent_of a.number)
+      after_outcome (Fault kind) = after_fault kind
+
+    module _ (u : Unix) (is : IsIn u) where
+      after_instruction : StaysAfter b (instruction u s)
+      after_instruction =
+          let p : Process = process_of u s in
+          let stepped : Stepped = instr (machine_of u.texts p) in
+          after_outcome (with_process u s (with_machine p stepped.machine)) (put_in u _ is) stepped.outcome
+
+      after_if : (x : Bool) (one two : Steps) → StaysAfter b one → StaysAfter b two → StaysAfter b (if x then one else two)
+      after_if true one two h l = h
+      after_if false one two h l = l
+
+      after_resumed : StaysAfter b (resumed u s)
+      after_resumed =
+          let pending = (process_of u s).u.pending in
+          after_if (pending == pending_read) _ _
+          (after_steps b _ (staying_did u is.stays (resume_read (handed_of u (process_of u s)))))
+          (after_if ((pending == pending_sleep) || (pending == pending_wait)) _ _
+          (after_steps b _ (staying_came u is.stays (resume_proc (world_of u) s) (staying_resume ts k s (world_of u) is.stays)))
+          (nothing_built u is))
+
+-- What happens in an event, before the kernel settles.
+module _ (m : System) (k : ℕ) where
+  abbrev before : List (Option Text)
+  before = m.unix.texts
+
+  abbrev HasStayed : Unix → Type 0
+  HasStayed u = TextStays before u.texts k
+
+  stays_turn : (s : ℕ) → IsAt before k s m.board before m.unix.processes
+      → list_any (is_made_by k) (turn_of m s (turn m s)).log.items ≡ false → HasStayed (turn_of m s (turn m s)).unix
+  stays_turn s is = after_if before k s m.board m.unix is (is_user (process_of m.unix s)) _ _
+      (after_instruction before k s m.board m.unix is) (after_resumed before k s m.board m.unix is)
+
+  -- a pass of the swapper changes no text
+  stays_pass : HasStayed (pass_of m).unix
+  stays_pass = by (pass m.board).stop
+    where
+      by : (o : Option (Stop (Unit {0}))) → HasStayed (left_by (stop_over m.unix o) m.unix)
+      by None = stays_same before k
+      by (Some stop) = stays_same before k
+
+  stays_slot : AreTexts m → (o : Option ℕ) → m.board.table.running ≡ o
+      → list_any (is_made_by k) (slot_of m o).log.items ≡ false → HasStayed (slot_of m o).unix
+  stays_slot are None runs none = stays_same before k
+  stays_slot are (Some zero) runs none = stays_pass
+  stays_slot are (Some (suc s)) runs none = stays_turn (suc s) (record {
+    users = are.users;
+    forty = are.forty;
+    low = are.low s runs;
+    stays = stays_same before k;
+  }) none
+
+  charged_texts : (mode : Mode) (o : Option ℕ) → (charged m.unix mode o).texts ≡ before
+  charged_texts mode None = refl
+  charged_texts mode (Some s) = by (s == 0)
+    where
+      by : (b : Bool) → (if b then m.unix else with_process m.unix s (timed mode (process_of m.unix s))).texts ≡ before
+      by true = refl
+      by false = refl
+
+  stays_tick : HasStayed (tick_of m).unix
+  stays_tick = left_carried HasStayed m.board (Show (Log (tick_entry (mode_of m))) ∷ wakes (is_due m.unix.clock) Tout) (ticked m)
+      (tt, carry_wakes HasStayed (is_due m.unix.clock) Tout)
+      (subst (λ l. TextStays before l k) (sym (charged_texts (mode_of m) m.board.table.running)) (stays_same before k))
+
+  stays_typed : (byte : ℕ) → HasStayed (typed_of m byte).unix
+  stays_typed byte =
+      let t : Typed = typed m.unix.line byte in
+      left_carried HasStayed m.board (map Show (sent 0 t.shown) ++ wakes (calls t.keyed) Keys)
+      (record m.unix { line = t.terminal })
+      (carry_both HasStayed (map Show (sent 0 t.shown)) (wakes (calls t.keyed) Keys) (carry_shown HasStayed (sent 0 t.shown))
+      (carry_wakes HasStayed (calls t.keyed) Keys)) (stays_same before k)
+
+-- Settling adds lines and leaves the Unix as it is.
+settled_items : (h : Happened) (test : Item → Bool) → list_any test (settled_after h).items ≡ false
+    → list_any test h.log.items ≡ false
+settled_items h test = by (calls_for_settling h)
+  where
+    by : (b : Bool) → list_any test (cond b (settles h) (stays h)).items ≡ false → list_any test h.log.items ≡ false
+    by true none = first_false (list_any test h.log.items) (list_any test (settled h.log.board).items)
+        (sym (list_any-append test h.log.items (settled h.log.board).items) ∙ none)
+    by false none = none
+
+-- The law, event by event: at the start,
+pub start_stays : (m : System) → AllTextsStay m (start_of m).next
+start_stays m k =
+    subst (λ (u : Unix). TextStays m.unix.texts u.texts k) (sym (settled_unix (pass_of m))) (stays_pass m k)
+
+-- by a slot,
+pub slot_stays : (m : System) → AreTexts m → OtherTextsStay m (event_of Slot m).items (event_of Slot m).next
+slot_stays m are k none =
+    let o : Option ℕ = m.board.table.running in
+    subst (λ (u : Unix). TextStays m.unix.texts u.texts k) (sym (settled_unix (slot_of m o)))
+    (stays_slot m k are o refl (settled_items (slot_of m o) (is_made_by k) none))
+
+-- a tick, a key and the switches.
+pub tick_stays : (m : System) → AllTextsStay m (event_of Tick m).next
+tick_stays m k = stays_tick m k
+
+pub typed_stays : (m : System) (byte : ℕ) → AllTextsStay m (event_of (Byte byte) m).next
+typed_stays m byte k = stays_typed m k byte
+
+pub switched_stays : (m : System) (word : ℕ) → AllTextsStay m (event_of (Switch word) m).next
+switched_stays m word k = stays_same m.unix.texts k
+
+-- A kernel that has been started stands so.
+module _ (at : Stage) (w : World) (started : phase_of at ≡ Started) (kernel : IsKernel at w) (holds : IsKept w.procs.images) where
+  are_texts : AreTexts (system_at w)
+  are_texts =
+      let good : IsGood w = kernel_good at w started kernel in
+      record {
+        users = same_users w.procs.images.texts;
+        forty = forty w.procs.images holds;
+        low = λ s runs. subst (λ n. suc s < n) (sym (fifty_processes w.procs.rows.slots w.procs.images))
+            (runs_low w (suc s) good.agree runs);
+      }
+
+  pub turned_stays : (m n : System) → system_at w ≡ m → n ≡ (event_of Slot m).next → OtherTextsStay m (event_of Slot m).items n
+  turned_stays m n same next = subst (λ (x : System). OtherTextsStay m (event_of Slot m).items x) (sym next)
+      (slot_stays m (subst AreTexts same are_texts))
