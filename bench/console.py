@@ -14,8 +14,7 @@ status, report, bytes of the terminal, lines of the log and what the final disk 
 the same with the reference alone. `smallest` leaves out lines of a script as long as there is a difference, and makes
 what is left.
 
-The reference is that of file_calls.py. Where a program comes to what isn't built, a v6 ends with status 11, and what
-the terminal shows until then is compared; where a script types a key that makes a signal, nothing is shown.
+The reference is that of file_calls.py.
 """
 import collections
 import os
@@ -25,8 +24,7 @@ import shlex
 import sys
 import tempfile
 
-from file_calls import (NOT_BUILT, built_differences, by_command, by_reference, first_difference, log_differences,
-                        reference)
+from file_calls import built_differences, by_command, by_reference, log_differences, reference
 from random_console import KEEP, TELL, init_of, random_program, said
 from random_disk import Tree
 from random_script import random_script
@@ -62,26 +60,6 @@ class Case:
 
 # differences
 
-def expected_end(case, log):
-    """The PC at which the run comes to what isn't built, or none: a fault or an error that is a signal. A read that has
-    waited has its call's three words behind it."""
-    signal = next((i for i, line in enumerate(log) if line.startswith("signal 1 ")), None)
-    if signal is None:
-        return None
-    item = case.program.ending[0][0] if case.program.ending else None
-    turns = [line for line in log[:signal] if line.startswith(("trap 1", "sleep 1 "))]
-    return item and item.at + 6 * turns[-1].startswith("sleep")
-
-
-def unbuilt_differences(case, want, got, report, term):
-    if (got.status, got.report) != (NOT_BUILT, report):
-        yield f"status {got.status} {got.report!r}, and by the reference {NOT_BUILT} {report!r}"
-    if got.term != term:
-        yield "terminal: " + first_difference(term, got.term)
-    if got.final:
-        yield f"a final disk of {len(got.final)} bytes"
-
-
 def refused_differences(want, got):
     if (got.status, got.report) != (want.status, want.report):
         yield f"status {got.status} {got.report!r}, and by the reference {want.status} {want.report!r}"
@@ -97,19 +75,13 @@ def differences(command, case):
         if command is None:
             return list(flaws(case, folder, want, log)), want, log
         got = by_command(command, case, folder)
-        return list(found_differences(case, folder, want, got, log)), want, log
+        return list(found_differences(case, folder, want, got)), want, log
 
 
-def found_differences(case, folder, want, got, log):
+def found_differences(case, folder, want, got):
     if want.status == SCRIPT_FAULT:
         return refused_differences(want, got)
-    line, end = case.script.signal_line(), expected_end(case, log)
-    if line:
-        return unbuilt_differences(case, want, got, b"not built: line %d\n" % line, b"")
-    logged = log_differences(folder, end is None)
-    if end is not None:
-        return [*unbuilt_differences(case, want, got, b"not built: pc %d\n" % end, want.term), *logged]
-    return [*built_differences(case, folder, want, got), *logged]
+    return [*built_differences(case, folder, want, got), *log_differences(folder)]
 
 
 def flaws(case, folder, want, log):
@@ -129,9 +101,9 @@ def flaws(case, folder, want, log):
 def count(case, want, log, counts):
     counts["scripts with a fault"] += want.status == SCRIPT_FAULT
     counts["scripts with a key that makes a signal"] += want.status == 0 and case.script.signal_line() > 0
-    if want.status == 0 and not case.script.signal_line():
-        counts["runs to what isn't built"] += expected_end(case, log) is not None
-        counts["runs to an exit"] += any(line.startswith("exit 1 ") for line in log) and expected_end(case, log) is None
+    if want.status == 0:
+        counts["signals"] += sum(line.startswith("signal ") for line in log)
+        counts["runs to an exit"] += any(line.startswith("exit 1 ") for line in log)
         counts["runs that show nothing"] += not want.term
         counts["bytes shown"] += len(want.term)
         counts["results told"] += len(re.findall(rb"[01][0-7]{6}\r?\n", want.term))

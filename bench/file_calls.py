@@ -18,8 +18,7 @@ A result is counted where it is known of which call it is. A run that tells none
 disk is full, is compared all the same.
 
 The reference is a Python module `abstract_unix` with the words `run`, `check` and `standfor`; the environment variable
-ABSTRACT_UNIX names the folder in which it is. Where a program comes to what isn't built, a v6 ends with status 11, and
-only what the terminal shows until then is compared.
+ABSTRACT_UNIX names the folder in which it is.
 """
 import collections
 import json
@@ -107,26 +106,6 @@ def by_command(command, case, folder):
 
 # differences
 
-def is_built(case, log):
-    """Whether the run comes to nothing that isn't built: a fault or a bad address, which is a signal; a wait; another
-    call."""
-    unknown = case.plan.ending and case.plan.ending.number not in CALLS
-    return not unknown and not any(line.startswith(("signal 1 ", "sleep 1 ")) for line in log)
-
-
-def unbuilt_differences(case, want, got):
-    is_last = case.plan.ending and len(results_of(case, want)) == len(list(items_of(case.plan)))
-    places = [case.plan.ending.at] if is_last and not case.plan.in_file else [call.at for call in case.plan.all_calls()]
-    if got.status != NOT_BUILT:
-        yield f"status {got.status} {got.report!r}, but the run comes to what isn't built"
-    elif got.report not in [b"not built: pc %d\n" % at for at in places]:
-        yield f"report {got.report!r}, but the run ends at {places if is_last else 'a call'}"
-    elif got.final:
-        yield f"a final disk of {len(got.final)} bytes"
-    if got.term != want.term:
-        yield "terminal: " + first_difference(want.term, got.term)
-
-
 def built_differences(case, folder, want, got):
     if (got.status, got.report) != (want.status, want.report):
         yield f"status {got.status} {got.report!r}, and by the reference {want.status} {want.report!r}"
@@ -179,10 +158,9 @@ def line_difference(want, got):
             f"{want[first : at + 3]}")
 
 
-def log_differences(folder, is_whole):
-    """How the logs differ. That of a run which comes to what isn't built goes on in the reference."""
+def log_differences(folder):
     want, got = read(f"{folder}/reference.log"), read(f"{folder}/v6.log")
-    if got != want if is_whole else not want.startswith(got):
+    if got != want:
         yield "log: " + line_difference(want, got)
 
 
@@ -194,10 +172,7 @@ def differences(command, case):
         if command is None:
             return list(flaws(case, folder, want, log)), want
         got = by_command(command, case, folder)
-        found = list(log_differences(folder, is_built(case, log)))
-        if is_built(case, log):
-            return [*built_differences(case, folder, want, got), *found], want
-        return [*unbuilt_differences(case, want, got), *found], want
+        return [*built_differences(case, folder, want, got), *log_differences(folder)], want
 
 
 def flaws(case, folder, want, log):
@@ -208,7 +183,7 @@ def flaws(case, folder, want, log):
         yield f"status {want.status} {want.report!r}"
     elif "image 1 " not in " ".join(log) and not case.is_cut:
         yield "init doesn't begin"
-    elif not is_built(case, log) and not case.plan.ending:
+    elif not case.plan.ending and any(line.startswith(("signal", "sleep 1")) for line in log):
         yield f"a signal or a wait: {[line for line in log if line.startswith(('signal', 'sleep 1'))][:1]}"
     elif not case.is_cut and not case.plan.ending and case.plan.exits and "idle" not in log:
         yield "init doesn't come to its end"

@@ -7,7 +7,9 @@
     bench/processes.py smallest COMMAND SEED FOLDER
     bench/processes.py execs make SEED FOLDER, or one of the others
     bench/processes.py full make SEED FOLDER, or one of the others
-    bench/processes.py small [execs] make SEED FOLDER, or one of the others
+    bench/processes.py pipes make SEED FOLDER, or one of the others
+    bench/processes.py signals make SEED FOLDER, or one of the others
+    bench/processes.py small [execs, signals] make SEED FOLDER, or one of the others
 
 A seed gives a small disk made at random, whose /etc/init makes processes, which make calls on processes and on files
 that they share, read what is typed and compute; a size of core; and a script with many ticks. `make` writes them
@@ -18,13 +20,14 @@ the programs came to. `alone` does the same with the reference alone. `smallest`
 steps of a program as long as there is a difference, and makes what is left. With the word `execs` the disks hold more
 programs, which execute one another, move the end of their data, let their stacks grow, share texts, and remove and write one
 another's files, as random_execs has them; with the word `full` such programs fill the swap area and the table of texts, as
-random_full has them, so that many runs come to a panic. With the word `small` core has from 64 to 163 clicks, so that most
+random_full has them, so that many runs come to a panic; with the word `pipes` processes talk through pipes, as random_pipes has
+them; with the word `signals` they send one another signals, make faults and leave files `core`, under scripts that type the keys
+which make signals, as random_signals has them. With the word `small` core has from 64 to 163 clicks, so that most
 images are out of it.
 
 The reference is the Python module `abstract_unix`, of which this uses `runs`, `script`, `disk` and `errors`; the
-environment variable ABSTRACT_UNIX names the folder in which it is. Where a run comes to what isn't built (a signal,
-as by a fault or a bad address), a v6 ends with status 11; the terminal and the log until then are compared, and no final
-disk is written. A run that comes to a panic ends with status 7, and its disk is compared as that of one that is done.
+environment variable ABSTRACT_UNIX names the folder in which it is. A run that comes to a panic ends with status 7, and its
+disk is compared as that of one that is done.
 """
 import collections
 import copy
@@ -37,11 +40,13 @@ import sys
 import tempfile
 import time
 
-from file_calls import DISK_BYTES, NOT_BUILT, SWAP_AT, by_command, first_difference, line_difference, node_differences
+from file_calls import DISK_BYTES, SWAP_AT, by_command, first_difference, line_difference, node_differences
 from random_disk import Tree
 from random_execs import Programs, data_at
 from random_full import CORES, FullPrograms, tree_for
+import random_pipes
 from random_processes import assembled, init_of, listed, random_program, random_script
+from random_signals import SignalPrograms, random_signal_script
 
 PANIC = 7
 PANICS = {"panic swap": b"panic: out of swap space\n", "panic zombie": b"panic: out of swap\n",
@@ -61,8 +66,11 @@ class Case:
         self.script = script or random_script(random.Random(f"script {seed}"))
         self.image = self.tree.image(init_of(self.program), random.Random(f"disk {seed}"))
 
+    def assembled(self):
+        return assembled(self.program)
+
     def listing(self):
-        assembled(self.program)
+        self.assembled()
         lines = ["the steps, each with its address, or that of its call", *listed(self.program.all_steps())]
         return "\n".join([*lines, "", "the disk", *self.tree.listing()]) + "\n"
 
@@ -112,6 +120,36 @@ class FullCase(ExecCase):
         self.programs = FullPrograms(programs, self.tree, self.core)
 
 
+class PipeCase(Case):
+    """The same with processes that talk through pipes."""
+
+    def __init__(self, seed, script=None, program=None):
+        rng = random.Random(f"pipes {seed}")
+        self.seed, self.tree = seed, Tree(random.Random(f"tree {seed}"))
+        self.core = rng.choice((3968, 3968, 3968, 1200, 2100, 600, rng.randrange(300, 3969)))
+        self.program = program or random_pipes.random_program(random.Random(f"program {seed}"), self.tree)
+        scripts = random_signal_script if rng.random() < 0.3 else random_script
+        self.script = script or scripts(random.Random(f"script {seed}"), (1000, 4000, 8000))
+        self.image = self.tree.image(random_pipes.init_of(self.program), random.Random(f"disk {seed}"))
+
+    def assembled(self):
+        return assembled(self.program, words=random_pipes.ends_of_pipes())
+
+
+class SignalCase(ExecCase):
+    """The same with programs that get signals."""
+
+    slots = (1000, 2000, 4000)
+
+    def __init__(self, seed, script=None, program=None):
+        super().__init__(seed, script or random_signal_script(random.Random(f"script {seed}"), self.slots), program)
+
+    def choose(self, rng, programs):
+        self.tree = Tree(random.Random(f"tree {self.seed}"))
+        self.core = rng.choice((3968, 3968, 1200, 600, 300, 200, 120, rng.randrange(64, 400)))
+        self.programs = SignalPrograms(programs, self.tree)
+
+
 def in_small_core(kind):
     """The same cases in less core."""
 
@@ -127,48 +165,21 @@ def kind_of(words):
     """The kind of cases that the first of these words ask for, and the others."""
     is_small = words[:1] == ["small"]
     words = words[is_small:]
-    kind = {"execs": ExecCase, "full": FullCase}.get(" ".join(words[:1]), Case)
+    kinds = {"execs": ExecCase, "full": FullCase, "pipes": PipeCase, "signals": SignalCase}
+    kind = kinds.get(" ".join(words[:1]), Case)
     return (in_small_core(kind) if is_small else kind), words[kind is not Case :]
 
 
 # the reference
 
-class Stop(Exception):
-    """The run comes to what isn't built."""
-
-
 def reference_run(case):
-    """A run of the reference, as far as what is built goes, and the report of what isn't, or none."""
     sys.path.insert(0, os.environ["ABSTRACT_UNIX"])
     from abstract_unix import runs, script
-
-    class Run(runs.Run):
-        def slot(self):
-            running = self.t.running
-            self.pc = self.u.procs[running].r[7] if running else 0
-            super().slot()
-
-        def entry(self, e):
-            """What isn't built is met at the line that it would log; what comes before it in the turn stands."""
-            if e[0] == "signal":
-                self.report = b"not built: pc %d\n" % self.pc
-            if self.report:
-                raise Stop
-            super().entry(e)
-
-    run = Run.__new__(Run)
-    run.report = b""
-    try:
-        run.__init__(case.image, case.core, script.read(case.script.bytes()))
-    except Stop:
-        pass
-    return run
+    return runs.Run(case.image, case.core, script.read(case.script.bytes()))
 
 
 def outcome_of(run):
     term, log = bytes(run.u.lines[0].shown), "".join(line + "\n" for line in run.log).encode()
-    if run.report:
-        return Outcome(NOT_BUILT, run.report, term, log, None)
     report = PANICS.get(run.log[-1], b"")
     return Outcome(PANIC if report else 0, report, term, log, json.loads(json.dumps(run.u.stores[0].dump())))
 
@@ -224,7 +235,6 @@ def differences(command, case):
 
 def count(want, counts):
     log = want.log.decode()
-    counts["runs to what isn't built"] += want.report.startswith(b"not built: pc")
     counts["runs to a panic"] += want.status == PANIC
     for line in PANICS:
         counts["runs to " + line] += log.endswith(line + "\n")
@@ -233,14 +243,16 @@ def count(want, counts):
     counts["most processes of a run"] = max(counts["most processes of a run"], most_processes(log))
     for name, text in (("forks", r"^fork"), ("exits", r"^exit"), ("waits that give a child", r"^reap"),
                        ("sleeps for a child", r"^sleep \d+ 40"), ("sleeps for a time", r"^sleep \d+ 90"),
-                       ("sleeps for keys", r"^sleep \d+ 10"), ("times set", r"^time"), ("priorities set", r"^nice"),
+                       ("sleeps for keys", r"^sleep \d+ 10"), ("sleeps for bytes of a pipe", r"^sleep \d+ 1 read"),
+                       ("sleeps for room in a pipe", r"^sleep \d+ 1 write"), ("wakes of a pipe", r"^wake (?:read|write)"), ("times set", r"^time"), ("priorities set", r"^nice"),
                        ("execs", r"^bare"), ("texts made", r"^text"), ("texts shared", r"^share"),
                        ("texts left", r"^drop"), ("texts left that are sticky", r"^drop .* sticky"),
                        ("images that grow", r"^size .* at"),
                        ("images that keep their place", r"^size .* keep"),
                        ("images made in the swap area", r"^(?:fork|size|image) .* swap"),
                        ("images that come in", r"^in "), ("images that go out", r"^out "),
-                       ("wakes by time", r"^wake tout"), ("wakes of keys", r"^wake keys"), ("ticks", r"^tick"),
+                       ("signals sent", r"^signal"), ("signals by keys", r"^signal .*\n(?:signal .*\n)*wake keys"),
+                       ("ends by a tick", r"^tick u\n(?:wake .*\n)*(?:drop .*\n)?exit"), ("wakes by time", r"^wake tout"), ("wakes of keys", r"^wake keys"), ("ticks", r"^tick"),
                        ("choices", r"^go"), ("choices after a tick", r"^tick.\w\n(?:wake .*\n)*go"), ("lines", r"^")):
         counts[name] += len(re.findall(text, log, re.MULTILINE))
 

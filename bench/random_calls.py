@@ -20,7 +20,7 @@ COUNTS = (0, 1, 2, 16, 16, 100, 100, 511, 512, 513, 1000, 1536, 3000)
 OFFSETS = (0, 1, 16, 100, 511, 512, 513, 4095, 4096, 32767, 32768, 65520, 65535)
 BLOCK_OFFSETS = (0, 1, 7, 8, 9, 255, 256, 1791, 1792, 2047, 2048, 32767, 32768, 32766, 65535)
 BAD = (1, 0o60000, 0o60001)
-NOT_BUILT = (0, 26, 37, 42, 44, 48, 49, 63)  # 0 takes the word after it as an address, which isn't one
+OTHERS = (0, 26, 37, 44, 48, 49, 63)  # 0 takes the word after it as an address, which isn't one
 
 
 class Chooser:
@@ -266,11 +266,11 @@ class Chooser:
         return self.rng.choices([kind for kind, _ in kinds], [weight for _, weight in kinds])[0]()
 
     def ending(self):
-        """A last call that isn't built: of another number, or with an address at which nothing is."""
+        """A last call: of another number, or with an address at which nothing is, which makes a signal."""
         end, fd = self.plan.clicks_end(), self.plan.fd
         bad = self.rng.choice((end, end - 35, 0o60001, STACK - 1, STACK - 35, STACK - 36))
         if self.odd(0.4):
-            return Call(self.rng.choice(NOT_BUILT))
+            return Call(self.rng.choice(OTHERS))
         kinds = (Call(STAT, ("/", 0), bad), Call(FSTAT, bad, r0=fd),
                  Call(OPEN, end, 1), Call(UNLINK, STACK - 1), Call(READ, end - 5, 10, r0="last"),
                  Call(WRITE, end - 5, 10, r0="last"), Call(WRITE, end - 5, 10, r0=fd))

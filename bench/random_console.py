@@ -305,7 +305,7 @@ class Chooser:
                  (self.waits, 2))
         return self.rng.choices([kind for kind, _ in kinds], [weight for _, weight in kinds])[0]()
 
-    def unbuilt(self):
+    def broken(self):
         """A call or an instruction that isn't built."""
         bad = self.rng.choice((0o60000, 0o60001, STACK - 1, STACK - 3))
         odd = self.rng.choice((STACK + 1, STACK - 2, 0o60000))
@@ -324,7 +324,7 @@ def random_program(rng, tree):
     rng.shuffle(body)
     chance = rng.random()
     rounds = rng.choice((1, 1, 2, 3, 5)) if chance < 0.3 else 0
-    ending = [chooser.unbuilt()] if chance < 0.12 else [[Call(EXIT, r0=3)]] if chance < 0.25 else []
+    ending = [chooser.broken()] if chance < 0.12 else [[Call(EXIT, r0=3)]] if chance < 0.25 else []
     program = Program(first, body, ending, chooser.room, rounds)
     while len(assembled(program)) > MOST_BYTES:
         program.body.pop()

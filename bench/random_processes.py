@@ -197,8 +197,8 @@ def put_steps(w, steps):
         step.put(w)
 
 
-def assembled(program, base=0):
-    """The bytes of the program, of which the first is at an address."""
+def assembled(program, base=0, words=()):
+    """The bytes of the program, of which the first is at an address. It has these words too, under their labels."""
     w = Words()
     w.put(*[0] * (base // 2))
     w.put(0o000137, "start")                                         # JMP @#start
@@ -208,6 +208,9 @@ def assembled(program, base=0):
     for i in range(VARIABLES):
         w.label(f"v{i}")
         w.put(0)
+    for name, word in words:
+        w.label(name)
+        w.put(word)
     calls = [step.call for step in steps if isinstance(getattr(step, "call", None), Call)]
     for name in sorted({arg[0] for call in calls for arg in call.args if isinstance(arg, tuple)}):
         w.label("=" + name)
@@ -274,7 +277,7 @@ class Chooser:
         if chance < 0.6:
             return steps + self.exits(in_r2)
         if chance < 0.62:
-            return steps + self.unbuilt()
+            return steps + self.broken()
         return steps + ([Code(0o000777)] if chance < 0.75 else [])
 
     def by_r2(self):
@@ -418,8 +421,8 @@ class Chooser:
                  (self.counts, 3), (self.tells_registers, 1), (self.rounds, 2 * deep), (self.exits_soon, 1))
         return self.rng.choices([kind for kind, _ in kinds], [weight for _, weight in kinds])[0](depth)
 
-    def unbuilt(self):
-        """A call or an instruction that isn't built."""
+    def broken(self):
+        """A call or an instruction that makes a signal."""
         bad, number = self.rng.choice((0o60000, STACK - 1, STACK - 3)), self.rng.choice(NO_CALLS[1:])
         kinds = (Does(Call(READ, bad, 5, r0=FD)), Does(Call(WRITE, bad, 7, r0=FD)), Does(Call(TIMES, STACK - 2)),
                  Does(Call(number, r0=FD)), Code(self.rng.choice(NO_INSTRUCTIONS)), Indirectly(number, (), FD),
@@ -432,7 +435,7 @@ def random_program(rng, tree):
     chooser = Chooser(rng, tree)
     first = [Does(Call(OPEN, (CONSOLE, 0), rng.choice((2, 2, 2, 2, 2, 2, 2, 0, 1))), rng.choice((0, 1)))]
     chance = rng.random()
-    ending = chooser.unbuilt() if chance < 0.1 else [WaitsForAll()] if chance < 0.5 else []
+    ending = chooser.broken() if chance < 0.1 else [WaitsForAll()] if chance < 0.5 else []
     ending += chooser.exits() if rng.random() < 0.1 else []
     steps = chooser.one_child(0) if rng.random() < 0.6 else chooser.many_children(0)
     program = Program(first, steps, ending)

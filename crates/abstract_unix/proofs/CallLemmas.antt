@@ -1,10 +1,13 @@
 -- What is so of the parts after a call on processes. Where it stops they belong together, or the call says what it has left; and
 -- a call that isn't exec leaves the texts, and with them which inodes are marked.
-use Rattle.std.proofs.Common.{◌≡◌, ◌⊎◌, ◌∙◌, ℕ, Bool, true, false, cond, List, Option, Some, None, slice_index, refl, sym, ap, inl, inr}
+use Rattle.std.proofs.Common.{◌≡◌, ◌⊎◌, ◌∙◌, ℕ, ◌==◌, Bool, true, false, cond, List, [], ◌∷◌, ◌++◌, map, length, Option, Some, None, slice_index, refl, sym, ap, inl, inr}
 use Rattle.std.specs.Prelude.{⊤, Result, Ok, Err, IfErr}
-use Rattle.v6_base.specs.Trace.{Taken}
+use Rattle.v6_base.specs.Trace.{Taken, Log}
+use Rattle.v6_base.specs.declared.entry.Entry.TheVariants as line
 use Rattle.v6_base.specs.declared.answer.Answer.{Answer}
 use Rattle.v6_base.specs.declared.entry.PanicKind.{PanicKind}
+use Rattle.sig_core.specs.Signals.{is_signal}
+use Rattle.pick_rules.specs.Effects.{Effect, Show}
 use Rattle.pick_rules.specs.Logged.{Stop, left_by}
 use Rattle.fs_nodes.specs.FileSystem.{FileSystem}
 use Rattle.seg_regs.specs.Sizes.{is_refused}
@@ -12,6 +15,7 @@ use Rattle.sys_procs.specs.declared.procs.Procs.{Procs}
 use Rattle.sys_procs.specs.World.{World, process_of, change, without_process, texts_in}
 use Rattle.sys_procs.specs.Times.{with_time}
 use Rattle.sys_procs.specs.Comes.{Comes}
+use Rattle.sys_procs.specs.Signals.{signal_lines, meant_in, is_reached, kill_to}
 use Rattle.sys_procs.specs.Break.{clicks_up_to, break_at}
 use Rattle.sys_procs.specs.TextTable.{Text, marks_of}
 use Rattle.sys_procs.specs.Handed.{handed, board, came, IsMarked}
@@ -19,7 +23,7 @@ use Rattle.sys_procs.specs.Done.{HasDone}
 use Rattle.abstract_unix.specs.declared.calls.ProcessCall.{ProcessCall}
 use Rattle.abstract_unix.specs.declared.calls.ProcessCall.TheVariants as process
 use Rattle.abstract_unix.specs.Calls.{process_row}
-use Rattle.abstract_unix.proofs.Moved.{AreTamed, tamed_moves, tamed_mild, mild_wake, mild_nice, mild_time, mild_reap}
+use Rattle.abstract_unix.proofs.Moved.{AreTamed, tamed_moves, tamed_mild, mild_wake, mild_signal, mild_nice, mild_time, mild_reap}
 use Rattle.abstract_unix.proofs.ProcessRows.{Plain, gives, refuses, waits, changes, due, nice, wakes, dated, buries, plain_row}
 
 pub stops_whole : {A E : Type 0} (r : Result A E) (P Q : Type 0) → P → IfErr r (λ e. P ⊎ Q)
@@ -64,6 +68,27 @@ break_leaves w s at =
     leaves_if w.texts (is_refused u.text_size (clicks_up_to u.text_size at) u.stack_size w.limit) _ _
     (record { effects = tt; state = refl }) (record { effects = (refl, tt); state = refl })
 
+-- lines of signals, and then what makes no demand
+kill_lines : (n : ℕ) (slots : List ℕ) (rest : List (Effect World)) → AreTamed (λ (x : World). ⊥) rest
+    → AreTamed (λ (x : World). ⊥) (map Show (map (λ r. Log (line.Signal r n)) slots) ++ rest)
+kill_lines n [] rest tamed = tamed
+kill_lines n (r ∷ slots) rest tamed = (mild_signal r n, kill_lines n slots rest tamed)
+
+pub signal_tamed : (n : ℕ) (slots : List ℕ) (rest : List (Effect World)) → AreTamed (λ (x : World). ⊥) rest
+    → AreTamed (λ (x : World). ⊥) (map Show (signal_lines n slots) ++ rest)
+signal_tamed n slots rest tamed = by (is_signal n)
+  where
+    by : (b : Bool) → AreTamed (λ (x : World). ⊥) (map Show (cond b (map (λ r. Log (line.Signal r n)) slots) []) ++ rest)
+    by true = kill_lines n slots rest tamed
+    by false = tamed
+
+kill_leaves : (w : World) (s n : ℕ) → Leaves w.texts (kill_to w s n)
+unfolding kill_to
+kill_leaves w s n =
+    let slots : List ℕ = meant_in (is_reached s (process_of w s)) w.processes in
+    leaves_if w.texts (length slots == 0) _ _ (record { effects = tt; state = refl })
+    (mild_leaves w.texts _ (signal_tamed n slots [] tt) refl)
+
 abbrev pub IsNotExec : ProcessCall → Type 0
 IsNotExec process.Exec = ⊥
 IsNotExec call = ⊤
@@ -71,6 +96,7 @@ IsNotExec call = ⊤
 row_leaves : (call : ProcessCall) → IsNotExec call → (s : ℕ) (w : World) (args : List ℕ) → Leaves w.texts (process_row call w s args)
 row_leaves process.Exec is s w a = absurd is
 row_leaves process.Break is s w a = break_leaves w s (slice_index a 0)
+row_leaves process.Kill is s w a = kill_leaves w s (slice_index a 0)
 row_leaves call is s w a = plain_leaves s w _ (plain_row call tt s w a)
 
 left_so : (old new : Procs) (fs : FileSystem) (texts : List (Option Text)) {r : Result Answer PanicKind} {start end : Taken} (c : Comes) → Leaves texts c

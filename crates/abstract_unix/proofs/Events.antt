@@ -122,6 +122,28 @@ event_by u v seen es a stop =
     let f : Fitted (Paused (seats_of v)) seen l = apt_fits (Paused (seats_of v)) seen es a in
     settles_fine v seen l f.fit f.board (ends_none (Paused (seats_of v)) l.stop (seen_items seen l.items) stop f.ends) stop
 
+-- the same of one that a panic may end
+pub passes_fine : (v : Unix) (seen : Seen) (es : List (Effect Unix)) → Apt (Paused (seats_of v)) seen es
+    → FineTurn seen (settled_after (passes v (logged seen.board es)))
+passes_fine v seen es a = by l.stop refl
+  where
+    l : Logged Unix
+    l = logged seen.board es
+
+    f : Fitted (Paused (seats_of v)) seen l
+    f = apt_fits (Paused (seats_of v)) seen es a
+
+    by : (o : Option (Stop Unix)) → l.stop ≡ o
+        → FineTurn seen (settled_after (passes v (record { items = l.items; board = l.board; stop = o })))
+    by None e =
+        settles_fine v seen (record { items = l.items; board = l.board; stop = None }) f.fit f.board
+        (ends_none (Paused (seats_of v)) l.stop (seen_items seen l.items) e f.ends) refl
+    by (Some stop) e = record {
+      fit = f.fit;
+      stands = λ x. absurd (cc x);
+      over = λ kind x. subst (λ o. Ends (Paused (seats_of v)) o (seen_items seen l.items)) e f.ends;
+    }
+
 -- A turn.
 stops : (pc : ℕ) (o : Option (Stop Unix)) (steps : Steps) → ending_by pc o steps.ending ≡ AtEnd
     → (o ≡ None) × (ending_at pc steps.ending ≡ AtEnd)

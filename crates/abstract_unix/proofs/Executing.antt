@@ -36,7 +36,8 @@ use Rattle.sys_procs.specs.Process.{Process, no_process, image_of}
 use Rattle.sys_procs.specs.TextTable.{Text, no_text, text_of, with_text, is_text_of, entry_of}
 use Rattle.sys_procs.specs.Texts.{xfree, xalloc, xalloc_by, new_text, with_entry, shares_text, makes_text, leaves_text, is_sticky}
 use Rattle.sys_procs.specs.World.{World, process_of, change, with_inodes, let_go}
-use Rattle.sys_procs.specs.Comes.{Comes, fails, does, logs}
+use Rattle.sig_core.specs.declared.numbers.TheConstants.{SIGSEG}
+use Rattle.sys_procs.specs.Comes.{Comes, fails, does, logs, returns}
 use Rattle.sys_procs.specs.Tests.{must, user_of, node_at}
 use Rattle.sys_procs.specs.Stack.{arguments, first_stack, stack_clicks}
 use Rattle.sys_procs.specs.Break as break
@@ -44,7 +45,7 @@ use Rattle.sys_procs.specs.ExecFile as exec
 use Rattle.abstract_unix.specs.Unix.{Unix}
 use Rattle.abstract_unix.specs.Calls.{world_of, with_world, grows, grown_by, grows_to}
 use Rattle.abstract_unix.proofs.Sitting.{seat_for, seat_of, seats_in, seats_under, seats_here, users, users_in, users_at, users_joined, free_users_is, found_in, runner_seat, runner_alive, runner_text, put_in}
-use Rattle.abstract_unix.proofs.Steps.{AptSteps, nothing_built, apt_lifted, trapped}
+use Rattle.abstract_unix.proofs.Steps.{AptBegun, signals_apt, apt_lifted, trapped}
 use Rattle.abstract_unix.proofs.Rows.{FineComes, Calling, fails_fine, logged_fine}
 use Rattle.abstract_unix.proofs.Exiting.{same_limit, none_left, calling_left, fits_left}
 
@@ -128,21 +129,37 @@ module _ (s : ℕ) (seen : Seen) where
       outer false g = inner (nat_le wanted st) (is_refused t d wanted most) refl g
 
   grows_apt : (u : Unix) (c : Comes) → Apt (InCall s false (seats_under u.limit c.state)) seen c.effects
-      → AptSteps s seen (grows u c)
+      → AptBegun s seen (grows u c)
   grows_apt u c a =
       trapped s seen (with_world u c.state) (with_world u c.state) (map (lifted (with_world u)) c.effects) (λ now j. j)
       (apt_lifted (with_world u) (InCall s false (seats_under u.limit c.state)) seen c.effects a)
 
-  pub grow_apt : (u : Unix) (sp : ℕ) → Calling s (world_of u) seen → AptSteps s seen (grows_to u s sp)
-  unfolding break.grow
+  -- the stack grows for a routine, where it must and can
+  pub grown_or_not_apt : (u : Unix) (sp : ℕ) → Calling s (world_of u) seen
+      → AptBegun s seen (grows u (break.grown_or_not (world_of u) s (break.grow (world_of u) s sp)))
+  unfolding break.grow Apt
+  grown_or_not_apt u sp i = by (break.grown_stack p.u.text_size p.u.data_size p.u.stack_size u.limit sp) refl
+    where
+      p : Process
+      p = process_of (world_of u) s
+
+      by : (o : Option ℕ) → break.grown_stack p.u.text_size p.u.data_size p.u.stack_size u.limit sp ≡ o
+          → AptBegun s seen (grows u (break.grown_or_not (world_of u) s (option_map (break.expands (world_of u) s p.u.data_size) o)))
+      by None e = grows_apt u (returns (world_of u) s) i
+      by (Some new) e =
+          grows_apt u (break.expands (world_of u) s p.u.data_size new)
+          (expand_fine s seen (world_of u) i p.u.text_size p.u.data_size new (grown_fits p.u.text_size p.u.data_size p.u.stack_size u.limit sp new e)).fine
+
+  pub grow_apt : (u : Unix) (sp : ℕ) → Calling s (world_of u) seen → AptBegun s seen (grows_to u s sp)
+  unfolding break.grow Apt
   grow_apt u sp i = by (break.grown_stack p.u.text_size p.u.data_size p.u.stack_size u.limit sp) refl
     where
       p : Process
       p = process_of (world_of u) s
 
       by : (o : Option ℕ) → break.grown_stack p.u.text_size p.u.data_size p.u.stack_size u.limit sp ≡ o
-          → AptSteps s seen (grown_by u s (option_map (break.expands (world_of u) s p.u.data_size) o))
-      by None e = nothing_built s seen u
+          → AptBegun s seen (grown_by u s (option_map (break.expands (world_of u) s p.u.data_size) o))
+      by None e = signals_apt s seen u SIGSEG [] refl (omega arith) (omega arith) i
       by (Some new) e =
           grows_apt u (break.expands (world_of u) s p.u.data_size new)
           (expand_fine s seen (world_of u) i p.u.text_size p.u.data_size new (grown_fits p.u.text_size p.u.data_size p.u.stack_size u.limit sp new e)).fine

@@ -36,7 +36,7 @@ use Rattle.abstract_unix.specs.Unix as unix
 use Rattle.abstract_unix.specs.Unix.{Unix}
 use Rattle.abstract_unix.specs.Calls.{handed_of, with_handed, world_of, with_world, did_by, closes_all, exits_with}
 use Rattle.abstract_unix.proofs.Sitting.{seat_for, seat_of, seats_in, seats_under, seats_here, seats_of, users, users_left, runner_seat, runner_alive, runner_text, put_in, changed_in, kept_in}
-use Rattle.abstract_unix.proofs.Steps.{AptSteps, Answered, ends_in, apt_lifted, answers_apt}
+use Rattle.abstract_unix.proofs.Steps.{AptSteps, AptBegun, Answered, ends_in, apt_lifted, answers_apt}
 use Rattle.abstract_unix.proofs.Quiet.{AreQuiet, SameSize, SameCall, EndsIn, Calm, CalmClosing, close_all_calm}
 use Rattle.abstract_unix.proofs.Rows.{Calling}
 
@@ -60,7 +60,7 @@ module _ (W : Type 0) (s : ℕ) (calling : Bool) (v : Seats) where
 
 module _ (s : ℕ) where
   -- what a call on files leaves of the process
-  handed_in : (u : Unix) (seen : Seen) (calling : Bool) (h : Handed) (pending : ℕ) → InCall s calling (seats_of u) seen
+  pub handed_in : (u : Unix) (seen : Seen) (calling : Bool) (h : Handed) (pending : ℕ) → InCall s calling (seats_of u) seen
       → SameSize (unix.process_of u s).u h.u
       → h.u.pending ≡ pending → InCall s (not (pending == 0)) (seats_of (with_handed u s h)) seen
   handed_in u seen calling h pending i k e = subst (λ n. InCall s (not (n == 0)) (seats_of (with_handed u s h)) seen) e
@@ -69,7 +69,7 @@ module _ (s : ℕ) where
 
   pub did_apt : (u : Unix) (seen : Seen) (calling : Bool) (old : UArea) (did : Did) → InCall s calling (seats_of u) seen
       → SameSize (unix.process_of u s).u old
-      → old.pending ≡ 0 → Calm old did → AptSteps s seen (did_by u s did)
+      → old.pending ≡ 0 → Calm old did → AptBegun s seen (did_by u s did)
   did_apt u seen calling old did i k quiet c = answers_apt s seen (with_handed u s did.state) (map Show did.items) did.answer (by did.answer c.ends)
     where
       same : SameSize old did.state.u → SameSize (unix.process_of u s).u did.state.u

@@ -3,12 +3,15 @@ pub mod Steps
 pub mod Quiet
 pub mod ProcessRows
 pub mod Rows
+pub mod Posting
 pub mod Children
 pub mod Exiting
 pub mod Executing
+pub mod Delivering
 pub mod Turning
 pub mod Passing
 pub mod Events
+pub mod Ticking
 pub mod Outside
 pub mod Lawfully
 pub mod RunsLemmas

@@ -1,5 +1,5 @@
 -- What the log of a call on processes leaves of the board: core, and who runs.
-use Rattle.std.proofs.Common.{◌≡◌, ◌∙◌, ◌+◌, ◌-◌, ℕ, ℤ, Bool, true, false, cond, nat_le, if◌then◌else◌, List, [], ◌∷◌, ◌++◌, fold, Option, Some, None, refl, sym, subst}
+use Rattle.std.proofs.Common.{◌≡◌, ◌∙◌, ◌+◌, ◌-◌, ℕ, ℤ, pos, Bool, true, false, cond, nat_le, if◌then◌else◌, List, [], ◌∷◌, ◌++◌, fold, Option, Some, None, refl, sym, subst}
 use Rattle.v6_base.specs.Trace.{Item, Byte, Log}
 use Rattle.v6_base.specs.declared.entry.Chan.{Chan}
 use Rattle.v6_base.specs.declared.entry.Entry.{Entry}
@@ -8,14 +8,15 @@ use Rattle.v6_base.specs.declared.entry.PanicKind.{PanicKind}
 use Rattle.v6_base.specs.declared.entry.Place.{Place}
 use Rattle.v6_base.specs.declared.entry.Place.TheVariants.{Core, Swap}
 use Rattle.pick_rules.specs.declared.row.TableRow.{TableRow}
-use Rattle.pick_rules.specs.Table.{row_at, empty_row, child_row, is_loaded}
+use Rattle.std.specs.Int.{int_min}
+use Rattle.pick_rules.specs.Table.{row_at, empty_row, child_row, is_loaded, is_waiting, with_row}
 use Rattle.pick_rules.specs.Board.{blocks, free_text, swap_fit, TextPlace, Board, placed}
 use Rattle.pick_rules.specs.Apply.{applied, in_table, change_row, change_text, enters_core, leaves_core, parted, goes_if_unused, joins, without_place, at_place}
 use Rattle.pick_rules.specs.Effects.{Effect, Show, Size, Fork, Text, Image, Exit, Came, Lets, Stops, image_at, new_text_at, came}
 use Rattle.pick_rules.specs.Logged.{Logged, Stop, logged, log_one, with_what_came}
 use Rattle.pick_rules.specs.declared.table.Table.{Table}
-use Rattle.pick_rules.specs.Sleepers.{made_ready, runout_told}
-use Rattle.pick_rules.proofs.Laws.{Stays, runout_stays, wakeup_kept}
+use Rattle.pick_rules.specs.Sleepers.{made_ready, runout_told, setrun, signalled}
+use Rattle.pick_rules.proofs.Laws.{Stays, runout_stays, setrun_kept, wakeup_kept}
 use Rattle.pick_rules.proofs.Stopping.{stays_stopped}
 
 pub record MovedBoard (b now : Board) : Type 0 where
@@ -84,6 +85,17 @@ IsMildLine e = (b : Board) → MovedBoard b (applied b e)
 pub mild_wake : (chan : Chan) → IsMildLine (line.Wake chan)
 unfolding applied
 mild_wake chan b = record { core = refl; running = (wakeup_kept b.table chan).running }
+
+pub mild_signal : (s n : ℕ) → IsMildLine (line.Signal s n)
+unfolding applied signalled
+mild_signal s n b = record { core = refl; running = by (is_waiting (row_at b.table s).stat) }
+  where
+    lowered : Table
+    lowered = with_row b.table s (record (row_at b.table s) { pri = int_min (row_at b.table s).pri (pos 100) })
+
+    by : (x : Bool) → (cond x (setrun lowered s) lowered).running ≡ b.table.running
+    by true = (setrun_kept lowered s).running
+    by false = refl
 
 pub mild_nice : (s : ℕ) (nice : ℤ) → IsMildLine (line.Nice s nice)
 unfolding applied

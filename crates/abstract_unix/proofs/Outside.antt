@@ -1,29 +1,43 @@
 -- Ticks, keys and switches add lines that fit.
-use Rattle.std.proofs.Common.{◌≡◌, ◌∙◌, ◌==◌, ◌+◌, ◌%◌, ◌^◌, inl, inr, ℕ, not, Bool, true, false, cond, if◌then◌else◌, List, [], ◌∷◌, ◌++◌, map, Option, Some, None, refl, sym, ap, subst}
+use Rattle.std.proofs.Common.{◌≡◌, ◌≢◌, ◌∙◌, ◌==◌, ◌&&◌, ◌+◌, ◌%◌, ◌^◌, inl, inr, ℕ, not, Bool, true, false, cond, if◌then◌else◌, List, [], ◌∷◌, ◌++◌, map, Option, Some, None, refl, sym, ap, subst}
 use Rattle.std.proofs.lemmas.Bool.{eqb-false}
-use Rattle.v6_base.specs.Trace.{Log, sent}
+use Rattle.std.proofs.lemmas.Option.{same_Some}
+use Rattle.v6_base.specs.Trace.{Item, Log, sent}
 use Rattle.v6_base.specs.declared.entry.Chan.{Chan}
 use Rattle.v6_base.specs.declared.entry.Chan.TheVariants.{Tout, Keys}
 use Rattle.tty_line.specs.Input.{Typed, typed}
 use Rattle.pick_rules.specs.declared.row.Mode.{Mode}
 use Rattle.pick_rules.specs.declared.row.Mode.TheVariants.{User, Kernel, Idle}
-use Rattle.pick_rules.specs.Effects.{Show, came}
+use Rattle.pick_rules.specs.Effects.{Effect, Show, came}
 use Rattle.pick_rules.specs.Ranges.{IsChannel}
 use Rattle.pick_rules.specs.Fits as fits
 use Rattle.pick_rules.specs.Fits.{mode_now}
 use Rattle.pick_rules.specs.Lawful.{Seen, Fits, FitAll, seen_after}
-use Rattle.log_laws.proofs.Fitting.{Apt, wake_apt}
-use Rattle.log_laws.proofs.Seats.{Seats, InTurn, RunnerAt, Paused, Holds}
-use Rattle.log_laws.proofs.Lines.{wake_paused}
+use Rattle.log_laws.proofs.Fitting.{Apt, apt_append, wake_apt}
+use Rattle.log_laws.proofs.Seats.{Seat, Seats, seat_at, InTurn, RunnerAt, Paused, Holds, own, not_zero, busy_agrees}
+use Rattle.log_laws.proofs.Lines.{wake_paused, signal_paused}
 use Rattle.log_laws.proofs.Clocks.{tick_line, ticked_at, a_tick_later, tick_paused, tick_fits, mode_is}
+use Rattle.tty_line.specs.Terminal.{Terminal}
+use Rattle.tty_line.specs.declared.line.Keyed.{Keyed}
+use Rattle.tty_line.specs.declared.line.Keyed.TheVariants.{Nothing, Ready, Flushed, Signal}
+use Rattle.sys_procs.specs.Signals.{has_console, meant_in}
 use Rattle.sys_procs.specs.Process.{Process}
 use Rattle.sys_procs.specs.World.{Clock}
-use Rattle.abstract_unix.specs.Unix.{Unix, process_of, with_process}
-use Rattle.abstract_unix.specs.Turn.{stays, settled_after, is_user}
-use Rattle.abstract_unix.specs.Outside.{mode_by, tick_entry, timed, charged, clock_after, is_due, ticked, wakes, tick_of, calls, typed_of, switched_of}
-use Rattle.abstract_unix.proofs.Sitting.{seat_for, seats_of, runner_seat}
+use Rattle.pick_rules.specs.Logged.{logged}
+use Rattle.abstract_unix.specs.Unix.{Unix, System, process_of, with_process}
+use Rattle.abstract_unix.specs.Turn.{happens, stays, settled_after, is_user}
+use Rattle.pick_rules.specs.Table.{row_at}
+use Rattle.pick_rules.specs.Apply.{applied}
+use Rattle.pick_rules.proofs.Laws.{passed_running, wakeup_kept}
+use Rattle.pick_rules.proofs.TickShapes.{tick_same}
+use Rattle.abstract_unix.specs.Steps.{Steps, returns}
+use Rattle.abstract_unix.specs.Delivery.{delivers_due}
+use Rattle.abstract_unix.specs.Outside.{is_user_mode, is_second, is_as_trap, delivers_to, tick_delivery, mode_by, tick_entry, timed, charged, clock_after, is_due, ticked, wakes, tick_of, calls, with_key, key_lines, typed_of, switched_of}
+use Rattle.abstract_unix.proofs.Sitting.{seat_for, seats_of, seat_in, runner_seat}
+use Rattle.abstract_unix.proofs.Posting.{posted_seats, signal_lines_apt, meant_seated}
 use Rattle.abstract_unix.proofs.Turning.{same_seats}
-use Rattle.abstract_unix.proofs.Events.{system_at, FineTurn, AreShown, shown_stop, event_by}
+use Rattle.abstract_unix.proofs.Events.{system_at, FineTurn, AreShown, shown_stop, event_by, passes_fine}
+use Rattle.abstract_unix.proofs.Ticking.{due_paused}
 
 -- a wake between two events
 wakes_apt : (u : Unix) (seen : Seen) (due : Bool) (chan : Chan) → IsChannel chan → Paused (seats_of u) seen
@@ -115,14 +129,87 @@ shown_wakes : (due : Bool) (chan : Chan) → AreShown (wakes due chan)
 shown_wakes true chan = tt
 shown_wakes false chan = tt
 
+first_true : (x y : Bool) → (x && y) ≡ true → x ≡ true
+first_true true y e = refl
+first_true false y e = absurd (cc e)
+
+mode_user : (x y : Bool) → is_user_mode (cond x Kernel (cond y User Kernel)) ≡ true → (x ≡ false) × (y ≡ true)
+mode_user true y e = absurd (cc e)
+mode_user false true e = (refl, refl)
+mode_user false false e = absurd (cc e)
+
+-- Who runs in user mode isn't process 0, and waits in no call, also with a tick more of its times.
+abbrev InUserMode : Unix → ℕ → Type 0
+InUserMode u s = (s ≢ 0) × ((seat : Seat) → seat_at (seats_of u) s ≡ Some seat → seat.calling ≡ false)
+
+user_runs : (u : Unix) (seen : Seen) (r : ℕ) → Paused (seats_of u) seen → seen.board.table.running ≡ Some r
+    → is_user_mode (mode_by u seen.board.table.running) ≡ true → InUserMode (ticked (system_at u seen)) r
+user_runs u seen r p runs user = by (subst (RunnerAt (seats_of u) seen.board) runs p.runner)
+  where
+    mode : ((r == 0) ≡ false) × (is_user (process_of u r) ≡ true)
+    mode = mode_user (r == 0) (is_user (process_of u r)) (subst (λ o. is_user_mode (mode_by u o) ≡ true) runs user)
+
+    by : RunnerAt (seats_of u) seen.board (Some r)
+        → (r ≢ 0) × ((seat : Seat) → seat_at (seats_of (ticked (system_at u seen))) r ≡ Some seat → seat.calling ≡ false)
+    by (inl z) = absurd (eqb-false r 0 mode.0 z)
+    by (inr t) = (eqb-false r 0 mode.0, λ seat at.
+        let slots = ap (λ (v : Seats). seat_at v r) (charged_seats u seen (mode_by u seen.board.table.running) p.runner) in
+        let is : seat ≡ t.seat = same_Some _ _ (sym at ∙ slots ∙ t.at) in
+        ap (λ (x : Seat). x.calling) is ∙ ap (λ (x : Seat). x.calling) (sym (runner_seat u.processes u.clock u.texts u.limit r seen.board t)) ∙ ap not mode.1)
+
+-- a tick and a wake leave who runs
+tick_runs : (u : Unix) (seen : Seen) (mode : Mode) → Paused (seats_of u) seen
+    → (seen_after seen (tick_line mode)).board.table.running ≡ seen.board.table.running
+unfolding applied
+tick_runs u seen mode p = by mode
+  where
+    by : (m : Mode) → (seen_after seen (tick_line m)).board.table.running ≡ seen.board.table.running
+    by User = (tick_same User seen.board.table p.agrees.sleeps).running ∙ passed_running seen.board.table
+    by Kernel = (tick_same Kernel seen.board.table p.agrees.sleeps).running ∙ passed_running seen.board.table
+    by Idle = (tick_same Idle seen.board.table p.agrees.sleeps).running ∙ passed_running seen.board.table
+
+-- between two events, with the same runner
+abbrev RunsOn : Unix → Option ℕ → Seen → Type 0
+RunsOn u o seen = Paused (seats_of u) seen × (seen.board.table.running ≡ o)
+
+wakes_on : (u : Unix) (o : Option ℕ) (seen : Seen) (due : Bool) → RunsOn u o seen → Apt (RunsOn u o) seen (wakes due Tout)
+unfolding Apt applied
+wakes_on u o seen true p =
+    wake_apt (RunsOn u o) seen Tout [] p.0.going tt
+    (wake_paused (seats_of u) seen Tout p.0, (wakeup_kept seen.board.table Tout).running ∙ p.1)
+wakes_on u o seen false p = p
+
+-- A signal comes to who runs, in user mode.
+delivery_apt : (u : Unix) (o : Option ℕ) (seen : Seen) (b : Bool) → (b ≡ true → (s : ℕ) → o ≡ Some s → InUserMode u s)
+    → RunsOn u o seen
+    → Apt (Paused (seats_of (cond b (delivers_to u o) (returns u)).unix)) seen (cond b (delivers_to u o) (returns u)).effects
+unfolding Apt
+delivery_apt u o seen false in_user p = p.0
+delivery_apt u None seen true in_user p = p.0
+delivery_apt u (Some s) seen true in_user p = by (subst (RunnerAt (seats_of u) seen.board) p.1 p.0.runner)
+  where
+    user : (s ≢ 0) × ((seat : Seat) → seat_at (seats_of u) s ≡ Some seat → seat.calling ≡ false)
+    user = in_user refl s refl
+
+    by : RunnerAt (seats_of u) seen.board (Some s) → Apt (Paused (seats_of (delivers_due u s).unix)) seen (delivers_due u s).effects
+    by (inl z) = absurd (user.0 z)
+    by (inr t) =
+        let calls : t.seat.calling ≡ false = user.1 t.seat t.at in
+        let out : (row_at seen.board.table s).calling ≡ false =
+        (own 0 s (seats_of u) seen.board p.0.agrees t).calling (not_zero s t.user) t.alive ∙ calls in
+        due_paused s seen u (record { going = p.0.going; agrees = busy_agrees s (seats_of u) seen.board p.0.agrees; turn = t; calls = calls }) out
+
 pub tick_fine : (u : Unix) (seen : Seen) → Paused (seats_of u) seen
     → FineTurn seen (settled_after (tick_of (system_at u seen)))
 unfolding Apt came
 tick_fine u seen p =
-    event_by u now seen (Show (Log (tick_entry mode)) ∷ wakes due Tout)
-    (subst (λ x. Fits seen x × Apt (Paused (seats_of now)) (seen_after seen x) (wakes due Tout)) (sym line_is)
-    (tick_fits seen p.going, wakes_apt now (seen_after seen (tick_line (mode_now seen.board))) due Tout tt (tick_keeps u seen (mode_now seen.board) p)))
-    (shown_stop seen.board (Show (Log (tick_entry mode)) ∷ wakes due Tout) (shown_wakes due Tout))
+    passes_fine s.unix seen (Show (Log (tick_entry mode)) ∷ wakes due Tout ++ s.effects)
+    (subst (λ x. Fits seen x × Apt (Paused (seats_of s.unix)) (seen_after seen x) (wakes due Tout ++ s.effects)) (sym line_is)
+    (tick_fits seen p.going,
+    apt_append (RunsOn now runner) (Paused (seats_of s.unix)) (seen_after seen (tick_line (mode_now seen.board))) (wakes due Tout) s.effects
+    (wakes_on now runner (seen_after seen (tick_line (mode_now seen.board))) due
+    (tick_keeps u seen (mode_now seen.board) p, tick_runs u seen (mode_now seen.board) p))
+    (λ at q. delivery_apt now runner at (is_as_trap (system_at u seen)) in_user q)))
   where
     mode : Mode
     mode = mode_by u seen.board.table.running
@@ -130,31 +217,62 @@ tick_fine u seen p =
     due : Bool
     due = is_due u.clock
 
+    runner : Option ℕ
+    runner = seen.board.table.running
+
     now : Unix
     now = ticked (system_at u seen)
+
+    s : Steps
+    s = tick_delivery (system_at u seen)
 
     line_is : tick_entry mode ≡ tick_line (mode_now seen.board)
     line_is = ap tick_entry (mode_same u seen p) ∙ same_line (mode_now seen.board)
 
--- a key
-keys_apt : (v : Unix) (seen : Seen) (bytes : List ℕ) (due : Bool) → Paused (seats_of v) seen
-    → Apt (Paused (seats_of v)) seen (map Show (sent 0 bytes) ++ wakes due Keys)
-unfolding Apt came
-keys_apt v seen [] due p = wakes_apt v seen due Keys tt p
-keys_apt v seen (byte ∷ bytes) due p = keys_apt v seen bytes due p
+    in_user : is_as_trap (system_at u seen) ≡ true → (r : ℕ) → runner ≡ Some r → InUserMode now r
+    in_user is r runs = user_runs u seen r p runs (first_true (is_user_mode mode) (is_second u.clock) is)
 
-shown_keys : (bytes : List ℕ) (due : Bool) → AreShown (map Show (sent 0 bytes) ++ wakes due Keys)
-shown_keys [] due = shown_wakes due Keys
-shown_keys (byte ∷ bytes) due = shown_keys bytes due
+-- A key: bytes are shown, a signal is sent, and sleepers wake.
+bytes_apt : (Q : Seen → Type 0) (seen : Seen) (bytes : List ℕ) (rest : List Item) (tail : List (Effect Unix))
+    → Apt Q seen (map Show rest ++ tail) → Apt Q seen (map Show (sent 0 bytes ++ rest) ++ tail)
+unfolding Apt came
+bytes_apt Q seen [] rest tail a = a
+bytes_apt Q seen (byte ∷ bytes) rest tail a = bytes_apt Q seen bytes rest tail a
+
+-- The lines are those of the Unix before; its terminal has changed.
+key_apt : (u : Unix) (terminal : Terminal) (seen : Seen) (keyed : Keyed) (due : Bool) → Paused (seats_of u) seen
+    → Apt (Paused (seats_of (with_key keyed (record u { line = terminal })))) seen (map Show (key_lines keyed u) ++ wakes due Keys)
+key_apt u terminal seen Nothing due p = wakes_apt (record u { line = terminal }) seen due Keys tt p
+key_apt u terminal seen Ready due p = wakes_apt (record u { line = terminal }) seen due Keys tt p
+key_apt u terminal seen Flushed due p = wakes_apt (record u { line = terminal }) seen due Keys tt p
+key_apt u terminal seen (Signal n) due p =
+    let v : Seats = seats_of u in
+    let now : Unix = with_key (Signal n) (record u { line = terminal }) in
+    let same : seats_of now ≡ v = posted_seats has_console n u.processes u.clock u.texts u.limit p.agrees.seats in
+    signal_lines_apt Unix 0 v n (Paused v) (Paused (seats_of now)) (wakes due Keys)
+    (λ at q. (q.going, q.agrees)) (λ at r q. signal_paused v at r n q) (λ at q. wakes_apt now at due Keys tt (subst (λ x. Paused x at) (sym same) q))
+    (meant_in has_console u.processes) (meant_seated has_console u.processes v (λ r. seat_in u.processes u.clock u.texts u.limit r)) seen p
+
+shown_items : (items : List Item) (tail : List (Effect Unix)) → AreShown tail → AreShown (map Show items ++ tail)
+shown_items [] tail shown = shown
+shown_items (item ∷ items) tail shown = shown_items items tail shown
+
+typed_for : (m : System) (seen : Seen) (byte : ℕ) → seen.board ≡ m.board → Paused (seats_of m.unix) seen
+    → FineTurn seen (settled_after (typed_of m byte))
+typed_for m seen byte board p =
+    let k : Typed = typed m.unix.line byte in
+    let items : List Item = sent 0 k.shown ++ key_lines k.keyed m.unix in
+    let now : Unix = with_key k.keyed (record m.unix { line = k.terminal }) in
+    let es : List (Effect Unix) = map Show items ++ wakes (calls k.keyed) Keys in
+    subst (λ b. FineTurn seen (settled_after (happens now (logged b es)))) board
+    (event_by m.unix now seen es
+    (bytes_apt (Paused (seats_of now)) seen k.shown (key_lines k.keyed m.unix) (wakes (calls k.keyed) Keys)
+    (key_apt m.unix k.terminal seen k.keyed (calls k.keyed) p))
+    (shown_stop seen.board es (shown_items items (wakes (calls k.keyed) Keys) (shown_wakes (calls k.keyed) Keys))))
 
 pub typed_fine : (u : Unix) (seen : Seen) (byte : ℕ) → Paused (seats_of u) seen
     → FineTurn seen (settled_after (typed_of (system_at u seen) byte))
-typed_fine u seen byte p =
-    let k : Typed = typed u.line byte in
-    let now : Unix = record u { line = k.terminal } in
-    event_by u now seen (map Show (sent 0 k.shown) ++ wakes (calls k.keyed) Keys)
-    (keys_apt now seen k.shown (calls k.keyed) p)
-    (shown_stop seen.board (map Show (sent 0 k.shown) ++ wakes (calls k.keyed) Keys) (shown_keys k.shown (calls k.keyed)))
+typed_fine u seen byte p = typed_for (system_at u seen) seen byte refl p
 
 -- the switches
 pub switched_fine : (u : Unix) (seen : Seen) (word : ℕ) → Holds (seats_of u) seen → FineTurn seen (stays (switched_of (system_at u seen) word))

@@ -1,5 +1,5 @@
 -- What the rows of the calls on processes are made of, once for all that is said of them.
-use Rattle.std.proofs.Common.{◌≡◌, ◌<◌, ◌≤◌, ◌∙◌, ◌&&◌, ◌==◌, ◌+◌, ◌*◌, ◌%◌, ◌^◌, ◌-ℤ◌, ℕ, ℤ, pos, nat_lt, nat_le, Bool, true, false, cond, List, Option, Some, None, get_or, refl, sym, ap, arith}
+use Rattle.std.proofs.Common.{◌≡◌, ◌<◌, ◌≤◌, ◌∙◌, ◌&&◌, ◌==◌, ◌+◌, not, is_some, slice_index, ◌*◌, ◌%◌, ◌^◌, ◌-ℤ◌, ℕ, ℤ, pos, nat_lt, nat_le, Bool, true, false, cond, List, Option, Some, None, get_or, refl, sym, ap, arith}
 use Rattle.std.proofs.lemmas.Bool.{ltb-true, ltb-false}
 use Rattle.std.proofs.lemmas.Int.{ints, int_min_is}
 use Rattle.std.proofs.lemmas.Nat.{mod_below}
@@ -11,7 +11,7 @@ use Rattle.v6_base.specs.declared.entry.Chan.{Chan}
 use Rattle.v6_base.specs.declared.entry.Chan.TheVariants.{Tout, Wait}
 use Rattle.v6_base.specs.declared.entry.Entry.TheVariants as line
 use Rattle.v6_base.specs.declared.errno.Errno.{Errno}
-use Rattle.v6_base.specs.declared.errno.Errno.TheVariants.{EPERM, EFAULT, ECHILD}
+use Rattle.v6_base.specs.declared.errno.Errno.TheVariants.{EPERM, EFAULT, ECHILD, EINTR, EINVAL}
 use Rattle.pick_rules.specs.Priority.{pslep, pwait}
 use Rattle.pick_rules.specs.Ranges.{IsTime, IsPriority, IsChannel}
 use Rattle.pick_rules.specs.Fits.{IsSleep}
@@ -21,13 +21,16 @@ use Rattle.proc_tab.specs.Processes.{passes}
 use Rattle.proc_tab.specs.Children.{Tells, child, is_dead_child_of}
 use Rattle.proc_tab.proofs.SearchLemmas.{tells}
 use Rattle.image_keep.specs.Kept.{clicks_of}
+use Rattle.sig_core.specs.declared.numbers.TheConstants.{SIGKIL}
+use Rattle.sig_core.specs.Signals as signal
 use Rattle.sys_procs.specs.Process.{Process, member_of, register, is_super}
 use Rattle.sys_procs.specs.World.{World, process_of, change, without_process, members}
-use Rattle.sys_procs.specs.Comes.{Comes, gives_two, fails, sleeps, logs}
+use Rattle.sys_procs.specs.Comes.{Comes, gives_two, fails, sleeps, unless_due, logs}
 use Rattle.sys_procs.specs.Ids.{pid_of, as_user, as_group, id_given, set_uid, get_uid, set_gid, get_gid, switches, no_op, signed_in, kept_nice, nice_to}
-use Rattle.sys_procs.specs.Times.{time_now, with_time, set_time, stored, times_to, sleeping_until, until_of, tout_with, sleep_until, sleep_for}
+use Rattle.sys_procs.specs.Times.{time_now, with_time, set_time, stored, times_to, sleeping_until, until_of, tout_with, with_sleeper, sleep_until, sleep_for}
 use Rattle.sys_procs.specs.Wait.{with_times_of, waiting, waits_for, wait_child}
 use Rattle.sys_procs.specs.Resume.{awake, resume_proc}
+use Rattle.sys_procs.specs.Signals.{asking, signal_set}
 use Rattle.abstract_unix.specs.declared.calls.ProcessCall.{ProcessCall}
 use Rattle.abstract_unix.specs.declared.calls.ProcessCall.TheVariants as process
 use Rattle.abstract_unix.specs.Calls.{process_row}
@@ -81,10 +84,15 @@ module _ (s : ℕ) (w : World) where
   if_plain true x y p q = p
   if_plain false x y p q = q
 
+  -- a sleep that a signal may break
+  unless_plain : (sleep : Comes) → Plain s w sleep → Plain s w (unless_due w s sleep)
+  unless_plain sleep p = if_plain (is_some (signal.due (process_of w s).row (process_of w s).u)) _ _ (refuses w EINTR) p
+
   -- 7, wait, and each time that it goes on
   waits_plain : (told : Child) (pid : ℕ) → Tells (members w) pid told → Plain s w (waits_for w s told)
   waits_plain NoChild pid t = refuses w ECHILD
-  waits_plain Living pid t = waits w waiting pwait (Wait s) (record { dead = refl; size = refl; text = refl; files = refl; dir = refl }) refl (refl, refl) (λ low. low)
+  waits_plain Living pid t =
+      unless_plain _ (waits w waiting pwait (Wait s) (record { dead = refl; size = refl; text = refl; files = refl; dir = refl }) refl (refl, refl) (λ low. low))
   waits_plain (Dead d) pid t =
       buries w d _ (grave w pid d t)
       (changes (without_process w d) (λ p. record p { u = with_times_of p.u (process_of w d).u }) _
@@ -94,13 +102,15 @@ module _ (s : ℕ) (w : World) where
   unfolding wait_child
   wait_plain = waits_plain (child (members w) (process_of w s).row.pid) (process_of w s).row.pid (tells (members w) (process_of w s).row.pid)
 
-  -- 35, sleep, and each time that it goes on
+-- 35, sleep, and each time that it goes on
+module _ (s : ℕ) (w : World) where
   pub until_plain : (until : ℕ) → Plain s w (sleep_until w s until)
   unfolding sleep_until
   until_plain until =
-      if_plain (nat_le until w.clock.time) _ _ (gives w _ _)
+      if_plain s w (nat_le until w.clock.time) _ _ (gives w _ _)
       (due w (tout_with w.clock until) _
-      (waits _ (sleeping_until until) pslep Tout (record { dead = refl; size = refl; text = refl; files = refl; dir = refl }) refl refl (λ low. tt)))
+      (unless_plain s (with_sleeper w until) _
+      (waits _ (sleeping_until until) pslep Tout (record { dead = refl; size = refl; text = refl; files = refl; dir = refl }) refl refl (λ low. tt))))
 
   stored_plain : (o : Option Image) → Plain s w (stored w s o)
   stored_plain None = refuses w EFAULT
@@ -122,14 +132,19 @@ eight_bits value = by (value % 256) (mod_below value 256 (omega arith))
         cases true e = let k = ltb-true (2 * n) 256 e in (omega (arith, ints, k), omega (arith, ints, k))
         cases false e = let k = ltb-false (2 * n) 256 e in (omega (arith, ints, k, l), omega (arith, ints, k, l))
 
--- the calls on processes that want no place for an image
+-- the calls on processes that want no place for an image, and that change no other process
 abbrev pub IsPlain : ProcessCall → Type 0
 IsPlain process.Exec = ⊥
 IsPlain process.Break = ⊥
+IsPlain process.Kill = ⊥
 IsPlain call = ⊤
 
+-- who asks what a signal shall do is else the same
+asked_same : (n handler : ℕ) (p : Process) → SameProcess p (asking n handler p)
+asked_same n handler p = record { dead = refl; size = refl; text = refl; files = refl; dir = refl }
+
 pub plain_row : (call : ProcessCall) → IsPlain call → (s : ℕ) (w : World) (args : List ℕ) → Plain s w (process_row call w s args)
-unfolding pid_of set_uid get_uid set_gid get_gid switches no_op nice_to time_now set_time times_to sleep_for
+unfolding pid_of set_uid get_uid set_gid get_gid switches no_op nice_to signal_set time_now set_time times_to sleep_for
 plain_row process.Wait is s w a = wait_plain s w
 plain_row process.Exec is s w a = absurd is
 plain_row process.Time is s w a = gives w _ _
@@ -150,6 +165,7 @@ plain_row process.Nice is s w a =
     (if_plain s w (is_super (process_of w s)) _ _ (nice w (kept_nice value) _ (eight_bits value) (gives w _ _))
     (nice w (pos 0) _ (omega (arith, ints), omega (arith, ints)) (refuses w EPERM)))
 plain_row process.Sleep is s w a = until_plain s w _
+plain_row process.Kill is s w a = absurd is
 plain_row process.Csw is s w a = gives w _ _
 plain_row process.Times is s w a = stored_plain s w _
 plain_row process.Setgid is s w a =
@@ -157,8 +173,15 @@ plain_row process.Setgid is s w a =
     (changes w (as_group (id_given (process_of w s))) _ (record { dead = refl; size = refl; text = refl; files = refl; dir = refl }) refl (gives _ _ _))
     (refuses w EPERM)
 plain_row process.Getgid is s w a = gives w _ _
+plain_row process.Signal is s w a =
+    let n = slice_index a 0 in
+    if_plain s w (signal.is_signal n && not (n == SIGKIL)) _ _
+    (changes w (asking n (slice_index a 1)) _ (asked_same n (slice_index a 1) (process_of w s)) refl (gives _ _ _))
+    (refuses w EINVAL)
 
 -- a sleep or a wait that goes on
 pub resume_plain : (s : ℕ) (w : World) → Plain s (change w s awake) (resume_proc w s)
 unfolding resume_proc
-resume_plain s w = if_plain s (change w s awake) _ _ _ (until_plain s (change w s awake) (until_of (process_of w s))) (wait_plain s (change w s awake))
+resume_plain s w =
+    unless_plain s (change w s awake) _
+    (if_plain s (change w s awake) _ _ _ (until_plain s (change w s awake) (until_of (process_of w s))) (wait_plain s (change w s awake)))

@@ -1,8 +1,9 @@
 -- How a run over a list of events is made of runs over its parts, and what it may end at.
 use Rattle.std.specs.Bool.{⊤}
-use Rattle.std.proofs.Common.{◌≡◌, ◌≢◌, ℕ, zero, suc, cond, subst, Bool, true, false, List, [], ◌∷◌, ◌++◌, Option, Some, None, refl, sym, ◌∙◌, ap, append_assoc}
+use Rattle.std.proofs.Common.{◌≡◌, ◌≢◌, ℕ, zero, suc, cond, subst, Bool, true, false, List, [], ◌∷◌, ◌++◌, Option, Some, None, Result, Ok, Err, refl, sym, ◌∙◌, ap, append_assoc}
 use Rattle.std.proofs.lemmas.List.{append-nil}
 use Rattle.v6_base.specs.Trace.{Item}
+use Rattle.v6_base.specs.declared.entry.PanicKind.{PanicKind}
 use Rattle.pick_rules.specs.Logged.{Stop, logged}
 use Rattle.sys_procs.specs.Process.{register}
 use Rattle.abstract_unix.specs.declared.ending.Ending.{Ending}
@@ -10,12 +11,14 @@ use Rattle.abstract_unix.specs.declared.ending.Ending.TheVariants as came
 use Rattle.abstract_unix.specs.declared.ends.Ends.{Ends}
 use Rattle.abstract_unix.specs.declared.ends.Ends.TheVariants as ends
 use Rattle.abstract_unix.specs.declared.ends.Ends.TheVariants.{AtEnd}
+use Rattle.abstract_unix.specs.declared.turned.Unbuilt.{Unbuilt}
 use Rattle.abstract_unix.specs.declared.turned.Unbuilt.TheVariants as unbuilt
 use Rattle.abstract_unix.specs.declared.turned.Turned.{Turned}
 use Rattle.abstract_unix.specs.declared.turned.Turned.TheVariants.{Ran, Idle, NotBuilt, Panic}
 use Rattle.abstract_unix.specs.Unix.{Unix, System, process_of}
 use Rattle.abstract_unix.specs.Steps.{Steps}
-use Rattle.abstract_unix.specs.Turn.{Happened, Turn, stays, settles, calls_for_settling, settled_after, ending_at, ending_by, ending_of_pass, end_effects, turn_of, slot_of, pass_of, turn, turned_by, turned}
+use Rattle.abstract_unix.specs.Turn.{Happened, Turn, stays, settles, calls_for_settling, settled_after, ending_at, ending_by, ending_of_pass, end_effects, turn_of, slot_of, pass_of, turn, turned_by, turned, ticked_by}
+use Rattle.abstract_unix.specs.Outside.{tick_of}
 use Rattle.abstract_unix.specs.Runs.{Event, Slot, Tick, Byte, Switch, Course, begun, event_of, goes_on_by, unless_ended, after_event, course, started, after_items}
 
 -- first these events and then those
@@ -85,7 +88,6 @@ turn_told t = told_by t.ending t.is_idle
 -- what a run may end at before its last event: a place in a program, or a panic
 abbrev pub IsMet : Ends → Type 0
 IsMet AtEnd = ⊤
-IsMet (ends.NotBuilt (unbuilt.Line n)) = ⊥
 IsMet (ends.NotBuilt (unbuilt.At pc)) = ⊤
 IsMet (ends.Panic kind) = ⊤
 
@@ -129,7 +131,7 @@ started_is m = subst IsMet (sym (settled_ending (pass_of m))) (pass_is (pass_of 
 event_is : (event : Event) (m : System) → IsMet (event_of event m).ending
 event_is Slot m =
     let o : Option ℕ = m.board.table.running in subst IsMet (sym (settled_ending (slot_of m o))) (slot_is m o)
-event_is Tick m = tt
+event_is Tick m = subst IsMet (sym (settled_ending (tick_of m))) (pass_is (tick_of m).log.stop)
 event_is (Byte byte) m = tt
 event_is (Switch word) m = tt
 
@@ -143,10 +145,22 @@ pub course_is : (c : Course) (events : List Event) → IsMet c.ending → IsMet 
 course_is c [] met = met
 course_is c (event ∷ events) met = course_is (after_event c event) events (step_is c c.ending event met)
 
--- a tick, a byte and the switches end no run
-pub tick_goes : (m : System) → (event_of Tick m).ending ≡ AtEnd
-tick_goes m = refl
+-- A tick lets the run go on, or ends it in a panic, as its answer says.
+never_unbuilt : (stop : Option (Stop Unix)) (place : Unbuilt) → ending_of_pass stop ≡ ends.NotBuilt place → ⊥
+never_unbuilt None place e = cc e
+never_unbuilt (Some stop) place e = cc e
 
+pub tick_told : (m : System) (o : Ends) → (ticked_by (event_of Tick m).ending ≡ Ok tt → o ≡ AtEnd)
+    → ((kind : PanicKind) → ticked_by (event_of Tick m).ending ≡ Err kind → o ≡ ends.Panic kind)
+    → (event_of Tick m).ending ≡ o
+tick_told m o goes stops = by (event_of Tick m).ending refl
+  where
+    by : (e : Ends) → (event_of Tick m).ending ≡ e → e ≡ o
+    by AtEnd is = sym (goes (ap ticked_by is))
+    by (ends.NotBuilt place) is = absurd (never_unbuilt (tick_of m).log.stop place (sym (settled_ending (tick_of m)) ∙ is))
+    by (ends.Panic kind) is = sym (stops kind (ap ticked_by is))
+
+-- a byte and the switches end no run
 pub typed_goes : (m : System) (byte : ℕ) → (event_of (Byte byte) m).ending ≡ AtEnd
 typed_goes m byte = refl
 

@@ -1,5 +1,5 @@
 -- How a turn ends: the process comes out of its call, or it sleeps.
-use Rattle.std.proofs.Common.{◌≡◌, ℕ, nat_lt, nat_le, Bool, true, false, cond, List, [], ◌∷◌, ◌++◌, append-nil, map, Option, Some, None, refl}
+use Rattle.std.proofs.Common.{◌≡◌, ◌≤◌, ℕ, nat_lt, nat_le, Bool, true, false, cond, List, [], ◌∷◌, ◌++◌, append-nil, map, Option, Some, None, refl, sym, ap, subst, arith}
 use Rattle.v6_base.specs.Trace.{Byte, Log}
 use Rattle.v6_base.specs.declared.answer.Answer.{Answer}
 use Rattle.v6_base.specs.declared.answer.Answer.TheVariants.{Ret, Fail, Sleep}
@@ -15,14 +15,17 @@ use Rattle.pick_rules.specs.Fits.{IsSleep}
 use Rattle.pick_rules.specs.Lawful.{Seen}
 use Rattle.log_laws.proofs.Fitting.{Apt, AptCame, apt_append, apt_more}
 use Rattle.log_laws.proofs.Seats.{Seats, InCall, Paused}
-use Rattle.log_laws.proofs.Lines.{trap_apt, sleep_apt}
+use Rattle.log_laws.proofs.Lines.{trap_apt, sleep_apt, signal_in, signal_fits}
+use Rattle.sig_core.specs.declared.numbers.TheConstants.{SIGSYS}
+use Rattle.sig_core.specs.Signals.{is_signal}
 use Rattle.sys_procs.specs.Comes.{Comes}
+use Rattle.sys_procs.specs.Signals.{signalled}
 use Rattle.abstract_unix.specs.declared.ending.Ending.{Ending}
 use Rattle.abstract_unix.specs.declared.ends.Ends.TheVariants.{AtEnd}
 use Rattle.abstract_unix.specs.declared.ending.Ending.TheVariants.{Next, Trapped, Slept, Ended, NotBuilt, Panic}
-use Rattle.abstract_unix.specs.Unix.{Unix}
+use Rattle.abstract_unix.specs.Unix.{Unix, process_of, with_process}
 use Rattle.abstract_unix.specs.Errors.{error_number}
-use Rattle.abstract_unix.specs.Steps.{Steps, returns, not_built}
+use Rattle.abstract_unix.specs.Steps.{Steps, returns, not_built, signals, after_effects}
 use Rattle.abstract_unix.specs.Calls.{given_area, refused_area, with_area, answers, came_by, with_world}
 use Rattle.abstract_unix.specs.Turn.{end_effects, ending_at}
 use Rattle.abstract_unix.proofs.Sitting.{seats_under, seats_of, kept_in}
@@ -45,14 +48,19 @@ pub record AptSteps (s : ℕ) (seen : Seen) (steps : Steps) : Type 0 where
   pub apt : Apt {W = Unix} (GoesOn steps.unix steps.ending) seen (steps.effects ++ end_effects s steps.ending)
   pub calm : IsCalm steps.ending
 
--- after what isn't built nothing goes on
-pub unbuilt_apt : (s : ℕ) (seen : Seen) (u : Unix) (P : Seen → Type 0) (effects : List (Effect Unix)) → Apt P seen effects
-    → AptSteps s seen (record (not_built u) { effects = effects })
-unbuilt_apt s seen u P effects a = record {
-  apt = rw (append-nil effects) (apt_more P (GoesOn u NotBuilt) seen effects (λ now p pc b. absurd (cc b)) a);
-  calm = tt;
-}
+-- What a turn has come to before a signal is looked for: out of a trap it is still in its call.
+abbrev pub Begun : ℕ → Seen → List (Effect Unix) → Unix → Ending → Type 0
+Begun s seen es u Trapped = Apt {W = Unix} (InCall s false (seats_of u)) seen es
+Begun s seen es u Next = AptSteps s seen (record { effects = es; unix = u; ending = Next })
+Begun s seen es u (Slept pri chan) = AptSteps s seen (record { effects = es; unix = u; ending = Slept pri chan })
+Begun s seen es u Ended = AptSteps s seen (record { effects = es; unix = u; ending = Ended })
+Begun s seen es u NotBuilt = AptSteps s seen (record { effects = es; unix = u; ending = NotBuilt })
+Begun s seen es u (Panic kind) = AptSteps s seen (record { effects = es; unix = u; ending = Panic kind })
 
+pub record AptBegun (s : ℕ) (seen : Seen) (steps : Steps) : Type 0 where
+  pub begun : Begun s seen steps.effects steps.unix steps.ending
+
+-- after what isn't built nothing goes on
 pub nothing_built : (s : ℕ) (seen : Seen) (u : Unix) → AptSteps s seen (not_built u)
 unfolding Apt
 nothing_built s seen u = record { apt = λ pc b. absurd (cc b); calm = tt }
@@ -115,40 +123,65 @@ Answered s v seen es (Ret r0 r1) = Apt (InCall s false v) seen es
 Answered s v seen es (Fail e) = Apt (InCall s false v) seen es
 Answered s v seen es (Sleep pri chan) = Apt (InCall s true v) seen es × IsSleep s chan pri × IsChannel chan
 
--- the end of a turn in which a call was answered
+-- a signal to the process whose turn it is
+signal_apt : (s : ℕ) (seen : Seen) (v : Seats) (n : ℕ) → 1 ≤ n → n ≤ 19 → InCall s false v seen
+    → Apt {W = Unix} (InCall s false v) seen (Show (Log (line.Signal s n)) ∷ [])
+unfolding Apt came
+signal_apt s seen v n low high i =
+    (signal_fits s v seen s n i.turn.seat i.going i.agrees i.turn.user i.turn.at low high, signal_in s false v seen s n i)
+
+-- a turn in which a call was answered
 module _ (s : ℕ) (seen : Seen) where
   pub trapped : (u v : Unix) (es : List (Effect Unix))
       → ((now : Seen) → InCall s false (seats_of u) now → InCall s false (seats_of v) now)
-      → Apt (InCall s false (seats_of u)) seen es → AptSteps s seen (record (returns v) { effects = es })
+      → Apt (InCall s false (seats_of u)) seen es → AptBegun s seen (record (returns v) { effects = es })
   trapped u v es change a =
-      ends_in s seen v es Trapped tt (apt_append (InCall s false (seats_of u)) (Paused (seats_of v)) seen es (Show (Log (line.Trap s)) ∷ []) a
-      (λ now i. trap_apt Unix s (seats_of v) now (change now i)))
+      record { begun = apt_more (InCall s false (seats_of u)) (InCall s false (seats_of v)) seen es change a }
 
-  pub returns_apt : (u : Unix) → InCall s false (seats_of u) seen → AptSteps s seen (returns u)
+  pub returns_apt : (u : Unix) → InCall s false (seats_of u) seen → AptBegun s seen (returns u)
   unfolding Apt
   returns_apt u i = trapped u u [] (λ now j. j) i
 
+  pub signals_apt : (u : Unix) (n : ℕ) (es : List (Effect Unix)) → is_signal n ≡ true → 1 ≤ n → n ≤ 19
+      → Apt (InCall s false (seats_of u)) seen es → AptBegun s seen (after_effects es (signals u s n))
+  signals_apt u n es is low high a = record {
+    begun = subst (λ items. Apt {W = Unix} (InCall s false (seats_of after)) seen (es ++ map Show items))
+        (sym (ap (λ (b : Bool). cond b (Log (line.Signal s n) ∷ []) []) is))
+        (apt_append (InCall s false (seats_of u)) (InCall s false (seats_of after)) seen es (Show (Log (line.Signal s n)) ∷ []) a
+        (λ now i. signal_apt s now (seats_of after) n low high
+        (kept_in u.processes u.clock u.texts u.limit s false now (signalled n (process_of u s)) i refl refl refl refl)));
+  }
+    where
+      after : Unix
+      after = with_process u s (signalled n (process_of u s))
+
   pub answers_apt : (u : Unix) (es : List (Effect Unix)) (answer : Answer) → Answered s (seats_of u) seen es answer
-      → AptSteps s seen (record (answers u s answer) { effects = es })
-  answers_apt u es (Ret r0 r1) a =
-      trapped u (with_area u s (given_area r0 r1)) es
-      (λ now i. kept_in u.processes u.clock u.texts u.limit s false now _ i refl refl refl refl) a
+      → AptBegun s seen (after_effects es (answers u s answer))
+  answers_apt u es (Ret r0 r1) a = record {
+    begun = subst (λ xs. Apt {W = Unix} (InCall s false (seats_of (with_area u s (given_area r0 r1)))) seen xs) (sym (append-nil es))
+        (trapped u (with_area u s (given_area r0 r1)) es
+        (λ now i. kept_in u.processes u.clock u.texts u.limit s false now _ i refl refl refl refl) a).begun;
+  }
   answers_apt u es (Fail e) a = by (nat_lt (error_number e) 100)
     where
       by : (x : Bool)
-          → AptSteps s seen (record (cond x (returns (with_area u s (refused_area (error_number e)))) (not_built u)) { effects = es })
-      by true =
-          trapped u (with_area u s (refused_area (error_number e))) es
-          (λ now i. kept_in u.processes u.clock u.texts u.limit s false now _ i refl refl refl refl) a
-      by false = unbuilt_apt s seen u (InCall s false (seats_of u)) es a
-  answers_apt u es (Sleep pri chan) a =
-      ends_in s seen u es (Slept pri chan) tt
-      (apt_append (InCall s true (seats_of u)) (Paused (seats_of u)) seen es (Show (Log (line.Sleep s pri chan)) ∷ []) a.0
-      (λ now i. sleep_apt Unix s (seats_of u) now pri chan i a.1 a.2))
+          → AptBegun s seen (after_effects es (cond x (returns (with_area u s (refused_area (error_number e)))) (signals u s SIGSYS)))
+      by true = record {
+        begun = subst (λ xs. Apt {W = Unix} (InCall s false (seats_of (with_area u s (refused_area (error_number e))))) seen xs) (sym (append-nil es))
+            (trapped u (with_area u s (refused_area (error_number e))) es
+            (λ now i. kept_in u.processes u.clock u.texts u.limit s false now _ i refl refl refl refl) a).begun;
+      }
+      by false = signals_apt u SIGSYS es refl (omega arith) (omega arith) a
+  answers_apt u es (Sleep pri chan) a = record {
+    begun = subst (λ xs. AptSteps s seen (record { effects = xs; unix = u; ending = Slept pri chan })) (sym (append-nil es))
+        (ends_in s seen u es (Slept pri chan) tt
+        (apt_append (InCall s true (seats_of u)) (Paused (seats_of u)) seen es (Show (Log (line.Sleep s pri chan)) ∷ []) a.0
+        (λ now i. sleep_apt Unix s (seats_of u) now pri chan i a.1 a.2)));
+  }
 
   -- a call on processes, by its row
   pub came_apt : (u : Unix) (c : Comes) → Answered s (seats_under u.limit c.state) seen c.effects c.answer
-      → AptSteps s seen (came_by u s c)
+      → AptBegun s seen (came_by u s c)
   came_apt u c a = answers_apt (with_world u c.state) (map (lifted (with_world u)) c.effects) c.answer (by c.answer a)
     where
       by : (answer : Answer) → Answered s (seats_under u.limit c.state) seen c.effects answer

@@ -1,5 +1,5 @@
 -- The turn of each slot is apt.
-use Rattle.std.proofs.Common.{◌≡◌, ◌∙◌, ℕ, not, Bool, true, false, cond, List, Option, Some, None, slice_index, replicate, set, refl, sym, ap, subst}
+use Rattle.std.proofs.Common.{◌≡◌, ◌∙◌, ◌==◌, ◌||◌, ℕ, not, Bool, true, false, cond, List, [], Option, Some, None, slice_index, replicate, arith, set, refl, sym, ap, subst}
 use Rattle.pdp_step.specs.declared.outcome.Kind.{Kind}
 use Rattle.pdp_step.specs.declared.outcome.Kind.TheVariants as kind
 use Rattle.pdp_step.specs.declared.outcome.Outcome.{Outcome}
@@ -16,27 +16,38 @@ use Rattle.sys_procs.specs.TextTable.{Text}
 use Rattle.sys_procs.specs.World.{Clock, World, change}
 use Rattle.sys_procs.specs.Fork.{fork_one}
 use Rattle.sys_procs.specs.Resume.{awake, resume_proc}
+use Rattle.v6_base.specs.declared.answer.Answer.TheVariants.{Fail}
+use Rattle.v6_base.specs.declared.errno.Errno.TheVariants.{ENOSYS}
+use Rattle.sig_core.specs.declared.numbers.TheConstants.{SIGINS, SIGTRC, SIGIOT, SIGEMT, SIGBUS}
+use Rattle.pick_rules.specs.Effects.{came}
+use Rattle.open_files.specs.declared.file.OpenFile.{OpenFile}
 use Rattle.abstract_unix.specs.declared.asked.Asked.{Asked}
+use Rattle.abstract_unix.specs.declared.ending.Ending.{Ending}
+use Rattle.abstract_unix.specs.declared.ending.Ending.TheVariants as ending
 use Rattle.abstract_unix.specs.declared.calls.FileCall.{FileCall}
 use Rattle.abstract_unix.specs.declared.calls.ProcessCall.{ProcessCall}
 use Rattle.abstract_unix.specs.declared.calls.ProcessCall.TheVariants as process
 use Rattle.abstract_unix.specs.declared.calls.SystemCall.{SystemCall}
-use Rattle.abstract_unix.specs.declared.calls.SystemCall.TheVariants.{Indirect, Exit, Fork, OnFiles, OnProcesses}
+use Rattle.abstract_unix.specs.declared.calls.SystemCall.TheVariants.{Indirect, Exit, Fork, Unknown, OnFiles, OnProcesses}
 use Rattle.abstract_unix.specs.declared.calls.Sysent.{Sysent}
 use Rattle.abstract_unix.specs.Unix.{Unix, process_of, with_process}
-use Rattle.abstract_unix.specs.Steps.{Steps}
-use Rattle.abstract_unix.specs.Calls.{handed_of, world_of, with_area, entered_area, words_passed, asked, came_by, forks, file_row, process_row, does_call, sysent_of, does_if_built, system_call, resumed}
-use Rattle.abstract_unix.specs.Turn.{machine_of, with_machine, faults, comes_to, instruction, is_user, turn}
+use Rattle.sys_procs.specs.Times.{pending_sleep}
+use Rattle.sys_procs.specs.Wait.{pending_wait}
+use Rattle.abstract_unix.specs.Steps.{Steps, not_built}
+use Rattle.abstract_unix.specs.Calls.{handed_of, world_of, with_area, entered_area, words_passed, asked, came_by, shares, forks, file_row, process_row, does_call, sysent_of, does_if_built, system_call, pending_read, resumed}
+use Rattle.abstract_unix.specs.Turn.{machine_of, with_machine, faults, comes_to, instruction, is_user, passes_setd, begins_turn, turn}
 use Rattle.abstract_unix.proofs.Sitting.{seat_for, seats_in, seats_of, found_in, runner_seat, runner_alive, put_in, kept_in, changed_in}
-use Rattle.abstract_unix.proofs.Steps.{AptSteps, nothing_built, returns_apt, came_apt}
+use Rattle.abstract_unix.proofs.Steps.{AptSteps, Begun, AptBegun, nothing_built, returns_apt, signals_apt, answers_apt, came_apt}
 use Rattle.abstract_unix.proofs.Quiet.{Calm, same_call, calm_walks, resume_calm}
 use Rattle.abstract_unix.proofs.FileRows.{walk_row}
 use Rattle.abstract_unix.proofs.ProcessRows.{plain_row, resume_plain}
 use Rattle.abstract_unix.proofs.Rows.{FineComes, Calling, plain_fine}
+use Rattle.abstract_unix.proofs.Posting.{kill_fine}
 use Rattle.abstract_unix.proofs.Children.{fork_fine}
 use Rattle.sys_procs.specs.Exit.{exit_status}
 use Rattle.abstract_unix.proofs.Exiting.{did_apt, no_pending, exits_apt}
 use Rattle.abstract_unix.proofs.Executing.{break_fine, grow_apt, exec_fine}
+use Rattle.abstract_unix.proofs.Delivering.{ended_apt}
 
 -- a row of a call on files
 calm_row : (call : FileCall) (h : Handed) (args : List ℕ) (now : ℕ) → Calm h.u (file_row call h args now)
@@ -46,37 +57,53 @@ calm_row call h args now = walk_row (calm_walks h.u) call h args now tt (same_ca
 fine_row : (call : ProcessCall) (s : ℕ) (seen : Seen) (w : World) (args : List ℕ) → Calling s w seen → FineComes w.limit s seen (process_row call w s args)
 fine_row process.Exec s seen w a i = exec_fine s seen w (slice_index a 0) (slice_index a 1) i
 fine_row process.Break s seen w a i = break_fine s seen w (slice_index a 0) i
+fine_row process.Kill s seen w a i = kill_fine s seen w (slice_index a 0) i
 fine_row call s seen w a i = plain_fine s seen w _ (plain_row call tt s w a) i
 
 module _ (s : ℕ) (seen : Seen) where
-  if_apt : (b : Bool) (x y : Steps) → AptSteps s seen x → AptSteps s seen y → AptSteps s seen (cond b x y)
+  if_apt : (b : Bool) (x y : Steps) → AptBegun s seen x → AptBegun s seen y → AptBegun s seen (cond b x y)
   if_apt true x y f g = f
   if_apt false x y f g = g
 
+  -- which files are open makes no difference
+  shared_apt : (steps : Steps) (files : List (Option OpenFile)) → AptBegun s seen steps
+      → AptBegun s seen (record steps { unix = record steps.unix { files = files } })
+  shared_apt steps files a = record { begun = by steps.ending a.begun }
+    where
+      by : (e : Ending) → Begun s seen steps.effects steps.unix e → Begun s seen steps.effects (record steps.unix { files = files }) e
+      by ending.Next b = record { apt = b.apt; calm = b.calm }
+      by ending.Trapped b = b
+      by (ending.Slept pri chan) b = record { apt = b.apt; calm = b.calm }
+      by ending.Ended b = record { apt = b.apt; calm = b.calm }
+      by ending.NotBuilt b = record { apt = b.apt; calm = b.calm }
+      by (ending.Panic kind) b = record { apt = b.apt; calm = b.calm }
+
   -- a fork: all slots are used, or a child's image wants a place
-  forks_apt : (u : Unix) → Calling s (world_of u) seen → AptSteps s seen (forks u s)
+  forks_apt : (u : Unix) → Calling s (world_of u) seen → AptBegun s seen (forks u s)
   forks_apt u i =
-      let came : AptSteps s seen (came_by u s (fork_one (world_of u) s)) = came_apt s seen u (fork_one (world_of u) s) (fork_fine s seen (world_of u) i).fine in
-      record { apt = came.apt; calm = came.calm }
+      let came : AptBegun s seen (came_by u s (fork_one (world_of u) s)) = came_apt s seen u (fork_one (world_of u) s) (fork_fine s seen (world_of u) i).fine in
+      shared_apt (came_by u s (fork_one (world_of u) s)) (shares u.files (process_of u s).u.files (fork_one (world_of u) s).answer) came
 
   call_apt : (u : Unix) (call : SystemCall) (args : List ℕ) → Calling s (world_of u) seen
-      → AptSteps s seen (does_call u s call args)
+      → AptBegun s seen (does_call u s call args)
+  unfolding Apt
   call_apt u Indirect args i = returns_apt s seen u i
-  call_apt u Exit args i = exits_apt s u seen (exit_status (process_of u s)) i
+  call_apt u Exit args i = record { begun = exits_apt s u seen (exit_status (process_of u s)) i }
   call_apt u Fork args i = forks_apt u i
+  call_apt u Unknown args i = answers_apt s seen u [] (Fail ENOSYS) i
   call_apt u (OnFiles call) args i =
       did_apt s u seen false (process_of u s).u (file_row call (handed_of u (process_of u s)) args u.clock.time) i (same_call (process_of u s).u).size (no_pending s u seen i)
       (calm_row call (handed_of u (process_of u s)) args u.clock.time)
   call_apt u (OnProcesses call) args i = came_apt s seen u (process_row call (world_of u) s args) (fine_row call s seen (world_of u) args i).fine
 
-  built_apt : (u : Unix) (a : Asked) (o : Option Sysent) → Calling s (world_of u) seen → AptSteps s seen (does_if_built u s a o)
-  built_apt u a None i = nothing_built s seen u
+  built_apt : (u : Unix) (a : Asked) (o : Option Sysent) → Calling s (world_of u) seen → AptBegun s seen (does_if_built u s a o)
+  built_apt u a None i = record { begun = nothing_built s seen u }
   built_apt u a (Some entry) i =
       call_apt (with_area u s (entered_area (words_passed a entry.count))) entry.call a.args
       (kept_in u.processes u.clock u.texts u.limit s false seen (record (process_of u s) { u = entered_area (words_passed a entry.count) (process_of u s).u }) i refl refl refl refl)
 
   called_apt : (u : Unix) (number : ℕ) → Calling s (world_of u) seen
-      → AptSteps s seen (system_call number u s)
+      → AptBegun s seen (system_call number u s)
   called_apt u number i =
       let a : Asked = asked (image_of u.texts (process_of u s)) (register (process_of u s) 7) number in built_apt u a (sysent_of a.number) i
 
@@ -93,12 +120,12 @@ module _ (s : ℕ) (seen : Seen) where
       changed_in u.processes u.clock u.texts u.limit s t.seat.calling seen (awake (process_of u s)) (begins u p t)
       (runner_alive u.processes u.clock u.texts u.limit s seen.board t) refl refl
 
-  resumed_apt : (u : Unix) → Paused (seats_of u) seen → InTurn s (seats_of u) seen.board → AptSteps s seen (resumed u s)
+  resumed_apt : (u : Unix) → Paused (seats_of u) seen → InTurn s (seats_of u) seen.board → AptBegun s seen (resumed u s)
   resumed_apt u p t =
       let old : UArea = record (process_of u s).u { pending = 0; call = replicate 8 0 } in
-      if_apt _ _ _ (did_apt s u seen t.seat.calling old _ (begins u p t) (record { «data» = refl; stack = refl }) refl (resume_calm (handed_of u (process_of u s)))) (
-      if_apt _ _ _ (came_apt s seen u (resume_proc (world_of u) s) (plain_fine s seen _ _ (resume_plain s (world_of u)) (wakes u p t)).fine)
-      (nothing_built s seen u))
+      if_apt ((process_of u s).u.pending == pending_read) _ _ (did_apt s u seen t.seat.calling old _ (begins u p t) (record { «data» = refl; stack = refl }) refl (resume_calm (handed_of u (process_of u s)))) (
+      if_apt (((process_of u s).u.pending == pending_sleep) || ((process_of u s).u.pending == pending_wait)) _ (not_built u) (came_apt s seen u (resume_proc (world_of u) s) (plain_fine s seen _ _ (resume_plain s (world_of u)) (wakes u p t)).fine)
+      (record { begun = nothing_built s seen u }))
 
   -- another process that sits as this one did
   pub same_seats : (processes : List (Option Process)) (clock : Clock) (texts : List (Option Text)) (limit : ℕ) (p : Process)
@@ -113,7 +140,7 @@ module _ (s : ℕ) (seen : Seen) where
   -- an instruction of a process in user mode
   instruction_apt : (u : Unix) → Paused (seats_of u) seen → InTurn s (seats_of u) seen.board
       → is_user (process_of u s) ≡ true
-      → AptSteps s seen (instruction u s)
+      → AptBegun s seen (instruction u s)
   unfolding Apt
   instruction_apt u p t user = by step.outcome
     where
@@ -132,24 +159,25 @@ module _ (s : ℕ) (seen : Seen) where
       i : Calling s (world_of now) seen
       i = subst (λ v. InCall s false v seen) (sym same) (subst (λ c. InCall s c (seats_of u) seen) calls (begins u p t))
 
-      by : (o : Outcome) → AptSteps s seen (comes_to now s o)
-      by outcome.Next = record { apt = λ pc b. subst (λ v. Paused v seen) (sym same) p; calm = tt }
+      by : (o : Outcome) → AptBegun s seen (comes_to now s o)
+      by outcome.Next = record { begun = record { apt = λ pc b. subst (λ v. Paused v seen) (sym same) p; calm = tt } }
       by (outcome.Call number) = called_apt now number i
       by (outcome.Fault k) = fault_apt k
         where
-          fault_apt : (k : Kind) → AptSteps s seen (faults now s k)
-          fault_apt kind.Odd = nothing_built s seen now
+          fault_apt : (k : Kind) → AptBegun s seen (faults now s k)
+          fault_apt kind.Odd = signals_apt s seen now SIGBUS [] refl (omega arith) (omega arith) i
           fault_apt (kind.Segment sp) = grow_apt s seen now sp i
-          fault_apt (kind.Illegal word) = nothing_built s seen now
-          fault_apt kind.Bpt = nothing_built s seen now
-          fault_apt kind.Iot = nothing_built s seen now
-          fault_apt kind.Emt = nothing_built s seen now
+          fault_apt (kind.Illegal word) =
+              if_apt (passes_setd now s word) _ _ (returns_apt s seen now i) (signals_apt s seen now SIGINS [] refl (omega arith) (omega arith) i)
+          fault_apt kind.Bpt = signals_apt s seen now SIGTRC [] refl (omega arith) (omega arith) i
+          fault_apt kind.Iot = signals_apt s seen now SIGIOT [] refl (omega arith) (omega arith) i
+          fault_apt kind.Emt = signals_apt s seen now SIGEMT [] refl (omega arith) (omega arith) i
 
   pub turn_apt : (u : Unix) → Paused (seats_of u) seen → InTurn s (seats_of u) seen.board
       → AptSteps s seen (turn (record { unix = u; board = seen.board }) s)
-  turn_apt u p t = by (is_user (process_of u s)) refl
+  turn_apt u p t = ended_apt s seen (begins_turn (record { unix = u; board = seen.board }) s) (by (is_user (process_of u s)) refl)
     where
       by : (x : Bool) → is_user (process_of u s) ≡ x
-          → AptSteps s seen (cond x (instruction u s) (resumed u s))
+          → AptBegun s seen (cond x (instruction u s) (resumed u s))
       by true e = instruction_apt u p t e
       by false e = resumed_apt u p t

@@ -1,6 +1,7 @@
 -- The system calls that are built: section II of the UNIX Programmer's Manual; Lions' Commentary, `sysent` and `trap`.
-use Rattle.std.specs.Prelude.{ℕ, ◌+◌, ◌-◌, ◌*◌, ◌%◌, ◌==◌, ◌&&◌, ◌||◌, nat_lt, nat_le, true, false, if◌then◌else◌, List, [], ◌∷◌, ◌++◌, map, find, Option, Some, None, Result, Ok, Err, slice_index, slice_set}
-use Rattle.std.specs.Option.{option_map}
+use Rattle.std.specs.Prelude.{ℕ, ◌+◌, ◌-◌, ◌*◌, ◌%◌, ◌==◌, ◌&&◌, ◌||◌, nat_lt, nat_le, Bool, true, false, if◌then◌else◌, List, [], ◌∷◌, ◌++◌, map, find, Option, Some, None, Result, Ok, Err, slice_index, slice_set}
+use Rattle.std.specs.Option.{option_map, unwrap_or}
+use Rattle.v6_base.specs.declared.errno.Errno.TheVariants.{ENOSYS}
 use Rattle.v6_base.specs.Access.{load_word}
 use Rattle.v6_base.specs.Image.{Image}
 use Rattle.v6_base.specs.declared.answer.Answer.{Answer}
@@ -15,9 +16,10 @@ use Rattle.sys_files.specs.Did.{Did}
 use Rattle.sys_files.specs.Descriptors.{Closing, dup_file, close_file, close_all}
 use Rattle.sys_files.specs.Making.{creat_file, mknod_at, link_file, unlink_file}
 use Rattle.sys_files.specs.Modes.{stty_set, gtty_get}
-use Rattle.sys_files.specs.Moving.{read_file_of, write_file_of, seek_to, resume_read}
+use Rattle.sys_files.specs.Moving.{read_file_of, write_file_of, seek_to, resumes}
 use Rattle.sys_files.specs.Names.{chdir_to, chmod_to, chown_to, sync_all}
 use Rattle.sys_files.specs.Opening.{open_file}
+use Rattle.sys_files.specs.Piping.{pipe_new}
 use Rattle.sys_files.specs.Status.{stat_file, stat_open}
 use Rattle.sys_procs.specs.Process.{Process, with_state, register, image_of}
 use Rattle.sys_procs.specs.TextTable.{marks_of}
@@ -31,19 +33,21 @@ use Rattle.sys_procs.specs.Fork.{fork_one}
 use Rattle.sys_procs.specs.Wait.{wait_child, pending_wait}
 use Rattle.sys_procs.specs.Exit.{exit_status, end_proc}
 use Rattle.sys_procs.specs.Resume.{resume_proc}
+use Rattle.sys_procs.specs.Signals.{kill_to, signal_set}
+use Rattle.sig_core.specs.declared.numbers.TheConstants.{SIGSEG, SIGSYS}
 use Rattle.abstract_unix.specs.declared.asked.Asked.{Asked}
 use Rattle.abstract_unix.specs.declared.calls.FileCall.{FileCall}
 use Rattle.abstract_unix.specs.declared.calls.FileCall.TheVariants as file
 use Rattle.abstract_unix.specs.declared.calls.ProcessCall.{ProcessCall}
 use Rattle.abstract_unix.specs.declared.calls.ProcessCall.TheVariants as process
 use Rattle.abstract_unix.specs.declared.calls.SystemCall.{SystemCall}
-use Rattle.abstract_unix.specs.declared.calls.SystemCall.TheVariants.{Indirect, Exit, Fork, OnFiles, OnProcesses}
+use Rattle.abstract_unix.specs.declared.calls.SystemCall.TheVariants.{Indirect, Exit, Fork, Unknown, OnFiles, OnProcesses}
 use Rattle.abstract_unix.specs.declared.calls.Sysent.{Sysent}
 use Rattle.abstract_unix.specs.declared.ending.Ending.TheVariants.{Ended, Trapped}
 use Rattle.abstract_unix.specs.Unix.{Unix, process_of, with_process}
 use Rattle.abstract_unix.specs.References.{references_of}
 use Rattle.abstract_unix.specs.Errors.{error_number}
-use Rattle.abstract_unix.specs.Steps.{Steps, returns, sleeps, not_built, signals, sigsegv, sigsys}
+use Rattle.abstract_unix.specs.Steps.{Steps, returns, sleeps, not_built, signals, after_effects}
 
 -- the parts of a Unix that a call of a process is handed
 abbrev pub handed_of : Unix → Process → Handed
@@ -51,6 +55,7 @@ handed_of u p = record {
   inodes = record { store = u.store; references = references_of u };
   marks = marks_of u.texts;
   files = u.files;
+  pipes = u.pipes;
   line = u.line;
   u = p.u;
   row = p.row;
@@ -62,6 +67,7 @@ abbrev pub with_handed : Unix → ℕ → Handed → Unix
 with_handed u slot h = record u {
   store = h.inodes.store;
   files = h.files;
+  pipes = h.pipes;
   line = h.line;
   processes = slice_set u.processes slot
       (Some (record (process_of u slot) { u = h.u; row = h.row; «data» = h.image.data; stack = h.image.stack }));
@@ -136,7 +142,7 @@ with_area u slot rule =
 -- A call of the process of a slot is refused. An error of 100 or more makes a signal.
 abbrev pub refuses : Unix → ℕ → ℕ → Steps
 refuses u slot number =
-    if nat_lt number 100 then returns (with_area u slot (refused_area number)) else signals u slot sigsys
+    if nat_lt number 100 then returns (with_area u slot (refused_area number)) else signals u slot SIGSYS
 
 -- What a call answers.
 abbrev pub answers : Unix → ℕ → Answer → Steps
@@ -144,26 +150,27 @@ answers u slot (Ret r0 r1) = returns (with_area u slot (given_area r0 r1))
 answers u slot (Fail e) = refuses u slot (error_number e)
 answers u slot (Sleep pri chan) = sleeps u slot pri chan
 
--- what a call on files does, by its row, over what it is handed, its arguments and the time
-abbrev pub file_row : FileCall → Handed → List ℕ → ℕ → Did
-file_row file.Read h a now = read_file_of h (slice_index a 0) (slice_index a 1) now
-file_row file.Write h a now = write_file_of h (slice_index a 0) (slice_index a 1) now
-file_row file.Open h a now = open_file h (slice_index a 0) (slice_index a 1)
-file_row file.Close h a now = close_file h
-file_row file.Creat h a now = creat_file h (slice_index a 0) (slice_index a 1) now
-file_row file.Link h a now = link_file h (slice_index a 0) (slice_index a 1) now
-file_row file.Unlink h a now = unlink_file h (slice_index a 0) now
-file_row file.Chdir h a now = chdir_to h (slice_index a 0)
-file_row file.Mknod h a now = mknod_at h (slice_index a 0) (slice_index a 1) (slice_index a 2) now
-file_row file.Chmod h a now = chmod_to h (slice_index a 0) (slice_index a 1) now
-file_row file.Chown h a now = chown_to h (slice_index a 0) (slice_index a 1) now
-file_row file.Stat h a now = stat_file h (slice_index a 0) (slice_index a 1)
-file_row file.Seek h a now = seek_to h (slice_index a 0) (slice_index a 1)
-file_row file.Fstat h a now = stat_open h (slice_index a 0)
-file_row file.Stty h a now = stty_set h (slice_index a 0)
-file_row file.Gtty h a now = gtty_get h (slice_index a 0)
-file_row file.Sync h a now = sync_all h now
-file_row file.Dup h a now = dup_file h
+-- what a call on files of the process of a slot does, by its row, over what it is handed, its arguments and the time
+abbrev pub file_row : FileCall → Handed → ℕ → List ℕ → ℕ → Did
+file_row file.Read h slot a now = read_file_of h (slice_index a 0) (slice_index a 1) now
+file_row file.Write h slot a now = write_file_of h slot (slice_index a 0) (slice_index a 1) now
+file_row file.Open h slot a now = open_file h (slice_index a 0) (slice_index a 1)
+file_row file.Close h slot a now = close_file h
+file_row file.Creat h slot a now = creat_file h (slice_index a 0) (slice_index a 1) now
+file_row file.Link h slot a now = link_file h (slice_index a 0) (slice_index a 1) now
+file_row file.Unlink h slot a now = unlink_file h (slice_index a 0) now
+file_row file.Chdir h slot a now = chdir_to h (slice_index a 0)
+file_row file.Mknod h slot a now = mknod_at h (slice_index a 0) (slice_index a 1) (slice_index a 2) now
+file_row file.Chmod h slot a now = chmod_to h (slice_index a 0) (slice_index a 1) now
+file_row file.Chown h slot a now = chown_to h (slice_index a 0) (slice_index a 1) now
+file_row file.Stat h slot a now = stat_file h (slice_index a 0) (slice_index a 1)
+file_row file.Seek h slot a now = seek_to h (slice_index a 0) (slice_index a 1)
+file_row file.Fstat h slot a now = stat_open h (slice_index a 0)
+file_row file.Stty h slot a now = stty_set h (slice_index a 0)
+file_row file.Gtty h slot a now = gtty_get h (slice_index a 0)
+file_row file.Sync h slot a now = sync_all h now
+file_row file.Dup h slot a now = dup_file h
+file_row file.Pipe h slot a now = pipe_new h now
 
 -- what a call on processes does, by its row, over what it is handed, the slot and its arguments
 abbrev pub process_row : ProcessCall → World → ℕ → List ℕ → Comes
@@ -178,19 +185,20 @@ process_row process.Stime w slot a = set_time w slot
 process_row process.Smdate w slot a = no_op w slot
 process_row process.Nice w slot a = nice_to w slot
 process_row process.Sleep w slot a = sleep_for w slot
+process_row process.Kill w slot a = kill_to w slot (slice_index a 0)
 process_row process.Csw w slot a = switches w slot
 process_row process.Times w slot a = times_to w slot (slice_index a 0)
 process_row process.Setgid w slot a = set_gid w slot
 process_row process.Getgid w slot a = get_gid w slot
+process_row process.Signal w slot a = signal_set w slot (slice_index a 0) (slice_index a 1)
 
 -- a call on files that has been entered, by its row
 abbrev pub did_by : Unix → ℕ → Did → Steps
-did_by u slot did = record (answers (with_handed u slot did.state) slot did.answer) { effects = map Show did.items }
+did_by u slot did = after_effects (map Show did.items) (answers (with_handed u slot did.state) slot did.answer)
 
 -- a call on processes that has been entered, by its row
 abbrev pub came_by : Unix → ℕ → Comes → Steps
-came_by u slot c =
-    record (answers (with_world u c.state) slot c.answer) { effects = map (lifted (with_world u)) c.effects }
+came_by u slot c = after_effects (map (lifted (with_world u)) c.effects) (answers (with_world u c.state) slot c.answer)
 
 -- fork(II): the child has its parent's open files.
 abbrev pub shares : List (Option OpenFile) → List ℕ → Answer → List (Option OpenFile)
@@ -210,7 +218,7 @@ abbrev pub grows : Unix → Comes → Steps
 grows u c = record { effects = map (lifted (with_world u)) c.effects; unix = with_world u c.state; ending = Trapped }
 
 abbrev pub grown_by : Unix → ℕ → Option Comes → Steps
-grown_by u slot None = signals u slot sigsegv
+grown_by u slot None = signals u slot SIGSEG
 grown_by u slot (Some c) = grows u c
 
 abbrev pub grows_to : Unix → ℕ → ℕ → Steps
@@ -241,11 +249,12 @@ abbrev pub does_call : Unix → ℕ → SystemCall → List ℕ → Steps
 does_call u slot Indirect args = returns u
 does_call u slot Exit args = exits u slot
 does_call u slot Fork args = forks u slot
-does_call u slot (OnFiles call) args = did_by u slot (file_row call (handed_of u (process_of u slot)) args u.clock.time)
+does_call u slot Unknown args = refuses u slot (error_number ENOSYS)
+does_call u slot (OnFiles call) args = did_by u slot (file_row call (handed_of u (process_of u slot)) slot args u.clock.time)
 does_call u slot (OnProcesses call) args = came_by u slot (process_row call (world_of u) slot args)
 
 -- A line of the table of calls: a number; how many arguments follow the word of its call, and which call it is. What has no
--- line isn't built.
+-- line is no call, and takes no arguments.
 pub record Line : Type 0 where
   pub number : ℕ
   pub entry : Sysent
@@ -276,9 +285,12 @@ system_calls =
     ∷ call 18 2 (OnFiles file.Stat)
     ∷ call 19 2 (OnFiles file.Seek)
     ∷ call 20 0 (OnProcesses process.Getpid)
+    ∷ call 21 3 Unknown
+    ∷ call 22 1 Unknown
     ∷ call 23 0 (OnProcesses process.Setuid)
     ∷ call 24 0 (OnProcesses process.Getuid)
     ∷ call 25 0 (OnProcesses process.Stime)
+    ∷ call 26 3 Unknown
     ∷ call 28 1 (OnFiles file.Fstat)
     ∷ call 30 1 (OnProcesses process.Smdate)
     ∷ call 31 1 (OnFiles file.Stty)
@@ -286,15 +298,23 @@ system_calls =
     ∷ call 34 0 (OnProcesses process.Nice)
     ∷ call 35 0 (OnProcesses process.Sleep)
     ∷ call 36 0 (OnFiles file.Sync)
+    ∷ call 37 1 (OnProcesses process.Kill)
     ∷ call 38 0 (OnProcesses process.Csw)
     ∷ call 41 0 (OnFiles file.Dup)
+    ∷ call 42 0 (OnFiles file.Pipe)
     ∷ call 43 1 (OnProcesses process.Times)
+    ∷ call 44 4 Unknown
     ∷ call 46 0 (OnProcesses process.Setgid)
     ∷ call 47 0 (OnProcesses process.Getgid)
+    ∷ call 48 2 (OnProcesses process.Signal)
     ∷ []
 
+abbrev pub no_call : Sysent
+no_call = record { count = 0; call = Unknown }
+
 unfoldable pub sysent_of : ℕ → Option Sysent
-sysent_of number = option_map (λ (l : Line). l.entry) (find (λ (l : Line). l.number == number) system_calls)
+sysent_of number =
+    Some (unwrap_or (option_map (λ (l : Line). l.entry) (find (λ (l : Line). l.number == number) system_calls)) no_call)
 
 -- a call, where it is built
 abbrev pub does_if_built : Unix → ℕ → Asked → Option Sysent → Steps
@@ -309,13 +329,14 @@ system_call number u slot =
     let a : Asked = asked (image_of u.texts p) (register p 7) number in
     does_if_built u slot a (sysent_of a.number)
 
--- A process that slept in a call goes on with it: 1 is a read of the console, 5 a sleep, 6 a wait. The others aren't built.
-abbrev pub pending_read : ℕ
-pending_read = 1
+-- A process that slept in a call goes on with it: 1 is a read of the console, 3 a read and 4 a write of a pipe, 5 a sleep, 6 a wait.
+-- The others aren't built.
+abbrev pub is_on_files : ℕ → Bool
+is_on_files pending = (pending == 1) || (pending == 3) || (pending == 4)
 
 abbrev pub resumed : Unix → ℕ → Steps
 resumed u slot =
     let pending = (process_of u slot).u.pending in
-    if pending == pending_read then did_by u slot (resume_read (handed_of u (process_of u slot))) else (
+    if is_on_files pending then did_by u slot (resumes (handed_of u (process_of u slot)) slot u.clock.time) else (
     if (pending == pending_sleep) || (pending == pending_wait) then came_by u slot (resume_proc (world_of u) slot)
     else not_built u)

@@ -1,4 +1,5 @@
 pub mod Calls
+pub mod Delivery
 pub mod Endings
 pub mod Errors
 pub mod Init

@@ -1,7 +1,7 @@
 -- What comes from outside: ticks of the clock, keys and the switches of the console. `clock` and `klrint` in Lions'
 -- Commentary, `clock.c` and `kl.c`.
-use Rattle.std.specs.Prelude.{ℕ, ◌+◌, ◌%◌, ◌^◌, ◌==◌, ◌&&◌, ◌||◌, Bool, true, false, List, [], ◌∷◌, ◌++◌, map, Option, Some, None, if◌then◌else◌}
-use Rattle.v6_base.specs.Trace.{Log, sent}
+use Rattle.std.specs.Prelude.{ℕ, ◌+◌, ◌%◌, ◌^◌, ◌==◌, ◌&&◌, Bool, true, false, List, [], ◌∷◌, ◌++◌, map, Option, Some, None, if◌then◌else◌}
+use Rattle.v6_base.specs.Trace.{Item, Log, sent}
 use Rattle.v6_base.specs.declared.entry.Chan.{Chan}
 use Rattle.v6_base.specs.declared.entry.Chan.TheVariants.{Tout, Keys}
 use Rattle.v6_base.specs.declared.entry.Entry.{Entry}
@@ -17,7 +17,10 @@ use Rattle.u_area.specs.declared.area.UArea.{UArea}
 use Rattle.sys_procs.specs.Process.{Process}
 use Rattle.sys_procs.specs.World.{Clock}
 use Rattle.abstract_unix.specs.Unix.{Unix, System, process_of, with_process}
-use Rattle.abstract_unix.specs.Turn.{Happened, happens, is_user}
+use Rattle.sys_procs.specs.Signals.{has_console, meant_in, all_signalled, signal_lines}
+use Rattle.abstract_unix.specs.Steps.{Steps, returns}
+use Rattle.abstract_unix.specs.Delivery.{delivers_due}
+use Rattle.abstract_unix.specs.Turn.{Happened, happens, passes, is_user}
 
 -- where a tick comes
 abbrev pub mode_by : Unix → Option ℕ → Mode
@@ -67,13 +70,30 @@ abbrev pub wakes : Bool → Chan → List (Effect Unix)
 wakes true chan = Show (Log (Wake chan)) ∷ []
 wakes false chan = []
 
+-- what a tick does to times, and who is woken
+abbrev pub tick_effects : System → List (Effect Unix)
+tick_effects m = Show (Log (tick_entry (mode_of m))) ∷ wakes (is_due m.unix.clock) Tout
+
+-- A second that ends in user mode is as a trap: a signal that is due is delivered.
+abbrev pub is_user_mode : Mode → Bool
+is_user_mode User = true
+is_user_mode Kernel = false
+is_user_mode Idle = false
+
+abbrev pub is_as_trap : System → Bool
+is_as_trap m = is_user_mode (mode_of m) && is_second m.unix.clock
+
+abbrev pub delivers_to : Unix → Option ℕ → Steps
+delivers_to u None = returns u
+delivers_to u (Some slot) = delivers_due u slot
+
+abbrev pub tick_delivery : System → Steps
+tick_delivery m = if is_as_trap m then delivers_to (ticked m) m.board.table.running else returns (ticked m)
+
 abbrev pub tick_of : System → Happened
 tick_of m =
-    happens (ticked m) (logged m.board (Show (Log (tick_entry (mode_of m))) ∷ wakes (is_due m.unix.clock) Tout))
-
--- The keys that make signals, by their low seven bits. What they do to processes isn't built.
-abbrev pub is_signal_key : ℕ → Bool
-is_signal_key byte = (byte % 128 == 0o177) || (byte % 128 == 0o034)
+    let s : Steps = tick_delivery m in
+    passes s.unix (logged m.board (tick_effects m ++ s.effects))
 
 -- a key that calls for who waits for keys
 abbrev pub calls : Keyed → Bool
@@ -82,10 +102,24 @@ calls Ready = true
 calls Flushed = true
 calls (Signal n) = true
 
+-- a key that sends a signal to those who have the console, and the lines of the log for it
+abbrev pub with_key : Keyed → Unix → Unix
+with_key Nothing u = u
+with_key Ready u = u
+with_key Flushed u = u
+with_key (Signal n) u = record u { processes = all_signalled has_console n u.processes }
+
+abbrev pub key_lines : Keyed → Unix → List Item
+key_lines Nothing u = []
+key_lines Ready u = []
+key_lines Flushed u = []
+key_lines (Signal n) u = signal_lines n (meant_in has_console u.processes)
+
 abbrev pub typed_of : System → ℕ → Happened
 typed_of m byte =
     let k : Typed = typed m.unix.line byte in
-    happens (record m.unix { line = k.terminal }) (logged m.board (map Show (sent 0 k.shown) ++ wakes (calls k.keyed) Keys))
+    happens (with_key k.keyed (record m.unix { line = k.terminal }))
+    (logged m.board (map Show (sent 0 k.shown ++ key_lines k.keyed m.unix) ++ wakes (calls k.keyed) Keys))
 
 abbrev pub switched_of : System → ℕ → Happened
 switched_of m word = happens (record m.unix { switches = word }) (nothing_logged m.board)

@@ -1,7 +1,9 @@
 -- The memory of a process is its own: between two of its turns nobody changes a register or a byte of it.
-use Rattle.std.specs.Prelude.{◌≡◌, ◌≢◌, ℕ, false, Option, Some}
+use Rattle.std.specs.Prelude.{◌≡◌, ◌≢◌, ℕ, Bool, true, false, ◌&&◌, is_some, Option, Some, None}
+use Rattle.sig_core.specs.Signals.{due}
 use Rattle.sys_procs.specs.Process.{Process}
-use Rattle.abstract_unix.specs.Unix.{Unix, System, process_at}
+use Rattle.abstract_unix.specs.Unix.{Unix, System, process_at, process_of}
+use Rattle.abstract_unix.specs.Outside.{is_as_trap}
 
 -- The second of two processes has the registers of the first, its condition codes, and its bytes of data and stack.
 pub record SameMemory (p q : Process) : Type 0 where
@@ -27,11 +29,22 @@ IsUndisturbed before after s =
 abbrev pub AllUndisturbed : System → System → Type 0
 AllUndisturbed before after = (s : ℕ) → IsUndisturbed before.unix after.unix s
 
--- also through a tick,
-abbrev pub TickUndisturbed : System → System → Type 0
-TickUndisturbed before after = AllUndisturbed before after
-
--- or each but the one whose turn it is.
+-- or each but the one whose turn it is,
 abbrev pub OthersUndisturbed : System → System → Type 0
 OthersUndisturbed before after =
     (s : ℕ) → before.board.table.running ≢ Some s → IsUndisturbed before.unix after.unix s
+
+-- and in a tick each but the one to which the tick delivers a signal.
+abbrev pub is_due_to : Unix → Option ℕ → Bool
+is_due_to u None = false
+is_due_to u (Some s) = is_some (due (process_of u s).row (process_of u s).u)
+
+abbrev pub tick_delivers : System → Bool
+tick_delivers m = is_as_trap m && is_due_to m.unix m.board.table.running
+
+abbrev pub UndisturbedIf : Bool → System → System → Type 0
+UndisturbedIf true before after = OthersUndisturbed before after
+UndisturbedIf false before after = AllUndisturbed before after
+
+abbrev pub TickUndisturbed : System → System → Type 0
+TickUndisturbed before after = UndisturbedIf (tick_delivers before) before after

@@ -1,10 +1,11 @@
 -- What a turn of a process comes to, and the words that rows are made of.
-use Rattle.std.specs.Prelude.{ℕ, ℤ, List, []}
+use Rattle.std.specs.Prelude.{ℕ, ℤ, List, [], ◌∷◌, ◌++◌, map}
 use Rattle.v6_base.specs.declared.entry.Chan.{Chan}
-use Rattle.pick_rules.specs.Effects.{Effect}
+use Rattle.pick_rules.specs.Effects.{Effect, Show}
+use Rattle.sys_procs.specs.Signals.{signalled, signal_lines}
 use Rattle.abstract_unix.specs.declared.ending.Ending.{Ending}
 use Rattle.abstract_unix.specs.declared.ending.Ending.TheVariants.{Next, Trapped, Slept, NotBuilt}
-use Rattle.abstract_unix.specs.Unix.{Unix}
+use Rattle.abstract_unix.specs.Unix.{Unix, process_of, with_process}
 
 -- its effects in order, the Unix then, and how it ended
 pub record Steps : Type 0 where
@@ -31,27 +32,18 @@ sleeps u slot pri chan = quietly u (Slept pri chan)
 abbrev pub not_built : Unix → Steps
 not_built u = quietly u NotBuilt
 
--- A signal is sent to the process of a slot, by its number: signal(II). None is built yet.
+-- A signal is sent to the process of a slot, by its number: signal(II).
 abbrev pub signals : Unix → ℕ → ℕ → Steps
-signals u slot number = not_built u
+signals u slot number = record {
+  effects = map Show (signal_lines number (slot ∷ []));
+  unix = with_process u slot (signalled number (process_of u slot));
+  ending = Trapped;
+}
 
-abbrev pub sigill : ℕ
-sigill = 4
+-- effects, and then the rest
+abbrev pub after_effects : List (Effect Unix) → Steps → Steps
+after_effects effects s = record s { effects = effects ++ s.effects }
 
-abbrev pub sigtrap : ℕ
-sigtrap = 5
-
-abbrev pub sigiot : ℕ
-sigiot = 6
-
-abbrev pub sigemt : ℕ
-sigemt = 7
-
-abbrev pub sigbus : ℕ
-sigbus = 10
-
-abbrev pub sigsegv : ℕ
-sigsegv = 11
-
-abbrev pub sigsys : ℕ
-sigsys = 12
+-- some steps, and then the rest
+abbrev pub follows : Steps → Steps → Steps
+follows s next = after_effects s.effects next

@@ -1,7 +1,8 @@
 -- The turn of a slot, where there is a process: an instruction, or a call that it goes on with, until it exits. `trap` and `swtch` in Lions' Commentary, `trap.c` and `slp.c`.
-use Rattle.std.specs.Prelude.{◌≡◌, ℕ, zero, suc, ◌==◌, ◌&&◌, Bool, true, false, not, List, [], ◌∷◌, ◌++◌, Option, Some, None, if◌then◌else◌}
+use Rattle.std.specs.Prelude.{◌≡◌, ℕ, zero, suc, ◌==◌, ◌&&◌, Bool, true, false, not, List, [], ◌∷◌, ◌++◌, Option, Some, None, Result, Ok, Err, if◌then◌else◌}
 use Rattle.v6_base.specs.Trace.{Item, Log}
 use Rattle.v6_base.specs.declared.entry.Entry.{Entry}
+use Rattle.v6_base.specs.declared.entry.PanicKind.{PanicKind}
 use Rattle.v6_base.specs.declared.entry.Entry.TheVariants as entry
 use Rattle.pdp_step.specs.declared.outcome.Outcome.{Outcome}
 use Rattle.pdp_step.specs.declared.outcome.Kind.{Kind}
@@ -29,8 +30,11 @@ use Rattle.abstract_unix.specs.declared.turned.Turned.TheVariants.{Ran, Idle, No
 use Rattle.abstract_unix.specs.Unix.{Text, Unix, System, process_of, with_process}
 use Rattle.abstract_unix.specs.Endings.{is_early}
 use Rattle.abstract_unix.specs.Steps as to
-use Rattle.abstract_unix.specs.Steps.{Steps, signals, sigill, sigtrap, sigiot, sigemt, sigbus}
+use Rattle.abstract_unix.specs.Steps.{Steps, returns, signals}
+use Rattle.sig_core.specs.declared.numbers.TheConstants.{SIGINS, SIGTRC, SIGIOT, SIGEMT, SIGBUS}
+use Rattle.sig_core.specs.Signals.{handler_of}
 use Rattle.abstract_unix.specs.Calls.{system_call, grows_to, resumed}
+use Rattle.abstract_unix.specs.Delivery.{ends_turn}
 
 -- what an instruction of a process works on, and the process after it
 abbrev pub machine_of : List (Option Text) → Process → Machine
@@ -39,14 +43,22 @@ machine_of texts p = record { r = p.u.r; cc = p.u.cc; image = image_of texts p }
 abbrev pub with_machine : Process → Machine → Process
 with_machine p m = record p { u = with_state p.u m.r m.cc; «data» = m.image.data; stack = m.image.stack }
 
+-- The instruction by which a program asks for floating point of double precision. A process that does nothing about illegal
+-- instructions passes it.
+abbrev pub setd : ℕ
+setd = 0o170011
+
+abbrev pub passes_setd : Unix → ℕ → ℕ → Bool
+passes_setd u slot word = (word == setd) && (handler_of (process_of u slot).u SIGINS == 0)
+
 -- A fault: the stack may grow for one; all others make signals.
 abbrev pub faults : Unix → ℕ → Kind → Steps
-faults u slot kind.Odd = signals u slot sigbus
+faults u slot kind.Odd = signals u slot SIGBUS
 faults u slot (kind.Segment sp) = grows_to u slot sp
-faults u slot (kind.Illegal word) = signals u slot sigill
-faults u slot kind.Bpt = signals u slot sigtrap
-faults u slot kind.Iot = signals u slot sigiot
-faults u slot kind.Emt = signals u slot sigemt
+faults u slot (kind.Illegal word) = if passes_setd u slot word then returns u else signals u slot SIGINS
+faults u slot kind.Bpt = signals u slot SIGTRC
+faults u slot kind.Iot = signals u slot SIGIOT
+faults u slot kind.Emt = signals u slot SIGEMT
 
 abbrev pub comes_to : Unix → ℕ → Outcome → Steps
 comes_to u slot Next = to.steps u
@@ -63,8 +75,11 @@ instruction u slot =
 abbrev pub is_user : Process → Bool
 is_user p = p.u.pending == 0
 
+abbrev pub begins_turn : System → ℕ → Steps
+begins_turn m slot = if is_user (process_of m.unix slot) then instruction m.unix slot else resumed m.unix slot
+
 abbrev pub turn : System → ℕ → Steps
-turn m slot = if is_user (process_of m.unix slot) then instruction m.unix slot else resumed m.unix slot
+turn m slot = ends_turn slot (begins_turn m slot)
 
 -- the lines of the log with which a turn ends
 abbrev pub end_effects : ℕ → Ending → List (Effect Unix)
@@ -151,12 +166,12 @@ turn_of m slot steps =
       ending = ending_by (register (process_of m.unix slot) 7) l.stop steps.ending;
     }
 
--- how a pass of the swapper ends the run, if it does
+-- how an event ends the run, if it does, that is no turn of a process
 abbrev pub ending_of_pass : Option (Stop Unix) → Ends
 ending_of_pass None = AtEnd
 ending_of_pass (Some stop) = ends.Panic stop.why
 
--- The pass of the swapper, which moves images and changes no process.
+-- The pass of the swapper, which moves images and changes no process; or a tick.
 abbrev pub passes : Unix → Logged Unix → Happened
 passes u l = record (happens u l) { ending = ending_of_pass l.stop }
 
@@ -180,6 +195,12 @@ turned_by (ends.Panic kind) is_idle = Panic kind
 
 abbrev pub turned : Turn → Turned
 turned t = turned_by t.ending t.is_idle
+
+-- and of a tick
+abbrev pub ticked_by : Ends → Result (Unit {0}) PanicKind
+ticked_by AtEnd = Ok tt
+ticked_by (ends.NotBuilt place) = Ok tt
+ticked_by (ends.Panic kind) = Err kind
 
 -- no slot is loaded and ready
 abbrev pub NobodyCanRun : Table → Type 0

@@ -1,11 +1,13 @@
 -- What belongs together in a system: open files count the numbers that name them, and inodes who refers to them.
-use Rattle.std.specs.Prelude.{◌≡◌, ℕ, ◌+◌, ◌==◌, if◌then◌else◌, List, Option, Some, None, map, count_by, length, slice_index, slice_index_or}
+use Rattle.std.specs.Prelude.{◌≡◌, ◌≤◌, ℕ, true, false, ◌+◌, ◌==◌, if◌then◌else◌, List, Option, Some, None, map, count_by, length, slice_index, slice_index_or}
 use Rattle.std.specs.List.{sum_by}
 use Rattle.open_files.specs.declared.file.OpenFile.{OpenFile}
 use Rattle.open_files.specs.Files.{file_at, times}
-use Rattle.sys_files.specs.Sound.{is_of, numbers_of, HasNoPipe}
+use Rattle.pipe_ends.specs.declared.ends.Pipe.{Pipe}
+use Rattle.sys_files.specs.Pipes.{ArePipes}
+use Rattle.sys_files.specs.Sound.{is_of, numbers_of}
 use Rattle.sys_procs.specs.Process.{Process}
-use Rattle.abstract_unix.specs.Unix.{Text, Unix}
+use Rattle.abstract_unix.specs.Unix.{Text, Unix, process_at}
 use Rattle.abstract_unix.specs.References.{is_text_of}
 
 -- what the counts see of a process that lives: the numbers of its files, and its directory
@@ -44,12 +46,25 @@ abbrev pub refer : List (Option OpenFile) → List (Option Text) → List (Optio
 refer files texts ts ino =
     count_by (is_of ino) files + all_stand ts ino + count_by (is_text_of ino) texts + (if ino == 1 then 1 else 0)
 
--- The counts of open files and these references are what they have to be. There are no pipes yet.
-pub record Owes (refs : List ℕ) (files : List (Option OpenFile)) (texts : List (Option Text)) (ts : List (Option Told)) : Type 0 where
+-- The counts of open files and these references are what they have to be, and the pipes are those of the open files.
+pub record Owes (refs : List ℕ) (files : List (Option OpenFile)) (pipes : List Pipe) (texts : List (Option Text)) (ts : List (Option Told)) : Type 0 where
   pub numbers : (entry : ℕ) → numbers_of (file_at files entry) ≡ all_names ts entry
   pub referred : (ino : ℕ) → slice_index refs ino ≡ refer files texts ts ino
-  pub no_pipe : HasNoPipe files
+  pub piped : ArePipes files pipes
   pub fifteen : (s : ℕ) (t : Told) → slice_index_or ts s None ≡ Some t → length t.files ≡ 15
 
 abbrev pub Owed : List ℕ → Unix → Type 0
-Owed refs u = Owes refs u.files u.texts (told_in u.processes)
+Owed refs u = Owes refs u.files u.pipes u.texts (told_in u.processes)
+
+-- Who waits in a pipe, 3 in a read and 4 in a write, has a number for the end that the call is about. So that end stays open, and
+-- the call can go on.
+pub record IsInPipe (files : List (Option OpenFile)) (p : Process) : Type 0 where
+  pub file : OpenFile
+  pub there : file_at files (slice_index p.u.call 0) ≡ Some file
+  pub pipe : file.kind.pipe ≡ true
+  pub named : 1 ≤ times p.u.files (slice_index p.u.call 0)
+  pub left : slice_index p.u.call 3 ≤ slice_index p.u.call 2
+
+pub record CanGoOn (u : Unix) : Type 0 where
+  pub reads : (s : ℕ) (p : Process) → process_at u s ≡ Some p → p.is_zombie ≡ false → p.u.pending ≡ 3 → IsInPipe u.files p
+  pub writes : (s : ℕ) (p : Process) → process_at u s ≡ Some p → p.is_zombie ≡ false → p.u.pending ≡ 4 → IsInPipe u.files p

@@ -14,12 +14,12 @@ use fs_tree::Tree;
 use proc_tab::Row;
 use sys_files::{
     Files, chdir_to, chmod_to, chown_to, close_file, creat_file, dup_file, gtty_get, link_file,
-    mknod_at, open_file, read_file, seek_to, stat_file, stat_open, stty_set, sync_all, unlink_file,
+    mknod_at, open_file, pipe_new, read_file, seek_to, stat_file, stat_open, stty_set, sync_all, unlink_file,
     write_file,
 };
 use sys_procs::{
-    Procs, break_at, exec_file, get_gid, get_uid, nice_to, no_op, pid_of, set_gid, set_time,
-    set_uid, sleep_for, switches, time_now, times_to, wait_child,
+    Procs, break_at, exec_file, get_gid, get_uid, kill_to, nice_to, no_op, pid_of, set_gid, set_time,
+    set_uid, signal_set, sleep_for, switches, time_now, times_to, wait_child,
 };
 use u_area::UArea;
 use v6_base::{Answer, PanicKind, Slot, Space, Trace};
@@ -45,6 +45,7 @@ pub enum FileCall {
     Gtty,
     Sync,
     Dup,
+    Pipe,
 }
 
 /// A call on processes.
@@ -61,10 +62,12 @@ pub enum ProcessCall {
     Smdate,
     Nice,
     Sleep,
+    Kill,
     Csw,
     Times,
     Setgid,
     Getgid,
+    Signal,
 }
 
 /// A system call.
@@ -74,6 +77,8 @@ pub enum SystemCall {
     Indirect,
     Exit,
     Fork,
+    /// There is no call of this number.
+    Unknown,
     OnFiles(FileCall),
     OnProcesses(ProcessCall),
 }
@@ -85,7 +90,7 @@ pub struct Sysent {
     pub call: SystemCall,
 }
 
-/// The entry of a number, or `None` where no call of that number is built.
+/// The entry of a number, or `None` where the call of that number isn't built.
 #[inline]
 #[tactic(auto, unfolding(crate::specs::Calls::sysent_of))]
 pub fn sysent_of(number: u8) -> Option<Sysent>
@@ -113,9 +118,12 @@ pub fn sysent_of(number: u8) -> Option<Sysent>
         18 => on_files(2, FileCall::Stat),
         19 => on_files(2, FileCall::Seek),
         20 => on_processes(0, ProcessCall::Getpid),
+        21 => entry(3, SystemCall::Unknown),
+        22 => entry(1, SystemCall::Unknown),
         23 => on_processes(0, ProcessCall::Setuid),
         24 => on_processes(0, ProcessCall::Getuid),
         25 => on_processes(0, ProcessCall::Stime),
+        26 => entry(3, SystemCall::Unknown),
         28 => on_files(1, FileCall::Fstat),
         30 => on_processes(1, ProcessCall::Smdate),
         31 => on_files(1, FileCall::Stty),
@@ -123,12 +131,16 @@ pub fn sysent_of(number: u8) -> Option<Sysent>
         34 => on_processes(0, ProcessCall::Nice),
         35 => on_processes(0, ProcessCall::Sleep),
         36 => on_files(0, FileCall::Sync),
+        37 => on_processes(1, ProcessCall::Kill),
         38 => on_processes(0, ProcessCall::Csw),
         41 => on_files(0, FileCall::Dup),
+        42 => on_files(0, FileCall::Pipe),
         43 => on_processes(1, ProcessCall::Times),
+        44 => entry(4, SystemCall::Unknown),
         46 => on_processes(0, ProcessCall::Setgid),
         47 => on_processes(0, ProcessCall::Getgid),
-        _ => None,
+        48 => on_processes(2, ProcessCall::Signal),
+        _ => entry(0, SystemCall::Unknown),
     }
 }
 
@@ -168,7 +180,7 @@ pub fn do_file_call<S: Space, T: Trace>(
     requires sound { IsSound (parts.handed files.old u.old row.old (S.image space.old)) }
     ensures does { Does (parts.handed files.old u.old row.old (S.image space.old))
         (parts.handed files.new u.new row.new (S.image space.new)) result (T.taken trace.old) (T.taken trace.new)
-        (file_row call (parts.handed files.old u.old row.old (S.image space.old)) args now) }
+        (file_row call (parts.handed files.old u.old row.old (S.image space.old)) slot args now) }
     ensures frame { T.leads_to trace.old trace.new }
     ensures memory { S.rest space.new ≡ S.rest space.old }
     ensures blocks { SameRest files.old.tree.nodes.blocks files.new.tree.nodes.blocks }
@@ -192,6 +204,7 @@ pub fn do_file_call<S: Space, T: Trace>(
         FileCall::Gtty => gtty_get(files, slot, u, row, space, args, now, trace),
         FileCall::Sync => sync_all(files, slot, u, row, space, args, now, trace),
         FileCall::Dup => dup_file(files, slot, u, row, space, args, now, trace),
+        FileCall::Pipe => pipe_new(files, slot, u, row, space, args, now, trace),
     }
 }
 
@@ -227,9 +240,11 @@ pub fn do_process_call<T: Trace>(
         ProcessCall::Smdate => no_op(p, tree, s, args, trace),
         ProcessCall::Nice => nice_to(p, tree, s, args, trace),
         ProcessCall::Sleep => sleep_for(p, tree, s, args, trace),
+        ProcessCall::Kill => kill_to(p, tree, s, args, trace),
         ProcessCall::Csw => switches(p, tree, s, args, trace),
         ProcessCall::Times => times_to(p, tree, s, args, trace),
         ProcessCall::Setgid => set_gid(p, tree, s, args, trace),
         ProcessCall::Getgid => get_gid(p, tree, s, args, trace),
+        ProcessCall::Signal => signal_set(p, tree, s, args, trace),
     }
 }

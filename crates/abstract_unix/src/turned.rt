@@ -16,8 +16,6 @@ pub enum Turned {
 /// What is not built yet.
 #[derive(Clone, Copy, Debug, PartialEq, Eq)]
 pub enum Unbuilt {
-    /// The script's line of this number, from 1.
-    Line(u32),
-    /// What the running process has at this PC: an instruction that comes to a fault, or a call.
+    /// What the running process has at this PC: the call pipe(II).
     At(u16),
 }

@@ -1,7 +1,7 @@
 //! What scripts ask for, and which lines are none: docs/manual/scripts.md, line by line.
 use script_text::Event::{Byte, Clock, Run, Switch, Tick};
 use script_text::ScriptFault::{BadLine, TooLong, TooManySlots};
-use script_text::{Event, ScriptFault, read, signal_line};
+use script_text::{Event, ScriptFault, read};
 use std::alloc::{AllocError, Global};
 use std::process::Abort;
 use std::test::Fail;
@@ -307,29 +307,4 @@ fn lines_and_scripts_have_their_limits(rt: HostRuntime) -> Result<(), Fail> {
         assert!(rt; ends(rt.alloc(), row)?, "row {i}");
     }
     Ok(())
-}
-
-/// A script, and the first line that types 177 or 034, whatever its eighth bit.
-static SIGNALS: [(&[u8], Option<u32>); 14] = [
-    (b"", None),
-    (b"byte 177", Some(1)),
-    (b"byte 034\n", Some(1)),
-    (b"byte 377", Some(1)),
-    (b"byte 234", Some(1)),
-    (b"byte 077", None),
-    (b"byte 134\nbyte 004\nbyte 000", None),
-    (b"run 1\r\n\nbyte 177\r\nbyte 034\n", Some(3)),
-    (b"byte 177\r", None),
-    (b"byte 0177\nbyte 34\ntype \x7f\ntype \x1c", None),
-    (b"; byte 177\ntype ~\ntype byte 177\ntick", None),
-    (b"clock 127\nrun 28\nswitch 000177", None),
-    (b"byte 135\nbyte 035\nbyte 033\nbyte 176", None),
-    (b"walk\nbyte 034", Some(2)),
-];
-
-#[test]
-fn first_line_with_a_signal_is_found(rt: HostRuntime) {
-    for (i, (script, line)) in SIGNALS.iter().enumerate() {
-        assert!(rt; signal_line(script) == *line, "row {i}");
-    }
 }

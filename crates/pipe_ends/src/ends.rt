@@ -10,7 +10,7 @@ use v6_base::Errno;
 pub const PIPSIZ: u32 = 4096;
 
 /// A pipe: which file it has, how far that has been read, and who waits. pipe(II).
-#[derive(Clone, Copy, Debug, PartialEq, Eq)]
+#[derive(Clone, Copy, Debug, Default, PartialEq, Eq)]
 pub struct Pipe {
     /// The inode number of its file.
     pub ino: u16,

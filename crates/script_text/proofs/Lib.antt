@@ -2,4 +2,3 @@ pub mod NumberLemmas
 pub mod LineLemmas
 pub mod CommandLemmas
 pub mod ScriptLemmas
-pub mod SignalLemmas

@@ -1,7 +1,5 @@
 -- What a script makes happen, or its first fault, by docs/manual/scripts.md.
-use Rattle.std.specs.Prelude.{◌≡◌, ⊤, ℕ, Bool, false, ◌+◌, ◌%◌, ◌||◌, ◌==◌, nat_lt, if◌then◌else◌, Option, Some, None, Result, Ok, Err, List, [], ◌∷◌, ◌++◌, length, sum_by}
-use Rattle.std.specs.List.{list_any}
-use Rattle.std.specs.Option.{unwrap_or}
+use Rattle.std.specs.Prelude.{◌≡◌, ⊤, ℕ, ◌+◌, nat_lt, if◌then◌else◌, Option, Some, None, Result, Ok, Err, List, [], ◌∷◌, ◌++◌, length, sum_by}
 use Rattle.script_text.specs.declared.script.TheConstants.{MAX_BYTES, MAX_SLOTS}
 use Rattle.script_text.specs.declared.script.Event.{Event}
 use Rattle.script_text.specs.declared.script.Event.TheVariants.{Clock, Run, Tick, Byte, Switch}
@@ -42,23 +40,3 @@ script_of script = if nat_lt MAX_BYTES (length script) then Err TooLong else scr
 abbrev pub Refuses : List ℕ → ScriptFault → Type 0
 Refuses script NoMemory = ⊤
 Refuses script fault = script_of script ≡ Err fault
-
--- A key that interrupts those who have the terminal or makes them quit, unless the terminal is raw, by its low seven bits.
-abbrev pub is_signal_key : ℕ → Bool
-is_signal_key byte = (byte % 128 == 0o177) || (byte % 128 == 0o034)
-
-abbrev pub is_signal : Event → Bool
-is_signal (Clock n) = false
-is_signal (Run n) = false
-is_signal Tick = false
-is_signal (Byte b) = is_signal_key b
-is_signal (Switch w) = false
-
--- the first line from line n on that types such a key
-abbrev pub signal_from : ℕ → List (List ℕ) → Option ℕ
-signal_from n [] = None
-signal_from n (line ∷ lines) =
-    if list_any is_signal (unwrap_or (events_of_line line) []) then Some n else signal_from (n + 1) lines
-
-abbrev pub signal_line_of : List ℕ → Option ℕ
-signal_line_of script = signal_from 1 (lines_of script)

@@ -1,7 +1,7 @@
 //! What each line of a script asks for.
-ghost use Rattle.std.specs.Prelude.{◌≡◌, ◌≤◌, ◌++◌, [], ◌∷◌, length, map, drop, sum_by, IfOk, IfSome};
-ghost use Rattle.std.specs.List.{list_all, list_any};
-ghost use Rattle.std.specs.Option.{option_map, unwrap_or};
+ghost use Rattle.std.specs.Prelude.{◌≡◌, ◌≤◌, ◌++◌, [], ◌∷◌, length, map, drop, sum_by, IfOk};
+ghost use Rattle.std.specs.List.{list_all};
+ghost use Rattle.std.specs.Option.{option_map};
 ghost use Rattle.script_text.specs.declared.script.Event.TheVariants as event;
 ghost use Rattle.script_text.specs.Number.{number_of, octal_of};
 ghost use Rattle.script_text.specs.Command.{
@@ -13,18 +13,12 @@ ghost use Rattle.script_text.specs.Command.{
   command_of,
   events_of_line,
 };
-ghost use Rattle.script_text.specs.Asked.{events_of, HasPrinted};
-ghost use Rattle.script_text.specs.Script.{slots_of, is_signal};
+ghost use Rattle.script_text.specs.Asked.{events_of};
+ghost use Rattle.script_text.specs.Script.{slots_of};
 
 use crate::number::{number_of, octal_of};
 use crate::script::{Event, MAX_LINE};
 use std::alloc::AllocError;
-
-/// The key that interrupts.
-const INTERRUPT: u8 = 0o177;
-
-/// The key that makes a process quit.
-const QUIT: u8 = 0o034;
 
 /// What one line asks for.
 #[derive(Drop)]
@@ -65,7 +59,6 @@ fn all_printed(text: &[u8]) -> bool
 
 fn typed(text: &[u8]) -> Option<Command<'_>>
     ensures keys { option_map events_of result ≡ typed_keys text.now }
-    ensures printed { IfSome result HasPrinted }
 {
     if all_printed(text) {
         Some(Command::Keys(text))
@@ -76,7 +69,6 @@ fn typed(text: &[u8]) -> Option<Command<'_>>
 
 fn clock(text: &[u8]) -> Option<Command<'_>>
     ensures events { option_map events_of result ≡ one event.Clock (number_of text.now) }
-    ensures printed { IfSome result HasPrinted }
 {
     let slots = number_of(text)?;
     Some(Command::One(Event::Clock(slots)))
@@ -84,7 +76,6 @@ fn clock(text: &[u8]) -> Option<Command<'_>>
 
 fn run(text: &[u8]) -> Option<Command<'_>>
     ensures events { option_map events_of result ≡ one event.Run (number_of text.now) }
-    ensures printed { IfSome result HasPrinted }
 {
     let slots = number_of(text)?;
     Some(Command::One(Event::Run(slots)))
@@ -92,7 +83,6 @@ fn run(text: &[u8]) -> Option<Command<'_>>
 
 fn byte(text: &[u8]) -> Option<Command<'_>>
     ensures events { option_map events_of result ≡ one event.Byte (octal_of 3 0o377 text.now) }
-    ensures printed { IfSome result HasPrinted }
 {
     let value = octal_of(3, 0o377, text)?;
     Some(Command::One(Event::Byte(value as u8)))
@@ -100,7 +90,6 @@ fn byte(text: &[u8]) -> Option<Command<'_>>
 
 fn switch(text: &[u8]) -> Option<Command<'_>>
     ensures events { option_map events_of result ≡ one event.Switch (octal_of 6 0o177777 text.now) }
-    ensures printed { IfSome result HasPrinted }
 {
     let value = octal_of(6, 0o177777, text)?;
     Some(Command::One(Event::Switch(value as u16)))
@@ -108,7 +97,6 @@ fn switch(text: &[u8]) -> Option<Command<'_>>
 
 fn command_of(line: &[u8]) -> Option<Command<'_>>
     ensures events { option_map events_of result ≡ command_of line.now }
-    ensures printed { IfSome result HasPrinted }
 {
     if is_remark(line) {
         Some(Command::Nothing)
@@ -134,7 +122,6 @@ fn command_of(line: &[u8]) -> Option<Command<'_>>
 /// What a line asks for, where it is one.
 pub(crate) fn command_of_line(line: &[u8]) -> Option<Command<'_>>
     ensures events { option_map events_of result ≡ events_of_line line.now }
-    ensures printed { IfSome result HasPrinted }
 {
     if line.len() <= MAX_LINE {
         command_of(line)
@@ -184,35 +171,4 @@ pub(crate) fn push(events: &mut Vec<Event>, command: &Command<'_>) -> Result<(),
         Command::Keys(text) => push_keys(events, text)?,
     }
     Ok(())
-}
-
-fn is_signal(event: Event) -> bool
-    ensures { result ≡ is_signal event }
-{
-    match event {
-        Event::Byte(byte) => byte % 128 == INTERRUPT || byte % 128 == QUIT,
-        _ => false,
-    }
-}
-
-#[tactic(auto, using(crate::proofs::CommandLemmas::printed_keys_signal_nothing))]
-fn asks_for_signal(command: &Command<'_>) -> bool
-    requires { HasPrinted command.now }
-    ensures { result ≡ list_any is_signal (events_of command.now) }
-{
-    match command {
-        Command::Nothing => false,
-        Command::One(event) => is_signal(*event),
-        Command::Keys(_) => false,
-    }
-}
-
-/// Whether a line types a key that makes a signal.
-pub(crate) fn types_signal(line: &[u8]) -> bool
-    ensures { result ≡ list_any is_signal (unwrap_or (events_of_line line.now) []) }
-{
-    match command_of_line(line) {
-        Some(command) => asks_for_signal(&command),
-        None => false,
-    }
 }

@@ -7,4 +7,4 @@ mod number;
 mod script;
 
 pub use crate::number::number_of;
-pub use crate::script::{Event, MAX_BYTES, Script, ScriptFault, read, signal_line};
+pub use crate::script::{Event, MAX_BYTES, Script, ScriptFault, read};

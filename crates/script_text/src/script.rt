@@ -1,10 +1,8 @@
 //! A script as the list of its events.
-ghost use Rattle.std.specs.Prelude.{◌≡◌, ◌<◌, ◌^◌, false, None, Ok, IfOk, IfErr, List, length};
-ghost use Rattle.std.specs.List.{list_any};
-ghost use Rattle.script_text.specs.declared.script.Event.{Event};
-ghost use Rattle.script_text.specs.Script.{script_of, Refuses, is_signal, signal_line_of};
+ghost use Rattle.std.specs.Prelude.{◌≡◌, Ok, IfOk, IfErr};
+ghost use Rattle.script_text.specs.Script.{script_of, Refuses};
 
-use crate::command::{command_of_line, push, slots_asked, types_signal};
+use crate::command::{command_of_line, push, slots_asked};
 use crate::lines::first_line;
 use std::alloc::Global;
 use thiserror::Error;
@@ -88,23 +86,4 @@ pub fn read(alloc: Global, bytes: &[u8]) -> Result<Script, ScriptFault>
         }
     }
     Ok(Script { events })
-}
-
-/// The number, from 1, of the first line that types a key which makes a signal. Such keys aren't built yet, and with them
-/// this call goes.
-pub fn signal_line(bytes: &[u8]) -> Option<u32>
-    requires { length bytes.now < 2 ^ 32 }
-    ensures line { result ≡ signal_line_of bytes.now }
-    ensures none { result ≡ None → (events : List Event) → script_of bytes.now ≡ Ok events → list_any is_signal events ≡ false }
-{
-    let (mut line, mut rest) = (0, bytes);
-    'lines: while !rest.is_empty() {
-        let first = first_line(rest);
-        line += 1;
-        rest = first.rest;
-        if types_signal(first.line) {
-            return Some(line);
-        }
-    }
-    None
 }

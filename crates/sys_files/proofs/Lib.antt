@@ -31,3 +31,4 @@ pub mod Bounds
 pub mod Lengths
 pub mod Walks
 pub mod Steady
+pub mod CoreLemmas

@@ -1,13 +1,13 @@
 -- One walk over the rows of calls on files, for each fact that says what stays.
-use Rattle.std.proofs.Common.{◌+◌, ◌-◌, ◌/◌, ◌%◌, ◌==◌, ◌&&◌, ℕ, Bool, true, false, not, nat_lt, cond, List, [], ◌∷◌, length, IfSome, Option, Some, None, Result, Ok, Err, if◌then◌else◌}
+use Rattle.std.proofs.Common.{◌+◌, ◌-◌, ◌/◌, ◌%◌, ◌==◌, ◌&&◌, ℕ, Bool, true, false, not, nat_lt, cond, List, [], ◌∷◌, length, pos, is_some, IfSome, Option, Some, None, Result, Ok, Err, if◌then◌else◌}
 use Rattle.v6_base.specs.Image.{Image}
 use Rattle.v6_base.specs.Trace.{Log, sent}
 use Rattle.v6_base.specs.Copy.{store_bytes}
-use Rattle.v6_base.specs.declared.answer.Answer.TheVariants.{Ret}
+use Rattle.v6_base.specs.declared.answer.Answer.TheVariants.{Ret, Sleep}
 use Rattle.v6_base.specs.declared.entry.Chan.TheVariants.{Keys}
 use Rattle.v6_base.specs.declared.entry.Entry.TheVariants.{Wake}
 use Rattle.v6_base.specs.declared.errno.Errno.{Errno}
-use Rattle.v6_base.specs.declared.errno.Errno.TheVariants.{EPERM, EBADF, EFAULT, EEXIST, ENOTDIR, EISDIR, ENFILE, EMFILE, ENOTTY, ENODEV, ENXIO, ESPIPE, EMLINK}
+use Rattle.v6_base.specs.declared.errno.Errno.TheVariants.{EINTR, EPERM, EBADF, EFAULT, EEXIST, ENOTDIR, EISDIR, ENFILE, EMFILE, ENOTTY, ENODEV, ENXIO, ESPIPE, EMLINK}
 use Rattle.v6_base.proofs.Copies.{SameLengths, same_lengths, bytes_lengths}
 use Rattle.fs_codec.specs.Bytes.{bytes_of}
 use Rattle.fs_codec.specs.Modes.{is_device, is_directory, is_character_device}
@@ -29,8 +29,9 @@ use Rattle.tty_line.specs.declared.line.Took.{Took}
 use Rattle.tty_line.specs.declared.line.Took.TheVariants.{Done, Wait, Fault}
 use Rattle.tty_line.specs.Output.{shows, after_shown}
 use Rattle.tty_line.specs.Reading.{Reading}
+use Rattle.sig_core.specs.Signals.{due}
 use Rattle.sys_files.specs.Handed.{Handed, r0, r1, node_at, file_of, user_of, is_console, is_null, with_inodes, with_changed}
-use Rattle.sys_files.specs.Did.{Did, fails, returns, is_done, check, must, need, until_end, then_named, finds, by_made, makes}
+use Rattle.sys_files.specs.Did.{Did, fails, returns, is_done, check, must, need, unless_due, until_end, then_named, finds, by_made, makes}
 use Rattle.sys_files.specs.Descriptors.{open_entry, dup_file, is_closed_by, released, told_by, dropped, close_file}
 use Rattle.sys_files.specs.Opening.{last_failure, open_tests, can_open, with_opened, opens, opens_named, open_file}
 use Rattle.sys_files.specs.Making.{new_in, entry_written, writes_entry, with_links, enters_new, makes_node, opens_for_writing, with_no_blocks, opens_again, makes_file, creat_file, with_device, is_super_user, makes_any, mknod_at, may_link, enters_again, links_to, link_file, empties, removes, unlink_file}
@@ -40,13 +41,21 @@ use Rattle.sys_files.specs.Names.{with_directory, enters_directory, chdir_to, is
 use Rattle.sys_files.specs.Status.{status_bytes, with_stored, tells_status, stat_file, stat_open}
 use Rattle.sys_files.proofs.Lengths.{line_lengths, read_lengths}
 
+-- A read sleeps until keys come: its entry, address and count are kept.
+abbrev pub asleep_for_keys : Handed → ℕ → ℕ → ℕ → Did
+asleep_for_keys h entry at count = record {
+  answer = Sleep (pos 10) Keys;
+  state = record h { u = record h.u { pending = 1; call = entry ∷ at ∷ count ∷ 0 ∷ 0 ∷ 0 ∷ 0 ∷ 0 ∷ [] } };
+  items = [];
+}
+
 -- What has to be shown of the words of which the rows are made, of a fact of the parts and of a fact of what a row does. A write
 -- shows so many bytes at most as it has to write.
 pub record Walks (P : Handed → Type 0) (Q : Did → Type 0) (Few : ℕ → Type 0) : Type 0 where
   pub refused : (h : Handed) (e : Errno) → P h → Q (fails h e)
   pub done : (h : Handed) (value : ℕ) → P h → Q (returns h value)
   pub lets_go : (ino : ℕ) (d : Did) → Q d → Q (until_end ino d)
-  pub waits : (h : Handed) (entry at count : ℕ) → P h → Q (waits_for_keys h entry at count)
+  pub waits : (h : Handed) (entry at count : ℕ) → P h → Q (asleep_for_keys h entry at count)
   pub wakes : (h : Handed) (a b : ℕ) (last : Bool) → P h → Q (record { answer = Ret a b; state = h; items = cond last (Log (Wake Keys) ∷ []) [] })
   pub showing : (line : Terminal) (image : Image) (at count : ℕ) (d : Did) → Few count → Q d
       → Q (record d { items = sent 0 (shows line (readable image at count)) })
@@ -123,9 +132,17 @@ module _ {P : Handed → Type 0} {Q : Did → Type 0} {Few : ℕ → Type 0} (k 
   walk_count h count None p = k.done h count p
   walk_count h count (Some e) p = k.refused h e p
 
+  -- a sleep that a signal may break
+  unless_due_walk : (h : Handed) (sleep : Did) → P h → Q sleep → Q (unless_due h sleep)
+  unless_due_walk h sleep p q = by (is_some (due h.row h.u))
+    where
+      by : (b : Bool) → Q (cond b (fails h EINTR) sleep)
+      by true = k.refused h EINTR p
+      by false = q
+
   walk_line : (h : Handed) (entry at count : ℕ) (took : Took) → P h → Q (takes_line h entry at count took)
   walk_line h entry at count (Done n) p = k.done h n p
-  walk_line h entry at count Wait p = k.waits h entry at count p
+  walk_line h entry at count Wait p = unless_due_walk h (asleep_for_keys h entry at count) p (k.waits h entry at count p)
   walk_line h entry at count Fault p = k.refused h EFAULT p
 
   walk_reads_line : (h : Handed) (entry at count : ℕ) → P h → Q (reads_line h entry at count)
@@ -330,4 +347,4 @@ module _ {P : Handed → Type 0} {Q : Did → Type 0} {Few : ℕ → Type 0} (k 
 
   -- A read of the console goes on.
   pub walk_resume : (h : Handed) → P (without_pending h) → Q (resume_read h)
-  walk_resume h p = walk_reads_line (without_pending h) _ _ _ p
+  walk_resume h p = unless_due_walk (without_pending h) _ p (walk_reads_line (without_pending h) _ _ _ p)

@@ -3,7 +3,7 @@ use Rattle.std.specs.Prelude.{◌≡◌, ℕ, Bool, false, not, ◌+◌, ◌<◌
 use Rattle.std.specs.List.{range_with_len, list_any}
 use Rattle.v6_base.specs.Trace.{Item, Log}
 use Rattle.v6_base.specs.declared.answer.Answer.TheVariants.{Ret}
-use Rattle.v6_base.specs.declared.entry.Chan.TheVariants.{Keys}
+use Rattle.v6_base.specs.declared.entry.Chan.TheVariants.{Keys, Read, Write}
 use Rattle.v6_base.specs.declared.entry.Entry.TheVariants.{Wake}
 use Rattle.v6_base.specs.declared.errno.Errno.{Errno}
 use Rattle.v6_base.specs.declared.errno.Errno.TheVariants.{EBADF, EMFILE}
@@ -11,9 +11,11 @@ use Rattle.open_files.specs.declared.file.OpenFile.{OpenFile}
 use Rattle.open_files.specs.declared.file.Closed.{Closed}
 use Rattle.open_files.specs.declared.file.Closed.TheVariants.{Still, Last}
 use Rattle.open_files.specs.Files.{file_at, entry_of, free_number, with_more, with_change, closed, left}
+use Rattle.pipe_ends.specs.declared.ends.Pipe.{Pipe}
 use Rattle.tty_line.specs.Terminal as terminal
 use Rattle.sys_files.specs.Handed.{Handed, r0, r1, node_at, file_of, is_console, with_number, let_go}
 use Rattle.sys_files.specs.Did.{Did, returns, check, need}
+use Rattle.sys_files.specs.Pipes.{pipe_of, with_pipe, without_pipe, has_end}
 
 -- Each open file refers to its inode.
 abbrev pub AreReferred : List (Option OpenFile) → List ℕ → Type 0
@@ -50,15 +52,36 @@ abbrev pub console_closed : Handed → OpenFile → List Item
 console_closed h file =
     if is_closed_by h file then Log (Wake Keys) ∷ [] else []
 
+-- Each close of an end of a pipe, also one that leaves the end open, wakes those who wait for the pipe: writers, and then readers.
+abbrev pub without_marks : Pipe → Pipe
+without_marks p = record p { reader_waits = false; writer_waits = false }
+
+abbrev pub with_roused : Handed → OpenFile → Handed
+with_roused h file =
+    if file.kind.pipe then record h { pipes = with_pipe h.pipes (without_marks (pipe_of h.pipes file.ino)) } else h
+
+abbrev pub pipe_roused : OpenFile → List Item
+pipe_roused file = if file.kind.pipe then Log (Wake (Write file.ino)) ∷ Log (Wake (Read file.ino)) ∷ [] else []
+
+-- With the last of its ends the pipe is gone.
+abbrev pub is_gone_with : Handed → OpenFile → Bool
+is_gone_with h file = file.kind.pipe && not (has_end h.files file.ino)
+
+abbrev pub with_gone : Handed → OpenFile → Handed
+with_gone h file = if is_gone_with h file then record h { pipes = without_pipe h.pipes file.ino } else h
+
 -- What closing comes to: it always goes on.
 pub record Closing : Type 0 where
   pub state : Handed
   pub items : List Item
 
--- The entry is free with its last number: then the console is closed, and the reference to the inode goes.
+-- An end of a pipe wakes who waits. The entry is free with its last number: then the console is closed, and the reference to the
+-- inode goes.
 abbrev pub released : Handed → Closed → Closing
-released h (Still file) = record { state = h; items = [] }
-released h (Last file) = record { state = let_go (with_closed h file) file.ino; items = console_closed h file }
+released h (Still file) = record { state = with_roused h file; items = pipe_roused file }
+released h (Last file) =
+    let rest : Handed = with_gone (with_roused h file) file in
+    record { state = let_go (with_closed rest file) file.ino; items = pipe_roused file ++ console_closed rest file }
 
 -- what is told of the file that a number lets go
 abbrev pub told_by : Handed → ℕ → Closed

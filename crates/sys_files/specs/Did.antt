@@ -1,9 +1,11 @@
 -- What a call does, and the words that the rows of calls are made of: section II of the manual, INTRO(II).
-use Rattle.std.specs.Prelude.{ℕ, List, [], Result, Ok, Err}
+use Rattle.std.specs.Prelude.{ℕ, List, [], Result, Ok, Err, is_some, if◌then◌else◌}
 use Rattle.v6_base.specs.Trace.{Item}
 use Rattle.v6_base.specs.declared.answer.Answer.{Answer}
 use Rattle.v6_base.specs.declared.answer.Answer.TheVariants.{Ret, Fail}
 use Rattle.v6_base.specs.declared.errno.Errno.{Errno}
+use Rattle.v6_base.specs.declared.errno.Errno.TheVariants.{EINTR}
+use Rattle.sig_core.specs.Signals.{due}
 use Rattle.fs_tree.specs.declared.made.Made.{Made}
 use Rattle.fs_tree.specs.declared.made.Made.TheVariants as made
 use Rattle.fs_tree.specs.Name.{name_at}
@@ -33,6 +35,10 @@ is_done h = returns h (r0 h)
 abbrev pub check : {A : Type 0} → Handed → Result A Errno → (A → Did) → Did
 check h (Ok a) next = next a
 check h (Err e) next = fails h e
+
+-- A sleep that signals break: where one is due the call is refused in its place.
+abbrev pub unless_due : Handed → Did → Did
+unless_due h sleep = if is_some (due h.row h.u) then fails h EINTR else sleep
 
 -- A reference that the call has taken goes at its end.
 abbrev pub until_end : ℕ → Did → Did

@@ -8,6 +8,7 @@ use Rattle.fs_codec.specs.Store.{Node, Store}
 use Rattle.fs_laws.specs.Numbers.{with_node}
 use Rattle.open_files.specs.declared.file.OpenFile.{OpenFile}
 use Rattle.open_files.specs.Files.{file_at}
+use Rattle.pipe_ends.specs.declared.ends.Pipe.{Pipe}
 use Rattle.fs_tree.specs.declared.user.User.{User}
 use Rattle.fs_tree.specs.Finding.{Inodes, inodes_of, put_back}
 pub use Rattle.fs_tree.specs.Tests.{no_node, node_in}
@@ -18,6 +19,7 @@ pub record Handed : Type 0 where
   pub inodes : Inodes  -- the store, and how often its inodes are referred to
   pub marks : List Bool  -- which inodes have a text that is shared
   pub files : List (Option OpenFile)  -- the table of open files
+  pub pipes : List Pipe  -- that are open
   pub line : Terminal  -- the console
   pub u : UArea  -- of the process that calls
   pub row : Row
@@ -30,6 +32,7 @@ handed f u row image =
       inodes = inodes_of f.tree.nodes;
       marks = f.tree.marks;
       files = f.table;
+      pipes = f.pipes;
       line = f.line;
       u = u;
       row = row;

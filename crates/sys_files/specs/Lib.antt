@@ -1,8 +1,11 @@
+pub mod Pipes
 pub mod Handed
 pub mod Did
 pub mod Descriptors
 pub mod Opening
 pub mod Making
+pub mod Piping
+pub mod Core
 pub mod Moving
 pub mod Modes
 pub mod Status

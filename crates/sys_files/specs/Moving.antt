@@ -20,8 +20,9 @@ use Rattle.tty_line.specs.Output.{shows, after_shown}
 use Rattle.tty_line.specs.Reading.{Reading, reads}
 use Rattle.sys_files.specs.declared.files.Files.{Files}
 use Rattle.sys_files.specs.Handed.{Handed, r0, node_at, file_of, is_console, with_store}
-use Rattle.sys_files.specs.Did.{Did, fails, returns, is_done, check, must}
+use Rattle.sys_files.specs.Did.{Did, fails, returns, is_done, check, must, unless_due}
 use Rattle.sys_files.specs.Descriptors.{open_entry}
+use Rattle.sys_files.specs.Piping.{reads_pipe, writes_pipe}
 
 -- An entry is in use: this is its file, whose inode is referred to.
 pub record IsFileOf (f : Files) (entry : ℕ) (file : OpenFile) : Type 0 where
@@ -41,13 +42,13 @@ abbrev pub gives_count : Handed → ℕ → Option Errno → Did
 gives_count h count None = returns h count
 gives_count h count (Some e) = fails h e
 
--- The call waits for keys, at the priority of terminal input: its entry, address and count are kept.
+-- The call waits for keys, at the priority of terminal input, unless a signal is due: its entry, address and count are kept.
 abbrev pub waits_for_keys : Handed → ℕ → ℕ → ℕ → Did
-waits_for_keys h entry at count = record {
+waits_for_keys h entry at count = unless_due h (record {
   answer = Sleep (pos 10) Keys;
   state = record h { u = record h.u { pending = 1; call = entry ∷ at ∷ count ∷ 0 ∷ 0 ∷ 0 ∷ 0 ∷ 0 ∷ [] } };
   items = [];
-}
+})
 
 -- what a read of an entry comes to, and what the parts are then
 abbrev pub read_of : Handed → ℕ → ℕ → ℕ → ℕ → Moving Image
@@ -88,16 +89,14 @@ abbrev pub read_file_of : Handed → ℕ → ℕ → ℕ → Did
 read_file_of h at count now =
     check h (open_entry h (r0 h)) (λ entry.
     check h (must EBADF (file_of h entry).kind.reading) (λ may.
-    reads_from h entry at count now))
+    if (file_of h entry).kind.pipe then reads_pipe h entry at count now else reads_from h entry at count now))
 
--- A process that waited for keys goes on with its read, of the entry, address and count that were kept. It may have to wait
--- again.
+-- A process that waited for keys goes on with its read, of the entry, address and count that were kept. It may have to wait again.
 abbrev pub without_pending : Handed → Handed
 without_pending h = record h { u = record h.u { pending = 0; call = replicate 8 0 } }
 
 abbrev pub resume_read : Handed → Did
-resume_read h =
-    reads_line (without_pending h) (slice_index h.u.call 0) (slice_index h.u.call 1) (slice_index h.u.call 2)
+resume_read h = reads_line (without_pending h) (slice_index h.u.call 0) (slice_index h.u.call 1) (slice_index h.u.call 2)
 
 -- What is written to the console is shown byte by byte, up to the first that cannot be read.
 abbrev pub shows_bytes : Handed → ℕ → List ℕ → Did
@@ -120,12 +119,28 @@ writes_to h entry at count now =
     if is_console node then shows_bytes after count (readable h.image at count)
     else gives_count after (if is_device node.mode then count else m.done) m.error
 
--- 4, write: of the number in R0, of a buffer's address and a number of bytes. R0 takes the number of bytes written.
-abbrev pub write_file_of : Handed → ℕ → ℕ → ℕ → Did
-write_file_of h at count now =
+-- 4, write: of the number in R0, of a buffer's address and a number of bytes. R0 takes the number of bytes written. A process that
+-- writes to a pipe which nobody reads has a signal, by its slot.
+abbrev pub write_file_of : Handed → ℕ → ℕ → ℕ → ℕ → Did
+write_file_of h slot at count now =
     check h (open_entry h (r0 h)) (λ entry.
     check h (must EBADF (file_of h entry).kind.writing) (λ may.
-    writes_to h entry at count now))
+    if (file_of h entry).kind.pipe then writes_pipe h slot entry at count count now else writes_to h entry at count now))
+
+-- A process goes on with the call in which it slept, unless a signal is due: with a read of the console, or with a read or a write
+-- of a pipe.
+abbrev pub goes_on : Handed → ℕ → ℕ → Did
+goes_on h slot now =
+    let rest : Handed = without_pending h in
+    let entry = slice_index h.u.call 0 in
+    let at = slice_index h.u.call 1 in
+    let count = slice_index h.u.call 2 in
+    if h.u.pending == 1 then resume_read h
+    else (if h.u.pending == 3 then reads_pipe rest entry at count now
+    else writes_pipe rest slot entry at count (slice_index h.u.call 3) now)
+
+abbrev pub resumes : Handed → ℕ → ℕ → Did
+resumes h slot now = unless_due (without_pending h) (goes_on h slot now)
 
 -- a word with its sign, modulo 2^32
 abbrev pub extended : ℕ → ℕ

@@ -1,8 +1,9 @@
 -- What holds of the parts that a call is handed, and what every call keeps.
-use Rattle.std.specs.Prelude.{◌≡◌, ℕ, Bool, false, ◌+◌, ◌≤◌, ◌==◌, if◌then◌else◌, List, Option, Some, None, count_by, slice_index}
+use Rattle.std.specs.Prelude.{◌≡◌, ◌⊎◌, ℕ, Bool, true, false, ◌+◌, ◌<◌, ◌≤◌, ◌==◌, if◌then◌else◌, List, Option, Some, None, count_by, slice_index}
 use Rattle.open_files.specs.declared.file.OpenFile.{OpenFile}
 use Rattle.open_files.specs.Files.{file_at, times, AreOpen, HaveRoom}
 use Rattle.sys_files.specs.Handed.{Handed}
+use Rattle.sys_files.specs.Pipes.{ArePipes}
 
 -- an open file of this inode
 abbrev pub is_of : ℕ → Option OpenFile → Bool
@@ -18,17 +19,31 @@ abbrev pub numbers_of : Option OpenFile → ℕ
 numbers_of None = 0
 numbers_of (Some file) = file.count
 
--- No open file is an end of a pipe: there are no pipes yet.
-abbrev pub HasNoPipe : List (Option OpenFile) → Type 0
-HasNoPipe files = (entry : ℕ) (file : OpenFile) → file_at files entry ≡ Some file → file.kind.pipe ≡ false
-
 pub record IsSound (h : Handed) : Type 0 where
   pub is_open : AreOpen h.files h.u.files
   pub counted : (entry : ℕ) (file : OpenFile) → file_at h.files entry ≡ Some file → times h.u.files entry ≤ file.count
   pub room : HaveRoom h.files
   pub referred : (ino : ℕ) → owed h ino ≤ slice_index h.inodes.references ino
   pub few : (ino : ℕ) → slice_index h.inodes.references ino ≤ 65500
-  pub no_pipe : HasNoPipe h.files
+  pub pipes : ArePipes h.files h.pipes
+
+-- A process waits in a pipe: the entry of which it was told is in use and an end of one, and no more bytes are left than there were.
+pub record IsInPipe (h : Handed) : Type 0 where
+  pub file : OpenFile
+  pub there : file_at h.files (slice_index h.u.call 0) ≡ Some file
+  pub pipe : file.kind.pipe ≡ true
+  pub left : slice_index h.u.call 3 ≤ slice_index h.u.call 2
+
+-- The call in which a process slept can go on: 1 is a read of the console, 3 a read and 4 a write of a pipe.
+abbrev pub CanGoOn : Handed → Type 0
+CanGoOn h = (h.u.pending ≡ 1) ⊎ ((h.u.pending ≡ 3 ⊎ h.u.pending ≡ 4) × IsInPipe h)
+
+-- A file of which another process has a number too stays open in its entry, of the same inode and kind.
+pub record StaysOpen (files : List (Option OpenFile)) (entry : ℕ) (file : OpenFile) : Type 0 where
+  pub now : OpenFile
+  pub there : file_at files entry ≡ Some now
+  pub ino : now.ino ≡ file.ino
+  pub kind : now.kind ≡ file.kind
 
 -- A call gives back each reference that it takes for itself, and counts each number that it gives and takes.
 pub record IsKept (old new : Handed) : Type 0 where
@@ -38,4 +53,6 @@ pub record IsKept (old new : Handed) : Type 0 where
   pub references : (ino : ℕ) → slice_index new.inodes.references ino + owed old ino
       ≡ slice_index old.inodes.references ino + owed new ino
   pub count : new.inodes.store.count ≡ old.inodes.store.count
-  pub no_pipe : HasNoPipe new.files
+  pub pipes : ArePipes new.files new.pipes
+  pub others : (entry : ℕ) (file : OpenFile) → file_at old.files entry ≡ Some file → times old.u.files entry < file.count
+      → StaysOpen new.files entry file

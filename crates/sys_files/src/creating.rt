@@ -7,7 +7,8 @@ ghost use Rattle.fs_codec.specs.Modes.{is_directory};
 ghost use Rattle.fs_nodes.specs.FileSystem.{SameRest};
 ghost use Rattle.fs_tree.specs.Finding.{inodes_of};
 ghost use Rattle.sys_files.specs.Handed.{handed, node_in, user_of};
-ghost use Rattle.sys_files.specs.Sound.{HasNoPipe, IsSound, IsKept};
+ghost use Rattle.sys_files.specs.Pipes.{ArePipes};
+ghost use Rattle.sys_files.specs.Sound.{IsSound, IsKept};
 ghost use Rattle.sys_files.specs.Does.{Does};
 ghost use Rattle.sys_files.specs.Did.{must};
 ghost use Rattle.sys_files.specs.Making.{truncated_in, opens_for_writing, opens_again, enters_new, makes_file, creat_file};
@@ -66,7 +67,7 @@ fn open_to_write(f: &mut Files, u: &mut UArea, row: &mut Row, ino: u16) -> Answe
     requires referenced { 0 < slice_index f.old.tree.nodes.references ino }
     requires few { slice_index f.old.tree.nodes.references ino < 65535 }
     requires open { AreOpen f.old.table u.old.files }
-    requires no_pipe { HasNoPipe f.old.table }
+    requires pipes { ArePipes f.old.table f.old.pipes }
     ensures did { (image : Image) → opens_for_writing (handed f.old u.old row.old image) ino
         ≡ did_with (handed f.new u.new row.new image) result }
     ensures kept { (image : Image) → IsKept (handed f.old u.old row.old image) (handed f.new u.new row.new image) }
@@ -82,7 +83,7 @@ fn open_again(f: &mut Files, u: &mut UArea, row: &mut Row, ino: u16, now: u32) -
     requires referenced { 0 < slice_index f.old.tree.nodes.references ino }
     requires few { slice_index f.old.tree.nodes.references ino < 65535 }
     requires open { AreOpen f.old.table u.old.files }
-    requires no_pipe { HasNoPipe f.old.table }
+    requires pipes { ArePipes f.old.table f.old.pipes }
     ensures did { (image : Image) → opens_again now (handed f.old u.old row.old image) ino
         ≡ did_with (handed f.new u.new row.new image) result }
     ensures kept { (image : Image) → IsKept (handed f.old u.old row.old image) (handed f.new u.new row.new image) }
@@ -107,7 +108,7 @@ fn enter_file(f: &mut Files, u: &mut UArea, row: &mut Row, room: Room, ino: u16,
     requires referenced { 0 < slice_index f.old.tree.nodes.references ino }
     requires few { slice_index f.old.tree.nodes.references ino < 65535 }
     requires open { AreOpen f.old.table u.old.files }
-    requires no_pipe { HasNoPipe f.old.table }
+    requires pipes { ArePipes f.old.table f.old.pipes }
     ensures did { (image : Image) → enters_new (handed f.old u.old row.old image) room.dir room.offset room.name ino now
         opens_for_writing
         ≡ did_with (handed f.new u.new row.new image) result }
@@ -127,7 +128,7 @@ fn make_file(f: &mut Files, u: &mut UArea, row: &mut Row, room: Room, mode: u16,
     requires entry { HasEntry f.old.tree.nodes room.dir room.offset }
     requires few { (i : ℕ) → slice_index f.old.tree.nodes.references i ≤ 65530 }
     requires open { AreOpen f.old.table u.old.files }
-    requires no_pipe { HasNoPipe f.old.table }
+    requires pipes { ArePipes f.old.table f.old.pipes }
     ensures did { (image : Image)
         → makes_file mode now (handed f.old u.old row.old image) room.dir room.offset room.name
         ≡ did_with (handed f.new u.new row.new image) result }

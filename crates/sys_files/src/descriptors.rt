@@ -1,5 +1,5 @@
 //! Descriptors are given once more and closed: `fio.c` and `sys3.c` in Lions' Commentary.
-ghost use Rattle.std.specs.Prelude.{◌≡◌, ◌<◌, ◌&&◌, not, IsSome, IfOk, IfErr, MatchResult, length, slice_index, []};
+ghost use Rattle.std.specs.Prelude.{◌≡◌, ◌⊎◌, ◌<◌, ◌&&◌, true, not, IsSome, IfOk, IfErr, MatchResult, length, slice_index, []};
 ghost use Rattle.v6_base.specs.Image.{Image};
 ghost use Rattle.v6_base.specs.Trace.{Took};
 ghost use Rattle.v6_base.specs.declared.errno.Errno.{Errno};
@@ -12,7 +12,8 @@ ghost use Rattle.open_files.specs.Files.{file_at, AreOpen, HaveRoom};
 ghost use Rattle.sys_files.specs.Handed.{handed, file_of, node_at, is_console};
 ghost use Rattle.sys_files.specs.Sound.{IsSound, IsKept};
 ghost use Rattle.sys_files.specs.Does.{Does};
-ghost use Rattle.sys_files.specs.Descriptors.{open_entry, dup_file, is_of_console, is_console_open, with_closed, console_closed, released, told_by, dropped, then_closes, close_file, close_all, AreReferred};
+ghost use Rattle.sys_files.specs.Pipes.{is_end_of, has_end, place_of};
+ghost use Rattle.sys_files.specs.Descriptors.{open_entry, dup_file, is_of_console, is_console_open, with_closed, console_closed, with_roused, pipe_roused, with_gone, released, told_by, dropped, then_closes, close_file, close_all, AreReferred};
 
 use crate::devices::is_console_at;
 use crate::files::Files;
@@ -144,11 +145,71 @@ fn close_console<T: Trace>(f: &mut Files, file: OpenFile, trace: &mut T)
     }
 }
 
-/// Lets go what a file has that a number has let go: with its last number the console, and the reference to its inode.
+/// Wakes those who wait for a pipe of which an end is closed, also where the end stays open: writers, and then readers.
+fn rouse_pipe<T: Trace>(f: &mut Files, file: OpenFile, trace: &mut T)
+    requires there { file.kind.pipe ≡ true → place_of f.old.pipes file.ino < length f.old.pipes }
+    ensures state { (u : UArea) (row : Row) (image : Image)
+        → handed f.new u row image ≡ with_roused (handed f.old u row image) file }
+    ensures tree { f.new.tree ≡ f.old.tree }
+    ensures table { f.new.table ≡ f.old.table }
+    ensures items { Took (T.taken trace.old) (pipe_roused file) (T.taken trace.new) }
+    ensures frame { T.leads_to trace.old trace.new }
+{
+    if file.kind.pipe {
+        let mut pipe = f.pipes.get(file.ino);
+        pipe.reader_waits = false;
+        pipe.writer_waits = false;
+        f.pipes.set(pipe);
+        trace.entry(Entry::Wake(Chan::Write(file.ino)));
+        trace.entry(Entry::Wake(Chan::Read(file.ino)));
+    }
+}
+
+/// Whether an entry is in use by an end of the pipe of an inode.
+fn is_end_of(table: &OpenTable, entry: u8, ino: u16) -> bool
+    ensures { result ≡ is_end_of ino (file_at table.now entry) }
+{
+    if !table.in_use(entry) {
+        return false;
+    }
+    let file = table.file(entry);
+    file.kind.pipe && file.ino == ino
+}
+
+/// Whether an end of the pipe of an inode is open.
+fn has_end(table: &OpenTable, ino: u16) -> bool
+    ensures { result ≡ has_end table.now ino }
+{
+    see_entries(table);
+    for entry in 0..100 {
+        if is_end_of(table, entry, ino) {
+            return true;
+        }
+    }
+    false
+}
+
+/// Lets a pipe go with the last of its ends.
+fn drop_pipe(f: &mut Files, file: OpenFile)
+    requires there { file.kind.pipe ≡ true → place_of f.old.pipes file.ino < length f.old.pipes }
+    ensures state { (u : UArea) (row : Row) (image : Image)
+        → handed f.new u row image ≡ with_gone (handed f.old u row image) file }
+    ensures tree { f.new.tree ≡ f.old.tree }
+    ensures table { f.new.table ≡ f.old.table }
+{
+    if file.kind.pipe && !has_end(&f.table, file.ino) {
+        f.pipes.remove(file.ino);
+    }
+}
+
+/// Lets go what a file has that a number has let go: who waits for its pipe is woken, and with its last number go the pipe, the
+/// console, and the reference to its inode.
 fn release<T: Trace>(f: &mut Files, told: Closed, now: u32, trace: &mut T)
     requires referenced { (file : OpenFile) → told ≡ Closed.Last file
         → 0 < slice_index f.old.tree.nodes.references file.ino }
     requires others { AreReferred f.old.table f.old.tree.nodes.references }
+    requires pipe { (file : OpenFile) → told ≡ Closed.Still file ⊎ told ≡ Closed.Last file → file.kind.pipe ≡ true
+        → place_of f.old.pipes file.ino < length f.old.pipes }
     ensures state { (u : UArea) (row : Row) (image : Image)
         → handed f.new u row image ≡ (released (handed f.old u row image) told).state }
     ensures items { (u : UArea) (row : Row) (image : Image)
@@ -157,8 +218,10 @@ fn release<T: Trace>(f: &mut Files, told: Closed, now: u32, trace: &mut T)
     ensures blocks { SameRest f.old.tree.nodes.blocks f.new.tree.nodes.blocks }
 {
     match told {
-        Closed::Still(_) => {}
+        Closed::Still(file) => rouse_pipe(f, file, trace),
         Closed::Last(file) => {
+            rouse_pipe(f, file, trace);
+            drop_pipe(f, file);
             close_console(f, file, trace);
             let_go(&mut f.tree.nodes, file.ino, now);
         }

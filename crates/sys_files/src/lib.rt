@@ -2,6 +2,7 @@
 #![tactic(auto)]
 
 mod answers;
+mod core_file;
 mod creating;
 mod descriptors;
 mod devices;
@@ -15,8 +16,11 @@ mod moving;
 mod names;
 mod naming;
 mod opening;
+mod pipes;
+mod piping;
 mod status;
 
+pub use crate::core_file::write_core;
 pub use crate::creating::creat_file;
 pub use crate::descriptors::{close_all, close_file, dup_file};
 pub use crate::files::Files;
@@ -26,4 +30,6 @@ pub use crate::modes::{gtty_get, stty_set};
 pub use crate::moving::{read_file, resume_file, seek_to, write_file};
 pub use crate::names::{chdir_to, chmod_to, chown_to, sync_all};
 pub use crate::opening::open_file;
+pub use crate::pipes::Pipes;
+pub use crate::piping::pipe_new;
 pub use crate::status::{stat_file, stat_open};

@@ -9,10 +9,10 @@ ghost use Rattle.fs_nodes.specs.FileSystem.{SameRest};
 ghost use Rattle.fs_tree.specs.Name.{readable};
 ghost use Rattle.sys_files.specs.Handed.{Handed, handed, node_in};
 ghost use Rattle.tty_line.specs.Output.{shows, after_shown};
-ghost use Rattle.sys_files.specs.Moving.{IsFileOf, with_moved, gives_count, waits_for_keys, read_of, with_read, reads_from, reads_line, resume_read, read_file_of};
-ghost use Rattle.sys_files.specs.Moving.{write_of, shows_bytes, writes_to, write_file_of};
+ghost use Rattle.sys_files.specs.Moving.{IsFileOf, with_moved, gives_count, waits_for_keys, read_of, with_read, reads_from, reads_line, read_file_of};
+ghost use Rattle.sys_files.specs.Moving.{write_of, shows_bytes, writes_to, write_file_of, resumes};
 ghost use Rattle.sys_files.specs.Moving.{extended, seek_mode, seek_base, seek_move, sought, seek_to};
-ghost use Rattle.sys_files.specs.Sound.{IsSound};
+ghost use Rattle.sys_files.specs.Sound.{IsSound, CanGoOn};
 ghost use Rattle.sys_files.specs.Does.{Does};
 ghost use Rattle.sys_files.specs.Entering.{did_with};
 
@@ -20,10 +20,12 @@ use crate::descriptors::{file_of, open_entry};
 use crate::devices::is_console_at;
 use crate::files::Files;
 use crate::inodes::see;
+use crate::piping::{PIPE_READ, Transfer, read_pipe, write_pipe};
 use fs_codec::is_device;
 use fs_nodes::{Moved, Nodes};
 use open_files::{OpenFile, OpenTable};
 use proc_tab::Row;
+use sig_core::due;
 use tty_line::Line;
 use u_area::UArea;
 use v6_base::{Answer, Chan, Errno, Slot, Space, Trace};
@@ -55,10 +57,14 @@ fn give_count(u: &UArea, count: u16, error: Option<Errno>) -> Answer
     }
 }
 
-/// Lets the process wait for keys, with what it needs to go on.
-fn wait_for_keys(u: &mut UArea, entry: u16, at: u16, count: u16) -> Answer
-    ensures { (h : Handed) → h.u ≡ u.old → waits_for_keys h entry at count ≡ did_with (record h { u = u.new }) result }
+/// Lets the process wait for keys, with what it needs to go on, unless a signal is due.
+fn wait_for_keys(u: &mut UArea, row: &Row, entry: u16, at: u16, count: u16) -> Answer
+    ensures { (h : Handed) → h.u ≡ u.old → h.row ≡ row.now
+        → waits_for_keys h entry at count ≡ did_with (record h { u = u.new }) result }
 {
+    if due(row, u).is_some() {
+        return Answer::Fail(Errno::EINTR);
+    }
     u.pending = CONSOLE_READ;
     u.call = [entry, at, count, 0, 0, 0, 0, 0];
     Answer::Sleep {
@@ -72,18 +78,19 @@ fn read_line<S: Space>(
     line: &mut Line,
     entry: u16,
     u: &mut UArea,
+    row: &Row,
     space: &mut S,
     at: u16,
     count: u16,
 ) -> Answer
-    ensures did { (h : Handed) → h.line ≡ line.old → h.u ≡ u.old → h.image ≡ S.image space.old
+    ensures did { (h : Handed) → h.line ≡ line.old → h.u ≡ u.old → h.row ≡ row.now → h.image ≡ S.image space.old
         → reads_line h entry at count
         ≡ did_with (record h { line = line.new; u = u.new; image = S.image space.new }) result }
     ensures memory { S.rest space.new ≡ S.rest space.old }
 {
     match line.read(space, at, count) {
         tty_line::Took::Done(n) => Answer::Ret { r0: n, r1: u.r[1] },
-        tty_line::Took::Wait => wait_for_keys(u, entry, at, count),
+        tty_line::Took::Wait => wait_for_keys(u, row, entry, at, count),
         tty_line::Took::Fault => Answer::Fail(Errno::EFAULT),
     }
 }
@@ -124,34 +131,48 @@ fn read_from<S: Space>(
     entry: u8,
     file: &OpenFile,
     u: &mut UArea,
+    row: &Row,
     space: &mut S,
     at: u16,
     count: u16,
     now: u32,
 ) -> Answer
     requires file { IsFileOf f.old entry file.now }
-    ensures did { (row : Row) → reads_from (handed f.old u.old row (S.image space.old)) entry at count now
-        ≡ did_with (handed f.new u.new row (S.image space.new)) result }
+    ensures did { reads_from (handed f.old u.old row.now (S.image space.old)) entry at count now
+        ≡ did_with (handed f.new u.new row.now (S.image space.new)) result }
     ensures memory { S.rest space.new ≡ S.rest space.old }
     ensures blocks { SameRest f.old.tree.nodes.blocks f.new.tree.nodes.blocks }
 {
     let console = is_console_at(&f.tree.nodes, file.ino);
     let moved = read_bytes(f, entry, file, space, at, count, now);
     if console {
-        read_line(&mut f.line, u16::from(entry), u, space, at, count)
+        read_line(&mut f.line, u16::from(entry), u, row, space, at, count)
     } else {
         give_count(u, moved.done, moved.error)
     }
 }
 
+/// What a read or a write of a pipe is about, as it begins.
+fn transfer_of(entry: u8, args: [u16; 4]) -> Transfer
+    ensures { result ≡ record { entry = entry; at = slice_index args 0; count = slice_index args 1; left = slice_index args 1 } }
+{
+    Transfer {
+        entry: u16::from(entry),
+        at: args[0],
+        count: args[1],
+        left: args[1],
+    }
+}
+
 /// 3, read(II): of the number in R0, into a buffer. The arguments are its address and how many bytes are to be read. R0
 /// takes the number of bytes that were read: fewer, where the file ends before, and 0 of the null device. A read of the
-/// console waits until keys are typed. The next read or write begins after what was read, also after an error.
+/// console waits until keys are typed, and a read of a pipe until there are bytes or nobody is left who could write; or until a
+/// signal comes. The next read or write begins after what was read, also after an error.
 ///
 /// # Errors
 ///
 /// `EBADF`: the number is not open, or not for reading. `ENOSPC`: no block is free for a hole of the file. `EFAULT`: an
-/// address of the buffer cannot be written.
+/// address of the buffer cannot be written. `EINTR`: the process would wait, and a signal is due.
 #[tactic(auto, using(v6_base::proofs::Took::takes))]
 pub fn read_file<S: Space, T: Trace>(
     f: &mut Files,
@@ -179,36 +200,58 @@ pub fn read_file<S: Space, T: Trace>(
     if !file.kind.reading {
         return Answer::Fail(Errno::EBADF);
     }
-    read_from(f, entry, &file, u, space, args[0], args[1], now)
+    if file.kind.pipe {
+        let transfer = transfer_of(entry, args);
+        return read_pipe(f, u, row, space, transfer, now, trace);
+    }
+    read_from(f, entry, &file, u, row, space, args[0], args[1], now)
 }
 
-/// Takes up a read of the console again that waited for keys, as the per-process area keeps it. It may wait again.
+/// Takes up a call again in which a process slept, as the per-process area keeps it: a read of the console, or a read or a write
+/// of a pipe. It may wait again.
 ///
 /// # Errors
 ///
-/// `EFAULT`: an address of the buffer cannot be written. The byte for it is lost, and those before it were written.
+/// `EINTR`: a signal is due. Nothing more was done then. Else those of `read_file` and of `write_file`. Where an address can't be
+/// written for a byte of the console, the byte is lost, and those before it were written.
 pub fn resume_file<S: Space, T: Trace>(
     f: &mut Files,
-    _slot: Slot,
+    slot: Slot,
     u: &mut UArea,
     row: &mut Row,
     space: &mut S,
-    _now: u32,
+    now: u32,
     trace: &mut T,
 ) -> Answer
     requires sound { IsSound (handed f.old u.old row.old (S.image space.old)) }
-    requires pending { u.old.pending ≡ 1 }
+    requires pending { CanGoOn (handed f.old u.old row.old (S.image space.old)) }
     ensures does { Does (handed f.old u.old row.old (S.image space.old))
         (handed f.new u.new row.new (S.image space.new)) result (T.taken trace.old) (T.taken trace.new)
-        (resume_read (handed f.old u.old row.old (S.image space.old))) }
+        (resumes (handed f.old u.old row.old (S.image space.old)) slot now) }
     ensures frame { T.leads_to trace.old trace.new }
     ensures memory { S.rest space.new ≡ S.rest space.old }
     ensures blocks { SameRest f.old.tree.nodes.blocks f.new.tree.nodes.blocks }
 {
+    let pending = u.pending;
     let call = u.call;
     u.pending = 0;
     u.call = [0; 8];
-    read_line(&mut f.line, call[0], u, space, call[1], call[2])
+    if due(row, u).is_some() {
+        return Answer::Fail(Errno::EINTR);
+    }
+    if pending == CONSOLE_READ {
+        return read_line(&mut f.line, call[0], u, row, space, call[1], call[2]);
+    }
+    let transfer = Transfer {
+        entry: call[0],
+        at: call[1],
+        count: call[2],
+        left: call[3],
+    };
+    if pending == PIPE_READ {
+        return read_pipe(f, u, row, space, transfer, now, trace);
+    }
+    write_pipe(f, slot, u, row, space, transfer, now, trace)
 }
 
 /// Whether the inode of a number, which is referred to, is a device's.
@@ -386,18 +429,19 @@ fn write_to<S: Space, T: Trace>(
 
 /// 4, write(II): of the number in R0, from a buffer. The arguments are its address and how many bytes are to be
 /// written. R0 takes the number of bytes that were written. The file grows where it must. What is written to the
-/// console is shown byte by byte, up to the first that cannot be read; the null device takes all. The next read or
-/// write begins after what was written, also after an error.
+/// console is shown byte by byte, up to the first that cannot be read; the null device takes all. A write to a pipe waits until
+/// all is written. The next read or write begins after what was written, also after an error.
 ///
 /// # Errors
 ///
-/// `EBADF`: the number is not open, or not for writing. Of each piece of a file, in this order. `EFBIG`: it would end
+/// `EBADF`: the number is not open, or not for writing. `EPIPE`: nobody can read the pipe any more; the process also has a signal.
+/// Of each piece of a file, in this order. `EFBIG`: it would end
 /// past byte 16,777,215, or in a directory past byte 65,520 and its present size. `ENOSPC`: no block is free. `EFAULT`:
 /// an address of the buffer cannot be read.
 #[tactic(auto, using(v6_base::proofs::Took::takes))]
 pub fn write_file<S: Space, T: Trace>(
     f: &mut Files,
-    _slot: Slot,
+    slot: Slot,
     u: &mut UArea,
     row: &mut Row,
     space: &mut S,
@@ -408,7 +452,7 @@ pub fn write_file<S: Space, T: Trace>(
     requires sound { IsSound (handed f.old u.old row.old (S.image space.old)) }
     ensures does { Does (handed f.old u.old row.old (S.image space.old))
         (handed f.new u.new row.new (S.image space.new)) result (T.taken trace.old) (T.taken trace.new)
-        (write_file_of (handed f.old u.old row.old (S.image space.old)) (slice_index args 0) (slice_index args 1) now) }
+        (write_file_of (handed f.old u.old row.old (S.image space.old)) slot (slice_index args 0) (slice_index args 1) now) }
     ensures frame { T.leads_to trace.old trace.new }
     ensures memory { S.rest space.new ≡ S.rest space.old }
     ensures blocks { SameRest f.old.tree.nodes.blocks f.new.tree.nodes.blocks }
@@ -420,6 +464,10 @@ pub fn write_file<S: Space, T: Trace>(
     let file = file_of(f, entry);
     if !file.kind.writing {
         return Answer::Fail(Errno::EBADF);
+    }
+    if file.kind.pipe {
+        let transfer = transfer_of(entry, args);
+        return write_pipe(f, slot, u, row, space, transfer, now, trace);
     }
     write_to(f, entry, &file, u, space, args[0], args[1], now, trace)
 }

@@ -1,33 +1,39 @@
 -- A process that has ended and its parent's wait: what is kept of it, what becomes of its slot, and the row of wait(II).
-use Rattle.std.proofs.Common.{◌≡◌, ◌∙◌, ℕ, ◌+◌, ◌*◌, ◌/◌, ◌%◌, ◌^◌, ◌<◌, Bool, true, false, ◌&&◌, List, [], ◌∷◌, length, get_or, take, set, Option, Some, None, IsSome, refl, sym, ap, subst, arith}
+use Rattle.std.proofs.Common.{◌≡◌, ◌∙◌, ℕ, ◌+◌, ◌*◌, ◌/◌, ◌%◌, ◌^◌, ◌<◌, Bool, true, false, ◌&&◌, cond, List, [], ◌∷◌, length, get_or, take, set, Option, Some, None, IsSome, refl, sym, ap, subst, arith}
 use Rattle.std.specs.Option.{unwrap_or}
 use Rattle.std.proofs.Math.Bridge.{le_prop}
 use Rattle.std.proofs.Math.Nat.{mod-add-mod}
 use Rattle.std.proofs.lemmas.List.{length-set, get_or-take, get_or-set_same, get_or-set_other}
+use Rattle.v6_base.specs.declared.entry.Chan.TheVariants.{Wait}
 use Rattle.v6_base.specs.declared.entry.Entry.TheVariants as line
+use Rattle.v6_base.specs.declared.errno.Errno.TheVariants.{EINTR}
 use Rattle.fs_codec.specs.Words.{word, long}
 use Rattle.u_area.specs.declared.area.UArea.{UArea}
 use Rattle.u_area.specs.Area.{area_bytes, times, IsSized}
 use Rattle.u_area.proofs.PartLemmas.{word_of_bytes}
 use Rattle.u_area.proofs.AreaLemmas.{Parts, parts_of_area}
+use Rattle.pick_rules.specs.Priority.{pwait}
 use Rattle.pick_rules.specs.declared.row.TableRow.{TableRow}
 use Rattle.pick_rules.specs.declared.table.Table.{Table}
 use Rattle.pick_rules.specs.Table.{row_at, with_row, empty_row}
 use Rattle.pick_rules.specs.Apply.{applied}
 use Rattle.proc_tab.specs.declared.member.Member.{Member}
 use Rattle.proc_tab.specs.declared.child.Child.{Child}
+use Rattle.proc_tab.specs.declared.child.Child.TheVariants.{Living}
 use Rattle.proc_tab.specs.Processes.{Processes, member_at, without, passes}
 use Rattle.proc_tab.specs.Children.{child, is_child_of, is_dead_child_of}
 use Rattle.image_keep.specs.Kept.{Held, Keeping, Nothing, Alive, Grave, Kept, keeping, with_keeping, text_of, area_in, half_of, HasImage, HasGrave}
 use Rattle.fs_nodes.specs.FileSystem.{FileSystem}
 use Rattle.sys_procs.specs.declared.procs.Procs.{Procs}
 use Rattle.sys_procs.specs.Process.{Process, no_process, process_by, process_in}
-use Rattle.sys_procs.specs.World.{without_process, processes_in}
-use Rattle.sys_procs.specs.Wait.{waits_for, wait_child}
+use Rattle.sys_procs.specs.World.{World, change, without_process, processes_in}
+use Rattle.sys_procs.specs.Comes.{fails, sleeps}
+use Rattle.sys_procs.specs.Wait.{waiting, waits_for, wait_child}
 use Rattle.sys_procs.specs.Agree.{Free, Lives, Died, kind_by, kind_of_member, kind_of_keeping, Agrees, Agree}
 use Rattle.sys_procs.specs.Handed.{AreProcs, IsAlive, handed, board, process_here}
 use Rattle.sys_procs.proofs.Slots.{one_changed, own_is, members_are}
 use Rattle.sys_procs.proofs.Agreement.{agree_but, same_texts}
+use Rattle.sys_procs.proofs.TimesLemmas.{is_due}
 
 -- The words of half a u area.
 word_of_half : (b : List ℕ) (at : ℕ) → at + 1 < 512 → word (take 512 b) at ≡ word b at
@@ -192,3 +198,10 @@ unfolding wait_child
 wait_row p s fs pid told other long is e f =
     ap (waits_for (handed p fs) s)
     (sym f ∙ (e ∙ (ap (child p.rows.slots) is ∙ ap (λ (slots : List (Option Member)). child slots (process_here p s).row.pid) (sym (members_are p.rows.slots p.images long)))))
+
+-- where no child has ended: a wait begins, or a signal that is due breaks it off
+pub wait_begins : (w : World) (s : ℕ) → is_due w s ≡ false → sleeps (change w s waiting) pwait (Wait s) ≡ waits_for w s Living
+wait_begins w s is = sym (ap (λ b. cond b (fails w EINTR) (sleeps (change w s waiting) pwait (Wait s))) is)
+
+pub wait_broken_off : (w : World) (s : ℕ) → is_due w s ≡ true → fails w EINTR ≡ waits_for w s Living
+wait_broken_off w s is = sym (ap (λ b. cond b (fails w EINTR) (sleeps (change w s waiting) pwait (Wait s))) is)

@@ -46,3 +46,6 @@ pub mod GrownTexts
 pub mod Referred
 pub mod ForkedTexts
 pub mod LeavesFirst
+pub mod Signalled
+pub mod SentAll
+pub mod SignalCalls

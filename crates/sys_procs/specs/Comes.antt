@@ -1,9 +1,11 @@
 -- What a call comes to: its effects in order, the parts then, and what it answers.
-use Rattle.std.specs.Prelude.{ℕ, ℤ, List, [], ◌∷◌}
-use Rattle.v6_base.specs.Trace.{Log}
+use Rattle.std.specs.Prelude.{ℕ, ℤ, List, [], ◌∷◌, ◌++◌, map, is_some, if◌then◌else◌}
+use Rattle.v6_base.specs.Trace.{Item, Log}
 use Rattle.v6_base.specs.declared.entry.Chan.{Chan}
 use Rattle.v6_base.specs.declared.entry.Entry.{Entry}
 use Rattle.v6_base.specs.declared.errno.Errno.{Errno}
+use Rattle.v6_base.specs.declared.errno.Errno.TheVariants.{EINTR}
+use Rattle.sig_core.specs.Signals.{due}
 use Rattle.v6_base.specs.declared.answer.Answer.{Answer}
 use Rattle.v6_base.specs.declared.answer.Answer.TheVariants.{Ret, Fail, Sleep}
 use Rattle.pick_rules.specs.Effects.{Effect, Show}
@@ -36,6 +38,10 @@ fails w e = comes w (Fail e)
 abbrev pub sleeps : World → ℤ → Chan → Comes
 sleeps w pri chan = comes w (Sleep pri chan)
 
+-- A signal that is due to a process breaks its sleep: the call is refused in its place.
+abbrev pub unless_due : World → ℕ → Comes → Comes
+unless_due w s sleep = if is_some (due (process_of w s).row (process_of w s).u) then fails w EINTR else sleep
+
 -- an effect, and then the rest
 abbrev pub does : Effect World → Comes → Comes
 does e rest = record rest { effects = e ∷ rest.effects }
@@ -43,6 +49,10 @@ does e rest = record rest { effects = e ∷ rest.effects }
 -- a line of the log that names no place, and then the rest
 abbrev pub logs : Entry → Comes → Comes
 logs e rest = does (Show (Log e)) rest
+
+-- lines, and then the rest
+abbrev pub shows : List Item → Comes → Comes
+shows items rest = record rest { effects = map Show items ++ rest.effects }
 
 -- no effect, and an answer that nobody asks for
 abbrev pub nothing : World → Comes

@@ -5,6 +5,7 @@ pub mod World
 pub mod Comes
 pub mod Ids
 pub mod Times
+pub mod Signals
 pub mod Fork
 pub mod Wait
 pub mod Exit

@@ -1,8 +1,8 @@
--- A call that goes on when its process wakes: sleep(II), wait(II).
+-- A call that goes on when its process wakes, unless a signal is due: sleep(II), wait(II).
 use Rattle.std.specs.Prelude.{ℕ, ◌==◌, replicate, if◌then◌else◌}
 use Rattle.sys_procs.specs.Process.{Process}
 use Rattle.sys_procs.specs.World.{World, process_of, change}
-use Rattle.sys_procs.specs.Comes.{Comes}
+use Rattle.sys_procs.specs.Comes.{Comes, unless_due}
 use Rattle.sys_procs.specs.Times.{pending_sleep, until_of, sleep_until}
 use Rattle.sys_procs.specs.Wait.{wait_child}
 
@@ -13,4 +13,5 @@ awake p = record p { u = record p.u { pending = 0; call = replicate 8 0 } }
 unfoldable pub resume_proc : World → ℕ → Comes
 resume_proc w s =
     let p : Process = process_of w s in
-    if p.u.pending == pending_sleep then sleep_until (change w s awake) s (until_of p) else wait_child (change w s awake) s
+    unless_due (change w s awake) s
+    (if p.u.pending == pending_sleep then sleep_until (change w s awake) s (until_of p) else wait_child (change w s awake) s)

@@ -10,7 +10,7 @@ use Rattle.u_area.specs.Area.{times}
 use Rattle.pick_rules.specs.Priority.{pslep}
 use Rattle.sys_procs.specs.Process.{Process, register, image_of, is_super}
 use Rattle.sys_procs.specs.World.{Clock, World, process_of, change}
-use Rattle.sys_procs.specs.Comes.{Comes, gives_two, returns, fails, sleeps, logs}
+use Rattle.sys_procs.specs.Comes.{Comes, gives_two, returns, fails, sleeps, unless_due, logs}
 
 -- 13, time: R0 the high word, R1 the low one
 unfoldable pub time_now : World → ℕ → Comes
@@ -57,11 +57,15 @@ until_of p = 65536 * slice_index p.u.call 4 + slice_index p.u.call 5
 abbrev pub tout_with : Clock → ℕ → ℕ
 tout_with clock until = if nat_le clock.tout clock.time || nat_lt until clock.tout then until else clock.tout
 
+-- one more sleeper has come
+abbrev pub with_sleeper : World → ℕ → World
+with_sleeper w until = record w { clock = record w.clock { tout = tout_with w.clock until } }
+
 -- until this time, from the call and from each time that it goes on
 unfoldable pub sleep_until : World → ℕ → ℕ → Comes
 sleep_until w s until =
     if nat_le until w.clock.time then returns w s
-    else sleeps (change (record w { clock = record w.clock { tout = tout_with w.clock until } }) s (sleeping_until until)) pslep Tout
+    else unless_due (with_sleeper w until) s (sleeps (change (with_sleeper w until) s (sleeping_until until)) pslep Tout)
 
 -- 35, sleep: R0 seconds
 unfoldable pub sleep_for : World → ℕ → Comes

@@ -10,7 +10,7 @@ use Rattle.proc_tab.specs.Children.{child}
 use Rattle.pick_rules.specs.Priority.{pwait}
 use Rattle.sys_procs.specs.Process.{Process}
 use Rattle.sys_procs.specs.World.{World, process_of, change, without_process, members}
-use Rattle.sys_procs.specs.Comes.{Comes, gives_two, fails, sleeps, logs}
+use Rattle.sys_procs.specs.Comes.{Comes, gives_two, fails, sleeps, unless_due, logs}
 
 -- a dead child's times and its children's are added to those of its parent's children
 abbrev pub with_times_of : UArea → UArea → UArea
@@ -35,7 +35,7 @@ waiting p = record p { u = record p.u { pending = pending_wait; call = replicate
 
 abbrev pub waits_for : World → ℕ → Child → Comes
 waits_for w s NoChild = fails w ECHILD
-waits_for w s Living = sleeps (change w s waiting) pwait (Wait s)
+waits_for w s Living = unless_due w s (sleeps (change w s waiting) pwait (Wait s))
 waits_for w s (Dead dead) = buries w s dead
 
 -- 7, wait: for the lowest dead child, from the call and from each time that it goes on

@@ -1,3 +1,4 @@
 -- What contracts inside the crate speak of.
+pub mod Sender
 pub mod Packed
 pub mod Begun

@@ -1,5 +1,6 @@
 //! What a call reads and changes of the process that makes it.
-ghost use Rattle.std.specs.Prelude.{◌≡◌};
+ghost use Rattle.std.specs.Prelude.{◌≡◌, is_some};
+ghost use Rattle.sig_core.specs.Signals.{due};
 ghost use Rattle.fs_nodes.specs.FileSystem.{FileSystem};
 ghost use Rattle.image_keep.specs.Kept.{with_area};
 ghost use Rattle.sys_procs.specs.World.{with_process};
@@ -7,6 +8,7 @@ ghost use Rattle.sys_procs.specs.Handed.{handed, board, process_here, IsAlive};
 
 use crate::procs::Procs;
 use proc_tab::Row;
+use sig_core::due;
 use u_area::UArea;
 use v6_base::Slot;
 
@@ -25,6 +27,14 @@ impl Procs {
         ensures { result ≡ (process_here self.now s).u }
     {
         self.images.area(s)
+    }
+
+    /// Whether a signal is due to a process.
+    pub(crate) fn is_due(&self, s: Slot) -> bool
+        requires { IsAlive self.now s }
+        ensures { result ≡ is_some (due (process_here self.now s).row (process_here self.now s).u) }
+    {
+        due(&self.row(s), &self.area(s)).is_some()
     }
 
     /// Gives a process another u area, for the image that it has.

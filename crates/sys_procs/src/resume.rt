@@ -12,7 +12,7 @@ use crate::times::{SLEEP, sleep_until};
 use crate::wait::wait_child;
 use fs_tree::Tree;
 use u_area::UArea;
-use v6_base::{Answer, PanicKind, Slot, Trace};
+use v6_base::{Answer, Errno, PanicKind, Slot, Trace};
 
 /// The u area of a process with no pending call.
 fn awake(u: UArea) -> UArea
@@ -36,6 +36,10 @@ fn wake_up(p: &mut Procs, s: Slot)
 }
 
 /// Goes on with the call of a process that has woken: sleep(II) or wait(II), from its beginning.
+///
+/// # Errors
+///
+/// `EINTR`: a signal is due. Else those of the call.
 #[tactic(auto, using(crate::proofs::Alive::calls), unfolding(crate::specs::Resume::resume_proc))]
 pub fn resume_proc<T: Trace>(
     p: &mut Procs,
@@ -53,6 +57,9 @@ pub fn resume_proc<T: Trace>(
 {
     let u = p.area(s);
     wake_up(p, s);
+    if p.is_due(s) {
+        return Ok(Answer::Fail(Errno::EINTR));
+    }
     if u.pending == SLEEP {
         let until = 65536 * u32::from(u.call[4]) + u32::from(u.call[5]);
         return Ok(sleep_until(p, s, until));

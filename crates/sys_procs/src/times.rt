@@ -140,8 +140,8 @@ fn keep_sleep(p: &mut Procs, s: Slot, until: u32)
     p.put_area(s, &sleeping(u, until));
 }
 
-/// Sleeps until a time, from the call and from each time that it goes on. sleep(II); Lions' Commentary, `sslep` in
-/// `sys2.c`.
+/// Sleeps until a time, unless a signal is due, from the call and from each time that it goes on. sleep(II); Lions' Commentary,
+/// `sslep` in `sys2.c`.
 #[tactic(auto, unfolding(crate::specs::Times::sleep_until))]
 pub(crate) fn sleep_until(p: &mut Procs, s: Slot, until: u32) -> Answer
     requires { IsAlive p.old s }
@@ -158,6 +158,9 @@ pub(crate) fn sleep_until(p: &mut Procs, s: Slot, until: u32) -> Answer
         };
     }
     p.table.tout = tout_with(p, until);
+    if p.is_due(s) {
+        return Answer::Fail(Errno::EINTR);
+    }
     keep_sleep(p, s, until);
     Answer::Sleep {
         pri: PSLEP,
@@ -166,6 +169,10 @@ pub(crate) fn sleep_until(p: &mut Procs, s: Slot, until: u32) -> Answer
 }
 
 /// sleep(II): R0 is for how many seconds.
+///
+/// # Errors
+///
+/// `EINTR`: the process would sleep, and a signal is due.
 #[tactic(auto, using(crate::proofs::Alive::calls), unfolding(crate::specs::Times::sleep_for))]
 pub fn sleep_for<T: Trace>(
     p: &mut Procs,

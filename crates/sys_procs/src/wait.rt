@@ -143,7 +143,7 @@ fn bury<T: Trace>(p: &mut Procs, s: Slot, dead: Slot, trace: &mut T) -> Answer
 ///
 /// # Errors
 ///
-/// `ECHILD`: the process has no child.
+/// `ECHILD`: the process has no child. `EINTR`: it would sleep, and a signal is due.
 #[tactic(auto, using(v6_base::proofs::Took::takes, fs_laws::proofs::RestLemmas::rest_stays, crate::proofs::Alive::calls_alive))]
 pub fn wait_child<T: Trace>(
     p: &mut Procs,
@@ -165,6 +165,9 @@ pub fn wait_child<T: Trace>(
     match p.rows.child(pid) {
         Child::NoChild => Ok(Answer::Fail(Errno::ECHILD)),
         Child::Living => {
+            if p.is_due(s) {
+                return Ok(Answer::Fail(Errno::EINTR));
+            }
             let u = p.area(s);
             p.put_area(s, &waiting(u));
             Ok(Answer::Sleep {

@@ -1,5 +1,5 @@
 -- How the parts of a kernel are the Unix and the board: the world of files and processes.
-use Rattle.std.specs.Prelude.{◌≡◌, ◌<◌, ℕ, min, Bool, true, false, List, [], map, Option, Some, None}
+use Rattle.std.specs.Prelude.{◌≡◌, ◌<◌, ℕ, min, Bool, true, false, List, map, Option, Some, None}
 use Rattle.pdp_step.specs.declared.outcome.Outcome.{Outcome}
 use Rattle.pdp_step.specs.Machine.{Machine}
 use Rattle.pdp_step.specs.Instruction.{instr}
@@ -33,9 +33,9 @@ use Rattle.unix_core.specs.declared.machine.Stage.TheVariants as stage
 use Rattle.abstract_unix.specs.Unix.{Unix, System, Phase, New, Started, Stopped, Finished, process_of, with_process}
 use Rattle.abstract_unix.specs.Endings.{phase_after}
 use Rattle.abstract_unix.specs.Init.{init_data}
-use Rattle.abstract_unix.specs.Whole.{Owed}
+use Rattle.abstract_unix.specs.Whole.{Owed, CanGoOn}
 use Rattle.abstract_unix.specs.Steps.{Steps}
-use Rattle.unix_core.specs.Passing.{shown_by, all_woken}
+use Rattle.unix_core.specs.Passing.{HaveSlots, shown_by, all_woken}
 use Rattle.unix_core.specs.Memory.{kept_in}
 use Rattle.abstract_unix.specs.Turn.{Turn, machine_of, with_machine, is_user, end_effects, ending_at, settled_after, slot_of}
 
@@ -45,7 +45,7 @@ unix_of w = record {
   store = w.files.tree.nodes.store;
   processes = processes_in w.procs.rows.slots w.procs.images;
   files = w.files.table;
-  pipes = [];
+  pipes = w.files.pipes;
   texts = texts_in w.procs.images;
   line = w.files.line;
   clock = clock_of w.procs.table;
@@ -101,6 +101,7 @@ pub record IsGood (w : parts.World) : Type 0 where
   pub agree : AreProcs w.procs
   pub running : (s : ℕ) → w.procs.table.running ≡ Some s → 0 < s → HasImage w.procs.images s
   pub owed : Owed w.files.tree.nodes.references (unix_of w)
+  pub pending : CanGoOn (unix_of w)
   pub marks : IsMarked w.procs w.files.tree.marks
   pub rooms : (w.tape.entry_room ≡ 64) × (w.tape.byte_room ≡ 524288)
   pub core : w.core ≡ w.procs.images.core
@@ -118,6 +119,7 @@ pub record IsReadyToShow (old new : parts.World) (s : ℕ) (items : List Item) :
   pub core : new.procs.images.core ≡ old.procs.images.core
   pub texts : new.procs.images.texts ≡ old.procs.images.texts
   pub shown : shown_by new.tape ≡ items
+  pub slots : HaveSlots new.tape.entries
   pub wakes : (t : Table) (k : Kept) → (logged {W = Unix} (board_of t k) (map Show items)).board ≡ board_of (all_woken t new.tape.entries) k
 
 -- how a turn ends in which a demand may find no place

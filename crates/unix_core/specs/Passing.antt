@@ -1,13 +1,13 @@
 -- What a call on files has shown, as the kernel's tape tells it.
-use Rattle.std.specs.Prelude.{ℕ, Bool, false, List, ◌++◌, map, fold, if◌then◌else◌}
+use Rattle.std.specs.Prelude.{◌≡◌, ◌<◌, ℕ, Bool, false, slice_index_or, List, ◌++◌, map, fold, if◌then◌else◌}
 use Rattle.v6_base.specs.Trace.{Item, Log, sent}
 use Rattle.v6_base.specs.Tape.{Recording}
 use Rattle.v6_base.specs.declared.entry.Chan.{Chan}
 use Rattle.v6_base.specs.declared.entry.Entry.{Entry}
-use Rattle.v6_base.specs.declared.entry.Entry.TheVariants.{Wake}
+use Rattle.v6_base.specs.declared.entry.Entry.TheVariants.{Wake, Signal, Idle}
 use Rattle.pick_rules.specs.declared.table.Table.{Table}
 use Rattle.pick_rules.specs.Priority.{setpri}
-use Rattle.pick_rules.specs.Sleepers.{wakeup, fall_asleep}
+use Rattle.pick_rules.specs.Sleepers.{wakeup, fall_asleep, signalled}
 use Rattle.pick_rules.specs.Choice.{chosen, gives_up, settled_by}
 use Rattle.pick_rules.specs.Apply.{change_row}
 use Rattle.abstract_unix.specs.declared.ending.Ending.{Ending}
@@ -34,10 +34,18 @@ called_table called chan t = if called then wakeup t chan else t
 abbrev pub settled_table : Table → Table
 settled_table t = if gives_up t t.running then settled_by t (chosen t) else t
 
--- a line that wakes sleepers; a call on files has no others
+-- a line that wakes sleepers, or that sends a signal; a call on files has no others
 abbrev pub woken_by : Table → Entry → Table
 woken_by t (Wake chan) = wakeup t chan
+woken_by t (Signal slot sig) = signalled t slot
 woken_by t e = t
+
+-- a line of a signal names a slot that there is
+abbrev pub HasSlot : Entry → Type 0
+HasSlot e = (slot sig : ℕ) → e ≡ Signal slot sig → slot < 50
+
+abbrev pub HaveSlots : List Entry → Type 0
+HaveSlots entries = (i : ℕ) → HasSlot (slice_index_or entries i Idle)
 
 abbrev pub all_woken : Table → List Entry → Table
 all_woken t entries = fold woken_by t entries

@@ -1,5 +1,5 @@
 //! The kernel, which takes one event a call.
-ghost use Rattle.std.specs.Prelude.{◌≡◌, ◌≢◌, ◌⊎◌, ◌==◌, ◌<◌, ◌≤◌, ℕ, [], slice_index, if◌then◌else◌, Ok, false};
+ghost use Rattle.std.specs.Prelude.{◌≡◌, ◌≢◌, ◌⊎◌, ◌==◌, ◌<◌, ◌≤◌, ℕ, [], slice_index, if◌then◌else◌};
 ghost use Rattle.v6_base.specs.Trace.{Took};
 ghost use Rattle.fs_codec.specs.Disk.{head};
 ghost use Rattle.fs_codec.specs.Stands.{StandsFor};
@@ -9,8 +9,7 @@ ghost use Rattle.fs_laws.specs.Rest.{SameRest};
 ghost use Rattle.image_keep.specs.Kept.{Alive, first_kept, with_keeping};
 ghost use Rattle.unix_core.specs.Parts.{first_held};
 ghost use Rattle.abstract_unix.specs.declared.ends.Ends.TheVariants.{AtEnd};
-ghost use Rattle.abstract_unix.specs.Turn.{turned, NobodyCanRun};
-ghost use Rattle.abstract_unix.specs.Outside.{is_signal_key};
+ghost use Rattle.abstract_unix.specs.Turn.{turned, ticked_by, NobodyCanRun};
 ghost use Rattle.abstract_unix.specs.Private.{AllUndisturbed, TickUndisturbed, OthersUndisturbed};
 ghost use Rattle.abstract_unix.specs.Shared.{AllTextsStay, OtherTextsStay};
 
@@ -29,7 +28,7 @@ use pick_rules::Table;
 use proc_tab::Rows;
 use seg_regs::Proto;
 use std::marker::Model;
-use sys_files::Files;
+use sys_files::{Files, Pipes};
 use sys_procs::Procs;
 use tty_line::Line;
 use v6_base::{Entry, PanicKind, Slot, Tape, Trace};
@@ -105,6 +104,7 @@ impl Kernel {
             tree,
             table: OpenTable::new(),
             line: Line::new(),
+            pipes: Pipes::new(),
         };
         let mut procs = Procs {
             rows: Rows::new(),
@@ -181,11 +181,16 @@ impl Kernel {
         }
     }
 
-    /// Takes one tick of the clock, a sixtieth of a second: `clock` in Lions' Commentary, `clock.c`. No panic comes of it yet.
+    /// Takes one tick of the clock, a sixtieth of a second: `clock` in Lions' Commentary, `clock.c`. A second that ends in user
+    /// mode is as a trap: a signal that is due is delivered.
+    ///
+    /// # Errors
+    ///
+    /// `Swap`, `Zombie`: the delivery needs a place, and there is none. The run has stopped then: no event is taken any more.
     pub fn tick<T: Trace>(&mut self, trace: &mut T) -> Result<(), PanicKind>
         requires { self.old.phase ≡ Started }
-        ensures phase { self.new.phase ≡ Started }
-        ensures answer { result ≡ Ok tt }
+        ensures phase { self.new.phase ≡ phase_after (event_of Tick self.old.system).ending }
+        ensures answer { result ≡ ticked_by (event_of Tick self.old.system).ending }
         ensures next { self.new.system ≡ (event_of Tick self.old.system).next }
         ensures private { TickUndisturbed self.old.system self.new.system }
         ensures texts { AllTextsStay self.old.system self.new.system }
@@ -193,15 +198,13 @@ impl Kernel {
         ensures items { Took (T.taken trace.old) (event_of Tick self.old.system).items (T.taken trace.new) }
         ensures frame { T.leads_to trace.old trace.new }
     {
-        self.machine.tick(trace);
-        Ok(())
+        self.machine.tick(trace)
     }
 
-    /// Takes a byte that is typed at the console: `klrint` in Lions' Commentary, `kl.c`; tty(IV) of the manual. A key that
-    /// makes a signal isn't built: 0177 and 034, by the low seven bits.
+    /// Takes a byte that is typed at the console: `klrint` in Lions' Commentary, `kl.c`; tty(IV) of the manual. A key that makes a
+    /// signal, 0177 or 034 by the low seven bits, sends it to all that have the console.
     pub fn typed<T: Trace>(&mut self, b: u8, trace: &mut T)
-        requires started { self.old.phase ≡ Started }
-        requires signal { is_signal_key b ≡ false }
+        requires { self.old.phase ≡ Started }
         ensures phase { self.new.phase ≡ Started }
         ensures next { self.new.system ≡ (event_of (Byte b) self.old.system).next }
         ensures private { AllUndisturbed self.old.system self.new.system }

@@ -3,6 +3,7 @@
 
 mod asked;
 mod boot;
+mod delivery;
 mod files;
 mod init;
 mod kernel;

@@ -10,10 +10,11 @@ ghost use Rattle.sys_procs.specs.Process.{register};
 ghost use Rattle.abstract_unix.specs.declared.ends.Ends.TheVariants.{AtEnd};
 ghost use Rattle.abstract_unix.specs.Unix.{Unix, System, Started, process_of};
 ghost use Rattle.abstract_unix.specs.Endings.{is_early};
-ghost use Rattle.abstract_unix.specs.Turn.{turned, turned_by, ending_at, turn, turn_of, settled, settled_after, pass_of};
-ghost use Rattle.abstract_unix.specs.Outside.{calls, charged, mode_of, tick_entry, timed_area, tick_of, typed_of};
+ghost use Rattle.abstract_unix.specs.Turn.{turned, ticked_by, turned_by, ending_at, turn, turn_of, settled, settled_after, pass_of};
+ghost use Rattle.abstract_unix.specs.Outside.{calls, charged, mode_of, tick_entry, timed_area, is_user_mode, delivers_to, tick_of, typed_of};
 ghost use Rattle.unix_core.specs.Parts.{unix_of, board_in, system_at, turn_at, turned_at, turn_end, pc_at, phase_of, machine_in, with_machine_in, is_over, IsGood, IsReady, IsUser, IsCovered, IsKernel, HasCome, HasStepped, Takes};
 
+use crate::delivery::{deliver_after, deliver_due};
 use crate::files::see_procs;
 use crate::process::{come_to, resume};
 use crate::settling::{end_turn, settle, wake};
@@ -23,7 +24,7 @@ use image_keep::Fixed;
 use pdp_step::{Outcome, Regs, step};
 use pick_rules::{Mode, Second};
 use swap_sched::pass;
-use sys_procs::Procs;
+use sys_procs::{Procs, signal_console};
 use tty_line::Keyed;
 use u_area::UArea;
 use v6_base::{Chan, Entry, PanicKind, Slot, Trace};
@@ -100,6 +101,17 @@ fn is_due(second: Second) -> bool
     match second {
         Second::Yes { tout } => tout,
         Second::No => false,
+    }
+}
+
+/// Whether a tick is as a trap: a second in user mode.
+fn is_as_trap(mode: Mode, second: Second) -> bool
+    ensures second { (tout : Bool) → second ≡ Second.Yes tout → result ≡ is_user_mode mode }
+    ensures within { second ≡ Second.No → result ≡ false }
+{
+    match (mode, second) {
+        (Mode::User, Second::Yes { .. }) => true,
+        _ => false,
     }
 }
 
@@ -234,7 +246,7 @@ impl Machine {
         }
     }
 
-    /// Takes a turn of a process that goes on with a call in which it slept.
+    /// Takes a turn of a process that goes on with a call in which it slept. A signal that is due then is delivered.
     fn go_on<T: Trace>(&mut self, s: Slot, trace: &mut T) -> Ending
         requires kernel { IsKernel self.old.stage self.old.world }
         requires runs { self.old.world.procs.table.running ≡ Some s }
@@ -250,7 +262,8 @@ impl Machine {
             (turn (system_at self.old.world) s).effects).items (T.taken trace.new) }
         ensures frame { T.leads_to trace.old trace.new }
     {
-        resume(&mut self.world, s, trace)
+        let ending = resume(&mut self.world, s, trace);
+        deliver_after(&mut self.world, s, ending, trace)
     }
 
     /// Ends a turn of a process that has come to this: the kernel settles, where the run goes on. It stands out of line, beside
@@ -281,8 +294,8 @@ impl Machine {
         }
     }
 
-    /// Takes what an instruction comes to, where that isn't the next one, and settles. It stands out of line, beside the loop
-    /// over slots.
+    /// Takes what an instruction comes to, where that isn't the next one, with the signal that is due then, and settles. It stands
+    /// out of line, beside the loop over slots.
     #[inline(never)]
     pub(crate) fn after_step<T: Trace>(&mut self, s: Slot, outcome: Outcome, trace: &mut T) -> Went
         requires { IsUser s self.old.world }
@@ -297,6 +310,7 @@ impl Machine {
         ensures frame { T.leads_to trace.old trace.new }
     {
         let ending = come_to(&mut self.world, s, outcome, trace);
+        let ending = deliver_after(&mut self.world, s, ending, trace);
         self.end(s, ending, trace)
     }
 
@@ -373,10 +387,34 @@ impl Machine {
         self.world.procs.images.set_area(s, &u);
     }
 
-    /// Takes a tick of the clock.
-    pub(crate) fn tick<T: Trace>(&mut self, trace: &mut T)
+    /// Delivers the signal that is due to the process that runs, in a tick.
+    fn deliver<T: Trace>(&mut self, trace: &mut T) -> Ending
+        requires { IsGood self.old.world }
+        ensures come { HasCome (board_in self.old.world)
+            (delivers_to (unix_of self.old.world) self.old.world.procs.table.running) result self.new.world }
+        ensures good { is_over result ≡ false → IsGood self.new.world }
+        ensures covered { is_over result ≡ true → IsCovered self.new.world }
+        ensures stage { self.new.stage ≡ self.old.stage }
+        ensures items { Took (T.taken trace.old) (logged (board_in self.old.world)
+            (delivers_to (unix_of self.old.world) self.old.world.procs.table.running).effects).items (T.taken trace.new) }
+        ensures frame { T.leads_to trace.old trace.new }
+        ensures rest { SameRest self.old.world.files.tree.nodes.blocks self.new.world.files.tree.nodes.blocks }
+    {
+        match self.world.procs.table.running {
+            Some(s) if s != 0 => deliver_due(&mut self.world, s, trace),
+            _ => Ending::Trapped,
+        }
+    }
+
+    /// Takes a tick of the clock. In user mode a second is as a trap: a signal that is due is delivered.
+    ///
+    /// # Errors
+    ///
+    /// `Swap`, `Zombie`: the delivery needs a place, and there is none. The system stops with a panic.
+    pub(crate) fn tick<T: Trace>(&mut self, trace: &mut T) -> Result<(), PanicKind>
         requires kernel { IsKernel self.old.stage self.old.world }
         requires started { phase_of self.old.stage ≡ Started }
+        ensures answer { result ≡ ticked_by (settled_after (tick_of (system_at self.old.world))).ending }
         ensures takes { Takes (settled_after (tick_of (system_at self.old.world))) self.new.stage self.new.world }
         ensures rest { SameRest self.old.world.files.tree.nodes.blocks self.new.world.files.tree.nodes.blocks }
         ensures items { Took (T.taken trace.old)
@@ -393,10 +431,17 @@ impl Machine {
             Chan::Tout,
             trace,
         );
+        if is_as_trap(mode, second) {
+            if let Ending::Panic(kind) = self.deliver(trace) {
+                self.stage = Stage::Stopped;
+                return Err(kind);
+            }
+        }
         self.settle(trace);
+        Ok(())
     }
 
-    /// Takes a byte that is typed at the console.
+    /// Takes a byte that is typed at the console, and sends the signal that it makes.
     pub(crate) fn typed<T: Trace>(&mut self, byte: u8, trace: &mut T)
         requires kernel { IsKernel self.old.stage self.old.world }
         requires started { phase_of self.old.stage ≡ Started }
@@ -407,6 +452,9 @@ impl Machine {
         ensures frame { T.leads_to trace.old trace.new }
     {
         let keyed = self.world.files.line.typed(byte, trace);
+        if let Keyed::Signal(sig) = keyed {
+            signal_console(&mut self.world.procs, sig, trace);
+        }
         wake(&mut self.world.procs.table, calls(keyed), Chan::Keys, trace);
         self.settle(trace);
     }

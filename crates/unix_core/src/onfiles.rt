@@ -1,28 +1,29 @@
 //! Calls on files: the parts that each is handed are lent to it, and put back. What it shows goes to the kernel's tape.
-ghost use Rattle.std.specs.Prelude.{◌≡◌, ◌<◌, ◌≤◌};
+ghost use Rattle.std.specs.Prelude.{◌≡◌, true};
 ghost use Rattle.fs_laws.specs.Rest.{SameRest};
 ghost use Rattle.sys_files.specs.Descriptors.{close_all};
-ghost use Rattle.sys_files.specs.Moving.{resume_read};
+ghost use Rattle.sys_files.specs.Moving.{resumes};
+ghost use Rattle.sys_files.specs.Core.{core_file, is_written};
 ghost use Rattle.image_keep.specs.Kept.{area_of};
 ghost use Rattle.abstract_unix.specs.Unix.{process_of};
-ghost use Rattle.abstract_unix.specs.Calls.{handed_of, with_handed, file_row};
+ghost use Rattle.abstract_unix.specs.Calls.{handed_of, with_handed, file_row, is_on_files};
 ghost use Rattle.unix_core.specs.Parts.{unix_of, board_in, IsReady, IsReadyToShow};
 
 use crate::files::{see_count, see_nodes, see_numbers, see_table};
 use crate::world::World;
 use abstract_unix::{FileCall, do_file_call};
-use sys_files::{close_all, resume_file};
+use sys_files::{close_all, resume_file, write_core};
 use v6_base::{Answer, Slot};
 
 /// Does a call on files by its row.
 pub(crate) fn do_on_files(world: &mut World, s: Slot, call: FileCall, args: [u16; 4]) -> Answer
     requires { IsReady world.old s }
     ensures answer { result ≡ (file_row call
-        (handed_of (unix_of world.old) (process_of (unix_of world.old) s)) args world.old.procs.table.now).answer }
+        (handed_of (unix_of world.old) (process_of (unix_of world.old) s)) s args world.old.procs.table.now).answer }
     ensures unix { unix_of world.new ≡ with_handed (unix_of world.old) s (file_row call
-        (handed_of (unix_of world.old) (process_of (unix_of world.old) s)) args world.old.procs.table.now).state }
+        (handed_of (unix_of world.old) (process_of (unix_of world.old) s)) s args world.old.procs.table.now).state }
     ensures shown { IsReadyToShow world.old world.new s (file_row call
-        (handed_of (unix_of world.old) (process_of (unix_of world.old) s)) args world.old.procs.table.now).items }
+        (handed_of (unix_of world.old) (process_of (unix_of world.old) s)) s args world.old.procs.table.now).items }
     ensures rest { SameRest world.old.files.tree.nodes.blocks world.new.files.tree.nodes.blocks }
 {
     see_count(&args);
@@ -52,15 +53,15 @@ pub(crate) fn do_on_files(world: &mut World, s: Slot, call: FileCall, args: [u16
     answer
 }
 
-/// Goes on with a read of the console.
-pub(crate) fn read_on(world: &mut World, s: Slot) -> Answer
+/// Goes on with a call on files: a read of the console, or a read or a write of a pipe.
+pub(crate) fn resume_on_files(world: &mut World, s: Slot) -> Answer
     requires ready { IsReady world.old s }
-    requires pending { (area_of world.old.procs.images s).pending ≡ 1 }
-    ensures answer { result ≡ (resume_read (handed_of (unix_of world.old) (process_of (unix_of world.old) s))).answer }
+    requires pending { is_on_files (area_of world.old.procs.images s).pending ≡ true }
+    ensures answer { result ≡ (resumes (handed_of (unix_of world.old) (process_of (unix_of world.old) s)) s world.old.procs.table.now).answer }
     ensures unix { unix_of world.new ≡ with_handed (unix_of world.old) s
-        (resume_read (handed_of (unix_of world.old) (process_of (unix_of world.old) s))).state }
+        (resumes (handed_of (unix_of world.old) (process_of (unix_of world.old) s)) s world.old.procs.table.now).state }
     ensures shown { IsReadyToShow world.old world.new s
-        (resume_read (handed_of (unix_of world.old) (process_of (unix_of world.old) s))).items }
+        (resumes (handed_of (unix_of world.old) (process_of (unix_of world.old) s)) s world.old.procs.table.now).items }
     ensures rest { SameRest world.old.files.tree.nodes.blocks world.new.files.tree.nodes.blocks }
 {
     see_nodes(&world.files.tree.nodes);
@@ -85,6 +86,25 @@ pub(crate) fn read_on(world: &mut World, s: Slot) -> Answer
     world.procs.images.set_area(s, &u);
     world.procs.rows.set_row(s, row);
     answer
+}
+
+/// Writes the image of a process that a signal ends to the file `core`, and says whether the whole of it was written.
+pub(crate) fn put_core(world: &mut World, s: Slot) -> bool
+    requires { IsReady world.old s }
+    ensures whole { result ≡ is_written (core_file
+        (handed_of (unix_of world.old) (process_of (unix_of world.old) s)) world.old.procs.table.now).answer }
+    ensures unix { unix_of world.new ≡ with_handed (unix_of world.old) s (core_file
+        (handed_of (unix_of world.old) (process_of (unix_of world.old) s)) world.old.procs.table.now).state }
+    ensures ready { IsReady world.new s }
+    ensures procs { world.new.procs ≡ world.old.procs }
+    ensures rest { SameRest world.old.files.tree.nodes.blocks world.new.files.tree.nodes.blocks }
+{
+    see_nodes(&world.files.tree.nodes);
+    see_table(&world.files.table);
+    let now = world.procs.table.now;
+    let u = world.procs.images.area(s);
+    let space = world.procs.images.space(s);
+    write_core(&mut world.files, &u, &space, now)
 }
 
 /// Closes the files of a process that ends.

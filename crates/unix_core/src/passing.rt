@@ -2,28 +2,33 @@
 ghost use Rattle.std.specs.Prelude.{◌≡◌, [], ◌∷◌};
 ghost use Rattle.v6_base.specs.Trace.{Took, Log};
 ghost use Rattle.pick_rules.specs.Table.{IsTable};
-ghost use Rattle.unix_core.specs.Passing.{woken_by, all_woken, shown_by};
+ghost use Rattle.unix_core.specs.Passing.{HasSlot, HaveSlots, woken_by, all_woken, shown_by};
 
 use pick_rules::Table;
+use sys_procs::signal_slot;
 use v6_base::{Entry, Tape, Trace};
 
-/// Takes a line of the log that wakes sleepers.
+/// Takes a line of the log that wakes sleepers, or that sends a signal.
 fn wake_by<T: Trace>(entry: Entry, table: &mut Table, trace: &mut T)
-    requires { IsTable table.old }
+    requires table { IsTable table.old }
+    requires slot { HasSlot entry }
     ensures table { table.new ≡ woken_by table.old entry }
     ensures good { IsTable table.new }
     ensures items { Took (T.taken trace.old) (Log entry ∷ []) (T.taken trace.new) }
     ensures frame { T.leads_to trace.old trace.new }
 {
     trace.entry(entry);
-    if let Entry::Wake(chan) = entry {
-        table.wakeup(chan);
+    match entry {
+        Entry::Wake(chan) => table.wakeup(chan),
+        Entry::Signal { slot, .. } => signal_slot(table, slot),
+        _ => {}
     }
 }
 
 /// Passes on what a tape has taken: the bytes, and then the lines, of which each wakes those who sleep for its channel.
 pub(crate) fn pass_on<T: Trace>(tape: &Tape, table: &mut Table, trace: &mut T)
-    requires { IsTable table.old }
+    requires table { IsTable table.old }
+    requires slots { HaveSlots tape.now.entries }
     ensures table { table.new ≡ all_woken table.old tape.now.entries }
     ensures good { IsTable table.new }
     ensures items { Took (T.taken trace.old) (shown_by tape.now) (T.taken trace.new) }

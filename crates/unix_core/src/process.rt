@@ -5,28 +5,34 @@ ghost use Rattle.fs_laws.specs.Rest.{SameRest};
 ghost use Rattle.pick_rules.specs.Logged.{logged};
 ghost use Rattle.image_keep.specs.Kept.{HasImage, area_of, with_area};
 ghost use Rattle.open_files.specs.Files.{AreOpen, HaveRoom};
-ghost use Rattle.sys_files.specs.Moving.{resume_read};
+ghost use Rattle.sys_files.specs.Moving.{resumes};
 ghost use Rattle.sys_procs.specs.Resume.{resume_proc};
-ghost use Rattle.abstract_unix.specs.Unix.{process_of};
-ghost use Rattle.abstract_unix.specs.Calls.{world_of, words_passed, entered_area, given_area, refused_area, system_call, does_call, did_by, came_by, shares, forks, exits, grows_to, resumed, answers, handed_of, file_row, process_row};
+ghost use Rattle.abstract_unix.specs.Unix.{Unix, process_of};
+ghost use Rattle.abstract_unix.specs.Steps.{signals};
+ghost use Rattle.abstract_unix.specs.Calls.{world_of, words_passed, entered_area, given_area, refused_area, refuses, system_call, does_call, did_by, came_by, shares, forks, exits, grows_to, resumed, answers, handed_of, file_row, process_row, is_on_files};
 ghost use Rattle.abstract_unix.specs.Errors.{error_number};
-ghost use Rattle.abstract_unix.specs.Turn.{faults, comes_to};
+ghost use Rattle.abstract_unix.specs.Turn.{faults, comes_to, passes_setd};
 ghost use Rattle.unix_core.specs.Parts.{unix_of, board_in, IsGood, IsReady, HasCome, IsCovered, is_over};
 
 use crate::asked::ask;
 use crate::files::{see_covered, see_kept, see_nodes, see_procs, see_table};
-use crate::onfiles::{close_files, do_on_files, read_on};
+use crate::onfiles::{close_files, do_on_files, resume_on_files};
 use crate::passing::pass_on;
 use crate::world::World;
 use abstract_unix::{Asked, Ending, FileCall, ProcessCall, SystemCall, do_process_call, sysent_of};
 use image_keep::Images;
 use open_files::OpenTable;
 use pdp_step::{Kind, Outcome};
-use sys_procs::{exit_now, fork_one, grow, resume_proc};
+use sig_core::{SIGBUS, SIGEMT, SIGINS, SIGIOT, SIGSEG, SIGSYS, SIGTRC};
+use sys_procs::{exit_now, fork_one, grow, resume_proc, send_signal};
 use v6_base::{Answer, Errno, PanicKind, Slot, Trace};
 
-/// The pending call that is a read of the console, a sleep, or a wait.
+/// The pending calls that are a read of the console, a read and a write of a pipe, a sleep, and a wait.
 const PENDING_READ: u8 = 1;
+
+const PENDING_PIPE_READ: u8 = 3;
+
+const PENDING_PIPE_WRITE: u8 = 4;
 
 const PENDING_SLEEP: u8 = 5;
 
@@ -34,6 +40,9 @@ const PENDING_WAIT: u8 = 6;
 
 /// The first number of an error that makes a signal.
 const FIRST_SIGNAL: u16 = 100;
+
+/// The instruction by which a program asks for floating point of double precision.
+const SETD: u16 = 0o170011;
 
 /// A call begins: C is cleared, and the PC passes so many words.
 fn enter(images: &mut Images, s: Slot, words: u8)
@@ -75,14 +84,49 @@ fn error_number(error: Errno) -> u16
     error as u16
 }
 
-/// A call ends: the registers take what it answers.
-fn conclude(world: &mut World, s: Slot, answer: Answer) -> Ending
+/// A process is sent a signal by what it does: it comes out of a trap.
+fn signal<T: Trace>(world: &mut World, s: Slot, sig: u8, trace: &mut T) -> Ending
     requires { IsReady world.old s }
-    ensures ending { result ≡ (answers (unix_of world.old) s answer).ending }
-    ensures unix { unix_of world.new ≡ (answers (unix_of world.old) s answer).unix }
-    ensures board { board_in world.new ≡ board_in world.old }
+    ensures come { HasCome (board_in world.old) (signals (unix_of world.old) s sig) result world.new }
     ensures ready { IsReady world.new s }
-    ensures covered { is_over result ≡ true → IsCovered world.new }
+    ensures trapped { result ≡ Ending.Trapped }
+    ensures items { Took (T.taken trace.old) (logged (board_in world.old) (signals (unix_of world.old) s sig).effects).items
+        (T.taken trace.new) }
+    ensures frame { T.leads_to trace.old trace.new }
+    ensures blocks { world.new.files.tree.nodes.blocks ≡ world.old.files.tree.nodes.blocks }
+{
+    send_signal(&mut world.procs, s, u16::from(sig), trace);
+    Ending::Trapped
+}
+
+/// A call is refused with an error. One of 100 or more makes a signal.
+fn fail<T: Trace>(world: &mut World, s: Slot, error: Errno, trace: &mut T) -> Ending
+    requires { IsReady world.old s }
+    ensures come { HasCome (board_in world.old) (refuses (unix_of world.old) s (error_number error)) result world.new }
+    ensures ready { IsReady world.new s }
+    ensures trapped { result ≡ Ending.Trapped }
+    ensures items { Took (T.taken trace.old)
+        (logged (board_in world.old) (refuses (unix_of world.old) s (error_number error)).effects).items (T.taken trace.new) }
+    ensures frame { T.leads_to trace.old trace.new }
+    ensures blocks { world.new.files.tree.nodes.blocks ≡ world.old.files.tree.nodes.blocks }
+{
+    let number = error_number(error);
+    if number >= FIRST_SIGNAL {
+        return signal(world, s, SIGSYS, trace);
+    }
+    refuse(&mut world.procs.images, s, number);
+    Ending::Trapped
+}
+
+/// A call ends: the registers take what it answers.
+fn conclude<T: Trace>(world: &mut World, s: Slot, answer: Answer, trace: &mut T) -> Ending
+    requires { IsReady world.old s }
+    ensures come { HasCome (board_in world.old) (answers (unix_of world.old) s answer) result world.new }
+    ensures ready { IsReady world.new s }
+    ensures goes { is_over result ≡ false }
+    ensures items { Took (T.taken trace.old) (logged (board_in world.old) (answers (unix_of world.old) s answer).effects).items
+        (T.taken trace.new) }
+    ensures frame { T.leads_to trace.old trace.new }
     ensures blocks { world.new.files.tree.nodes.blocks ≡ world.old.files.tree.nodes.blocks }
 {
     match answer {
@@ -90,15 +134,7 @@ fn conclude(world: &mut World, s: Slot, answer: Answer) -> Ending
             give(&mut world.procs.images, s, r0, r1);
             Ending::Trapped
         }
-        Answer::Fail(error) => {
-            let number = error_number(error);
-            if number >= FIRST_SIGNAL {
-                see_covered(world);
-                return Ending::NotBuilt;
-            }
-            refuse(&mut world.procs.images, s, number);
-            Ending::Trapped
-        }
+        Answer::Fail(error) => fail(world, s, error, trace),
         Answer::Sleep { pri, chan } => Ending::Slept { pri, chan },
     }
 }
@@ -113,18 +149,18 @@ fn call_files<T: Trace>(
 ) -> Ending
     requires { IsReady world.old s }
     ensures come { HasCome (board_in world.old) (did_by (unix_of world.old) s (file_row call
-        (handed_of (unix_of world.old) (process_of (unix_of world.old) s)) args world.old.procs.table.now)) result world.new }
+        (handed_of (unix_of world.old) (process_of (unix_of world.old) s)) s args world.old.procs.table.now)) result world.new }
     ensures ready { IsReady world.new s }
     ensures covered { is_over result ≡ true → IsCovered world.new }
     ensures items { Took (T.taken trace.old) (logged (board_in world.old) (did_by (unix_of world.old) s (file_row call
-        (handed_of (unix_of world.old) (process_of (unix_of world.old) s)) args world.old.procs.table.now)).effects).items
+        (handed_of (unix_of world.old) (process_of (unix_of world.old) s)) s args world.old.procs.table.now)).effects).items
         (T.taken trace.new) }
     ensures frame { T.leads_to trace.old trace.new }
     ensures rest { SameRest world.old.files.tree.nodes.blocks world.new.files.tree.nodes.blocks }
 {
     let answer = do_on_files(world, s, call, args);
     pass_on(&world.tape, &mut world.procs.table, trace);
-    conclude(world, s, answer)
+    conclude(world, s, answer, trace)
 }
 
 /// A call on processes, which has been entered.
@@ -156,7 +192,7 @@ fn call_processes<T: Trace>(
         args,
         trace,
     ) {
-        Ok(answer) => conclude(world, s, answer),
+        Ok(answer) => conclude(world, s, answer, trace),
         Err(kind) => {
             see_procs(&world.procs);
             Ending::Panic(kind)
@@ -192,7 +228,7 @@ fn fork<T: Trace>(world: &mut World, s: Slot, trace: &mut T) -> Ending
     match fork_one(&mut world.procs, &mut world.files.tree, s, [0; 4], trace) {
         Ok(answer) => {
             share_files(&mut world.files.table, &u.files, answer);
-            conclude(world, s, answer)
+            conclude(world, s, answer, trace)
         }
         Err(kind) => {
             see_covered(world);
@@ -242,10 +278,9 @@ fn grow_stack<T: Trace>(world: &mut World, s: Slot, sp: u16, trace: &mut T) -> E
     see_table(&world.files.table);
     see_kept(&world.procs.images);
     let grown = grow(&mut world.procs, &mut world.files.tree, s, sp, trace);
-    see_covered(world);
     match grown {
         Ok(true) => Ending::Trapped,
-        Ok(false) => Ending::NotBuilt,
+        Ok(false) => signal(world, s, SIGSEG, trace),
         Err(kind) => Ending::Panic(kind),
     }
 }
@@ -273,6 +308,7 @@ fn does_call<T: Trace>(
         SystemCall::Indirect => Ending::Trapped,
         SystemCall::Exit => exit(world, s, trace),
         SystemCall::Fork => fork(world, s, trace),
+        SystemCall::Unknown => fail(world, s, Errno::ENOSYS, trace),
         SystemCall::OnFiles(on_files) => call_files(world, s, on_files, args, trace),
         SystemCall::OnProcesses(on_processes) => {
             call_processes(world, s, on_processes, args, trace)
@@ -317,7 +353,15 @@ fn call<T: Trace>(world: &mut World, s: Slot, number: u8, trace: &mut T) -> Endi
     }
 }
 
-/// A fault, for which the stack may grow.
+/// Whether an illegal instruction is passed by: SETD, of a process that does nothing about illegal ones.
+fn passes_setd(images: &Images, s: Slot, word: u16) -> bool
+    requires { HasImage images.now s }
+    ensures { (u : Unix) → (process_of u s).u ≡ area_of images.now s → result ≡ passes_setd u s word }
+{
+    word == SETD && images.area(s).handlers[usize::from(SIGINS)] == 0
+}
+
+/// A fault, for which the stack may grow; else it is a signal.
 fn fault<T: Trace>(world: &mut World, s: Slot, kind: Kind, trace: &mut T) -> Ending
     requires { IsReady world.old s }
     ensures come { HasCome (board_in world.old) (faults (unix_of world.old) s kind) result world.new }
@@ -329,11 +373,17 @@ fn fault<T: Trace>(world: &mut World, s: Slot, kind: Kind, trace: &mut T) -> End
     ensures rest { SameRest world.old.files.tree.nodes.blocks world.new.files.tree.nodes.blocks }
 {
     match kind {
+        Kind::Odd => signal(world, s, SIGBUS, trace),
         Kind::Segment { sp } => grow_stack(world, s, sp, trace),
-        _ => {
-            see_covered(world);
-            Ending::NotBuilt
+        Kind::Illegal(word) => {
+            if passes_setd(&world.procs.images, s, word) {
+                return Ending::Trapped;
+            }
+            signal(world, s, SIGINS, trace)
         }
+        Kind::Bpt => signal(world, s, SIGTRC, trace),
+        Kind::Iot => signal(world, s, SIGIOT, trace),
+        Kind::Emt => signal(world, s, SIGEMT, trace),
     }
 }
 
@@ -370,23 +420,30 @@ fn pending_of(images: &Images, s: Slot) -> u8
     images.area(s).pending
 }
 
-/// Goes on with a read of the console.
-fn go_on_reading<T: Trace>(world: &mut World, s: Slot, trace: &mut T) -> Ending
+/// Whether a pending call is one on files.
+fn is_on_files(pending: u8) -> bool
+    ensures { result ≡ is_on_files pending }
+{
+    pending == PENDING_READ || pending == PENDING_PIPE_READ || pending == PENDING_PIPE_WRITE
+}
+
+/// Goes on with a call on files.
+fn go_on_files<T: Trace>(world: &mut World, s: Slot, trace: &mut T) -> Ending
     requires ready { IsReady world.old s }
-    requires pending { (area_of world.old.procs.images s).pending ≡ 1 }
+    requires pending { is_on_files (area_of world.old.procs.images s).pending ≡ true }
     ensures come { HasCome (board_in world.old) (did_by (unix_of world.old) s
-        (resume_read (handed_of (unix_of world.old) (process_of (unix_of world.old) s)))) result world.new }
+        (resumes (handed_of (unix_of world.old) (process_of (unix_of world.old) s)) s world.old.procs.table.now)) result world.new }
     ensures ready { IsReady world.new s }
     ensures covered { is_over result ≡ true → IsCovered world.new }
     ensures items { Took (T.taken trace.old) (logged (board_in world.old) (did_by (unix_of world.old) s
-        (resume_read (handed_of (unix_of world.old) (process_of (unix_of world.old) s)))).effects).items
+        (resumes (handed_of (unix_of world.old) (process_of (unix_of world.old) s)) s world.old.procs.table.now)).effects).items
         (T.taken trace.new) }
     ensures frame { T.leads_to trace.old trace.new }
     ensures rest { SameRest world.old.files.tree.nodes.blocks world.new.files.tree.nodes.blocks }
 {
-    let answer = read_on(world, s);
+    let answer = resume_on_files(world, s);
     pass_on(&world.tape, &mut world.procs.table, trace);
-    conclude(world, s, answer)
+    conclude(world, s, answer, trace)
 }
 
 /// Goes on with a sleep or a wait.
@@ -405,7 +462,7 @@ fn go_on_waiting<T: Trace>(world: &mut World, s: Slot, trace: &mut T) -> Ending
     see_table(&world.files.table);
     see_kept(&world.procs.images);
     match resume_proc(&mut world.procs, &mut world.files.tree, s, trace) {
-        Ok(answer) => conclude(world, s, answer),
+        Ok(answer) => conclude(world, s, answer, trace),
         Err(kind) => Ending::Panic(kind),
     }
 }
@@ -425,8 +482,8 @@ pub(crate) fn resume<T: Trace>(world: &mut World, s: Slot, trace: &mut T) -> End
     ensures rest { SameRest world.old.files.tree.nodes.blocks world.new.files.tree.nodes.blocks }
 {
     let pending = pending_of(&world.procs.images, s);
-    if pending == PENDING_READ {
-        return go_on_reading(world, s, trace);
+    if is_on_files(pending) {
+        return go_on_files(world, s, trace);
     }
     if pending == PENDING_SLEEP {
         return go_on_waiting(world, s, trace);

@@ -12,8 +12,8 @@ use v6_run::{Status, Unbuilt};
 /// The words of `run`, with a device that has no room for the terminal.
 const RUN_ONTO_FULL: &str = "run image 1200 script /dev/full log final";
 
-/// HALT in the place of the exit of `hi`, at address 16.
-const HI_AND_HALT: &[Piece<'static>] = &[(TEXT + 16, b"\0\0")];
+/// pipe(II) in the place of the exit of `hi`, at address 16.
+const HI_AND_PIPE: &[Piece<'static>] = &[(TEXT + 16, b"\x2a\x89")];
 
 /// A program that opens `/dev/tty8` and then writes 128 bytes over and over: open, 24, 1; write, 40, 128; CLR R0; BR to the
 /// write. Before it the size of its file, 184, and of its text, 168.
@@ -57,7 +57,7 @@ const FILE_ROWS: [FileRow<'static>; 8] = [
     },
     FileRow {
         name: "port that isn't finished",
-        pieces: HI_AND_HALT,
+        pieces: HI_AND_PIPE,
         script: "run 20\n",
         words: RUN,
         status: Status::NotBuilt(Unbuilt::At(16)),

@@ -128,7 +128,6 @@ module _ (done : List ℕ) where
   error_line (error.Run (run_error.Refused (script_error.Faulty (script_fault.BadLine n)))) = refl
   error_line (error.Run (run_error.Refused (script_error.Faulty (script_fault.TooManySlots n)))) = refl
   error_line (error.Run (run_error.Refused (script_error.Faulty script_fault.NoMemory))) = refl
-  error_line (error.Run (run_error.Refused (script_error.Unbuilt n))) = refl
   error_line (error.Run run_error.NoMemory) = refl
   error_line (error.Run (run_error.Write output.Term)) = refl
   error_line (error.Run (run_error.Write output.Log)) = refl

@@ -9,7 +9,7 @@ use Rattle.fs_codec.specs.declared.fault.ImageFault as codec
 use Rattle.script_text.specs.declared.script.Event as asked
 use Rattle.script_text.specs.declared.script.Event.TheVariants as ask
 use Rattle.script_text.specs.declared.script.ScriptFault.TheVariants as fault
-use Rattle.script_text.specs.Script.{script_of, signal_line_of}
+use Rattle.script_text.specs.Script.{script_of}
 use Rattle.make_image.specs.Image.{build_of}
 use Rattle.make_image.specs.Demo.{demo_text}
 use Rattle.abstract_unix.specs.Unix.{System}
@@ -33,12 +33,12 @@ use Rattle.v6_run.specs.Status.{fault_port, is_decided}
 use Rattle.v6_run.specs.Errors.{run_status, end_of}
 use Rattle.v6_run.specs.Steps.{RefusesScript}
 use Rattle.v6_run.specs.Report.{summary_line}
-use Rattle.v6_run.specs.Headline.{no_writing, Known, IsKnownAnd, status_at, fault_completion, lines_completion, events_completion, run_completion, demo_completion, run_line, IsComplete, may_end, is_known}
+use Rattle.v6_run.specs.Headline.{no_writing, Known, IsKnownAnd, status_at, fault_completion, lines_completion, run_completion, demo_completion, run_line, IsComplete, may_end, is_known}
 use Rattle.v6_run.specs.Answers.{Answers}
 use Rattle.v6_run.specs.Demo.{RefusesDisk, EndsCourse, StopsCourse}
 use Rattle.v6_run.proofs.AnswerLemmas.{not_so, complete_unwritten}
 
--- The script of the demo has no fault, and no line of it types a key that makes a signal.
+-- The script of the demo has no fault.
 pub demo_events : List asked.Event
 demo_events =
     ask.Clock 100 ∷ ask.Run 20000 ∷ ask.Byte 104 ∷ ask.Byte 101 ∷ ask.Byte 108 ∷ ask.Byte 108 ∷ ask.Byte 111 ∷ ask.Byte 13 ∷ ask.Run 20000
@@ -48,21 +48,12 @@ pub demo_read : script_of demo_text ≡ Ok demo_events
 unfolding demo_text demo_events
 demo_read = refl
 
-pub demo_built : signal_line_of demo_text ≡ None
-unfolding demo_text
-demo_built = refl
-
-pub demo_short : length demo_text < 2 ^ 32
-unfolding demo_text
-demo_short = let is : length demo_text ≡ 60 = refl in omega (arith, is)
-
 -- So it is refused for want of memory alone.
 pub only_memory : (e : ScriptError) → RefusesScript demo_text e → e ≡ script_error.Faulty fault.NoMemory
 only_memory (script_error.Faulty fault.TooLong) refused = let never : Ok demo_events ≡ Err fault.TooLong = sym demo_read ∙ refused in cc
 only_memory (script_error.Faulty (fault.BadLine n)) refused = let never : Ok demo_events ≡ Err (fault.BadLine n) = sym demo_read ∙ refused in cc
 only_memory (script_error.Faulty (fault.TooManySlots n)) refused = let never : Ok demo_events ≡ Err (fault.TooManySlots n) = sym demo_read ∙ refused in cc
 only_memory (script_error.Faulty fault.NoMemory) refused = refl
-only_memory (script_error.Unbuilt n) refused = let never : None ≡ Some n = sym demo_built ∙ refused.2 in cc
 
 -- Nothing of the outside changes, and no port is at fault.
 module _ (number : ℕ) (o : Outside) where
@@ -106,16 +97,14 @@ module _ (number : ℕ) (o : Outside) where
 
     complete : IsKnownAnd (demo_completion number) (IsComplete (status_at all.ending) o o)
     complete = subst (λ f. IsKnownAnd (fault_completion f (Known (run_completion DEMO_CORE no_writing (build_of number) demo_text))) (IsComplete (status_at all.ending) o o)) (sym good)
-        (subst (λ r. IsComplete (status_at all.ending) o o (lines_completion DEMO_CORE no_writing (build_of number) r (signal_line_of demo_text))) (sym read)
-        (subst (λ s. IsComplete (status_at all.ending) o o (events_completion DEMO_CORE no_writing (build_of number) events s)) (sym demo_built)
-        (complete_unwritten (status_at all.ending) o o (λ p. refl))))
+        (subst (λ r. IsComplete (status_at all.ending) o o (lines_completion DEMO_CORE no_writing (build_of number) r)) (sym read)
+        (complete_unwritten (status_at all.ending) o o (λ p. refl)))
 
     met : IsMet all.ending
     met = course_is (started system) (events_of events) (started_is system)
 
     ends_so : (e : Ends) → all.ending ≡ e → IsMet e → Answers (Demo number) (status_at e) o o
     ends_so ends.AtEnd is has_met = answers_by Done refl refl (λ _. subst (λ e. IsKnownAnd (demo_completion number) (IsComplete (status_at e) o o)) is complete)
-    ends_so (ends.NotBuilt (unbuilt.Line n)) is has_met = absurd has_met
     ends_so (ends.NotBuilt (unbuilt.At pc)) is has_met = answers_by (NotBuilt (unbuilt.At pc)) refl refl
         (λ _. subst (λ e. IsKnownAnd (demo_completion number) (IsComplete (status_at e) o o)) is complete)
     ends_so (ends.Panic kind) is has_met = answers_by (Panic kind) refl refl (λ _. subst (λ e. IsKnownAnd (demo_completion number) (IsComplete (status_at e) o o)) is complete)

@@ -31,7 +31,7 @@ use Rattle.v6_run.specs.Words.{RunWords, Run}
 use Rattle.script_text.specs.declared.script.Event as asked
 use Rattle.script_text.specs.declared.script.ScriptFault as text
 use Rattle.script_text.specs.declared.script.ScriptFault.TheVariants as fault
-use Rattle.script_text.specs.Script.{script_of, signal_line_of}
+use Rattle.script_text.specs.Script.{script_of}
 use Rattle.v6_run.specs.Events.{events_of}
 use Rattle.v6_run.specs.Status.{is_decided, has_written}
 use Rattle.v6_run.specs.Errors.{read_status, image_status, script_status}
@@ -41,7 +41,7 @@ use Rattle.v6_run.specs.declared.outputs.Output.TheVariants as file
 use Rattle.v6_run.specs.Outputs.{port_of, is_output, run_writes, EndsRun, StopsRun}
 use Rattle.v6_run.specs.Causes.{IsCaused}
 use Rattle.v6_run.specs.Steps.{StopsReading, StopsImage, RefusesScript}
-use Rattle.v6_run.specs.Headline.{Known, IsKnownAnd, ends_with, course_completion, events_completion, lines_completion, bytes_completion, script_completion, fault_completion, image_completion, command_completion, IsComplete, IsPartial, status_at, is_named, may_end, run_knows, outputs_know, is_known}
+use Rattle.v6_run.specs.Headline.{Known, IsKnownAnd, ends_with, course_completion, lines_completion, bytes_completion, script_completion, fault_completion, image_completion, command_completion, IsComplete, IsPartial, status_at, is_named, may_end, run_knows, outputs_know, is_known}
 use Rattle.v6_run.specs.Answers.{Answers, HasFiles}
 use Rattle.v6_run.proofs.ImageLemmas.{fault_given}
 use Rattle.v6_port.proofs.CauseLemmas.{still_tells, only_then, calm_then, fault_then}
@@ -101,7 +101,6 @@ completion_is words (Some i) (Some s) image bytes image_is good script_is =
 
 has_begun : (ended : Ends) → IsMet ended → has_written (status_at ended) ≡ true
 has_begun AtEnd met = refl
-has_begun (ends.NotBuilt (unbuilt.Line n)) met = absurd met
 has_begun (ends.NotBuilt (unbuilt.At pc)) met = refl
 has_begun (ends.Panic kind) met = refl
 
@@ -138,18 +137,15 @@ module _ (words : RunWords) (image bytes : List ℕ) (old middle : Outside) (fil
 
   faulty : (fault : text.ScriptFault) → may_end (Run words) (ScriptFault fault) ≡ true → script_of bytes ≡ Err fault → Answers (Run words) (ScriptFault fault) old middle
   faulty fault may is = before_run (ScriptFault fault) may refl (λ is. cc)
-      (λ _. early_complete (ScriptFault fault) (ap (λ s. lines_completion words.core (run_writes words.outputs (disk_of image)) image s (signal_line_of bytes)) is)) files.calm
+      (λ _. early_complete (ScriptFault fault) (ap (λ s. lines_completion words.core (run_writes words.outputs (disk_of image)) image s) is)) files.calm
 
   pub script_refused : (error : ScriptError) → RefusesScript bytes error → Answers (Run words) (script_status error) old middle
   script_refused (script_error.Faulty fault.TooLong) refused = faulty fault.TooLong refl refused
   script_refused (script_error.Faulty (fault.BadLine n)) refused = faulty (fault.BadLine n) refl refused
   script_refused (script_error.Faulty (fault.TooManySlots n)) refused = faulty (fault.TooManySlots n) refl refused
   script_refused (script_error.Faulty fault.NoMemory) refused = before_run NoMemory refl refl (λ is. cc) (λ decided. not_so _ decided) files.calm
-  script_refused (script_error.Unbuilt n) refused = before_run (NotBuilt (unbuilt.Line n)) refl refl (λ is. cc)
-      (λ _. early_complete (NotBuilt (unbuilt.Line n)) (ap (λ s. lines_completion words.core (run_writes words.outputs (disk_of image)) image s (signal_line_of bytes)) refused.1
-      ∙ ap (events_completion words.core (run_writes words.outputs (disk_of image)) image refused.0) refused.2)) files.calm
 
-  module _ (events : List asked.Event) (script_is : script_of bytes ≡ Ok events) (built : signal_line_of bytes ≡ None) where
+  module _ (events : List asked.Event) (script_is : script_of bytes ≡ Ok events) where
     -- the system that was booted is that of the image
     is_of : (o : Option codec.ImageFault) (system : System)
         → (if is_some o then None else Some (system_of image words.core)) ≡ Some system → system_of image words.core ≡ system
@@ -159,8 +155,7 @@ module _ (words : RunWords) (image bytes : List ℕ) (old middle : Outside) (fil
     boots_as : (system : System) → boots image words.core ≡ Some system
         → bytes_completion words image bytes ≡ course_completion (run_writes words.outputs (disk_of image)) (course (started system) (events_of events))
     boots_as system is =
-        ap (λ s. lines_completion words.core (run_writes words.outputs (disk_of image)) image s (signal_line_of bytes)) script_is
-        ∙ ap (events_completion words.core (run_writes words.outputs (disk_of image)) image events) built
+        ap (λ s. lines_completion words.core (run_writes words.outputs (disk_of image)) image s) script_is
         ∙ ap (λ m. course_completion (run_writes words.outputs (disk_of image)) (course (started m) (events_of events))) (is_of (image_fault image) system is)
 
     pub boot_refused : Answers (Run words) NoMemory old middle
@@ -217,7 +212,6 @@ module _ (words : RunWords) (image bytes : List ℕ) (old middle : Outside) (fil
         unfinished = λ is. not_so _ is;
         cause = calm_then _ _ _ files.calm ended.calm;
       }
-      run_ended (ends.NotBuilt (unbuilt.Line n)) ended = absurd (subst IsMet (sym ended.ended) run_is_met)
       run_ended (ends.NotBuilt (unbuilt.At pc)) ended = unbuilt_at (unbuilt.At pc) refl ended
       run_ended (ends.Panic kind) ended = record {
         only = only_run;

@@ -5,7 +5,6 @@ use Rattle.v6_port.specs.declared.host.InPort.TheVariants as in_port
 use Rattle.v6_port.specs.declared.host.OutPort.TheVariants as out_port
 use Rattle.v6_run.specs.declared.status.Status.{Status}
 use Rattle.v6_run.specs.declared.status.Status.TheVariants as status
-use Rattle.abstract_unix.specs.declared.turned.Unbuilt.TheVariants as unbuilt
 use Rattle.v6_run.specs.declared.files.ReadError.{ReadError}
 use Rattle.v6_run.specs.declared.files.ReadError.TheVariants as reading
 use Rattle.v6_run.specs.declared.image.ImageError.{ImageError}
@@ -37,7 +36,6 @@ fault_status fault = status.ScriptFault fault
 
 abbrev pub script_status : ScriptError → Status
 script_status (script.Faulty fault) = fault_status fault
-script_status (script.Unbuilt n) = status.NotBuilt (unbuilt.Line n)
 
 abbrev pub run_status : RunError → Status
 run_status (run.Image error) = image_status error

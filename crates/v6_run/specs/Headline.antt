@@ -1,6 +1,5 @@
 -- What a command answers and writes, from its words and the bytes of its files, in the order of docs/manual/commands.md: the
--- words, the size of core, the image's first fault, the script's first fault and its first line that isn't built, and the
--- run.
+-- words, the size of core, the image's first fault, the script's first fault, and the run.
 use Rattle.std.specs.Prelude.{◌≡◌, ℕ, Bool, true, false, not, Option, Some, None, IsSomeAnd, List, [], take, nat_le, ◌&&◌, ◌||◌, if◌then◌else◌, Result, Ok, Err}
 use Rattle.v6_port.specs.declared.host.InPort.TheVariants as in_port
 use Rattle.v6_port.specs.declared.host.OutPort.{OutPort}
@@ -14,7 +13,7 @@ use Rattle.fs_codec.specs.Stands.{store_of}
 use Rattle.script_text.specs.declared.script.ScriptFault.{ScriptFault}
 use Rattle.script_text.specs.declared.script.ScriptFault.TheVariants.{NoMemory}
 use Rattle.script_text.specs.declared.script.Event.{Event}
-use Rattle.script_text.specs.Script.{script_of, signal_line_of}
+use Rattle.script_text.specs.Script.{script_of}
 use Rattle.make_image.specs.Image.{build_of}
 use Rattle.make_image.specs.Demo.{demo_text}
 use Rattle.abstract_unix.specs.Runs.{Course, run_of}
@@ -25,7 +24,6 @@ use Rattle.v6_run.specs.declared.status.Status.{Status}
 use Rattle.v6_run.specs.declared.status.Status.TheVariants as status
 use Rattle.abstract_unix.specs.declared.ends.Ends.{Ends}
 use Rattle.abstract_unix.specs.declared.ends.Ends.TheVariants.{AtEnd, NotBuilt, Panic}
-use Rattle.abstract_unix.specs.declared.turned.Unbuilt.TheVariants as unbuilt
 use Rattle.v6_run.specs.Words.{Outputs, ToDisk, ToMemory, RunWords, Command, Run, Check, Make, Demo}
 use Rattle.v6_run.specs.Events.{events_of}
 use Rattle.v6_run.specs.Status.{has_written, is_unfinished}
@@ -80,18 +78,13 @@ Writing = Course → OutPort → List ℕ → Type 0
 abbrev pub course_completion : Writing → Course → Completion
 course_completion writes c = record { status = status_at c.ending; writes = writes c }
 
--- In so much core, from an image without a fault, a script without a fault, and its first line that types a key which makes a
--- signal
-abbrev pub events_completion : ℕ → Writing → List ℕ → List Event → Option ℕ → Completion
-events_completion core writes image events (Some n) = ends_with (status.NotBuilt (unbuilt.Line n))
-events_completion core writes image events None = course_completion writes (run_of image core (events_of events))
-
-abbrev pub lines_completion : ℕ → Writing → List ℕ → Result (List Event) ScriptFault → Option ℕ → Completion
-lines_completion core writes image (Err fault) signal = ends_with (status.ScriptFault fault)
-lines_completion core writes image (Ok events) signal = events_completion core writes image events signal
+-- in so much core, from an image without a fault, and a script or its first fault
+abbrev pub lines_completion : ℕ → Writing → List ℕ → Result (List Event) ScriptFault → Completion
+lines_completion core writes image (Err fault) = ends_with (status.ScriptFault fault)
+lines_completion core writes image (Ok events) = course_completion writes (run_of image core (events_of events))
 
 abbrev pub run_completion : ℕ → Writing → List ℕ → List ℕ → Completion
-run_completion core writes image bytes = lines_completion core writes image (script_of bytes) (signal_line_of bytes)
+run_completion core writes image bytes = lines_completion core writes image (script_of bytes)
 
 -- Of `run` the terminal and LOG get what the run shows, and FINAL the disk that it leaves. Of `memory` FINAL gets core and the
 -- swap area.
@@ -195,7 +188,7 @@ is_script_fault NoMemory = false
 is_script_fault _ = true
 
 -- The statuses that a good command may end with. A fault is one of a port for which its words have a name, or of a report that
--- is all that the command has to say. The script of `demo` has no fault, and all its lines are built.
+-- is all that the command has to say. The script of `demo` has no fault.
 abbrev pub may_end : Command → Status → Bool
 may_end command status.Done = true
 may_end command (status.ReadFault port) = is_named command (In port)

@@ -17,7 +17,7 @@ use Rattle.v6_run.specs.declared.status.Status.TheVariants as status
 use Rattle.v6_base.specs.declared.entry.PanicKind.{PanicKind}
 use Rattle.v6_base.specs.declared.entry.PanicKind.TheVariants as panic
 use Rattle.abstract_unix.specs.declared.turned.Unbuilt.{Unbuilt}
-use Rattle.abstract_unix.specs.declared.turned.Unbuilt.TheVariants.{Line, At}
+use Rattle.abstract_unix.specs.declared.turned.Unbuilt.TheVariants.{At}
 use Rattle.v6_run.specs.declared.error.CommandError.{CommandError}
 use Rattle.v6_run.specs.declared.report.Found.{Found}
 use Rattle.v6_run.specs.declared.report.Found.TheVariants as found
@@ -56,7 +56,6 @@ fault_line (BlockTwice block) = line_of (codes "image: block " ++ decimal block 
 fault_line NoRoot = line_of (codes "image: no root")
 
 abbrev pub unbuilt_line : Unbuilt → List ℕ
-unbuilt_line (Line n) = line_of (codes "not built: line " ++ decimal n)
 unbuilt_line (At pc) = line_of (codes "not built: pc " ++ decimal pc)
 
 -- what a panic in Lions' book says

@@ -1,12 +1,11 @@
 -- Why a step of a command stops, step by step in the order of docs/manual/commands.md.
-use Rattle.std.specs.Prelude.{◌≡◌, ℕ, Bool, Some, IsSomeAnd, List, take, Ok}
+use Rattle.std.specs.Prelude.{◌≡◌, ℕ, Bool, Some, IsSomeAnd, List, take}
 use Rattle.v6_port.specs.declared.host.InPort.TheVariants as in_port
 use Rattle.v6_port.specs.Outside.{Port, In, Outside, Tells}
 use Rattle.v6_port.specs.Causes.{Calm, FaultAt}
 use Rattle.v6_port.specs.Calls.{is_given}
 use Rattle.fs_codec.specs.Faults.{image_fault}
-use Rattle.script_text.specs.declared.script.Event.{Event}
-use Rattle.script_text.specs.Script.{script_of, signal_line_of, Refuses}
+use Rattle.script_text.specs.Script.{Refuses}
 use Rattle.v6_run.specs.declared.image.TheConstants.{IMAGE_LIMIT}
 use Rattle.v6_run.specs.declared.files.ReadError.{ReadError}
 use Rattle.v6_run.specs.declared.files.ReadError.TheVariants as reading
@@ -26,7 +25,6 @@ StopsImage name (image.Unread error) old new = StopsReading (In in_port.Image) (
 StopsImage name (image.Faulty fault) old new =
     Calm old new × (Tells old → IsSomeAnd (old.fixed.given name) (λ bytes. image_fault (take IMAGE_LIMIT bytes) ≡ Some fault))
 
--- a script: at its first fault, or for want of memory, or without a fault at the first line that is not built
+-- a script: at its first fault, or for want of memory
 abbrev pub RefusesScript : List ℕ → ScriptError → Type 0
 RefusesScript script (script_error.Faulty fault) = Refuses script fault
-RefusesScript script (script_error.Unbuilt n) = (events : List Event) × (script_of script ≡ Ok events) × (signal_line_of script ≡ Some n)

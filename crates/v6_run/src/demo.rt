@@ -1,13 +1,12 @@
 //! The command `demo`: a run that needs no file.
-ghost use Rattle.std.specs.Prelude.{◌≡◌, ◌*◌, ◌+◌, ◌≤◌, false, None, Ok, length, vec_len, IfOk, IfErr, IfSome, MatchResult, is_some, count_by};
-ghost use Rattle.std.specs.List.{list_any};
+ghost use Rattle.std.specs.Prelude.{◌≡◌, ◌*◌, ◌+◌, ◌≤◌, None, Ok, length, vec_len, IfOk, IfErr, IfSome, MatchResult, is_some, count_by};
 ghost use Rattle.v6_base.specs.Trace.{line_bytes};
 ghost use Rattle.fs_codec.specs.Faults.{image_fault};
 ghost use Rattle.fs_codec.specs.Disk.{head};
 ghost use Rattle.buf_cache.specs.Blocks.{block_at, IsDisk};
 ghost use Rattle.core_mem.specs.Bytes.{over};
 ghost use Rattle.fs_laws.specs.Rest.{SameRest};
-ghost use Rattle.script_text.specs.Script.{script_of, signal_line_of, is_signal};
+ghost use Rattle.script_text.specs.Script.{script_of};
 ghost use Rattle.make_image.specs.Image.{build_of};
 ghost use Rattle.make_image.specs.Demo.{demo_text};
 ghost use Rattle.abstract_unix.specs.Unix.{New, Started, Finished};
@@ -59,7 +58,6 @@ struct Played {
 /// Runs the kernel over the events of a script. Nothing that it shows is written. The answer is nothing where the bytes of the
 /// terminal had no room.
 fn play_counted<H: Host>(kernel: &mut Kernel, events: &[Event], host: &mut H) -> Option<Played>
-    requires unsignalled { list_any is_signal events.now ≡ false }
     requires new { kernel.old.phase ≡ New }
     ensures outside { H.outside host.new ≡ H.outside host.old }
     ensures phase { IfSome result (λ played. kernel.new.phase ≡ phase_after played.ends) }
@@ -121,7 +119,6 @@ fn run_counted<H: Host>(
     image: &mut [u8],
     host: &mut H,
 ) -> Result<Summary, RunError>
-    requires unsignalled { list_any is_signal events.now ≡ false }
     requires new { kernel.old.phase ≡ New }
     requires root { (head (block_at kernel.old.blocks)).f_size ≤ SWAP_START }
     requires long { length image.old ≡ 512 * SWAP_START }
@@ -163,8 +160,6 @@ fn demo_disk(alloc: Global, number: u32) -> Result<Vec<u8>, RunError>
 /// The events of the script of the demo, which has no fault.
 fn demo_events(alloc: Global) -> Result<Script, RunError>
     ensures events { IfOk result (λ script. script_of demo_text ≡ Ok script.events.items) }
-    ensures built { IfOk result (λ script. signal_line_of demo_text ≡ None) }
-    ensures unsignalled { IfOk result (λ script. list_any is_signal script.events.items ≡ false) }
     ensures memory { IfErr result (λ error. run_status error ≡ Status.NoMemory) }
 {
     let Ok(text) = demo_script(alloc) else {

@@ -9,7 +9,6 @@ use crate::run::RunError;
 use crate::script::ScriptError;
 use crate::status::Status;
 use script_text::ScriptFault;
-use unix_core::Unbuilt;
 use v6_port::{InPort, OutPort};
 
 /// Why a command was not done.
@@ -59,7 +58,6 @@ fn script_status(error: ScriptError) -> Status
 {
     match error {
         ScriptError::Faulty(fault) => fault_status(fault),
-        ScriptError::Unbuilt(line) => Status::NotBuilt(Unbuilt::Line(line)),
     }
 }
 

@@ -1,11 +1,9 @@
 //! The command `memory`: the core and the swap area that a run leaves.
 ghost use Rattle.std.specs.Prelude.{◌≡◌, ℕ, List, true, false, ◌++◌, OnOk, MatchResult};
-ghost use Rattle.std.specs.List.{list_any};
 ghost use Rattle.v6_port.specs.declared.host.OutPort.TheVariants as out_port;
 ghost use Rattle.v6_port.specs.Outside.{Out, IsOpen, OnlyAt, Tells, same};
 ghost use Rattle.v6_port.specs.Causes.{Calm, FaultAt};
 ghost use Rattle.v6_port.specs.Calls.{is_expected};
-ghost use Rattle.script_text.specs.Script.{is_signal};
 ghost use Rattle.image_keep.specs.Holds.{MemoryHolds};
 ghost use Rattle.unix_core.specs.Memory.{kept_in};
 ghost use Rattle.abstract_unix.specs.Unix.{New, Started};
@@ -29,7 +27,6 @@ use v6_port::{Failed, Host, OutPort};
 
 /// Runs the kernel over the events of a script, and tells how the run ends. What it shows is written nowhere.
 fn play_unshown<H: Host>(kernel: &mut Kernel, events: &[Event], host: &mut H) -> Ends
-    requires unsignalled { list_any is_signal events.now ≡ false }
     requires new { kernel.old.phase ≡ New }
     ensures phase { kernel.new.phase ≡ phase_after result }
     ensures outside { H.outside host.new ≡ H.outside host.old }
@@ -131,7 +128,6 @@ pub(crate) fn run_to_memory<H: Host>(
     host: &mut H,
 ) -> Result<Ends, Output>
     requires closed { ((H.outside host.old).port (Out out_port.Final)).is_open ≡ false }
-    requires unsignalled { list_any is_signal events.now ≡ false }
     requires new { kernel.old.phase ≡ New }
     ensures only { OnlyAt (same (Out out_port.Final)) (H.outside host.old) (H.outside host.new) }
     ensures outcome { MatchResult result

@@ -64,7 +64,6 @@ fn unbuilt_line(place: Unbuilt) -> Line
     ensures { result.bytes ≡ unbuilt_line place }
 {
     match place {
-        Unbuilt::Line(line) => numbered("not built: line ", line, ""),
         Unbuilt::At(pc) => numbered("not built: pc ", u32::from(pc), ""),
     }
 }

@@ -1,5 +1,4 @@
 //! The commands `run` and `memory`: a run, and what it leaves.
-ghost use Rattle.std.specs.List.{list_any};
 ghost use Rattle.std.specs.Prelude.{◌≡◌, ◌<◌, ◌≤◌, ◌^◌, length, true, false, None, Some, IfOk, OnOk, IfErr, MatchResult, ◌++◌};
 ghost use Rattle.v6_port.specs.Outside.{Out, IsOpen, OnlyAt, Tells, same};
 ghost use Rattle.v6_port.specs.declared.host.OutPort.{OutPort};
@@ -9,7 +8,6 @@ ghost use Rattle.fs_codec.specs.Faults.{image_fault};
 ghost use Rattle.fs_codec.specs.Disk.{head};
 ghost use Rattle.buf_cache.specs.Blocks.{block_at, blocks_of};
 ghost use Rattle.fs_laws.specs.Rest.{SameRest};
-ghost use Rattle.script_text.specs.Script.{is_signal};
 ghost use Rattle.abstract_unix.specs.Unix.{New};
 ghost use Rattle.abstract_unix.specs.Endings.{phase_after};
 ghost use Rattle.abstract_unix.specs.Runs.{boots, started, course, shown_by};
@@ -113,7 +111,6 @@ pub(crate) fn boot(alloc: Global, image: &[u8], core: u32) -> Result<Kernel, Run
 fn play<H: Host>(kernel: &mut Kernel, events: &[Event], host: &mut H) -> Result<Ends, Output>
     requires term { IsOpen (H.outside host.old) (Out Term) }
     requires log { IsOpen (H.outside host.old) (Out Log) }
-    requires unsignalled { list_any is_signal events.now ≡ false }
     requires new { kernel.old.phase ≡ New }
     ensures phase { IfOk result (λ ends. kernel.new.phase ≡ phase_after ends) }
     ensures only { OnlyAt is_shown (H.outside host.old) (H.outside host.new) }
@@ -160,7 +157,6 @@ fn run_to_disk<H: Host>(
     requires closed { (p : OutPort) → is_disk_output (Out p) ≡ true
         → ((H.outside host.old).port (Out p)).is_open ≡ false }
     requires root { (head (block_at kernel.old.blocks)).f_size ≤ SWAP_START }
-    requires unsignalled { list_any is_signal events.now ≡ false }
     requires new { kernel.old.phase ≡ New }
     ensures only { OnlyAt is_disk_output (H.outside host.old) (H.outside host.new) }
     ensures outcome { MatchResult result
@@ -194,7 +190,6 @@ fn run_with_outputs<H: Host>(
     requires closed { (p : OutPort) → is_output (run_words_value words.now).outputs (Out p) ≡ true
         → ((H.outside host.old).port (Out p)).is_open ≡ false }
     requires root { (head (block_at kernel.old.blocks)).f_size ≤ SWAP_START }
-    requires unsignalled { list_any is_signal events.now ≡ false }
     requires new { kernel.old.phase ≡ New }
     ensures only { OnlyAt (is_output (run_words_value words.now).outputs) (H.outside host.old) (H.outside host.new) }
     ensures outcome { MatchResult result

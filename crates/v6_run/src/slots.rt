@@ -1,7 +1,6 @@
 //! A run over the events of a script.
-ghost use Rattle.std.specs.Prelude.{◌≡◌, ◌<◌, ◌+◌, Ok, Err, false, replicate, flat_map};
-ghost use Rattle.std.specs.List.{list_any, range_with_len};
-ghost use Rattle.script_text.specs.Script.{is_signal};
+ghost use Rattle.std.specs.Prelude.{◌≡◌, ◌<◌, ◌+◌, Ok, Err, replicate, flat_map};
+ghost use Rattle.std.specs.List.{range_with_len};
 ghost use Rattle.fs_laws.specs.Rest.{SameRest};
 ghost use Rattle.abstract_unix.specs.Unix.{New, Started};
 ghost use Rattle.abstract_unix.specs.declared.ends.Ends.TheVariants.{AtEnd};
@@ -121,7 +120,6 @@ fn run_line<T: Trace>(kernel: &mut Kernel, clock: &mut Clock, count: u32, trace:
 
 /// Takes one event of a script.
 fn take_event<T: Trace>(kernel: &mut Kernel, clock: &mut Clock, event: Event, trace: &mut T) -> Ends
-    requires unsignalled { is_signal event ≡ false }
     requires started { kernel.old.phase ≡ Started }
     ensures phase { kernel.new.phase ≡ phase_after result }
     ensures run { HasRun (begun kernel.old.system) (happens (clock_value clock.old) event) result kernel.new.system
@@ -150,7 +148,6 @@ fn take_event<T: Trace>(kernel: &mut Kernel, clock: &mut Clock, event: Event, tr
 
 /// Takes the events of a script in turn, up to the first that ends the run.
 fn run_events<T: Trace>(kernel: &mut Kernel, events: &[Event], trace: &mut T) -> Ends
-    requires unsignalled { list_any is_signal events.now ≡ false }
     requires started { kernel.old.phase ≡ Started }
     ensures phase { kernel.new.phase ≡ phase_after result }
     ensures run { HasRun (begun kernel.old.system) (events_of events.now) result kernel.new.system
@@ -170,7 +167,6 @@ fn run_events<T: Trace>(kernel: &mut Kernel, events: &[Event], trace: &mut T) ->
 
 /// Starts the kernel, and takes the events of a script in turn.
 fn run_script<T: Trace>(kernel: &mut Kernel, events: &[Event], trace: &mut T) -> Ends
-    requires unsignalled { list_any is_signal events.now ≡ false }
     requires new { kernel.old.phase ≡ New }
     ensures phase { kernel.new.phase ≡ phase_after result }
     ensures run { HasRun (started kernel.old.system) (events_of events.now) result kernel.new.system
@@ -195,7 +191,6 @@ fn last_line<T: Trace>(ends: Ends, trace: &mut T)
 
 /// Takes a whole run, with the last line of its log.
 pub(crate) fn show_run<T: Trace>(kernel: &mut Kernel, events: &[Event], trace: &mut T) -> Ends
-    requires unsignalled { list_any is_signal events.now ≡ false }
     requires new { kernel.old.phase ≡ New }
     ensures phase { kernel.new.phase ≡ phase_after result }
     ensures ends { result ≡ (course (started kernel.old.system) (events_of events.now)).ending }

@@ -170,10 +170,10 @@ fn by_name(
 
 /// What a call answers.
 pub fn answer(w: &mut World, call: Call) -> Answer
-    requires ready { IsReady w.old.files.table w.old.u.files w.old.u.dir w.old.files.tree.nodes.references }
+    requires ready { IsReady w.old.files.table w.old.files.pipes w.old.u.files w.old.u.dir w.old.files.tree.nodes.references }
     requires long { length w.old.files.table ≡ 100 }
     requires room { HaveRoom w.old.files.table }
-    ensures { IsReady w.new.files.table w.new.u.files w.new.u.dir w.new.files.tree.nodes.references }
+    ensures { IsReady w.new.files.table w.new.files.pipes w.new.u.files w.new.u.dir w.new.files.tree.nodes.references }
 {
     let args = arguments(&mut w.space, call);
     w.u.r[0] = number(call);

@@ -48,8 +48,8 @@ pub struct Scene {
 }
 
 fn does(w: &mut World, call: Call, told: Told) -> bool
-    requires { IsReady w.old.files.table w.old.u.files w.old.u.dir w.old.files.tree.nodes.references }
-    ensures { IsReady w.new.files.table w.new.u.files w.new.u.dir w.new.files.tree.nodes.references }
+    requires { IsReady w.old.files.table w.old.files.pipes w.old.u.files w.old.u.dir w.old.files.tree.nodes.references }
+    ensures { IsReady w.new.files.table w.new.files.pipes w.new.u.files w.new.u.dir w.new.files.tree.nodes.references }
 {
     if !have_room(&w.files.table) {
         return false;
@@ -59,8 +59,8 @@ fn does(w: &mut World, call: Call, told: Told) -> bool
 }
 
 fn goes_on(w: &mut World, told: Told) -> bool
-    requires { IsReady w.old.files.table w.old.u.files w.old.u.dir w.old.files.tree.nodes.references }
-    ensures { IsReady w.new.files.table w.new.u.files w.new.u.dir w.new.files.tree.nodes.references }
+    requires { IsReady w.old.files.table w.old.files.pipes w.old.u.files w.old.u.dir w.old.files.tree.nodes.references }
+    ensures { IsReady w.new.files.table w.new.files.pipes w.new.u.files w.new.u.dir w.new.files.tree.nodes.references }
 {
     if !have_room(&w.files.table) || w.u.pending != 1 {
         return false;
@@ -86,8 +86,8 @@ fn types(line: &mut Line, bytes: &[u8], tape: &mut Tape) -> bool {
 }
 
 fn opens(w: &mut World, count: u16) -> bool
-    requires { IsReady w.old.files.table w.old.u.files w.old.u.dir w.old.files.tree.nodes.references }
-    ensures { IsReady w.new.files.table w.new.u.files w.new.u.dir w.new.files.tree.nodes.references }
+    requires { IsReady w.old.files.table w.old.files.pipes w.old.u.files w.old.u.dir w.old.files.tree.nodes.references }
+    ensures { IsReady w.new.files.table w.new.files.pipes w.new.u.files w.new.u.dir w.new.files.tree.nodes.references }
 {
     for fd in 0..count {
         if !does(w, Call::Open(b"/f\0", 0), Told::Gives(fd)) {
@@ -106,8 +106,8 @@ fn puts(space: &mut Whole, at: u16, bytes: &[u8]) -> bool {
 
 /// A change of what a call is handed.
 fn changes(w: &mut World, step: Step) -> bool
-    requires { IsReady w.old.files.table w.old.u.files w.old.u.dir w.old.files.tree.nodes.references }
-    ensures { IsReady w.new.files.table w.new.u.files w.new.u.dir w.new.files.tree.nodes.references }
+    requires { IsReady w.old.files.table w.old.files.pipes w.old.u.files w.old.u.dir w.old.files.tree.nodes.references }
+    ensures { IsReady w.new.files.table w.new.files.pipes w.new.u.files w.new.u.dir w.new.files.tree.nodes.references }
 {
     match step {
         Step::User(uid, gid) => (w.u.uid, w.u.gid) = (uid, gid),
@@ -121,8 +121,8 @@ fn changes(w: &mut World, step: Step) -> bool
 }
 
 fn holds(w: &mut World, step: Step) -> bool
-    requires { IsReady w.old.files.table w.old.u.files w.old.u.dir w.old.files.tree.nodes.references }
-    ensures { IsReady w.new.files.table w.new.u.files w.new.u.dir w.new.files.tree.nodes.references }
+    requires { IsReady w.old.files.table w.old.files.pipes w.old.u.files w.old.u.dir w.old.files.tree.nodes.references }
+    ensures { IsReady w.new.files.table w.new.files.pipes w.new.u.files w.new.u.dir w.new.files.tree.nodes.references }
 {
     match step {
         Step::Does(call, told) => does(w, call, told),
@@ -137,7 +137,7 @@ fn holds(w: &mut World, step: Step) -> bool
 
 /// The number of the first step that does not hold, from 0 on.
 pub fn first_of(w: &mut World, steps: &[Step]) -> Option<usize>
-    requires { IsReady w.old.files.table w.old.u.files w.old.u.dir w.old.files.tree.nodes.references }
+    requires { IsReady w.old.files.table w.old.files.pipes w.old.u.files w.old.u.dir w.old.files.tree.nodes.references }
 {
     for (k, step) in steps.iter().enumerate() {
         if !holds(w, *step) {

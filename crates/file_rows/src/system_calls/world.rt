@@ -9,7 +9,7 @@ use fs_tree::Tree;
 use open_files::OpenTable;
 use proc_tab::Row;
 use std::alloc::{AllocError, Global};
-use sys_files::Files;
+use sys_files::{Files, Pipes};
 use tty_line::Line;
 use u_area::UArea;
 use v6_base::{Space, Tape, Whole};
@@ -107,7 +107,7 @@ fn refer_to_root(nodes: &mut Nodes) -> bool
 fn parts(nodes: Nodes, space: Whole, tape: Tape) -> World
     requires few { (i : ℕ) → slice_index nodes.references i ≤ 2 }
     requires root { 0 < slice_index nodes.references 1 }
-    ensures ready { IsReady result.files.table result.u.files result.u.dir result.files.tree.nodes.references }
+    ensures ready { IsReady result.files.table result.files.pipes result.u.files result.u.dir result.files.tree.nodes.references }
     ensures few { (i : ℕ) → slice_index result.files.tree.nodes.references i ≤ 2 }
 {
     World {
@@ -115,6 +115,7 @@ fn parts(nodes: Nodes, space: Whole, tape: Tape) -> World
             tree: Tree::new(nodes),
             table: OpenTable::new(),
             line: Line::new(),
+            pipes: Pipes::new(),
         },
         u: PROCESS,
         row: ROW,
@@ -132,7 +133,7 @@ pub fn begin(
     crowd: u16,
 ) -> Result<Option<World>, AllocError>
     ensures ready { IfOk result (λ found. IfSome found (λ w.
-        IsReady w.files.table w.u.files w.u.dir w.files.tree.nodes.references)) }
+        IsReady w.files.table w.files.pipes w.u.files w.u.dir w.files.tree.nodes.references)) }
     ensures few { IfOk result (λ found. IfSome found (λ w.
         (i : ℕ) → slice_index w.files.tree.nodes.references i ≤ 2)) }
 {

@@ -72,3 +72,13 @@ pub returns-in-Getgid-clause-marks : goal.returns-in-Getgid-clause-marks
 returns-in-Getgid-clause-marks g c =
     marks_stay process.Getgid tt _ _ c.args.tree.now.nodes c.get_gid.new.tree.nodes _ c.args.args _ _
     c.get_gid.ensures.does c.requires.marks c.get_gid.ensures.marks
+
+pub returns-in-Kill-clause-marks : goal.returns-in-Kill-clause-marks
+returns-in-Kill-clause-marks g c =
+    marks_stay process.Kill tt _ _ c.args.tree.now.nodes c.kill_to.new.tree.nodes _ c.args.args _ _
+    c.kill_to.ensures.does c.requires.marks c.kill_to.ensures.marks
+
+pub returns-in-Signal-clause-marks : goal.returns-in-Signal-clause-marks
+returns-in-Signal-clause-marks g c =
+    marks_stay process.Signal tt _ _ c.args.tree.now.nodes c.signal_set.new.tree.nodes _ c.args.args _ _
+    c.signal_set.ensures.does c.requires.marks c.signal_set.ensures.marks

@@ -1,6 +1,8 @@
-use Rattle.std.proofs.Common.{◌≡◌, ◌∙◌, ◌+◌, ◌*◌, ℕ, [], get_or, ap, subst, sym}
+use Rattle.std.proofs.Common.{◌≡◌, ◌∙◌, ◌+◌, ◌*◌, ℕ, Bool, [], get_or, refl, ap, subst, sym}
 use Rattle.v6_base.specs.Trace.{Took}
 use Rattle.v6_base.proofs.Took.{took_none}
+use Rattle.v6_base.specs.declared.answer.Answer.TheVariants.{Fail}
+use Rattle.v6_base.specs.declared.errno.Errno.TheVariants.{EINTR}
 use Rattle.pick_rules.specs.Board.{Board}
 use Rattle.pick_rules.specs.Logged.{Logged, logged, left_by}
 use Rattle.fs_nodes.specs.FileSystem.{FileSystem}
@@ -12,12 +14,33 @@ use Rattle.sys_procs.specs.Times.{sleep_until}
 use Rattle.sys_procs.specs.Wait.{wait_child}
 use Rattle.sys_procs.specs.Resume.{awake, resume_proc}
 use Rattle.sys_procs.proofs.Alive.{calls_alive}
-use Rattle.sys_procs.proofs.Dones.{done_as}
+use Rattle.sys_procs.proofs.Dones.{done_none, done_as}
 use Rattle.sys_procs.proofs.Shown.{Says, its_call}
-use Rattle.sys_procs.proofs.TimesLemmas.{sleep_shows_none}
-use Rattle.sys_procs.proofs.ResumeLemmas.{resume_sleep, resume_wait}
+use Rattle.sys_procs.proofs.TimesLemmas.{is_due, sleep_shows_none}
+use Rattle.sys_procs.proofs.ResumeLemmas.{resume_broken_off, resume_sleep, resume_wait}
 use Rattle.sys_procs.proofs.resume.resume_proc.Given as given
 use Rattle.sys_procs.proofs.resume.resume_proc.Goals as goal
+
+pub is_due-requires : goal.is_due-requires
+is_due-requires g c = calls_alive c.wake_up.new.p c.args.tree.now.nodes c.args.s
+    (c.wake_up.ensures.calls c.args.tree.now.nodes c.requires)
+
+-- whether a signal is due to the process that is awake
+heard : (w v : World) (s : ℕ) (b : Bool) → v ≡ w → b ≡ is_due v s → is_due w s ≡ b
+heard w v s b is due = sym (ap (λ x. is_due x s) is) ∙ sym due
+
+pub returns-then-is_due-clause-does : goal.returns-then-is_due-clause-does
+returns-then-is_due-clause-does g c =
+    let w : World = handed c.args.p.now c.args.tree.now.nodes in
+    done_none (change w c.args.s awake) (Fail EINTR)
+        (sym (resume_broken_off w c.args.s
+        (heard _ (handed c.wake_up.new.p c.args.tree.now.nodes) c.args.s c.is_due.result
+        (c.wake_up.ensures.state c.args.tree.now.nodes) c.is_due.ensures
+    ∙ c.if-is_due.true))) refl
+    (c.wake_up.ensures.state c.args.tree.now.nodes) c.wake_up.ensures.board
+
+pub returns-then-is_due-clause-agree : goal.returns-then-is_due-clause-agree
+returns-then-is_due-clause-agree g c = (c.wake_up.ensures.calls c.args.tree.now.nodes c.requires).agree
 
 pub sleep_until-requires : goal.sleep_until-requires
 sleep_until-requires g c = calls_alive c.wake_up.new.p c.args.tree.now.nodes c.args.s (c.wake_up.ensures.calls c.args.tree.now.nodes c.requires)
@@ -35,7 +58,10 @@ says g c =
     let w : World = handed c.args.p.now fs in
     let at : ℕ → ℕ → ℕ = λ a b. 65536 * a + b in
     let is : resume_proc w c.args.s ≡ sleep_until (handed c.wake_up.new.p fs) c.args.s (until g c) =
-    resume_sleep w c.args.s c.area-u.result c.area-u.ensures c.if-u-eq-SLEEP.true
+    resume_sleep w c.args.s c.area-u.result c.area-u.ensures
+        (heard _ (handed c.wake_up.new.p c.args.tree.now.nodes) c.args.s c.is_due.result
+        (c.wake_up.ensures.state c.args.tree.now.nodes) c.is_due.ensures
+    ∙ c.if-is_due.false) c.if-u-eq-SLEEP.true
     ∙ (ap (λ n. sleep_until (change w c.args.s awake) c.args.s n)
     (ap (λ n. at n (get_or c.area-u.result.call 5 0)) (sym c.from.ensures) ∙ ap (at c.from.result) (sym c.from-then-u-eq-SLEEP.ensures))
     ∙ ap (λ (v : World). sleep_until v c.args.s (until g c)) (sym (c.wake_up.ensures.state fs))) in
@@ -58,7 +84,10 @@ is : (g : given.Over) (c : goal.After-wait_child g)
     → wait_child (handed c.wake_up.new.p c.args.tree.now.nodes) c.args.s ≡ resume_proc (handed c.args.p.now c.args.tree.now.nodes) c.args.s
 is g c =
     ap (λ (w : World). wait_child w c.args.s) (c.wake_up.ensures.state c.args.tree.now.nodes)
-    ∙ sym (resume_wait (handed c.args.p.now c.args.tree.now.nodes) c.args.s c.area-u.result c.area-u.ensures c.if-u-eq-SLEEP.false)
+    ∙ sym (resume_wait (handed c.args.p.now c.args.tree.now.nodes) c.args.s c.area-u.result c.area-u.ensures
+    (heard _ (handed c.wake_up.new.p c.args.tree.now.nodes) c.args.s c.is_due.result
+        (c.wake_up.ensures.state c.args.tree.now.nodes) c.is_due.ensures
+    ∙ c.if-is_due.false) c.if-u-eq-SLEEP.false)
 
 -- what is done from where the process is awake is done from before
 pub returns-clause-does : goal.returns-clause-does

@@ -1,22 +1,22 @@
-use Rattle.std.proofs.Common.{◌≡◌, ◌∙◌, replicate, Result, Ok, refl, ap}
+use Rattle.std.proofs.Common.{◌≡◌, ◌∙◌, replicate, Result, Ok, refl, ap, sym}
 use Rattle.v6_base.specs.declared.answer.Answer.{Answer}
 use Rattle.v6_base.specs.declared.answer.Answer.TheVariants.{Fail, Sleep}
 use Rattle.v6_base.specs.declared.entry.Chan.TheVariants.{Wait}
 use Rattle.v6_base.specs.declared.entry.Entry.TheVariants as line
 use Rattle.v6_base.specs.declared.entry.PanicKind.{PanicKind}
-use Rattle.v6_base.specs.declared.errno.Errno.TheVariants.{ECHILD}
+use Rattle.v6_base.specs.declared.errno.Errno.TheVariants.{ECHILD, EINTR}
 use Rattle.u_area.specs.declared.area.UArea.{UArea}
 use Rattle.pick_rules.specs.Priority.{pwait}
 use Rattle.proc_tab.specs.declared.row.Row.{Row}
 use Rattle.proc_tab.specs.declared.child.Child.TheVariants as child
 use Rattle.sys_procs.specs.Process.{Process}
-use Rattle.sys_procs.specs.World.{with_process}
+use Rattle.sys_procs.specs.World.{World, with_process}
 use Rattle.sys_procs.specs.Wait.{pending_wait}
 use Rattle.sys_procs.specs.Handed.{board, handed, process_here}
 use Rattle.sys_procs.proofs.Tables.{logged_line}
 use Rattle.sys_procs.proofs.Alive.{calls_alive}
 use Rattle.sys_procs.proofs.Dones.{done_none, done_as, done_logged}
-use Rattle.sys_procs.proofs.Graves.{has_grave, wait_row}
+use Rattle.sys_procs.proofs.Graves.{has_grave, wait_row, wait_broken_off, wait_begins}
 use Rattle.sys_procs.proofs.wait.wait_child.Goals as goal
 
 pub bury-requires : goal.bury-requires
@@ -35,14 +35,24 @@ returns-in-NoChild-clause-does g c =
     done_none _ (Fail ECHILD) (wait_row c.args.p.now c.args.s c.args.tree.now.nodes c.row-pid.result.pid c.child.result child.NoChild
     c.see.ensures.rows.long (ap (λ (row : Row). row.pid) c.row-pid.ensures) c.child.ensures.child c.in-NoChild.is) refl refl refl
 
--- No child has ended.
-pub returns-in-Living-clause-does : goal.returns-in-Living-clause-does
-returns-in-Living-clause-does g c =
+-- No child has ended, and a signal is due.
+pub returns-then-is_due-clause-does : goal.returns-then-is_due-clause-does
+returns-then-is_due-clause-does g c =
+    let w : World = handed c.args.p.now c.args.tree.now.nodes in
+    done_none w (Fail EINTR)
+    (wait_broken_off w c.args.s (sym c.is_due.ensures ∙ c.if-is_due.true)
+    ∙ wait_row c.args.p.now c.args.s c.args.tree.now.nodes c.row-pid.result.pid c.child.result child.Living
+    c.see.ensures.rows.long (ap (λ (row : Row). row.pid) c.row-pid.ensures) c.child.ensures.child c.in-Living.is) refl refl refl
+
+-- No child has ended, and none is due.
+pub returns-else-is_due-clause-does : goal.returns-else-is_due-clause-does
+returns-else-is_due-clause-does g c =
     let own : Process = process_here c.args.p.now c.args.s in
     let area : c.waiting.result ≡ record own.u { pending = pending_wait; call = replicate 8 0 } =
     c.waiting.ensures ∙ ap (λ (u : UArea). record u { pending = pending_wait; call = replicate 8 0 }) c.area-u.ensures in
     done_none _ (Sleep pwait (Wait c.args.s))
-    (wait_row c.args.p.now c.args.s c.args.tree.now.nodes c.row-pid.result.pid c.child.result child.Living
+    (wait_begins (handed c.args.p.now c.args.tree.now.nodes) c.args.s (sym c.is_due.ensures ∙ c.if-is_due.false)
+    ∙ wait_row c.args.p.now c.args.s c.args.tree.now.nodes c.row-pid.result.pid c.child.result child.Living
     c.see.ensures.rows.long (ap (λ (row : Row). row.pid) c.row-pid.ensures) c.child.ensures.child c.in-Living.is) refl
     (c.put_area.ensures.state c.args.tree.now.nodes
     ∙ ap (λ (u : UArea). with_process (handed c.args.p.now c.args.tree.now.nodes) c.args.s (record own { u = u })) area)

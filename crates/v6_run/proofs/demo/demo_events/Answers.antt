@@ -1,11 +1,8 @@
-use Rattle.std.proofs.Common.{◌<◌, ◌^◌, ◌∙◌, sym, ap, subst, length}
+use Rattle.std.proofs.Common.{◌∙◌, ap, subst}
 use Rattle.v6_run.specs.Errors.{script_status}
 use Rattle.v6_run.specs.Steps.{RefusesScript}
-use Rattle.v6_run.proofs.DemoLemmas.{demo_short, only_memory}
+use Rattle.v6_run.proofs.DemoLemmas.{only_memory}
 use Rattle.v6_run.proofs.demo.demo_events.Goals as goal
-
-pub read_script-requires : goal.read_script-requires
-read_script-requires c = subst (λ l. length l < 2 ^ 32) (sym (c.deref.ensures.value ∙ c.in-Ok.ensures)) demo_short
 
 pub returns-clause-memory : goal.returns-clause-memory
 returns-clause-memory c =

@@ -10,7 +10,7 @@ use Rattle.abstract_unix.specs.Runs.{boots, started, course}
 use Rattle.v6_run.specs.Events.{events_of}
 use Rattle.v6_run.specs.Outputs.{is_output, run_writes, EndsRun}
 use Rattle.v6_run.specs.Words.{Run, run_words_value}
-use Rattle.script_text.specs.Script.{script_of, signal_line_of}
+use Rattle.script_text.specs.Script.{script_of}
 use Rattle.v6_run.specs.Steps.{RefusesScript}
 use Rattle.v6_run.specs.Errors.{run_status}
 use Rattle.v6_run.specs.Answers.{Answers}
@@ -43,11 +43,10 @@ returns-in_err-kernel g c =
     let new = g.H.Host.outside c.read_files.new.host in
     let files = value_where_ok _ _ _ c.in_ok-files.was c.read_files.ensures.files in
     let events = c.in_ok-script.script.events.items in
-    let built = subst (λ l. signal_line_of l ≡ None) c.deref.ensures.value (value_where_ok _ _ _ c.in_ok-script.was c.read_script.ensures.built) in
     let script_is = subst (λ bytes. script_of bytes ≡ Ok events) c.deref.ensures.value (value_where_ok _ _ _ c.in_ok-script.was c.read_script.ensures.events) in
     let memory = error_where_err _ _ _ c.in_err-kernel.was c.boot.ensures.memory in
     end_passed run_status _ _ (λ s. Answers (Run words) s old new) c.from_residual-in_err-kernel.ensures.1
-    (subst (λ e. Answers (Run words) (run_status e) old new) (sym memory) (boot_refused words _ _ old new files _ script_is built))
+    (subst (λ e. Answers (Run words) (run_status e) old new) (sym memory) (boot_refused words _ _ old new files _ script_is))
 
 pub run_with_outputs-requires-clause-closed : goal.run_with_outputs-requires-clause-closed
 run_with_outputs-requires-clause-closed g c p out =
@@ -72,7 +71,6 @@ returns-in-Ok-AtEnd g c =
     let events = c.in_ok-script.script.events.items in
     let kernel = c.in_ok-kernel.kernel in
     let read = subst (λ l. script_of l ≡ Ok events) c.deref.ensures.value (value_where_ok _ _ _ c.in_ok-script.was c.read_script.ensures.events) in
-    let built = subst (λ l. signal_line_of l ≡ None) c.deref.ensures.value (value_where_ok _ _ _ c.in_ok-script.was c.read_script.ensures.built) in
     let script_is = subst (λ l. script_of bytes ≡ Ok l) (sym c.deref-3.ensures.value) read in
     let boots_is = subst (λ l. boots l words.core ≡ Some kernel.system) c.deref-2.ensures.value (value_where_ok _ _ _ c.in_ok-kernel.was c.boot.ensures.system) in
     let blocks_is = subst (λ l. kernel.blocks ≡ blocks_of l) c.deref-2.ensures.value (value_where_ok _ _ _ c.in_ok-kernel.was c.boot.ensures.blocks) in
@@ -80,7 +78,7 @@ returns-in-Ok-AtEnd g c =
     let field = c.in-Ok-AtEnd.field-0-is in
     let none : c.in-Ok-AtEnd.field-0 ≡ AtEnd = cc in
     let ended = subst (λ (e : Ends). EndsRun (is_output words.outputs) (run_writes words.outputs (block_at kernel.blocks) (course (started kernel.system) (events_of c.deref-3.result.now))) (course (started kernel.system) (events_of c.deref-3.result.now)) e middle new) none c.in-Ok-AtEnd.ensures.outcome in
-    run_ended words image bytes old middle files _ script_is built kernel.system boots_is new only AtEnd (ends_over (disk_of image) (block_at kernel.blocks) (same_blocks image kernel.blocks blocks_is) words.outputs _ _ _ _ ended)
+    run_ended words image bytes old middle files _ script_is kernel.system boots_is new only AtEnd (ends_over (disk_of image) (block_at kernel.blocks) (same_blocks image kernel.blocks blocks_is) words.outputs _ _ _ _ ended)
 
 pub returns-in-Ok-NotBuilt : goal.returns-in-Ok-NotBuilt
 returns-in-Ok-NotBuilt g c =
@@ -94,7 +92,6 @@ returns-in-Ok-NotBuilt g c =
     let events = c.in_ok-script.script.events.items in
     let kernel = c.in_ok-kernel.kernel in
     let read = subst (λ l. script_of l ≡ Ok events) c.deref.ensures.value (value_where_ok _ _ _ c.in_ok-script.was c.read_script.ensures.events) in
-    let built = subst (λ l. signal_line_of l ≡ None) c.deref.ensures.value (value_where_ok _ _ _ c.in_ok-script.was c.read_script.ensures.built) in
     let script_is = subst (λ l. script_of bytes ≡ Ok l) (sym c.deref-3.ensures.value) read in
     let boots_is = subst (λ l. boots l words.core ≡ Some kernel.system) c.deref-2.ensures.value (value_where_ok _ _ _ c.in_ok-kernel.was c.boot.ensures.system) in
     let blocks_is = subst (λ l. kernel.blocks ≡ blocks_of l) c.deref-2.ensures.value (value_where_ok _ _ _ c.in_ok-kernel.was c.boot.ensures.blocks) in
@@ -103,7 +100,7 @@ returns-in-Ok-NotBuilt g c =
     let same = c.in-Ok-NotBuilt.place-is in
     let some : c.in-Ok-NotBuilt.field-0 ≡ ends.NotBuilt c.in-Ok-NotBuilt.place = cc in
     let ended = subst (λ (e : Ends). EndsRun (is_output words.outputs) (run_writes words.outputs (block_at kernel.blocks) (course (started kernel.system) (events_of c.deref-3.result.now))) (course (started kernel.system) (events_of c.deref-3.result.now)) e middle new) some c.in-Ok-NotBuilt.ensures.outcome in
-    run_ended words image bytes old middle files _ script_is built kernel.system boots_is new only (ends.NotBuilt c.in-Ok-NotBuilt.place) (ends_over (disk_of image) (block_at kernel.blocks) (same_blocks image kernel.blocks blocks_is) words.outputs _ _ _ _ ended)
+    run_ended words image bytes old middle files _ script_is kernel.system boots_is new only (ends.NotBuilt c.in-Ok-NotBuilt.place) (ends_over (disk_of image) (block_at kernel.blocks) (same_blocks image kernel.blocks blocks_is) words.outputs _ _ _ _ ended)
 
 pub returns-in-Ok-Panic : goal.returns-in-Ok-Panic
 returns-in-Ok-Panic g c =
@@ -117,7 +114,6 @@ returns-in-Ok-Panic g c =
     let events = c.in_ok-script.script.events.items in
     let kernel = c.in_ok-kernel.kernel in
     let read = subst (λ l. script_of l ≡ Ok events) c.deref.ensures.value (value_where_ok _ _ _ c.in_ok-script.was c.read_script.ensures.events) in
-    let built = subst (λ l. signal_line_of l ≡ None) c.deref.ensures.value (value_where_ok _ _ _ c.in_ok-script.was c.read_script.ensures.built) in
     let script_is = subst (λ l. script_of bytes ≡ Ok l) (sym c.deref-3.ensures.value) read in
     let boots_is = subst (λ l. boots l words.core ≡ Some kernel.system) c.deref-2.ensures.value (value_where_ok _ _ _ c.in_ok-kernel.was c.boot.ensures.system) in
     let blocks_is = subst (λ l. kernel.blocks ≡ blocks_of l) c.deref-2.ensures.value (value_where_ok _ _ _ c.in_ok-kernel.was c.boot.ensures.blocks) in
@@ -126,7 +122,7 @@ returns-in-Ok-Panic g c =
     let same = c.in-Ok-Panic.kind-is in
     let some : c.in-Ok-Panic.field-0 ≡ ends.Panic c.in-Ok-Panic.kind = cc in
     let ended = subst (λ (e : Ends). EndsRun (is_output words.outputs) (run_writes words.outputs (block_at kernel.blocks) (course (started kernel.system) (events_of c.deref-3.result.now))) (course (started kernel.system) (events_of c.deref-3.result.now)) e middle new) some c.in-Ok-Panic.ensures.outcome in
-    run_ended words image bytes old middle files _ script_is built kernel.system boots_is new only (ends.Panic c.in-Ok-Panic.kind) (ends_over (disk_of image) (block_at kernel.blocks) (same_blocks image kernel.blocks blocks_is) words.outputs _ _ _ _ ended)
+    run_ended words image bytes old middle files _ script_is kernel.system boots_is new only (ends.Panic c.in-Ok-Panic.kind) (ends_over (disk_of image) (block_at kernel.blocks) (same_blocks image kernel.blocks blocks_is) words.outputs _ _ _ _ ended)
 
 pub returns : goal.returns
 returns g c =
@@ -140,9 +136,8 @@ returns g c =
     let events = c.in_ok-script.script.events.items in
     let kernel = c.in_ok-kernel.kernel in
     let read = subst (λ l. script_of l ≡ Ok events) c.deref.ensures.value (value_where_ok _ _ _ c.in_ok-script.was c.read_script.ensures.events) in
-    let built = subst (λ l. signal_line_of l ≡ None) c.deref.ensures.value (value_where_ok _ _ _ c.in_ok-script.was c.read_script.ensures.built) in
     let script_is = subst (λ l. script_of bytes ≡ Ok l) (sym c.deref-3.ensures.value) read in
     let boots_is = subst (λ l. boots l words.core ≡ Some kernel.system) c.deref-2.ensures.value (value_where_ok _ _ _ c.in_ok-kernel.was c.boot.ensures.system) in
     let blocks_is = subst (λ l. kernel.blocks ≡ blocks_of l) c.deref-2.ensures.value (value_where_ok _ _ _ c.in_ok-kernel.was c.boot.ensures.blocks) in
     let only = c.run_with_outputs.ensures.only in
-    run_stopped words image bytes old middle files _ script_is built kernel.system boots_is new only _ (stops_over (disk_of image) (block_at kernel.blocks) (same_blocks image kernel.blocks blocks_is) words.outputs _ _ _ _ _ c.in-Err.ensures.outcome)
+    run_stopped words image bytes old middle files _ script_is kernel.system boots_is new only _ (stops_over (disk_of image) (block_at kernel.blocks) (same_blocks image kernel.blocks blocks_is) words.outputs _ _ _ _ _ c.in-Err.ensures.outcome)

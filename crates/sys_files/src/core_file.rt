@@ -1,0 +1,254 @@
+//! The image of a process that a signal ends goes to the file `core`: core(V) of the manual; `core` in Lions' Commentary,
+//! `sig.c`.
+ghost use Rattle.std.specs.Prelude.{◌≡◌, ◌<◌, ◌≤◌, ◌*◌, ℕ, List, Some, slice_index, length};
+ghost use Rattle.v6_base.specs.Image.{text_alone};
+ghost use Rattle.v6_base.specs.Copy.{load_bytes};
+ghost use Rattle.proc_tab.specs.declared.row.Row.{Row};
+ghost use Rattle.u_area.specs.Area.{area_bytes};
+ghost use Rattle.fs_nodes.specs.FileSystem.{SameRest};
+ghost use Rattle.fs_tree.specs.Finding.{inodes_of};
+ghost use Rattle.fs_tree.specs.Name.{name_at};
+ghost use Rattle.fs_tree.specs.Entries.{answer_to};
+ghost use Rattle.sys_files.specs.Handed.{Handed, handed, node_in, with_inodes};
+ghost use Rattle.sys_files.specs.Sound.{IsSound, IsKept};
+ghost use Rattle.sys_files.specs.Entering.{HasEntry, SameReferences, did_of};
+ghost use Rattle.sys_files.specs.Making.{entry_written, enters_new};
+ghost use Rattle.sys_files.specs.Core.{core_name, is_plain, writes_parts, writes_over, writes_new, writes_named, core_file, is_written};
+
+use crate::entering::{Room, enter_new, find_to_make, make_inode};
+use crate::files::Files;
+use crate::inodes::{inode_of, let_go, see};
+use crate::naming::user_of;
+use fs_codec::file_type;
+use fs_nodes::{Moved, Nodes};
+use fs_tree::{Made, Want};
+use u_area::{AREA_SIZE, UArea};
+use v6_base::{Errno, Fixed, Space};
+
+/// The mode of a new file `core`.
+const MODE: u16 = 0o666;
+
+/// The bytes of a click.
+const CLICK: u32 = 64;
+
+/// The bytes of all segments.
+const SEGMENTS: u32 = 65536;
+
+/// The bytes of a block.
+const BLOCK: u32 = 512;
+
+/// The most bytes that the first of two writes takes from the memory of a process: whole blocks.
+const HALF: u32 = 32768;
+
+/// The name, with NULs behind it.
+fn core_name() -> Fixed
+    ensures { name_at (text_alone result.bytes) 0 ≡ core_name }
+{
+    let mut bytes = [0; 64];
+    bytes[0] = b'c';
+    bytes[1] = b'o';
+    bytes[2] = b'r';
+    bytes[3] = b'e';
+    Fixed::new(bytes)
+}
+
+/// The outcome of a write.
+fn outcome_of(moved: Moved) -> Result<(), Errno>
+    ensures { result ≡ answer_to moved.error }
+{
+    match moved.error {
+        None => Ok(()),
+        Some(e) => Err(e),
+    }
+}
+
+/// Writes the per-process area at the front of a file.
+fn write_area(nodes: &mut Nodes, ino: u16, u: &UArea, now: u32) -> Result<(), Errno>
+    requires referenced { 0 < slice_index nodes.old.references ino }
+    ensures answer { result ≡ (entry_written (inodes_of nodes.old) ino 0 (area_bytes u.now) now).answer }
+    ensures inodes { inodes_of nodes.new ≡ (entry_written (inodes_of nodes.old) ino 0 (area_bytes u.now) now).inodes }
+    ensures kept { SameReferences nodes.old nodes.new }
+{
+    see(nodes);
+    let mut bytes = [0; AREA_SIZE];
+    u.store(&mut bytes);
+    outcome_of(nodes.write_kernel(ino, 0, &bytes, now))
+}
+
+/// Writes bytes of a memory, so many from an address on, into a file, from a place on. A write takes fewer than 65,536 bytes, so
+/// they go in two, which meet at a block's end.
+fn write_bytes<S: Space>(
+    nodes: &mut Nodes,
+    ino: u16,
+    offset: u32,
+    space: &S,
+    at: u16,
+    count: u32,
+    now: u32,
+) -> Result<(), Errno>
+    requires referenced { 0 < slice_index nodes.old.references ino }
+    requires few { count ≤ SEGMENTS }
+    ensures written { (bytes : List ℕ) → load_bytes (S.image space.now) at count ≡ Some bytes
+        → (result ≡ (entry_written (inodes_of nodes.old) ino offset bytes now).answer)
+        × (inodes_of nodes.new ≡ (entry_written (inodes_of nodes.old) ino offset bytes now).inodes) }
+    ensures kept { SameReferences nodes.old nodes.new }
+{
+    let first = count.min(HALF - offset % BLOCK);
+    outcome_of(nodes.write_at(ino, offset, space, at, first as u16, now))?;
+    let second = count - first;
+    let rest = at.wrapping_add(first as u16);
+    outcome_of(nodes.write_at(ino, offset + first, space, rest, second as u16, now))
+}
+
+/// Writes the per-process area, the data and the stack into a file: each where what stands before it was written whole.
+fn write_parts<S: Space>(
+    nodes: &mut Nodes,
+    ino: u16,
+    u: &UArea,
+    space: &S,
+    now: u32,
+) -> Result<(), Errno>
+    requires referenced { 0 < slice_index nodes.old.references ino }
+    requires data { length (S.image space.now).data ≡ CLICK * u.now.data_size }
+    requires stack { length (S.image space.now).stack ≡ CLICK * u.now.stack_size }
+    requires text { length (S.image space.now).text ≡ CLICK * u.now.text_size }
+    ensures did { (h : Handed) → h.inodes ≡ inodes_of nodes.old → h.u ≡ u.now → h.image ≡ S.image space.now
+        → writes_parts now h ino ≡ did_of (with_inodes h (inodes_of nodes.new)) result }
+    ensures kept { SameReferences nodes.old nodes.new }
+{
+    write_area(nodes, ino, u, now)?;
+    let data = CLICK * u32::from(u.data_size);
+    let stack = CLICK * u32::from(u.stack_size);
+    let base = (u32::from(u.text_size) + 127) / 128 * 8192;
+    let top = SEGMENTS - stack;
+    write_bytes(nodes, ino, AREA_SIZE as u32, space, base as u16, data, now)?;
+    write_bytes(nodes, ino, AREA_SIZE as u32 + data, space, top as u16, stack, now)
+}
+
+/// Whether an inode is a plain file's.
+fn is_plain_at(nodes: &Nodes, ino: u16) -> bool
+    requires { 0 < slice_index nodes.now.references ino }
+    ensures { result ≡ is_plain (node_in nodes.now.store ino).mode }
+{
+    file_type(inode_of(nodes, ino).mode) == 0
+}
+
+/// Writes over a file that is there, which gives its blocks back first.
+///
+/// # Errors
+///
+/// `EACCES`, `ETXTBSY`: the file isn't plain, or the user may not write it. `ENOSPC`: it isn't written whole.
+fn write_over<S: Space>(
+    f: &mut Files,
+    u: &UArea,
+    ino: u16,
+    space: &S,
+    now: u32,
+) -> Result<(), Errno>
+    requires referenced { 0 < slice_index f.old.tree.nodes.references ino }
+    requires text { length (S.image space.now).text ≡ CLICK * u.now.text_size }
+    requires data { length (S.image space.now).data ≡ CLICK * u.now.data_size }
+    requires stack { length (S.image space.now).stack ≡ CLICK * u.now.stack_size }
+    ensures did { (row : Row) → writes_over now (handed f.old u.now row (S.image space.now)) ino
+        ≡ did_of (handed f.new u.now row (S.image space.now)) result }
+    ensures kept { SameReferences f.old.tree.nodes f.new.tree.nodes }
+    ensures table { f.new.table ≡ f.old.table }
+{
+    see(&f.tree.nodes);
+    if !is_plain_at(&f.tree.nodes, ino) {
+        return Err(Errno::EACCES);
+    }
+    f.tree.access(ino, user_of(u), Want::Write)?;
+    f.tree.nodes.truncate(ino, now);
+    write_parts(&mut f.tree.nodes, ino, u, space, now)
+}
+
+/// Enters a new file, and writes it.
+fn enter_core<S: Space>(
+    f: &mut Files,
+    u: &UArea,
+    room: Room,
+    ino: u16,
+    space: &S,
+    now: u32,
+) -> Result<(), Errno>
+    requires entry { HasEntry f.old.tree.nodes room.dir room.offset }
+    requires referenced { 0 < slice_index f.old.tree.nodes.references ino }
+    requires text { length (S.image space.now).text ≡ CLICK * u.now.text_size }
+    requires data { length (S.image space.now).data ≡ CLICK * u.now.data_size }
+    requires stack { length (S.image space.now).stack ≡ CLICK * u.now.stack_size }
+    ensures did { (row : Row) → enters_new (handed f.old u.now row (S.image space.now)) room.dir room.offset room.name ino now
+        (writes_parts now) ≡ did_of (handed f.new u.now row (S.image space.now)) result }
+    ensures kept { SameReferences f.old.tree.nodes f.new.tree.nodes }
+    ensures table { f.new.table ≡ f.old.table }
+{
+    enter_new(f, u, room, ino, now)?;
+    write_parts(&mut f.tree.nodes, ino, u, space, now)
+}
+
+/// Makes a file in a directory, and writes it.
+fn write_new<S: Space>(
+    f: &mut Files,
+    u: &UArea,
+    room: Room,
+    space: &S,
+    now: u32,
+) -> Result<(), Errno>
+    requires entry { HasEntry f.old.tree.nodes room.dir room.offset }
+    requires text { length (S.image space.now).text ≡ CLICK * u.now.text_size }
+    requires data { length (S.image space.now).data ≡ CLICK * u.now.data_size }
+    requires stack { length (S.image space.now).stack ≡ CLICK * u.now.stack_size }
+    ensures did { (row : Row) → writes_new now (handed f.old u.now row (S.image space.now)) room.dir room.offset room.name
+        ≡ did_of (handed f.new u.now row (S.image space.now)) result }
+    ensures kept { SameReferences f.old.tree.nodes f.new.tree.nodes }
+    ensures table { f.new.table ≡ f.old.table }
+{
+    let ino = make_inode(&mut f.tree.nodes, MODE, user_of(u), now)?;
+    let result = enter_core(f, u, room, ino, space, now);
+    let_go(&mut f.tree.nodes, ino, now);
+    result
+}
+
+/// Writes the file of the name `core`, whether it is there or not.
+fn write_named<S: Space>(f: &mut Files, u: &UArea, space: &S, now: u32) -> Result<(), Errno>
+    requires directory { 0 < slice_index f.old.tree.nodes.references u.now.dir }
+    requires few { (i : ℕ) → slice_index f.old.tree.nodes.references i ≤ 65530 }
+    requires text { length (S.image space.now).text ≡ CLICK * u.now.text_size }
+    requires data { length (S.image space.now).data ≡ CLICK * u.now.data_size }
+    requires stack { length (S.image space.now).stack ≡ CLICK * u.now.stack_size }
+    ensures did { (row : Row) → writes_named now (handed f.old u.now row (S.image space.now))
+        ≡ did_of (handed f.new u.now row (S.image space.now)) result }
+    ensures kept { SameReferences f.old.tree.nodes f.new.tree.nodes }
+    ensures table { f.new.table ≡ f.old.table }
+{
+    match find_to_make(&mut f.tree, u, &core_name(), 0)? {
+        Made::Found(ino) => {
+            let result = write_over(f, u, ino, space, now);
+            let_go(&mut f.tree.nodes, ino, now);
+            result
+        }
+        Made::Room { dir, offset, name } => {
+            let room = Room { dir, offset, name };
+            let result = write_new(f, u, room, space, now);
+            let_go(&mut f.tree.nodes, dir, now);
+            result
+        }
+    }
+}
+
+/// Writes the image of a process, its per-process area, its data and its stack, to the file `core` in its directory, and says
+/// whether the whole of it was written. Where the effective user isn't the real one nothing is written, and so where the file
+/// is there and isn't plain or the user may not write it. The area has the sizes of the image.
+pub fn write_core<S: Space>(f: &mut Files, u: &UArea, space: &S, now: u32) -> bool
+    requires sound { (row : Row) → IsSound (handed f.old u.now row (S.image space.now)) }
+    requires text { length (S.image space.now).text ≡ CLICK * u.now.text_size }
+    requires data { length (S.image space.now).data ≡ CLICK * u.now.data_size }
+    requires stack { length (S.image space.now).stack ≡ CLICK * u.now.stack_size }
+    ensures whole { (row : Row) → result ≡ is_written (core_file (handed f.old u.now row (S.image space.now)) now).answer }
+    ensures state { (row : Row) → handed f.new u.now row (S.image space.now)
+        ≡ (core_file (handed f.old u.now row (S.image space.now)) now).state }
+    ensures kept { (row : Row) → IsKept (handed f.old u.now row (S.image space.now)) (handed f.new u.now row (S.image space.now)) }
+    ensures blocks { SameRest f.old.tree.nodes.blocks f.new.tree.nodes.blocks }
+{
+    u.uid == u.ruid && write_named(f, u, space, now).is_ok()
+}

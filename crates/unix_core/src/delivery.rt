@@ -1,0 +1,216 @@
+//! A signal that is due comes to its process: signal(II), core(V); `psig` and `core` in Lions' Commentary, `sig.c`.
+ghost use Rattle.std.specs.Prelude.{◌≡◌, ◌≢◌, ◌%◌, Some, true, false};
+ghost use Rattle.v6_base.specs.Trace.{Taken, Took};
+ghost use Rattle.fs_laws.specs.Rest.{SameRest};
+ghost use Rattle.pick_rules.specs.Board.{Board};
+ghost use Rattle.pick_rules.specs.Logged.{logged};
+ghost use Rattle.proc_tab.specs.Processes.{IsUsed};
+ghost use Rattle.image_keep.specs.Kept.{HasImage, area_of, image_of, with_area, with_image};
+ghost use Rattle.sig_core.specs.Signals.{due, is_signal, handler_of};
+ghost use Rattle.sig_core.specs.Delivery.{makes_core, delivery};
+ghost use Rattle.sys_procs.specs.Handed.{process_here};
+ghost use Rattle.abstract_unix.specs.Unix.{process_of};
+ghost use Rattle.abstract_unix.specs.Steps.{Steps};
+ghost use Rattle.abstract_unix.specs.Calls.{exits_with};
+ghost use Rattle.abstract_unix.specs.Delivery.{heeds, catches, ends_by, delivers, delivers_due, ends_turn};
+ghost use Rattle.unix_core.specs.Parts.{unix_of, board_in, IsGood, IsReady, HasCome, IsCovered, is_over};
+
+use crate::files::{see_covered, see_kept, see_nodes, see_table};
+use crate::onfiles::{close_files, put_core};
+use crate::passing::pass_on;
+use crate::world::World;
+use abstract_unix::Ending;
+use image_keep::Images;
+use sig_core::{Delivered, deliver, due};
+use sys_procs::{Procs, end_proc, grow};
+use v6_base::{Slot, Trace};
+
+/// The status of a process of which the whole file `core` was written has this.
+const DUMPED: u16 = 0o200;
+
+/// The signal that is due to a process. Most have none that waits: then nobody looks at the u area.
+fn due_to(procs: &Procs, s: Slot) -> Option<u8>
+    requires used { IsUsed procs.now.rows s }
+    requires image { HasImage procs.now.images s }
+    ensures { result ≡ due (process_here procs.now s).row (process_here procs.now s).u }
+{
+    let row = procs.rows.row(s);
+    if row.sig == 0 {
+        return None;
+    }
+    due(row, &procs.images.area(s))
+}
+
+/// A signal has come to a process, and waits no longer.
+fn heed(world: &mut World, s: Slot)
+    requires { IsReady world.old s }
+    ensures unix { unix_of world.new ≡ heeds (unix_of world.old) s }
+    ensures board { board_in world.new ≡ board_in world.old }
+    ensures ready { IsReady world.new s }
+    ensures files { world.new.files ≡ world.old.files }
+{
+    let mut row = *world.procs.rows.row(s);
+    row.sig = 0;
+    world.procs.rows.set_row(s, row);
+}
+
+/// Does what a process has asked for where this signal comes. Where it has a routine its stack has grown.
+fn tell(images: &mut Images, s: Slot, sig: u8) -> Delivered
+    requires image { HasImage images.old s }
+    requires signal { is_signal sig ≡ true }
+    requires heeded { handler_of (area_of images.old s) sig % 2 ≡ 0 }
+    ensures answer { result ≡ (delivery (area_of images.old s) sig (image_of images.old s)).answer }
+    ensures images { images.new
+        ≡ with_area (with_image images.old s (delivery (area_of images.old s) sig (image_of images.old s)).image) s
+        (delivery (area_of images.old s) sig (image_of images.old s)).area }
+{
+    let mut u = images.area(s);
+    let told = {
+        let mut space = images.space(s);
+        deliver(&mut u, sig, &mut space)
+    };
+    images.set_area(s, &u);
+    told
+}
+
+/// A process goes on with its routine for a signal: its stack grows first for what is pushed, where it must and can. Where it
+/// stops, neither core nor the swap area has room for the image.
+fn catch<T: Trace>(world: &mut World, s: Slot, sig: u8, trace: &mut T) -> Ending
+    requires ready { IsReady world.old s }
+    requires signal { is_signal sig ≡ true }
+    requires heeded { handler_of (area_of world.old.procs.images s) sig % 2 ≡ 0 }
+    requires routine { handler_of (area_of world.old.procs.images s) sig ≢ 0 }
+    ensures come { HasCome (board_in world.old) (catches (unix_of world.old) s sig) result world.new }
+    ensures ready { is_over result ≡ false → IsReady world.new s }
+    ensures covered { is_over result ≡ true → IsCovered world.new }
+    ensures lives { result ≢ Ending.Ended }
+    ensures items { Took (T.taken trace.old) (logged (board_in world.old) (catches (unix_of world.old) s sig).effects).items
+        (T.taken trace.new) }
+    ensures frame { T.leads_to trace.old trace.new }
+    ensures rest { SameRest world.old.files.tree.nodes.blocks world.new.files.tree.nodes.blocks }
+{
+    see_nodes(&world.files.tree.nodes);
+    see_table(&world.files.table);
+    see_kept(&world.procs.images);
+    let sp = world.procs.images.area(s).r[6].wrapping_sub(4);
+    match grow(&mut world.procs, &mut world.files.tree, s, sp, trace) {
+        Ok(_) => {
+            let _caught = tell(&mut world.procs.images, s, sig);
+            Ending::Trapped
+        }
+        Err(kind) => {
+            see_covered(world);
+            Ending::Panic(kind)
+        }
+    }
+}
+
+/// Ends a process with a status: its files are closed, and it has ended.
+fn end_with<T: Trace>(world: &mut World, s: Slot, status: u16, trace: &mut T) -> Ending
+    requires { IsReady world.old s }
+    ensures come { HasCome (board_in world.old) (exits_with (unix_of world.old) s status) result world.new }
+    ensures good { is_over result ≡ false → IsGood world.new }
+    ensures covered { is_over result ≡ true → IsCovered world.new }
+    ensures runs { result ≢ Ending.Ended → world.new.procs.table.running ≡ Some s }
+    ensures items { Took (T.taken trace.old) (logged (board_in world.old) (exits_with (unix_of world.old) s status).effects).items
+        (T.taken trace.new) }
+    ensures frame { T.leads_to trace.old trace.new }
+    ensures rest { SameRest world.old.files.tree.nodes.blocks world.new.files.tree.nodes.blocks }
+{
+    close_files(world, s);
+    pass_on(&world.tape, &mut world.procs.table, trace);
+    see_nodes(&world.files.tree.nodes);
+    see_table(&world.files.table);
+    see_kept(&world.procs.images);
+    let ended = end_proc(&mut world.procs, &mut world.files.tree, s, status, trace);
+    see_covered(world);
+    match ended {
+        Ok(()) => Ending::Ended,
+        Err(kind) => Ending::Panic(kind),
+    }
+}
+
+/// Ends a process by a signal, which may leave the file `core`.
+fn end_by<T: Trace>(world: &mut World, s: Slot, sig: u8, core: bool, trace: &mut T) -> Ending
+    requires ready { IsReady world.old s }
+    requires core { core ≡ makes_core sig }
+    ensures come { HasCome (board_in world.old) (ends_by (unix_of world.old) s sig) result world.new }
+    ensures items { Took (T.taken trace.old) (logged (board_in world.old) (ends_by (unix_of world.old) s sig).effects).items
+        (T.taken trace.new) }
+    ensures good { is_over result ≡ false → IsGood world.new }
+    ensures covered { is_over result ≡ true → IsCovered world.new }
+    ensures runs { result ≢ Ending.Ended → world.new.procs.table.running ≡ Some s }
+    ensures frame { T.leads_to trace.old trace.new }
+    ensures rest { SameRest world.old.files.tree.nodes.blocks world.new.files.tree.nodes.blocks }
+{
+    let r0 = world.procs.images.area(s).r[0];
+    let dumped = if core && put_core(world, s) { DUMPED } else { 0 };
+    end_with(world, s, 256 * (r0 % 256) + u16::from(sig) + dumped, trace)
+}
+
+/// Delivers a signal to a process.
+fn deliver_to<T: Trace>(world: &mut World, s: Slot, sig: u8, trace: &mut T) -> Ending
+    requires ready { IsReady world.old s }
+    requires due { due (process_of (unix_of world.old) s).row (process_of (unix_of world.old) s).u ≡ Some sig }
+    ensures come { HasCome (board_in world.old) (delivers (unix_of world.old) s sig) result world.new }
+    ensures good { is_over result ≡ false → IsGood world.new }
+    ensures covered { is_over result ≡ true → IsCovered world.new }
+    ensures runs { result ≢ Ending.Ended → world.new.procs.table.running ≡ Some s }
+    ensures items { Took (T.taken trace.old) (logged (board_in world.old) (delivers (unix_of world.old) s sig).effects).items
+        (T.taken trace.new) }
+    ensures frame { T.leads_to trace.old trace.new }
+    ensures rest { SameRest world.old.files.tree.nodes.blocks world.new.files.tree.nodes.blocks }
+{
+    heed(world, s);
+    if world.procs.images.area(s).handlers[usize::from(sig)] != 0 {
+        return catch(world, s, sig, trace);
+    }
+    match tell(&mut world.procs.images, s, sig) {
+        Delivered::Caught => Ending::Trapped,
+        Delivered::Ends { core } => end_by(world, s, sig, core, trace),
+    }
+}
+
+/// Delivers the signal that is due to the running process, where one is: at the end of a turn, and in a tick.
+pub(crate) fn deliver_due<T: Trace>(world: &mut World, s: Slot, trace: &mut T) -> Ending
+    requires { IsReady world.old s }
+    ensures come { HasCome (board_in world.old) (delivers_due (unix_of world.old) s) result world.new }
+    ensures good { is_over result ≡ false → IsGood world.new }
+    ensures covered { is_over result ≡ true → IsCovered world.new }
+    ensures runs { result ≢ Ending.Ended → world.new.procs.table.running ≡ Some s }
+    ensures items { Took (T.taken trace.old) (logged (board_in world.old) (delivers_due (unix_of world.old) s).effects).items
+        (T.taken trace.new) }
+    ensures frame { T.leads_to trace.old trace.new }
+    ensures rest { SameRest world.old.files.tree.nodes.blocks world.new.files.tree.nodes.blocks }
+{
+    match due_to(&world.procs, s) {
+        Some(sig) => deliver_to(world, s, sig, trace),
+        None => Ending::Trapped,
+    }
+}
+
+/// Delivers a signal at the end of a turn that has come to this, where the process has come out of a trap.
+pub(crate) fn deliver_after<T: Trace>(
+    world: &mut World,
+    s: Slot,
+    ending: Ending,
+    trace: &mut T,
+) -> Ending
+    requires good { is_over ending ≡ false → IsGood world.old }
+    requires covered { is_over ending ≡ true → IsCovered world.old }
+    requires runs { is_over ending ≡ false → ending ≢ Ending.Ended → world.old.procs.table.running ≡ Some s }
+    ensures good { is_over result ≡ false → IsGood world.new }
+    ensures covered { is_over result ≡ true → IsCovered world.new }
+    ensures runs { is_over result ≡ false → result ≢ Ending.Ended → world.new.procs.table.running ≡ Some s }
+    ensures come { (b : Board) (steps : Steps) → HasCome b steps ending world.old → HasCome b (ends_turn s steps) result world.new }
+    ensures items { (b : Board) (steps : Steps) (start : Taken) → HasCome b steps ending world.old
+        → Took start (logged b steps.effects).items (T.taken trace.old)
+        → Took start (logged b (ends_turn s steps).effects).items (T.taken trace.new) }
+    ensures frame { T.leads_to trace.old trace.new }
+    ensures rest { SameRest world.old.files.tree.nodes.blocks world.new.files.tree.nodes.blocks }
+{
+    match ending {
+        Ending::Trapped => deliver_due(world, s, trace),
+        ending => ending,
+    }
+}
