@@ -32,3 +32,5 @@ pub mod Lengths
 pub mod Walks
 pub mod Steady
 pub mod CoreLemmas
+pub mod PartedWrites
+pub mod LoadedLemmas
