@@ -34,3 +34,4 @@ pub mod Steady
 pub mod CoreLemmas
 pub mod PartedWrites
 pub mod LoadedLemmas
+pub mod WritingLemmas

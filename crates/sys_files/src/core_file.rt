@@ -5,10 +5,13 @@ ghost use Rattle.v6_base.specs.Image.{text_alone};
 ghost use Rattle.v6_base.specs.Copy.{load_bytes};
 ghost use Rattle.proc_tab.specs.declared.row.Row.{Row};
 ghost use Rattle.u_area.specs.Area.{area_bytes};
+ghost use Rattle.fs_codec.specs.Store.{Node, node_numbered};
+ghost use Rattle.fs_laws.specs.Pieces.{write_file};
+ghost use Rattle.fs_nodes.specs.Copy.{get_from};
 ghost use Rattle.fs_nodes.specs.FileSystem.{SameRest};
 ghost use Rattle.fs_tree.specs.Finding.{inodes_of};
 ghost use Rattle.fs_tree.specs.Name.{name_at};
-ghost use Rattle.fs_tree.specs.Entries.{answer_to};
+ghost use Rattle.fs_tree.specs.Entries.{answer_to, WritesEntry};
 ghost use Rattle.sys_files.specs.Handed.{Handed, handed, node_in, with_inodes};
 ghost use Rattle.sys_files.specs.Sound.{IsSound, IsKept};
 ghost use Rattle.sys_files.specs.Entering.{HasEntry, SameReferences, did_of};
@@ -75,6 +78,27 @@ fn write_area(nodes: &mut Nodes, ino: u16, u: &UArea, now: u32) -> Result<(), Er
     outcome_of(nodes.write_kernel(ino, 0, &bytes, now))
 }
 
+/// Writes bytes of a memory, fewer than 65,536 from an address on, into a file, from a place on.
+fn write_part<S: Space>(
+    nodes: &mut Nodes,
+    ino: u16,
+    offset: u32,
+    space: &S,
+    at: u16,
+    count: u16,
+    now: u32,
+) -> Result<(), Errno>
+    requires referenced { 0 < slice_index nodes.old.references ino }
+    ensures written { (node : Node) → node_numbered nodes.old.store ino ≡ Some node → WritesEntry nodes.old.store ino
+        (write_file (get_from (S.image space.now) at) node nodes.old.store.room (tt {0}) offset count now) nodes.new.store result }
+    ensures references { nodes.new.references ≡ nodes.old.references }
+    ensures there { node_numbered nodes.old.store ino ≡ Some (node_in nodes.old.store ino) }
+    ensures kept { SameReferences nodes.old nodes.new }
+{
+    see(nodes);
+    outcome_of(nodes.write_at(ino, offset, space, at, count, now))
+}
+
 /// Writes bytes of a memory, so many from an address on, into a file, from a place on. A write takes fewer than 65,536 bytes, so
 /// they go in two, which meet at a block's end.
 fn write_bytes<S: Space>(
@@ -88,16 +112,17 @@ fn write_bytes<S: Space>(
 ) -> Result<(), Errno>
     requires referenced { 0 < slice_index nodes.old.references ino }
     requires few { count ≤ SEGMENTS }
+    requires near { offset ≤ 2 * SEGMENTS }
     ensures written { (bytes : List ℕ) → load_bytes (S.image space.now) at count ≡ Some bytes
         → (result ≡ (entry_written (inodes_of nodes.old) ino offset bytes now).answer)
         × (inodes_of nodes.new ≡ (entry_written (inodes_of nodes.old) ino offset bytes now).inodes) }
     ensures kept { SameReferences nodes.old nodes.new }
 {
     let first = count.min(HALF - offset % BLOCK);
-    outcome_of(nodes.write_at(ino, offset, space, at, first as u16, now))?;
+    write_part(nodes, ino, offset, space, at, first as u16, now)?;
     let second = count - first;
     let rest = at.wrapping_add(first as u16);
-    outcome_of(nodes.write_at(ino, offset + first, space, rest, second as u16, now))
+    write_part(nodes, ino, offset + first, space, rest, second as u16, now)
 }
 
 /// Writes the per-process area, the data and the stack into a file: each where what stands before it was written whole.
