@@ -1,5 +1,5 @@
 -- Bytes of a memory that are written into a file, in one write or in two.
-use Rattle.std.proofs.Common.{◌≡◌, ◌⊎◌, ◌+◌, ◌-◌, ◌%◌, ◌<◌, ◌≤◌, ◌==◌, ◌||◌, ℕ, Bool, true, false, not, List, length, slice_index, slice_set, slice_range, Option, Some, None, IsSome, unwrap_or, Result, Ok, Err, inl, inr, refl, sym, ap, ◌∙◌, subst, arith}
+use Rattle.std.proofs.Common.{◌≡◌, ◌⊎◌, ◌+◌, ◌-◌, ◌%◌, ◌<◌, ◌≤◌, ◌==◌, ◌||◌, ℕ, Bool, true, false, not, List, length, min, slice_index, slice_set, slice_range, Option, Some, None, IsSome, unwrap_or, Result, Ok, Err, inl, inr, refl, sym, ap, ◌∙◌, subst, arith}
 use Rattle.std.proofs.lemmas.Bool.{cases_lt, cases_eq, eq-eqb, ne_eqb}
 use Rattle.std.proofs.lemmas.List.{get_or_past, get_or-set_same, set-set}
 use Rattle.v6_base.specs.Image.{Image}
@@ -87,10 +87,28 @@ done_by None u is = refl
 done_by (Some x) u is = absurd (cc)
 
 -- Bytes of a memory are written, in two writes that meet at a block's end.
-module _ (store middle last : Store) (ino : ℕ) (image : Image) (at rest offset k n now : ℕ) (bytes : List ℕ)
-    (loaded : load_bytes image at (k + n) ≡ Some bytes) (border : ((offset + k) % 512 ≡ 0) ⊎ (n ≡ 0)) (both : k ≡ 0 → n ≡ 0)
-    (there : node_numbered store ino ≡ Some (node_in store ino)) (onward : rest ≡ (at + k) % 65536)
+module _ (store middle last : Store) (ino : ℕ) (image : Image) (at rest offset count k now : ℕ) (bytes : List ℕ)
+    (loaded : load_bytes image at count ≡ Some bytes) (cut : k ≡ min count (32768 - offset % 512)) (onward : rest ≡ (at + k) % 65536)
+    (there : node_numbered store ino ≡ Some (node_in store ino))
   where
+    abbrev n : ℕ
+    n = count - k
+
+    sum : count ≡ k + (count - k)
+    sum = omega (arith, cut)
+
+    border : ((offset + k) % 512 ≡ 0) ⊎ (count - k ≡ 0)
+    border = elim (cases_lt k count) [
+      | inl more ↦ inl (omega (arith, cut, more))
+      | inr none ↦ inr (omega (arith, none))
+    ]
+
+    both : k ≡ 0 → count - k ≡ 0
+    both none = omega (arith, cut, none)
+
+    parts : load_bytes image at (k + (count - k)) ≡ Some bytes
+    parts = ap (load_bytes image at) (sym sum) ∙ loaded
+
     abbrev first : Moving (Unit {0})
     first = write_file (get_from image at) (node_in store ino) store.room (tt {0}) offset k now
 
@@ -103,10 +121,10 @@ module _ (store middle last : Store) (ino : ℕ) (image : Image) (at rest offset
     is_two : Alike whole (unless_ended first.error second first)
     is_two =
         subst (λ c. Alike (write_file (get_kernel bytes) (node_in store ino) store.room (tt {0}) offset c now) (unless_ended first.error second first))
-        (sym (loaded_long image at (k + n) bytes loaded))
+        (sym (loaded_long image at (k + n) bytes parts))
         (two_files offset k n (get_kernel bytes) (get_from image at) (get_from image rest) border
-        (λ v j few. sym (loaded_part image at (k + n) v j bytes loaded (omega (arith, few))))
-        (λ v j few. sym (load_wraps image (rest + v) (at + (k + v)) j (omega (arith, onward)) ∙ loaded_part image at (k + n) (k + v) j bytes loaded (omega (arith, few))))
+        (λ v j few. sym (loaded_part image at (k + n) v j bytes parts (omega (arith, few))))
+        (λ v j few. sym (load_wraps image (rest + v) (at + (k + v)) j (omega (arith, onward)) ∙ loaded_part image at (k + n) (k + v) j bytes parts (omega (arith, few))))
         (node_in store ino) store.room now both)
 
     -- The first is refused.
