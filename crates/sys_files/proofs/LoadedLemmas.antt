@@ -146,3 +146,14 @@ whole_name bytes long =
     let none : readable image 64 1 ≡ [] = nothing_read image 64 past in
     readable_ends image 0 64 1 65536 (omega arith) (ap length first ∙ long) (omega arith) (omega (arith, ap length none))
     ∙ ap (λ l. readable image 0 64 ++ l) none ∙ append-nil (readable image 0 64) ∙ first
+
+-- the same, by addresses and numbers that are known otherwise
+pub data_at_base : (image : Image) (base text count : ℕ) → IsImage image → base ≡ data_base text % 65536 → length image.text ≡ text → length image.data ≡ count
+    → load_bytes image base count ≡ Some image.data
+data_at_base image base text count is at long many =
+    ap (load_bytes image base) (sym many) ∙ ap (λ a. load_bytes image a (length image.data)) (at ∙ ap (λ n. data_base n % 65536) (sym long)) ∙ data_loaded image is
+
+pub stack_at_top : (image : Image) (top stack count : ℕ) → IsImage image → top ≡ (65536 - stack) % 65536 → length image.stack ≡ stack → length image.stack ≡ count
+    → load_bytes image top count ≡ Some image.stack
+stack_at_top image top stack count is at long many =
+    ap (load_bytes image top) (sym many) ∙ ap (λ a. load_bytes image a (length image.stack)) (at ∙ ap (λ n. (65536 - n) % 65536) (sym long)) ∙ stack_loaded image is

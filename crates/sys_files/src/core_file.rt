@@ -1,7 +1,7 @@
 //! The image of a process that a signal ends goes to the file `core`: core(V) of the manual; `core` in Lions' Commentary,
 //! `sig.c`.
-ghost use Rattle.std.specs.Prelude.{◌≡◌, ◌<◌, ◌≤◌, ◌*◌, ℕ, List, Some, slice_index, length};
-ghost use Rattle.v6_base.specs.Image.{text_alone};
+ghost use Rattle.std.specs.Prelude.{◌≡◌, ◌<◌, ◌≤◌, ◌*◌, ◌+◌, ◌-◌, ◌%◌, ℕ, List, Some, slice_index, length};
+ghost use Rattle.v6_base.specs.Image.{text_alone, data_base};
 ghost use Rattle.v6_base.specs.Copy.{load_bytes};
 ghost use Rattle.proc_tab.specs.declared.row.Row.{Row};
 ghost use Rattle.u_area.specs.Area.{area_bytes};
@@ -33,6 +33,9 @@ const MODE: u16 = 0o666;
 
 /// The bytes of a click.
 const CLICK: u32 = 64;
+
+/// The bytes of a segment.
+const SEGMENT: u32 = 8192;
 
 /// The bytes of all segments.
 const SEGMENTS: u32 = 65536;
@@ -125,8 +128,44 @@ fn write_bytes<S: Space>(
     write_part(nodes, ino, offset + first, space, rest, second as u16, now)
 }
 
-/// Writes the per-process area, the data and the stack into a file: each where what stands before it was written whole.
-fn write_parts<S: Space>(
+/// The address at which the data begin.
+fn data_at(u: &UArea) -> u16
+    ensures { result ≡ data_base (CLICK * u.now.text_size) % SEGMENTS }
+{
+    let base = (u32::from(u.text_size) + 127) / 128 * SEGMENT;
+    (base % SEGMENTS) as u16
+}
+
+/// The address at which the stack begins.
+fn stack_at(u: &UArea) -> u16
+    requires { CLICK * u.now.stack_size ≤ SEGMENTS }
+    ensures { result ≡ (SEGMENTS - CLICK * u.now.stack_size) % SEGMENTS }
+{
+    let top = SEGMENTS - CLICK * u32::from(u.stack_size);
+    (top % SEGMENTS) as u16
+}
+
+/// Writes the data behind the per-process area.
+fn write_data<S: Space>(
+    nodes: &mut Nodes,
+    ino: u16,
+    u: &UArea,
+    space: &S,
+    now: u32,
+) -> Result<(), Errno>
+    requires referenced { 0 < slice_index nodes.old.references ino }
+    requires text { length (S.image space.now).text ≡ CLICK * u.now.text_size }
+    requires data { length (S.image space.now).data ≡ CLICK * u.now.data_size }
+    ensures answer { result ≡ (entry_written (inodes_of nodes.old) ino AREA_SIZE (S.image space.now).data now).answer }
+    ensures inodes { inodes_of nodes.new ≡ (entry_written (inodes_of nodes.old) ino AREA_SIZE (S.image space.now).data now).inodes }
+    ensures kept { SameReferences nodes.old nodes.new }
+{
+    let data = CLICK * u32::from(u.data_size);
+    write_bytes(nodes, ino, AREA_SIZE as u32, space, data_at(u), data, now)
+}
+
+/// Writes the stack behind the data.
+fn write_stack<S: Space>(
     nodes: &mut Nodes,
     ino: u16,
     u: &UArea,
@@ -136,18 +175,36 @@ fn write_parts<S: Space>(
     requires referenced { 0 < slice_index nodes.old.references ino }
     requires data { length (S.image space.now).data ≡ CLICK * u.now.data_size }
     requires stack { length (S.image space.now).stack ≡ CLICK * u.now.stack_size }
+    ensures answer { result ≡ (entry_written (inodes_of nodes.old) ino (AREA_SIZE + length (S.image space.now).data)
+        (S.image space.now).stack now).answer }
+    ensures inodes { inodes_of nodes.new ≡ (entry_written (inodes_of nodes.old) ino (AREA_SIZE + length (S.image space.now).data)
+        (S.image space.now).stack now).inodes }
+    ensures kept { SameReferences nodes.old nodes.new }
+{
+    let data = CLICK * u32::from(u.data_size);
+    let stack = CLICK * u32::from(u.stack_size);
+    write_bytes(nodes, ino, AREA_SIZE as u32 + data, space, stack_at(u), stack, now)
+}
+
+/// Writes the per-process area, the data and the stack into a file: each where what stands before it was written whole.
+fn write_parts<S: Space>(
+    nodes: &mut Nodes,
+    ino: u16,
+    u: &UArea,
+    space: &S,
+    now: u32,
+) -> Result<(), Errno>
+    requires referenced { 0 < slice_index nodes.old.references ino }
     requires text { length (S.image space.now).text ≡ CLICK * u.now.text_size }
+    requires data { length (S.image space.now).data ≡ CLICK * u.now.data_size }
+    requires stack { length (S.image space.now).stack ≡ CLICK * u.now.stack_size }
     ensures did { (h : Handed) → h.inodes ≡ inodes_of nodes.old → h.u ≡ u.now → h.image ≡ S.image space.now
         → writes_parts now h ino ≡ did_of (with_inodes h (inodes_of nodes.new)) result }
     ensures kept { SameReferences nodes.old nodes.new }
 {
     write_area(nodes, ino, u, now)?;
-    let data = CLICK * u32::from(u.data_size);
-    let stack = CLICK * u32::from(u.stack_size);
-    let base = (u32::from(u.text_size) + 127) / 128 * 8192;
-    let top = SEGMENTS - stack;
-    write_bytes(nodes, ino, AREA_SIZE as u32, space, base as u16, data, now)?;
-    write_bytes(nodes, ino, AREA_SIZE as u32 + data, space, top as u16, stack, now)
+    write_data(nodes, ino, u, space, now)?;
+    write_stack(nodes, ino, u, space, now)
 }
 
 /// Whether an inode is a plain file's.
