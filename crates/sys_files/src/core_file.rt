@@ -3,6 +3,7 @@
 ghost use Rattle.std.specs.Prelude.{◌≡◌, ◌<◌, ◌≤◌, ◌*◌, ◌+◌, ◌-◌, ◌%◌, ℕ, List, Some, slice_index, length};
 ghost use Rattle.v6_base.specs.Image.{text_alone, data_base};
 ghost use Rattle.v6_base.specs.Copy.{load_bytes};
+ghost use Rattle.v6_base.specs.declared.errno.Errno.TheVariants.{EACCES};
 ghost use Rattle.proc_tab.specs.declared.row.Row.{Row};
 ghost use Rattle.u_area.specs.Area.{area_bytes};
 ghost use Rattle.fs_codec.specs.Store.{Node, node_numbered};
@@ -13,11 +14,13 @@ ghost use Rattle.fs_tree.specs.Finding.{inodes_of};
 ghost use Rattle.fs_tree.specs.Name.{name_at};
 ghost use Rattle.fs_tree.specs.Entries.{answer_to, WritesEntry};
 ghost use Rattle.sys_files.specs.Handed.{Handed, handed, node_in, with_inodes};
+ghost use Rattle.sys_files.specs.Did.{must};
 ghost use Rattle.sys_files.specs.Sound.{IsSound, IsKept};
 ghost use Rattle.sys_files.specs.Entering.{HasEntry, SameReferences, did_of};
 ghost use Rattle.sys_files.specs.Making.{entry_written, enters_new};
 ghost use Rattle.sys_files.specs.Core.{core_name, is_plain, writes_parts, writes_over, writes_new, writes_named, core_file, is_written};
 
+use crate::creating::truncate;
 use crate::entering::{Room, enter_new, find_to_make, make_inode};
 use crate::files::Files;
 use crate::inodes::{inode_of, let_go, see};
@@ -207,12 +210,19 @@ fn write_parts<S: Space>(
     write_stack(nodes, ino, u, space, now)
 }
 
-/// Whether an inode is a plain file's.
-fn is_plain_at(nodes: &Nodes, ino: u16) -> bool
+/// Whether the file of an inode is plain.
+///
+/// # Errors
+///
+/// `EACCES`: it isn't.
+fn test_plain(nodes: &Nodes, ino: u16) -> Result<(), Errno>
     requires { 0 < slice_index nodes.now.references ino }
-    ensures { result ≡ is_plain (node_in nodes.now.store ino).mode }
+    ensures { result ≡ must EACCES (is_plain (node_in nodes.now.store ino).mode) }
 {
-    file_type(inode_of(nodes, ino).mode) == 0
+    if file_type(inode_of(nodes, ino).mode) != 0 {
+        return Err(Errno::EACCES);
+    }
+    Ok(())
 }
 
 /// Writes over a file that is there, which gives its blocks back first.
@@ -237,11 +247,9 @@ fn write_over<S: Space>(
     ensures table { f.new.table ≡ f.old.table }
 {
     see(&f.tree.nodes);
-    if !is_plain_at(&f.tree.nodes, ino) {
-        return Err(Errno::EACCES);
-    }
+    test_plain(&f.tree.nodes, ino)?;
     f.tree.access(ino, user_of(u), Want::Write)?;
-    f.tree.nodes.truncate(ino, now);
+    truncate(&mut f.tree.nodes, ino, now);
     write_parts(&mut f.tree.nodes, ino, u, space, now)
 }
 
