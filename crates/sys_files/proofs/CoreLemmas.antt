@@ -1,5 +1,5 @@
 -- What the writing of the file `core` keeps: all that a change of inodes keeps. It never sleeps.
-use Rattle.std.proofs.Common.{◌==◌, ◌+◌, ℕ, Bool, true, false, cond, List, length, Result, Ok, Err}
+use Rattle.std.proofs.Common.{◌==◌, ◌+◌, ℕ, Bool, true, false, cond, List, length, Result, Ok, Err, ◌≡◌, sym, ap, ◌∙◌}
 use Rattle.v6_base.specs.declared.answer.Answer.{Answer}
 use Rattle.v6_base.specs.declared.answer.Answer.TheVariants.{Ret, Fail, Sleep}
 use Rattle.v6_base.specs.declared.errno.Errno.{Errno}
@@ -8,13 +8,23 @@ use Rattle.u_area.specs.Area.{area_bytes}
 use Rattle.u_area.specs.declared.layout.TheConstants.{AREA_SIZE}
 use Rattle.fs_tree.specs.declared.made.Made.{Made}
 use Rattle.fs_tree.specs.declared.made.Made.TheVariants as made
+use Rattle.fs_tree.specs.declared.user.User.{User}
 use Rattle.fs_tree.specs.declared.user.Want.TheVariants.{Write}
 use Rattle.fs_tree.specs.Finding.{Inodes, Finding, make_in}
 use Rattle.fs_tree.specs.Permission.{access}
 use Rattle.sys_files.specs.Handed.{Handed, r0, node_at, user_of, with_inodes, let_go}
 use Rattle.sys_files.specs.Did.{Did, fails, is_done, check, must, until_end, then_named, by_made}
-use Rattle.sys_files.specs.Making.{new_in, entry_written, writes_entry, with_links, enters_new, makes_node, with_no_blocks}
+use Rattle.sys_files.specs.Making.{new_in, entry_written, writes_entry, with_links, enters_new, makes_node, truncated_in, with_no_blocks}
+use Rattle.sys_files.specs.Entering.{did_of}
 use Rattle.sys_files.specs.Core.{core_name, is_plain, writes_parts, writes_over, writes_new, writes_named, core_file}
+
+-- A file that is there is plain and may be written: it gives its blocks back, and is written.
+pub over_goes : (now : ℕ) (h after : Handed) (ino : ℕ) (user : User) (n : Inodes) (u v : Unit {0}) (r : Result (Unit {0}) Errno)
+    → Ok u ≡ must EACCES (is_plain (node_at h ino).mode) → user ≡ user_of h.u → Ok v ≡ access h.marks ino (node_at h ino) user Write
+    → n ≡ truncated_in h.inodes ino now → writes_parts now (with_inodes h n) ino ≡ did_of after r → writes_over now h ino ≡ did_of after r
+over_goes now h after ino user n u v r plain caller may empty did =
+    sym (λ i. check h (plain i) (λ p. check h ((may ∙ ap (λ w. access h.marks ino (node_at h ino) w Write) caller) i) (λ m. writes_parts now (with_no_blocks h ino now) ino)))
+    ∙ ap (λ x. writes_parts now (with_inodes h x) ino) (sym empty) ∙ did
 
 -- a call that is done or refused
 abbrev pub IsOver : Answer → Type 0
