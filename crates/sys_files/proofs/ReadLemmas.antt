@@ -102,11 +102,11 @@ kept_as h entry at count now false sound =
 
 kept_if : (h : Handed) (entry at count now : ℕ) (reading : Bool) → IsSound h → IsKept h (read_if h entry at count now reading).state
 kept_if h entry at count now true sound = kept_as h entry at count now (is_console (node_at h (file_of h entry).ino)) sound
-kept_if h entry at count now false sound = kept_same h h sound refl refl refl refl refl
+kept_if h entry at count now false sound = kept_same h h sound refl refl refl refl refl refl
 
 kept_found : (h : Handed) (at count now : ℕ) (found : Result ℕ Errno) → IsSound h → IsKept h (read_found h at count now found).state
 kept_found h at count now (Ok entry) sound = kept_if h entry at count now (file_of h entry).kind.reading sound
-kept_found h at count now (Err e) sound = kept_same h h sound refl refl refl refl refl
+kept_found h at count now (Err e) sound = kept_same h h sound refl refl refl refl refl refl
 
 pub read_kept : (h : Handed) (at count now : ℕ) → IsSound h → IsKept h (read_file_of h at count now).state
 read_kept h at count now sound = kept_found h at count now (open_entry h (r0 h)) sound
@@ -114,9 +114,9 @@ read_kept h at count now sound = kept_found h at count now (open_entry h (r0 h))
 -- A read that is taken up again keeps all that is counted.
 resumed_took : (h : Handed) (r : Reading) (entry at count : ℕ) (took : Took) → IsSound h
     → IsKept h (takes_line (with_line_read (without_pending h) r) entry at count took).state
-resumed_took h r entry at count (Done n) sound = kept_same h _ sound refl refl refl refl refl
-resumed_took h r entry at count Wait sound = kept_same h _ sound refl refl refl refl refl
-resumed_took h r entry at count Fault sound = kept_same h _ sound refl refl refl refl refl
+resumed_took h r entry at count (Done n) sound = kept_same h _ sound refl refl refl refl refl refl
+resumed_took h r entry at count Wait sound = kept_same h _ sound refl refl refl refl refl refl
+resumed_took h r entry at count Fault sound = kept_same h _ sound refl refl refl refl refl refl
 
 pub resume_kept : (h : Handed) → IsSound h → IsKept h (resume_read h).state
 resume_kept h sound =

@@ -101,11 +101,11 @@ kept_as h entry at count now false sound =
 
 kept_if : (h : Handed) (entry at count now : ℕ) (writing : Bool) → IsSound h → IsKept h (write_if h entry at count now writing).state
 kept_if h entry at count now true sound = kept_as h entry at count now (is_console (node_at h (file_of h entry).ino)) sound
-kept_if h entry at count now false sound = kept_same h h sound refl refl refl refl refl
+kept_if h entry at count now false sound = kept_same h h sound refl refl refl refl refl refl
 
 kept_found : (h : Handed) (at count now : ℕ) (found : Result ℕ Errno) → IsSound h → IsKept h (write_found h at count now found).state
 kept_found h at count now (Ok entry) sound = kept_if h entry at count now (file_of h entry).kind.writing sound
-kept_found h at count now (Err e) sound = kept_same h h sound refl refl refl refl refl
+kept_found h at count now (Err e) sound = kept_same h h sound refl refl refl refl refl refl
 
 pub write_kept : (h : Handed) (at count now : ℕ) → IsSound h → IsKept h (write_file_of h at count now).state
 write_kept h at count now sound = kept_found h at count now (open_entry h (r0 h)) sound
