@@ -1,6 +1,6 @@
 -- The pipes that are open and their ends, when entries of the table and pipes change.
 -- For calls that only touch entries: `pipes_changed`, `pipes_with_change` (dup, seek, read, write), `pipes_alike` (share, by `shared_at`), `pipes_opened` (open, creat).
--- For close: `pipes_marked` and then `pipes_closed`, which takes all cases of an entry that is freed. For pipe: `pipes_made`, and `pipes_low` for room.
+-- For close: `pipes_marked` and then `pipes_freed`, which takes all cases of an entry that is freed. For pipe: `pipes_made`, and `pipes_low` for room.
 -- For reads and writes of a pipe: `pipes_marked`, `with_pipe_place`, `with_pipe_same`, `place_ino`.
 use Rattle.std.proofs.Common.{◌≡◌, ◌≢◌, ◌⊎◌, ℕ, Bool, true, false, not, suc, ◌+◌, ◌-◌, ◌<◌, ◌≤◌, ◌==◌, ◌&&◌, List, [], ◌∷◌, ◌++◌, length, get_or, cond, count_by, Option, Some, None, is_some, slice_index_or, slice_set, refl, sym, ap, ◌∙◌, subst, inl, inr, arith}
 use Rattle.std.proofs.lemmas.Bool.{cases_lt, cases_eq, eqb-true, eq-eqb, ne_eqb, false≢true, and_from, and_parts, false_from_ne_true}
