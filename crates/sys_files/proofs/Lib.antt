@@ -1,6 +1,8 @@
 pub mod OthersLemmas
 pub mod KeptLemmas
 pub mod OwedLemmas
+pub mod PipeLemmas
+pub mod StayingLemmas
 pub mod CheckLemmas
 pub mod AreaLemmas
 pub mod OwingLemmas
