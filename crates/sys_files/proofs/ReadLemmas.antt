@@ -87,9 +87,9 @@ read_place h entry at count now = ((file_of h entry).offset + (read_of h entry a
 
 kept_took : (h : Handed) (entry at count now : ℕ) (r : Reading) (took : Took) → IsSound h
     → IsKept h (takes_line (with_line_read (with_read h entry (read_of h entry at count now)) r) entry at count took).state
-kept_took h entry at count now r (Done n) sound = kept_moved h _ entry (read_place h entry at count now) sound refl refl refl refl refl
-kept_took h entry at count now r Wait sound = kept_moved h _ entry (read_place h entry at count now) sound refl refl refl refl refl
-kept_took h entry at count now r Fault sound = kept_moved h _ entry (read_place h entry at count now) sound refl refl refl refl refl
+kept_took h entry at count now r (Done n) sound = kept_moved h _ entry (read_place h entry at count now) sound refl refl refl refl refl refl
+kept_took h entry at count now r Wait sound = kept_moved h _ entry (read_place h entry at count now) sound refl refl refl refl refl refl
+kept_took h entry at count now r Fault sound = kept_moved h _ entry (read_place h entry at count now) sound refl refl refl refl refl refl
 
 kept_as : (h : Handed) (entry at count now : ℕ) (console : Bool) → IsSound h → IsKept h (read_as h entry at count now console).state
 kept_as h entry at count now true sound =
@@ -98,7 +98,7 @@ kept_as h entry at count now true sound =
 kept_as h entry at count now false sound =
     let m : Moving Image = read_of h entry at count now in
     subst (IsKept h) (sym (gives_state (with_read h entry m) m.done m.error))
-    (kept_moved h (with_read h entry m) entry (read_place h entry at count now) sound refl refl refl refl refl)
+    (kept_moved h (with_read h entry m) entry (read_place h entry at count now) sound refl refl refl refl refl refl)
 
 kept_if : (h : Handed) (entry at count now : ℕ) (reading : Bool) → IsSound h → IsKept h (read_if h entry at count now reading).state
 kept_if h entry at count now true sound = kept_as h entry at count now (is_console (node_at h (file_of h entry).ino)) sound

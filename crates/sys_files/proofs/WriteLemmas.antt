@@ -93,11 +93,11 @@ kept_as : (h : Handed) (entry at count now : ℕ) (console : Bool) → IsSound h
 kept_as h entry at count now true sound =
     let after : Handed = with_moved h entry (write_of h entry at count now) in
     subst (IsKept h) (sym (shows_state after count (readable h.image at count)))
-    (kept_moved h (with_shown after (readable h.image at count)) entry (write_place h entry at count now) sound refl refl refl refl refl)
+    (kept_moved h (with_shown after (readable h.image at count)) entry (write_place h entry at count now) sound refl refl refl refl refl refl)
 kept_as h entry at count now false sound =
     let m : Moving (Unit {0}) = write_of h entry at count now in
     subst (IsKept h) (sym (gives_state (with_moved h entry m) (if is_device (node_at h (file_of h entry).ino).mode then count else m.done) m.error))
-    (kept_moved h (with_moved h entry m) entry (write_place h entry at count now) sound refl refl refl refl refl)
+    (kept_moved h (with_moved h entry m) entry (write_place h entry at count now) sound refl refl refl refl refl refl)
 
 kept_if : (h : Handed) (entry at count now : ℕ) (writing : Bool) → IsSound h → IsKept h (write_if h entry at count now writing).state
 kept_if h entry at count now true sound = kept_as h entry at count now (is_console (node_at h (file_of h entry).ino)) sound
