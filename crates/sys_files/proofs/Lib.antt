@@ -32,6 +32,8 @@ pub mod ModesLemmas
 pub mod CreatingLemmas
 pub mod Bounds
 pub mod Lengths
+pub mod PipedLemmas
+pub mod PipeKeptLemmas
 pub mod Walks
 pub mod Steady
 pub mod CoreLemmas
