@@ -24,6 +24,7 @@ pub mod OffsetLemmas
 pub mod SeekLemmas
 pub mod NamesLemmas
 pub mod MakingLemmas
+pub mod PipingLemmas
 pub mod MovingLemmas
 pub mod ReadLemmas
 pub mod WriteLemmas
