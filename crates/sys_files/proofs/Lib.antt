@@ -1,3 +1,4 @@
+pub mod OthersLemmas
 pub mod KeptLemmas
 pub mod OwedLemmas
 pub mod PipeLemmas
@@ -23,6 +24,7 @@ pub mod OffsetLemmas
 pub mod SeekLemmas
 pub mod NamesLemmas
 pub mod MakingLemmas
+pub mod PipingLemmas
 pub mod MovingLemmas
 pub mod ReadLemmas
 pub mod WriteLemmas
@@ -31,6 +33,8 @@ pub mod ModesLemmas
 pub mod CreatingLemmas
 pub mod Bounds
 pub mod Lengths
+pub mod PipedLemmas
+pub mod PipeKeptLemmas
 pub mod Walks
 pub mod Steady
 pub mod CoreLemmas

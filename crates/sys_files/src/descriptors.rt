@@ -89,7 +89,7 @@ pub fn dup_file<S: Space, T: Trace>(
 }
 
 /// Sees that the table has a hundred entries.
-fn see_entries(table: &OpenTable)
+pub(crate) fn see_entries(table: &OpenTable)
     ensures { length table.now ≡ 100 }
 {
     let _ = table.in_use(0);

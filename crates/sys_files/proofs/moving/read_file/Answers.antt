@@ -33,5 +33,5 @@ returns-clause-does g c =
     let image : Image = g.S.Space.image c.args.space.now in
     let h : Handed = handed c.args.f.now c.args.u.now c.args.row.now image in
     does_kept (sym (read_done h (slice_index c.args.args 0) (slice_index c.args.args 1) c.args.now c.in-Ok.entry c.file_of-file.result
-    (c.in-Ok.ensures.entry c.args.row.now image) (c.file_of-file.ensures c.args.u.now c.args.row.now image) c.if-not-file.false)
-    ∙ c.read_from.ensures.did c.args.row.now) (read_kept h (slice_index c.args.args 0) (slice_index c.args.args 1) c.args.now c.requires.sound)
+    (c.in-Ok.ensures.entry c.args.row.now image) (c.file_of-file.ensures c.args.u.now c.args.row.now image) c.if-not-file.false c.if-file.false)
+    ∙ c.read_from.ensures.did) (read_kept h (slice_index c.args.args 0) (slice_index c.args.args 1) c.args.now c.requires.sound)
