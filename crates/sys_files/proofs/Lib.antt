@@ -1,5 +1,7 @@
 pub mod KeptLemmas
 pub mod OwedLemmas
+pub mod PipeLemmas
+pub mod StayingLemmas
 pub mod CheckLemmas
 pub mod AreaLemmas
 pub mod OwingLemmas
