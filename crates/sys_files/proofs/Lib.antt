@@ -34,3 +34,6 @@ pub mod Lengths
 pub mod Walks
 pub mod Steady
 pub mod CoreLemmas
+pub mod PipeEndsLemmas
+pub mod PipingLemmas
+pub mod PipeMovingLemmas

@@ -1,5 +1,5 @@
 -- What a read or a write of a pipe leaves: how many inodes there are, and of which inode the pipe is.
-use Rattle.std.proofs.Common.{◌≡◌, ℕ, zero, suc, Bool, true, false, Option, Some, None, if◌then◌else◌, refl}
+use Rattle.std.proofs.Common.{◌≡◌, ℕ, zero, suc, Bool, true, false, Option, Some, None, if◌then◌else◌, refl, ap, ◌∙◌}
 use Rattle.std.specs.Prelude.{◌==◌, nat_lt, nat_le}
 use Rattle.v6_base.specs.Image.{Image}
 use Rattle.v6_base.specs.declared.errno.Errno.{Errno}
@@ -31,6 +31,12 @@ reads_stay store ends p image at count time =
     (record { count = refl; ino = either_pipe p.ino (nat_lt ends 2) (rewound p) (record (rewound p) { reader_waits = true }) refl refl })
     (record { count = refl; ino = refl })
 
+-- The pipe after a read is of the same inode.
+pub read_ino : (store : Store) (ends : ℕ) (p now : Pipe) (image : Image) (at count time : ℕ)
+    → now ≡ (reads store ends p image at count time).pipe → now.ino ≡ p.ino
+read_ino store ends p now image at count time is =
+    ap (λ (x : Pipe). x.ino) is ∙ (reads_stay store ends p image at count time).ino
+
 either_write : (store : Store) (p : Pipe) (t : Bool) (a b : PipeWrite) → StaysPipe store p a.store a.pipe
     → StaysPipe store p b.store b.pipe → StaysPipe store p (if t then a else b).store (if t then a else b).pipe
 either_write store p true a b first second = first
@@ -58,3 +64,9 @@ pub writes_stay : (store : Store) (ends : ℕ) (p : Pipe) (image : Image) (at co
 unfolding writes
 writes_stay store ends p image at count time =
     rounds_stay (suc count) (write_call ends image count time) (record { store = store; pipe = p; at = at; left = count })
+
+-- The pipe after a write is of the same inode.
+pub written_ino : (store : Store) (ends : ℕ) (p now : Pipe) (image : Image) (at count time : ℕ)
+    → now ≡ (writes store ends p image at count time).pipe → now.ino ≡ p.ino
+written_ino store ends p now image at count time is =
+    ap (λ (x : Pipe). x.ino) is ∙ (writes_stay store ends p image at count time).ino

@@ -18,7 +18,7 @@ use Rattle.sys_files.specs.Handed.{Handed}
 use Rattle.sys_files.specs.Did.{Did}
 use Rattle.sys_files.specs.Entering.{did_with}
 use Rattle.sys_files.specs.Pipes.{with_pipe}
-use Rattle.sys_files.specs.Piping.{after, pipe_at, pipe_read, with_pipe_read, ends_read, reads_pipe, woken_by_read}
+use Rattle.sys_files.specs.Piping.{after, pipe_at, with_pipe_read, ends_read, reads_pipe, woken_by_read, with_pipe_write, ends_write, writes_pipe, woken_by_write}
 
 -- an open file there is
 pub file_there : (o : Option OpenFile) → IsSome o → (file : OpenFile) × (o ≡ Some file)
@@ -71,3 +71,30 @@ read_comes h entry at count now old new fs image pipes piped u result same store
       };
       items = woken_by_read old (pipe i);
     })
+
+-- what a write comes to, of this pipe
+abbrev write_from : Handed → ℕ → ℕ → ℕ → ℕ → Pipe → PipeWrite
+write_from h at count left now p =
+    writes h.inodes.store (ends_of h.inodes.references p) p h.image ((at + (count - left)) % 65536) left now
+
+abbrev write_of : Handed → ℕ → ℕ → ℕ → ℕ → ℕ → ℕ → Pipe → Did
+write_of h slot entry at count left now p =
+    let w : PipeWrite = write_from h at count left now p in
+    after (woken_by_write p w.pipe) (ends_write (with_pipe_write h w) slot p.ino entry at count w.answer)
+
+-- what has been written, the pipe, who was woken, and how the call ends
+pub write_comes : (h : Handed) (slot entry at count left now : ℕ) (old new : Pipe) (fs : FileSystem) (pipes : List Pipe) (piped : Piped)
+    → old ≡ pipe_at h entry
+    → fs.store ≡ (write_from h at count left now old).store → fs.references ≡ h.inodes.references
+    → new ≡ (write_from h at count left now old).pipe → pipes ≡ with_pipe h.pipes new
+    → piped ≡ (write_from h at count left now old).answer
+    → writes_pipe h slot entry at count left now
+    ≡ after (woken_by_write old new)
+    (ends_write (record h { inodes = inodes_of fs; pipes = pipes }) slot old.ino entry at count piped)
+write_comes h slot entry at count left now old new fs pipes piped same store references pipe pipes_is piped_is =
+    let w : PipeWrite = write_from h at count left now old in
+    let list : pipes ≡ with_pipe h.pipes w.pipe = pipes_is ∙ ap (with_pipe h.pipes) pipe in
+    sym (ap (write_of h slot entry at count left now) same)
+    ∙ sym (λ i. after (woken_by_write old (pipe i))
+    (ends_write (record h { inodes = record { store = store i; references = references i }; pipes = list i }) slot old.ino entry at count
+    (piped_is i)))
