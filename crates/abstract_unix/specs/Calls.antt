@@ -47,7 +47,7 @@ use Rattle.abstract_unix.specs.declared.ending.Ending.TheVariants.{Ended, Trappe
 use Rattle.abstract_unix.specs.Unix.{Unix, process_of, with_process}
 use Rattle.abstract_unix.specs.References.{references_of}
 use Rattle.abstract_unix.specs.Errors.{error_number}
-use Rattle.abstract_unix.specs.Steps.{Steps, returns, sleeps, not_built, signals, after_effects}
+use Rattle.abstract_unix.specs.Steps.{Steps, returns, sleeps, signals, after_effects}
 
 -- the parts of a Unix that a call of a process is handed
 abbrev pub handed_of : Unix → Process → Handed
@@ -312,14 +312,13 @@ system_calls =
 abbrev pub no_call : Sysent
 no_call = record { count = 0; call = Unknown }
 
-unfoldable pub sysent_of : ℕ → Option Sysent
+unfoldable pub sysent_of : ℕ → Sysent
 sysent_of number =
-    Some (unwrap_or (option_map (λ (l : Line). l.entry) (find (λ (l : Line). l.number == number) system_calls)) no_call)
+    unwrap_or (option_map (λ (l : Line). l.entry) (find (λ (l : Line). l.number == number) system_calls)) no_call
 
--- a call, where it is built
-abbrev pub does_if_built : Unix → ℕ → Asked → Option Sysent → Steps
-does_if_built u slot a None = not_built u
-does_if_built u slot a (Some entry) =
+-- a call that is asked for, by its entry: the PC passes its words
+abbrev pub does_asked : Unix → ℕ → Asked → Sysent → Steps
+does_asked u slot a entry =
     does_call (with_area u slot (entered_area (words_passed a entry.count))) slot entry.call a.args
 
 -- a call by its number, where the PC has passed its word
@@ -327,16 +326,13 @@ abbrev pub system_call : ℕ → Unix → ℕ → Steps
 system_call number u slot =
     let p : Process = process_of u slot in
     let a : Asked = asked (image_of u.texts p) (register p 7) number in
-    does_if_built u slot a (sysent_of a.number)
+    does_asked u slot a (sysent_of a.number)
 
 -- A process that slept in a call goes on with it: 1 is a read of the console, 3 a read and 4 a write of a pipe, 5 a sleep, 6 a wait.
--- The others aren't built.
 abbrev pub is_on_files : ℕ → Bool
 is_on_files pending = (pending == 1) || (pending == 3) || (pending == 4)
 
 abbrev pub resumed : Unix → ℕ → Steps
 resumed u slot =
-    let pending = (process_of u slot).u.pending in
-    if is_on_files pending then did_by u slot (resumes (handed_of u (process_of u slot)) slot u.clock.time) else (
-    if (pending == pending_sleep) || (pending == pending_wait) then came_by u slot (resume_proc (world_of u) slot)
-    else not_built u)
+    if is_on_files (process_of u slot).u.pending then did_by u slot (resumes (handed_of u (process_of u slot)) slot u.clock.time)
+    else came_by u slot (resume_proc (world_of u) slot)

@@ -72,7 +72,6 @@ ends_by_ending slot s ending.Next = s
 ends_by_ending slot s ending.Trapped = follows s (delivers_due s.unix slot)
 ends_by_ending slot s (ending.Slept pri chan) = s
 ends_by_ending slot s ending.Ended = s
-ends_by_ending slot s ending.NotBuilt = s
 ends_by_ending slot s (ending.Panic kind) = s
 
 abbrev pub ends_turn : ℕ → Steps → Steps

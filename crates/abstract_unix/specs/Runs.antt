@@ -14,7 +14,7 @@ use Rattle.proc_tab.specs.Processes.{no_row}
 use Rattle.image_keep.specs.Area.{sized_area}
 use Rattle.sys_procs.specs.Process.{Process, no_process}
 use Rattle.abstract_unix.specs.declared.ends.Ends.{Ends}
-use Rattle.abstract_unix.specs.declared.ends.Ends.TheVariants.{AtEnd, NotBuilt, Panic}
+use Rattle.abstract_unix.specs.declared.ends.Ends.TheVariants.{AtEnd, Panic}
 use Rattle.abstract_unix.specs.Unix.{Unix, System, no_texts}
 use Rattle.abstract_unix.specs.Endings.{last_line}
 use Rattle.abstract_unix.specs.Init.{init_data}
@@ -101,7 +101,6 @@ goes_on_by c turn = record { items = c.items ++ turn.items; system = turn.next; 
 -- a run that has ended stays as it is
 abbrev pub unless_ended : Ends → Course → Event → Course
 unless_ended AtEnd c event = goes_on_by c (event_of event c.system)
-unless_ended (NotBuilt place) c event = c
 unless_ended (Panic kind) c event = c
 
 abbrev pub after_event : Course → Event → Course

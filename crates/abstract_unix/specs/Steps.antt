@@ -4,7 +4,7 @@ use Rattle.v6_base.specs.declared.entry.Chan.{Chan}
 use Rattle.pick_rules.specs.Effects.{Effect, Show}
 use Rattle.sys_procs.specs.Signals.{signalled, signal_lines}
 use Rattle.abstract_unix.specs.declared.ending.Ending.{Ending}
-use Rattle.abstract_unix.specs.declared.ending.Ending.TheVariants.{Next, Trapped, Slept, NotBuilt}
+use Rattle.abstract_unix.specs.declared.ending.Ending.TheVariants.{Next, Trapped, Slept}
 use Rattle.abstract_unix.specs.Unix.{Unix, process_of, with_process}
 
 -- its effects in order, the Unix then, and how it ended
@@ -27,10 +27,6 @@ returns u = quietly u Trapped
 -- the process of a slot sleeps in a call
 abbrev pub sleeps : Unix → ℕ → ℤ → Chan → Steps
 sleeps u slot pri chan = quietly u (Slept pri chan)
-
--- what isn't built shows nothing
-abbrev pub not_built : Unix → Steps
-not_built u = quietly u NotBuilt
 
 -- A signal is sent to the process of a slot, by its number: signal(II).
 abbrev pub signals : Unix → ℕ → ℕ → Steps

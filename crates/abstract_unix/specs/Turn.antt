@@ -24,9 +24,8 @@ use Rattle.abstract_unix.specs.declared.ending.Ending.TheVariants as ending
 use Rattle.abstract_unix.specs.declared.ends.Ends.{Ends}
 use Rattle.abstract_unix.specs.declared.ends.Ends.TheVariants as ends
 use Rattle.abstract_unix.specs.declared.ends.Ends.TheVariants.{AtEnd}
-use Rattle.abstract_unix.specs.declared.turned.Unbuilt.TheVariants.{At}
 use Rattle.abstract_unix.specs.declared.turned.Turned.{Turned}
-use Rattle.abstract_unix.specs.declared.turned.Turned.TheVariants.{Ran, Idle, NotBuilt, Panic}
+use Rattle.abstract_unix.specs.declared.turned.Turned.TheVariants.{Ran, Idle, Panic}
 use Rattle.abstract_unix.specs.Unix.{Text, Unix, System, process_of, with_process}
 use Rattle.abstract_unix.specs.Endings.{is_early}
 use Rattle.abstract_unix.specs.Steps as to
@@ -87,7 +86,6 @@ end_effects slot ending.Next = []
 end_effects slot ending.Trapped = Show (Log (entry.Trap slot)) ∷ []
 end_effects slot (ending.Slept pri chan) = Show (Log (entry.Sleep slot pri chan)) ∷ []
 end_effects slot ending.Ended = []
-end_effects slot ending.NotBuilt = []
 end_effects slot (ending.Panic kind) = []
 
 -- what settling shows, and the board then
@@ -145,25 +143,24 @@ calls_for_settling h = not (is_early h.ending) && not h.is_idle
 abbrev pub settled_after : Happened → Turn
 settled_after h = if calls_for_settling h then settles h else stays h
 
--- what isn't built stands where the PC was
-abbrev pub ending_at : ℕ → Ending → Ends
-ending_at pc ending.Next = AtEnd
-ending_at pc ending.Trapped = AtEnd
-ending_at pc (ending.Slept pri chan) = AtEnd
-ending_at pc ending.Ended = AtEnd
-ending_at pc ending.NotBuilt = ends.NotBuilt (At pc)
-ending_at pc (ending.Panic kind) = ends.Panic kind
+-- how a turn ends the run, if it does
+abbrev pub ending_of : Ending → Ends
+ending_of ending.Next = AtEnd
+ending_of ending.Trapped = AtEnd
+ending_of (ending.Slept pri chan) = AtEnd
+ending_of ending.Ended = AtEnd
+ending_of (ending.Panic kind) = ends.Panic kind
 
 -- a demand that finds no place ends the run with a panic
-abbrev pub ending_by : ℕ → Option (Stop Unix) → Ending → Ends
-ending_by pc None ending = ending_at pc ending
-ending_by pc (Some stop) ending = ends.Panic stop.why
+abbrev pub ending_by : Option (Stop Unix) → Ending → Ends
+ending_by None ending = ending_of ending
+ending_by (Some stop) ending = ends.Panic stop.why
 
 abbrev pub turn_of : System → ℕ → Steps → Happened
 turn_of m slot steps =
     let l : Logged Unix = logged m.board (steps.effects ++ end_effects slot steps.ending) in
     record (happens steps.unix l) {
-      ending = ending_by (register (process_of m.unix slot) 7) l.stop steps.ending;
+      ending = ending_by l.stop steps.ending;
     }
 
 -- how an event ends the run, if it does, that is no turn of a process
@@ -190,7 +187,6 @@ slot_of m (Some slot) = slot_by m slot
 -- what a kernel answers of a turn
 abbrev pub turned_by : Ends → Bool → Turned
 turned_by AtEnd is_idle = if is_idle then Idle else Ran
-turned_by (ends.NotBuilt place) is_idle = NotBuilt place
 turned_by (ends.Panic kind) is_idle = Panic kind
 
 abbrev pub turned : Turn → Turned
@@ -199,7 +195,6 @@ turned t = turned_by t.ending t.is_idle
 -- and of a tick
 abbrev pub ticked_by : Ends → Result (Unit {0}) PanicKind
 ticked_by AtEnd = Ok tt
-ticked_by (ends.NotBuilt place) = Ok tt
 ticked_by (ends.Panic kind) = Err kind
 
 -- no slot is loaded and ready

@@ -90,10 +90,10 @@ pub struct Sysent {
     pub call: SystemCall,
 }
 
-/// The entry of a number, or `None` where the call of that number isn't built.
+/// The entry of a number. What has no line in the table is no call, and takes no arguments.
 #[inline]
 #[tactic(auto, unfolding(crate::specs::Calls::sysent_of))]
-pub fn sysent_of(number: u8) -> Option<Sysent>
+pub fn sysent_of(number: u8) -> Sysent
     ensures { result ≡ sysent_of number }
 {
     match number {
@@ -145,22 +145,22 @@ pub fn sysent_of(number: u8) -> Option<Sysent>
 }
 
 #[inline]
-fn entry(count: u8, call: SystemCall) -> Option<Sysent>
-    ensures { result ≡ Some (record { count = count; call = call }) }
+fn entry(count: u8, call: SystemCall) -> Sysent
+    ensures { result ≡ record { count = count; call = call } }
 {
-    Some(Sysent { count, call })
+    Sysent { count, call }
 }
 
 #[inline]
-fn on_files(count: u8, call: FileCall) -> Option<Sysent>
-    ensures { result ≡ Some (record { count = count; call = SystemCall.OnFiles call }) }
+fn on_files(count: u8, call: FileCall) -> Sysent
+    ensures { result ≡ record { count = count; call = SystemCall.OnFiles call } }
 {
     entry(count, SystemCall::OnFiles(call))
 }
 
 #[inline]
-fn on_processes(count: u8, call: ProcessCall) -> Option<Sysent>
-    ensures { result ≡ Some (record { count = count; call = SystemCall.OnProcesses call }) }
+fn on_processes(count: u8, call: ProcessCall) -> Sysent
+    ensures { result ≡ record { count = count; call = SystemCall.OnProcesses call } }
 {
     entry(count, SystemCall::OnProcesses(call))
 }

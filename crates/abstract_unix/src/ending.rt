@@ -12,8 +12,6 @@ pub enum Ending {
     Slept { pri: i8, chan: Chan },
     /// The process has exited.
     Ended,
-    /// It came to what isn't built.
-    NotBuilt,
     /// A demand for a place can't be met.
     Panic(PanicKind),
 }

@@ -1,5 +1,4 @@
 //! How a run ends.
-use crate::turned::Unbuilt;
 use v6_base::PanicKind;
 
 /// How a run ends.
@@ -7,8 +6,6 @@ use v6_base::PanicKind;
 pub enum Ends {
     /// With its last event: nothing ends it before.
     AtEnd,
-    /// Where it comes to what isn't built.
-    NotBuilt(Unbuilt),
     /// With a panic: a demand for a place in the swap area, or for a text, can't be met.
     Panic(PanicKind),
 }

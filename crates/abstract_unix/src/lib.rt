@@ -14,4 +14,4 @@ pub use calls::{
 };
 pub use ending::Ending;
 pub use ends::Ends;
-pub use turned::{Turned, Unbuilt};
+pub use turned::Turned;

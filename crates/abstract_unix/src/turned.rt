@@ -7,15 +7,6 @@ pub enum Turned {
     Ran,
     /// There is no process to run.
     Idle,
-    /// The run ends here: this isn't built.
-    NotBuilt(Unbuilt),
     /// The run ends here: a demand for a place can't be met.
     Panic(PanicKind),
-}
-
-/// What is not built yet.
-#[derive(Clone, Copy, Debug, PartialEq, Eq)]
-pub enum Unbuilt {
-    /// What the running process has at this PC: the call pipe(II).
-    At(u16),
 }

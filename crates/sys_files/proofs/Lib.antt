@@ -1,3 +1,4 @@
+pub mod OthersLemmas
 pub mod KeptLemmas
 pub mod OwedLemmas
 pub mod PipeLemmas

@@ -20,7 +20,9 @@ use Rattle.sys_files.specs.Sound.{is_of, numbers_of, IsSound, IsKept}
 use Rattle.sys_files.specs.Opening.{opens_to_read, opens_to_write, last_failure, open_tests, can_open, with_opened, opens, opens_named, open_file}
 use Rattle.fs_tree.proofs.NamingLemmas.{found_more}
 use Rattle.sys_files.proofs.CheckLemmas.{check_quiet, must_hold, must_fail, need_there}
-use Rattle.sys_files.proofs.NumberLemmas.{given_times, numbers_change, open_given, pipes_set, set_here}
+use Rattle.sys_files.proofs.NumberLemmas.{given_times, numbers_change, open_given, set_here}
+use Rattle.sys_files.proofs.PipeLemmas.{pipes_opened}
+use Rattle.sys_files.proofs.OthersLemmas.{others_then, stay_opened}
 use Rattle.sys_files.proofs.OwedLemmas.{count_changed}
 use Rattle.sys_files.proofs.OwingLemmas.{IsKeptBut, CanFind, kept_begins, kept_ends, kept_check, kept_finds, is_referred, referred_low, once_more}
 use Rattle.sys_files.proofs.DescriptorLemmas.{need_is}
@@ -100,7 +102,8 @@ kept_opened old now taken ino fd entry kind plain low number free k =
           let more = once_more now.inodes.references ino i low in
           omega (arith, before, change, was, more);
       count = k.count;
-      no_pipe = pipes_set now.files entry (Some (opened ino kind)) k.no_pipe (λ f same. subst (λ (x : OpenFile). x.kind.pipe ≡ false) (same_Some (opened ino kind) f same) plain);
+      pipes = pipes_opened now.files now.pipes entry (opened ino kind) room.1 plain k.pipes;
+      others = others_then old now.files (slice_set now.files entry (Some (opened ino kind))) k.others (stay_opened now.files entry (Some (opened ino kind)) room.1);
     }
 
 -- What the opening itself keeps, while the call refers to other inodes too.

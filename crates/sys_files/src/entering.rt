@@ -73,6 +73,7 @@ pub(crate) fn find_room<S: Space>(
     ensures same { IfOk result (λ room. f.new.tree.nodes.store ≡ f.old.tree.nodes.store) }
     ensures none { IfErr result (λ e. SameReferences f.old.tree.nodes f.new.tree.nodes) }
     ensures table { f.new.table ≡ f.old.table }
+    ensures pipes { f.new.pipes ≡ f.old.pipes }
 {
     match find_to_make(&mut f.tree, u, space, name)? {
         Made::Found(ino) => {
@@ -151,6 +152,7 @@ pub(crate) fn enter_new(
         ≡ check (handed f.new u.now row image) result (λ done. next (handed f.new u.now row image) ino) }
     ensures kept { SameReferences f.old.tree.nodes f.new.tree.nodes }
     ensures table { f.new.table ≡ f.old.table }
+    ensures pipes { f.new.pipes ≡ f.old.pipes }
 {
     enter(&mut f.tree, room.dir, room.offset, room.name, ino, now)?;
     set_links(&mut f.tree.nodes, ino, 1, now);

@@ -16,18 +16,12 @@ use Rattle.image_keep.specs.Places.{cleared}
 use Rattle.image_keep.specs.Kept.{Held, Kept, HasImage, image_of, area_of, with_image, with_area}
 use Rattle.image_keep.specs.declared.running.Fixed.{Fixed}
 use Rattle.image_keep.specs.Running.{IsFixed, with_state}
-use Rattle.sys_procs.specs.Process.{register}
 use Rattle.sys_procs.specs.World.{clock_of, processes_in, texts_in}
 use Rattle.sys_procs.specs.Agree.{board_of}
 use Rattle.sys_procs.specs.Handed.{AreProcs, IsMarked}
 use Rattle.unix_core.specs.declared.world.World as parts
 use Rattle.abstract_unix.specs.declared.ending.Ending.{Ending}
-use Rattle.abstract_unix.specs.declared.ending.Ending.TheVariants.{NotBuilt, Panic}
-use Rattle.unix_core.specs.declared.machine.Went.{Went}
-use Rattle.unix_core.specs.declared.machine.Went.TheVariants as went
-use Rattle.abstract_unix.specs.declared.turned.Turned.{Turned}
-use Rattle.abstract_unix.specs.declared.turned.Turned.TheVariants as turned
-use Rattle.abstract_unix.specs.declared.turned.Unbuilt.TheVariants.{At}
+use Rattle.abstract_unix.specs.declared.ending.Ending.TheVariants.{Panic}
 use Rattle.unix_core.specs.declared.machine.Stage.{Stage}
 use Rattle.unix_core.specs.declared.machine.Stage.TheVariants as stage
 use Rattle.abstract_unix.specs.Unix.{Unix, System, Phase, New, Started, Stopped, Finished, process_of, with_process}
@@ -37,7 +31,7 @@ use Rattle.abstract_unix.specs.Whole.{Owed, CanGoOn}
 use Rattle.abstract_unix.specs.Steps.{Steps}
 use Rattle.unix_core.specs.Passing.{HaveSlots, shown_by, all_woken}
 use Rattle.unix_core.specs.Memory.{kept_in}
-use Rattle.abstract_unix.specs.Turn.{Turn, machine_of, with_machine, is_user, end_effects, ending_at, settled_after, slot_of}
+use Rattle.abstract_unix.specs.Turn.{Turn, machine_of, with_machine, is_user, end_effects, ending_of, settled_after, slot_of}
 
 -- the Unix of a world
 abbrev pub unix_of : parts.World → Unix
@@ -71,22 +65,14 @@ machine_in k s = record { r = (area_of k s).r; cc = (area_of k s).cc; image = im
 abbrev pub with_machine_in : Kept → ℕ → Machine → Kept
 with_machine_in k s m = with_area (with_image k s m.image) s (with_state (area_of k s) m.r m.cc)
 
--- what a turn comes to of which this is left, and which ends so, with the PC where it began
-abbrev pub turn_end : parts.World → ℕ → ℕ → Ending → Turn
-turn_end w s pc e = settled_after (record {
+-- what a turn comes to of which this is left, and which ends so
+abbrev pub turn_end : parts.World → ℕ → Ending → Turn
+turn_end w s e = settled_after (record {
   unix = unix_of w;
   log = logged (board_in w) (end_effects s e);
   is_idle = false;
-  ending = ending_at pc e;
+  ending = ending_of e;
 })
-
--- the PC of the process that runs, or 0
-abbrev pub pc_by : Unix → Option ℕ → ℕ
-pc_by u None = 0
-pc_by u (Some s) = register (process_of u s) 7
-
-abbrev pub pc_at : parts.World → ℕ
-pc_at w = pc_by (unix_of w) w.procs.table.running
 
 -- the first image of process 1
 abbrev pub first_held : Held
@@ -129,7 +115,6 @@ ended_as (Some stop) e = Panic stop.why
 
 -- whether a turn that ends so ends the run
 abbrev pub is_over : Ending → Bool
-is_over NotBuilt = true
 is_over (Panic kind) = true
 is_over e = false
 
@@ -195,10 +180,3 @@ pub record Takes (turn : Turn) (at : Stage) (w : parts.World) : Type 0 where
   pub kernel : IsKernel at w
   pub system : system_at w ≡ turn.next
   pub phase : phase_of at ≡ phase_after turn.ending
-
--- what a slot answers that went so, with the PC where it began
-abbrev pub turned_at : ℕ → Went → Turned
-turned_at at went.Ran = turned.Ran
-turned_at at went.Idle = turned.Idle
-turned_at at went.NotBuilt = turned.NotBuilt (At at)
-turned_at at (went.Panic kind) = turned.Panic kind

@@ -23,7 +23,6 @@ ended_table t s ending.Next = t
 ended_table t s ending.Trapped = trapped t s
 ended_table t s (ending.Slept pri chan) = fall_asleep t s pri chan
 ended_table t s ending.Ended = t
-ended_table t s ending.NotBuilt = t
 ended_table t s (ending.Panic kind) = t
 
 -- who sleeps for a channel is woken, where that is called for

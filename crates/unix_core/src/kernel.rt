@@ -15,7 +15,7 @@ ghost use Rattle.abstract_unix.specs.Shared.{AllTextsStay, OtherTextsStay};
 
 use crate::files::{ROOT, see_kept, see_nodes, see_procs};
 use crate::init::put_program;
-use crate::machine::{Machine, Stage, execute, turned_at};
+use crate::machine::{Machine, Stage, execute};
 use crate::world::World;
 use abstract_unix::Turned;
 use fs_codec::DISK_BLOCKS;
@@ -148,7 +148,7 @@ impl Kernel {
     }
 
     /// Takes one slot: the turn of the running process, which is one instruction with its call, or the rest of a call in which
-    /// it slept. Where it comes to what isn't built, or to a panic, the run has stopped: no event is taken any more.
+    /// it slept. Where it comes to a panic, the run has stopped: no event is taken any more.
     pub fn turn<T: Trace>(&mut self, trace: &mut T) -> Turned
         requires { self.old.phase ≡ Started }
         ensures phase { self.new.phase ≡ phase_after (event_of Slot self.old.system).ending }
@@ -164,19 +164,15 @@ impl Kernel {
         see_kept(&self.machine.world.procs.images);
         match &self.machine.stage {
             Stage::Running(fixed) => {
-                let at = self.machine.world.procs.images.area_at(fixed).r[7];
                 match execute(&mut self.machine.world.procs, fixed) {
                     Outcome::Next => Turned::Ran,
                     outcome => {
                         let s = fixed.slot;
-                        turned_at(self.machine.after_step(s, outcome, trace), at)
+                        self.machine.after_step(s, outcome, trace)
                     }
                 }
             }
-            Stage::Resting => {
-                let at = self.machine.pc();
-                turned_at(self.machine.other_slot(trace), at)
-            }
+            Stage::Resting => self.machine.other_slot(trace),
             Stage::New | Stage::Stopped | Stage::Finished => unreachable!(),
         }
     }

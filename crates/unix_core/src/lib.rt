@@ -15,6 +15,6 @@ mod readers;
 mod settling;
 mod world;
 
-pub use abstract_unix::{Ends, Turned, Unbuilt};
+pub use abstract_unix::{Ends, Turned};
 pub use boot::BootFault;
 pub use kernel::Kernel;

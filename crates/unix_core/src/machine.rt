@@ -6,20 +6,19 @@ ghost use Rattle.pdp_step.specs.Instruction.{instr};
 ghost use Rattle.pick_rules.specs.Choice.{chosen, settle};
 ghost use Rattle.pick_rules.specs.Logged.{logged};
 ghost use Rattle.image_keep.specs.Running.{IsFixed};
-ghost use Rattle.sys_procs.specs.Process.{register};
 ghost use Rattle.abstract_unix.specs.declared.ends.Ends.TheVariants.{AtEnd};
 ghost use Rattle.abstract_unix.specs.Unix.{Unix, System, Started, process_of};
 ghost use Rattle.abstract_unix.specs.Endings.{is_early};
-ghost use Rattle.abstract_unix.specs.Turn.{turned, ticked_by, turned_by, ending_at, turn, turn_of, settled, settled_after, pass_of};
+ghost use Rattle.abstract_unix.specs.Turn.{turned, ticked_by, turned_by, ending_of, turn, turn_of, settled, settled_after, pass_of};
 ghost use Rattle.abstract_unix.specs.Outside.{calls, charged, mode_of, tick_entry, timed_area, is_user_mode, delivers_to, tick_of, typed_of};
-ghost use Rattle.unix_core.specs.Parts.{unix_of, board_in, system_at, turn_at, turned_at, turn_end, pc_at, phase_of, machine_in, with_machine_in, is_over, IsGood, IsReady, IsUser, IsCovered, IsKernel, HasCome, HasStepped, Takes};
+ghost use Rattle.unix_core.specs.Parts.{unix_of, board_in, system_at, turn_at, turn_end, phase_of, machine_in, with_machine_in, is_over, IsGood, IsReady, IsUser, IsCovered, IsKernel, HasCome, HasStepped, Takes};
 
 use crate::delivery::{deliver_after, deliver_due};
 use crate::files::see_procs;
 use crate::process::{come_to, resume};
 use crate::settling::{end_turn, settle, wake};
 use crate::world::World;
-use abstract_unix::{Ending, Turned, Unbuilt};
+use abstract_unix::{Ending, Turned};
 use image_keep::Fixed;
 use pdp_step::{Outcome, Regs, step};
 use pick_rules::{Mode, Second};
@@ -38,22 +37,10 @@ pub enum Stage {
     Running(Fixed),
     /// A process goes on with a call, or nobody runs but the swapper, or nobody.
     Resting,
-    /// The run has come to what isn't built, or to a panic, and takes no event any more.
+    /// The run has come to a panic, and takes no event any more.
     Stopped,
     /// All that has changed is on the disk.
     Finished,
-}
-
-/// How a slot went. It is two bytes at most, so that a slot's answer stays in a register.
-#[derive(Clone, Copy)]
-pub(crate) enum Went {
-    Ran,
-    /// Nobody ran.
-    Idle,
-    /// It came to what isn't built.
-    NotBuilt,
-    /// A demand for a place couldn't be met.
-    Panic(PanicKind),
 }
 
 /// The parts of a kernel.
@@ -125,16 +112,15 @@ fn calls(keyed: Keyed) -> bool
     }
 }
 
-/// How a turn went that ended so.
-fn went_by(ending: Ending) -> Went
-    ensures went { (pc : ℕ) → turned_at pc result ≡ turned_by (ending_at pc ending) false }
-    ensures goes { result ≡ Went.Ran → (pc : ℕ) → ending_at pc ending ≡ AtEnd }
-    ensures stops { result ≢ Went.Ran → (pc : ℕ) → is_early (ending_at pc ending) ≡ true }
+/// What a turn came to that ended so.
+fn turned(ending: Ending) -> Turned
+    ensures answer { result ≡ turned_by (ending_of ending) false }
+    ensures goes { result ≡ Turned.Ran → ending_of ending ≡ AtEnd }
+    ensures stops { result ≢ Turned.Ran → is_early (ending_of ending) ≡ true }
 {
     match ending {
-        Ending::NotBuilt => Went::NotBuilt,
-        Ending::Panic(kind) => Went::Panic(kind),
-        Ending::Next | Ending::Trapped | Ending::Slept { .. } | Ending::Ended => Went::Ran,
+        Ending::Panic(kind) => Turned::Panic(kind),
+        Ending::Next | Ending::Trapped | Ending::Slept { .. } | Ending::Ended => Turned::Ran,
     }
 }
 
@@ -157,19 +143,6 @@ pub(crate) fn execute(procs: &mut Procs, fixed: &Fixed) -> Outcome
     };
     procs.images.set_registers_at(fixed, &regs.r, regs.cc);
     outcome
-}
-
-/// What a slot answers that went so, with the PC where it began.
-#[inline(always)]
-pub(crate) fn turned_at(went: Went, at: u16) -> Turned
-    ensures { result ≡ turned_at at went }
-{
-    match went {
-        Went::Ran => Turned::Ran,
-        Went::Idle => Turned::Idle,
-        Went::NotBuilt => Turned::NotBuilt(Unbuilt::At(at)),
-        Went::Panic(kind) => Turned::Panic(kind),
-    }
 }
 
 impl Machine {
@@ -218,10 +191,10 @@ impl Machine {
     }
 
     /// Takes a pass of the swapper: the kernel settles, unless it ends with a panic.
-    pub(crate) fn pass<T: Trace>(&mut self, trace: &mut T) -> Went
+    pub(crate) fn pass<T: Trace>(&mut self, trace: &mut T) -> Turned
         requires good { IsGood self.old.world }
         requires runs { self.old.world.procs.table.running ≡ Some 0 }
-        ensures answer { (pc : ℕ) → turned_at pc result ≡ turned (settled_after (pass_of (system_at self.old.world))) }
+        ensures answer { result ≡ turned (settled_after (pass_of (system_at self.old.world))) }
         ensures takes { Takes (settled_after (pass_of (system_at self.old.world))) self.new.stage self.new.world }
         ensures rest { SameRest self.old.world.files.tree.nodes.blocks self.new.world.files.tree.nodes.blocks }
         ensures items { Took (T.taken trace.old)
@@ -237,11 +210,11 @@ impl Machine {
         match passed {
             Ok(()) => {
                 self.settle(trace);
-                Went::Ran
+                Turned::Ran
             }
             Err(kind) => {
                 self.stage = Stage::Stopped;
-                Went::Panic(kind)
+                Turned::Panic(kind)
             }
         }
     }
@@ -269,27 +242,27 @@ impl Machine {
     /// Ends a turn of a process that has come to this: the kernel settles, where the run goes on. It stands out of line, beside
     /// the loop over slots.
     #[inline(never)]
-    fn end<T: Trace>(&mut self, s: Slot, ending: Ending, trace: &mut T) -> Went
+    fn end<T: Trace>(&mut self, s: Slot, ending: Ending, trace: &mut T) -> Turned
         requires good { is_over ending ≡ false → IsGood self.old.world }
         requires covered { is_over ending ≡ true → IsCovered self.old.world }
         requires user { 0 < s }
         requires slot { s < 50 }
         requires runs { is_over ending ≡ false → ending ≢ Ending.Ended → self.old.world.procs.table.running ≡ Some s }
-        ensures answer { (pc : ℕ) → turned_at pc result ≡ turned (turn_end self.old.world s pc ending) }
-        ensures takes { (pc : ℕ) → Takes (turn_end self.old.world s pc ending) self.new.stage self.new.world }
+        ensures answer { result ≡ turned (turn_end self.old.world s ending) }
+        ensures takes { Takes (turn_end self.old.world s ending) self.new.stage self.new.world }
         ensures blocks { self.new.world.files.tree.nodes.blocks ≡ self.old.world.files.tree.nodes.blocks }
-        ensures items { (pc : ℕ) → Took (T.taken trace.old) (turn_end self.old.world s pc ending).items (T.taken trace.new) }
+        ensures items { Took (T.taken trace.old) (turn_end self.old.world s ending).items (T.taken trace.new) }
         ensures frame { T.leads_to trace.old trace.new }
     {
-        match went_by(ending) {
-            Went::Ran => {
+        match turned(ending) {
+            Turned::Ran => {
                 end_turn(&mut self.world.procs.table, s, ending, trace);
                 self.settle(trace);
-                Went::Ran
+                Turned::Ran
             }
-            went => {
+            stopped => {
                 self.stage = Stage::Stopped;
-                went
+                stopped
             }
         }
     }
@@ -297,10 +270,10 @@ impl Machine {
     /// Takes what an instruction comes to, where that isn't the next one, with the signal that is due then, and settles. It stands
     /// out of line, beside the loop over slots.
     #[inline(never)]
-    pub(crate) fn after_step<T: Trace>(&mut self, s: Slot, outcome: Outcome, trace: &mut T) -> Went
+    pub(crate) fn after_step<T: Trace>(&mut self, s: Slot, outcome: Outcome, trace: &mut T) -> Turned
         requires { IsUser s self.old.world }
         ensures answer { (m : System) → HasStepped m self.old.world s outcome
-            → turned_at (register (process_of m.unix s) 7) result ≡ turned (settled_after (turn_of m s (turn m s))) }
+            → result ≡ turned (settled_after (turn_of m s (turn m s))) }
         ensures takes { (m : System) → HasStepped m self.old.world s outcome
             → Takes (settled_after (turn_of m s (turn m s))) self.new.stage self.new.world }
         ensures kernel { IsKernel self.new.stage self.new.world }
@@ -318,10 +291,10 @@ impl Machine {
     /// the stage once.
     #[cold]
     #[inline(never)]
-    pub(crate) fn other_slot<T: Trace>(&mut self, trace: &mut T) -> Went
+    pub(crate) fn other_slot<T: Trace>(&mut self, trace: &mut T) -> Turned
         requires kernel { IsKernel self.old.stage self.old.world }
         requires resting { self.old.stage ≡ Stage.Resting }
-        ensures answer { turned_at (pc_at self.old.world) result ≡ turned (turn_at self.old.world) }
+        ensures answer { result ≡ turned (turn_at self.old.world) }
         ensures takes { Takes (turn_at self.old.world) self.new.stage self.new.world }
         ensures rest { SameRest self.old.world.files.tree.nodes.blocks self.new.world.files.tree.nodes.blocks }
         ensures items { Took (T.taken trace.old)
@@ -329,23 +302,12 @@ impl Machine {
         ensures frame { T.leads_to trace.old trace.new }
     {
         match self.world.procs.table.running {
-            None => Went::Idle,
+            None => Turned::Idle,
             Some(0) => self.pass(trace),
             Some(s) => {
                 let ending = self.go_on(s, trace);
                 self.end(s, ending, trace)
             }
-        }
-    }
-
-    /// The PC of the process that runs, or 0.
-    pub(crate) fn pc(&self) -> u16
-        requires { IsGood self.now.world }
-        ensures { result ≡ pc_at self.now.world }
-    {
-        match self.world.procs.table.running {
-            Some(s) if s != 0 => self.world.procs.images.area(s).r[7],
-            _ => 0,
         }
     }
 

@@ -27,16 +27,12 @@ use sig_core::{SIGBUS, SIGEMT, SIGINS, SIGIOT, SIGSEG, SIGSYS, SIGTRC};
 use sys_procs::{exit_now, fork_one, grow, resume_proc, send_signal};
 use v6_base::{Answer, Errno, PanicKind, Slot, Trace};
 
-/// The pending calls that are a read of the console, a read and a write of a pipe, a sleep, and a wait.
+/// The pending calls on files: a read of the console, a read and a write of a pipe.
 const PENDING_READ: u8 = 1;
 
 const PENDING_PIPE_READ: u8 = 3;
 
 const PENDING_PIPE_WRITE: u8 = 4;
-
-const PENDING_SLEEP: u8 = 5;
-
-const PENDING_WAIT: u8 = 6;
 
 /// The first number of an error that makes a signal.
 const FIRST_SIGNAL: u16 = 100;
@@ -337,20 +333,13 @@ fn call<T: Trace>(world: &mut World, s: Slot, number: u8, trace: &mut T) -> Endi
     ensures rest { SameRest world.old.files.tree.nodes.blocks world.new.files.tree.nodes.blocks }
 {
     let asked = ask(&mut world.procs.images, s, number);
-    match sysent_of(asked.number) {
-        Some(entry) => {
-            enter(
-                &mut world.procs.images,
-                s,
-                words_passed(&asked, entry.count),
-            );
-            does_call(world, s, entry.call, asked.args, trace)
-        }
-        None => {
-            see_covered(world);
-            Ending::NotBuilt
-        }
-    }
+    let entry = sysent_of(asked.number);
+    enter(
+        &mut world.procs.images,
+        s,
+        words_passed(&asked, entry.count),
+    );
+    does_call(world, s, entry.call, asked.args, trace)
 }
 
 /// Whether an illegal instruction is passed by: SETD, of a process that does nothing about illegal ones.
@@ -485,12 +474,5 @@ pub(crate) fn resume<T: Trace>(world: &mut World, s: Slot, trace: &mut T) -> End
     if is_on_files(pending) {
         return go_on_files(world, s, trace);
     }
-    if pending == PENDING_SLEEP {
-        return go_on_waiting(world, s, trace);
-    }
-    if pending == PENDING_WAIT {
-        return go_on_waiting(world, s, trace);
-    }
-    see_covered(world);
-    Ending::NotBuilt
+    go_on_waiting(world, s, trace)
 }

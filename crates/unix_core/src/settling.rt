@@ -40,7 +40,7 @@ pub(crate) fn end_turn<T: Trace>(table: &mut Table, s: Slot, ending: Ending, tra
     ensures frame { T.leads_to trace.old trace.new }
 {
     match ending {
-        Ending::Next | Ending::Ended | Ending::NotBuilt | Ending::Panic(_) => {}
+        Ending::Next | Ending::Ended | Ending::Panic(_) => {}
         Ending::Trapped => {
             trace.entry(Entry::Trap(s));
             trap(table, s);
