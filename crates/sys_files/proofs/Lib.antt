@@ -35,6 +35,8 @@ pub mod Lengths
 pub mod Walks
 pub mod Steady
 pub mod CoreLemmas
-pub mod PipeEndsLemmas
+pub mod PipedLemmas
+pub mod PipeKeptLemmas
 pub mod PipingLemmas
 pub mod PipeMovingLemmas
+pub mod PipeOpeningLemmas

@@ -6,6 +6,7 @@ use Rattle.v6_base.specs.Trace.{Item}
 use Rattle.v6_base.specs.declared.answer.Answer.{Answer}
 use Rattle.u_area.specs.declared.area.UArea.{UArea}
 use Rattle.proc_tab.specs.declared.row.Row.{Row}
+use Rattle.fs_codec.specs.Store.{Store}
 use Rattle.fs_nodes.specs.FileSystem.{FileSystem}
 use Rattle.fs_tree.specs.Finding.{inodes_of}
 use Rattle.open_files.specs.declared.file.OpenFile.{OpenFile}
@@ -19,6 +20,7 @@ use Rattle.sys_files.specs.Did.{Did}
 use Rattle.sys_files.specs.Entering.{did_with}
 use Rattle.sys_files.specs.Pipes.{with_pipe}
 use Rattle.sys_files.specs.Piping.{after, pipe_at, with_pipe_read, ends_read, reads_pipe, woken_by_read, with_pipe_write, ends_write, writes_pipe, woken_by_write}
+use Rattle.sys_files.proofs.PipedLemmas.{read_leaves, write_leaves}
 
 -- an open file there is
 pub file_there : (o : Option OpenFile) → IsSome o → (file : OpenFile) × (o ≡ Some file)
@@ -98,3 +100,15 @@ write_comes h slot entry at count left now old new fs pipes piped same store ref
     ∙ sym (λ i. after (woken_by_write old (pipe i))
     (ends_write (record h { inodes = record { store = store i; references = references i }; pipes = list i }) slot old.ino entry at count
     (piped_is i)))
+
+-- The pipe after a read is of the same inode.
+pub read_ino : (store : Store) (ends : ℕ) (p now : Pipe) (image : Image) (at count time : ℕ)
+    → now ≡ (reads store ends p image at count time).pipe → now.ino ≡ p.ino
+read_ino store ends p now image at count time is =
+    ap (λ (x : Pipe). x.ino) is ∙ (read_leaves store ends p image at count time).ino
+
+-- The pipe after a write is of the same inode.
+pub written_ino : (store : Store) (ends : ℕ) (p now : Pipe) (image : Image) (at count time : ℕ)
+    → now ≡ (writes store ends p image at count time).pipe → now.ino ≡ p.ino
+written_ino store ends p now image at count time is =
+    ap (λ (x : Pipe). x.ino) is ∙ (write_leaves store ends p image at count time).leaves.ino

@@ -5,8 +5,7 @@ use Rattle.sys_files.specs.Did.{Did}
 use Rattle.sys_files.specs.Handed.{Handed, handed}
 use Rattle.sys_files.specs.Pipes.{place_of}
 use Rattle.sys_files.specs.Piping.{woken_by_read, reads_pipe}
-use Rattle.sys_files.proofs.PipeEndsLemmas.{read_ino}
-use Rattle.sys_files.proofs.PipeMovingLemmas.{file_there, read_comes}
+use Rattle.sys_files.proofs.PipeMovingLemmas.{file_there, read_comes, read_ino}
 use Rattle.sys_files.proofs.piping.read_pipe.Given.{Over}
 use Rattle.sys_files.proofs.piping.read_pipe.Goals as goal
 use Rattle.sys_files.proofs.piping.read_pipe.Goals.{After-end_read}

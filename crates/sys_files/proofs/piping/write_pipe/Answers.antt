@@ -6,8 +6,7 @@ use Rattle.sys_files.specs.Did.{Did}
 use Rattle.sys_files.specs.Handed.{Handed, handed}
 use Rattle.sys_files.specs.Pipes.{place_of}
 use Rattle.sys_files.specs.Piping.{after, woken_by_write, ends_write, writes_pipe}
-use Rattle.sys_files.proofs.PipeEndsLemmas.{written_ino}
-use Rattle.sys_files.proofs.PipeMovingLemmas.{file_there, write_comes}
+use Rattle.sys_files.proofs.PipeMovingLemmas.{file_there, write_comes, written_ino}
 use Rattle.sys_files.proofs.piping.write_pipe.Given.{Over}
 use Rattle.sys_files.proofs.piping.write_pipe.Goals as goal
 use Rattle.sys_files.proofs.piping.write_pipe.Goals.{After-end_write}
