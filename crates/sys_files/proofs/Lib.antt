@@ -40,3 +40,4 @@ pub mod PipeKeptLemmas
 pub mod PipingLemmas
 pub mod PipeMovingLemmas
 pub mod PipeOpeningLemmas
+pub mod PipeMadeLemmas
