@@ -24,6 +24,7 @@ pub mod OffsetLemmas
 pub mod SeekLemmas
 pub mod NamesLemmas
 pub mod MakingLemmas
+pub mod PipingLemmas
 pub mod MovingLemmas
 pub mod ReadLemmas
 pub mod WriteLemmas
@@ -32,6 +33,8 @@ pub mod ModesLemmas
 pub mod CreatingLemmas
 pub mod Bounds
 pub mod Lengths
+pub mod PipedLemmas
+pub mod PipeKeptLemmas
 pub mod Walks
 pub mod Steady
 pub mod CoreLemmas
