@@ -38,9 +38,6 @@ pub mod PipeKeptLemmas
 pub mod Walks
 pub mod Steady
 pub mod CoreLemmas
-pub mod PipedLemmas
-pub mod PipeKeptLemmas
-pub mod PipingLemmas
 pub mod PipeMovingLemmas
 pub mod PipeOpeningLemmas
 pub mod PipeMadeLemmas
