@@ -11,6 +11,7 @@ pub mod DescriptorLemmas
 pub mod NumberLemmas
 pub mod AnyLemmas
 pub mod ClosedLemmas
+pub mod ReleasedLemmas
 pub mod ClosingLemmas
 pub mod StatusLemmas
 pub mod OpeningLemmas
