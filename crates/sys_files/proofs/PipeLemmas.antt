@@ -395,7 +395,7 @@ module _ (files : List (Option OpenFile)) (pipes : List Pipe) (entry : ℕ) (fil
   not_before : (i : ℕ) → i < length pipes → ino_at pipes i ≢ file.ino
   not_before i below same = false≢true (sym fresh ∙ (ap (has_end files) (sym same) ∙ are.ended i below))
 
-  made_first : ArePipes new more
+  pub made_first : ArePipes new more
   made_first = record {
     there = λ e f at end. elim (set_cases files entry e (Some file) f at) [
       | inl own ↦
