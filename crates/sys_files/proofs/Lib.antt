@@ -12,7 +12,6 @@ pub mod DescriptorLemmas
 pub mod NumberLemmas
 pub mod AnyLemmas
 pub mod ClosedLemmas
-pub mod ReleasedLemmas
 pub mod ClosingLemmas
 pub mod StatusLemmas
 pub mod OpeningLemmas
@@ -43,3 +42,6 @@ pub mod CoreLemmas
 pub mod PipeMovingLemmas
 pub mod PipeOpeningLemmas
 pub mod PipeMadeLemmas
+pub mod PartedWrites
+pub mod LoadedLemmas
+pub mod WritingLemmas
