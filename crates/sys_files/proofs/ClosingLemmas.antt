@@ -27,6 +27,8 @@ use Rattle.sys_files.specs.Descriptors.{Closing, open_entry, released, told_by, 
 use Rattle.sys_files.proofs.NumberLemmas.{free_times}
 use Rattle.sys_files.proofs.CheckLemmas.{check_ok}
 use Rattle.sys_files.proofs.DescriptorLemmas.{entry_ok, same_file, closes_open, closes_not}
+use Rattle.sys_files.proofs.StayingLemmas.{stays_there, stays_after}
+use Rattle.sys_files.proofs.ReleasedLemmas.{released_still, released_last}
 use Rattle.sys_files.proofs.ClosedLemmas.{closes_kept, close_refused}
 use Rattle.sys_files.proofs.DoesLemmas.{does_by}
 
@@ -50,7 +52,7 @@ sound_after old new sound kept room few = record {
   room = room;
   referred = λ i. let most = sound.referred i in let r = kept.references i in omega (arith, most, r);
   few = few;
-  no_pipe = kept.no_pipe;
+  pipes = kept.pipes;
 }
 
 pub kept_then : (a b c : Handed) → IsKept a b → IsKept b c → IsKept a c
@@ -59,11 +61,12 @@ kept_then a b c first second = record {
   numbers = λ entry. let f = first.numbers entry in let s = second.numbers entry in omega (arith, f, s);
   references = λ i. let f = first.references i in let s = second.references i in omega (arith, f, s);
   count = second.count ∙ first.count;
-  no_pipe = second.no_pipe;
+  pipes = second.pipes;
+  others = stays_after a.files b.files c.files a.u.files b.u.files first.others first.numbers second.others;
 }
 
 pub kept_not : (h : Handed) → IsSound h → IsKept h h
-kept_not h sound = record { is_open = sound.is_open; numbers = λ entry. refl; references = λ i. refl; count = refl; no_pipe = sound.no_pipe }
+kept_not h sound = record { is_open = sound.is_open; numbers = λ entry. refl; references = λ i. refl; count = refl; pipes = sound.pipes; others = λ entry file is fewer. stays_there h.files entry file is }
 
 -- Closing leaves room.
 room_set : (files : List (Option OpenFile)) (i : ℕ) (o : Option OpenFile) → HaveRoom files → ((file : OpenFile) → o ≡ Some file → file.count ≤ 65520) → HaveRoom (slice_set files i o)
@@ -83,8 +86,8 @@ left_few file rest few is = by (file.count == 1) is
     by false is = subst (λ (x : OpenFile). x.count ≤ 65520) (same_Some (with_fewer file) rest is) (omega (arith, few))
 
 released_files : (h : Handed) (told : Closed) → (released h told).state.files ≡ h.files
-released_files h (Still file) = refl
-released_files h (Last file) = refl
+released_files h (Still file) = ap (λ (k : Handed). k.files) (released_still h file)
+released_files h (Last file) = ap (λ (k : Handed). k.files) (released_last h file)
 
 less_at : (r : List ℕ) (i j : ℕ) → slice_index (slice_set r i (slice_index r i - 1)) j ≤ slice_index r j
 less_at r i j = elim (cases_eq j i) [
@@ -96,8 +99,12 @@ less_at r i j = elim (cases_eq j i) [
 ]
 
 released_few : (h : Handed) (told : Closed) (i : ℕ) → slice_index (released h told).state.inodes.references i ≤ slice_index h.inodes.references i
-released_few h (Still file) i = omega arith
-released_few h (Last file) i = less_at h.inodes.references file.ino i
+released_few h (Still file) i =
+    let P : Handed → Type 0 = λ k. slice_index k.inodes.references i ≤ slice_index h.inodes.references i in
+    subst P (sym (released_still h file)) (omega arith)
+released_few h (Last file) i =
+    let P : Handed → Type 0 = λ k. slice_index k.inodes.references i ≤ slice_index h.inodes.references i in
+    subst P (sym (released_last h file)) (less_at h.inodes.references file.ino i)
 
 pub closes_sound : (h : Handed) (fd : ℕ) → IsSound h → 0 < slice_index h.u.files fd → IsSound (closes h fd).state
 closes_sound h fd sound some =
@@ -133,8 +140,8 @@ only h = record { state = h; items = [] }
 
 -- It leaves R1.
 released_area : (h : Handed) (told : Closed) → (released h told).state.u ≡ h.u
-released_area h (Still file) = refl
-released_area h (Last file) = refl
+released_area h (Still file) = ap (λ (k : Handed). k.u) (released_still h file)
+released_area h (Last file) = ap (λ (k : Handed). k.u) (released_last h file)
 
 module _ (h : Handed) {new : Handed} {start end : Taken} (sound : IsSound h) (state : new ≡ (then_closes (only h) (r0 h)).state)
     (items : Took start (then_closes (only h) (r0 h)).items end) where
@@ -202,5 +209,5 @@ sound_any f u row other image another sound = record {
   room = sound.room;
   referred = sound.referred;
   few = sound.few;
-  no_pipe = sound.no_pipe;
+  pipes = sound.pipes;
 }

@@ -3,6 +3,7 @@ pub mod KeptLemmas
 pub mod OwedLemmas
 pub mod PipeLemmas
 pub mod StayingLemmas
+pub mod ReleasedLemmas
 pub mod CheckLemmas
 pub mod AreaLemmas
 pub mod OwingLemmas
@@ -38,6 +39,9 @@ pub mod PipeKeptLemmas
 pub mod Walks
 pub mod Steady
 pub mod CoreLemmas
+pub mod PipeMovingLemmas
+pub mod PipeOpeningLemmas
+pub mod PipeMadeLemmas
 pub mod PartedWrites
 pub mod LoadedLemmas
 pub mod WritingLemmas
