@@ -12,6 +12,7 @@ pub mod DescriptorLemmas
 pub mod NumberLemmas
 pub mod AnyLemmas
 pub mod ClosedLemmas
+pub mod ReleasedLemmas
 pub mod ClosingLemmas
 pub mod StatusLemmas
 pub mod OpeningLemmas
@@ -39,3 +40,6 @@ pub mod PipeKeptLemmas
 pub mod Walks
 pub mod Steady
 pub mod CoreLemmas
+pub mod PipeMovingLemmas
+pub mod PipeOpeningLemmas
+pub mod PipeMadeLemmas

@@ -60,6 +60,10 @@ there : (files : List (Option OpenFile)) (entry : ℕ) (o : Option OpenFile) (fi
 there files entry None file at used is = absurd (cc)
 there files entry (Some x) file at used is = at ∙ ap Some (sym is)
 
+-- the file of an entry in use, by what stands there
+pub file_there : (h : Handed) (entry : ℕ) (file found : OpenFile) → file_at h.files entry ≡ Some file → found ≡ file_of h entry → file ≡ found
+file_there h entry file found is of = sym (of ∙ ap (λ o. unwrap_or o no_file) is)
+
 pub referred_there : (h : Handed) (entry : ℕ) (file : OpenFile) → IsSound h → IsSome (file_at h.files entry) → file ≡ file_of h entry → 0 < slice_index h.inodes.references file.ino
 referred_there h entry file sound used is = file_referred h entry file sound (there h.files entry (file_at h.files entry) file refl used is)
 

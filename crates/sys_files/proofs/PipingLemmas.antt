@@ -36,7 +36,7 @@ pub waits_quiet : (h : Handed) (chan : Chan) (pending : ℕ) (words : List ℕ) 
 waits_quiet h chan pending words = sleeps_quiet h (is_some (due h.row h.u)) _ refl
 
 -- A write ends as its answer says.
-pub write_ends : (P : Did → Type 0) (h : Handed) (slot ino entry at count : ℕ) (piped same : Piped) → piped ≡ same
+pub ended_write : (P : Did → Type 0) (h : Handed) (slot ino entry at count : ℕ) (piped same : Piped) → piped ≡ same
     → P (ends_write h slot ino entry at count same) → P (ends_write h slot ino entry at count piped)
-write_ends P h slot ino entry at count piped same is holds =
+ended_write P h slot ino entry at count piped same is holds =
     subst (λ (p : Piped). P (ends_write h slot ino entry at count p)) (sym is) holds

@@ -112,6 +112,7 @@ pub(crate) fn make_inode(nodes: &mut Nodes, mode: u16, user: User, now: u32) -> 
     ensures answer { result ≡ (new_in (inodes_of nodes.old) mode user now).answer }
     ensures inodes { inodes_of nodes.new ≡ (new_in (inodes_of nodes.old) mode user now).inodes }
     ensures found { IfOk result (λ ino. OneReferenceMore nodes.old ino nodes.new) }
+    ensures fresh { IfOk result (λ ino. slice_index nodes.old.references ino ≡ 0) }
     ensures entries { (dir offset : ℕ) → HasEntry nodes.old dir offset → HasEntry nodes.new dir offset }
     ensures none { IfErr result (λ e. SameReferences nodes.old nodes.new) }
 {

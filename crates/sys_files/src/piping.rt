@@ -1,12 +1,12 @@
 //! Pipes are made, read and written: `pipe.c` in Lions' Commentary.
-ghost use Rattle.std.specs.Prelude.{◌≡◌, ◌<◌, ◌≤◌, ◌+◌, ℕ, true, IsSome, MatchResult, Some, length, slice_index, slice_set};
+ghost use Rattle.std.specs.Prelude.{◌≡◌, ◌<◌, ◌≤◌, ◌+◌, ℕ, true, IfOk, IsSome, MatchResult, Some, length, slice_index, slice_set};
 ghost use Rattle.v6_base.specs.Image.{Image};
 ghost use Rattle.v6_base.specs.Trace.{Took};
 ghost use Rattle.proc_tab.specs.declared.row.Row.{Row};
 ghost use Rattle.u_area.specs.declared.area.UArea.{UArea};
 ghost use Rattle.fs_nodes.specs.FileSystem.{SameRest};
 ghost use Rattle.open_files.specs.declared.file.OpenFile.{OpenFile};
-ghost use Rattle.open_files.specs.Files.{file_at, opened, AreOpen};
+ghost use Rattle.open_files.specs.Files.{file_at, free_entry, opened, AreOpen};
 ghost use Rattle.sys_files.specs.Handed.{Handed, handed, with_number};
 ghost use Rattle.sys_files.specs.Did.{fails};
 ghost use Rattle.sys_files.specs.Pipes.{ArePipes, place_of};
@@ -78,6 +78,7 @@ fn add_ends(f: &mut Files, u: &mut UArea, ino: u16) -> Result<(u8, u8), Errno>
         ≡ has_opened (handed f.old u.old row image) ino fds.0 entry fds.1 next))
         (λ e. (f.new.table ≡ f.old.table) × (u.new ≡ u.old) × ((row : Row) (image : Image)
         → opens_ends (handed f.old u.old row image) ino ≡ fails (handed f.old u.old row image) e)) }
+    ensures room { IfOk result (λ fds. (entry : ℕ) × (free_entry f.old.table ≡ Some entry)) }
     ensures tree { f.new.tree ≡ f.old.tree }
     ensures line { f.new.line ≡ f.old.line }
     ensures pipes { f.new.pipes ≡ f.old.pipes }
@@ -103,6 +104,7 @@ fn open_ends(f: &mut Files, u: &mut UArea, ino: u16) -> Answer
     ensures referenced { 0 < slice_index f.new.tree.nodes.references ino }
     ensures blocks { f.new.tree.nodes.blocks ≡ f.old.tree.nodes.blocks }
 {
+    see_entries(&f.table);
     match add_ends(f, u, ino) {
         Ok((reading, writing)) => {
             refer_again(&mut f.tree.nodes, ino);
