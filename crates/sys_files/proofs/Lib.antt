@@ -12,7 +12,6 @@ pub mod DescriptorLemmas
 pub mod NumberLemmas
 pub mod AnyLemmas
 pub mod ClosedLemmas
-pub mod ReleasedLemmas
 pub mod ClosingLemmas
 pub mod StatusLemmas
 pub mod OpeningLemmas
