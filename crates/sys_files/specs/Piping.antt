@@ -1,5 +1,5 @@
 -- Pipes are made, read and written: pipe(II), read(II), write(II); Lions' Commentary, `pipe.c`.
-use Rattle.std.specs.Prelude.{ℕ, Bool, true, false, not, pos, ◌+◌, ◌-◌, ◌%◌, ◌&&◌, if◌then◌else◌, List, [], ◌∷◌, ◌++◌, Some, slice_set}
+use Rattle.std.specs.Prelude.{ℕ, true, false, not, pos, ◌+◌, ◌-◌, ◌%◌, ◌&&◌, if◌then◌else◌, List, [], ◌∷◌, ◌++◌, Some, slice_set}
 use Rattle.v6_base.specs.Trace.{Item, Log}
 use Rattle.v6_base.specs.declared.answer.Answer.TheVariants.{Ret, Fail, Sleep}
 use Rattle.v6_base.specs.declared.entry.Chan.{Chan}
