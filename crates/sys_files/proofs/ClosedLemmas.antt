@@ -1,7 +1,6 @@
 -- What dup and close keep.
 use Rattle.std.proofs.Common.{◌≡◌, ℕ, Bool, true, false, ◌+◌, ◌<◌, ◌≤◌, ◌==◌, List, [], length, Option, Some, None, is_some, IsSome, cond, eqb, slice_index, slice_set, refl, sym, ap, ◌∙◌, subst, arith}
 use Rattle.std.proofs.lemmas.Bool.{ne_eqb, eq-eqb, eqb-true, false≢true}
-use Rattle.std.proofs.lemmas.Option.{none-some, same_Some}
 use Rattle.std.proofs.lemmas.List.Quantifiers.{position-Some}
 use Rattle.v6_base.specs.declared.errno.Errno.TheVariants.{EBADF, EMFILE}
 use Rattle.fs_codec.specs.Store.{node_numbered}

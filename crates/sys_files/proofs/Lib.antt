@@ -3,6 +3,7 @@ pub mod KeptLemmas
 pub mod OwedLemmas
 pub mod PipeLemmas
 pub mod StayingLemmas
+pub mod ReleasedLemmas
 pub mod CheckLemmas
 pub mod AreaLemmas
 pub mod OwingLemmas
@@ -11,7 +12,6 @@ pub mod DescriptorLemmas
 pub mod NumberLemmas
 pub mod AnyLemmas
 pub mod ClosedLemmas
-pub mod ReleasedLemmas
 pub mod ClosingLemmas
 pub mod StatusLemmas
 pub mod OpeningLemmas
@@ -42,3 +42,6 @@ pub mod CoreLemmas
 pub mod PipeMovingLemmas
 pub mod PipeOpeningLemmas
 pub mod PipeMadeLemmas
+pub mod PartedWrites
+pub mod LoadedLemmas
+pub mod WritingLemmas

@@ -1,5 +1,5 @@
 -- The pipes that are open and their ends, when entries of the table and pipes change.
--- For calls that only touch entries: `pipes_changed`, `pipes_with_change` (dup, seek, read, write), `pipes_alike` (share, by `shared_at`), `pipes_opened` (open, creat).
+-- For calls that only touch entries: `pipes_changed`, `pipes_with_change` (dup, seek, read, write), `pipes_shared` (share), `pipes_opened` (open, creat).
 -- For close: `pipes_marked` and then `pipes_freed`, which takes all cases of an entry that is freed. For pipe: `pipes_made`, and `pipes_low` for room.
 -- For reads and writes of a pipe: `pipes_marked`, `with_pipe_place`, `with_pipe_same`, `place_ino`.
 use Rattle.std.proofs.Common.{◌≡◌, ◌≢◌, ◌⊎◌, ℕ, Bool, true, false, not, suc, ◌+◌, ◌-◌, ◌<◌, ◌≤◌, ◌==◌, ◌&&◌, List, [], ◌∷◌, ◌++◌, length, get_or, cond, count_by, Option, Some, None, is_some, slice_index_or, slice_set, refl, sym, ap, ◌∙◌, subst, inl, inr, arith}
@@ -11,7 +11,8 @@ use Rattle.std.proofs.lemmas.List.Edits.{length-remove, get_or-remove_below, get
 use Rattle.std.proofs.lemmas.List.Folds.{Any-from_list_any, list_any_at, position_or_len-set}
 use Rattle.std.proofs.lemmas.List.Sums.{passes_at_first, fails_before_first, position_or_len_is, count_by-le-length}
 use Rattle.open_files.specs.declared.file.OpenFile.{OpenFile}
-use Rattle.open_files.specs.Files.{file_at, changed, with_change}
+use Rattle.open_files.specs.Files.{file_at, changed, with_change, with_more, times, shared}
+use Rattle.open_files.proofs.FilesLemmas.{shared_at}
 use Rattle.pipe_ends.specs.declared.ends.Pipe.{Pipe}
 use Rattle.sys_files.specs.Pipes.{new_pipe, place_of, pipe_of, with_pipe, without_pipe, is_end_of, has_end, ArePipes}
 use Rattle.sys_files.proofs.OwedLemmas.{used_low, count_changed}
@@ -179,6 +180,11 @@ pipes_alike files new pipes change ino kind all are = pipes_over files new pipes
 
     back : (e : ℕ) (f : OpenFile) → file_at new e ≡ Some f → f.kind.pipe ≡ true → IsOpenEnd files f.ino
     back e f at pipe = from e (file_at files e) f refl (sym (all e) ∙ at) pipe
+
+-- Each number of a process is counted once more: share.
+pub pipes_shared : (files : List (Option OpenFile)) (pipes : List Pipe) (mine : List ℕ) → ArePipes files pipes → ArePipes (shared files mine) pipes
+pipes_shared files pipes mine are =
+    pipes_alike files (shared files mine) pipes (λ e. with_more (times mine e)) (λ e file. refl) (λ e file. refl) (shared_at files mine) are
 
 -- A change of the file of an entry, whether there is one or not, that leaves inode and kind: dup, seek, read, write.
 pub pipes_with_change : (files : List (Option OpenFile)) (pipes : List Pipe) (entry : ℕ) (change : OpenFile → OpenFile)

@@ -1,11 +1,12 @@
 -- Files of which other processes have numbers stay open where an entry is freed, where all entries change, and after a part of a call.
--- `stays_changed`: dup, and close where numbers are left. `stays_freed`: close of the last number. `stays_alike`: share. `stays_after`: one part of a call after another, as all numbers are closed.
+-- `stays_changed`: dup, and close where numbers are left. `stays_freed`: close of the last number. `stays_shared`: share. `stays_after`: one part of a call after another, as all numbers are closed.
 use Rattle.std.proofs.Common.{◌≡◌, ◌≢◌, ℕ, ◌+◌, ◌<◌, ◌≤◌, List, Option, Some, None, slice_set, refl, sym, ap, ◌∙◌, inl, inr, arith}
 use Rattle.std.proofs.lemmas.Bool.{cases_eq}
 use Rattle.std.proofs.lemmas.Option.{same_Some}
 use Rattle.std.proofs.lemmas.List.{get_or-set_same}
 use Rattle.open_files.specs.declared.file.OpenFile.{OpenFile}
-use Rattle.open_files.specs.Files.{file_at, times, changed}
+use Rattle.open_files.specs.Files.{file_at, times, changed, with_more, shared}
+use Rattle.open_files.proofs.FilesLemmas.{shared_at}
 use Rattle.sys_files.specs.Sound.{StaysOpen, numbers_of}
 use Rattle.sys_files.proofs.OwedLemmas.{used_low}
 use Rattle.sys_files.proofs.PipeLemmas.{set_other}
@@ -39,6 +40,11 @@ pub stays_alike : (files new : List (Option OpenFile)) (mine : List ℕ) (change
     → ((e : ℕ) → file_at new e ≡ changed (change e) (file_at files e)) → Stay files mine new
 stays_alike files new mine change ino kind all e f at fewer =
     record { now = change e f; there = all e ∙ ap (changed (change e)) at; ino = ino e f; kind = kind e f }
+
+-- Each number of a process is counted once more.
+pub stays_shared : (files : List (Option OpenFile)) (mine given : List ℕ) → Stay files mine (shared files given)
+stays_shared files mine given =
+    stays_alike files (shared files given) mine (λ e. with_more (times given e)) (λ e file. refl) (λ e file. refl) (shared_at files given)
 
 -- An entry is freed of which the process has all the numbers.
 pub stays_freed : (files : List (Option OpenFile)) (mine : List ℕ) (entry : ℕ) (file : OpenFile) → file_at files entry ≡ Some file → file.count ≤ times mine entry

@@ -1,9 +1,5 @@
-use Rattle.std.proofs.Common.{◌≡◌, List, ◌++◌, sym, ap, ◌∙◌}
-use Rattle.v6_base.specs.Trace.{Item}
+use Rattle.std.proofs.Common.{◌≡◌, ◌++◌, sym, ap, ◌∙◌}
 use Rattle.v6_base.proofs.Took.{took_then}
-use Rattle.v6_base.specs.Image.{Image}
-use Rattle.proc_tab.specs.declared.row.Row.{Row}
-use Rattle.u_area.specs.declared.area.UArea.{UArea}
 use Rattle.fs_tree.specs.Finding.{Inodes}
 use Rattle.open_files.specs.declared.file.Closed.{Closed}
 use Rattle.sys_files.specs.Handed.{Handed, handed, let_go}
