@@ -114,7 +114,7 @@ abbrev pub reads_pipe : Handed → ℕ → ℕ → ℕ → ℕ → Did
 reads_pipe h entry at count now =
     let r : PipeRead = pipe_read h entry at count now in
     after (woken_by_read (pipe_at h entry) r.pipe)
-        (ends_read (with_pipe_read h r) (pipe_at h entry).ino entry at count r.answer)
+    (ends_read (with_pipe_read h r) (pipe_at h entry).ino entry at count r.answer)
 
 -- Nobody can read any more: the process has a signal, and the call is refused.
 abbrev pub breaks : Handed → ℕ → Did
@@ -144,4 +144,4 @@ abbrev pub writes_pipe : Handed → ℕ → ℕ → ℕ → ℕ → ℕ → ℕ 
 writes_pipe h slot entry at count left now =
     let w : PipeWrite = pipe_write h entry at count left now in
     after (woken_by_write (pipe_at h entry) w.pipe)
-        (ends_write (with_pipe_write h w) slot (pipe_at h entry).ino entry at count w.answer)
+    (ends_write (with_pipe_write h w) slot (pipe_at h entry).ino entry at count w.answer)
