@@ -1,6 +1,8 @@
 -- The pipes that are open and their ends, when entries of the table and pipes change.
--- For calls that only touch entries: `pipes_changed`, `pipes_with_change` (dup, seek, read, write), `pipes_shared` (share), `pipes_opened` (open, creat).
--- For close: `pipes_marked` and then `pipes_freed`, which takes all cases of an entry that is freed. For pipe: `pipes_made`, and `pipes_low` for room.
+-- For calls that only touch entries: `pipes_changed`, `pipes_with_change` (dup, seek, read, write), `pipes_shared` (share),
+-- `pipes_opened` (open, creat).
+-- For close: `pipes_marked` and then `pipes_freed`, which takes all cases of an entry that is freed. For pipe: `pipes_made`, and
+-- `pipes_low` for room.
 -- For reads and writes of a pipe: `pipes_marked`, `with_pipe_place`, `with_pipe_same`, `place_ino`.
 use Rattle.std.proofs.Common.{◌≡◌, ◌≢◌, ◌⊎◌, ℕ, Bool, true, false, not, suc, ◌+◌, ◌-◌, ◌<◌, ◌≤◌, ◌==◌, ◌&&◌, List, [], ◌∷◌, ◌++◌, length, get_or, cond, count_by, Option, Some, None, is_some, slice_index_or, slice_set, refl, sym, ap, ◌∙◌, subst, inl, inr, arith}
 use Rattle.std.proofs.lemmas.Bool.{cases_lt, cases_eq, eqb-true, eq-eqb, ne_eqb, false≢true, and_from, and_parts, false_from_ne_true}
@@ -23,13 +25,16 @@ ino_at pipes i = (slice_index_or pipes i (new_pipe 0)).ino
 
 -- Where there is a pipe of an inode, the one at its place is of it.
 pub place_ino : (pipes : List Pipe) (ino : ℕ) → place_of pipes ino < length pipes → (pipe_of pipes ino).ino ≡ ino
-place_ino pipes ino low = eqb-true (pipe_of pipes ino).ino ino (passes_at_first (λ (p : Pipe). p.ino == ino) pipes (new_pipe 0) low)
+place_ino pipes ino low = eqb-true (pipe_of pipes ino).ino ino
+    (passes_at_first (λ (p : Pipe). p.ino == ino) pipes (new_pipe 0) low)
 
 -- A pipe of an inode that stands anywhere has a place.
 pub place_low : (pipes : List Pipe) (ino i : ℕ) → i < length pipes → ino_at pipes i ≡ ino → place_of pipes ino < length pipes
 place_low pipes ino i low is = elim (cases_lt (place_of pipes ino) (length pipes)) [
   | inl there ↦ there
-  | inr past ↦ absurd (false≢true (sym (fails_before_first (λ (p : Pipe). p.ino == ino) pipes i (new_pipe 0) (omega (arith, low, past))) ∙ eq-eqb (ino_at pipes i) ino is))
+  | inr past ↦ absurd (false≢true
+      (sym (fails_before_first (λ (p : Pipe). p.ino == ino) pipes i (new_pipe 0) (omega (arith, low, past)))
+      ∙ eq-eqb (ino_at pipes i) ino is))
 ]
 
 -- no two pipes are of one inode
@@ -42,7 +47,8 @@ apart_once pipes once i j low short same = sym (once i low) ∙ ap (place_of pip
 pub once_apart : (pipes : List Pipe) → AreApart pipes → (i : ℕ) → i < length pipes → place_of pipes (ino_at pipes i) ≡ i
 once_apart pipes apart i low =
     position_or_len_is (λ (p : Pipe). p.ino == ino_at pipes i) pipes i (new_pipe 0) (omega (arith, low))
-    (λ k below. ne_eqb (ino_at pipes k) (ino_at pipes i) (λ same. let is = apart k i (omega (arith, low, below)) low same in omega (arith, is, below)))
+    (λ k below. ne_eqb (ino_at pipes k) (ino_at pipes i)
+    (λ same. let is = apart k i (omega (arith, low, below)) low same in omega (arith, is, below)))
     (λ here. eq-eqb (ino_at pipes i) (ino_at pipes i) refl)
 
 -- An end of the pipe of an inode is open.
@@ -71,10 +77,12 @@ end_found files ino has = let any = Any-from_list_any (is_end_of ino) files has 
 pub end_has : (files : List (Option OpenFile)) (ino : ℕ) → IsOpenEnd files ino → has_end files ino ≡ true
 end_has files ino end =
     list_any_at (is_end_of ino) files end.entry None (used_low files end.entry end.file end.there)
-    (ap (is_end_of ino) end.there ∙ and_from end.file.kind.pipe (end.file.ino == ino) end.pipe (eq-eqb end.file.ino ino end.same))
+    (ap (is_end_of ino) end.there ∙ and_from end.file.kind.pipe (end.file.ino == ino) end.pipe
+    (eq-eqb end.file.ino ino end.same))
 
 -- An end that is open, by its own inode.
-pub end_here : (files : List (Option OpenFile)) (entry : ℕ) (file : OpenFile) → file_at files entry ≡ Some file → file.kind.pipe ≡ true → IsOpenEnd files file.ino
+pub end_here : (files : List (Option OpenFile)) (entry : ℕ) (file : OpenFile) → file_at files entry ≡ Some file
+    → file.kind.pipe ≡ true → IsOpenEnd files file.ino
 end_here files entry file is pipe = record { entry = entry; file = file; there = is; pipe = pipe; same = refl }
 
 -- The pipes stay as they are, where each end that was open has one of its inode now, and each that is open now had one.
@@ -95,25 +103,32 @@ pipes_over files new pipes forth back are = record {
 }
 
 -- What stands in a table of which one entry is another.
-pub set_cases : (files : List (Option OpenFile)) (entry e : ℕ) (o : Option OpenFile) (file : OpenFile) → file_at (slice_set files entry o) e ≡ Some file
+pub set_cases : (files : List (Option OpenFile)) (entry e : ℕ) (o : Option OpenFile) (file : OpenFile)
+    → file_at (slice_set files entry o) e ≡ Some file
     → ((e ≡ entry) × (entry < length files) × (o ≡ Some file)) ⊎ ((e ≢ entry) × (file_at files e ≡ Some file))
 set_cases files entry e o file is = elim (cases_eq e entry) [
   | inl same ↦
-      let low : entry < length files = (let short = used_low (slice_set files entry o) e file is in let long = length-set files entry o in omega (arith, short, long, same)) in
+      let low : entry < length files =
+      (let short = used_low (slice_set files entry o) e file is in let long = length-set files entry o in
+      omega (arith, short, long, same)) in
       inl (same, low, sym (get_or-set_same files entry o None low) ∙ (ap (file_at (slice_set files entry o)) (sym same) ∙ is))
   | inr other ↦ inr (other, sym (get_or-set_other files entry e o None other) ∙ is)
 ]
 
 -- An entry that is another in each table is the same as before in the rest.
-pub set_other : (files : List (Option OpenFile)) (entry e : ℕ) (o : Option OpenFile) (file : OpenFile) → e ≢ entry → file_at files e ≡ Some file → file_at (slice_set files entry o) e ≡ Some file
+pub set_other : (files : List (Option OpenFile)) (entry e : ℕ) (o : Option OpenFile) (file : OpenFile) → e ≢ entry
+    → file_at files e ≡ Some file → file_at (slice_set files entry o) e ≡ Some file
 set_other files entry e o file other is = get_or-set_other files entry e o None other ∙ is
 
 -- An entry that is in use is not the one that is free.
-pub free_other : (files : List (Option OpenFile)) (entry e : ℕ) (file : OpenFile) → file_at files entry ≡ None → file_at files e ≡ Some file → e ≢ entry
+pub free_other : (files : List (Option OpenFile)) (entry e : ℕ) (file : OpenFile) → file_at files entry ≡ None
+    → file_at files e ≡ Some file → e ≢ entry
 free_other files entry e file free is same = none-some file (sym free ∙ (ap (file_at files) (sym same) ∙ is))
 
--- A file changes in its entry, and stays one of its inode and its kind: dup, seek, read, write, and close where numbers are left.
-pub pipes_changed : (files : List (Option OpenFile)) (pipes : List Pipe) (entry : ℕ) (file now : OpenFile) → file_at files entry ≡ Some file
+-- A file changes in its entry, and stays one of its inode and its kind: dup, seek, read, write, and close where numbers are
+-- left.
+pub pipes_changed : (files : List (Option OpenFile)) (pipes : List Pipe) (entry : ℕ) (file now : OpenFile)
+    → file_at files entry ≡ Some file
     → now.ino ≡ file.ino → now.kind ≡ file.kind → ArePipes files pipes → ArePipes (slice_set files entry (Some now)) pipes
 pipes_changed files pipes entry file now is ino kind are = pipes_over files new pipes forth back are
   where
@@ -153,7 +168,8 @@ pipes_changed files pipes entry file now is ino kind are = pipes_over files new 
 
 -- The same for a table in which each entry has what a change makes of it that leaves inode and kind: share.
 pub pipes_alike : (files new : List (Option OpenFile)) (pipes : List Pipe) (change : ℕ → OpenFile → OpenFile)
-    → ((e : ℕ) (file : OpenFile) → (change e file).ino ≡ file.ino) → ((e : ℕ) (file : OpenFile) → (change e file).kind ≡ file.kind)
+    → ((e : ℕ) (file : OpenFile) → (change e file).ino ≡ file.ino)
+    → ((e : ℕ) (file : OpenFile) → (change e file).kind ≡ file.kind)
     → ((e : ℕ) → file_at new e ≡ changed (change e) (file_at files e)) → ArePipes files pipes → ArePipes new pipes
 pipes_alike files new pipes change ino kind all are = pipes_over files new pipes forth back are
   where
@@ -166,7 +182,8 @@ pipes_alike files new pipes change ino kind all are = pipes_over files new pipes
       same = ino e f;
     }
 
-    from : (e : ℕ) (o : Option OpenFile) (f : OpenFile) → file_at files e ≡ o → changed (change e) o ≡ Some f → f.kind.pipe ≡ true → IsOpenEnd files f.ino
+    from : (e : ℕ) (o : Option OpenFile) (f : OpenFile) → file_at files e ≡ o → changed (change e) o ≡ Some f
+        → f.kind.pipe ≡ true → IsOpenEnd files f.ino
     from e (Some file) f at is pipe =
         let same : change e file ≡ f = same_Some (change e file) f is in
         record {
@@ -182,9 +199,11 @@ pipes_alike files new pipes change ino kind all are = pipes_over files new pipes
     back e f at pipe = from e (file_at files e) f refl (sym (all e) ∙ at) pipe
 
 -- Each number of a process is counted once more: share.
-pub pipes_shared : (files : List (Option OpenFile)) (pipes : List Pipe) (mine : List ℕ) → ArePipes files pipes → ArePipes (shared files mine) pipes
+pub pipes_shared : (files : List (Option OpenFile)) (pipes : List Pipe) (mine : List ℕ) → ArePipes files pipes
+    → ArePipes (shared files mine) pipes
 pipes_shared files pipes mine are =
-    pipes_alike files (shared files mine) pipes (λ e. with_more (times mine e)) (λ e file. refl) (λ e file. refl) (shared_at files mine) are
+    pipes_alike files (shared files mine) pipes (λ e. with_more (times mine e)) (λ e file. refl) (λ e file. refl)
+    (shared_at files mine) are
 
 -- A change of the file of an entry, whether there is one or not, that leaves inode and kind: dup, seek, read, write.
 pub pipes_with_change : (files : List (Option OpenFile)) (pipes : List Pipe) (entry : ℕ) (change : OpenFile → OpenFile)
@@ -195,7 +214,8 @@ pipes_with_change files pipes entry change ino kind are = by (file_at files entr
     by : (o : Option OpenFile) → file_at files entry ≡ o → ArePipes (slice_set files entry (changed change o)) pipes
     by (Some file) is = pipes_changed files pipes entry file (change file) is (ino file) (kind file) are
     by None is = pipes_over files (slice_set files entry None) pipes
-        (λ e f at pipe. end_here (slice_set files entry None) e f (set_other files entry e None f (free_other files entry e f is at) at) pipe)
+        (λ e f at pipe. end_here (slice_set files entry None) e f
+        (set_other files entry e None f (free_other files entry e f is at) at) pipe)
         (λ e f at pipe. elim (set_cases files entry e None f at) [
           | inl own ↦ absurd (none-some f own.2)
           | inr other ↦ end_here files e f other.1 pipe
@@ -204,9 +224,11 @@ pipes_with_change files pipes entry change ino kind are = by (file_at files entr
 
 -- An entry that was free has a file now, which is no pipe or the second end of one.
 opened_kept : (files : List (Option OpenFile)) (pipes : List Pipe) (entry : ℕ) (file : OpenFile) → file_at files entry ≡ None
-    → (file.kind.pipe ≡ true → IsOpenEnd files file.ino) → ArePipes files pipes → ArePipes (slice_set files entry (Some file)) pipes
+    → (file.kind.pipe ≡ true → IsOpenEnd files file.ino) → ArePipes files pipes
+    → ArePipes (slice_set files entry (Some file)) pipes
 opened_kept files pipes entry file free first are = pipes_over files (slice_set files entry (Some file)) pipes
-    (λ e f at pipe. end_here (slice_set files entry (Some file)) e f (set_other files entry e (Some file) f (free_other files entry e f free at) at) pipe)
+    (λ e f at pipe. end_here (slice_set files entry (Some file)) e f
+    (set_other files entry e (Some file) f (free_other files entry e f free at) at) pipe)
     (λ e f at pipe. elim (set_cases files entry e (Some file) f at) [
       | inl own ↦
           let P : OpenFile → Type 0 = λ x. x.kind.pipe ≡ true → IsOpenEnd files x.ino in
@@ -216,7 +238,8 @@ opened_kept files pipes entry file free first are = pipes_over files (slice_set 
     are
 
 -- A file that is no pipe is opened in an entry that was free: open, creat.
-pub pipes_opened : (files : List (Option OpenFile)) (pipes : List Pipe) (entry : ℕ) (file : OpenFile) → file_at files entry ≡ None → file.kind.pipe ≡ false
+pub pipes_opened : (files : List (Option OpenFile)) (pipes : List Pipe) (entry : ℕ) (file : OpenFile)
+    → file_at files entry ≡ None → file.kind.pipe ≡ false
     → ArePipes files pipes → ArePipes (slice_set files entry (Some file)) pipes
 pipes_opened files pipes entry file free plain are =
     opened_kept files pipes entry file free (λ pipe. absurd (false≢true (sym plain ∙ pipe))) are
@@ -224,7 +247,8 @@ pipes_opened files pipes entry file free plain are =
 -- A pipe changes in its place, by its inode: the places of all stay.
 pub with_pipe_place : (pipes : List Pipe) (p : Pipe) (ino : ℕ) → place_of (with_pipe pipes p) ino ≡ place_of pipes ino
 with_pipe_place pipes p ino = elim (cases_lt (place_of pipes p.ino) (length pipes)) [
-  | inl low ↦ position_or_len-set (λ (q : Pipe). q.ino == ino) pipes (place_of pipes p.ino) p (new_pipe 0) (ap (λ i. i == ino) (sym (place_ino pipes p.ino low)))
+  | inl low ↦ position_or_len-set (λ (q : Pipe). q.ino == ino) pipes (place_of pipes p.ino) p (new_pipe 0)
+      (ap (λ i. i == ino) (sym (place_ino pipes p.ino low)))
   | inr past ↦ ap (λ l. place_of l ino) (set_past pipes (place_of pipes p.ino) p past)
 ]
 
@@ -234,7 +258,8 @@ with_pipe_long pipes p = length-set pipes (place_of pipes p.ino) p
 -- It is the pipe of its inode then, and the pipes of other inodes are as they were.
 pub with_pipe_same : (pipes : List Pipe) (p : Pipe) → place_of pipes p.ino < length pipes → pipe_of (with_pipe pipes p) p.ino ≡ p
 with_pipe_same pipes p low =
-    ap (λ k. slice_index_or (with_pipe pipes p) k (new_pipe 0)) (with_pipe_place pipes p p.ino) ∙ get_or-set_same pipes (place_of pipes p.ino) p (new_pipe 0) low
+    ap (λ k. slice_index_or (with_pipe pipes p) k (new_pipe 0)) (with_pipe_place pipes p p.ino)
+    ∙ get_or-set_same pipes (place_of pipes p.ino) p (new_pipe 0) low
 
 with_pipe_ino : (pipes : List Pipe) (p : Pipe) (i : ℕ) → ino_at (with_pipe pipes p) i ≡ ino_at pipes i
 with_pipe_ino pipes p i = elim (cases_lt (place_of pipes p.ino) (length pipes)) [
@@ -249,18 +274,22 @@ with_pipe_ino pipes p i = elim (cases_lt (place_of pipes p.ino) (length pipes)) 
 ]
 
 -- A pipe changes in its place: marks and offsets, in close, read and write.
-pub pipes_marked : (files : List (Option OpenFile)) (pipes : List Pipe) (p : Pipe) → ArePipes files pipes → ArePipes files (with_pipe pipes p)
+pub pipes_marked : (files : List (Option OpenFile)) (pipes : List Pipe) (p : Pipe) → ArePipes files pipes
+    → ArePipes files (with_pipe pipes p)
 pipes_marked files pipes p are =
     let long = with_pipe_long pipes p in
     record {
-      there = λ entry file is pipe. let low = are.there entry file is pipe in let place = with_pipe_place pipes p file.ino in omega (arith, low, place, long);
+      there = λ entry file is pipe. let low = are.there entry file is pipe in let place = with_pipe_place pipes p file.ino in
+          omega (arith, low, place, long);
       ended = λ i low. ap (has_end files) (with_pipe_ino pipes p i) ∙ are.ended i (omega (arith, low, long));
-      once = λ i low. with_pipe_place pipes p (ino_at (with_pipe pipes p) i) ∙ (ap (place_of pipes) (with_pipe_ino pipes p i) ∙ are.once i (omega (arith, low, long)));
+      once = λ i low. with_pipe_place pipes p (ino_at (with_pipe pipes p) i)
+          ∙ (ap (place_of pipes) (with_pipe_ino pipes p i) ∙ are.once i (omega (arith, low, long)));
     }
 
 -- A file that is no pipe leaves its entry free, or a pipe of which an end is open still.
 freed_kept : (files : List (Option OpenFile)) (pipes : List Pipe) (entry : ℕ) (file : OpenFile) → file_at files entry ≡ Some file
-    → (file.kind.pipe ≡ true → IsOpenEnd (slice_set files entry None) file.ino) → ArePipes files pipes → ArePipes (slice_set files entry None) pipes
+    → (file.kind.pipe ≡ true → IsOpenEnd (slice_set files entry None) file.ino) → ArePipes files pipes
+    → ArePipes (slice_set files entry None) pipes
 freed_kept files pipes entry file is rest are = pipes_over files (slice_set files entry None) pipes
     (λ e f at pipe. elim (cases_eq e entry) [
       | inl same ↦
@@ -316,7 +345,8 @@ module _ (pipes : List Pipe) (ino : ℕ) (there : place_of pipes ino < length pi
       by (inr x) (inr y) = omega (arith, same, x.0, y.0)
 
   -- Each other pipe is there still.
-  others_there : (k : ℕ) → k < length pipes → k ≢ place_of pipes ino → place_of (without_pipe pipes ino) (ino_at pipes k) < length (without_pipe pipes ino)
+  others_there : (k : ℕ) → k < length pipes → k ≢ place_of pipes ino
+      → place_of (without_pipe pipes ino) (ino_at pipes k) < length (without_pipe pipes ino)
   others_there k short other = elim (cases_lt k (place_of pipes ino)) [
     | inl below ↦ place_low (without_pipe pipes ino) (ino_at pipes k) k (omega (arith, below, there, one_less))
         (ap (λ (q : Pipe). q.ino) (get_or-remove_below pipes (place_of pipes ino) (new_pipe 0) k below there))
@@ -324,13 +354,16 @@ module _ (pipes : List Pipe) (ino : ℕ) (there : place_of pipes ino < length pi
         let later : place_of pipes ino ≢ k = (λ same. other (sym same)) in
         let after : place_of pipes ino < k = omega (arith, above, later) in
         place_low (without_pipe pipes ino) (ino_at pipes k) (k - 1) (omega (arith, after, short, one_less))
-        (ap (λ (q : Pipe). q.ino) (get_or-remove_above pipes (place_of pipes ino) (new_pipe 0) (k - 1) (omega (arith, after)) there)
+        (ap (λ (q : Pipe). q.ino) (get_or-remove_above pipes (place_of pipes ino) (new_pipe 0) (k - 1)
+        (omega (arith, after)) there)
         ∙ ap (ino_at pipes) (omega (arith, after)))
   ]
 
 -- The last end of a pipe leaves its entry free, and the pipe is gone.
-freed_gone : (files : List (Option OpenFile)) (pipes : List Pipe) (entry : ℕ) (file : OpenFile) → file_at files entry ≡ Some file → file.kind.pipe ≡ true
-    → has_end (slice_set files entry None) file.ino ≡ false → ArePipes files pipes → ArePipes (slice_set files entry None) (without_pipe pipes file.ino)
+freed_gone : (files : List (Option OpenFile)) (pipes : List Pipe) (entry : ℕ) (file : OpenFile)
+    → file_at files entry ≡ Some file → file.kind.pipe ≡ true
+    → has_end (slice_set files entry None) file.ino ≡ false → ArePipes files pipes
+    → ArePipes (slice_set files entry None) (without_pipe pipes file.ino)
 freed_gone files pipes entry file is pipe none are =
     let new : List (Option OpenFile) = slice_set files entry None in
     let there = are.there entry file is pipe in
@@ -345,16 +378,24 @@ freed_gone files pipes entry file is pipe none are =
             let P : ℕ → Type 0 = λ i. place_of (without_pipe pipes file.ino) i < length (without_pipe pipes file.ino) in
             subst P is_of (others_there pipes file.ino there (place_of pipes f.ino) short (λ same.
             let alike : file.ino ≡ f.ino = sym own ∙ (ap (ino_at pipes) (sym same) ∙ is_of) in
-            false≢true (sym none ∙ end_has new file.ino (record { entry = e; file = f; there = at; pipe = end; same = sym alike }))))
+            false≢true (sym none ∙ end_has new file.ino
+            (record { entry = e; file = f; there = at; pipe = end; same = sym alike }))))
       ];
       ended = λ i low.
           let r = remains pipes file.ino there i low in
           let end = end_found files (ino_at pipes r.was) (are.ended r.was r.low) in
           let here : end.entry ≢ entry = (λ same.
           let was : file ≡ end.file = same_Some file end.file (sym is ∙ (ap (file_at files) (sym same) ∙ end.there)) in
-          r.other (apart r.was (place_of pipes file.ino) r.low there (sym end.same ∙ (sym (ap (λ (x : OpenFile). x.ino) was) ∙ sym own)))) in
+          r.other (apart r.was (place_of pipes file.ino) r.low there
+          (sym end.same ∙ (sym (ap (λ (x : OpenFile). x.ino) was) ∙ sym own)))) in
           ap (has_end new) r.same ∙ end_has new (ino_at pipes r.was)
-          (record { entry = end.entry; file = end.file; there = set_other files entry end.entry None end.file here end.there; pipe = end.pipe; same = end.same });
+          (record {
+            entry = end.entry;
+            file = end.file;
+            there = set_other files entry end.entry None end.file here end.there;
+            pipe = end.pipe;
+            same = end.same;
+          });
       once = once_apart (without_pipe pipes file.ino) (λ i j low short same.
           let a = remains pipes file.ino there i low in
           let b = remains pipes file.ino there j short in
@@ -362,8 +403,10 @@ freed_gone files pipes entry file is pipe none are =
     }
 
 -- An entry is freed with the last number of its file, and its pipe goes with the last of its ends.
-pub pipes_freed : (files : List (Option OpenFile)) (pipes : List Pipe) (entry : ℕ) (file : OpenFile) → file_at files entry ≡ Some file → ArePipes files pipes
-    → ArePipes (slice_set files entry None) (cond (file.kind.pipe && not (has_end (slice_set files entry None) file.ino)) (without_pipe pipes file.ino) pipes)
+pub pipes_freed : (files : List (Option OpenFile)) (pipes : List Pipe) (entry : ℕ) (file : OpenFile)
+    → file_at files entry ≡ Some file → ArePipes files pipes
+    → ArePipes (slice_set files entry None)
+    (cond (file.kind.pipe && not (has_end (slice_set files entry None) file.ino)) (without_pipe pipes file.ino) pipes)
 pipes_freed files pipes entry file is are = by file.kind.pipe (has_end (slice_set files entry None) file.ino) refl refl
   where
     by : (t b : Bool) → file.kind.pipe ≡ t → has_end (slice_set files entry None) file.ino ≡ b
@@ -373,7 +416,8 @@ pipes_freed files pipes entry file is are = by file.kind.pipe (has_end (slice_se
     by false b plain has = freed_kept files pipes entry file is (λ pipe. absurd (false≢true (sym plain ∙ pipe))) are
 
 -- A pipe is made, and its first end is opened in an entry that was free: no end of its inode was open.
-module _ (files : List (Option OpenFile)) (pipes : List Pipe) (entry : ℕ) (file : OpenFile) (low : entry < length files) (free : file_at files entry ≡ None)
+module _ (files : List (Option OpenFile)) (pipes : List Pipe) (entry : ℕ) (file : OpenFile) (low : entry < length files)
+    (free : file_at files entry ≡ None)
     (pipe : file.kind.pipe ≡ true) (fresh : has_end files file.ino ≡ false) (are : ArePipes files pipes) where
   abbrev more : List Pipe
   more = pipes ++ new_pipe file.ino ∷ []
@@ -404,7 +448,8 @@ module _ (files : List (Option OpenFile)) (pipes : List Pipe) (entry : ℕ) (fil
           ((last (length pipes) short (omega arith)).1 ∙ ap (λ (x : OpenFile). x.ino) (same_Some file f own.2))
       | inr other ↦
           let there = are.there e f other.1 end in
-          place_low more f.ino (place_of pipes f.ino) (omega (arith, there, one_more)) (before (place_of pipes f.ino) there ∙ place_ino pipes f.ino there)
+          place_low more f.ino (place_of pipes f.ino) (omega (arith, there, one_more))
+          (before (place_of pipes f.ino) there ∙ place_ino pipes f.ino there)
     ];
     ended = λ i short. elim (cases_lt i (length pipes)) [
       | inl below ↦
@@ -412,11 +457,13 @@ module _ (files : List (Option OpenFile)) (pipes : List Pipe) (entry : ℕ) (fil
           ap (has_end new) (before i below) ∙ end_has new (ino_at pipes i) (record {
             entry = end.entry;
             file = end.file;
-            there = set_other files entry end.entry (Some file) end.file (free_other files entry end.entry end.file free end.there) end.there;
+            there = set_other files entry end.entry (Some file) end.file
+                (free_other files entry end.entry end.file free end.there) end.there;
             pipe = end.pipe;
             same = end.same;
           })
-      | inr past ↦ ap (has_end new) (last i short past).1 ∙ end_has new file.ino (end_here new entry file (get_or-set_same files entry (Some file) None low) pipe)
+      | inr past ↦ ap (has_end new) (last i short past).1
+          ∙ end_has new file.ino (end_here new entry file (get_or-set_same files entry (Some file) None low) pipe)
     ];
     once = once_apart more (λ i j short near same. elim (cases_lt i (length pipes)) [
       | inl below ↦ elim (cases_lt j (length pipes)) [
@@ -444,11 +491,14 @@ pipes_made files pipes ino first second reads writes low free of_it pipe next of
     (subst P of_it (made_first files pipes first reads low free pipe (ap (has_end files) of_it ∙ fresh) are))
 
 -- Where no open file is of an inode, no end of its pipe is open.
-pub no_end : (files : List (Option OpenFile)) (ino : ℕ) → ((entry : ℕ) (file : OpenFile) → file_at files entry ≡ Some file → file.ino ≢ ino) → has_end files ino ≡ false
-no_end files ino none = false_from_ne_true (has_end files ino) (λ has. let end = end_found files ino has in none end.entry end.file end.there end.same)
+pub no_end : (files : List (Option OpenFile)) (ino : ℕ)
+    → ((entry : ℕ) (file : OpenFile) → file_at files entry ≡ Some file → file.ino ≢ ino) → has_end files ino ≡ false
+no_end files ino none = false_from_ne_true (has_end files ino)
+    (λ has. let end = end_found files ino has in none end.entry end.file end.there end.same)
 
 -- Each pipe has an entry of its own, which is in use.
-few_ends : (pipes : List Pipe) (files : List (Option OpenFile)) → ((i : ℕ) → i < length pipes → IsOpenEnd files (ino_at pipes i)) → AreApart pipes
+few_ends : (pipes : List Pipe) (files : List (Option OpenFile))
+    → ((i : ℕ) → i < length pipes → IsOpenEnd files (ino_at pipes i)) → AreApart pipes
     → length pipes ≤ count_by is_some files
 few_ends [] files all apart = omega arith
 few_ends (p ∷ rest) files all apart =
@@ -461,22 +511,38 @@ few_ends (p ∷ rest) files all apart =
     let own = all (suc i) (omega (arith, low)) in
     let other : own.entry ≢ end.entry = (λ same.
     let alike : own.file ≡ end.file = same_Some own.file end.file (sym own.there ∙ (ap (file_at files) same ∙ end.there)) in
-    let is = apart (suc i) 0 (omega (arith, low)) (omega arith) (sym own.same ∙ (ap (λ (x : OpenFile). x.ino) alike ∙ end.same)) in
+    let is = apart (suc i) 0 (omega (arith, low)) (omega arith)
+    (sym own.same ∙ (ap (λ (x : OpenFile). x.ino) alike ∙ end.same)) in
     omega (arith, is)) in
-    record { entry = own.entry; file = own.file; there = set_other files end.entry own.entry None own.file other own.there; pipe = own.pipe; same = own.same })
-    (λ i j low short same. let is = apart (suc i) (suc j) (omega (arith, low)) (omega (arith, short)) same in omega (arith, is)) in
+    record {
+      entry = own.entry;
+      file = own.file;
+      there = set_other files end.entry own.entry None own.file other own.there;
+      pipe = own.pipe;
+      same = own.same;
+    })
+    (λ i j low short same. let is = apart (suc i) (suc j) (omega (arith, low)) (omega (arith, short)) same in
+    omega (arith, is)) in
     omega (arith, others, less, was)
 
 -- There are no more pipes than entries in use.
-pub pipes_few : (files : List (Option OpenFile)) (pipes : List Pipe) → ArePipes files pipes → length pipes ≤ count_by is_some files
-pipes_few files pipes are = few_ends pipes files (λ i low. end_found files (ino_at pipes i) (are.ended i low)) (apart_once pipes are.once)
+pub pipes_few : (files : List (Option OpenFile)) (pipes : List Pipe) → ArePipes files pipes
+    → length pipes ≤ count_by is_some files
+pipes_few files pipes are = few_ends pipes files (λ i low. end_found files (ino_at pipes i) (are.ended i low))
+    (apart_once pipes are.once)
 
 -- There is room for one more pipe where an entry is free.
-pub pipes_low : (files : List (Option OpenFile)) (pipes : List Pipe) (entry : ℕ) → entry < length files → file_at files entry ≡ None → ArePipes files pipes
+pub pipes_low : (files : List (Option OpenFile)) (pipes : List Pipe) (entry : ℕ) → entry < length files
+    → file_at files entry ≡ None → ArePipes files pipes
     → length pipes < length files
 pipes_low files pipes entry low free are =
     let few = pipes_few files pipes are in
-    let used : OpenFile = record { ino = 0; kind = record { reading = false; writing = false; pipe = false }; offset = 0; count = 0 } in
+    let used : OpenFile = record {
+      ino = 0;
+      kind = record { reading = false; writing = false; pipe = false };
+      offset = 0;
+      count = 0;
+    } in
     let more = count_changed is_some files entry (Some used) None low in
     let was : cond {A = ℕ} (is_some (file_at files entry)) 1 0 ≡ 0 = ap (λ o. cond {A = ℕ} (is_some o) 1 0) free in
     let most = count_by-le-length is_some (slice_set files entry (Some used)) in
@@ -485,4 +551,5 @@ pipes_low files pipes entry low free are =
 
 -- There are no more pipes than entries.
 pub pipes_most : (files : List (Option OpenFile)) (pipes : List Pipe) → ArePipes files pipes → length pipes ≤ length files
-pipes_most files pipes are = let few = pipes_few files pipes are in let most = count_by-le-length is_some files in omega (arith, few, most)
+pipes_most files pipes are = let few = pipes_few files pipes are in let most = count_by-le-length is_some files in
+    omega (arith, few, most)

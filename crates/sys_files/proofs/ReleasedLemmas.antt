@@ -42,12 +42,15 @@ released_still h file = roused_is h file
 
 -- Where it is freed the line may be another, and a reference goes.
 pub released_last : (h : Handed) (file : OpenFile)
-    → (released h (Last file)).state ≡ let_go (record h { pipes = gone h.files (roused h.pipes file) file; line = (with_closed h file).line }) file.ino
+    → (released h (Last file)).state ≡ let_go
+    (record h { pipes = gone h.files (roused h.pipes file) file; line = (with_closed h file).line }) file.ino
 released_last h file =
-    ap (λ (k : Handed). let_go (with_closed k file) file.ino) (ap (λ (k : Handed). with_gone k file) (roused_is h file) ∙ gone_is (record h { pipes = roused h.pipes file }) file)
+    ap (λ (k : Handed). let_go (with_closed k file) file.ino)
+    (ap (λ (k : Handed). with_gone k file) (roused_is h file) ∙ gone_is (record h { pipes = roused h.pipes file }) file)
 
 -- The marks of a pipe change nothing of which pipes there are.
-pub pipes_roused : (files : List (Option OpenFile)) (pipes : List Pipe) (file : OpenFile) → ArePipes files pipes → ArePipes files (roused pipes file)
+pub pipes_roused : (files : List (Option OpenFile)) (pipes : List Pipe) (file : OpenFile) → ArePipes files pipes
+    → ArePipes files (roused pipes file)
 pipes_roused files pipes file are = by file.kind.pipe
   where
     next : Pipe
@@ -58,8 +61,10 @@ pipes_roused files pipes file are = by file.kind.pipe
     by false = are
 
 -- An entry is freed, whose file is told of by one of its inode and its kind.
-pub pipes_gone : (files : List (Option OpenFile)) (pipes : List Pipe) (entry : ℕ) (file : OpenFile) → file_at files entry ≡ Some file → ArePipes files pipes
-    → ArePipes (slice_set files entry None) (gone (slice_set files entry None) (roused pipes (with_fewer file)) (with_fewer file))
+pub pipes_gone : (files : List (Option OpenFile)) (pipes : List Pipe) (entry : ℕ) (file : OpenFile)
+    → file_at files entry ≡ Some file → ArePipes files pipes
+    → ArePipes (slice_set files entry None)
+    (gone (slice_set files entry None) (roused pipes (with_fewer file)) (with_fewer file))
 pipes_gone files pipes entry file is are =
     pipes_freed files (roused pipes (with_fewer file)) entry file is (pipes_roused files pipes (with_fewer file) are)
 
@@ -67,7 +72,8 @@ pipes_gone files pipes entry file is are =
 told_file : (file told : OpenFile) → (closed file ≡ Still told) ⊎ (closed file ≡ Last told) → told ≡ with_fewer file
 told_file file told is = by (file.count == 1) is
   where
-    by : (t : Bool) → (cond t (Last (with_fewer file)) (Still (with_fewer file)) ≡ Still told) ⊎ (cond t (Last (with_fewer file)) (Still (with_fewer file)) ≡ Last told)
+    by : (t : Bool) → (cond t (Last (with_fewer file)) (Still (with_fewer file)) ≡ Still told) ⊎
+        (cond t (Last (with_fewer file)) (Still (with_fewer file)) ≡ Last told)
         → told ≡ with_fewer file
     by true (inl is) = absurd (cc)
     by true (inr is) = cc
@@ -75,8 +81,10 @@ told_file file told is = by (file.count == 1) is
     by false (inr is) = absurd (cc)
 
 -- The pipe of an end that is let go is there.
-pub told_there : (files : List (Option OpenFile)) (pipes : List Pipe) (entry : ℕ) (file told : OpenFile) → file_at files entry ≡ Some file
-    → (closed file ≡ Still told) ⊎ (closed file ≡ Last told) → ArePipes files pipes → told.kind.pipe ≡ true → place_of pipes told.ino < length pipes
+pub told_there : (files : List (Option OpenFile)) (pipes : List Pipe) (entry : ℕ) (file told : OpenFile)
+    → file_at files entry ≡ Some file
+    → (closed file ≡ Still told) ⊎ (closed file ≡ Last told) → ArePipes files pipes → told.kind.pipe ≡ true
+    → place_of pipes told.ino < length pipes
 told_there files pipes entry file told is which are =
     let P : OpenFile → Type 0 = λ x. x.kind.pipe ≡ true → place_of pipes x.ino < length pipes in
     subst P (sym (told_file file told which)) (are.there entry file is)

@@ -16,8 +16,10 @@ returns-in-Still-clause-state g c = λ u row image.
 
 pub returns-in-Last-clause-state : goal.returns-in-Last-clause-state
 returns-in-Last-clause-state g c = λ u row image.
-    let rest : handed c.drop_pipe.new.f u row image ≡ with_gone (with_roused (handed c.args.f.now u row image) c.in-Last.file) c.in-Last.file =
-        c.drop_pipe.ensures.state u row image ∙ ap (λ (k : Handed). with_gone k c.in-Last.file) (c.rouse_pipe-in-Last.ensures.state u row image) in
+    let rest : handed c.drop_pipe.new.f u row image ≡ with_gone
+    (with_roused (handed c.args.f.now u row image) c.in-Last.file) c.in-Last.file =
+    c.drop_pipe.ensures.state u row image
+    ∙ ap (λ (k : Handed). with_gone k c.in-Last.file) (c.rouse_pipe-in-Last.ensures.state u row image) in
     ap (λ (n : Inodes). record (handed c.close_console.new.f u row image) { inodes = n }) c.let_go.ensures.inodes
     ∙ ap (λ (k : Handed). let_go k c.in-Last.file.ino) (c.close_console.ensures.state u row image)
     ∙ ap (λ (k : Handed). let_go (with_closed k c.in-Last.file) c.in-Last.file.ino) rest
@@ -25,8 +27,10 @@ returns-in-Last-clause-state g c = λ u row image.
 
 pub returns-in-Last-clause-items : goal.returns-in-Last-clause-items
 returns-in-Last-clause-items g c = λ u row image.
-    let rest : handed c.drop_pipe.new.f u row image ≡ with_gone (with_roused (handed c.args.f.now u row image) c.in-Last.file) c.in-Last.file =
-        c.drop_pipe.ensures.state u row image ∙ ap (λ (k : Handed). with_gone k c.in-Last.file) (c.rouse_pipe-in-Last.ensures.state u row image) in
+    let rest : handed c.drop_pipe.new.f u row image ≡ with_gone
+    (with_roused (handed c.args.f.now u row image) c.in-Last.file) c.in-Last.file =
+    c.drop_pipe.ensures.state u row image
+    ∙ ap (λ (k : Handed). with_gone k c.in-Last.file) (c.rouse_pipe-in-Last.ensures.state u row image) in
     took_then _ _ _ (pipe_roused c.in-Last.file) (console_closed (handed c.drop_pipe.new.f u row image) c.in-Last.file) _
     c.rouse_pipe-in-Last.ensures.items (c.close_console.ensures.items u row image)
     (ap (λ (k : Handed). pipe_roused c.in-Last.file ++ console_closed k c.in-Last.file) rest

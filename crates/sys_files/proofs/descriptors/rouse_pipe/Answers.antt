@@ -19,5 +19,7 @@ returns-then-file-clause-kept g c = λ is.
 pub returns-then-file-clause-items : goal.returns-then-file-clause-items
 returns-then-file-clause-items g c =
     let ino = c.args.file.ino in
-    let P : Bool → Type 0 = λ b. Took (g.T.Trace.taken c.args.trace.now) (cond b (Log (Wake (Write ino)) ∷ Log (Wake (Read ino)) ∷ []) []) (g.T.Trace.taken c.entry-then-file.new.self) in
-    subst P (sym c.if-file.true) (took_more _ _ _ (Log (Wake (Write ino)) ∷ []) (Log (Wake (Read ino)) ∷ []) c.entry.ensures.took c.entry-then-file.ensures.took)
+    let P : Bool → Type 0 = λ b. Took (g.T.Trace.taken c.args.trace.now)
+    (cond b (Log (Wake (Write ino)) ∷ Log (Wake (Read ino)) ∷ []) []) (g.T.Trace.taken c.entry-then-file.new.self) in
+    subst P (sym c.if-file.true) (took_more _ _ _ (Log (Wake (Write ino)) ∷ [])
+    (Log (Wake (Read ino)) ∷ []) c.entry.ensures.took c.entry-then-file.ensures.took)
