@@ -16,7 +16,7 @@ use Rattle.fs_tree.specs.Finding.{Inodes, Finding, make_in, put_back}
 use Rattle.fs_tree.specs.Permission.{access}
 use Rattle.sys_files.specs.Handed.{Handed, r0, node_at, user_of, with_inodes, let_go}
 use Rattle.sys_files.specs.Did.{Did, fails, is_done, check, must, until_end, then_named, by_made}
-use Rattle.sys_files.specs.Making.{new_in, entry_written, writes_entry, with_links, enters_new, makes_node, truncated_in, with_no_blocks}
+use Rattle.sys_files.specs.Making.{new_in, entry_written, writes_entry, with_links, enters_new, truncated_in, with_no_blocks}
 use Rattle.sys_files.specs.Entering.{did_of}
 use Rattle.sys_files.specs.Core.{core_name, is_plain, writes_parts, writes_over, writes_new, writes_named, core_file, is_written}
 use Rattle.sys_files.specs.Sound.{IsSound, IsKept}
@@ -25,10 +25,13 @@ use Rattle.sys_files.proofs.PartLemmas.{until}
 
 -- A file that is there is plain and may be written: it gives its blocks back, and is written.
 pub over_goes : (now : ℕ) (h after : Handed) (ino : ℕ) (user : User) (n : Inodes) (u v : Unit {0}) (r : Result (Unit {0}) Errno)
-    → Ok u ≡ must EACCES (is_plain (node_at h ino).mode) → user ≡ user_of h.u → Ok v ≡ access h.marks ino (node_at h ino) user Write
-    → n ≡ truncated_in h.inodes ino now → writes_parts now (with_inodes h n) ino ≡ did_of after r → writes_over now h ino ≡ did_of after r
+    → Ok u ≡ must EACCES (is_plain (node_at h ino).mode) → user ≡ user_of h.u
+    → Ok v ≡ access h.marks ino (node_at h ino) user Write
+    → n ≡ truncated_in h.inodes ino now → writes_parts now (with_inodes h n) ino ≡ did_of after r
+    → writes_over now h ino ≡ did_of after r
 over_goes now h after ino user n u v r plain caller may empty did =
-    sym (λ i. check h (plain i) (λ p. check h ((may ∙ ap (λ w. access h.marks ino (node_at h ino) w Write) caller) i) (λ m. writes_parts now (with_no_blocks h ino now) ino)))
+    sym (λ i. check h (plain i) (λ p. check h ((may ∙ ap (λ w. access h.marks ino (node_at h ino) w Write) caller) i)
+    (λ m. writes_parts now (with_no_blocks h ino now) ino)))
     ∙ ap (λ x. writes_parts now (with_inodes h x) ino) (sym empty) ∙ did
 
 -- a call that is done or refused
@@ -42,7 +45,8 @@ pub record OverWith (P : Handed → Type 0) (d : Did) : Type 0 where
   pub over : IsOver d.answer
 
 module _ (P : Handed → Type 0) (keeps : (h : Handed) (inodes : Inodes) → P h → P (with_inodes h inodes)) where
-  checks : {A : Type 0} (h : Handed) (test : Result A Errno) (next : A → Did) → P h → ((a : A) → OverWith P (next a)) → OverWith P (check h test next)
+  checks : {A : Type 0} (h : Handed) (test : Result A Errno) (next : A → Did) → P h → ((a : A) → OverWith P (next a))
+      → OverWith P (check h test next)
   checks h (Ok a) next p goes = goes a
   checks h (Err e) next p goes = record { state = p; over = tt }
 
@@ -50,14 +54,17 @@ module _ (P : Handed → Type 0) (keeps : (h : Handed) (inodes : Inodes) → P h
       → ((now : Handed) (a : A) → P now → OverWith P (next now a)) → OverWith P (then_named h found next)
   named h found next p goes =
       let now : P (with_inodes h found.inodes) = keeps h found.inodes p in
-      checks (with_inodes h found.inodes) found.answer (next (with_inodes h found.inodes)) now (λ a. goes (with_inodes h found.inodes) a now)
+      checks (with_inodes h found.inodes) found.answer (next (with_inodes h found.inodes)) now
+      (λ a. goes (with_inodes h found.inodes) a now)
 
   lets_go : (ino : ℕ) (d : Did) → OverWith P d → OverWith P (until_end ino d)
   lets_go ino d k = record { state = keeps d.state (let_go d.state ino).inodes k.state; over = k.over }
 
-  writes : (h : Handed) (dir offset : ℕ) (bytes : List ℕ) (now : ℕ) (next : Handed → Did) → P h → ((l : Handed) → P l → OverWith P (next l))
+  writes : (h : Handed) (dir offset : ℕ) (bytes : List ℕ) (now : ℕ) (next : Handed → Did) → P h
+      → ((l : Handed) → P l → OverWith P (next l))
       → OverWith P (writes_entry h dir offset bytes now next)
-  writes h dir offset bytes now next p goes = named h (entry_written h.inodes dir offset bytes now) (λ l done. next l) p (λ l done q. goes l q)
+  writes h dir offset bytes now next p goes = named h (entry_written h.inodes dir offset bytes now) (λ l done. next l) p
+      (λ l done q. goes l q)
 
   parts : (now : ℕ) (h : Handed) (ino : ℕ) → P h → OverWith P (writes_parts now h ino)
   parts now h ino p =
@@ -101,7 +108,8 @@ module _ (h after : Handed) (now : ℕ) (name : List ℕ) (same : name ≡ core_
     named_is : (r : Result Made Errno) → r ≡ (make_in h.inodes h.marks (user_of h.u) h.u.dir name).answer
         → writes_named now h ≡ check after r (by_made (writes_over now) (writes_new now) after)
     named_is r answer =
-        ap (λ b. then_named h (make_in h.inodes h.marks (user_of h.u) h.u.dir b) (by_made (writes_over now) (writes_new now))) (sym same)
+        ap (λ b. then_named h (make_in h.inodes h.marks (user_of h.u) h.u.dir b) (by_made (writes_over now) (writes_new now)))
+        (sym same)
         ∙ sym (λ i. check (parts i) (answer i) (by_made (writes_over now) (writes_new now) (parts i)))
 
     -- It isn't there.
@@ -139,10 +147,14 @@ record SameTables (old new : Handed) : Type 0 where
 
 -- What every call keeps the writing of the file keeps too.
 pub core_kept : (old new : Handed) (now : ℕ) → IsSound old → new ≡ (core_file old now).state
-    → ((i : ℕ) → slice_index new.inodes.references i ≡ slice_index old.inodes.references i) → new.inodes.store.count ≡ old.inodes.store.count
+    → ((i : ℕ) → slice_index new.inodes.references i ≡ slice_index old.inodes.references i)
+    → new.inodes.store.count ≡ old.inodes.store.count
     → IsKept old new
 core_kept old new now sound state references count =
     let same : SameTables old (core_file old now).state =
-    (core_keeps (SameTables old) (λ h inodes k. record { files = k.files; pipes = k.pipes; u = k.u }) old now (record { files = refl; pipes = refl; u = refl })).state in
-    kept_references old new sound (ap (λ (h : Handed). h.files) state ∙ same.files) (ap (λ (h : Handed). h.pipes) state ∙ same.pipes)
-    (ap (λ (h : Handed). h.u.files) state ∙ ap (λ (u : UArea). u.files) same.u) (ap (λ (h : Handed). h.u.dir) state ∙ ap (λ (u : UArea). u.dir) same.u) references count
+    (core_keeps (SameTables old) (λ h inodes k. record { files = k.files; pipes = k.pipes; u = k.u }) old now
+    (record { files = refl; pipes = refl; u = refl })).state in
+    kept_references old new sound (ap (λ (h : Handed). h.files) state ∙ same.files)
+    (ap (λ (h : Handed). h.pipes) state ∙ same.pipes)
+    (ap (λ (h : Handed). h.u.files) state ∙ ap (λ (u : UArea). u.files) same.u)
+    (ap (λ (h : Handed). h.u.dir) state ∙ ap (λ (u : UArea). u.dir) same.u) references count

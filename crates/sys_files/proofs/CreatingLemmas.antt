@@ -112,7 +112,7 @@ module _ (old mid last : Handed) (a b c d : FileSystem) (ino : ℕ) (takes : One
             owes i in omega (arith, t, r, l, o));
         count = less.count ∙ k.count ∙ takes.count;
         pipes = k.pipes;
-      others = rw (files, u) at k.others;
+        others = rw (files, u) at k.others;
       }
 
   pub between_more : (i : ℕ) → slice_index a.references i ≤ slice_index d.references i

@@ -1,5 +1,5 @@
 -- What stands at the addresses of a memory: parts of bytes that are loaded, the data, the stack, and a name of the kernel's own.
-use Rattle.std.proofs.Common.{◌≡◌, ◌+◌, ◌-◌, ◌*◌, ◌%◌, ◌<◌, ◌≤◌, ℕ, zero, suc, List, [], ◌∷◌, ◌++◌, length, take, drop, slice_range, Option, Some, None, Result, Ok, Err, inl, inr, refl, sym, ap, ◌∙◌, subst, arith}
+use Rattle.std.proofs.Common.{◌≡◌, ◌+◌, ◌-◌, ◌%◌, ◌<◌, ◌≤◌, ℕ, zero, suc, List, [], ◌∷◌, ◌++◌, length, take, drop, slice_range, Option, Some, None, Result, Ok, Err, inl, inr, refl, sym, ap, ◌∙◌, arith}
 use Rattle.std.proofs.lemmas.Bool.{cases_lt}
 use Rattle.std.proofs.lemmas.Bool.Decides.{nat_tests}
 use Rattle.std.proofs.lemmas.List.{append-nil}
@@ -10,9 +10,8 @@ use Rattle.v6_base.specs.Copy.{load_bytes, in_front}
 use Rattle.v6_base.specs.declared.space.Trap.{Trap}
 use Rattle.v6_base.specs.declared.space.Trap.TheVariants.{Segment}
 use Rattle.v6_base.specs.declared.named.Named.{Named}
-use Rattle.v6_base.specs.declared.named.Named.TheVariants.{InText, InData, InStack, Nothing}
+use Rattle.v6_base.specs.declared.named.Named.TheVariants.{InText, InData, InStack}
 use Rattle.v6_base.specs.Runs.{room, run_at}
-use Rattle.v6_base.proofs.Copies.{load_wraps}
 use Rattle.v6_base.proofs.RunLemmas.{Fits, image_fits, all_loaded, text_run, text_ends}
 use Rattle.fs_tree.specs.Name.{readable, read_then, name_at}
 use Rattle.sys_files.proofs.ShowingLemmas.{loaded_readable, readable_ends}
@@ -25,7 +24,8 @@ record Begins (image : Image) (at n : ℕ) (bytes : List ℕ) : Type 0 where
   pub loaded : load_byte image (at % 65536) ≡ Ok byte
   pub later : load_bytes image (at + 1) n ≡ Some rest
 
-begins_by : (image : Image) (at n : ℕ) (bytes : List ℕ) (r : Result ℕ Trap) (o : Option (List ℕ)) → load_byte image (at % 65536) ≡ r → load_bytes image (at + 1) n ≡ o
+begins_by : (image : Image) (at n : ℕ) (bytes : List ℕ) (r : Result ℕ Trap) (o : Option (List ℕ))
+    → load_byte image (at % 65536) ≡ r → load_bytes image (at + 1) n ≡ o
     → in_front r o ≡ Some bytes → Begins image at n bytes
 begins_by image at n bytes (Ok byte) (Some rest) first later is = record { byte = byte; rest = rest; all = cc; loaded = first; later = later }
 begins_by image at n bytes (Ok byte) None first later is = absurd (cc)
@@ -42,7 +42,8 @@ loaded_long image at (suc n) bytes is =
     ap length b.all ∙ ap suc (loaded_long image (at + 1) n b.rest b.later)
 
 -- the first of them
-loaded_first : (image : Image) (at n k : ℕ) (bytes : List ℕ) → load_bytes image at n ≡ Some bytes → k ≤ n → load_bytes image at k ≡ Some (take k bytes)
+loaded_first : (image : Image) (at n k : ℕ) (bytes : List ℕ) → load_bytes image at n ≡ Some bytes → k ≤ n
+    → load_bytes image at k ≡ Some (take k bytes)
 loaded_first image at n zero bytes is few = refl
 loaded_first image at zero (suc k) bytes is few = absurd (omega (arith, few))
 loaded_first image at (suc n) (suc k) bytes is few =
@@ -52,7 +53,8 @@ loaded_first image at (suc n) (suc k) bytes is few =
     ∙ ap (λ l. Some (take (suc k) l)) (sym b.all)
 
 -- those from a place on
-loaded_from : (image : Image) (at n v : ℕ) (bytes : List ℕ) → load_bytes image at n ≡ Some bytes → v ≤ n → load_bytes image (at + v) (n - v) ≡ Some (drop v bytes)
+loaded_from : (image : Image) (at n v : ℕ) (bytes : List ℕ) → load_bytes image at n ≡ Some bytes → v ≤ n
+    → load_bytes image (at + v) (n - v) ≡ Some (drop v bytes)
 loaded_from image at n zero bytes is few =
     let here : at ≡ at + 0 = omega arith in
     let all : n ≡ n - 0 = omega arith in
@@ -69,15 +71,18 @@ pub loaded_part : (image : Image) (at n v k : ℕ) (bytes : List ℕ) → load_b
     → load_bytes image (at + v) k ≡ Some (slice_range bytes v (v + k))
 loaded_part image at n v k bytes is few =
     let count : k ≡ v + k - v = omega arith in
-    loaded_first image (at + v) (n - v) k (drop v bytes) (loaded_from image at n v bytes is (omega (arith, few))) (omega (arith, few))
+    loaded_first image (at + v) (n - v) k (drop v bytes) (loaded_from image at n v bytes is (omega (arith, few)))
+    (omega (arith, few))
     ∙ ap (λ j. Some (take j (drop v bytes))) count
 
 -- bytes that are one list from its front
-run_whole : (image : Image) (at : ℕ) (p : Named) (bytes : List ℕ) → Fits image → at < 65536 → named image at ≡ p → room image p ≡ length bytes
+run_whole : (image : Image) (at : ℕ) (p : Named) (bytes : List ℕ) → Fits image → at < 65536 → named image at ≡ p
+    → room image p ≡ length bytes
     → run_at image p (length bytes) ≡ bytes → 0 < length bytes → load_bytes image at (length bytes) ≡ Some bytes
 run_whole image at p bytes fits low is long all some =
     let there : room image (named image at) ≡ length bytes = ap (room image) is ∙ long in
-    all_loaded image at (length bytes) fits low some (omega (arith, there)) ∙ ap (λ q. Some (run_at image q (length bytes))) is ∙ ap Some all
+    all_loaded image at (length bytes) fits low some (omega (arith, there)) ∙ ap (λ q. Some (run_at image q (length bytes))) is
+    ∙ ap Some all
 
 data_named : (t d s v : ℕ) → t ≤ v → data_base t ≤ v → v < data_base t + d → named_by t d s v ≡ InData (v - data_base t)
 unfolding named_by
@@ -93,7 +98,8 @@ none_loaded image at [] none = refl
 none_loaded image at (byte ∷ bytes) none = absurd (omega (arith, none))
 
 -- The data of a process stand behind its text.
-pub data_loaded : (image : Image) → IsImage image → load_bytes image (data_base (length image.text) % 65536) (length image.data) ≡ Some image.data
+pub data_loaded : (image : Image) → IsImage image
+    → load_bytes image (data_base (length image.text) % 65536) (length image.data) ≡ Some image.data
 data_loaded image is = elim (cases_lt 0 (length image.data)) [
   | inr none ↦ none_loaded image (data_base (length image.text) % 65536) image.data (omega (arith, none))
   | inl some ↦
@@ -105,12 +111,14 @@ data_loaded image is = elim (cases_lt 0 (length image.data)) [
       let none : data_base (length image.text) - data_base (length image.text) ≡ 0 = omega arith in
       ap (λ a. load_bytes image a (length image.data)) flat
       ∙ run_whole image (data_base (length image.text)) (InData 0) image.data fits low
-      (data_named (length image.text) (length image.data) (length image.stack) (data_base (length image.text)) text (omega arith) (omega (arith, some)) ∙ ap InData none)
+      (data_named (length image.text) (length image.data) (length image.stack) (data_base (length image.text)) text
+      (omega arith) (omega (arith, some)) ∙ ap InData none)
       (omega arith) (take-length image.data) some)
 ]
 
 -- Its stack ends at the last address.
-pub stack_loaded : (image : Image) → IsImage image → load_bytes image ((65536 - length image.stack) % 65536) (length image.stack) ≡ Some image.stack
+pub stack_loaded : (image : Image) → IsImage image
+    → load_bytes image ((65536 - length image.stack) % 65536) (length image.stack) ≡ Some image.stack
 stack_loaded image is = elim (cases_lt 0 (length image.stack)) [
   | inr none ↦ none_loaded image ((65536 - length image.stack) % 65536) image.stack (omega (arith, none))
   | inl some ↦
@@ -123,7 +131,8 @@ stack_loaded image is = elim (cases_lt 0 (length image.stack)) [
       let none : 65536 - length image.stack - (65536 - length image.stack) ≡ 0 = omega arith in
       ap (λ a. load_bytes image a (length image.stack)) flat
       ∙ run_whole image top (InStack 0) image.stack fits low
-      (stack_named (length image.text) (length image.data) (length image.stack) top (omega (arith, text, all)) (omega (arith, all)) (omega arith) ∙ ap InStack none)
+      (stack_named (length image.text) (length image.data) (length image.stack) top (omega (arith, text, all))
+      (omega (arith, all)) (omega arith) ∙ ap InStack none)
       (omega arith) (take-length image.stack) some)
 ]
 
@@ -140,20 +149,26 @@ whole_name bytes long =
     let fits : Fits image = record { text = omega (arith, long); all = omega (arith, long) } in
     let loaded : load_bytes image 0 64 ≡ Some bytes =
     ap (load_bytes image 0) (sym long)
-    ∙ run_whole image 0 (InText 0) bytes fits (omega arith) (text_run bytes 0 (omega (arith, long))) (omega arith) (take-length bytes) (omega (arith, long)) in
+    ∙ run_whole image 0 (InText 0) bytes fits (omega arith) (text_run bytes 0 (omega (arith, long))) (omega arith)
+    (take-length bytes) (omega (arith, long)) in
     let first : readable image 0 64 ≡ bytes = loaded_readable image 0 64 bytes (omega arith) loaded in
-    let past : load_byte image 64 ≡ Err Segment = ap (byte_at image) (text_ends bytes 64 (omega (arith, long)) (omega (arith, long)) (omega arith)) in
+    let past : load_byte image 64 ≡ Err Segment = ap (byte_at image)
+    (text_ends bytes 64 (omega (arith, long)) (omega (arith, long)) (omega arith)) in
     let none : readable image 64 1 ≡ [] = nothing_read image 64 past in
     readable_ends image 0 64 1 65536 (omega arith) (ap length first ∙ long) (omega arith) (omega (arith, ap length none))
     ∙ ap (λ l. readable image 0 64 ++ l) none ∙ append-nil (readable image 0 64) ∙ first
 
 -- the same, by addresses and numbers that are known otherwise
-pub data_at_base : (image : Image) (base text count : ℕ) → IsImage image → base ≡ data_base text % 65536 → length image.text ≡ text → length image.data ≡ count
+pub data_at_base : (image : Image) (base text count : ℕ) → IsImage image → base ≡ data_base text % 65536
+    → length image.text ≡ text → length image.data ≡ count
     → load_bytes image base count ≡ Some image.data
 data_at_base image base text count is at long many =
-    ap (load_bytes image base) (sym many) ∙ ap (λ a. load_bytes image a (length image.data)) (at ∙ ap (λ n. data_base n % 65536) (sym long)) ∙ data_loaded image is
+    ap (load_bytes image base) (sym many) ∙ ap (λ a. load_bytes image a (length image.data))
+    (at ∙ ap (λ n. data_base n % 65536) (sym long)) ∙ data_loaded image is
 
-pub stack_at_top : (image : Image) (top stack count : ℕ) → IsImage image → top ≡ (65536 - stack) % 65536 → length image.stack ≡ stack → length image.stack ≡ count
+pub stack_at_top : (image : Image) (top stack count : ℕ) → IsImage image → top ≡ (65536 - stack) % 65536
+    → length image.stack ≡ stack → length image.stack ≡ count
     → load_bytes image top count ≡ Some image.stack
 stack_at_top image top stack count is at long many =
-    ap (load_bytes image top) (sym many) ∙ ap (λ a. load_bytes image a (length image.stack)) (at ∙ ap (λ n. (65536 - n) % 65536) (sym long)) ∙ stack_loaded image is
+    ap (load_bytes image top) (sym many) ∙ ap (λ a. load_bytes image a (length image.stack))
+    (at ∙ ap (λ n. (65536 - n) % 65536) (sym long)) ∙ stack_loaded image is

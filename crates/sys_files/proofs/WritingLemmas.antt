@@ -1,5 +1,5 @@
 -- Bytes of a memory that are written into a file, in one write or in two.
-use Rattle.std.proofs.Common.{◌≡◌, ◌⊎◌, ◌+◌, ◌-◌, ◌%◌, ◌<◌, ◌≤◌, ◌==◌, ◌||◌, ℕ, Bool, true, false, not, List, length, min, slice_index, slice_set, slice_range, Option, Some, None, IsSome, unwrap_or, Result, Ok, Err, inl, inr, refl, sym, ap, ◌∙◌, subst, arith}
+use Rattle.std.proofs.Common.{◌≡◌, ◌⊎◌, ◌+◌, ◌-◌, ◌%◌, ◌<◌, ◌≤◌, ◌==◌, ◌||◌, ℕ, Bool, true, false, not, List, length, min, Option, Some, None, IsSome, unwrap_or, Result, Ok, Err, inl, inr, refl, sym, ap, ◌∙◌, subst, arith}
 use Rattle.std.proofs.lemmas.Bool.{cases_lt, cases_eq, eq-eqb, ne_eqb}
 use Rattle.std.proofs.lemmas.List.{get_or_past, get_or-set_same, set-set}
 use Rattle.v6_base.specs.Image.{Image}
@@ -13,7 +13,7 @@ use Rattle.fs_laws.proofs.RestLemmas.{rest_then}
 use Rattle.fs_nodes.specs.Copy.{get_from, get_kernel}
 use Rattle.fs_nodes.specs.FileSystem.{FileSystem}
 use Rattle.fs_tree.specs.Entries.{written, answer_to, WritesEntry}
-use Rattle.fs_tree.specs.Finding.{Inodes, inodes_of}
+use Rattle.fs_tree.specs.Finding.{inodes_of}
 use Rattle.sys_files.specs.Handed.{node_in, no_node}
 use Rattle.sys_files.specs.Making.{entry_written}
 use Rattle.sys_files.specs.Entering.{SameReferences}
@@ -47,32 +47,40 @@ numbered_low store ino node is = elim (cases_lt ino (length store.nodes)) [
 mark_twice : (mark : Bool) (r s t : ℕ) → s ≤ r → t ≤ s → (mark || not (s == r)) || not (t == s) ≡ mark || not (t == r)
 mark_twice mark r s t less least = by mark (cases_eq s r) (cases_eq t s)
   where
-    by : (mark : Bool) → (s ≡ r) ⊎ (s ≡ r → ⊥) → (t ≡ s) ⊎ (t ≡ s → ⊥) → (mark || not (s == r)) || not (t == s) ≡ mark || not (t == r)
+    by : (mark : Bool) → (s ≡ r) ⊎ (s ≡ r → ⊥) → (t ≡ s) ⊎ (t ≡ s → ⊥)
+        → (mark || not (s == r)) || not (t == s) ≡ mark || not (t == r)
     by true a b = refl
     by false (inl same) b = ap (λ x. not (x == r) || not (t == x)) same ∙ ap (λ b. not b || not (t == r)) (eq-eqb r r refl)
-    by false (inr other) (inl same) = ap (λ b. not b || not (t == s)) (ne_eqb s r other) ∙ sym (ap not (ne_eqb t r (λ e. other (omega (arith, e, same)))))
+    by false (inr other) (inl same) = ap (λ b. not b || not (t == s)) (ne_eqb s r other)
+        ∙ sym (ap not (ne_eqb t r (λ e. other (omega (arith, e, same)))))
     by false (inr other) (inr different) =
         ap (λ b. not b || not (t == s)) (ne_eqb s r other)
         ∙ sym (ap not (ne_eqb t r (λ e. other (omega (arith, e, less, least)))))
 
 -- A node is set twice, and the free blocks do not become more.
-node_twice : (store : Store) (ino : ℕ) (a b : Node) (r s : ℕ) → r ≤ store.room → s ≤ r → with_node (with_node store ino a r) ino b s ≡ with_node store ino b s
+node_twice : (store : Store) (ino : ℕ) (a b : Node) (r s : ℕ) → r ≤ store.room → s ≤ r
+    → with_node (with_node store ino a r) ino b s ≡ with_node store ino b s
 node_twice store ino a b r s less least =
-    ap (λ nodes. record (with_node (with_node store ino a r) ino b s) { nodes = nodes }) (set-set store.nodes ino (Some a) (Some b))
+    ap (λ nodes. record (with_node (with_node store ino a r) ino b s) { nodes = nodes })
+    (set-set store.nodes ino (Some a) (Some b))
     ∙ ap (λ mark. record (with_node store ino b s) { mark = mark }) (mark_twice store.mark store.room r s less least)
 
 -- what one write leaves that is alike to another
-alike_leaves : (store : Store) (ino : ℕ) (m x : Moving (Unit {0})) (last : Store) (r : Result (Unit {0}) Errno) → Alike m x → WritesEntry store ino x last r
+alike_leaves : (store : Store) (ino : ℕ) (m x : Moving (Unit {0})) (last : Store) (r : Result (Unit {0}) Errno) → Alike m x
+    → WritesEntry store ino x last r
     → WritesEntry store ino m last r
 alike_leaves store ino m x last r same w = record {
-  store = w.store ∙ ap (λ n. with_node store ino n x.room) (sym same.node) ∙ ap (λ k. with_node store ino m.node k) (sym same.room);
+  store = w.store ∙ ap (λ n. with_node store ino n x.room) (sym same.node)
+      ∙ ap (λ k. with_node store ino m.node k) (sym same.room);
   told = w.told ∙ ap answer_to (sym same.error);
 }
 
 -- what a write of bytes of the kernel's own leaves, as the answer and the inodes
 pub entry_is : (old new : FileSystem) (ino offset : ℕ) (bytes : List ℕ) (now : ℕ) (r : Result (Unit {0}) Errno)
-    → WritesEntry old.store ino (written old.store (node_in old.store ino) offset bytes now) new.store r → new.references ≡ old.references
-    → (r ≡ (entry_written (inodes_of old) ino offset bytes now).answer) × (inodes_of new ≡ (entry_written (inodes_of old) ino offset bytes now).inodes)
+    → WritesEntry old.store ino (written old.store (node_in old.store ino) offset bytes now) new.store r
+    → new.references ≡ old.references
+    → (r ≡ (entry_written (inodes_of old) ino offset bytes now).answer)
+    × (inodes_of new ≡ (entry_written (inodes_of old) ino offset bytes now).inodes)
 entry_is old new ino offset bytes now r w references = (w.told, λ i. record { store = w.store i; references = references i })
 
 refused_by : (o : Option Errno) (e : Errno) → Err e ≡ answer_to o → o ≡ Some e
@@ -88,7 +96,8 @@ done_by (Some x) u is = absurd (cc)
 
 -- Bytes of a memory are written, in two writes that meet at a block's end.
 module _ (store middle last : Store) (ino : ℕ) (image : Image) (at rest offset count k now : ℕ) (bytes : List ℕ)
-    (loaded : load_bytes image at count ≡ Some bytes) (cut : k ≡ min count (32768 - offset % 512)) (onward : rest ≡ (at + k) % 65536)
+    (loaded : load_bytes image at count ≡ Some bytes) (cut : k ≡ min count (32768 - offset % 512))
+    (onward : rest ≡ (at + k) % 65536)
     (there : node_numbered store ino ≡ Some (node_in store ino))
   where
     abbrev n : ℕ
@@ -120,17 +129,20 @@ module _ (store middle last : Store) (ino : ℕ) (image : Image) (at rest offset
 
     is_two : Alike whole (unless_ended first.error second first)
     is_two =
-        subst (λ c. Alike (write_file (get_kernel bytes) (node_in store ino) store.room (tt {0}) offset c now) (unless_ended first.error second first))
+        subst (λ c. Alike (write_file (get_kernel bytes) (node_in store ino) store.room (tt {0}) offset c now)
+        (unless_ended first.error second first))
         (sym (loaded_long image at (k + n) bytes parts))
         (two_files offset k n (get_kernel bytes) (get_from image at) (get_from image rest) border
         (λ v j few. sym (loaded_part image at (k + n) v j bytes parts (omega (arith, few))))
-        (λ v j few. sym (load_wraps image (rest + v) (at + (k + v)) j (omega (arith, onward)) ∙ loaded_part image at (k + n) (k + v) j bytes parts (omega (arith, few))))
+        (λ v j few. sym (load_wraps image (rest + v) (at + (k + v)) j (omega (arith, onward)) ∙ loaded_part image at (k + n)
+        (k + v) j bytes parts (omega (arith, few))))
         (node_in store ino) store.room now both)
 
     -- The first is refused.
     pub first_refused : (e : Errno) → WritesEntry store ino first middle (Err e) → WritesEntry store ino whole middle (Err e)
     first_refused e w =
-        alike_leaves store ino whole first middle (Err e) (subst (λ o. Alike whole (unless_ended o second first)) (refused_by first.error e w.told) is_two) w
+        alike_leaves store ino whole first middle (Err e)
+        (subst (λ o. Alike whole (unless_ended o second first)) (refused_by first.error e w.told) is_two) w
 
     -- The second finds what the first left.
     pub second_written : (u : Unit {0}) (r : Result (Unit {0}) Errno) → WritesEntry store ino first middle (Ok u)
@@ -142,9 +154,13 @@ module _ (store middle last : Store) (ino : ℕ) (image : Image) (at rest offset
         let found : node_numbered middle ino ≡ Some first.node =
         ap (λ (s : Store). node_numbered s ino) w.store ∙ get_or-set_same store.nodes ino (Some first.node) None low in
         let wrote : WritesEntry (with_node store ino first.node first.room) ino second last r =
-        subst (λ (s : Store). WritesEntry s ino (write_file (get_from image rest) first.node s.room (tt {0}) (offset + k) n now) last r) w.store (each first.node found) in
+        subst (λ (s : Store). WritesEntry s ino
+        (write_file (get_from image rest) first.node s.room (tt {0}) (offset + k) n now) last r) w.store
+        (each first.node found) in
         let twice : last ≡ with_node store ino second.node second.room =
         wrote.store ∙ node_twice store ino first.node second.node first.room second.room
-        (file_keeps (get_from image at) (node_in store ino) store.room offset k now) (file_keeps (get_from image rest) first.node first.room (offset + k) n now) in
-        alike_leaves store ino whole second last r (subst (λ o. Alike whole (unless_ended o second first)) (done_by first.error u w.told) is_two)
+        (file_keeps (get_from image at) (node_in store ino) store.room offset k now)
+        (file_keeps (get_from image rest) first.node first.room (offset + k) n now) in
+        alike_leaves store ino whole second last r
+        (subst (λ o. Alike whole (unless_ended o second first)) (done_by first.error u w.told) is_two)
         (record { store = twice; told = wrote.told })

@@ -18,7 +18,8 @@ ghost use Rattle.sys_files.specs.Did.{must};
 ghost use Rattle.sys_files.specs.Sound.{IsSound, IsKept};
 ghost use Rattle.sys_files.specs.Entering.{HasEntry, SameReferences, did_of};
 ghost use Rattle.sys_files.specs.Making.{entry_written, enters_new};
-ghost use Rattle.sys_files.specs.Core.{core_name, is_plain, writes_parts, writes_over, writes_new, writes_named, core_file, is_written};
+ghost use Rattle.sys_files.specs.Core.{core_name, is_plain, writes_parts, writes_over, writes_new, writes_named};
+ghost use Rattle.sys_files.specs.Core.{core_file, is_written};
 
 use crate::creating::truncate;
 use crate::entering::{Room, enter_new, find_to_make, make_inode};
@@ -96,7 +97,8 @@ fn write_part<S: Space>(
 ) -> Result<(), Errno>
     requires referenced { 0 < slice_index nodes.old.references ino }
     ensures written { (node : Node) → node_numbered nodes.old.store ino ≡ Some node → WritesEntry nodes.old.store ino
-        (write_file (get_from (S.image space.now) at) node nodes.old.store.room (tt {0}) offset count now) nodes.new.store result }
+        (write_file (get_from (S.image space.now) at) node nodes.old.store.room (tt {0}) offset count now)
+        nodes.new.store result }
     ensures references { nodes.new.references ≡ nodes.old.references }
     ensures there { node_numbered nodes.old.store ino ≡ Some (node_in nodes.old.store ino) }
     ensures kept { SameReferences nodes.old nodes.new }
@@ -160,7 +162,8 @@ fn write_data<S: Space>(
     requires text { length (S.image space.now).text ≡ CLICK * u.now.text_size }
     requires data { length (S.image space.now).data ≡ CLICK * u.now.data_size }
     ensures answer { result ≡ (entry_written (inodes_of nodes.old) ino AREA_SIZE (S.image space.now).data now).answer }
-    ensures inodes { inodes_of nodes.new ≡ (entry_written (inodes_of nodes.old) ino AREA_SIZE (S.image space.now).data now).inodes }
+    ensures inodes { inodes_of nodes.new
+        ≡ (entry_written (inodes_of nodes.old) ino AREA_SIZE (S.image space.now).data now).inodes }
     ensures kept { SameReferences nodes.old nodes.new }
 {
     let data = CLICK * u32::from(u.data_size);
@@ -180,13 +183,22 @@ fn write_stack<S: Space>(
     requires stack { length (S.image space.now).stack ≡ CLICK * u.now.stack_size }
     ensures answer { result ≡ (entry_written (inodes_of nodes.old) ino (AREA_SIZE + length (S.image space.now).data)
         (S.image space.now).stack now).answer }
-    ensures inodes { inodes_of nodes.new ≡ (entry_written (inodes_of nodes.old) ino (AREA_SIZE + length (S.image space.now).data)
+    ensures inodes { inodes_of nodes.new
+        ≡ (entry_written (inodes_of nodes.old) ino (AREA_SIZE + length (S.image space.now).data)
         (S.image space.now).stack now).inodes }
     ensures kept { SameReferences nodes.old nodes.new }
 {
     let data = CLICK * u32::from(u.data_size);
     let stack = CLICK * u32::from(u.stack_size);
-    write_bytes(nodes, ino, AREA_SIZE as u32 + data, space, stack_at(u), stack, now)
+    write_bytes(
+        nodes,
+        ino,
+        AREA_SIZE as u32 + data,
+        space,
+        stack_at(u),
+        stack,
+        now,
+    )
 }
 
 /// Writes the per-process area, the data and the stack into a file: each where what stands before it was written whole.
@@ -337,7 +349,8 @@ pub fn write_core<S: Space>(f: &mut Files, u: &UArea, space: &S, now: u32) -> bo
     ensures whole { (row : Row) → result ≡ is_written (core_file (handed f.old u.now row (S.image space.now)) now).answer }
     ensures state { (row : Row) → handed f.new u.now row (S.image space.now)
         ≡ (core_file (handed f.old u.now row (S.image space.now)) now).state }
-    ensures kept { (row : Row) → IsKept (handed f.old u.now row (S.image space.now)) (handed f.new u.now row (S.image space.now)) }
+    ensures kept { (row : Row)
+        → IsKept (handed f.old u.now row (S.image space.now)) (handed f.new u.now row (S.image space.now)) }
     ensures blocks { SameRest f.old.tree.nodes.blocks f.new.tree.nodes.blocks }
 {
     u.uid == u.ruid && write_named(f, u, space, now).is_ok()

@@ -1,4 +1,4 @@
-use Rattle.std.proofs.Common.{◌≡◌, List, ℕ, length, refl, rules, ap, ◌∙◌}
+use Rattle.std.proofs.Common.{◌≡◌, refl, rules, ap, ◌∙◌}
 use Rattle.v6_base.specs.Image.{text_alone}
 use Rattle.fs_tree.specs.Name.{name_at}
 use Rattle.sys_files.specs.Core.{core_name}

@@ -1,4 +1,4 @@
-use Rattle.std.proofs.Common.{refl, length}
+use Rattle.std.proofs.Common.{refl}
 use Rattle.fs_laws.specs.Numbers.{with_node}
 use Rattle.fs_laws.specs.Pieces.{Moving}
 use Rattle.fs_codec.specs.Store.{Node}

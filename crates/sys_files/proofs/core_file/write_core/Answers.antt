@@ -1,8 +1,7 @@
-use Rattle.std.proofs.Common.{◌≡◌, ◌==◌, Bool, false, ℕ, slice_index, rules, refl, sym, ap, ◌∙◌, arith}
-use Rattle.v6_base.specs.declared.errno.Errno.TheVariants.{EPERM}
+use Rattle.std.proofs.Common.{◌≡◌, ◌==◌, false, rules, refl, sym, ap, ◌∙◌, arith}
 use Rattle.sys_files.specs.Handed.{Handed, handed}
-use Rattle.sys_files.specs.Did.{Did, fails}
-use Rattle.sys_files.specs.Core.{core_file, is_written}
+use Rattle.sys_files.specs.Did.{Did}
+use Rattle.sys_files.specs.Core.{is_written}
 use Rattle.sys_files.proofs.AnyLemmas.{any_row}
 use Rattle.sys_files.proofs.OwedLemmas.{directory_referred}
 use Rattle.sys_files.proofs.KeptLemmas.{kept_references}
@@ -29,7 +28,8 @@ returns-then-u-clause-state g c = λ row.
     let image = g.S.Space.image c.args.space.now in
     let h : Handed = handed c.args.f.now c.args.u.now row image in
     let after : Handed = handed c.write_named.new.f c.args.u.now row image in
-    told_state after c.write_named.result ∙ ap (λ (d : Did). d.state) (sym (core_goes h c.args.now c.if-u.true ∙ c.write_named.ensures.did row))
+    told_state after c.write_named.result ∙ ap (λ (d : Did). d.state)
+    (sym (core_goes h c.args.now c.if-u.true ∙ c.write_named.ensures.did row))
 
 pub returns-then-u-clause-kept : goal.returns-then-u-clause-kept
 returns-then-u-clause-kept g c = λ row.
@@ -37,7 +37,8 @@ returns-then-u-clause-kept g c = λ row.
     let h : Handed = handed c.args.f.now c.args.u.now row image in
     let after : Handed = handed c.write_named.new.f c.args.u.now row image in
     core_kept h after c.args.now (c.requires.sound row)
-    (told_state after c.write_named.result ∙ ap (λ (d : Did). d.state) (sym (core_goes h c.args.now c.if-u.true ∙ c.write_named.ensures.did row)))
+    (told_state after c.write_named.result ∙ ap (λ (d : Did). d.state)
+    (sym (core_goes h c.args.now c.if-u.true ∙ c.write_named.ensures.did row)))
     c.write_named.ensures.kept.references c.write_named.ensures.kept.count
 
 pub returns-else-u-clause-whole : goal.returns-else-u-clause-whole

@@ -9,8 +9,8 @@ returns-clause-answer g c =
     let many = c.requires.data in
     let size = c.from-data.ensures in
     (c.write_bytes.ensures.written image.data
-    (data_at_base image c.data_at.result (64 * c.args.u.now.text_size) (64 * c.from-data.result) (g.met.S.Space.formed c.args.space.now)
-    c.data_at.ensures c.requires.text (omega (arith, many, size)))).0
+    (data_at_base image c.data_at.result (64 * c.args.u.now.text_size) (64 * c.from-data.result)
+    (g.met.S.Space.formed c.args.space.now) c.data_at.ensures c.requires.text (omega (arith, many, size)))).0
 
 pub returns-clause-inodes : goal.returns-clause-inodes
 returns-clause-inodes g c =
@@ -18,5 +18,5 @@ returns-clause-inodes g c =
     let many = c.requires.data in
     let size = c.from-data.ensures in
     (c.write_bytes.ensures.written image.data
-    (data_at_base image c.data_at.result (64 * c.args.u.now.text_size) (64 * c.from-data.result) (g.met.S.Space.formed c.args.space.now)
-    c.data_at.ensures c.requires.text (omega (arith, many, size)))).1
+    (data_at_base image c.data_at.result (64 * c.args.u.now.text_size) (64 * c.from-data.result)
+    (g.met.S.Space.formed c.args.space.now) c.data_at.ensures c.requires.text (omega (arith, many, size)))).1

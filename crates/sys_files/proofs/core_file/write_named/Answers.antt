@@ -1,4 +1,4 @@
-use Rattle.std.proofs.Common.{ℕ, slice_index, subst}
+use Rattle.std.proofs.Common.{subst}
 use Rattle.v6_base.specs.Image.{text_alone}
 use Rattle.fs_tree.specs.declared.made.Made.{Made}
 use Rattle.fs_tree.specs.Name.{name_at}

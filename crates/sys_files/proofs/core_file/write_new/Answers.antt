@@ -1,4 +1,3 @@
-use Rattle.std.proofs.Common.{ℕ}
 use Rattle.sys_files.specs.Handed.{handed}
 use Rattle.sys_files.specs.Core.{writes_parts}
 use Rattle.sys_files.proofs.GivingLemmas.{takes_keeps_gives}

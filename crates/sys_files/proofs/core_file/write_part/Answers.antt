@@ -14,7 +14,8 @@ pub returns-clause-kept : goal.returns-clause-kept
 returns-clause-kept g c =
     let old = c.args.nodes.now in
     let m : Node → Moving (Unit {0}) =
-    λ node. write_file (get_from (g.S.Space.image c.args.space.now) c.args.at) node old.store.room (tt {0}) c.args.offset c.args.count c.args.now in
+    λ node. write_file (get_from (g.S.Space.image c.args.space.now) c.args.at) node old.store.room
+    (tt {0}) c.args.offset c.args.count c.args.now in
     changed_keeps old c.write_at.new.self c.args.ino (λ node. with_node old.store c.args.ino (m node).node (m node).room)
     (c.see.ensures.used c.args.ino c.requires.referenced) (λ node is. (c.write_at.ensures.moved node is).store) (λ node. refl)
     c.write_at.ensures.references c.write_at.ensures.rest
