@@ -51,7 +51,7 @@ use Rattle.sys_files.specs.Pipes.{pipe_of, with_pipe, without_pipe}
 use Rattle.sys_files.specs.Piping.{reading_end, with_end, finds_place, with_ends, opens_ends, pipe_new, after, waits_in_pipe, words_of, pipe_at, ends_at, pipe_read, with_pipe_read, ends_read, reads_pipe, breaks, pipe_write, with_pipe_write, ends_write, writes_pipe}
 use Rattle.sys_files.specs.Opening.{last_failure, open_tests, can_open, with_opened, opens, opens_named, open_file}
 use Rattle.sys_files.specs.Making.{new_in, entry_written, writes_entry, with_links, enters_new, makes_node, opens_for_writing, with_no_blocks, opens_again, makes_file, creat_file, with_device, is_super_user, makes_any, mknod_at, may_link, enters_again, links_to, link_file, empties, removes, unlink_file}
-use Rattle.sys_files.specs.Moving.{with_moved, gives_count, waits_for_keys, read_of, with_read, line_read, with_line_read, takes_line, reads_line, reads_from, read_file_of, without_pending, resume_read, goes_on, resumes, shows_bytes, write_of, writes_to, write_file_of, seek_to}
+use Rattle.sys_files.specs.Moving.{with_moved, gives_count, read_of, with_read, line_read, with_line_read, takes_line, reads_line, reads_from, read_file_of, without_pending, resume_read, goes_on, resumes, shows_bytes, write_of, writes_to, write_file_of, seek_to}
 use Rattle.sys_files.specs.Modes.{of_terminal, words_at, sets_modes, stty_set, tells_modes, gtty_get}
 use Rattle.sys_files.specs.Names.{with_directory, enters_directory, chdir_to, is_owner, changes_mode, chmod_to, chown_to, sync_all}
 use Rattle.sys_files.specs.Status.{status_bytes, with_stored, tells_status, stat_file, stat_open}
