@@ -1,7 +1,6 @@
 -- What a call keeps that gives back what it has taken.
 use Rattle.std.proofs.Common.{◌≡◌, ℕ, slice_index, refl, ap, arith}
 use Rattle.sys_files.specs.Handed.{Handed}
-use Rattle.sys_files.specs.Pipes.{ArePipes}
 use Rattle.sys_files.specs.Sound.{owed, IsSound, IsKept}
 use Rattle.sys_files.proofs.OthersLemmas.{all_stay}
 

@@ -1,5 +1,5 @@
 -- An open file's next read or write begins elsewhere, and the files are as many and as often named as before.
-use Rattle.std.proofs.Common.{◌≡◌, ◌<◌, ◌-◌, ℕ, Bool, false, List, length, get_or, cond, count_by, Option, Some, None, unwrap_or, IsSome, is_some, slice_index, slice_set, refl, sym, ap, ◌∙◌, inl, inr, arith}
+use Rattle.std.proofs.Common.{◌≡◌, ◌<◌, ◌-◌, ℕ, Bool, List, length, get_or, cond, count_by, Option, Some, None, unwrap_or, IsSome, is_some, slice_index, slice_set, refl, sym, ap, ◌∙◌, inl, inr, arith}
 use Rattle.std.proofs.lemmas.Bool.{cases_lt, cases_eq}
 use Rattle.std.proofs.lemmas.List.{get_or-set_same, get_or-set_other, set_past}
 use Rattle.v6_base.specs.Image.{Image}

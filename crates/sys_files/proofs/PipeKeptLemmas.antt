@@ -1,10 +1,9 @@
 -- A read or a write of a pipe keeps what every call keeps.
-use Rattle.std.proofs.Common.{◌≡◌, ◌-◌, ◌+◌, ◌%◌, ℕ, Bool, true, false, cond, pos, List, [], is_some, slice_index, refl}
+use Rattle.std.proofs.Common.{◌≡◌, ◌-◌, ◌+◌, ◌%◌, ℕ, Bool, true, false, cond, pos, List, [], is_some, refl}
 use Rattle.v6_base.specs.declared.entry.Chan.{Chan}
 use Rattle.v6_base.specs.declared.entry.Chan.TheVariants.{Read, Write}
 use Rattle.v6_base.specs.declared.answer.Answer.TheVariants.{Sleep}
 use Rattle.v6_base.specs.declared.errno.Errno.TheVariants.{EINTR}
-use Rattle.fs_codec.specs.Store.{Store}
 use Rattle.pipe_ends.specs.declared.ends.Pipe.{Pipe}
 use Rattle.pipe_ends.specs.declared.ends.Piped.{Piped}
 use Rattle.pipe_ends.specs.declared.ends.Piped.TheVariants.{Done, Wait, Broken, Error}
@@ -13,10 +12,10 @@ use Rattle.pipe_ends.specs.Writes.{PipeWrite}
 use Rattle.sig_core.specs.declared.numbers.TheConstants.{SIGPIPE}
 use Rattle.sig_core.specs.Signals.{due, posted}
 use Rattle.sys_files.specs.Handed.{Handed}
-use Rattle.sys_files.specs.Did.{Did, fails, unless_due}
+use Rattle.sys_files.specs.Did.{Did, fails}
 use Rattle.sys_files.specs.Pipes.{with_pipe}
 use Rattle.sys_files.specs.Piping.{waits_in_pipe, words_of, pipe_at, ends_at, pipe_read, with_pipe_read, ends_read, reads_pipe, pipe_write, with_pipe_write, ends_write, writes_pipe}
-use Rattle.sys_files.specs.Sound.{owed, IsSound, IsKept}
+use Rattle.sys_files.specs.Sound.{IsSound, IsKept}
 use Rattle.sys_files.proofs.OthersLemmas.{all_stay}
 use Rattle.sys_files.proofs.PipeLemmas.{pipes_marked}
 use Rattle.sys_files.proofs.PipedLemmas.{read_leaves, write_leaves}

@@ -1,10 +1,9 @@
 -- What a read or a write of a pipe leaves: the inode of the pipe, how many nodes there are, and the sizes of the image.
-use Rattle.std.proofs.Common.{◌≡◌, ◌≤◌, ◌-◌, ◌+◌, ◌%◌, ◌==◌, ◌^◌, ℕ, zero, suc, Bool, true, false, cond, nat_lt, nat_le, Option, Some, None, refl, ap, sym, ◌∙◌, arith}
+use Rattle.std.proofs.Common.{◌≡◌, ◌≤◌, ◌+◌, ◌==◌, ℕ, zero, suc, Bool, true, false, cond, nat_lt, nat_le, Option, Some, None, refl, arith}
 use Rattle.v6_base.specs.Image.{Image}
 use Rattle.v6_base.specs.declared.errno.Errno.{Errno}
 use Rattle.v6_base.proofs.Copies.{SameLengths, same_lengths, bytes_lengths}
 use Rattle.fs_codec.specs.Store.{Store}
-use Rattle.fs_laws.specs.Pieces.{Moving}
 use Rattle.fs_nodes.specs.Copy.{put_into}
 use Rattle.pipe_ends.specs.declared.ends.Pipe.{Pipe}
 use Rattle.pipe_ends.specs.declared.ends.Piped.{Piped}

@@ -1,5 +1,5 @@
 -- What a read comes to, by its tests, and what it keeps.
-use Rattle.std.proofs.Common.{◌≡◌, ◌+◌, ◌%◌, ◌^◌, ◌==◌, ℕ, Bool, true, false, cond, pos, List, [], ◌∷◌, replicate, is_some, Option, Some, None, Result, Ok, Err, if◌then◌else◌, slice_index, refl, sym, ap, ◌∙◌, subst}
+use Rattle.std.proofs.Common.{◌≡◌, ◌+◌, ◌%◌, ◌^◌, ◌==◌, ℕ, Bool, true, false, cond, pos, [], ◌∷◌, replicate, is_some, Option, Some, None, Result, Ok, Err, if◌then◌else◌, slice_index, refl, sym, ap, ◌∙◌, subst}
 use Rattle.std.proofs.lemmas.Bool.{eq-eqb}
 use Rattle.v6_base.specs.Image.{Image}
 use Rattle.v6_base.specs.declared.answer.Answer.{Answer}
@@ -11,7 +11,7 @@ use Rattle.open_files.specs.declared.file.OpenFile.{OpenFile}
 use Rattle.fs_laws.specs.Pieces.{Moving}
 use Rattle.sys_files.specs.Handed.{Handed, r0, node_at, file_of, is_console}
 use Rattle.sig_core.specs.Signals.{due}
-use Rattle.sys_files.specs.Did.{Did, fails, check, must, unless_due}
+use Rattle.sys_files.specs.Did.{Did, fails, check, must}
 use Rattle.sys_files.specs.Descriptors.{open_entry}
 use Rattle.u_area.specs.declared.area.UArea.{UArea}
 use Rattle.tty_line.specs.declared.line.Took.{Took}
@@ -19,7 +19,7 @@ use Rattle.tty_line.specs.declared.line.Took.TheVariants.{Done, Wait, Fault}
 use Rattle.tty_line.specs.Terminal.{Terminal}
 use Rattle.tty_line.specs.Reading.{Reading, reads}
 use Rattle.sys_files.specs.Moving.{gives_count, read_of, with_read, line_read, with_line_read, waits_for_keys, takes_line, reads_line, reads_from, read_file_of}
-use Rattle.sys_files.specs.Moving.{without_pending, resume_read, goes_on, resumes}
+use Rattle.sys_files.specs.Moving.{without_pending, resume_read, resumes}
 use Rattle.sys_files.specs.Piping.{reads_pipe, writes_pipe}
 use Rattle.sys_files.specs.Sound.{IsSound, IsKept}
 use Rattle.sys_files.specs.Entering.{did_with}

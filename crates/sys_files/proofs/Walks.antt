@@ -9,7 +9,7 @@ use Rattle.v6_base.specs.Trace.{Item, Log, sent}
 use Rattle.v6_base.specs.Copy.{store_bytes}
 use Rattle.v6_base.specs.declared.answer.Answer.TheVariants.{Ret, Sleep}
 use Rattle.v6_base.specs.declared.entry.Chan.{Chan}
-use Rattle.v6_base.specs.declared.entry.Chan.TheVariants.{RunIn, RunOut, Tout, Keys, Read}
+use Rattle.v6_base.specs.declared.entry.Chan.TheVariants.{Keys, Read}
 use Rattle.v6_base.specs.declared.entry.Chan.TheVariants as channel
 use Rattle.v6_base.specs.declared.entry.Entry.{Entry}
 use Rattle.v6_base.specs.declared.entry.Entry.TheVariants.{Wake, Signal}
@@ -51,10 +51,11 @@ use Rattle.sys_files.specs.Pipes.{pipe_of, with_pipe, without_pipe}
 use Rattle.sys_files.specs.Piping.{reading_end, with_end, finds_place, with_ends, opens_ends, pipe_new, after, waits_in_pipe, words_of, pipe_at, ends_at, pipe_read, with_pipe_read, ends_read, reads_pipe, breaks, pipe_write, with_pipe_write, ends_write, writes_pipe}
 use Rattle.sys_files.specs.Opening.{last_failure, open_tests, can_open, with_opened, opens, opens_named, open_file}
 use Rattle.sys_files.specs.Making.{new_in, entry_written, writes_entry, with_links, enters_new, makes_node, opens_for_writing, with_no_blocks, opens_again, makes_file, creat_file, with_device, is_super_user, makes_any, mknod_at, may_link, enters_again, links_to, link_file, empties, removes, unlink_file}
-use Rattle.sys_files.specs.Moving.{with_moved, gives_count, waits_for_keys, read_of, with_read, line_read, with_line_read, takes_line, reads_line, reads_from, read_file_of, without_pending, resume_read, goes_on, resumes, shows_bytes, write_of, writes_to, write_file_of, seek_to}
+use Rattle.sys_files.specs.Moving.{with_moved, gives_count, read_of, with_read, line_read, with_line_read, takes_line, reads_line, reads_from, read_file_of, without_pending, resume_read, goes_on, resumes, shows_bytes, write_of, writes_to, write_file_of, seek_to}
 use Rattle.sys_files.specs.Modes.{of_terminal, words_at, sets_modes, stty_set, tells_modes, gtty_get}
 use Rattle.sys_files.specs.Names.{with_directory, enters_directory, chdir_to, is_owner, changes_mode, chmod_to, chown_to, sync_all}
 use Rattle.sys_files.specs.Status.{status_bytes, with_stored, tells_status, stat_file, stat_open}
+use Rattle.sys_files.proofs.Bounds.{IsOfFiles, IsLineOf}
 use Rattle.sys_files.proofs.Lengths.{line_lengths, read_lengths}
 use Rattle.sys_files.proofs.NumberLemmas.{number_low}
 use Rattle.sys_files.proofs.OwedLemmas.{counted}
@@ -75,20 +76,6 @@ asleep_in_pipe h chan pending words = record {
   state = record h { u = record h.u { pending = pending; call = words } };
   items = [];
 }
-
--- A channel on which a call on files wakes, or in a pipe sleeps: of keys, or of a pipe's inode of which this is so.
-abbrev pub IsOfFiles : (ℕ → Type 0) → Chan → Type 0
-IsOfFiles Named RunIn = ⊥
-IsOfFiles Named RunOut = ⊥
-IsOfFiles Named Tout = ⊥
-IsOfFiles Named Keys = Unit {0}
-IsOfFiles Named (channel.Wait slot) = ⊥
-IsOfFiles Named (Read ino) = Named ino
-IsOfFiles Named (channel.Write ino) = Named ino
-
--- A line of a call on files of the process of a slot: somebody is woken, or this process has the signal of a pipe that nobody reads.
-abbrev pub IsLineOf : (ℕ → Type 0) → ℕ → Entry → Type 0
-IsLineOf Named slot entry = ((chan : Chan) × (entry ≡ Wake chan) × IsOfFiles Named chan) ⊎ (entry ≡ Signal slot SIGPIPE)
 
 -- A call waits in a pipe: its entry is an end of which the process has a number, and no more bytes are left than there were.
 pub record IsAwaiting (h : Handed) (entry count left : ℕ) : Type 0 where
@@ -345,7 +332,7 @@ module _ {P : Handed → Type 0} {Q : Did → Type 0} {Few Named : ℕ → Type 
   closes_by h a b ino false true named p = answers h a b (Wake Keys ∷ []) (omega arith) (wake_line Keys [] tt no_line) p
   closes_by h a b ino false false named p = k.done h a b p
 
-  walk_released : (h : Handed) (a b : ℕ) (told : Closed) → IsNamedBy Named told → P h
+  pub walk_released : (h : Handed) (a b : ℕ) (told : Closed) → IsNamedBy Named told → P h
       → Q (record { answer = Ret a b; state = (released h told).state; items = (released h told).items })
   walk_released h a b (Still file) named p = subst Q (ap (λ (l : List Item). record { answer = Ret a b; state = with_roused h file; items = l }) (append-nil (pipe_roused file)))
       (closes_by (with_roused h file) a b file.ino file.kind.pipe false named (roused h file p))
