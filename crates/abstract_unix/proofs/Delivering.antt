@@ -133,7 +133,6 @@ trap_ends s seen steps a = by steps.ending a.begun
         (λ now i. trap_apt Unix s (seats_of steps.unix) now i))
     by (ending.Slept pri chan) b = b
     by ending.Ended b = b
-    by ending.NotBuilt b = b
     by (ending.Panic kind) b = b
 
 pub ended_apt : (s : ℕ) (seen : Seen) (steps : Steps) → AptBegun s seen steps → AptSteps s seen (ends_turn s steps)
@@ -152,5 +151,4 @@ ended_apt s seen steps a = by steps.ending a.begun
     }
     by (ending.Slept pri chan) b = b
     by ending.Ended b = b
-    by ending.NotBuilt b = b
     by (ending.Panic kind) b = b

@@ -6,6 +6,7 @@ use Rattle.open_files.specs.declared.file.OpenFile.{OpenFile}
 use Rattle.open_files.specs.declared.file.Closed.{Closed}
 use Rattle.open_files.specs.declared.file.Closed.TheVariants.{Still, Last}
 use Rattle.open_files.specs.Files.{times}
+use Rattle.pipe_ends.specs.declared.ends.Pipe.{Pipe}
 use Rattle.fs_tree.specs.Finding.{put_back}
 use Rattle.sys_files.specs.Handed.{Handed}
 use Rattle.sys_files.specs.Descriptors.{Closing, released, dropped, closes, then_closes, close_all}
@@ -133,10 +134,10 @@ told_dead w s =
     ∙ map-set told_by w.processes s (Some z)
 
 -- What is owed where it has left its directory, and is told of no more. Its files are closed.
-pub end_owes : (w : World) (s : ℕ) (files : List (Option OpenFile)) → get_or w.processes s None ≡ Some (process_of w s) → (process_of w s).is_zombie ≡ false
-    → ((entry : ℕ) → times (process_of w s).u.files entry ≡ 0) → Owes w.inodes.references files w.texts (told_in w.processes)
-    → Owes (put_back w.inodes (process_of w s).u.dir).references files w.texts (set (told_in w.processes) s None)
-end_owes w s files is lives closed owed =
+pub end_owes : (w : World) (s : ℕ) (files : List (Option OpenFile)) (pipes : List Pipe) → get_or w.processes s None ≡ Some (process_of w s) → (process_of w s).is_zombie ≡ false
+    → ((entry : ℕ) → times (process_of w s).u.files entry ≡ 0) → Owes w.inodes.references files pipes w.texts (told_in w.processes)
+    → Owes (put_back w.inodes (process_of w s).u.dir).references files pipes w.texts (set (told_in w.processes) s None)
+end_owes w s files pipes is lives closed owed =
     let p : Process = process_of w s in
     let ts : List (Option Told) = told_in w.processes in
     let at = told_at w.processes s p is lives in
@@ -149,11 +150,11 @@ end_owes w s files is lives closed owed =
           let gone = closed entry in
           omega (arith, before, change, old, gone);
       referred = λ ino.
-          let put = put_refs w.inodes.references p.u.dir ino (dir_referred w.inodes.references files w.texts ts owed s (told_of p) at) in
+          let put = put_refs w.inodes.references p.u.dir ino (dir_referred w.inodes.references files pipes w.texts ts owed s (told_of p) at) in
           let before = owed.referred ino in
           let change = stand_set ts s None ino low in
           let old = ap (stands ino) at in
           omega (arith, put, before, change, old);
-      no_pipe = owed.no_pipe;
+      piped = owed.piped;
       fifteen = fifteen_set ts s None owed.fifteen (λ t e. absurd (cc e));
     }
