@@ -7,9 +7,11 @@ use Rattle.open_files.specs.declared.file.Closed.{Closed}
 use Rattle.open_files.specs.declared.file.Closed.TheVariants.{Still, Last}
 use Rattle.open_files.specs.Files.{times}
 use Rattle.pipe_ends.specs.declared.ends.Pipe.{Pipe}
+use Rattle.u_area.specs.declared.area.UArea.{UArea}
 use Rattle.fs_tree.specs.Finding.{put_back}
 use Rattle.sys_files.specs.Handed.{Handed}
-use Rattle.sys_files.specs.Descriptors.{Closing, released, dropped, closes, then_closes, close_all}
+use Rattle.sys_files.specs.Descriptors.{Closing, without_marks, with_roused, is_gone_with, released, dropped, closes, then_closes, close_all}
+use Rattle.sys_files.specs.Pipes.{pipe_of, with_pipe, without_pipe}
 use Rattle.sys_files.specs.Descriptors as closing
 use Rattle.std.specs.List.{range_with_len}
 use Rattle.sys_files.proofs.ClosingLemmas.{closed_below, below_more, below_all}
@@ -19,10 +21,23 @@ use Rattle.sys_procs.specs.Exit.{slot_of, adopted, dead}
 use Rattle.abstract_unix.specs.Whole.{Told, told_of, told_by, told_in, names, stands, Owes}
 use Rattle.abstract_unix.proofs.Owing.{told_at, some_within, names_set, stand_set, dir_referred, fifteen_set}
 
+-- What a number lets go changes nothing of the area.
+either_area : (b : Bool) (x y : Handed) (u : UArea) → x.u ≡ u → y.u ≡ u → (cond b x y).u ≡ u
+either_area true x y u p q = p
+either_area false x y u p q = q
+
+roused_area : (h : Handed) (file : OpenFile) → (with_roused h file).u ≡ h.u
+roused_area h file = either_area file.kind.pipe (record h { pipes = with_pipe h.pipes (without_marks (pipe_of h.pipes file.ino)) }) h h.u refl refl
+
+pub released_area : (h : Handed) (told : Closed) → (released h told).state.u ≡ h.u
+released_area h (Still file) = roused_area h file
+released_area h (Last file) =
+    let roused : Handed = with_roused h file in
+    either_area (is_gone_with roused file) (record roused { pipes = without_pipe roused.pipes file.ino }) roused roused.u refl refl ∙ roused_area h file
+
 -- A process that has closed all its files names none.
 released_files : (h : Handed) (told : Closed) → (released h told).state.u.files ≡ h.u.files
-released_files h (Still file) = refl
-released_files h (Last file) = refl
+released_files h told = ap (λ (u : UArea). u.files) (released_area h told)
 
 closes_files : (h : Handed) (fd : ℕ) → (closes h fd).state.u.files ≡ set h.u.files fd 0
 closes_files h fd = released_files (dropped h fd) (closing.told_by h fd)
@@ -89,8 +104,7 @@ put_refs l d ino some =
 
 -- Closing files changes no register.
 released_registers : (h : Handed) (told : Closed) → (released h told).state.u.r ≡ h.u.r
-released_registers h (Still file) = refl
-released_registers h (Last file) = refl
+released_registers h told = ap (λ (u : UArea). u.r) (released_area h told)
 
 then_registers : (c : Closing) (fd : ℕ) → (then_closes c fd).state.u.r ≡ c.state.u.r
 then_registers c fd = by (slice_index c.state.u.files fd == 0)

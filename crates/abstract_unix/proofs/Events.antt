@@ -21,10 +21,12 @@ use Rattle.abstract_unix.specs.declared.ends.Ends.TheVariants.{AtEnd}
 use Rattle.abstract_unix.specs.Unix.{Unix, System}
 use Rattle.abstract_unix.specs.Steps.{Steps}
 use Rattle.abstract_unix.specs.Turn.{Turn, happens, settled_after, end_effects, ending_of, ending_by, settled_as, settled, turn_of, passes, pass_of, slot_of}
-use Rattle.abstract_unix.proofs.Sitting.{seats_of, all_sized}
+use Rattle.abstract_unix.proofs.Sitting.{seats_of, all_sized, runner_there, runner_alive}
 use Rattle.abstract_unix.proofs.Steps.{GoesOn, IsCalm, AptSteps}
 use Rattle.abstract_unix.proofs.Passing.{Passed, pass_passes}
 use Rattle.abstract_unix.proofs.Turning.{turn_apt}
+use Rattle.abstract_unix.proofs.Tidy.{IsTidy}
+use Rattle.abstract_unix.proofs.TidyTurns.{begins_numbers}
 
 -- the system at these lines
 abbrev pub system_at : Unix → Seen → System
@@ -206,10 +208,10 @@ pass_fine u seen p r = by l.stop refl
     by (Some stop) e = record { fit = passed.fit; stands = λ x. absurd (cc x); over = λ kind x. passed.over stop e }
 
 -- a slot
-pub slot_fine : (u : Unix) (seen : Seen) → Holds (seats_of u) seen
+pub slot_fine : (u : Unix) (seen : Seen) → IsTidy u → Holds (seats_of u) seen
     → FineTurn seen (settled_after (slot_of (system_at u seen) seen.board.table.running))
 unfolding FitAll
-slot_fine u seen h = by seen.board.table.running refl h.paused.runner
+slot_fine u seen tidy h = by seen.board.table.running refl h.paused.runner
   where
     by : (o : Option ℕ) → seen.board.table.running ≡ o → RunnerAt (seats_of u) seen.board o
         → FineTurn seen (settled_after (slot_of (system_at u seen) o))
@@ -218,4 +220,6 @@ slot_fine u seen h = by seen.board.table.running refl h.paused.runner
     by (Some zero) e r = pass_fine u seen h.paused e
     by (Some (suc s)) e (inl z) = absurd (cc z)
     by (Some (suc s)) e (inr t) =
-        turned_fine (suc s) u seen _ (turn_apt (suc s) seen u h.paused t)
+        turned_fine (suc s) u seen _ (turn_apt (suc s) seen u tidy
+        (begins_numbers (suc s) u seen.board tidy (runner_there u.processes u.clock u.texts u.limit (suc s) seen.board t)
+        (runner_alive u.processes u.clock u.texts u.limit (suc s) seen.board t)) h.paused t)

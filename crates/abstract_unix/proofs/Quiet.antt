@@ -84,7 +84,7 @@ same_size p = record { «data» = p.same.size.data; stack = p.same.size.stack }
 same_call_in : {old : UArea} {h : Handed} {numbers : List ℕ} {dir : ℕ} → InCalm old h → SameCall old (record h.u { files = numbers; dir = dir })
 same_call_in p = record { size = record { «data» = p.same.size.data; stack = p.same.size.stack }; pending = p.same.pending }
 
-other_inodes : (h : Handed) (inodes : Inodes) → inodes.store.count ≡ h.inodes.store.count → HasNumbers h → HasNumbers (with_inodes h inodes)
+pub other_inodes : (h : Handed) (inodes : Inodes) → inodes.store.count ≡ h.inodes.store.count → HasNumbers h → HasNumbers (with_inodes h inodes)
 other_inodes h inodes same n = record { count = subst (λ c. c ≤ 65535) (sym same) n.count; pipes = n.pipes }
 
 dropped_calm : (old : UArea) (h : Handed) (fd : ℕ) → InCalm old h → InCalm old (dropped h fd)
