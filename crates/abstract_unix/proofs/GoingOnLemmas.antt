@@ -1,0 +1,90 @@
+-- STATEMENTS (a2, 02:30): the forms in which CanGoOn is kept. Being proved under these names; out of Lib.antt till then.
+--
+-- ---- proofs/PendingRows.antt: what a call on files leaves of its own process (no lemma of sys_files is used) ----
+--
+-- abbrev pub InPipe : ℕ → Type 0                        -- a pending call that is a read or a write of a pipe
+-- InPipe pending = (pending ≡ 3) ⊎ (pending ≡ 4)
+--
+-- -- who waits in a pipe has a number for the end that the call is about
+-- pub record IsAtEnd (files : List (Option OpenFile)) (u : UArea) : Type 0 where
+--   pub file : OpenFile
+--   pub there : file_at files (slice_index u.call 0) ≡ Some file
+--   pub pipe : file.kind.pipe ≡ true
+--   pub named : 1 ≤ times u.files (slice_index u.call 0)
+--   pub left : slice_index u.call 3 ≤ slice_index u.call 2
+--
+-- abbrev pub Pends : Handed → Type 0
+-- Pends h = InPipe h.u.pending → IsAtEnd h.files h.u
+--
+-- pub row_pends : (call : FileCall) (h : Handed) (slot : ℕ) (args : List ℕ) (now : ℕ) → h.u.pending ≡ 0 → Pends (file_row call h slot args now).state
+-- pub resume_pends : (h : Handed) (slot now : ℕ) → is_on_files h.u.pending ≡ true → Pends h → Pends (resumes h slot now).state
+-- pub close_pends : (h : Handed) → h.u.pending ≡ 0 → Pends (close_all h).state
+-- pub core_pends : (h : Handed) (now : ℕ) → h.u.pending ≡ 0 → Pends (core_file h now).state
+-- (and close_pending, core_pending : .. (close_all h).state.u.pending ≡ h.u.pending, the same for core_file)
+-- -- a call that comes to an answer waits for nothing
+-- pub row_user : (call) (h) (slot args now) → h.u.pending ≡ 0 → is_sleep (file_row call h slot args now).answer ≡ false → (file_row ..).state.u.pending ≡ 0
+-- pub resume_user : (h slot now) → is_sleep (resumes h slot now).answer ≡ false → (resumes h slot now).state.u.pending ≡ 0
+--   where is_sleep (Sleep pri chan) = true, is_sleep of the others false
+--
+-- ---- proofs/GoingOnLemmas.antt: CanGoOn of a Unix ----
+--
+-- -- Who waits in a pipe in a slot waited in it before: the same files, call and pending.
+-- pub record Waited (o : Option Process) (q : Process) : Type 0 where
+--   pub before : Process
+--   pub there : o ≡ Some before
+--   pub lives : before.is_zombie ≡ false
+--   pub pending : before.u.pending ≡ q.u.pending
+--   pub call : before.u.call ≡ q.u.call
+--   pub files : before.u.files ≡ q.u.files
+--
+-- abbrev pub WaitedIn : Option Process → Option Process → Type 0
+-- WaitedIn old new = (q : Process) → new ≡ Some q → q.is_zombie ≡ false → InPipe q.u.pending → Waited old q
+-- abbrev pub AllWaited : List (Option Process) → List (Option Process) → Type 0
+-- AllWaited old new = (s : ℕ) → WaitedIn (get_or old s None) (get_or new s None)
+-- pub all_waited_refl, all_waited_then (transitive)
+-- pub all_waited_put : (ps) (s) (q : Process) → WaitedIn (get_or ps s None) (Some q) → AllWaited ps (set ps s (Some q))
+-- pub all_waited_free : (ps) (s) → AllWaited ps (set ps s None)
+-- pub like_waited : (p q : Process) → q.is_zombie ≡ p.is_zombie → q.u.pending ≡ p.u.pending → q.u.call ≡ p.u.call → q.u.files ≡ p.u.files → WaitedIn (Some p) (Some q)
+-- pub user_waited : (o) (q : Process) → q.u.pending ≡ 0 → WaitedIn o (Some q)
+--
+-- -- 1. processes change, the table of files doesn't: each process row, fork (before the files are shared), end_proc, growth, ticks, keys, signals, passes
+-- pub waited_goes_on : (u v : Unix) → CanGoOn u → AllWaited u.processes v.processes → v.files ≡ u.files → CanGoOn v
+-- pub put_goes_on : (u : Unix) (s : ℕ) (q : Process) → CanGoOn u → WaitedIn (process_at u s) (Some q) → CanGoOn (with_process u s q)
+-- pub world_goes_on : (u : Unix) (w : World) → CanGoOn u → AllWaited u.processes w.processes → CanGoOn (with_world u w)
+--
+-- -- 2. a call on files of the process of a slot; form of Owing.file_owes
+-- pub file_goes_on : (refs : List ℕ) (u : Unix) (s : ℕ) (h : Handed) → Owed refs u → CanGoOn u → get_or u.processes s None ≡ Some (process_of u s)
+--     → (process_of u s).is_zombie ≡ false → IsKept (handed_of u (process_of u s)) h → Pends h → CanGoOn (with_handed u s h)
+-- -- what resume_file of sys_files wants
+-- pub handed_goes_on : (u : Unix) (s : ℕ) → CanGoOn u → get_or u.processes s None ≡ Some (process_of u s) → (process_of u s).is_zombie ≡ false
+--     → is_on_files (process_of u s).u.pending ≡ true → sound.CanGoOn (handed_of u (process_of u s))
+-- -- and Pends of what the process is handed
+-- pub handed_pends : (u : Unix) (s : ℕ) → CanGoOn u → get_or u.processes s None ≡ Some (process_of u s) → (process_of u s).is_zombie ≡ false → Pends (handed_of u (process_of u s))
+--
+-- -- 3. what the parts of a Unix keep of the table of open files (fork)
+-- pub shared_goes_on : (u : Unix) (mine : List ℕ) → CanGoOn u → CanGoOn (record u { files = shared u.files mine })
+-- pub shares_goes_on : (u : Unix) (mine : List ℕ) (answer : Answer) → CanGoOn u → CanGoOn (record u { files = shares u.files mine answer })
+--
+-- ---- proofs/WaitingRows.antt: AllWaited of what comes of rows on processes, in any World; s is the slot of who calls, in user mode ----
+--
+-- pub row_waited : (call : ProcessCall) (w : World) (s : ℕ) (args : List ℕ) → (process_of w s).u.pending ≡ 0 → AllWaited w.processes (process_row call w s args).state.processes
+-- pub resume_waited : (w : World) (s : ℕ) → AllWaited w.processes (resume_proc w s).state.processes
+-- pub fork_waited : (w : World) (s : ℕ) → (process_of w s).u.pending ≡ 0 → AllWaited w.processes (fork_one w s).state.processes
+-- pub end_waited : (w : World) (s status : ℕ) → AllWaited w.processes (end_proc w s status).state.processes      -- whatever it waits for: it is a zombie
+-- pub grown_waited : (w : World) (s sp : ℕ) → (process_of w s).u.pending ≡ 0 → AllWaited w.processes (grown_or_not w s (grow w s sp)).state.processes
+-- pub key_waited : (who : ℕ → Process → Bool) (n : ℕ) (ps) → AllWaited ps (all_signalled who n ps)
+-- pub row_user, resume_user, .. of processes: an answer that is no sleep leaves the process in user mode:
+-- pub process_user : (call : ProcessCall) (w : World) (s : ℕ) (args) → s < length w.processes → (process_of w s).u.pending ≡ 0
+--     → is_sleep (process_row call w s args).answer ≡ false → (process_of (process_row call w s args).state s).u.pending ≡ 0
+-- pub resumed_user : (w : World) (s : ℕ) → s < length w.processes → is_sleep (resume_proc w s).answer ≡ false → (process_of (resume_proc w s).state s).u.pending ≡ 0
+--
+-- ---- proofs/GoingOnSteps.antt: whole steps, if wanted (u1, u2: say which; else 1 and 2 above with the rows are enough) ----
+--
+-- pub trapped_user : (m : System) (s : ℕ) → get_or m.unix.processes s None ≡ Some (process_of m.unix s) → (begins_turn m s).ending ≡ Trapped
+--     → (process_of (begins_turn m s).unix s).u.pending ≡ 0
+--   (a signal that ends a process closes its files while it isn't yet a zombie: so exit, end_with, end_by, deliver_due, deliver_after,
+--   does_call, call_files, call_processes, fork, come_to want `requires user { is_user (process_of (unix_of world.old) s) ≡ true }`, deliver_after
+--   only where `ending ≡ Trapped`; its callers have it by trapped_user from HasCome, tick by mode User.)
+-- pub charged_goes_on : (u : Unix) (mode : Mode) (running : Option ℕ) → CanGoOn u → CanGoOn (charged u mode running)
+-- pub key_goes_on : (keyed : Keyed) (u : Unix) → CanGoOn u → CanGoOn (with_key keyed u)
+-- pub first_goes_on : (u : Unix) → ((s : ℕ) (p : Process) → process_at u s ≡ Some p → p.u.pending ≡ 0) → CanGoOn u      -- boot
