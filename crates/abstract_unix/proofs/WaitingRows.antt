@@ -1,0 +1,23 @@
+-- ---- proofs/WaitingRows.antt: AllWaited of what comes of rows on processes, in any World; s is the slot of who calls, in user mode ----
+--
+-- pub row_waited : (call : ProcessCall) (w : World) (s : ℕ) (args : List ℕ) → (process_of w s).u.pending ≡ 0 → AllWaited w.processes (process_row call w s args).state.processes
+-- pub resume_waited : (w : World) (s : ℕ) → AllWaited w.processes (resume_proc w s).state.processes
+-- pub fork_waited : (w : World) (s : ℕ) → (process_of w s).u.pending ≡ 0 → AllWaited w.processes (fork_one w s).state.processes
+-- pub end_waited : (w : World) (s status : ℕ) → AllWaited w.processes (end_proc w s status).state.processes      -- whatever it waits for: it is a zombie
+-- pub grown_waited : (w : World) (s sp : ℕ) → (process_of w s).u.pending ≡ 0 → AllWaited w.processes (grown_or_not w s (grow w s sp)).state.processes
+-- pub key_waited : (who : ℕ → Process → Bool) (n : ℕ) (ps) → AllWaited ps (all_signalled who n ps)
+-- pub row_user, resume_user, .. of processes: an answer that is no sleep leaves the process in user mode:
+-- pub process_user : (call : ProcessCall) (w : World) (s : ℕ) (args) → s < length w.processes → (process_of w s).u.pending ≡ 0
+--     → is_sleep (process_row call w s args).answer ≡ false → (process_of (process_row call w s args).state s).u.pending ≡ 0
+-- pub resumed_user : (w : World) (s : ℕ) → s < length w.processes → is_sleep (resume_proc w s).answer ≡ false → (process_of (resume_proc w s).state s).u.pending ≡ 0
+--
+-- ---- proofs/GoingOnSteps.antt: whole steps, if wanted (u1, u2: say which; else 1 and 2 above with the rows are enough) ----
+--
+-- pub trapped_user : (m : System) (s : ℕ) → get_or m.unix.processes s None ≡ Some (process_of m.unix s) → (begins_turn m s).ending ≡ Trapped
+--     → (process_of (begins_turn m s).unix s).u.pending ≡ 0
+--   (a signal that ends a process closes its files while it isn't yet a zombie: so exit, end_with, end_by, deliver_due, deliver_after,
+--   does_call, call_files, call_processes, fork, come_to want `requires user { is_user (process_of (unix_of world.old) s) ≡ true }`, deliver_after
+--   only where `ending ≡ Trapped`; its callers have it by trapped_user from HasCome, tick by mode User.)
+-- pub charged_goes_on : (u : Unix) (mode : Mode) (running : Option ℕ) → CanGoOn u → CanGoOn (charged u mode running)
+-- pub key_goes_on : (keyed : Keyed) (u : Unix) → CanGoOn u → CanGoOn (with_key keyed u)
+-- pub first_goes_on : (u : Unix) → ((s : ℕ) (p : Process) → process_at u s ≡ Some p → p.u.pending ≡ 0) → CanGoOn u      -- boot
