@@ -18,7 +18,7 @@ use Rattle.abstract_unix.specs.Calls.{handed_of, with_handed, with_world, shares
 use Rattle.abstract_unix.specs.Whole.{Told, told_of, told_in, names, all_names, Owed, CanGoOn}
 use Rattle.abstract_unix.proofs.Owing.{told_at, some_within, names_set}
 use Rattle.abstract_unix.proofs.Sharing.{shared_at}
-use Rattle.abstract_unix.proofs.Pending.{InPipe, never_in_pipe, HasEnd, IsAtEnd, Pends}
+use Rattle.abstract_unix.proofs.PendingRows.{InPipe, never_in_pipe, HasEnd, IsAtEnd, Pends}
 
 -- Who lives in a slot and waits in a pipe is at an end of it.
 abbrev pub HoldsEnd : List (Option OpenFile) → Option Process → Type 0

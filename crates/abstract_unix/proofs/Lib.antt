@@ -22,7 +22,7 @@ pub mod Dying
 pub mod Moved
 pub mod Mild
 pub mod CallLemmas
+pub mod NeverWaiting
 pub mod PendingRows
-pub mod Pending
 pub mod GoingOnLemmas
 pub mod WaitingRows

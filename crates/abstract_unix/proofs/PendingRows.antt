@@ -1,279 +1,294 @@
--- A call on files that can't wait leaves the pending call of its process as it was.
-use Rattle.std.proofs.Common.{◌≡◌, ◌+◌, ◌-◌, ◌/◌, ◌%◌, ◌==◌, ℕ, Bool, true, false, not, nat_lt, cond, List, [], ◌∷◌, Option, Some, None, Result, Ok, Err, refl, ap, ◌∙◌}
+-- What a call on files leaves of the call in which its process waits: who waits in a pipe has a number for the end.
+use Rattle.std.proofs.Common.{◌≡◌, ◌<◌, ◌≤◌, ◌==◌, ◌∙◌, ◌||◌, ℕ, zero, suc, Bool, true, false, nat_lt, nat_le, cond, List, length, Option, Some, None, Ok, Err, is_some, slice_index, refl, inl, inr, arith}
+use Rattle.std.specs.Prelude.{◌⊎◌, unwrap_or}
+use Rattle.std.proofs.lemmas.Bool.{eqb-true, eqb-false}
 use Rattle.v6_base.specs.Image.{Image}
+use Rattle.v6_base.specs.Trace.{sent}
+use Rattle.v6_base.specs.declared.answer.Answer.{Answer}
+use Rattle.v6_base.specs.declared.answer.Answer.TheVariants.{Ret, Fail, Sleep}
+use Rattle.v6_base.specs.declared.entry.Chan.{Chan}
+use Rattle.v6_base.specs.declared.entry.Chan.TheVariants.{Read, Write}
 use Rattle.v6_base.specs.declared.errno.Errno.{Errno}
-use Rattle.v6_base.specs.declared.errno.Errno.TheVariants.{EPERM, EFAULT, EEXIST, EISDIR, ENOTDIR, ENFILE, EMFILE, ENOTTY, ENODEV, ENXIO, ESPIPE, EMLINK, EACCES}
-use Rattle.fs_codec.specs.Bytes.{entry_bytes}
-use Rattle.fs_codec.specs.Modes.{is_directory, is_character_device}
-use Rattle.fs_codec.specs.declared.modes.TheConstants.{IALLOC}
-use Rattle.fs_tree.specs.declared.made.Made.{Made}
-use Rattle.fs_tree.specs.declared.made.Made.TheVariants as made
-use Rattle.fs_tree.specs.declared.user.Want.TheVariants.{Write, Execute}
-use Rattle.fs_tree.specs.Name.{name_at}
-use Rattle.fs_tree.specs.Finding.{Finding, find_in, make_in, remove_in}
-
-use Rattle.fs_tree.specs.Permission.{permission, access}
+use Rattle.v6_base.specs.declared.errno.Errno.TheVariants.{EBADF, EFAULT}
+use Rattle.fs_codec.specs.Store.{Store}
+use Rattle.fs_laws.specs.Pieces.{Moving}
+use Rattle.fs_tree.specs.Name.{readable}
 use Rattle.open_files.specs.declared.file.OpenFile.{OpenFile}
-use Rattle.open_files.specs.declared.file.FileKind.{FileKind}
-use Rattle.open_files.specs.declared.file.Closed.{Closed}
-use Rattle.open_files.specs.declared.file.Closed.TheVariants.{Still, Last}
-use Rattle.open_files.specs.Files.{free_number, free_entry}
-use Rattle.pipe_ends.specs.declared.ends.Pipe.{Pipe}
-use Rattle.u_area.specs.Area.{area_bytes}
-use Rattle.u_area.specs.declared.layout.TheConstants.{AREA_SIZE}
+use Rattle.open_files.specs.Files.{file_at, times, entry_of}
+use Rattle.tty_line.specs.Output.{shows, after_shown}
+use Rattle.tty_line.specs.declared.line.Took.{Took}
+use Rattle.tty_line.specs.declared.line.Took.TheVariants as took
+use Rattle.sig_core.specs.Signals.{due}
 use Rattle.u_area.specs.declared.area.UArea.{UArea}
-use Rattle.sys_files.specs.Handed.{Handed, r0, node_at, file_of, user_of, is_null, with_inodes, with_changed}
-use Rattle.sys_files.specs.Did.{Did, fails, is_done, check, must, need, until_end, then_named, finds, by_made, makes}
-use Rattle.sys_files.specs.Core.{core_name, is_plain, writes_parts, writes_over, writes_new, writes_named, core_file}
-use Rattle.sys_files.specs.Descriptors.{open_entry, dup_file, with_roused, with_gone, is_gone_with, released, told_by, dropped, Closing, closes, close_file, then_closes, close_all}
-use Rattle.sys_files.specs.Opening.{last_failure, open_tests, can_open, opens, opens_named, open_file}
-use Rattle.sys_files.specs.Making.{new_in, entry_written, writes_entry, with_links, enters_new, makes_node, opens_for_writing, with_no_blocks, opens_again, makes_file, creat_file, with_device, is_super_user, makes_any, mknod_at, may_link, enters_again, links_to, link_file, empties, removes, unlink_file}
-use Rattle.sys_files.specs.Moving.{seek_to}
-use Rattle.sys_files.specs.Modes.{of_terminal, words_at, sets_modes, stty_set, gtty_get}
-use Rattle.sys_files.specs.Names.{enters_directory, chdir_to, is_owner, changes_mode, chmod_to, chown_to}
-use Rattle.sys_files.specs.Status.{with_stored, tells_status, stat_file, stat_open}
-use Rattle.sys_files.specs.Piping.{reading_end, with_end, opens_ends, pipe_new}
-use Rattle.std.specs.List.{range_with_len}
-use Rattle.std.proofs.Common.{fold}
+use Rattle.pipe_ends.specs.declared.ends.Pipe.{Pipe}
+use Rattle.pipe_ends.specs.declared.ends.Piped.{Piped}
+use Rattle.pipe_ends.specs.declared.ends.Piped.TheVariants.{Done, Wait, Broken, Error}
+use Rattle.pipe_ends.specs.declared.ends.TheConstants.{PIPSIZ}
+use Rattle.pipe_ends.specs.Reads.{PipeRead}
+use Rattle.pipe_ends.specs.Writes.{WriteCall, Writing, PipeWrite, size_in, append_of, appended, ends_as, waits, unless_error, rounds, write_call, writes}
+use Rattle.sys_files.specs.Handed.{Handed, r0, node_at, file_of, no_file, is_console}
+use Rattle.sys_files.specs.Did.{Did, fails, returns, check, must}
+use Rattle.sys_files.specs.Core.{core_file}
+use Rattle.sys_files.specs.Descriptors.{close_all, open_entry}
+use Rattle.sys_files.specs.Piping.{waits_in_pipe, words_of, pipe_at, pipe_read, with_pipe_read, ends_read, reads_pipe, pipe_write, with_pipe_write, ends_write, writes_pipe}
+use Rattle.sys_files.specs.Moving.{gives_count, read_of, with_read, line_read, with_line_read, takes_line, reads_line, reads_from, read_file_of, without_pending, resume_read, write_of, with_moved, writes_to, write_file_of, resumes}
 use Rattle.abstract_unix.specs.declared.calls.FileCall.{FileCall}
 use Rattle.abstract_unix.specs.declared.calls.FileCall.TheVariants as file
-use Rattle.abstract_unix.specs.Calls.{file_row}
-use Rattle.std.specs.Prelude.{⊤, slice_index, ◌++◌, length}
+use Rattle.abstract_unix.specs.Calls.{file_row, is_on_files}
+use Rattle.abstract_unix.proofs.Owing.{times_some}
+use Rattle.abstract_unix.proofs.NeverWaiting.{close_pending, core_pending, row_pending}
 
--- The calls that wait for nothing: all but reads and writes.
-abbrev pub NeverWaits : FileCall → Type 0
-NeverWaits file.Read = ⊥
-NeverWaits file.Write = ⊥
-NeverWaits call = ⊤
+-- a pending call that is a read or a write of a pipe
+abbrev pub InPipe : ℕ → Type 0
+InPipe pending = (pending ≡ 3) ⊎ (pending ≡ 4)
 
--- The number of the pending call stays through each word of a row.
-module _ (n : ℕ) where
-  abbrev pub Stays : Did → Type 0
-  Stays d = d.state.u.pending ≡ n
+pub never_in_pipe : {P : Type 0} (n : ℕ) → n ≡ 0 → InPipe n → P
+never_in_pipe n free (inl three) = absurd (omega (arith, free, three))
+never_in_pipe n free (inr four) = absurd (omega (arith, free, four))
 
-  check_stays : {A : Type 0} (h : Handed) (test : Result A Errno) (next : A → Did) → h.u.pending ≡ n → ((a : A) → Stays (next a)) → Stays (check h test next)
-  check_stays h (Ok a) next is goes = goes a
-  check_stays h (Err e) next is goes = is
+-- An entry is an end of a pipe, and one of these numbers at least names it.
+pub record HasEnd (files : List (Option OpenFile)) (mine : List ℕ) (entry : ℕ) : Type 0 where
+  pub file : OpenFile
+  pub there : file_at files entry ≡ Some file
+  pub pipe : file.kind.pipe ≡ true
+  pub named : 1 ≤ times mine entry
 
-  named_stays : {A : Type 0} (h : Handed) (found : Finding A) (next : Handed → A → Did) → h.u.pending ≡ n
-      → ((l : Handed) (a : A) → l.u.pending ≡ n → Stays (next l a)) → Stays (then_named h found next)
-  named_stays h found next is goes = check_stays (with_inodes h found.inodes) found.answer (next (with_inodes h found.inodes)) is (λ a. goes (with_inodes h found.inodes) a is)
+-- Who waits in a pipe has a number for the end that the call is about, and no more bytes are left than there were.
+pub record IsAtEnd (files : List (Option OpenFile)) (u : UArea) : Type 0 where
+  pub end : HasEnd files u.files (slice_index u.call 0)
+  pub left : slice_index u.call 3 ≤ slice_index u.call 2
 
-  finds_stays : (h : Handed) (name : ℕ) (next : Handed → ℕ → Did) → h.u.pending ≡ n → ((l : Handed) (ino : ℕ) → l.u.pending ≡ n → Stays (next l ino)) → Stays (finds h name next)
-  finds_stays h name next is goes = named_stays h (find_in h.inodes (user_of h.u) h.u.dir (name_at h.image name)) (λ l ino. until_end ino (next l ino)) is goes
+abbrev pub Pends : Handed → Type 0
+Pends h = InPipe h.u.pending → IsAtEnd h.files h.u
 
-  made_stays : (h : Handed) (answer : Made) (there : Handed → ℕ → Did) (new : Handed → ℕ → ℕ → List ℕ → Did) → h.u.pending ≡ n
-      → ((l : Handed) (ino : ℕ) → l.u.pending ≡ n → Stays (there l ino))
-      → ((l : Handed) (dir offset : ℕ) (name : List ℕ) → l.u.pending ≡ n → Stays (new l dir offset name)) → Stays (by_made there new h answer)
-  made_stays h (made.Found ino) there new is one two = one h ino is
-  made_stays h (made.Room dir offset name) there new is one two = two h dir offset name is
+-- a call whose answer is that its process sleeps
+abbrev pub is_sleep : Answer → Bool
+is_sleep (Ret a b) = false
+is_sleep (Fail e) = false
+is_sleep (Sleep pri chan) = true
 
-  makes_stays : (h : Handed) (name : ℕ) (there : Handed → ℕ → Did) (new : Handed → ℕ → ℕ → List ℕ → Did) → h.u.pending ≡ n
-      → ((l : Handed) (ino : ℕ) → l.u.pending ≡ n → Stays (there l ino))
-      → ((l : Handed) (dir offset : ℕ) (name : List ℕ) → l.u.pending ≡ n → Stays (new l dir offset name)) → Stays (makes h name there new)
-  makes_stays h name there new is one two =
-      named_stays h (make_in h.inodes h.marks (user_of h.u) h.u.dir (name_at h.image name)) (by_made there new) is
-      (λ l answer same. made_stays l answer there new same one two)
+-- What a call leaves: who waits in a pipe is at an end of it, and who doesn't sleep waits for nothing.
+pub record Holds (d : Did) : Type 0 where
+  pub pends : Pends d.state
+  pub user : is_sleep d.answer ≡ false → d.state.u.pending ≡ 0
 
-  written_stays : (h : Handed) (dir offset : ℕ) (bytes : List ℕ) (now : ℕ) (next : Handed → Did) → h.u.pending ≡ n → ((l : Handed) → l.u.pending ≡ n → Stays (next l))
-      → Stays (writes_entry h dir offset bytes now next)
-  written_stays h dir offset bytes now next is goes = named_stays h (entry_written h.inodes dir offset bytes now) (λ l done. next l) is (λ l done same. goes l same)
+holds_free : (d : Did) → d.state.u.pending ≡ 0 → Holds d
+holds_free d free = record { pends = never_in_pipe d.state.u.pending free; user = λ awake. free }
 
-  node_stays : (h : Handed) (dir offset : ℕ) (name : List ℕ) (mode now : ℕ) (next : Handed → ℕ → Did) → h.u.pending ≡ n
-      → ((l : Handed) (ino : ℕ) → l.u.pending ≡ n → Stays (next l ino)) → Stays (makes_node h dir offset name mode now next)
-  node_stays h dir offset name mode now next is goes =
-      named_stays h (new_in h.inodes mode (user_of h.u) now) (λ l ino. until_end ino (enters_new l dir offset name ino now next)) is (λ l ino same.
-      written_stays l dir offset (entry_bytes (record { ino = ino; name = name })) now (λ m. next (with_links m ino 1 now) ino) same (λ m more. goes (with_links m ino 1 now) ino more))
+holds_either : (b : Bool) (x y : Did) → Holds x → Holds y → Holds (cond b x y)
+holds_either true x y p q = p
+holds_either false x y p q = q
 
-  opens_stays : (h : Handed) (ino : ℕ) (kind : FileKind) → h.u.pending ≡ n → Stays (opens h ino kind)
-  opens_stays h ino kind is =
-      check_stays h (need EMFILE (free_number h.u.files)) _ is (λ fd.
-      check_stays h (need ENFILE (free_entry h.files)) _ is (λ entry.
-      check_stays h (must ENXIO (can_open (node_at h ino))) _ is (λ can. is)))
-
-  stored_stays : (h : Handed) (o : Option Image) → h.u.pending ≡ n → Stays (with_stored h o)
-  stored_stays h (Some m) is = is
-  stored_stays h None is = is
-
-  terminal_stays : (h : Handed) (does : Did) → h.u.pending ≡ n → Stays does → Stays (of_terminal h does)
-  terminal_stays h does is goes =
-      check_stays h (open_entry h (r0 h)) _ is (λ entry.
-      check_stays h (must ENOTTY (is_character_device (node_at h (file_of h entry).ino).mode)) _ is (λ device.
-      check_stays h (must ENODEV (not (is_null (node_at h (file_of h entry).ino)))) _ is (λ may. goes)))
-
--- Closing files changes of the u area the numbers alone.
-either_area : (b : Bool) (h : Handed) (pipes : List Pipe) → (cond b (record h { pipes = pipes }) h).u ≡ h.u
-either_area true h pipes = refl
-either_area false h pipes = refl
-
-roused_area : (h : Handed) (file : OpenFile) → (with_roused h file).u ≡ h.u
-roused_area h file = either_area file.kind.pipe h _
-
-gone_area : (h : Handed) (file : OpenFile) → (with_gone h file).u ≡ h.u
-gone_area h file = either_area (is_gone_with h file) h _
-
-released_area : (h : Handed) (told : Closed) → (released h told).state.u ≡ h.u
-released_area h (Still file) = roused_area h file
-released_area h (Last file) = gone_area (with_roused h file) file ∙ roused_area h file
-
-closes_pending : (h : Handed) (fd : ℕ) → (closes h fd).state.u.pending ≡ h.u.pending
-closes_pending h fd = ap (λ (u : UArea). u.pending) (released_area (dropped h fd) (told_by h fd))
-
-then_pending : (c : Closing) (fd : ℕ) → (then_closes c fd).state.u.pending ≡ c.state.u.pending
-then_pending c fd = by (slice_index c.state.u.files fd == 0)
+-- a sleep for keys
+holds_line : (h : Handed) (entry at count : ℕ) (told : Took) → h.u.pending ≡ 0 → Holds (takes_line h entry at count told)
+holds_line h entry at count (took.Done n) free = holds_free _ free
+holds_line h entry at count took.Wait free =
+    holds_either (is_some (due h.row h.u)) _ _ (holds_free _ free)
+    (record { pends = λ waits. keys waits; user = λ awake. absurd (cc awake) })
   where
-    by : (b : Bool) → (cond b c (let next : Closing = closes c.state fd in record { state = next.state; items = c.items ++ next.items })).state.u.pending ≡ c.state.u.pending
-    by true = refl
-    by false = closes_pending c.state fd
+    keys : {P : Type 0} → InPipe 1 → P
+    keys (inl three) = absurd (omega (arith, three))
+    keys (inr four) = absurd (omega (arith, four))
+holds_line h entry at count took.Fault free = holds_free _ free
 
-all_pending : (c : Closing) (fds : List ℕ) → (fold then_closes c fds).state.u.pending ≡ c.state.u.pending
-all_pending c [] = refl
-all_pending c (fd ∷ fds) = all_pending (then_closes c fd) fds ∙ then_pending c fd
+holds_reads_line : (h : Handed) (entry at count : ℕ) → h.u.pending ≡ 0 → Holds (reads_line h entry at count)
+holds_reads_line h entry at count free = holds_line (with_line_read h (line_read h at count)) entry at count (line_read h at count).took free
 
-pub close_pending : (h : Handed) → (close_all h).state.u.pending ≡ h.u.pending
-unfolding close_all
-close_pending h = all_pending (record { state = h; items = [] }) (range_with_len 0 15)
+holds_count : (h : Handed) (count : ℕ) (e : Option Errno) → h.u.pending ≡ 0 → Holds (gives_count h count e)
+holds_count h count None free = holds_free _ free
+holds_count h count (Some e) free = holds_free _ free
 
--- The rows.
-module _ (n : ℕ) where
-  open_stays : (h : Handed) (name mode : ℕ) → h.u.pending ≡ n → Stays n (open_file h name mode)
-  open_stays h name mode is =
-      finds_stays n h name (λ l ino. opens_named l ino mode) is (λ l ino same.
-      check_stays n l (last_failure (open_tests l.marks ino (node_at l ino) (user_of l.u) mode)) _ same (λ passed. opens_stays n l ino _ same))
+-- a sleep in a pipe
+holds_wait : (h : Handed) (chan : Chan) (pending entry at count left : ℕ) → h.u.pending ≡ 0 → HasEnd h.files h.u.files entry → left ≤ count
+    → Holds (waits_in_pipe h chan pending (words_of entry at count left))
+holds_wait h chan pending entry at count left free end few =
+    holds_either (is_some (due h.row h.u)) _ _ (holds_free _ free)
+    (record { pends = λ waits. record { end = end; left = few }; user = λ awake. absurd (cc awake) })
 
-  close_stays : (h : Handed) → h.u.pending ≡ n → Stays n (close_file h)
-  close_stays h is = check_stays n h (open_entry h (r0 h)) _ is (λ entry. closes_pending h (r0 h) ∙ is)
+holds_read : (h : Handed) (ino entry at count : ℕ) (answer : Piped) → h.u.pending ≡ 0 → HasEnd h.files h.u.files entry → Holds (ends_read h ino entry at count answer)
+holds_read h ino entry at count (Done n) free end = holds_free _ free
+holds_read h ino entry at count (Wait left) free end = holds_wait h (Read ino) 3 entry at count 0 free end (omega arith)
+holds_read h ino entry at count Broken free end = holds_free _ free
+holds_read h ino entry at count (Error e) free end = holds_free _ free
 
-  again_stays : (h : Handed) (ino now : ℕ) → h.u.pending ≡ n → Stays n (opens_again now h ino)
-  again_stays h ino now is =
-      check_stays n h (access h.marks ino (node_at h ino) (user_of h.u) Write) _ is (λ may.
-      check_stays n h (must EISDIR (not (is_directory (node_at h ino).mode))) _ is (λ file. opens_stays n (with_no_blocks h ino now) ino _ is))
+holds_reads_pipe : (h : Handed) (entry at count now : ℕ) → h.u.pending ≡ 0 → HasEnd h.files h.u.files entry → Holds (reads_pipe h entry at count now)
+holds_reads_pipe h entry at count now free end =
+    let r : PipeRead = pipe_read h entry at count now in
+    let holds = holds_read (with_pipe_read h r) (pipe_at h entry).ino entry at count r.answer free end in
+    record { pends = holds.pends; user = holds.user }
 
-  creat_stays : (h : Handed) (name mode now : ℕ) → h.u.pending ≡ n → Stays n (creat_file h name mode now)
-  creat_stays h name mode now is =
-      makes_stays n h name (opens_again now) (makes_file mode now) is (λ l ino same. again_stays l ino now same) (λ l dir offset bytes same.
-      node_stays n l dir offset bytes _ now opens_for_writing same (λ m ino more. opens_stays n m ino _ more))
+-- A write that waits has no more bytes left than it had to write.
+rounds_left : (more : ℕ) (c : WriteCall) (w : Writing) (left : ℕ) → (rounds more c w).answer ≡ Wait left → left ≤ w.left
+rounds_left zero c w left is = absurd (cc is)
+rounds_left (suc more) c w left is = by (λ l e. rounds_left more c (appended w (append_of c w)) l e) (w.left == 0) (nat_lt c.ends 2) (nat_le PIPSIZ (size_in w)) is
+  where
+    next : Writing
+    next = appended w (append_of c w)
 
-  link_stays : (h : Handed) (name new now : ℕ) → h.u.pending ≡ n → Stays n (link_file h name new now)
-  link_stays h name new now is =
-      finds_stays n h name (links_to new now) is (λ l ino same.
-      check_stays n l (must EMLINK (nat_lt (node_at l ino).nlink 127)) _ same (λ few.
-      check_stays n l (must EPERM (may_link l ino)) _ same (λ may.
-      makes_stays n l new (λ m there. fails m EEXIST) (enters_again ino now) same (λ m there more. more) (λ m dir offset bytes more.
-      written_stays n m dir offset (entry_bytes (record { ino = ino; name = bytes })) now (λ k. is_done (with_links k ino ((node_at k ino).nlink + 1) now)) more (λ k last. last)))))
+    goes : ((l : ℕ) → (rounds more c next).answer ≡ Wait l → l ≤ next.left) → (e : Option Errno) → (unless_error next e (rounds more c next)).answer ≡ Wait left → left ≤ w.left
+    goes rest None e = let few = rest left e in omega (arith, few)
+    goes rest (Some error) e = absurd (cc e)
 
-  emptied_stays : (h : Handed) (dir offset ino now : ℕ) → h.u.pending ≡ n → Stays n (empties now h dir offset ino)
-  emptied_stays h dir offset ino now is =
-      check_stays n h (must EPERM (may_link h ino)) _ is (λ may.
-      written_stays n h dir offset (0 ∷ 0 ∷ []) now (λ l. is_done (with_links l ino ((node_at l ino).nlink - 1) now)) is (λ l same. same))
+    waited : Wait w.left ≡ Wait left → left ≤ w.left
+    waited e = let same : w.left ≡ left = cc e in omega (arith, same)
 
-  removed_stays : (h : Handed) (now : ℕ) (entry : ℕ × ℕ × ℕ) → h.u.pending ≡ n → Stays n (removes now h entry)
-  removed_stays h now (dir, offset, ino) is = emptied_stays h dir offset ino now is
+    by : ((l : ℕ) → (rounds more c next).answer ≡ Wait l → l ≤ next.left) → (a b full : Bool)
+        → (cond a (ends_as w (Done c.count)) (cond b (ends_as w Broken) (cond full (waits w) (unless_error next (append_of c w).error (rounds more c next))))).answer ≡ Wait left
+        → left ≤ w.left
+    by rest true b full e = absurd (cc e)
+    by rest false true full e = absurd (cc e)
+    by rest false false true e = waited e
+    by rest false false false e = goes rest (append_of c w).error e
 
-  unlink_stays : (h : Handed) (name now : ℕ) → h.u.pending ≡ n → Stays n (unlink_file h name now)
-  unlink_stays h name now is =
-      named_stays n h (remove_in h.inodes h.marks (user_of h.u) h.u.dir (name_at h.image name)) (removes now) is (λ l entry same. removed_stays l now entry same)
+writes_left : (store : Store) (ends : ℕ) (p : Pipe) (image : Image) (at count time left : ℕ) → (writes store ends p image at count time).answer ≡ Wait left → left ≤ count
+unfolding writes
+writes_left store ends p image at count time left is =
+    rounds_left (suc count) (write_call ends image count time) (record { store = store; pipe = p; at = at; left = count }) left is
 
-  chdir_stays : (h : Handed) (name : ℕ) → h.u.pending ≡ n → Stays n (chdir_to h name)
-  chdir_stays h name is =
-      finds_stays n h name enters_directory is (λ l ino same.
-      check_stays n l (must ENOTDIR (is_directory (node_at l ino).mode)) _ same (λ directory.
-      check_stays n l (permission (node_at l ino) (user_of l.u) Execute) _ same (λ may. same)))
+holds_write : (h : Handed) (slot ino entry at count most : ℕ) (answer : Piped) → h.u.pending ≡ 0 → HasEnd h.files h.u.files entry → most ≤ count
+    → ((left : ℕ) → answer ≡ Wait left → left ≤ most) → Holds (ends_write h slot ino entry at count answer)
+holds_write h slot ino entry at count most (Done n) free end few each = holds_free _ free
+holds_write h slot ino entry at count most (Wait left) free end few each =
+    let less = each left refl in holds_wait h (Write ino) 4 entry at count left free end (omega (arith, less, few))
+holds_write h slot ino entry at count most Broken free end few each = holds_free _ free
+holds_write h slot ino entry at count most (Error e) free end few each = holds_free _ free
 
-  mknod_stays : (h : Handed) (name mode device now : ℕ) → h.u.pending ≡ n → Stays n (mknod_at h name mode device now)
-  mknod_stays h name mode device now is =
-      check_stays n h (must EPERM (is_super_user h)) _ is (λ may.
-      makes_stays n h name (λ l there. fails l EEXIST) (makes_any mode device now) is (λ l there same. same) (λ l dir offset bytes same.
-      node_stays n l dir offset bytes _ now (λ m ino. is_done (with_device m ino device)) same (λ m ino more. more)))
+holds_writes_pipe : (h : Handed) (slot entry at count left now : ℕ) → h.u.pending ≡ 0 → HasEnd h.files h.u.files entry → left ≤ count
+    → Holds (writes_pipe h slot entry at count left now)
+holds_writes_pipe h slot entry at count left now free end few =
+    let w : PipeWrite = pipe_write h entry at count left now in
+    let holds = holds_write (with_pipe_write h w) slot (pipe_at h entry).ino entry at count left w.answer free end few (λ n is. writes_left _ _ _ _ _ left now n is) in
+    record { pends = holds.pends; user = holds.user }
 
-  chmod_stays : (h : Handed) (name mode now : ℕ) → h.u.pending ≡ n → Stays n (chmod_to h name mode now)
-  chmod_stays h name mode now is =
-      finds_stays n h name (changes_mode mode now) is (λ l ino same. check_stays n l (must EPERM (is_owner l ino)) _ same (λ may. same))
+-- The entry of an open number is named by it.
+end_of : (h : Handed) (fd : ℕ) → 0 < slice_index h.u.files fd → (file_of h (entry_of h.u.files fd)).kind.pipe ≡ true → HasEnd h.files h.u.files (entry_of h.u.files fd)
+end_of h fd above pipe = by (file_at h.files (entry_of h.u.files fd)) refl pipe
+  where
+    by : (o : Option OpenFile) → file_at h.files (entry_of h.u.files fd) ≡ o → (unwrap_or o no_file).kind.pipe ≡ true → HasEnd h.files h.u.files (entry_of h.u.files fd)
+    by None is e = absurd (cc e)
+    by (Some file) is e = record { file = file; there = is; pipe = e; named = times_some h.u.files fd above }
 
-  chown_stays : (h : Handed) (name owner now : ℕ) → h.u.pending ≡ n → Stays n (chown_to h name owner now)
-  chown_stays h name owner now is =
-      let next : Handed → ℕ → Did = λ l ino. is_done (with_changed l ino (record (node_at l ino) { uid = owner % 256; gid = owner / 256; modtime = now })) in
-      check_stays n h (must EPERM (is_super_user h)) (λ may. finds h name next) is (λ may.
-      finds_stays n h name next is (λ l ino same. same))
+-- a call that begins with an open number
+holds_open : (h : Handed) (next : ℕ → Did) → h.u.pending ≡ 0 → (0 < slice_index h.u.files (r0 h) → Holds (next (entry_of h.u.files (r0 h))))
+    → Holds (check h (open_entry h (r0 h)) next)
+holds_open h next free goes = by (slice_index h.u.files (r0 h) == 0) refl
+  where
+    by : (b : Bool) → (slice_index h.u.files (r0 h) == 0) ≡ b → Holds (check h (cond b (Err EBADF) (Ok (entry_of h.u.files (r0 h)))) next)
+    by true is = holds_free _ free
+    by false is = goes (let some = eqb-false (slice_index h.u.files (r0 h)) 0 is in omega (arith, some))
 
-  stat_stays : (h : Handed) (name at : ℕ) → h.u.pending ≡ n → Stays n (stat_file h name at)
-  stat_stays h name at is = finds_stays n h name (λ l ino. tells_status l ino at) is (λ l ino same. stored_stays n l _ same)
+-- Rows: 3, read,
+holds_from : (h : Handed) (entry at count now : ℕ) → h.u.pending ≡ 0 → Holds (reads_from h entry at count now)
+holds_from h entry at count now free =
+    let m : Moving Image = read_of h entry at count now in
+    holds_either (is_console (node_at h (file_of h entry).ino)) _ _
+    (holds_reads_line (with_read h entry m) entry at count free) (holds_count (with_read h entry m) m.done m.error free)
 
-  fstat_stays : (h : Handed) (at : ℕ) → h.u.pending ≡ n → Stays n (stat_open h at)
-  fstat_stays h at is = check_stays n h (open_entry h (r0 h)) _ is (λ entry. stored_stays n h _ is)
+read_holds : (h : Handed) (at count now : ℕ) → h.u.pending ≡ 0 → Holds (read_file_of h at count now)
+read_holds h at count now free =
+    holds_open h _ free (λ above. by (entry_of h.u.files (r0 h)) (end_of h (r0 h) above))
+  where
+    either : (entry : ℕ) (b : Bool) → (file_of h entry).kind.pipe ≡ b → ((file_of h entry).kind.pipe ≡ true → HasEnd h.files h.u.files entry)
+        → Holds (cond b (reads_pipe h entry at count now) (reads_from h entry at count now))
+    either entry true is end = holds_reads_pipe h entry at count now free (end is)
+    either entry false is end = holds_from h entry at count now free
 
-  seek_stays : (h : Handed) (offset mode : ℕ) → h.u.pending ≡ n → Stays n (seek_to h offset mode)
-  seek_stays h offset mode is =
-      check_stays n h (open_entry h (r0 h)) _ is (λ entry. check_stays n h (must ESPIPE (not (file_of h entry).kind.pipe)) _ is (λ may. is))
+    may : (entry : ℕ) (b : Bool) → ((file_of h entry).kind.pipe ≡ true → HasEnd h.files h.u.files entry)
+        → Holds (check h (must EBADF b) (λ may. cond (file_of h entry).kind.pipe (reads_pipe h entry at count now) (reads_from h entry at count now)))
+    may entry true end = either entry (file_of h entry).kind.pipe refl end
+    may entry false end = holds_free _ free
 
-  stty_stays : (h : Handed) (at : ℕ) → h.u.pending ≡ n → Stays n (stty_set h at)
-  stty_stays h at is = terminal_stays n h _ is (check_stays n h (need EFAULT (words_at h at)) (sets_modes h) is (λ bytes. is))
+    by : (entry : ℕ) → ((file_of h entry).kind.pipe ≡ true → HasEnd h.files h.u.files entry)
+        → Holds (check h (must EBADF (file_of h entry).kind.reading) (λ may. cond (file_of h entry).kind.pipe (reads_pipe h entry at count now) (reads_from h entry at count now)))
+    by entry end = may entry (file_of h entry).kind.reading end
 
-  gtty_stays : (h : Handed) (at : ℕ) → h.u.pending ≡ n → Stays n (gtty_get h at)
-  gtty_stays h at is = terminal_stays n h _ is (stored_stays n h _ is)
+-- and 4, write.
+shown_free : (h : Handed) (count : ℕ) (bytes : List ℕ) (b : Bool) → h.u.pending ≡ 0
+    → Holds (record (cond b (returns (record h { line = after_shown h.line bytes }) count) (fails (record h { line = after_shown h.line bytes }) EFAULT)) { items = sent 0 (shows h.line bytes) })
+shown_free h count bytes true free = holds_free _ free
+shown_free h count bytes false free = holds_free _ free
 
-  dup_stays : (h : Handed) → h.u.pending ≡ n → Stays n (dup_file h)
-  dup_stays h is = check_stays n h (open_entry h (r0 h)) _ is (λ entry. check_stays n h (need EMFILE (free_number h.u.files)) _ is (λ fd. is))
+holds_to : (h : Handed) (entry at count now : ℕ) → h.u.pending ≡ 0 → Holds (writes_to h entry at count now)
+holds_to h entry at count now free =
+    let m : Moving (Unit {0}) = write_of h entry at count now in
+    holds_either (is_console (node_at h (file_of h entry).ino)) _ _
+    (shown_free (with_moved h entry m) count (readable h.image at count) (length (readable h.image at count) == count) free)
+    (holds_count (with_moved h entry m) _ m.error free)
 
-  pipe_stays : (h : Handed) (now : ℕ) → h.u.pending ≡ n → Stays n (pipe_new h now)
-  pipe_stays h now is =
-      named_stays n h (new_in h.inodes IALLOC (record { uid = 0; gid = 0 }) now) (λ l ino. until_end ino (opens_ends l ino)) is (λ l ino same.
-      check_stays n l (need EMFILE (free_number l.u.files)) _ same (λ fd.
-      check_stays n l (need ENFILE (free_entry l.files)) _ same (λ entry.
-      let one : Handed = with_end l ino reading_end fd entry in
-      check_stays n l (need EMFILE (free_number one.u.files)) _ same (λ next.
-      check_stays n l (need ENFILE (free_entry one.files)) _ same (λ free. same)))))
+write_holds : (h : Handed) (slot at count now : ℕ) → h.u.pending ≡ 0 → Holds (write_file_of h slot at count now)
+write_holds h slot at count now free =
+    holds_open h _ free (λ above. may (entry_of h.u.files (r0 h)) (file_of h (entry_of h.u.files (r0 h))).kind.writing (end_of h (r0 h) above))
+  where
+    either : (entry : ℕ) (b : Bool) → (file_of h entry).kind.pipe ≡ b → ((file_of h entry).kind.pipe ≡ true → HasEnd h.files h.u.files entry)
+        → Holds (cond b (writes_pipe h slot entry at count count now) (writes_to h entry at count now))
+    either entry true is end = holds_writes_pipe h slot entry at count count now free (end is) (omega arith)
+    either entry false is end = holds_to h entry at count now free
 
-  row_stays : (call : FileCall) → NeverWaits call → (h : Handed) (slot : ℕ) (a : List ℕ) (now : ℕ) → h.u.pending ≡ n → Stays n (file_row call h slot a now)
-  row_stays file.Read never h slot a now is = absurd never
-  row_stays file.Write never h slot a now is = absurd never
-  row_stays file.Open never h slot a now is = open_stays h (slice_index a 0) (slice_index a 1) is
-  row_stays file.Close never h slot a now is = close_stays h is
-  row_stays file.Creat never h slot a now is = creat_stays h (slice_index a 0) (slice_index a 1) now is
-  row_stays file.Link never h slot a now is = link_stays h (slice_index a 0) (slice_index a 1) now is
-  row_stays file.Unlink never h slot a now is = unlink_stays h (slice_index a 0) now is
-  row_stays file.Chdir never h slot a now is = chdir_stays h (slice_index a 0) is
-  row_stays file.Mknod never h slot a now is = mknod_stays h (slice_index a 0) (slice_index a 1) (slice_index a 2) now is
-  row_stays file.Chmod never h slot a now is = chmod_stays h (slice_index a 0) (slice_index a 1) now is
-  row_stays file.Chown never h slot a now is = chown_stays h (slice_index a 0) (slice_index a 1) now is
-  row_stays file.Stat never h slot a now is = stat_stays h (slice_index a 0) (slice_index a 1) is
-  row_stays file.Seek never h slot a now is = seek_stays h (slice_index a 0) (slice_index a 1) is
-  row_stays file.Fstat never h slot a now is = fstat_stays h (slice_index a 0) is
-  row_stays file.Stty never h slot a now is = stty_stays h (slice_index a 0) is
-  row_stays file.Gtty never h slot a now is = gtty_stays h (slice_index a 0) is
-  row_stays file.Sync never h slot a now is = is
-  row_stays file.Dup never h slot a now is = dup_stays h is
-  row_stays file.Pipe never h slot a now is = pipe_stays h now is
+    may : (entry : ℕ) (b : Bool) → ((file_of h entry).kind.pipe ≡ true → HasEnd h.files h.u.files entry)
+        → Holds (check h (must EBADF b) (λ may. cond (file_of h entry).kind.pipe (writes_pipe h slot entry at count count now) (writes_to h entry at count now)))
+    may entry true end = either entry (file_of h entry).kind.pipe refl end
+    may entry false end = holds_free _ free
 
-  -- the file core
-  parts_stay : (h : Handed) (ino now : ℕ) → h.u.pending ≡ n → Stays n (writes_parts now h ino)
-  parts_stay h ino now is =
-      let d : Handed → ℕ = λ m. AREA_SIZE + length m.image.data in
-      let third : ℕ → Handed → Did = λ size m. writes_entry m ino size m.image.stack now is_done in
-      written_stays n h ino 0 (area_bytes h.u) now (λ l. writes_entry l ino AREA_SIZE l.image.data now (third (d h))) is (λ l same.
-      written_stays n l ino AREA_SIZE l.image.data now (third (d h)) same (λ m more.
-      written_stays n m ino (d h) m.image.stack now is_done more (λ k last. last)))
+-- A call on files of a process in user mode.
+pub row_holds : (call : FileCall) (h : Handed) (slot : ℕ) (args : List ℕ) (now : ℕ) → h.u.pending ≡ 0 → Holds (file_row call h slot args now)
+row_holds file.Read h slot a now free = read_holds h (slice_index a 0) (slice_index a 1) now free
+row_holds file.Write h slot a now free = write_holds h slot (slice_index a 0) (slice_index a 1) now free
+row_holds call h slot a now free = holds_free _ (row_pending call tt h slot a now ∙ free)
 
-  over_stays : (h : Handed) (ino now : ℕ) → h.u.pending ≡ n → Stays n (writes_over now h ino)
-  over_stays h ino now is =
-      check_stays n h (must EACCES (is_plain (node_at h ino).mode)) _ is (λ plain.
-      check_stays n h (access h.marks ino (node_at h ino) (user_of h.u) Write) _ is (λ may. parts_stay (with_no_blocks h ino now) ino now is))
+pub row_pends : (call : FileCall) (h : Handed) (slot : ℕ) (args : List ℕ) (now : ℕ) → h.u.pending ≡ 0 → Pends (file_row call h slot args now).state
+row_pends call h slot args now free = (row_holds call h slot args now free).pends
 
-  core_stays : (h : Handed) (now : ℕ) → h.u.pending ≡ n → Stays n (core_file h now)
-  unfolding core_file
-  core_stays h now is = by (h.u.uid == h.u.ruid)
-    where
-      by : (b : Bool) → Stays n (cond b (writes_named now h) (fails h EPERM))
-      by true =
-          named_stays n h (make_in h.inodes h.marks (user_of h.u) h.u.dir core_name) (by_made (writes_over now) (writes_new now)) is (λ l answer same.
-          made_stays n l answer (writes_over now) (writes_new now) same (λ m ino more. over_stays m ino now more) (λ m dir offset name more.
-          node_stays n m dir offset name 0o666 now (writes_parts now) more (λ k ino last. parts_stay k ino now last)))
-      by false = is
+-- a call that comes to an answer waits for nothing
+pub row_user : (call : FileCall) (h : Handed) (slot : ℕ) (args : List ℕ) (now : ℕ) → h.u.pending ≡ 0 → is_sleep (file_row call h slot args now).answer ≡ false
+    → (file_row call h slot args now).state.u.pending ≡ 0
+row_user call h slot args now free awake = (row_holds call h slot args now free).user awake
 
--- A call that can't wait leaves the pending call as it was,
-pub row_pending : (call : FileCall) → NeverWaits call → (h : Handed) (slot : ℕ) (a : List ℕ) (now : ℕ) → (file_row call h slot a now).state.u.pending ≡ h.u.pending
-row_pending call never h slot a now = row_stays h.u.pending call never h slot a now refl
+-- A process goes on with a call on files.
+last_case : (n : ℕ) → is_on_files n ≡ true → (n == 1) ≡ false → (n == 3) ≡ false → n ≡ 4
+last_case n on one three = by (n == 1) (n == 3) (n == 4) refl on one three
+  where
+    by : (a b c : Bool) → (n == 4) ≡ c → ((a || b) || c) ≡ true → a ≡ false → b ≡ false → n ≡ 4
+    by true b c is on one three = absurd (cc one)
+    by false true c is on one three = absurd (cc three)
+    by false false c is on one three = eqb-true n 4 (is ∙ on)
 
--- and so does the writing of the file core.
-pub core_pending : (h : Handed) (now : ℕ) → (core_file h now).state.u.pending ≡ h.u.pending
-core_pending h now = core_stays h.u.pending h now refl
+resume_holds : (h : Handed) (slot now : ℕ) → is_on_files h.u.pending ≡ true → Pends h → Holds (resumes h slot now)
+resume_holds h slot now on pends =
+    holds_either (is_some (due (without_pending h).row (without_pending h).u)) _ _ (holds_free _ refl) (by (h.u.pending == 1) refl (h.u.pending == 3) refl)
+  where
+    entry : ℕ
+    entry = slice_index h.u.call 0
+
+    at : ℕ
+    at = slice_index h.u.call 1
+
+    count : ℕ
+    count = slice_index h.u.call 2
+
+    left : ℕ
+    left = slice_index h.u.call 3
+
+    rest : Handed
+    rest = without_pending h
+
+    by : (a : Bool) → (h.u.pending == 1) ≡ a → (b : Bool) → (h.u.pending == 3) ≡ b
+        → Holds (cond a (resume_read h) (cond b (reads_pipe rest entry at count now) (writes_pipe rest slot entry at count left now)))
+    by true one b three = holds_reads_line rest entry at count refl
+    by false one true three = holds_reads_pipe rest entry at count now refl (pends (inl (eqb-true h.u.pending 3 three))).end
+    by false one false three =
+        let held = pends (inr (last_case h.u.pending on one three)) in
+        holds_writes_pipe rest slot entry at count left now refl held.end held.left
+
+pub resume_pends : (h : Handed) (slot now : ℕ) → is_on_files h.u.pending ≡ true → Pends h → Pends (resumes h slot now).state
+resume_pends h slot now on pends = (resume_holds h slot now on pends).pends
+
+pub resume_user : (h : Handed) (slot now : ℕ) → is_on_files h.u.pending ≡ true → Pends h → is_sleep (resumes h slot now).answer ≡ false
+    → (resumes h slot now).state.u.pending ≡ 0
+resume_user h slot now on pends awake = (resume_holds h slot now on pends).user awake
+
+-- Files that are closed, and the file core.
+pub close_pends : (h : Handed) → h.u.pending ≡ 0 → Pends (close_all h).state
+close_pends h free = never_in_pipe (close_all h).state.u.pending (close_pending h ∙ free)
+
+pub core_pends : (h : Handed) (now : ℕ) → h.u.pending ≡ 0 → Pends (core_file h now).state
+core_pends h now free = never_in_pipe (core_file h now).state.u.pending (core_pending h now ∙ free)

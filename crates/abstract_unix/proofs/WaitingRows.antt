@@ -42,7 +42,7 @@ use Rattle.sys_procs.proofs.TestedSlots.{tests_processes}
 use Rattle.abstract_unix.specs.declared.calls.ProcessCall.{ProcessCall}
 use Rattle.abstract_unix.specs.declared.calls.ProcessCall.TheVariants as process
 use Rattle.abstract_unix.specs.Calls.{process_row}
-use Rattle.abstract_unix.proofs.Pending.{InPipe, is_sleep}
+use Rattle.abstract_unix.proofs.PendingRows.{InPipe, is_sleep}
 use Rattle.abstract_unix.proofs.GoingOnLemmas.{WaitedIn, AllWaited, waited_same, all_waited_same, all_waited_then, like_waited, apart_waited, user_waited, dead_waited, gone_waited, all_waited_put}
 
 -- What has a fact where a slot is set: the new one has it, and so has what is there where there is no such slot.
