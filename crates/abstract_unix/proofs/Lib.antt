@@ -26,3 +26,4 @@ pub mod NeverWaiting
 pub mod PendingRows
 pub mod GoingOnLemmas
 pub mod WaitingRows
+pub mod GoingOnSteps

@@ -46,7 +46,7 @@ use Rattle.abstract_unix.proofs.PendingRows.{InPipe, is_sleep}
 use Rattle.abstract_unix.proofs.GoingOnLemmas.{WaitedIn, AllWaited, waited_same, all_waited_same, all_waited_then, like_waited, apart_waited, user_waited, dead_waited, gone_waited, all_waited_put}
 
 -- What has a fact where a slot is set: the new one has it, and so has what is there where there is no such slot.
-set_either : {A : Type 0} (P : A → Type 0) (xs : List A) (s : ℕ) (x d : A) → P x → P (get_or xs s d) → P (get_or (set xs s x) s d)
+pub set_either : {A : Type 0} (P : A → Type 0) (xs : List A) (s : ℕ) (x d : A) → P x → P (get_or xs s d) → P (get_or (set xs s x) s d)
 set_either P xs s x d new old = elim (cases_lt s (length xs)) [
   | inl low ↦ subst P (sym (get_or-set_same xs s x d low)) new
   | inr past ↦
