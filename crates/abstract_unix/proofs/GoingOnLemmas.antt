@@ -80,7 +80,8 @@ pub all_waited_then : (a b c : List (Option Process)) → AllWaited a b → AllW
 all_waited_then a b c first second s = waited_then (get_or a s None) (get_or b s None) (get_or c s None) (first s) (second s)
 
 -- a process that waits as another does, and one that waits in no pipe
-pub like_waited : (p q : Process) → q.is_zombie ≡ p.is_zombie → q.u.pending ≡ p.u.pending → q.u.call ≡ p.u.call → q.u.files ≡ p.u.files → WaitedIn (Some p) (Some q)
+pub like_waited : (p q : Process) → q.is_zombie ≡ p.is_zombie → q.u.pending ≡ p.u.pending → q.u.call ≡ p.u.call
+    → q.u.files ≡ p.u.files → WaitedIn (Some p) (Some q)
 like_waited p q dead pending call files r is lives waits =
     let same : q ≡ r = cc is in
     record {
@@ -106,7 +107,8 @@ pub gone_waited : (o : Option Process) → WaitedIn o None
 gone_waited o q is lives waits = absurd (cc is)
 
 -- one slot is put
-pub all_waited_put : (ps : List (Option Process)) (s : ℕ) (o : Option Process) → WaitedIn (get_or ps s None) o → AllWaited ps (set ps s o)
+pub all_waited_put : (ps : List (Option Process)) (s : ℕ) (o : Option Process) → WaitedIn (get_or ps s None) o
+    → AllWaited ps (set ps s o)
 all_waited_put ps s o own r q is lives waits = elim (cases_eq r s) [
   | inl here ↦
       let low : s < length ps = let l = some_within (set ps s o) r q is in let same = length-set ps s o in omega (arith, l, same, here) in
@@ -116,7 +118,8 @@ all_waited_put ps s o own r q is lives waits = elim (cases_eq r s) [
 ]
 
 -- 1. Processes change, and the table of open files doesn't.
-waited_end : (files : List (Option OpenFile)) (old new : Option Process) → HoldsEnd files old → WaitedIn old new → HoldsEnd files new
+waited_end : (files : List (Option OpenFile)) (old new : Option Process) → HoldsEnd files old → WaitedIn old new
+    → HoldsEnd files new
 waited_end files old new held waited q is lives waits =
     let was = waited q is lives waits in
     let own = held was.before was.there was.lives (subst InPipe (sym was.pending) waits) in
@@ -147,12 +150,14 @@ pub none_goes_on : (u : Unix) → ((s : ℕ) (p : Process) → process_at u s �
 none_goes_on u none = goes_on_by u (λ s p is lives waits. never_in_pipe p.u.pending (none s p is) waits)
 
 -- What the process of a slot is handed waits at an end,
-pub handed_pends : (u : Unix) (s : ℕ) → CanGoOn u → get_or u.processes s None ≡ Some (process_of u s) → (process_of u s).is_zombie ≡ false
+pub handed_pends : (u : Unix) (s : ℕ) → CanGoOn u → get_or u.processes s None ≡ Some (process_of u s)
+    → (process_of u s).is_zombie ≡ false
     → Pends (handed_of u (process_of u s))
 handed_pends u s can is lives waits = end_held u s can (process_of u s) is lives waits
 
 -- and so its call can go on.
-pub handed_goes_on : (u : Unix) (s : ℕ) → CanGoOn u → get_or u.processes s None ≡ Some (process_of u s) → (process_of u s).is_zombie ≡ false
+pub handed_goes_on : (u : Unix) (s : ℕ) → CanGoOn u → get_or u.processes s None ≡ Some (process_of u s)
+    → (process_of u s).is_zombie ≡ false
     → is_on_files (process_of u s).u.pending ≡ true → sound.CanGoOn (handed_of u (process_of u s))
 handed_goes_on u s can is lives on = by (n == 1) refl (n == 3) refl (n == 4) refl on
   where
@@ -164,14 +169,16 @@ handed_goes_on u s can is lives on = by (n == 1) refl (n == 3) refl (n == 4) ref
         let own = handed_pends u s can is lives waits in
         record { file = own.end.file; there = own.end.there; pipe = own.end.pipe; left = own.left }
 
-    by : (a : Bool) → (n == 1) ≡ a → (b : Bool) → (n == 3) ≡ b → (c : Bool) → (n == 4) ≡ c → ((a || b) || c) ≡ true → sound.CanGoOn (handed_of u (process_of u s))
+    by : (a : Bool) → (n == 1) ≡ a → (b : Bool) → (n == 3) ≡ b → (c : Bool) → (n == 4) ≡ c → ((a || b) || c) ≡ true
+        → sound.CanGoOn (handed_of u (process_of u s))
     by true one b three c four e = inl (eqb-true n 1 one)
     by false one true three c four e = let waits = eqb-true n 3 three in inr (inl waits, at (inl waits))
     by false one false three true four e = let waits = eqb-true n 4 four in inr (inr waits, at (inr waits))
     by false one false three false four e = absurd (cc e)
 
 -- 2. A call on files of the process of a slot. An entry that another process names has one number more at least.
-pub named_twice : (ts : List (Option Told)) (s r : ℕ) (t x : Told) (entry : ℕ) → get_or ts s None ≡ Some t → get_or ts r None ≡ Some x → r ≢ s
+pub named_twice : (ts : List (Option Told)) (s r : ℕ) (t x : Told) (entry : ℕ) → get_or ts s None ≡ Some t
+    → get_or ts r None ≡ Some x → r ≢ s
     → times t.files entry + times x.files entry ≤ all_names ts entry
 unfolding all_names
 named_twice ts s r t x entry here there other =
@@ -184,7 +191,8 @@ named_twice ts s r t x entry here there other =
     let one : names entry (get_or rest r None) ≡ times x.files entry = ap (names entry) at in
     omega (arith, change, old, least, one)
 
-pub file_goes_on : (refs : List ℕ) (u : Unix) (s : ℕ) (h : Handed) → Owed refs u → CanGoOn u → get_or u.processes s None ≡ Some (process_of u s)
+pub file_goes_on : (refs : List ℕ) (u : Unix) (s : ℕ) (h : Handed) → Owed refs u → CanGoOn u
+    → get_or u.processes s None ≡ Some (process_of u s)
     → (process_of u s).is_zombie ≡ false → IsKept (handed_of u (process_of u s)) h → Pends h → CanGoOn (with_handed u s h)
 file_goes_on refs u s h owed can is lives kept pends = goes_on_by (with_handed u s h) each
   where
@@ -230,7 +238,8 @@ file_goes_on refs u s h owed can is lives kept pends = goes_on_by (with_handed u
     ]
 
 -- 3. fork(II): files that are shared stay open, of the same kind.
-shared_end : (files : List (Option OpenFile)) (mine more : List ℕ) (entry : ℕ) → HasEnd files mine entry → HasEnd (shared files more) mine entry
+shared_end : (files : List (Option OpenFile)) (mine more : List ℕ) (entry : ℕ) → HasEnd files mine entry
+    → HasEnd (shared files more) mine entry
 shared_end files mine more entry end =
     let low = some_within files entry end.file end.there in
     record {
@@ -245,7 +254,8 @@ shared_goes_on u more can = goes_on_by (record u { files = shared u.files more }
     let own = end_held u s can p is lives waits in
     record { end = shared_end u.files p.u.files more (slice_index p.u.call 0) own.end; left = own.left })
 
-pub shares_goes_on : (u : Unix) (more : List ℕ) (answer : Answer) → CanGoOn u → CanGoOn (record u { files = shares u.files more answer })
+pub shares_goes_on : (u : Unix) (more : List ℕ) (answer : Answer) → CanGoOn u
+    → CanGoOn (record u { files = shares u.files more answer })
 shares_goes_on u more (Ret r0 r1) can = shared_goes_on u more can
 shares_goes_on u more (Fail e) can = waited_goes_on u (record u { files = u.files }) can (all_waited_same u.processes) refl
 shares_goes_on u more (Sleep pri chan) can = waited_goes_on u (record u { files = u.files }) can (all_waited_same u.processes) refl

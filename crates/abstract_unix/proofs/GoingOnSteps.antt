@@ -49,11 +49,13 @@ pub record SameWait (p q : Process) : Type 0 where
   pub files : q.u.files ≡ p.u.files
 
 -- A process changes by a rule that leaves its call and its numbers: nobody needs to know that it is there.
-pub changed_waited : (o : Option Process) (rule : Process → Process) → ((p : Process) → SameWait p (rule p)) → WaitedIn o (Some (rule (unwrap_or o no_process)))
+pub changed_waited : (o : Option Process) (rule : Process → Process) → ((p : Process) → SameWait p (rule p))
+    → WaitedIn o (Some (rule (unwrap_or o no_process)))
 changed_waited None rule same = user_waited None (rule no_process) (same no_process).pending
 changed_waited (Some p) rule same = let keeps = same p in like_waited p (rule p) keeps.dead keeps.pending keeps.call keeps.files
 
-pub changed_goes_on : (u : Unix) (s : ℕ) (rule : Process → Process) → ((p : Process) → SameWait p (rule p)) → CanGoOn u → CanGoOn (with_process u s (rule (process_of u s)))
+pub changed_goes_on : (u : Unix) (s : ℕ) (rule : Process → Process) → ((p : Process) → SameWait p (rule p)) → CanGoOn u
+    → CanGoOn (with_process u s (rule (process_of u s)))
 changed_goes_on u s rule same can = put_goes_on u s (rule (process_of u s)) can (changed_waited (process_at u s) rule same)
 
 -- what is in a slot waits for nothing, also where nobody is in it
@@ -87,7 +89,8 @@ module _ (s : ℕ) where
       p : Process
       p = process_of u s
 
-      by : (b : Bool) → TrapsUser s (cond b (record { effects = []; unix = with_area u s (refused_area n); ending = Trapped }) (signals u s SIGSYS))
+      by : (b : Bool)
+          → TrapsUser s (cond b (record { effects = []; unix = with_area u s (refused_area n); ending = Trapped }) (signals u s SIGSYS))
       by true ends = put_user u s (record p { u = refused_area n p.u }) free free
       by false ends = signals_trap u SIGSYS free ends
 
@@ -105,13 +108,16 @@ module _ (s : ℕ) where
       let q : Process = record (process_of u s) { u = h.u; row = h.row; «data» = h.image.data; stack = h.image.stack } in
       ap (λ o. (unwrap_or o no_process).u.pending) (get_or-set_same u.processes s (Some q) None low) ∙ free
 
-  did_trap : (u : Unix) (did : Did) → s < length u.processes → (is_sleep did.answer ≡ false → did.state.u.pending ≡ 0) → TrapsUser s (did_by u s did)
+  did_trap : (u : Unix) (did : Did) → s < length u.processes → (is_sleep did.answer ≡ false → did.state.u.pending ≡ 0)
+      → TrapsUser s (did_by u s did)
   did_trap u did low awake = answers_trap (with_handed u s did.state) did.answer (λ e. handed_user u did.state low (awake e))
 
-  came_trap : (u : Unix) (c : Comes) → (is_sleep c.answer ≡ false → IsUserIn (with_world u c.state) s) → TrapsUser s (came_by u s c)
+  came_trap : (u : Unix) (c : Comes) → (is_sleep c.answer ≡ false → IsUserIn (with_world u c.state) s)
+      → TrapsUser s (came_by u s c)
   came_trap u c awake = answers_trap (with_world u c.state) c.answer awake
 
-  call_trap : (u : Unix) (call : SystemCall) (args : List ℕ) → s < length u.processes → IsUserIn u s → TrapsUser s (does_call u s call args)
+  call_trap : (u : Unix) (call : SystemCall) (args : List ℕ) → s < length u.processes → IsUserIn u s
+      → TrapsUser s (does_call u s call args)
   call_trap u Indirect args low free ends = free
   call_trap u Exit args low free ends = absurd (cc ends)
   call_trap u Fork args low free ends = came_trap u (fork_one (world_of u) s) (fork_user (world_of u) s free) ends
@@ -122,7 +128,8 @@ module _ (s : ℕ) where
   call_trap u (OnProcesses call) args low free ends =
       came_trap u (process_row call (world_of u) s args) (process_user (world_of u) s free call args) ends
 
-  asked_trap : (u : Unix) (a : Asked) (entry : Sysent) → s < length u.processes → IsUserIn u s → TrapsUser s (does_asked u s a entry)
+  asked_trap : (u : Unix) (a : Asked) (entry : Sysent) → s < length u.processes → IsUserIn u s
+      → TrapsUser s (does_asked u s a entry)
   asked_trap u a entry low free =
       let p : Process = process_of u s in
       let q : Process = record p { u = entered_area (words_passed a entry.count) p.u } in
@@ -161,7 +168,8 @@ module _ (s : ℕ) where
       let q : Process = with_machine p step.machine in
       comes_trap (with_process u s q) step.outcome (let same = length-set u.processes s (Some q) in omega (arith, low, same)) (put_user u s q free free)
 
-  pub resumed_trap : (u : Unix) → CanGoOn u → get_or u.processes s None ≡ Some (process_of u s) → (process_of u s).is_zombie ≡ false → TrapsUser s (resumed u s)
+  pub resumed_trap : (u : Unix) → CanGoOn u → get_or u.processes s None ≡ Some (process_of u s)
+      → (process_of u s).is_zombie ≡ false → TrapsUser s (resumed u s)
   resumed_trap u can is lives = by (is_on_files (process_of u s).u.pending) refl
     where
       h : Handed
@@ -176,7 +184,8 @@ module _ (s : ℕ) where
 
 -- A turn that comes out of a trap leaves its process in user mode.
 pub trapped_user : (m : System) (s : ℕ) → CanGoOn m.unix → get_or m.unix.processes s None ≡ Some (process_of m.unix s)
-    → (process_of m.unix s).is_zombie ≡ false → (begins_turn m s).ending ≡ Trapped → is_user (process_of (begins_turn m s).unix s) ≡ true
+    → (process_of m.unix s).is_zombie ≡ false → (begins_turn m s).ending ≡ Trapped
+    → is_user (process_of (begins_turn m s).unix s) ≡ true
 trapped_user m s can is lives ends = user_is (begins_turn m s).unix s (by (is_user (process_of m.unix s)) refl ends)
   where
     u : Unix

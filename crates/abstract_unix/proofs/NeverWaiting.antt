@@ -51,7 +51,8 @@ module _ (n : ℕ) where
   abbrev pub Stays : Did → Type 0
   Stays d = d.state.u.pending ≡ n
 
-  check_stays : {A : Type 0} (h : Handed) (test : Result A Errno) (next : A → Did) → h.u.pending ≡ n → ((a : A) → Stays (next a)) → Stays (check h test next)
+  check_stays : {A : Type 0} (h : Handed) (test : Result A Errno) (next : A → Did) → h.u.pending ≡ n
+      → ((a : A) → Stays (next a)) → Stays (check h test next)
   check_stays h (Ok a) next is goes = goes a
   check_stays h (Err e) next is goes = is
 
@@ -59,23 +60,27 @@ module _ (n : ℕ) where
       → ((l : Handed) (a : A) → l.u.pending ≡ n → Stays (next l a)) → Stays (then_named h found next)
   named_stays h found next is goes = check_stays (with_inodes h found.inodes) found.answer (next (with_inodes h found.inodes)) is (λ a. goes (with_inodes h found.inodes) a is)
 
-  finds_stays : (h : Handed) (name : ℕ) (next : Handed → ℕ → Did) → h.u.pending ≡ n → ((l : Handed) (ino : ℕ) → l.u.pending ≡ n → Stays (next l ino)) → Stays (finds h name next)
+  finds_stays : (h : Handed) (name : ℕ) (next : Handed → ℕ → Did) → h.u.pending ≡ n
+      → ((l : Handed) (ino : ℕ) → l.u.pending ≡ n → Stays (next l ino)) → Stays (finds h name next)
   finds_stays h name next is goes = named_stays h (find_in h.inodes (user_of h.u) h.u.dir (name_at h.image name)) (λ l ino. until_end ino (next l ino)) is goes
 
   made_stays : (h : Handed) (answer : Made) (there : Handed → ℕ → Did) (new : Handed → ℕ → ℕ → List ℕ → Did) → h.u.pending ≡ n
       → ((l : Handed) (ino : ℕ) → l.u.pending ≡ n → Stays (there l ino))
-      → ((l : Handed) (dir offset : ℕ) (name : List ℕ) → l.u.pending ≡ n → Stays (new l dir offset name)) → Stays (by_made there new h answer)
+      → ((l : Handed) (dir offset : ℕ) (name : List ℕ) → l.u.pending ≡ n → Stays (new l dir offset name))
+      → Stays (by_made there new h answer)
   made_stays h (made.Found ino) there new is one two = one h ino is
   made_stays h (made.Room dir offset name) there new is one two = two h dir offset name is
 
   makes_stays : (h : Handed) (name : ℕ) (there : Handed → ℕ → Did) (new : Handed → ℕ → ℕ → List ℕ → Did) → h.u.pending ≡ n
       → ((l : Handed) (ino : ℕ) → l.u.pending ≡ n → Stays (there l ino))
-      → ((l : Handed) (dir offset : ℕ) (name : List ℕ) → l.u.pending ≡ n → Stays (new l dir offset name)) → Stays (makes h name there new)
+      → ((l : Handed) (dir offset : ℕ) (name : List ℕ) → l.u.pending ≡ n → Stays (new l dir offset name))
+      → Stays (makes h name there new)
   makes_stays h name there new is one two =
       named_stays h (make_in h.inodes h.marks (user_of h.u) h.u.dir (name_at h.image name)) (by_made there new) is
       (λ l answer same. made_stays l answer there new same one two)
 
-  written_stays : (h : Handed) (dir offset : ℕ) (bytes : List ℕ) (now : ℕ) (next : Handed → Did) → h.u.pending ≡ n → ((l : Handed) → l.u.pending ≡ n → Stays (next l))
+  written_stays : (h : Handed) (dir offset : ℕ) (bytes : List ℕ) (now : ℕ) (next : Handed → Did) → h.u.pending ≡ n
+      → ((l : Handed) → l.u.pending ≡ n → Stays (next l))
       → Stays (writes_entry h dir offset bytes now next)
   written_stays h dir offset bytes now next is goes = named_stays h (entry_written h.inodes dir offset bytes now) (λ l done. next l) is (λ l done same. goes l same)
 
@@ -122,7 +127,8 @@ closes_pending h fd = ap (λ (u : UArea). u.pending) (released_area (dropped h f
 then_pending : (c : Closing) (fd : ℕ) → (then_closes c fd).state.u.pending ≡ c.state.u.pending
 then_pending c fd = by (slice_index c.state.u.files fd == 0)
   where
-    by : (b : Bool) → (cond b c (let next : Closing = closes c.state fd in record { state = next.state; items = c.items ++ next.items })).state.u.pending ≡ c.state.u.pending
+    by : (b : Bool)
+        → (cond b c (let next : Closing = closes c.state fd in record { state = next.state; items = c.items ++ next.items })).state.u.pending ≡ c.state.u.pending
     by true = refl
     by false = closes_pending c.state fd
 
@@ -224,7 +230,8 @@ module _ (n : ℕ) where
       check_stays n l (need EMFILE (free_number one.u.files)) _ same (λ next.
       check_stays n l (need ENFILE (free_entry one.files)) _ same (λ free. same)))))
 
-  row_stays : (call : FileCall) → NeverWaits call → (h : Handed) (slot : ℕ) (a : List ℕ) (now : ℕ) → h.u.pending ≡ n → Stays n (file_row call h slot a now)
+  row_stays : (call : FileCall) → NeverWaits call → (h : Handed) (slot : ℕ) (a : List ℕ) (now : ℕ) → h.u.pending ≡ n
+      → Stays n (file_row call h slot a now)
   row_stays file.Read never h slot a now is = absurd never
   row_stays file.Write never h slot a now is = absurd never
   row_stays file.Open never h slot a now is = open_stays h (slice_index a 0) (slice_index a 1) is
@@ -271,7 +278,8 @@ module _ (n : ℕ) where
       by false = is
 
 -- A call that can't wait leaves the pending call as it was,
-pub row_pending : (call : FileCall) → NeverWaits call → (h : Handed) (slot : ℕ) (a : List ℕ) (now : ℕ) → (file_row call h slot a now).state.u.pending ≡ h.u.pending
+pub row_pending : (call : FileCall) → NeverWaits call → (h : Handed) (slot : ℕ) (a : List ℕ) (now : ℕ)
+    → (file_row call h slot a now).state.u.pending ≡ h.u.pending
 row_pending call never h slot a now = row_stays h.u.pending call never h slot a now refl
 
 -- and so does the writing of the file core.

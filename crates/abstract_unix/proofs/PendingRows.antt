@@ -99,19 +99,22 @@ holds_count h count None free = holds_free _ free
 holds_count h count (Some e) free = holds_free _ free
 
 -- a sleep in a pipe
-holds_wait : (h : Handed) (chan : Chan) (pending entry at count left : ℕ) → h.u.pending ≡ 0 → HasEnd h.files h.u.files entry → left ≤ count
+holds_wait : (h : Handed) (chan : Chan) (pending entry at count left : ℕ) → h.u.pending ≡ 0 → HasEnd h.files h.u.files entry
+    → left ≤ count
     → Holds (waits_in_pipe h chan pending (words_of entry at count left))
 holds_wait h chan pending entry at count left free end few =
     holds_either (is_some (due h.row h.u)) _ _ (holds_free _ free)
     (record { pends = λ waits. record { end = end; left = few }; user = λ awake. absurd (cc awake) })
 
-holds_read : (h : Handed) (ino entry at count : ℕ) (answer : Piped) → h.u.pending ≡ 0 → HasEnd h.files h.u.files entry → Holds (ends_read h ino entry at count answer)
+holds_read : (h : Handed) (ino entry at count : ℕ) (answer : Piped) → h.u.pending ≡ 0 → HasEnd h.files h.u.files entry
+    → Holds (ends_read h ino entry at count answer)
 holds_read h ino entry at count (Done n) free end = holds_free _ free
 holds_read h ino entry at count (Wait left) free end = holds_wait h (Read ino) 3 entry at count 0 free end (omega arith)
 holds_read h ino entry at count Broken free end = holds_free _ free
 holds_read h ino entry at count (Error e) free end = holds_free _ free
 
-holds_reads_pipe : (h : Handed) (entry at count now : ℕ) → h.u.pending ≡ 0 → HasEnd h.files h.u.files entry → Holds (reads_pipe h entry at count now)
+holds_reads_pipe : (h : Handed) (entry at count now : ℕ) → h.u.pending ≡ 0 → HasEnd h.files h.u.files entry
+    → Holds (reads_pipe h entry at count now)
 holds_reads_pipe h entry at count now free end =
     let r : PipeRead = pipe_read h entry at count now in
     let holds = holds_read (with_pipe_read h r) (pipe_at h entry).ino entry at count r.answer free end in
@@ -125,7 +128,8 @@ rounds_left (suc more) c w left is = by (λ l e. rounds_left more c (appended w 
     next : Writing
     next = appended w (append_of c w)
 
-    goes : ((l : ℕ) → (rounds more c next).answer ≡ Wait l → l ≤ next.left) → (e : Option Errno) → (unless_error next e (rounds more c next)).answer ≡ Wait left → left ≤ w.left
+    goes : ((l : ℕ) → (rounds more c next).answer ≡ Wait l → l ≤ next.left) → (e : Option Errno)
+        → (unless_error next e (rounds more c next)).answer ≡ Wait left → left ≤ w.left
     goes rest None e = let few = rest left e in omega (arith, few)
     goes rest (Some error) e = absurd (cc e)
 
@@ -140,12 +144,14 @@ rounds_left (suc more) c w left is = by (λ l e. rounds_left more c (appended w 
     by rest false false true e = waited e
     by rest false false false e = goes rest (append_of c w).error e
 
-writes_left : (store : Store) (ends : ℕ) (p : Pipe) (image : Image) (at count time left : ℕ) → (writes store ends p image at count time).answer ≡ Wait left → left ≤ count
+writes_left : (store : Store) (ends : ℕ) (p : Pipe) (image : Image) (at count time left : ℕ)
+    → (writes store ends p image at count time).answer ≡ Wait left → left ≤ count
 unfolding writes
 writes_left store ends p image at count time left is =
     rounds_left (suc count) (write_call ends image count time) (record { store = store; pipe = p; at = at; left = count }) left is
 
-holds_write : (h : Handed) (slot ino entry at count most : ℕ) (answer : Piped) → h.u.pending ≡ 0 → HasEnd h.files h.u.files entry → most ≤ count
+holds_write : (h : Handed) (slot ino entry at count most : ℕ) (answer : Piped) → h.u.pending ≡ 0
+    → HasEnd h.files h.u.files entry → most ≤ count
     → ((left : ℕ) → answer ≡ Wait left → left ≤ most) → Holds (ends_write h slot ino entry at count answer)
 holds_write h slot ino entry at count most (Done n) free end few each = holds_free _ free
 holds_write h slot ino entry at count most (Wait left) free end few each =
@@ -153,7 +159,8 @@ holds_write h slot ino entry at count most (Wait left) free end few each =
 holds_write h slot ino entry at count most Broken free end few each = holds_free _ free
 holds_write h slot ino entry at count most (Error e) free end few each = holds_free _ free
 
-holds_writes_pipe : (h : Handed) (slot entry at count left now : ℕ) → h.u.pending ≡ 0 → HasEnd h.files h.u.files entry → left ≤ count
+holds_writes_pipe : (h : Handed) (slot entry at count left now : ℕ) → h.u.pending ≡ 0 → HasEnd h.files h.u.files entry
+    → left ≤ count
     → Holds (writes_pipe h slot entry at count left now)
 holds_writes_pipe h slot entry at count left now free end few =
     let w : PipeWrite = pipe_write h entry at count left now in
@@ -161,19 +168,23 @@ holds_writes_pipe h slot entry at count left now free end few =
     record { pends = holds.pends; user = holds.user }
 
 -- The entry of an open number is named by it.
-end_of : (h : Handed) (fd : ℕ) → 0 < slice_index h.u.files fd → (file_of h (entry_of h.u.files fd)).kind.pipe ≡ true → HasEnd h.files h.u.files (entry_of h.u.files fd)
+end_of : (h : Handed) (fd : ℕ) → 0 < slice_index h.u.files fd → (file_of h (entry_of h.u.files fd)).kind.pipe ≡ true
+    → HasEnd h.files h.u.files (entry_of h.u.files fd)
 end_of h fd above pipe = by (file_at h.files (entry_of h.u.files fd)) refl pipe
   where
-    by : (o : Option OpenFile) → file_at h.files (entry_of h.u.files fd) ≡ o → (unwrap_or o no_file).kind.pipe ≡ true → HasEnd h.files h.u.files (entry_of h.u.files fd)
+    by : (o : Option OpenFile) → file_at h.files (entry_of h.u.files fd) ≡ o → (unwrap_or o no_file).kind.pipe ≡ true
+        → HasEnd h.files h.u.files (entry_of h.u.files fd)
     by None is e = absurd (cc e)
     by (Some file) is e = record { file = file; there = is; pipe = e; named = times_some h.u.files fd above }
 
 -- a call that begins with an open number
-holds_open : (h : Handed) (next : ℕ → Did) → h.u.pending ≡ 0 → (0 < slice_index h.u.files (r0 h) → Holds (next (entry_of h.u.files (r0 h))))
+holds_open : (h : Handed) (next : ℕ → Did) → h.u.pending ≡ 0
+    → (0 < slice_index h.u.files (r0 h) → Holds (next (entry_of h.u.files (r0 h))))
     → Holds (check h (open_entry h (r0 h)) next)
 holds_open h next free goes = by (slice_index h.u.files (r0 h) == 0) refl
   where
-    by : (b : Bool) → (slice_index h.u.files (r0 h) == 0) ≡ b → Holds (check h (cond b (Err EBADF) (Ok (entry_of h.u.files (r0 h)))) next)
+    by : (b : Bool) → (slice_index h.u.files (r0 h) == 0) ≡ b
+        → Holds (check h (cond b (Err EBADF) (Ok (entry_of h.u.files (r0 h)))) next)
     by true is = holds_free _ free
     by false is = goes (let some = eqb-false (slice_index h.u.files (r0 h)) 0 is in omega (arith, some))
 
@@ -188,7 +199,8 @@ read_holds : (h : Handed) (at count now : ℕ) → h.u.pending ≡ 0 → Holds (
 read_holds h at count now free =
     holds_open h _ free (λ above. by (entry_of h.u.files (r0 h)) (end_of h (r0 h) above))
   where
-    either : (entry : ℕ) (b : Bool) → (file_of h entry).kind.pipe ≡ b → ((file_of h entry).kind.pipe ≡ true → HasEnd h.files h.u.files entry)
+    either : (entry : ℕ) (b : Bool) → (file_of h entry).kind.pipe ≡ b
+        → ((file_of h entry).kind.pipe ≡ true → HasEnd h.files h.u.files entry)
         → Holds (cond b (reads_pipe h entry at count now) (reads_from h entry at count now))
     either entry true is end = holds_reads_pipe h entry at count now free (end is)
     either entry false is end = holds_from h entry at count now free
@@ -219,7 +231,8 @@ write_holds : (h : Handed) (slot at count now : ℕ) → h.u.pending ≡ 0 → H
 write_holds h slot at count now free =
     holds_open h _ free (λ above. may (entry_of h.u.files (r0 h)) (file_of h (entry_of h.u.files (r0 h))).kind.writing (end_of h (r0 h) above))
   where
-    either : (entry : ℕ) (b : Bool) → (file_of h entry).kind.pipe ≡ b → ((file_of h entry).kind.pipe ≡ true → HasEnd h.files h.u.files entry)
+    either : (entry : ℕ) (b : Bool) → (file_of h entry).kind.pipe ≡ b
+        → ((file_of h entry).kind.pipe ≡ true → HasEnd h.files h.u.files entry)
         → Holds (cond b (writes_pipe h slot entry at count count now) (writes_to h entry at count now))
     either entry true is end = holds_writes_pipe h slot entry at count count now free (end is) (omega arith)
     either entry false is end = holds_to h entry at count now free
@@ -230,16 +243,19 @@ write_holds h slot at count now free =
     may entry false end = holds_free _ free
 
 -- A call on files of a process in user mode.
-pub row_holds : (call : FileCall) (h : Handed) (slot : ℕ) (args : List ℕ) (now : ℕ) → h.u.pending ≡ 0 → Holds (file_row call h slot args now)
+pub row_holds : (call : FileCall) (h : Handed) (slot : ℕ) (args : List ℕ) (now : ℕ) → h.u.pending ≡ 0
+    → Holds (file_row call h slot args now)
 row_holds file.Read h slot a now free = read_holds h (slice_index a 0) (slice_index a 1) now free
 row_holds file.Write h slot a now free = write_holds h slot (slice_index a 0) (slice_index a 1) now free
 row_holds call h slot a now free = holds_free _ (row_pending call tt h slot a now ∙ free)
 
-pub row_pends : (call : FileCall) (h : Handed) (slot : ℕ) (args : List ℕ) (now : ℕ) → h.u.pending ≡ 0 → Pends (file_row call h slot args now).state
+pub row_pends : (call : FileCall) (h : Handed) (slot : ℕ) (args : List ℕ) (now : ℕ) → h.u.pending ≡ 0
+    → Pends (file_row call h slot args now).state
 row_pends call h slot args now free = (row_holds call h slot args now free).pends
 
 -- a call that comes to an answer waits for nothing
-pub row_user : (call : FileCall) (h : Handed) (slot : ℕ) (args : List ℕ) (now : ℕ) → h.u.pending ≡ 0 → is_sleep (file_row call h slot args now).answer ≡ false
+pub row_user : (call : FileCall) (h : Handed) (slot : ℕ) (args : List ℕ) (now : ℕ) → h.u.pending ≡ 0
+    → is_sleep (file_row call h slot args now).answer ≡ false
     → (file_row call h slot args now).state.u.pending ≡ 0
 row_user call h slot args now free awake = (row_holds call h slot args now free).user awake
 
@@ -282,7 +298,8 @@ resume_holds h slot now on pends =
 pub resume_pends : (h : Handed) (slot now : ℕ) → is_on_files h.u.pending ≡ true → Pends h → Pends (resumes h slot now).state
 resume_pends h slot now on pends = (resume_holds h slot now on pends).pends
 
-pub resume_user : (h : Handed) (slot now : ℕ) → is_on_files h.u.pending ≡ true → Pends h → is_sleep (resumes h slot now).answer ≡ false
+pub resume_user : (h : Handed) (slot now : ℕ) → is_on_files h.u.pending ≡ true → Pends h
+    → is_sleep (resumes h slot now).answer ≡ false
     → (resumes h slot now).state.u.pending ≡ 0
 resume_user h slot now on pends awake = (resume_holds h slot now on pends).user awake
 

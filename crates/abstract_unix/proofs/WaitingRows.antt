@@ -46,7 +46,8 @@ use Rattle.abstract_unix.proofs.PendingRows.{InPipe, is_sleep}
 use Rattle.abstract_unix.proofs.GoingOnLemmas.{WaitedIn, AllWaited, waited_same, all_waited_same, all_waited_then, like_waited, apart_waited, user_waited, dead_waited, gone_waited, all_waited_put}
 
 -- What has a fact where a slot is set: the new one has it, and so has what is there where there is no such slot.
-pub set_either : {A : Type 0} (P : A → Type 0) (xs : List A) (s : ℕ) (x d : A) → P x → P (get_or xs s d) → P (get_or (set xs s x) s d)
+pub set_either : {A : Type 0} (P : A → Type 0) (xs : List A) (s : ℕ) (x d : A) → P x → P (get_or xs s d)
+    → P (get_or (set xs s x) s d)
 set_either P xs s x d new old = elim (cases_lt s (length xs)) [
   | inl low ↦ subst P (sym (get_or-set_same xs s x d low)) new
   | inr past ↦
@@ -82,7 +83,8 @@ module _ (ps : List (Option Process)) (s : ℕ) where
   }
 
   -- the process that calls is changed, and waits for nothing still
-  change_free : (w : World) (rule : Process → Process) → IsFree w → (rule (process_of w s)).u.pending ≡ 0 → IsFree (change w s rule)
+  change_free : (w : World) (rule : Process → Process) → IsFree w → (rule (process_of w s)).u.pending ≡ 0
+      → IsFree (change w s rule)
   change_free w rule is free = record {
     waited = all_waited_then ps w.processes _ is.waited (all_waited_put w.processes s (Some (rule (process_of w s))) (user_waited _ _ free));
     free = set_either IsFreeIn w.processes s (Some (rule (process_of w s))) None free is.free;
@@ -100,7 +102,8 @@ module _ (ps : List (Option Process)) (s : ℕ) where
   }
 
   -- it sleeps, and not in a pipe
-  asleep_eased : (w : World) (c : Comes) (rule : Process → Process) → IsFree w → (InPipe (rule (process_of w s)).u.pending → ⊥) → is_sleep c.answer ≡ true
+  asleep_eased : (w : World) (c : Comes) (rule : Process → Process) → IsFree w → (InPipe (rule (process_of w s)).u.pending → ⊥)
+      → is_sleep c.answer ≡ true
       → c.state.processes ≡ (change w s rule).processes → IsEased c
   asleep_eased w c rule is never asleep same = record {
     waited = subst (AllWaited ps) (sym same)
@@ -156,13 +159,15 @@ module _ (ps : List (Option Process)) (s : ℕ) where
       let_go_free (goes (text_of w.texts k) sticky) (change entry s without_text) (text_of w.texts k).ino
       (change_free entry without_text (same_free w entry refl is) is.free)
 
-  freed_eased : (w : World) (text : Option ℕ) (next : World → Comes) → IsFree w → ((v : World) → IsFree v → IsEased (next v)) → IsEased (xfree w s text next)
+  freed_eased : (w : World) (text : Option ℕ) (next : World → Comes) → IsFree w → ((v : World) → IsFree v → IsEased (next v))
+      → IsEased (xfree w s text next)
   freed_eased w None next is rest = rest w is
   freed_eased w (Some k) next is rest =
       let last = rest (leaves_text w s k (is_sticky w k)) (left_free w k is) in
       record { waited = last.waited; user = last.user }
 
-  taken_eased_by : (w : World) (ino size : ℕ) (o : Option ℕ) (next : World → Bool → Comes) → IsFree w → ((v : World) (b : Bool) → IsFree v → IsEased (next v b))
+  taken_eased_by : (w : World) (ino size : ℕ) (o : Option ℕ) (next : World → Bool → Comes) → IsFree w
+      → ((v : World) (b : Bool) → IsFree v → IsEased (next v b))
       → IsEased (xalloc_by w s ino size o next)
   taken_eased_by w ino size (Some k) next is goes_on =
       let entry = record w { texts = with_user w.texts k } in
@@ -174,7 +179,8 @@ module _ (ps : List (Option Process)) (s : ℕ) where
       let last = goes_on (makes_text w s ino size) true (change_free entry (with_entry k) (same_free w entry refl is) is.free) in
       record { waited = last.waited; user = last.user }
 
-  taken_eased : (w : World) (ino size : ℕ) (next : World → Bool → Comes) → IsFree w → ((v : World) (b : Bool) → IsFree v → IsEased (next v b))
+  taken_eased : (w : World) (ino size : ℕ) (next : World → Bool → Comes) → IsFree w
+      → ((v : World) (b : Bool) → IsFree v → IsEased (next v b))
       → IsEased (xalloc w s ino size next)
   taken_eased w ino size next is goes_on = eased_if (size == 0) _ _ (goes_on w false is) (taken_eased_by w ino size (entry_of w.texts ino) next is goes_on)
 
@@ -186,7 +192,8 @@ module _ (ps : List (Option Process)) (s : ℕ) where
   owner_pending : (node : Node) (p : Process) → (as_owner node p).u.pending ≡ p.u.pending
   owner_pending node p = by (not (bit_and node.mode ISUID == 0) && not (p.u.uid == 0))
     where
-      by : (b : Bool) → (cond b (record p { u = record p.u { uid = node.uid }; row = record p.row { uid = node.uid } }) p).u.pending ≡ p.u.pending
+      by : (b : Bool)
+          → (cond b (record p { u = record p.u { uid = node.uid }; row = record p.row { uid = node.uid } }) p).u.pending ≡ p.u.pending
       by true = refl
       by false = refl
 
@@ -197,7 +204,8 @@ module _ (ps : List (Option Process)) (s : ℕ) where
       by true = refl
       by false = refl
 
-  begins_pending : (u : UArea) (p : Process) (node : Node) (program : Program) (read : List ℕ) → (begins u p node program read).u.pending ≡ u.pending
+  begins_pending : (u : UArea) (p : Process) (node : Node) (program : Program) (read : List ℕ)
+      → (begins u p node program read).u.pending ≡ u.pending
   begins_pending u p node program read =
       let begun : Process = record p { u = begun_area u program; «data» = read; stack = first_stack program.arguments } in
       group_pending node (as_owner node begun) ∙ owner_pending node begun
@@ -261,7 +269,8 @@ signalled_at : (who : ℕ → Process → Bool) (n : ℕ) (ps : List (Option Pro
     → get_or (all_signalled who n ps) r None ≡ signalled_if who n r (get_or ps r None)
 signalled_at who n ps r low = get_or-map-range_with_len (λ s. signalled_if who n s (get_or ps s None)) 0 50 r r None low (omega arith)
 
-signalled_past : (who : ℕ → Process → Bool) (n : ℕ) (ps : List (Option Process)) (r : ℕ) → 50 ≤ r → get_or (all_signalled who n ps) r None ≡ None
+signalled_past : (who : ℕ → Process → Bool) (n : ℕ) (ps : List (Option Process)) (r : ℕ) → 50 ≤ r
+    → get_or (all_signalled who n ps) r None ≡ None
 signalled_past who n ps r past =
     get_or_past (all_signalled who n ps) r None
     (let long = length-map-range_with_len (λ s. signalled_if who n s (get_or ps s None)) 0 50 in omega (arith, past, long))
@@ -290,7 +299,8 @@ key_waited who n ps r = elim (cases_lt r 50) [
 ]
 
 module _ (ps : List (Option Process)) (s : ℕ) where
-  signalled_free : (w : World) (who : ℕ → Process → Bool) (n : ℕ) → IsFree ps s w → IsFree ps s (record w { processes = all_signalled who n w.processes })
+  signalled_free : (w : World) (who : ℕ → Process → Bool) (n : ℕ) → IsFree ps s w
+      → IsFree ps s (record w { processes = all_signalled who n w.processes })
   signalled_free w who n is = record {
     waited = all_waited_then ps w.processes (all_signalled who n w.processes) is.waited (key_waited who n w.processes);
     free = elim (cases_lt s 50) [
@@ -343,7 +353,8 @@ module _ (ps : List (Option Process)) (s : ℕ) where
       } in
       unless_eased ps s now _ is (eased_if ps s _ _ _ (until_eased ps s now (until_of (process_of w s)) is) (wait_eased ps s now is))
     where
-      awake_free : (qs : List (Option Process)) → (unwrap_or (get_or (set qs s (Some (awake (unwrap_or (get_or qs s None) no_process)))) s None) no_process).u.pending ≡ 0
+      awake_free : (qs : List (Option Process))
+          → (unwrap_or (get_or (set qs s (Some (awake (unwrap_or (get_or qs s None) no_process)))) s None) no_process).u.pending ≡ 0
       awake_free qs =
           let q : Option Process = Some (awake (unwrap_or (get_or qs s None) no_process)) in
           elim (cases_lt s (length qs)) [
@@ -398,7 +409,8 @@ module _ (ps : List (Option Process)) (s : ℕ) where
       all_waited_then ps qs _ (all_waited_then ps w.processes qs waited (all_waited_put w.processes s (Some z) (dead_waited _ z refl)))
       (all_waited_then qs strays _ (strays_waited (is_none (slot_of w p.row.ppid)) p.row.ppid qs) (all_adopted p.row.pid strays))
 
-  freed_waited : (w : World) (text : Option ℕ) → IsFree ps s w → AllWaited ps (xfree w s text (λ left. dies left s)).state.processes
+  freed_waited : (w : World) (text : Option ℕ) → IsFree ps s w
+      → AllWaited ps (xfree w s text (λ left. dies left s)).state.processes
   freed_waited w None is = dead_all_waited w is.waited
   freed_waited w (Some k) is = dead_all_waited (leaves_text w s k (is_sticky w k)) (left_free ps s w k is).waited
 
@@ -432,12 +444,14 @@ module _ (w : World) (s : ℕ) (free : (process_of w s).u.pending ≡ 0) where
   pub grown_waited : (sp : ℕ) → AllWaited w.processes (grown_or_not w s (grow w s sp)).state.processes
   grown_waited sp = (grown_eased w.processes s w sp begun).waited
 
-  pub grown_user : (sp : ℕ) → is_sleep (grown_or_not w s (grow w s sp)).answer ≡ false → (process_of (grown_or_not w s (grow w s sp)).state s).u.pending ≡ 0
+  pub grown_user : (sp : ℕ) → is_sleep (grown_or_not w s (grow w s sp)).answer ≡ false
+      → (process_of (grown_or_not w s (grow w s sp)).state s).u.pending ≡ 0
   grown_user sp awake = (grown_eased w.processes s w sp begun).user awake
 
 -- A sleep or a wait goes on, whatever was waited for.
 pub resume_waited : (w : World) (s : ℕ) → AllWaited w.processes (resume_proc w s).state.processes
 resume_waited w s = (resume_eased w.processes s w (all_waited_same w.processes)).waited
 
-pub resumed_user : (w : World) (s : ℕ) → is_sleep (resume_proc w s).answer ≡ false → (process_of (resume_proc w s).state s).u.pending ≡ 0
+pub resumed_user : (w : World) (s : ℕ) → is_sleep (resume_proc w s).answer ≡ false
+    → (process_of (resume_proc w s).state s).u.pending ≡ 0
 resumed_user w s awake = (resume_eased w.processes s w (all_waited_same w.processes)).user awake
