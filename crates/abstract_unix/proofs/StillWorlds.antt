@@ -1,7 +1,7 @@
 -- What a call on processes leaves of the number of nodes, and of what the counts see of processes: the numbers of each, and its directory.
 use Rattle.std.proofs.Common.{◌≡◌, ◌≢◌, ◌∙◌, ◌<◌, ◌==◌, ◌&&◌, ℕ, not, Bool, true, false, cond, List, [], length, get_or, get_or-set_same, set, set-set, map, Option, Some, None, option_map, unwrap_or, is_none, Result, Ok, Err, slice_index, bit_and, refl, sym, ap, subst, inl, inr, arith}
 use Rattle.std.proofs.lemmas.Bool.{cases_eq}
-use Rattle.std.proofs.lemmas.List.{length-set, map-set, set-get_or, get_or-set_other}
+use Rattle.std.proofs.lemmas.List.{length-map, length-set, map-set, set-get_or, get_or-set_other}
 use Rattle.std.proofs.lemmas.List.FromFn.{get_or-map-range_with_len, length-map-range_with_len}
 use Rattle.std.proofs.Math.ListN.{get_or-map}
 use Rattle.fs_codec.specs.Store.{Node}
@@ -23,6 +23,7 @@ use Rattle.sys_procs.specs.TextTable.{text_of, with_text, entry_of}
 use Rattle.sys_procs.specs.Texts.{goes, remaining, with_user, free_entry, new_text, without_text, with_entry, leaves_text, is_sticky, shares_text, makes_text, xalloc, xalloc_by, xfree}
 use Rattle.sys_procs.specs.Stack.{arguments, first_stack, stack_clicks}
 use Rattle.sys_procs.specs.ExecFile as exec
+use Rattle.sys_procs.specs.Exit.{slot_of, adopted, strays_adopted, ended, leaves, dead, dies, end_proc}
 use Rattle.sys_procs.specs.Resume.{awake, resume_proc}
 use Rattle.fs_laws.specs.Pieces.{Moving}
 use Rattle.fs_tree.specs.Name.{name_at}
@@ -39,6 +40,7 @@ use Rattle.abstract_unix.specs.declared.calls.ProcessCall.TheVariants as process
 use Rattle.abstract_unix.specs.Calls.{process_row}
 use Rattle.abstract_unix.specs.Whole.{Told, told_of, told_by, told_in}
 use Rattle.abstract_unix.proofs.Owing.{some_within, told_change, told_unseen, told_dead}
+use Rattle.abstract_unix.proofs.Dying as dying
 use Rattle.abstract_unix.proofs.Posting.{all_alike}
 use Rattle.abstract_unix.proofs.ProcessRows.{SameProcess, IsGrave, Plain, gives, refuses, waits, changes, due, nice, wakes, dated, buries, plain_row, resume_plain}
 
@@ -415,3 +417,50 @@ module _ (base : World) (s : ℕ) where
   -- a sleep or a wait that goes on
   pub still_resume : (v : World) → IsStill v → IsStill (resume_proc v s).state
   still_resume v k = still_plain (change v s awake) _ (resume_plain s v) (still_change v awake k refl refl refl)
+
+  -- exit: its process is told of no more
+  pub record IsGone (v : World) : Type 0 where
+    pub count : v.inodes.store.count ≡ base.inodes.store.count
+    pub told : told_in v.processes ≡ set (told_in base.processes) s None
+    pub fifty : length v.processes ≡ 50
+
+  strays_length : (b : Bool) (pid : ℕ) (ps : List (Option Process)) → length (cond b (map (adopted pid) ps) ps) ≡ length ps
+  strays_length true pid ps = length-map ps (adopted pid)
+  strays_length false pid ps = refl
+
+  gone_dead : (v : World) → IsBut v → IsGone (dead v s)
+  gone_dead v k =
+      let p : Process = process_of v s in
+      let z : List (Option Process) = set v.processes s (Some (record p { is_zombie = true; «data» = []; stack = [] })) in
+      let strays : List (Option Process) = strays_adopted (slot_of v p.row.ppid) p.row.ppid z in
+      record {
+        count = k.count;
+        told = dying.told_dead v s ∙ k.but;
+        fifty = length-map strays (adopted p.row.pid) ∙ strays_length (is_none (slot_of v p.row.ppid)) p.row.ppid z
+            ∙ length-set v.processes s (Some (record p { is_zombie = true; «data» = []; stack = [] })) ∙ k.fifty;
+      }
+
+  let_go_but : (b : Bool) (v : World) (ino : ℕ) → IsBut v → IsBut (cond b (let_go v ino) v)
+  let_go_but true v ino k = but_inodes v (let_go v ino) refl (put_back_count v.inodes ino) k
+  let_go_but false v ino k = k
+
+  but_left : (v : World) (k : ℕ) (sticky : Bool) → IsBut v → IsBut (leaves_text v s k sticky)
+  but_left v k sticky but =
+      let now : World = record v { texts = set v.texts k (remaining sticky (get_or v.texts k None)) } in
+      let_go_but (goes (text_of v.texts k) sticky) (change now s without_text) (text_of v.texts k).ino (but_change now without_text refl (but_inodes v now refl refl but))
+
+  pub gone_ended : (v : World) (status : ℕ) → IsStill v → IsGone (end_proc v s status).state
+  unfolding end_proc
+  gone_ended v status k = by (process_of v s).text
+    where
+      left : World
+      left = leaves v s status
+
+      but : IsBut left
+      but = but_inodes (change v s (ended status)) left refl (put_back_count v.inodes (process_of v s).u.dir) (but_change v (ended status) refl (but_still v k))
+
+      by : (o : Option ℕ) → IsGone (xfree left s o (λ now. dies now s)).state
+      by None = let g = gone_dead left but in record { count = g.count; told = g.told; fifty = g.fifty }
+      by (Some entry) =
+          let g = gone_dead (leaves_text left s entry (is_sticky left entry)) (but_left left entry (is_sticky left entry) but) in
+          record { count = g.count; told = g.told; fifty = g.fifty }
