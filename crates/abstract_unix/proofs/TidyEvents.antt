@@ -183,3 +183,9 @@ event_tidy (Byte byte) u seen h tidy ends =
     subst IsTidy (sym (settled_unix what)) (subst IsTidy (sym (ap (λ o. left_by o now) none)) (key_tidy k.keyed (record u { line = k.terminal })
     (tidy_like u (record u { line = k.terminal }) refl refl refl refl tidy)))
 event_tidy (Switch word) u seen h tidy ends = tidy_like u (record u { switches = word }) refl refl refl refl tidy
+
+-- The pass of the swapper with which a run begins changes nothing.
+pub start_tidy : (m : System) → IsTidy m.unix → (settled_after (pass_of m)).ending ≡ AtEnd → IsTidy (settled_after (pass_of m)).next.unix
+start_tidy m tidy ends =
+    let what : Happened = pass_of m in
+    subst IsTidy (sym (settled_unix what)) (went_on what.log.stop m.unix tidy (sym (settled_ending what) ∙ ends))
