@@ -22,7 +22,7 @@ use Rattle.sys_files.specs.Handed.{Handed, file_of, with_inodes, let_go}
 use Rattle.sys_files.specs.Did.{Did}
 use Rattle.sys_files.specs.Descriptors.{Closing, dropped, closes, then_closes, close_all}
 use Rattle.sys_files.specs.Moving.{without_pending, resumes}
-use Rattle.sys_files.proofs.Walks.{IsOfPipe, Walks, put_back_count, walk_closes, walk_resume}
+use Rattle.sys_files.proofs.StepWalks.{IsOfPipe, StepWalks, put_back_count, walk_closes, walk_resume}
 use Rattle.abstract_unix.proofs.PipeNumbers.{HavePipes, end_known, pipes_opened, pipes_change, pipes_left, pipes_marked, pipes_gone, pipes_ends}
 
 -- Items that are bytes, wakes, and the signal of the process of a slot that writes to a pipe which nobody reads.
@@ -127,7 +127,7 @@ sleeps_so old new pending (Read ino) same which is of = record { size = same; pe
 sleeps_so old new pending (Write ino) same which is of = record { size = same; pending = not_user new.pending pending which is; at = λ s. refl; on = of }
 
 -- Each row of a call on files is calm.
-pub calm_walks : (old : UArea) (s : ℕ) → Walks (InCalm old) (Calm old s) (λ count. Unit {0}) IsInode s
+pub calm_walks : (old : UArea) (s : ℕ) → StepWalks (InCalm old) (Calm old s) (λ count. Unit {0}) IsInode s
 calm_walks old s = record {
   refused = λ h e p. record { quiet = tt; ends = p.same; numbers = p.numbers };
   done = λ h value p. record { quiet = tt; ends = p.same; numbers = p.numbers };

@@ -29,7 +29,7 @@ use Rattle.sys_files.specs.Moving.{without_pending, resumes}
 use Rattle.sys_files.specs.Sound.{numbers_of}
 use Rattle.sys_files.proofs.CoreLemmas.{OverWith, core_keeps}
 use Rattle.sys_files.proofs.Counting.{IsCounted, counted_walks, close_all_counted}
-use Rattle.sys_files.proofs.Walks.{walk_resume}
+use Rattle.sys_files.proofs.StepWalks.{walk_resume}
 use Rattle.sys_procs.specs.Process.{Process, no_process, member_of, register, image_of}
 use Rattle.sys_procs.specs.World as world
 use Rattle.sys_procs.specs.World.{World, change, members}
@@ -57,7 +57,7 @@ use Rattle.abstract_unix.proofs.Sharing.{shared_numbers}
 use Rattle.abstract_unix.proofs.PipeNumbers.{HavePipes, shared_ends}
 use Rattle.abstract_unix.proofs.Dying.{closed_none}
 use Rattle.abstract_unix.proofs.Quiet.{HasNumbers, InCalm, same_call, other_inodes, Calm, CalmClosing, calm_walks, resume_calm, close_all_calm}
-use Rattle.abstract_unix.proofs.FileRows.{walk_row}
+use Rattle.abstract_unix.proofs.StepRows.{step_row}
 use Rattle.abstract_unix.proofs.Tidy.{IsTidy, tidy_numbers, tidy_end}
 use Rattle.abstract_unix.proofs.StillWorlds.{IsStill, still_change, still_row, still_resume, still_grown, IsGone, gone_ended}
 use Rattle.abstract_unix.proofs.PendingRows.{Pends, row_pends, resume_pends, close_pends, core_pends}
@@ -255,9 +255,9 @@ module _ (s : ℕ) where
   leaves_call u (OnFiles call) args free r =
       let h : Handed = handed_of u (process_of u s) in
       let did : Did = file_row call h s args u.clock.time in
-      let calm : Calm h.u s did = walk_row (calm_walks h.u s) call h args u.clock.time tt (record { same = same_call h.u; numbers = tidy_numbers u s r.tidy }) in
+      let calm : Calm h.u s did = step_row (calm_walks h.u s) call h args u.clock.time tt (record { same = same_call h.u; numbers = tidy_numbers u s r.tidy }) in
       leaves_runs (did_by u s did)
-      (runs_did s u did (walk_row (counted_walks h s) call h args u.clock.time tt (runs_counted s u r)) calm.numbers (row_pends call h s args u.clock.time free) r)
+      (runs_did s u did (step_row (counted_walks h s) call h args u.clock.time tt (runs_counted s u r)) calm.numbers (row_pends call h s args u.clock.time free) r)
   leaves_call u (OnProcesses call) args free r =
       leaves_runs (came_by u s (process_row call (world_of u) s args))
       (runs_came s u (process_row call (world_of u) s args) (still_row (world_of u) s call (world_of u) args (runs_still s u r)) (row_waited (world_of u) s free call args) r)

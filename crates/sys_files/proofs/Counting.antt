@@ -18,7 +18,7 @@ use Rattle.sys_files.proofs.OwedLemmas.{used_low, counted}
 use Rattle.sys_files.proofs.NumberLemmas.{number_low, given_times, taken_times, set_here, set_there, numbers_change, open_given, open_taken}
 use Rattle.sys_files.proofs.PipeLemmas.{free_other, set_other}
 use Rattle.sys_files.proofs.StayingLemmas.{Stay, stays_there, stays_changed, stays_freed, stays_after}
-use Rattle.sys_files.proofs.Walks.{Walks, walk_closes}
+use Rattle.sys_files.proofs.StepWalks.{StepWalks, walk_closes}
 
 -- From a table and numbers to others. No file had fewer numbers than the process has of it.
 pub record Counted (files : List (Option OpenFile)) (mine : List ℕ) (new : List (Option OpenFile)) (its : List ℕ) : Type 0 where
@@ -186,7 +186,7 @@ module _ (files : List (Option OpenFile)) (mine : List ℕ) (new : List (Option 
 abbrev pub IsCounted : Handed → Handed → Type 0
 IsCounted old h = Counted old.files old.u.files h.files h.u.files
 
-pub counted_walks : (old : Handed) (slot : ℕ) → Walks (IsCounted old) (λ d. IsCounted old d.state) (λ count. Unit {0}) (λ ino. Unit {0}) slot
+pub counted_walks : (old : Handed) (slot : ℕ) → StepWalks (IsCounted old) (λ d. IsCounted old d.state) (λ count. Unit {0}) (λ ino. Unit {0}) slot
 counted_walks old slot = record {
   refused = λ h e p. p;
   done = λ h value p. p;

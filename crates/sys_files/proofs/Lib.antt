@@ -30,6 +30,8 @@ pub mod CreatingLemmas
 pub mod Bounds
 pub mod Lengths
 pub mod Walks
+pub mod PipeCounts
+pub mod StepWalks
 pub mod Counting
 pub mod Steady
 pub mod CoreLemmas
