@@ -1,7 +1,6 @@
 -- A run begins with a tidy Unix.
-use Rattle.std.proofs.Common.{◌≡◌, ◌∙◌, ◌<◌, ◌≤◌, ◌+◌, ◌*◌, ◌==◌, ◌||◌, ℕ, zero, suc, not, nat_lt, Bool, true, false, cond, List, [], ◌∷◌, length, map, filter, get_or, replicate, Option, Some, None, option_map, slice_index, refl, sym, ap, subst, arith}
+use Rattle.std.proofs.Common.{◌≡◌, ◌∙◌, ◌≤◌, ◌+◌, ◌*◌, ◌==◌, ◌||◌, ℕ, zero, suc, not, nat_lt, Bool, true, false, List, [], ◌∷◌, length, map, filter, get_or, replicate, Option, Some, None, option_map, slice_index, refl, sym, ap, arith}
 use Rattle.std.proofs.lemmas.Bool.{ltb-false}
-use Rattle.std.proofs.lemmas.List.{length-replicate, length-map}
 use Rattle.std.proofs.lemmas.List.Elements.{All-from_get_or}
 use Rattle.std.proofs.lemmas.List.Sums.{sum_by-le}
 use Rattle.std.proofs.Math.ListN.{get_or-map}
@@ -17,7 +16,7 @@ use Rattle.fs_codec.specs.declared.fault.ImageFault.{ImageFault}
 use Rattle.fs_codec.specs.declared.fault.ImageFault.TheVariants.{TooLong, BadSuper, NoSwap, BlockTwice, NoRoot}
 use Rattle.fs_laws.proofs.WholeLemmas.{two, five}
 use Rattle.open_files.specs.declared.file.OpenFile.{OpenFile}
-use Rattle.open_files.specs.Files.{file_at, times}
+use Rattle.open_files.specs.Files.{file_at}
 use Rattle.sys_files.specs.Sound.{numbers_of}
 use Rattle.sys_files.proofs.NumberLemmas.{free_times}
 use Rattle.sys_procs.specs.Process.{Process}

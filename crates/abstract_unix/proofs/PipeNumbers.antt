@@ -1,6 +1,6 @@
 -- The inodes of the pipes that are open have numbers that a channel may have, and each of them has its pipe.
-use Rattle.std.proofs.Common.{◌≡◌, ◌≢◌, ◌≤◌, ◌<◌, ◌+◌, ◌∙◌, ◌==◌, ℕ, suc, Bool, true, false, cond, List, [], ◌∷◌, ◌++◌, length, get_or, set, Option, Some, None, unwrap_or, refl, sym, ap, subst, inl, inr, arith}
-use Rattle.std.proofs.lemmas.Bool.{cases_eq, cases_lt, false≢true}
+use Rattle.std.proofs.Common.{◌≡◌, ◌≢◌, ◌≤◌, ◌<◌, ◌∙◌, ◌==◌, ℕ, suc, Bool, true, false, cond, List, [], ◌∷◌, ◌++◌, length, get_or, set, Option, Some, None, unwrap_or, refl, sym, ap, subst, inl, inr, arith}
+use Rattle.std.proofs.lemmas.Bool.{cases_lt, false≢true}
 use Rattle.std.proofs.lemmas.Option.{none-some, same_Some}
 use Rattle.std.proofs.lemmas.List.{append-nil, drop_all, take_all, get_or_append_left, length-append}
 use Rattle.std.specs.Prelude.{drop, remove}
@@ -11,7 +11,6 @@ use Rattle.open_files.specs.declared.file.Closed.TheVariants.{Still, Last}
 use Rattle.open_files.specs.Files.{file_at, times, shared, opened, changed, with_more, with_fewer, with_change, closed, left}
 use Rattle.pick_rules.specs.Ranges.{IsInode}
 use Rattle.pipe_ends.specs.declared.ends.Pipe.{Pipe}
-use Rattle.fs_tree.specs.Finding.{Inodes}
 use Rattle.sys_files.specs.Handed.{Handed, no_file, file_of}
 use Rattle.sys_files.specs.Pipes.{new_pipe, place_of, pipe_of, with_pipe, without_pipe, has_end}
 use Rattle.sys_files.specs.Piping.{reading_end, writing_end}

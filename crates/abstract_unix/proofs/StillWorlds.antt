@@ -1,12 +1,11 @@
 -- What a call on processes leaves of the number of nodes, and of what the counts see of processes: the numbers of each, and its directory.
-use Rattle.std.proofs.Common.{◌≡◌, ◌≢◌, ◌∙◌, ◌<◌, ◌==◌, ◌&&◌, ℕ, not, Bool, true, false, cond, List, [], length, get_or, get_or-set_same, set, set-set, map, Option, Some, None, option_map, unwrap_or, is_none, Result, Ok, Err, slice_index, bit_and, refl, sym, ap, subst, inl, inr, arith}
-use Rattle.std.proofs.lemmas.Bool.{cases_eq}
+use Rattle.std.proofs.Common.{◌≡◌, ◌≢◌, ◌∙◌, ◌<◌, ◌==◌, ◌&&◌, ℕ, not, Bool, true, false, cond, List, [], length, get_or, get_or-set_same, set, set-set, map, Option, Some, None, option_map, unwrap_or, is_none, Result, Ok, Err, slice_index, bit_and, refl, sym, ap, arith}
 use Rattle.std.proofs.lemmas.List.{length-map, length-set, map-set, set-get_or, get_or-set_other}
 use Rattle.std.proofs.lemmas.List.FromFn.{get_or-map-range_with_len, length-map-range_with_len}
 use Rattle.std.proofs.Math.ListN.{get_or-map}
 use Rattle.fs_codec.specs.Store.{Node}
 use Rattle.fs_codec.specs.declared.modes.TheConstants.{ISUID, ISGID}
-use Rattle.fs_tree.specs.Finding.{Inodes, Finding, with_reference, find_in, put_back}
+use Rattle.fs_tree.specs.Finding.{Finding, with_reference, find_in}
 use Rattle.u_area.specs.declared.area.UArea.{UArea}
 use Rattle.v6_base.specs.declared.errno.Errno.{Errno}
 use Rattle.sys_files.proofs.StepWalks.{put_back_count, finding_count}
@@ -17,10 +16,10 @@ use Rattle.sys_procs.specs.Comes.{Comes, does, logs}
 use Rattle.sys_procs.specs.Tests.{must, user_of, node_at}
 use Rattle.v6_base.specs.declared.entry.Entry.TheVariants.{Bare}
 use Rattle.pick_rules.specs.Effects as effect
-use Rattle.sys_procs.specs.Break.{sized, break_at, expands, grow, grown_stack, grown_or_not}
+use Rattle.sys_procs.specs.Break.{sized, break_at, expands, grown_or_not}
 use Rattle.sys_procs.specs.Signals.{signalled, signalled_if, all_signalled, is_reached, meant_in, kill_to}
 use Rattle.sys_procs.specs.TextTable.{text_of, with_text, entry_of}
-use Rattle.sys_procs.specs.Texts.{goes, remaining, with_user, free_entry, new_text, without_text, with_entry, leaves_text, is_sticky, shares_text, makes_text, xalloc, xalloc_by, xfree}
+use Rattle.sys_procs.specs.Texts.{goes, remaining, with_user, free_entry, new_text, without_text, with_entry, leaves_text, is_sticky, shares_text, makes_text, xalloc_by, xfree}
 use Rattle.sys_procs.specs.Stack.{arguments, first_stack, stack_clicks}
 use Rattle.sys_procs.specs.ExecFile as exec
 use Rattle.sys_procs.specs.Exit.{slot_of, adopted, strays_adopted, ended, leaves, dead, dies, end_proc}
@@ -38,11 +37,11 @@ use Rattle.sys_procs.proofs.TestedSlots.{tests_processes}
 use Rattle.abstract_unix.specs.declared.calls.ProcessCall.{ProcessCall}
 use Rattle.abstract_unix.specs.declared.calls.ProcessCall.TheVariants as process
 use Rattle.abstract_unix.specs.Calls.{process_row}
-use Rattle.abstract_unix.specs.Whole.{Told, told_of, told_by, told_in}
+use Rattle.abstract_unix.specs.Whole.{told_of, told_by, told_in}
 use Rattle.abstract_unix.proofs.Owing.{some_within, told_change, told_unseen, told_dead}
 use Rattle.abstract_unix.proofs.Dying as dying
 use Rattle.abstract_unix.proofs.Posting.{all_alike}
-use Rattle.abstract_unix.proofs.ProcessRows.{SameProcess, IsGrave, Plain, gives, refuses, waits, changes, due, nice, wakes, dated, buries, plain_row, resume_plain}
+use Rattle.abstract_unix.proofs.ProcessRows.{IsGrave, Plain, gives, refuses, waits, changes, due, nice, wakes, dated, buries, plain_row, resume_plain}
 
 told_same : (p q : Process) → q.u.files ≡ p.u.files → q.u.dir ≡ p.u.dir → q.is_zombie ≡ p.is_zombie → told_by (Some q) ≡ told_by (Some p)
 told_same p q files dir dead = λ i. cond (dead i) None (Some (record { files = files i; dir = dir i }))

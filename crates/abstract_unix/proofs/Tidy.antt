@@ -1,10 +1,9 @@
 -- What holds of a Unix between two turns, besides who sits where: open files count the numbers that name them, the pipes that are
 -- open have numbers that a channel may have, and who waits in a pipe can go on.
-use Rattle.std.proofs.Common.{◌≡◌, ◌≤◌, ◌==◌, ◌||◌, ◌∙◌, ℕ, Bool, true, false, List, length, get_or, Option, Some, None, unwrap_or, slice_index, refl, sym, ap, inl, inr}
+use Rattle.std.proofs.Common.{◌≡◌, ◌≤◌, ◌==◌, ◌||◌, ◌∙◌, ℕ, Bool, true, false, length, get_or, Some, None, unwrap_or, slice_index, refl, ap}
 use Rattle.std.proofs.lemmas.Bool.{eqb-true}
-use Rattle.open_files.specs.declared.file.OpenFile.{OpenFile}
 use Rattle.open_files.specs.Files.{file_at}
-use Rattle.sys_files.specs.Handed.{Handed, no_file, file_of}
+use Rattle.sys_files.specs.Handed.{no_file, file_of}
 use Rattle.sys_files.specs.Sound.{numbers_of}
 use Rattle.sys_procs.specs.Process.{Process}
 use Rattle.abstract_unix.specs.Unix.{Unix, process_of}

@@ -1,7 +1,6 @@
 -- Each event by which a run goes on leaves a tidy Unix, and a run begins with one.
-use Rattle.std.proofs.Common.{◌≡◌, ◌∙◌, ◌<◌, ◌≤◌, ◌+◌, ◌==◌, ℕ, zero, suc, Bool, true, false, not, cond, ◌++◌, ◌&&◌, List, [], ◌∷◌, length, map, set, get_or, get_or-set_same, unwrap_or, fold, Option, Some, None, refl, sym, ap, subst, inl, inr, arith}
+use Rattle.std.proofs.Common.{◌≡◌, ◌∙◌, ◌≤◌, ◌==◌, ℕ, zero, suc, Bool, true, false, cond, ◌++◌, ◌&&◌, List, length, map, set, get_or, get_or-set_same, unwrap_or, Option, Some, None, refl, sym, ap, subst, inl, inr}
 use Rattle.std.proofs.lemmas.Bool.{eqb-true, eqb-false}
-use Rattle.std.proofs.lemmas.List.{length-set}
 use Rattle.std.proofs.lemmas.List.FromFn.{length-map-range_with_len}
 use Rattle.fs_codec.specs.Store.{Store}
 use Rattle.tty_line.specs.declared.line.Keyed.{Keyed}
@@ -9,16 +8,13 @@ use Rattle.tty_line.specs.declared.line.Keyed.TheVariants as key
 use Rattle.tty_line.specs.Input.{Typed, typed}
 use Rattle.pick_rules.specs.declared.row.Mode.{Mode}
 use Rattle.pick_rules.specs.declared.row.Mode.TheVariants.{User, Kernel, Idle}
-use Rattle.pick_rules.specs.Board.{Board}
 use Rattle.pick_rules.specs.Lawful.{Seen}
-use Rattle.pick_rules.specs.Logged.{Logged, Stop, left_by}
-use Rattle.log_laws.proofs.Seats.{RunnerAt, InTurn, Paused, Holds}
+use Rattle.pick_rules.specs.Logged.{Stop, left_by}
+use Rattle.log_laws.proofs.Seats.{RunnerAt, Paused, Holds}
 use Rattle.sys_files.specs.Sound.{numbers_of}
 use Rattle.open_files.specs.Files.{file_at}
 use Rattle.sys_procs.specs.Process.{Process, no_process}
 use Rattle.sys_procs.specs.Signals.{has_console, signalled, signalled_if, all_signalled}
-use Rattle.abstract_unix.specs.declared.ends.Ends as run
-use Rattle.abstract_unix.specs.declared.ends.Ends.TheVariants as ends
 use Rattle.abstract_unix.specs.declared.ends.Ends.TheVariants.{AtEnd}
 use Rattle.abstract_unix.specs.Unix.{Unix, System, process_of, with_process}
 use Rattle.v6_base.specs.Trace.{Item, sent}
@@ -27,15 +23,15 @@ use Rattle.pick_rules.specs.Effects.{Show}
 use Rattle.sys_procs.specs.World.{Clock}
 use Rattle.abstract_unix.specs.Delivery.{delivers_due}
 use Rattle.abstract_unix.specs.Steps.{Steps, returns}
-use Rattle.abstract_unix.specs.Turn.{is_user, Happened, Turn, stays, settles, calls_for_settling, settled_after, ending_of, ending_by, ending_of_pass, end_effects, turn_of, pass_of, slot_of, turn}
-use Rattle.abstract_unix.specs.Outside.{is_user_mode, is_second, is_as_trap, delivers_to, tick_delivery, tick_of, mode_by, mode_of, timed, charged, clock_after, ticked, with_key, typed_of, switched_of, key_lines, wakes, calls}
-use Rattle.abstract_unix.specs.Runs.{first_unix, first_process, Event, Slot, Tick, Byte, Switch, event_of}
-use Rattle.abstract_unix.specs.Whole.{Told, told_by, told_in, all_names, CanGoOn}
+use Rattle.abstract_unix.specs.Turn.{is_user, Happened, stays, settles, calls_for_settling, settled_after, ending_by, ending_of_pass, turn_of, pass_of, slot_of, turn}
+use Rattle.abstract_unix.specs.Outside.{is_user_mode, is_second, delivers_to, tick_delivery, tick_of, mode_by, timed, charged, clock_after, with_key, typed_of, key_lines, wakes, calls}
+use Rattle.abstract_unix.specs.Runs.{Event, Slot, Tick, Byte, Switch, event_of}
+use Rattle.abstract_unix.specs.Whole.{told_by, told_in, all_names, CanGoOn}
 use Rattle.abstract_unix.proofs.RunsLemmas.{settled_ending}
 use Rattle.abstract_unix.proofs.Posting.{all_alike}
 use Rattle.abstract_unix.proofs.Sitting.{seats_of}
 use Rattle.abstract_unix.proofs.Events.{system_at, runs_at, shown_stop}
-use Rattle.abstract_unix.proofs.GoingOnLemmas.{AllWaited, all_waited_same, waited_goes_on, none_goes_on}
+use Rattle.abstract_unix.proofs.GoingOnLemmas.{AllWaited, all_waited_same, waited_goes_on}
 use Rattle.abstract_unix.proofs.GoingOnSteps.{key_goes_on}
 use Rattle.abstract_unix.proofs.PipeNumbers.{HasPipe}
 use Rattle.abstract_unix.proofs.Owing.{some_within}

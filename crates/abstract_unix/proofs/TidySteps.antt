@@ -1,5 +1,5 @@
 -- Each turn leaves a tidy Unix: calls, faults, growth, deliveries, and the end of a process.
-use Rattle.std.proofs.Common.{◌≡◌, ◌≢◌, ◌∙◌, ◌<◌, ◌≤◌, ◌+◌, ◌==◌, ℕ, zero, suc, Bool, true, false, cond, List, length, get_or, get_or-set_same, set, Option, Some, None, is_none, option_map, unwrap_or, nat_lt, slice_index, replicate, refl, sym, ap, subst, inl, inr, arith}
+use Rattle.std.proofs.Common.{◌≡◌, ◌≢◌, ◌∙◌, ◌<◌, ◌≤◌, ◌+◌, ◌==◌, ℕ, Bool, true, false, cond, List, length, get_or, get_or-set_same, set, Option, Some, None, is_none, option_map, unwrap_or, nat_lt, refl, sym, ap, subst, arith}
 use Rattle.std.proofs.lemmas.Bool.{eqb-true}
 use Rattle.std.proofs.lemmas.List.{length-map, length-set, map-set, get_or-set_other}
 use Rattle.std.proofs.Math.ListN.{get_or-map}
@@ -19,8 +19,7 @@ use Rattle.sig_core.specs.Signals.{handler_of, due}
 use Rattle.sig_core.specs.declared.psig.Delivered.TheVariants.{Ends, Caught}
 use Rattle.sig_core.specs.Delivery.{Delivery, makes_core, signal_stack, delivery, caught, pushed}
 use Rattle.u_area.specs.declared.area.UArea.{UArea}
-use Rattle.open_files.specs.declared.file.OpenFile.{OpenFile}
-use Rattle.open_files.specs.Files.{file_at, times, AreOpen, shared}
+use Rattle.open_files.specs.Files.{file_at, times, shared}
 use Rattle.sys_files.specs.Handed.{Handed}
 use Rattle.sys_files.specs.Did.{Did}
 use Rattle.sys_files.specs.Core.{core_file, is_written}
@@ -47,26 +46,26 @@ use Rattle.abstract_unix.specs.declared.ending.Ending.{Ending}
 use Rattle.abstract_unix.specs.declared.ending.Ending.TheVariants as ending
 use Rattle.abstract_unix.specs.Unix.{Unix, System, process_of, with_process}
 use Rattle.abstract_unix.specs.Errors.{error_number}
-use Rattle.abstract_unix.specs.Steps.{Steps, returns, signals, quietly}
-use Rattle.abstract_unix.specs.Calls.{handed_of, with_handed, world_of, with_world, given_area, refused_area, entered_area, words_passed, with_area, refuses, answers, did_by, came_by, shares, forks, grows, grown_by, grows_to, exits_with, exits, asked, file_row, process_row, does_call, sysent_of, does_asked, system_call, is_on_files, resumed}
+use Rattle.abstract_unix.specs.Steps.{Steps, returns, signals}
+use Rattle.abstract_unix.specs.Calls.{handed_of, with_handed, world_of, with_world, given_area, refused_area, entered_area, words_passed, with_area, refuses, answers, did_by, came_by, shares, forks, grows, grown_by, grows_to, exits_with, asked, file_row, process_row, does_call, sysent_of, does_asked, is_on_files, resumed}
 use Rattle.abstract_unix.specs.Turn.{machine_of, with_machine, faults, comes_to, instruction, is_user, passes_setd, begins_turn, turn}
-use Rattle.abstract_unix.specs.Delivery.{heeding, heeds, interrupted, calls_routine, catches, signal_status, dumped, ends_after, ends_by, delivers, delivers_if, delivers_due, ends_by_ending, ends_turn}
-use Rattle.abstract_unix.specs.Whole.{Told, told_of, told_by, told_in, names, all_names, CanGoOn}
-use Rattle.abstract_unix.proofs.Owing.{told_at, told_none, some_within, names_set, names_within, fifteen_set}
+use Rattle.abstract_unix.specs.Delivery.{heeding, heeds, catches, signal_status, dumped, ends_after, ends_by, delivers_if, delivers_due, ends_by_ending}
+use Rattle.abstract_unix.specs.Whole.{Told, told_of, told_by, told_in, names, all_names}
+use Rattle.abstract_unix.proofs.Owing.{told_at, told_none, some_within, names_set, fifteen_set}
 use Rattle.abstract_unix.proofs.Sharing.{shared_numbers}
-use Rattle.abstract_unix.proofs.PipeNumbers.{HavePipes, shared_ends}
+use Rattle.abstract_unix.proofs.PipeNumbers.{shared_ends}
 use Rattle.abstract_unix.proofs.Dying.{closed_none}
 use Rattle.abstract_unix.proofs.Quiet.{HasNumbers, InCalm, same_call, other_inodes, Calm, CalmClosing, calm_walks, resume_calm, close_all_calm}
 use Rattle.abstract_unix.proofs.StepRows.{step_row}
 use Rattle.abstract_unix.proofs.Tidy.{IsTidy, tidy_numbers, tidy_end}
-use Rattle.abstract_unix.proofs.StillWorlds.{IsStill, still_change, still_row, still_resume, still_grown, IsGone, gone_ended}
+use Rattle.abstract_unix.proofs.StillWorlds.{IsStill, still_row, still_resume, IsGone, gone_ended}
 use Rattle.abstract_unix.proofs.PendingRows.{Pends, row_pends, resume_pends, close_pends, core_pends}
 use Rattle.abstract_unix.proofs.NeverWaiting.{close_pending, core_pending}
 use Rattle.abstract_unix.proofs.GoingOnLemmas.{AllWaited, user_waited, all_waited_put, world_goes_on, handed_pends, shared_goes_on}
-use Rattle.abstract_unix.proofs.WaitingRows.{row_waited, fork_waited, end_waited, grown_waited, resume_waited}
+use Rattle.abstract_unix.proofs.WaitingRows.{row_waited, end_waited, resume_waited}
 use Rattle.abstract_unix.proofs.GoingOnSteps.{trapped_user}
 use Rattle.pick_rules.specs.Board.{Board}
-use Rattle.abstract_unix.proofs.TidyTurns.{Runs, SameHeld, held, runs_put, runs_still, runs_world, runs_counted, runs_handed}
+use Rattle.abstract_unix.proofs.TidyTurns.{Runs, SameHeld, runs_put, runs_still, runs_world, runs_counted, runs_handed}
 
 module _ (s : ℕ) where
   runs_if : (b : Bool) (x y : Steps) → Runs s x.unix → Runs s y.unix → Runs s (cond b x y).unix

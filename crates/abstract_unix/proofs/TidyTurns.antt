@@ -1,21 +1,18 @@
 -- What each turn leaves tidy: calls on files, calls on processes, faults, growth and deliveries.
-use Rattle.std.proofs.Common.{◌≡◌, ◌≢◌, ◌∙◌, ◌<◌, ◌≤◌, ◌+◌, ◌==◌, ℕ, Bool, true, false, cond, List, length, get_or, set, Option, Some, None, option_map, unwrap_or, slice_index, refl, sym, ap, subst, inl, inr, arith}
-use Rattle.std.proofs.lemmas.Bool.{eqb-true}
-use Rattle.std.proofs.lemmas.List.{length-set, map-set, get_or-set_same, get_or-set_other}
-use Rattle.open_files.specs.declared.file.OpenFile.{OpenFile}
-use Rattle.open_files.specs.Files.{file_at, times, entry_of, AreOpen}
+use Rattle.std.proofs.Common.{◌≡◌, ◌∙◌, ◌<◌, ◌≤◌, ℕ, false, cond, List, length, get_or, set, Option, Some, None, unwrap_or, refl, sym, ap, subst, arith}
+use Rattle.std.proofs.lemmas.List.{length-set, map-set, get_or-set_same}
+use Rattle.open_files.specs.Files.{file_at, times, entry_of}
 use Rattle.sys_files.specs.Handed.{Handed}
 use Rattle.sys_files.specs.Sound.{numbers_of}
-use Rattle.sys_files.proofs.Counting.{Counted, IsCounted, counted_same}
+use Rattle.sys_files.proofs.Counting.{IsCounted, counted_same}
 use Rattle.sys_procs.specs.Process.{Process, no_process}
 use Rattle.sys_procs.specs.World.{World}
 use Rattle.abstract_unix.specs.Unix.{Unix, process_of, with_process}
 use Rattle.abstract_unix.specs.Calls.{handed_of, with_handed, world_of, with_world}
 use Rattle.abstract_unix.specs.Whole.{Told, told_of, told_by, told_in, names, all_names}
-use Rattle.abstract_unix.proofs.PipeNumbers.{HavePipes}
 use Rattle.abstract_unix.proofs.Owing.{told_at, some_within, told_change, names_set, names_within, times_some, is_used, fifteen_set}
 use Rattle.abstract_unix.proofs.Quiet.{HasNumbers}
-use Rattle.abstract_unix.proofs.Tidy.{IsTidy, tidy_numbers, tidy_end}
+use Rattle.abstract_unix.proofs.Tidy.{IsTidy}
 use Rattle.abstract_unix.proofs.StillWorlds.{IsStill}
 use Rattle.abstract_unix.proofs.PendingRows.{Pends}
 use Rattle.abstract_unix.proofs.GoingOnLemmas.{WaitedIn, AllWaited, like_waited, put_goes_on, world_goes_on, handed_back_goes_on}
