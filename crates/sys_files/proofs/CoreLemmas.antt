@@ -13,7 +13,7 @@ use Rattle.fs_tree.specs.Finding.{Inodes, Finding, make_in}
 use Rattle.fs_tree.specs.Permission.{access}
 use Rattle.sys_files.specs.Handed.{Handed, r0, node_at, user_of, with_inodes, let_go}
 use Rattle.sys_files.specs.Did.{Did, fails, is_done, check, must, until_end, then_named, by_made}
-use Rattle.sys_files.specs.Making.{new_in, entry_written, writes_entry, with_links, enters_new, makes_node, with_no_blocks}
+use Rattle.sys_files.specs.Making.{new_in, entry_written, writes_entry, with_links, enters_new, with_no_blocks}
 use Rattle.sys_files.specs.Core.{core_name, is_plain, writes_parts, writes_over, writes_new, writes_named, core_file}
 use Rattle.sys_files.proofs.StepWalks.{put_back_count, making_count, numbered_count, truncated_count}
 

@@ -1,16 +1,14 @@
 -- How the rows of calls on files count the numbers that name open files: each number that is given and taken is counted, each number names
 -- an entry in use, and a file of which another process has a number too stays open.
-use Rattle.std.proofs.Common.{◌≡◌, ◌≢◌, ◌<◌, ◌≤◌, ◌+◌, ◌-◌, ◌∙◌, ◌==◌, ◌++◌, ℕ, Bool, true, false, cond, eqb, List, [], ◌∷◌, length, fold, Option, Some, None, IsSome, is_some, is_none, unwrap_or, slice_index, slice_set, refl, sym, ap, subst, inl, inr, arith}
+use Rattle.std.proofs.Common.{◌≡◌, ◌≢◌, ◌<◌, ◌≤◌, ◌+◌, ◌∙◌, ◌==◌, ◌++◌, ℕ, Bool, true, false, cond, eqb, List, [], ◌∷◌, length, fold, Option, Some, None, IsSome, is_some, is_none, unwrap_or, slice_index, slice_set, refl, sym, ap, subst, inl, inr, arith}
 use Rattle.std.specs.List.{range_with_len}
 use Rattle.std.proofs.lemmas.Bool.{cases_eq, eq-eqb, ne_eqb, eqb-true, eqb-false, false≢true}
 use Rattle.std.proofs.lemmas.List.{length-set, set-get_or}
 use Rattle.std.proofs.lemmas.List.Quantifiers.{position-Some}
-use Rattle.v6_base.specs.declared.answer.Answer.TheVariants.{Ret}
 use Rattle.open_files.specs.declared.file.OpenFile.{OpenFile}
 use Rattle.open_files.specs.declared.file.Closed.TheVariants.{Still, Last}
 use Rattle.open_files.specs.Files.{file_at, times, entry_of, free_number, free_entry, opened, changed, with_more, with_offset, with_fewer, with_change, closed, left, AreOpen}
-use Rattle.sys_files.specs.Handed.{Handed, no_file, file_of}
-use Rattle.sys_files.specs.Did.{Did}
+use Rattle.sys_files.specs.Handed.{Handed, no_file}
 use Rattle.sys_files.specs.Sound.{numbers_of}
 use Rattle.sys_files.specs.Descriptors.{Closing, closes, then_closes, close_all}
 use Rattle.sys_files.specs.Piping.{reading_end, writing_end}

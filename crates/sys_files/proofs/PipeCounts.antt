@@ -1,11 +1,11 @@
 -- Reads and writes of a pipe leave the number of nodes.
-use Rattle.std.proofs.Common.{◌+◌, ◌==◌, ◌≡◌, nat_lt, nat_le, ℕ, zero, suc, Bool, true, false, cond, Option, Some, None, refl}
+use Rattle.std.proofs.Common.{◌==◌, ◌≡◌, nat_lt, nat_le, ℕ, zero, suc, Bool, true, false, cond, Option, Some, None, refl}
 use Rattle.v6_base.specs.Image.{Image}
 use Rattle.v6_base.specs.declared.errno.Errno.{Errno}
 use Rattle.fs_codec.specs.Store.{Store}
 use Rattle.pipe_ends.specs.declared.ends.Pipe.{Pipe}
 use Rattle.pipe_ends.specs.declared.ends.TheConstants.{PIPSIZ}
-use Rattle.pipe_ends.specs.Pipes.{pipe_file, begun_again}
+use Rattle.pipe_ends.specs.Pipes.{begun_again}
 use Rattle.pipe_ends.specs.Reads as pipe
 use Rattle.pipe_ends.specs.Writes as writing
 use Rattle.pipe_ends.specs.Writes.{WriteCall, Writing, PipeWrite}

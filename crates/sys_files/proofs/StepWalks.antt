@@ -1,5 +1,5 @@
 -- One walk over the rows of calls on files, step by step, for each fact that asks which numbers, entries and pipes a step changes.
-use Rattle.std.proofs.Common.{◌≡◌, ◌⊎◌, ◌<◌, ◌≤◌, ◌∙◌, ◌+◌, ◌-◌, ◌/◌, ◌%◌, ◌^◌, ◌==◌, ◌&&◌, ℕ, Bool, true, false, not, nat_lt, nat_le, cond, List, [], ◌∷◌, ◌++◌, append-nil, length, reverse, slice_index, slice_set, pos, is_some, is_none, IfSome, Option, Some, None, Result, Ok, Err, if◌then◌else◌, refl, sym, ap, subst, inl, inr, arith}
+use Rattle.std.proofs.Common.{◌≡◌, ◌⊎◌, ◌<◌, ◌≤◌, ◌∙◌, ◌+◌, ◌-◌, ◌/◌, ◌%◌, ◌^◌, ◌==◌, ◌&&◌, ℕ, Bool, true, false, not, nat_lt, nat_le, cond, List, [], ◌∷◌, append-nil, length, reverse, slice_index, slice_set, pos, is_some, is_none, IfSome, Option, Some, None, Result, Ok, Err, if◌then◌else◌, refl, sym, ap, subst, inl, inr, arith}
 use Rattle.std.proofs.lemmas.Bool.{eqb-false, leb-true, and_parts}
 use Rattle.v6_base.specs.Image.{Image}
 use Rattle.v6_base.specs.Trace.{Log, sent}
@@ -49,7 +49,7 @@ use Rattle.sys_files.specs.Did.{Did, fails, returns, is_done, check, must, need,
 use Rattle.sys_files.specs.Descriptors.{open_entry, dup_file, is_closed_by, with_closed, console_closed, without_marks, with_roused, pipe_roused, with_gone, released, told_by, dropped, closes, close_file}
 use Rattle.sys_files.specs.Opening.{last_failure, open_tests, can_open, with_opened, opens, opens_named, open_file}
 use Rattle.sys_files.specs.Making.{new_numbered, new_in, entry_written, writes_entry, with_links, enters_new, makes_node, opens_for_writing, truncated_in, with_no_blocks, opens_again, makes_file, creat_file, device_in, with_device, is_super_user, makes_any, mknod_at, may_link, enters_again, links_to, link_file, empties, removes, unlink_file}
-use Rattle.sys_files.specs.Moving.{with_moved, gives_count, waits_for_keys, read_of, with_read, line_read, with_line_read, takes_line, reads_line, reads_from, read_file_of, without_pending, resume_read, resumes, shows_bytes, write_of, writes_to, write_file_of, seek_to}
+use Rattle.sys_files.specs.Moving.{with_moved, gives_count, read_of, with_read, line_read, with_line_read, takes_line, reads_line, reads_from, read_file_of, without_pending, resume_read, resumes, shows_bytes, write_of, writes_to, write_file_of, seek_to}
 use Rattle.sys_files.specs.Pipes.{pipe_of, with_pipe, without_pipe, has_end}
 use Rattle.sys_files.specs.Piping as pipe
 use Rattle.sys_files.specs.Piping.{reading_end, with_end, with_ends, opens_ends, pipe_new, after, words_of, pipe_at, ends_at, pipe_read, with_pipe_read, ends_read, reads_pipe, pipe_write, with_pipe_write, ends_write, writes_pipe}
