@@ -42,7 +42,7 @@ module _ {Memory : Type 0} (Holds : Memory → Type 0) (put : Memory → ℕ →
   begun_keeps true node room memory places here = here
   begun_keeps false node room memory places here = reading_keeps places (beginning node room memory) here
 
-  file_keeps : (node : Node) (room : ℕ) (memory : Memory) (at count time : ℕ) → Holds memory
+  pub file_keeps : (node : Node) (room : ℕ) (memory : Memory) (at count time : ℕ) → Holds memory
       → Holds (read_file put node room memory at count time).memory
   file_keeps node room memory at count time here =
       let begun : Node = if count == 0 then node else record node { actime = time } in

@@ -1,0 +1,7 @@
+use Rattle.sys_files.proofs.DoesLemmas.{does_as}
+use Rattle.sys_files.proofs.piping.pipe_new.Goals as goal
+
+pub returns-clause-does : goal.returns-clause-does
+returns-clause-does g c =
+    let image = g.S.Space.image c.args.space.now in
+    does_as (c.make_pipe.ensures.did c.args.row.now image) (c.make_pipe.ensures.kept c.args.row.now image)
