@@ -1,4 +1,3 @@
-pub mod OthersLemmas
 pub mod KeptLemmas
 pub mod OwedLemmas
 pub mod PipeLemmas

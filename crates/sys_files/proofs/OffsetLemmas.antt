@@ -13,7 +13,7 @@ use Rattle.sys_files.specs.Moving.{IsFileOf}
 use Rattle.sys_files.specs.Sound.{is_of, numbers_of, IsSound, IsKept}
 use Rattle.sys_files.proofs.OwedLemmas.{count_changed, file_referred}
 use Rattle.sys_files.proofs.PipeLemmas.{pipes_with_change}
-use Rattle.sys_files.proofs.OthersLemmas.{others_all, stay_changed}
+use Rattle.sys_files.proofs.StayingLemmas.{stays_with_change}
 
 -- what does not depend on an offset is the same in each entry
 entry_same : {X : Type 0} (q : Option OpenFile → X) (files : List (Option OpenFile)) (entry n e : ℕ)
@@ -83,5 +83,6 @@ kept_moved old new entry n sound files pipes numbers dir references count = reco
   references = λ ino. rw (files, dir, references, count_same (is_of ino) old.files entry n (of_same ino n)) refl;
   count = count;
   pipes = rw (files, pipes) (pipes_with_change old.files old.pipes entry (with_offset n) (λ file. refl) (λ file. refl) sound.pipes);
-  others = rw files (others_all old (with_change old.files entry (with_offset n)) (stay_changed old.files entry (with_offset n) (λ file. refl) (λ file. refl)));
+  others = rw files (λ e file is fewer.
+      stays_with_change old.files entry (with_offset n) (λ file. refl) (λ file. refl) e file is);
 }

@@ -25,7 +25,7 @@ use Rattle.fs_tree.proofs.NamingLemmas.{found_more}
 use Rattle.sys_files.proofs.CheckLemmas.{check_quiet, must_hold, must_fail, need_there}
 use Rattle.sys_files.proofs.NumberLemmas.{given_times, numbers_change, open_given, set_here}
 use Rattle.sys_files.proofs.PipeLemmas.{pipes_opened}
-use Rattle.sys_files.proofs.OthersLemmas.{others_then, stay_opened}
+use Rattle.sys_files.proofs.StayingLemmas.{stays_then, stays_opened}
 use Rattle.sys_files.proofs.OwedLemmas.{count_changed}
 use Rattle.sys_files.proofs.OwingLemmas.{IsKeptBut, CanFind, kept_begins, kept_ends, kept_check, kept_finds, is_referred, referred_low, once_more}
 use Rattle.sys_files.proofs.DescriptorLemmas.{need_is}
@@ -108,7 +108,8 @@ kept_end old now taken ino fd entry kind pipes are low number free k =
           omega (arith, before, change, was, more);
       count = k.count;
       pipes = are;
-      others = others_then old now.files (slice_set now.files entry (Some (opened ino kind))) k.others (stay_opened now.files entry (Some (opened ino kind)) room.1);
+      others = stays_then old.files now.files (slice_set now.files entry (Some (opened ino kind))) old.u.files k.others
+          (stays_opened now.files entry (Some (opened ino kind)) room.1);
     }
 
 -- A file that is no pipe is opened.

@@ -16,7 +16,7 @@ use Rattle.sys_files.specs.Did.{Did, fails}
 use Rattle.sys_files.specs.Pipes.{with_pipe}
 use Rattle.sys_files.specs.Piping.{waits_in_pipe, words_of, pipe_at, ends_at, pipe_read, with_pipe_read, ends_read, reads_pipe, pipe_write, with_pipe_write, ends_write, writes_pipe}
 use Rattle.sys_files.specs.Sound.{IsSound, IsKept}
-use Rattle.sys_files.proofs.OthersLemmas.{all_stay}
+use Rattle.sys_files.proofs.StayingLemmas.{stays_there}
 use Rattle.sys_files.proofs.PipeLemmas.{pipes_marked}
 use Rattle.sys_files.proofs.PipedLemmas.{read_leaves, write_leaves}
 
@@ -29,7 +29,7 @@ kept_with_pipe old new p sound files pipes numbers dir references count = record
   references = λ i. rw (files, dir, references) refl;
   count = count;
   pipes = rw (files, pipes) (pipes_marked old.files old.pipes p sound.pipes);
-  others = rw files (λ entry file is few. all_stay old.files entry file is);
+  others = rw files (λ entry file is few. stays_there old.files entry file is);
 }
 
 -- What the end of a call on a pipe leaves: the parts as they were, or with another call that goes on, or with a signal.
