@@ -113,8 +113,10 @@ kept_end old now taken ino fd entry kind pipes are low number free k =
     }
 
 -- A file that is no pipe is opened.
-kept_opened : (old now : Handed) (taken : List ℕ) (ino fd entry : ℕ) (kind : FileKind) → kind.pipe ≡ false → ino < length now.inodes.references
-    → free_number now.u.files ≡ Some fd → free_entry now.files ≡ Some entry → IsKeptBut old now taken → IsKeptBut old (with_opened now ino kind fd entry) taken
+kept_opened : (old now : Handed) (taken : List ℕ) (ino fd entry : ℕ) (kind : FileKind) → kind.pipe ≡ false
+    → ino < length now.inodes.references
+    → free_number now.u.files ≡ Some fd → free_entry now.files ≡ Some entry → IsKeptBut old now taken
+    → IsKeptBut old (with_opened now ino kind fd entry) taken
 kept_opened old now taken ino fd entry kind plain low number free k =
     let are = pipes_opened now.files now.pipes entry (opened ino kind) (entry_free now.files entry free).1 plain k.pipes in
     let e = kept_end old now taken ino fd entry kind now.pipes are low number free k in

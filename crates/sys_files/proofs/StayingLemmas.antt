@@ -1,6 +1,7 @@
 -- Files of which other processes have numbers stay open where an entry is taken, changed or freed, where all entries change, and
 -- after a part of a call.
--- `stays_opened`: open. `stays_with_change`: seek, read, write. `stays_changed`: dup, and close where numbers are left. `stays_freed`: close of the last number. `stays_shared`: share.
+-- `stays_opened`: open. `stays_with_change`: seek, read, write. `stays_changed`: dup, and close where numbers are left.
+-- `stays_freed`: close of the last number. `stays_shared`: share.
 -- `stays_after`: one part of a call after another, as all numbers are closed.
 use Rattle.std.proofs.Common.{◌≡◌, ◌≢◌, ℕ, ◌+◌, ◌<◌, ◌≤◌, List, Option, Some, None, slice_set, refl, sym, ap, ◌∙◌, inl, inr, arith}
 use Rattle.std.proofs.lemmas.Bool.{cases_eq}
@@ -24,7 +25,8 @@ abbrev pub AllStay : List (Option OpenFile) → List (Option OpenFile) → Type 
 AllStay files new = (entry : ℕ) (file : OpenFile) → file_at files entry ≡ Some file → StaysOpen new entry file
 
 -- one step after another
-pub stays_then : (files now new : List (Option OpenFile)) (mine : List ℕ) → Stay files mine now → AllStay now new → Stay files mine new
+pub stays_then : (files now new : List (Option OpenFile)) (mine : List ℕ) → Stay files mine now → AllStay now new
+    → Stay files mine new
 stays_then files now new mine others all entry file is fewer =
     let s = others entry file is fewer in
     let t = all entry s.now s.there in
