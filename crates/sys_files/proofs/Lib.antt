@@ -1,4 +1,3 @@
-pub mod OthersLemmas
 pub mod KeptLemmas
 pub mod OwedLemmas
 pub mod PipeLemmas
@@ -45,3 +44,6 @@ pub mod CoreLemmas
 pub mod PipeMovingLemmas
 pub mod PipeOpeningLemmas
 pub mod PipeMadeLemmas
+pub mod PartedWrites
+pub mod LoadedLemmas
+pub mod WritingLemmas

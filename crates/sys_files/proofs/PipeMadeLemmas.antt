@@ -1,11 +1,10 @@
 -- What pipe(II) keeps: the ends that it opens are counted, and the inode that it makes is referred to by them.
-use Rattle.std.proofs.Common.{◌≡◌, ◌+◌, ◌<◌, ◌++◌, ℕ, false, List, [], ◌∷◌, length, Option, Some, slice_index, slice_set, refl, sym, ap, ◌∙◌, subst, arith}
+use Rattle.std.proofs.Common.{◌≡◌, ◌+◌, ◌<◌, ◌++◌, ℕ, false, List, [], ◌∷◌, length, Some, slice_index, refl, sym, ap, ◌∙◌, subst, arith}
 use Rattle.std.proofs.lemmas.List.{length-set}
 use Rattle.v6_base.specs.declared.errno.Errno.TheVariants.{EMFILE, ENFILE}
 use Rattle.fs_nodes.specs.FileSystem.{FileSystem}
 use Rattle.fs_tree.specs.Finding.{inodes_of, put_back}
-use Rattle.open_files.specs.declared.file.OpenFile.{OpenFile}
-use Rattle.open_files.specs.Files.{file_at, free_number, free_entry, opened}
+use Rattle.open_files.specs.Files.{free_number, free_entry, opened}
 use Rattle.pipe_ends.specs.declared.ends.Pipe.{Pipe}
 use Rattle.sys_files.specs.Handed.{Handed, with_inodes, let_go}
 use Rattle.sys_files.specs.Did.{need}
@@ -15,7 +14,7 @@ use Rattle.sys_files.specs.Piping.{reading_end, writing_end, with_end, with_ends
 use Rattle.sys_files.specs.Sound.{IsSound, IsKept}
 use Rattle.sys_files.proofs.OwedLemmas.{file_referred}
 use Rattle.sys_files.proofs.OwingLemmas.{IsKeptBut, taken_more, kept_check, kept_ends, kept_lets_go, referred_low}
-use Rattle.sys_files.proofs.OthersLemmas.{all_stay, others_all}
+use Rattle.sys_files.proofs.StayingLemmas.{stays_there}
 use Rattle.sys_files.proofs.DescriptorLemmas.{need_is}
 use Rattle.sys_files.proofs.EnteringLemmas.{taken}
 use Rattle.sys_files.proofs.OpeningLemmas.{entry_free, kept_end}
@@ -32,7 +31,8 @@ module _ (old h : Handed) (held : List ℕ) (ino : ℕ) (referred : 0 < slice_in
   low : ino < length h.inodes.references
   low = referred_low h.inodes.references ino referred
 
-  first_kept : (fd entry : ℕ) → free_number h.u.files ≡ Some fd → free_entry h.files ≡ Some entry → IsKeptBut old (first fd entry) held
+  first_kept : (fd entry : ℕ) → free_number h.u.files ≡ Some fd → free_entry h.files ≡ Some entry
+      → IsKeptBut old (first fd entry) held
   first_kept fd entry number free =
       let place = entry_free h.files entry free in
       kept_end old h held ino fd entry reading_end pipes
@@ -57,8 +57,10 @@ module _ (old h : Handed) (held : List ℕ) (ino : ℕ) (referred : 0 < slice_in
       kept_check old h held (need ENFILE (free_entry h.files)) _ k (λ entry free.
       kept_check old h held (need EMFILE (free_number (first fd entry).u.files)) _ k (λ next_fd more.
       kept_check old h held (need ENFILE (free_entry (first fd entry).files)) _ k (λ next room.
-      both_kept fd entry next_fd next (need_is EMFILE (free_number h.u.files) fd number) (need_is ENFILE (free_entry h.files) entry free)
-      (need_is EMFILE (free_number (first fd entry).u.files) next_fd more) (need_is ENFILE (free_entry (first fd entry).files) next room)))))
+      both_kept fd entry next_fd next
+      (need_is EMFILE (free_number h.u.files) fd number) (need_is ENFILE (free_entry h.files) entry free)
+      (need_is EMFILE (free_number (first fd entry).u.files) next_fd more)
+      (need_is ENFILE (free_entry (first fd entry).files) next room)))))
 
 -- An inode is made, to which the call refers.
 made_kept : (h : Handed) (a b : FileSystem) (ino : ℕ) → IsSound h → h.inodes ≡ inodes_of a → OneReferenceMore a ino b
@@ -70,22 +72,25 @@ made_kept h a b ino sound same takes =
       references = λ i.
           let t = takes.references i in
           let more = taken_more ino [] i in
-          let was : slice_index h.inodes.references i ≡ slice_index a.references i = ap (λ n. slice_index n.references i) same in
+          let was : slice_index h.inodes.references i ≡ slice_index a.references i =
+          ap (λ n. slice_index n.references i) same in
           omega (arith, t, more, was);
       count = takes.count ∙ ap (λ n. n.store.count) (sym same);
       pipes = sound.pipes;
-      others = others_all h h.files (all_stay h.files);
+      others = λ entry file is fewer. stays_there h.files entry file is;
     }
 
 -- No open file is of an inode to which nobody refers.
 unreferred_end : (h : Handed) (ino : ℕ) → IsSound h → slice_index h.inodes.references ino ≡ 0 → has_end h.files ino ≡ false
 unreferred_end h ino sound none = no_end h.files ino (λ entry file is same.
     let some = file_referred h entry file sound is in
-    let here : slice_index h.inodes.references file.ino ≡ slice_index h.inodes.references ino = ap (slice_index h.inodes.references) same in
+    let here : slice_index h.inodes.references file.ino ≡ slice_index h.inodes.references ino =
+    ap (slice_index h.inodes.references) same in
     omega (arith, some, here, none))
 
 -- What the whole call keeps: the inode is made, the ends are opened, and the call's own reference goes.
-pub pipe_kept : (h after : Handed) (a b d : FileSystem) (ino : ℕ) → IsSound h → h.inodes ≡ inodes_of a → OneReferenceMore a ino b
+pub pipe_kept : (h after : Handed) (a b d : FileSystem) (ino : ℕ) → IsSound h → h.inodes ≡ inodes_of a
+    → OneReferenceMore a ino b
     → slice_index a.references ino ≡ 0 → after ≡ (opens_ends (with_inodes h (inodes_of b)) ino).state
     → inodes_of d ≡ put_back after.inodes ino → IsKept h (with_inodes after (inodes_of d))
 pipe_kept h after a b d ino sound same takes fresh ends back =

@@ -1,11 +1,10 @@
 -- What a read or a write of a pipe comes to, by the parts of the code.
-use Rattle.std.proofs.Common.{◌≡◌, ◌<◌, ◌+◌, ◌-◌, ◌%◌, ◌++◌, ℕ, List, [], length, Option, Some, None, IsSome, refl, sym, ap, ◌∙◌, subst}
+use Rattle.std.proofs.Common.{◌≡◌, ◌+◌, ◌-◌, ◌%◌, ℕ, List, Option, Some, None, IsSome, refl, sym, ap, ◌∙◌}
 use Rattle.std.proofs.lemmas.List.{append-nil}
 use Rattle.v6_base.specs.Image.{Image}
 use Rattle.v6_base.specs.Trace.{Item}
 use Rattle.v6_base.specs.declared.answer.Answer.{Answer}
 use Rattle.u_area.specs.declared.area.UArea.{UArea}
-use Rattle.proc_tab.specs.declared.row.Row.{Row}
 use Rattle.fs_codec.specs.Store.{Store}
 use Rattle.fs_nodes.specs.FileSystem.{FileSystem}
 use Rattle.fs_tree.specs.Finding.{inodes_of}
@@ -30,7 +29,8 @@ file_there (Some file) used = (file, refl)
 -- what is shown before the answer, and nothing else
 quietly_after : (items : List Item) (h : Handed) (a : Answer)
     → after items (did_with h a) ≡ record { answer = a; state = h; items = items }
-quietly_after items h a = ap (λ (l : List Item). let d : Did = record { answer = a; state = h; items = l } in d) (append-nil items)
+quietly_after items h a = ap (λ (l : List Item). let d : Did = record { answer = a; state = h; items = l } in d)
+    (append-nil items)
 
 -- what a read comes to, of this pipe
 abbrev read_from : Handed → ℕ → ℕ → ℕ → ℕ → Pipe → PipeRead
@@ -47,14 +47,16 @@ pub read_comes : (h : Handed) (entry at count now : ℕ) (old new : Pipe) (fs : 
     → fs.store ≡ (read_from h entry at count now old).store → fs.references ≡ h.inodes.references
     → image ≡ (read_from h entry at count now old).image → new ≡ (read_from h entry at count now old).pipe
     → pipes ≡ with_pipe h.pipes new → piped ≡ (read_from h entry at count now old).answer
-    → ((k : Handed) → k.u ≡ h.u → k.row ≡ h.row → ends_read k old.ino entry at count piped ≡ did_with (record k { u = u }) result)
+    → ((k : Handed) → k.u ≡ h.u → k.row ≡ h.row
+    → ends_read k old.ino entry at count piped ≡ did_with (record k { u = u }) result)
     → reads_pipe h entry at count now
     ≡ record {
       answer = result;
       state = record h { inodes = inodes_of fs; image = image; pipes = pipes; u = u };
       items = woken_by_read old new;
     }
-read_comes h entry at count now old new fs image pipes piped u result same store references image_is pipe pipes_is piped_is ends =
+read_comes h entry at count now old new fs image pipes piped u result same store references image_is pipe pipes_is piped_is
+    ends =
     let r : PipeRead = read_from h entry at count now old in
     let k : Handed = with_pipe_read h r in
     let woken : List Item = woken_by_read old r.pipe in
@@ -85,7 +87,8 @@ write_of h slot entry at count left now p =
     after (woken_by_write p w.pipe) (ends_write (with_pipe_write h w) slot p.ino entry at count w.answer)
 
 -- what has been written, the pipe, who was woken, and how the call ends
-pub write_comes : (h : Handed) (slot entry at count left now : ℕ) (old new : Pipe) (fs : FileSystem) (pipes : List Pipe) (piped : Piped)
+pub write_comes : (h : Handed) (slot entry at count left now : ℕ) (old new : Pipe) (fs : FileSystem) (pipes : List Pipe)
+    (piped : Piped)
     → old ≡ pipe_at h entry
     → fs.store ≡ (write_from h at count left now old).store → fs.references ≡ h.inodes.references
     → new ≡ (write_from h at count left now old).pipe → pipes ≡ with_pipe h.pipes new
@@ -98,8 +101,8 @@ write_comes h slot entry at count left now old new fs pipes piped same store ref
     let list : pipes ≡ with_pipe h.pipes w.pipe = pipes_is ∙ ap (with_pipe h.pipes) pipe in
     sym (ap (write_of h slot entry at count left now) same)
     ∙ sym (λ i. after (woken_by_write old (pipe i))
-    (ends_write (record h { inodes = record { store = store i; references = references i }; pipes = list i }) slot old.ino entry at count
-    (piped_is i)))
+    (ends_write (record h { inodes = record { store = store i; references = references i }; pipes = list i }) slot old.ino
+    entry at count (piped_is i)))
 
 -- The pipe after a read is of the same inode.
 pub read_ino : (store : Store) (ends : ℕ) (p now : Pipe) (image : Image) (at count time : ℕ)

@@ -1,5 +1,5 @@
 -- The two ends of a pipe are opened, or neither is.
-use Rattle.std.proofs.Common.{◌≡◌, ◌+◌, ℕ, List, Option, Some, None, is_none, Result, MatchResult, cond, slice_index, slice_set, refl, sym, ap, ◌∙◌, subst}
+use Rattle.std.proofs.Common.{◌≡◌, ◌+◌, ℕ, List, Option, Some, None, is_none, Result, MatchResult, cond, slice_index, slice_set, sym, ap, ◌∙◌, subst}
 use Rattle.std.proofs.lemmas.Option.{none-some, same_Some}
 use Rattle.v6_base.specs.declared.errno.Errno.{Errno}
 use Rattle.v6_base.specs.declared.errno.Errno.TheVariants.{EBADF, EMFILE, ENFILE}
@@ -13,7 +13,8 @@ use Rattle.sys_files.proofs.CheckLemmas.{need_there}
 use Rattle.sys_files.proofs.OpeningLemmas.{undone}
 
 -- A number and an entry are free.
-place_found : (h now : Handed) (next : ℕ → ℕ → Did) (fd entry : ℕ) → free_number now.u.files ≡ Some fd → free_entry now.files ≡ Some entry
+place_found : (h now : Handed) (next : ℕ → ℕ → Did) (fd entry : ℕ) → free_number now.u.files ≡ Some fd
+    → free_entry now.files ≡ Some entry
     → finds_place h now next ≡ next fd entry
 place_found h now next fd entry number free =
     need_there h EMFILE (free_number now.u.files) _ fd number ∙ need_there h ENFILE (free_entry now.files) _ entry free
@@ -31,13 +32,15 @@ place_refused h now next e = by (free_number now.u.files) (free_entry now.files)
 
 module _ (h : Handed) (ino fd entry : ℕ) (files : List (Option OpenFile)) (mine : List ℕ)
     (number : free_number h.u.files ≡ Some fd) (free : free_entry h.files ≡ Some entry)
-    (table : files ≡ slice_set h.files entry (Some (opened ino reading_end))) (own : mine ≡ slice_set h.u.files fd (entry + 1)) where
+    (table : files ≡ slice_set h.files entry (Some (opened ino reading_end)))
+    (own : mine ≡ slice_set h.u.files fd (entry + 1)) where
   -- Both ends find their places.
   pub ends_opened : (next_fd next : ℕ) → free_number mine ≡ Some next_fd → free_entry files ≡ Some next
       → opens_ends h ino ≡ has_opened h ino fd entry next_fd next
   ends_opened next_fd next more room =
       place_found h h _ fd entry number free
-      ∙ place_found h (with_end h ino reading_end fd entry) _ next_fd next (ap free_number (sym own) ∙ more) (ap free_entry (sym table) ∙ room)
+      ∙ place_found h (with_end h ino reading_end fd entry) _ next_fd next (ap free_number (sym own) ∙ more)
+      (ap free_entry (sym table) ∙ room)
 
   -- The second finds none.
   pub second_refused : (e : Errno) → add_error files mine ≡ Some e → opens_ends h ino ≡ fails h e
@@ -46,8 +49,9 @@ module _ (h : Handed) (ino fd entry : ℕ) (files : List (Option OpenFile)) (min
       ∙ place_refused h (with_end h ino reading_end fd entry) _ e (sym (λ i. add_error (table i) (own i)) ∙ refused)
 
 -- The first end is closed again where the second finds no place, and nothing is left of it.
-pub first_undone : (files new same last : List (Option OpenFile)) (mine new_mine same_mine last_mine : List ℕ) (file : OpenFile) (fd at : ℕ)
-    (r : Result Closed Errno) → file.count ≡ 1 → Adds files mine file fd new new_mine → same ≡ new → same_mine ≡ new_mine → at ≡ fd
+pub first_undone : (files new same last : List (Option OpenFile)) (mine new_mine same_mine last_mine : List ℕ)
+    (file : OpenFile) (fd at : ℕ) (r : Result Closed Errno)
+    → file.count ≡ 1 → Adds files mine file fd new new_mine → same ≡ new → same_mine ≡ new_mine → at ≡ fd
     → MatchResult r (λ told. Drops same same_mine at told last last_mine)
     (λ e. (e ≡ EBADF) × (slice_index same_mine at ≡ 0) × (last ≡ same) × (last_mine ≡ same_mine))
     → (last ≡ files) × (last_mine ≡ mine)

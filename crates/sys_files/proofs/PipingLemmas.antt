@@ -1,5 +1,5 @@
 -- What a call on a pipe comes to, by the parts of its row.
-use Rattle.std.proofs.Common.{◌≡◌, ℕ, pos, Bool, true, false, List, [], Option, Some, None, is_some, if◌then◌else◌, refl, sym, ap, ◌∙◌, subst}
+use Rattle.std.proofs.Common.{◌≡◌, ℕ, pos, Bool, true, false, List, [], is_some, if◌then◌else◌, refl, sym, ap, ◌∙◌, subst}
 use Rattle.u_area.specs.declared.area.UArea.{UArea}
 use Rattle.proc_tab.specs.declared.row.Row.{Row}
 use Rattle.sig_core.specs.Signals.{due}

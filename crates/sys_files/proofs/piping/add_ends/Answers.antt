@@ -16,7 +16,8 @@ returns-in-Ok-clause-outcome c =
       b.1,
       b.3 ∙ ap (λ (l : List (Option OpenFile)). slice_set l b.1 (Some (opened c.args.ino writing_end))) a.3,
       numbers_changed c.args.u.now _ _ ∙ ap (λ (l : List ℕ). record c.args.u.now { files = l }) numbers,
-      λ row image. ends_opened (handed c.args.f.now c.args.u.now row image) c.args.ino c.in_ok-reading.reading a.1 c.add.new.self c.add.new.mine
+      λ row image. ends_opened (handed c.args.f.now c.args.u.now row image) c.args.ino c.in_ok-reading.reading a.1
+          c.add.new.self c.add.new.mine
           a.0 a.2 a.3 a.4 c.in-Ok.writing b.1 b.0 b.2,
     )
 
@@ -24,11 +25,11 @@ pub returns-in-Err-clause-outcome : goal.returns-in-Err-clause-outcome
 returns-in-Err-clause-outcome c =
     let a = c.in_ok-reading.ensures in
     let none = c.in-Err.ensures in
-    let back = first_undone c.args.f.now.table c.add.new.self c.add-2.new.self c.drop_one.new.self c.args.u.now.files c.add.new.mine
-    c.add-2.new.mine c.drop_one.new.mine (opened c.args.ino reading_end) c.in_ok-reading.reading c.from.result c.drop_one.result refl a
-    none.1 none.2 c.from.ensures c.drop_one.ensures in (
+    let back = first_undone c.args.f.now.table c.add.new.self c.add-2.new.self c.drop_one.new.self c.args.u.now.files
+    c.add.new.mine c.add-2.new.mine c.drop_one.new.mine (opened c.args.ino reading_end) c.in_ok-reading.reading
+    c.from.result c.drop_one.result refl a none.1 none.2 c.from.ensures c.drop_one.ensures in (
       back.0,
       numbers_changed c.args.u.now _ _ ∙ ap (λ (l : List ℕ). record c.args.u.now { files = l }) back.1,
-      λ row image. second_refused (handed c.args.f.now c.args.u.now row image) c.args.ino c.in_ok-reading.reading a.1 c.add.new.self
-          c.add.new.mine a.0 a.2 a.3 a.4 c.in-Err.e none.0,
+      λ row image. second_refused (handed c.args.f.now c.args.u.now row image) c.args.ino c.in_ok-reading.reading a.1
+          c.add.new.self c.add.new.mine a.0 a.2 a.3 a.4 c.in-Err.e none.0,
     )

@@ -19,6 +19,6 @@ returns-in-Broken-clause-answer g c h area own =
 
 pub returns-in-Broken-clause-items : goal.returns-in-Broken-clause-items
 returns-in-Broken-clause-items g c h =
-    ended_write (λ (d : Did). Took (g.T.Trace.taken c.args.trace.now) d.items (g.T.Trace.taken c.break_pipe.new.trace)) h c.args.slot
-    c.args.ino c.args.transfer.entry c.args.transfer.at c.args.transfer.count c.args.piped Broken c.in-Broken.is
+    ended_write (λ (d : Did). Took (g.T.Trace.taken c.args.trace.now) d.items (g.T.Trace.taken c.break_pipe.new.trace)) h
+    c.args.slot c.args.ino c.args.transfer.entry c.args.transfer.at c.args.transfer.count c.args.piped Broken c.in-Broken.is
     (c.break_pipe.ensures.items h)

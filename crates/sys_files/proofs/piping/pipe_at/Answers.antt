@@ -6,7 +6,9 @@ use Rattle.sys_files.specs.Pipes.{pipe_of, place_of}
 use Rattle.sys_files.proofs.piping.pipe_at.Goals as goal
 
 pub get-requires : goal.get-requires
-get-requires c = c.requires.pipes.there c.args.entry c.file.result.now c.file.ensures (c.requires.pipe c.file.result.now c.file.ensures)
+get-requires c =
+    let file : OpenFile = c.file.result.now in
+    c.requires.pipes.there c.args.entry file c.file.ensures (c.requires.pipe file c.file.ensures)
 
 pub returns-clause-pipe : goal.returns-clause-pipe
 returns-clause-pipe c u row image =

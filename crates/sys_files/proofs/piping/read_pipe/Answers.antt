@@ -1,4 +1,4 @@
-use Rattle.std.proofs.Common.{◌≡◌, ◌<◌, List, length, slice_index, sym, ap, ◌∙◌, subst}
+use Rattle.std.proofs.Common.{◌≡◌, ◌<◌, List, length, slice_index, sym, ap, subst}
 use Rattle.v6_base.specs.Trace.{Item, Took}
 use Rattle.fs_tree.specs.Finding.{inodes_of}
 use Rattle.sys_files.specs.Did.{Did}
@@ -14,8 +14,8 @@ pub read-piped-requires : goal.read-piped-requires
 read-piped-requires g c =
     let one = file_there _ c.requires.used in
     record {
-      referenced = subst (λ i. 0 < slice_index c.args.f.now.tree.nodes.references i) (sym (c.pipe_at-old.ensures.file one.0 one.1))
-          (c.requires.referred one.0 one.1);
+      referenced = subst (λ i. 0 < slice_index c.args.f.now.tree.nodes.references i)
+          (sym (c.pipe_at-old.ensures.file one.0 one.1)) (c.requires.referred one.0 one.1);
     }
 
 pub set-requires : goal.set-requires
@@ -59,5 +59,6 @@ returns-clause-state g c = sym (ap (λ (d : Did). d.state) (comes g c))
 
 pub returns-clause-items : goal.returns-clause-items
 returns-clause-items g c =
-    let P : List Item → Type 0 = λ items. Took (g.T.Trace.taken c.args.trace.now) items (g.T.Trace.taken c.wake_writers.new.trace) in
+    let P : List Item → Type 0 =
+    λ items. Took (g.T.Trace.taken c.args.trace.now) items (g.T.Trace.taken c.wake_writers.new.trace) in
     subst P (sym (ap (λ (d : Did). d.items) (comes g c))) c.wake_writers.ensures.items

@@ -15,8 +15,8 @@ pub write-piped-requires : goal.write-piped-requires
 write-piped-requires g c =
     let one = file_there _ c.requires.used in
     record {
-      referenced = subst (λ i. 0 < slice_index c.args.f.now.tree.nodes.references i) (sym (c.pipe_at-old.ensures.file one.0 one.1))
-          (c.requires.referred one.0 one.1);
+      referenced = subst (λ i. 0 < slice_index c.args.f.now.tree.nodes.references i)
+          (sym (c.pipe_at-old.ensures.file one.0 one.1)) (c.requires.referred one.0 one.1);
     }
 
 pub set-requires : goal.set-requires
@@ -40,7 +40,8 @@ ends g c =
     ends_write (written g c) c.args.slot c.pipe_at-old.result.ino t.entry t.at t.count c.write-piped.result
 
 comes : (g : Over) (c : After-end_write g)
-    → writes_pipe (before g c) c.args.slot c.args.transfer.entry c.args.transfer.at c.args.transfer.count c.args.transfer.left c.args.now
+    → writes_pipe (before g c) c.args.slot c.args.transfer.entry c.args.transfer.at c.args.transfer.count c.args.transfer.left
+    c.args.now
     ≡ after (woken_by_write c.pipe_at-old.result c.write-piped.new.p) (ends g c)
 comes g c =
     let t = c.args.transfer in
@@ -58,8 +59,10 @@ returns-clause-state g c = c.end_write.ensures.state (written g c) refl refl ∙
 
 pub returns-clause-items : goal.returns-clause-items
 returns-clause-items g c =
-    let P : List Item → Type 0 = λ items. Took (g.T.Trace.taken c.args.trace.now) items (g.T.Trace.taken c.end_write.new.trace) in
+    let start = g.T.Trace.taken c.args.trace.now in
+    let end = g.T.Trace.taken c.end_write.new.trace in
+    let P : List Item → Type 0 = λ items. Took start items end in
     subst P (sym (ap (λ (d : Did). d.items) (comes g c)))
-    (took_more (g.T.Trace.taken c.args.trace.now) (g.T.Trace.taken c.wake_readers.new.trace) (g.T.Trace.taken c.end_write.new.trace)
+    (took_more start (g.T.Trace.taken c.wake_readers.new.trace) end
     (woken_by_write c.pipe_at-old.result c.write-piped.new.p) (ends g c).items c.wake_readers.ensures.items
     (c.end_write.ensures.items (written g c)))
