@@ -39,7 +39,8 @@ IsOfFiles Named (channel.Wait slot) = ⊥
 IsOfFiles Named (Read ino) = Named ino
 IsOfFiles Named (channel.Write ino) = Named ino
 
--- A line of a call on files of the process of a slot: somebody is woken, or this process has the signal of a pipe that nobody reads.
+-- A line of a call on files of the process of a slot: somebody is woken, or this process has the signal of a pipe that nobody
+-- reads.
 abbrev pub IsLineOf : (ℕ → Type 0) → ℕ → Entry → Type 0
 IsLineOf Named slot entry = ((chan : Chan) × (entry ≡ Wake chan) × IsOfFiles Named chan) ⊎ (entry ≡ Signal slot SIGPIPE)
 
@@ -118,7 +119,8 @@ told_on_console : (entries : List Entry) → All IsOnConsole (map Log entries)
 told_on_console [] = All-nil IsOnConsole
 told_on_console (entry ∷ entries) = All-cons IsOnConsole (Log entry) (map Log entries) tt (told_on_console entries)
 
-pub fits_lines : (slot : ℕ) (entries : List Entry) → length entries ≤ most_entries → All (IsOfCall slot) entries → Fits slot (map Log entries)
+pub fits_lines : (slot : ℕ) (entries : List Entry) → length entries ≤ most_entries → All (IsOfCall slot) entries
+    → Fits slot (map Log entries)
 fits_lines slot entries few all =
     let same = told_entries entries in
     let none = told_bytes entries in
@@ -140,19 +142,22 @@ wakes_again (chan ∷ channels) = ap (λ l. waking chan ∷ l) (wakes_again chan
 wakes_all : (slot : ℕ) (channels : List Chan) → All WakesFiles channels → All (IsOfCall slot) (map Wake channels)
 wakes_all slot [] all = All-nil (IsOfCall slot)
 wakes_all slot (chan ∷ channels) all =
-    All-cons (IsOfCall slot) (Wake chan) (map Wake channels) (inl (chan, refl, All-head WakesFiles chan channels all)) (wakes_all slot channels (All-tail WakesFiles chan channels all))
+    All-cons (IsOfCall slot) (Wake chan) (map Wake channels) (inl (chan, refl, All-head WakesFiles chan channels all))
+    (wakes_all slot channels (All-tail WakesFiles chan channels all))
 
 pub fits_wakes : (slot most : ℕ) (items : List Item) → most ≤ most_entries → AreWakes most items → Fits slot items
 fits_wakes slot most items low wakes =
     let long = length-map wakes.channels Wake in
     let few : length (map Wake wakes.channels) ≤ most_entries = (let f = wakes.few in omega (arith, f, low, long)) in
-    subst (Fits slot) (wakes_again wakes.channels ∙ sym wakes.are) (fits_lines slot (map Wake wakes.channels) few (wakes_all slot wakes.channels wakes.files))
+    subst (Fits slot) (wakes_again wakes.channels ∙ sym wakes.are)
+    (fits_lines slot (map Wake wakes.channels) few (wakes_all slot wakes.channels wakes.files))
 
 pub none_wakes : AreWakes 0 []
 none_wakes = record { channels = []; are = refl; few = omega arith; files = All-nil WakesFiles }
 
 pub one_wakes : (chan : Chan) → WakesFiles chan → AreWakes 1 (waking chan ∷ [])
-one_wakes chan of = record { channels = chan ∷ []; are = refl; few = omega arith; files = All-cons WakesFiles chan [] of (All-nil WakesFiles) }
+one_wakes chan of =
+    record { channels = chan ∷ []; are = refl; few = omega arith; files = All-cons WakesFiles chan [] of (All-nil WakesFiles) }
 
 map_joined : (xs ys : List Chan) → map waking xs ++ map waking ys ≡ map waking (xs ++ ys)
 map_joined [] ys = refl

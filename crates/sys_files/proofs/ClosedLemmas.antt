@@ -15,9 +15,8 @@ use Rattle.sys_files.specs.Did.{need, fails}
 use Rattle.sys_files.specs.Pipes.{ArePipes}
 use Rattle.sys_files.specs.Sound.{is_of, numbers_of, IsSound, IsKept}
 use Rattle.sys_files.specs.Descriptors.{open_entry, dup_file, with_closed, released, closes, close_file}
-use Rattle.sys_files.proofs.OthersLemmas.{others_then}
 use Rattle.sys_files.proofs.PipeLemmas.{pipes_changed}
-use Rattle.sys_files.proofs.StayingLemmas.{stays_changed, stays_freed}
+use Rattle.sys_files.proofs.StayingLemmas.{stays_then, stays_changed, stays_freed}
 use Rattle.sys_files.proofs.ReleasedLemmas.{roused, gone, released_still, released_last, pipes_roused, pipes_gone}
 use Rattle.sys_files.proofs.NumberLemmas.{number_low, given_times, taken_times, numbers_change, open_given, open_taken}
 use Rattle.sys_files.proofs.CheckLemmas.{check_quiet, check_err}
@@ -56,7 +55,7 @@ kept_given old now taken fd entry file k low none is =
           omega (arith, before, change, was);
       count = k.count;
       pipes = pipes_changed now.files now.pipes entry file (with_more 1 file) is refl refl k.pipes;
-      others = others_then old now.files (slice_set now.files entry (Some (with_more 1 file))) k.others
+      others = stays_then old.files now.files (slice_set now.files entry (Some (with_more 1 file))) old.u.files k.others
           (stays_changed now.files entry file (with_more 1 file) is refl refl);
     }
 

@@ -23,7 +23,7 @@ use Rattle.sys_files.specs.Opening.{can_open, opens}
 use Rattle.sys_files.specs.Making.{opens_again, makes_file, creat_file}
 use Rattle.sys_files.specs.Entering.{OneReferenceMore, did_with}
 use Rattle.sys_files.proofs.OwingLemmas.{IsKeptBut, kept_ends, once_more, referred_low}
-use Rattle.sys_files.proofs.OthersLemmas.{all_stay, others_all}
+use Rattle.sys_files.proofs.StayingLemmas.{stays_there}
 use Rattle.sys_files.proofs.EnteringLemmas.{taken}
 use Rattle.sys_files.proofs.GivingLemmas.{OneReferenceLess, gives}
 use Rattle.sys_files.proofs.OpeningLemmas.{opens_kept}
@@ -49,7 +49,7 @@ opened_kept h new ino kind plain open_ pipes referred is =
       references = λ i. omega arith;
       count = refl;
       pipes = pipes;
-      others = others_all h h.files (all_stay h.files);
+      others = λ entry file is fewer. stays_there h.files entry file is;
     } in
     subst (λ (x : Handed). IsKept h x) (sym is)
     (kept_ends h (opens h ino kind).state (opens_kept h h [] ino kind plain referred begins))

@@ -66,7 +66,8 @@ told_whole h (Err e) = refl
 
 -- a call that gives no value and changes no reference, by the part that does its work
 pub does_part : (f now : Files) (u : UArea) (row : Row) (image : Image) (r : Result (Unit {0}) Errno) {result : Answer} {t : Taken} {d : Did}
-    → IsSound (handed f u row image) → SameReferences f.tree.nodes now.tree.nodes → now.table ≡ f.table → now.pipes ≡ f.pipes → d ≡ did_of (handed now u row image) r
+    → IsSound (handed f u row image) → SameReferences f.tree.nodes now.tree.nodes → now.table ≡ f.table → now.pipes ≡ f.pipes
+    → d ≡ did_of (handed now u row image) r
     → result ≡ (did_of (handed now u row image) r).answer → Does (handed f u row image) (handed now u row image) result t t d
 does_part f now u row image r {result} {t} {d} sound same table pipes did answer =
     does_as (did ∙ told_whole (handed now u row image) r ∙ ap (did_with (handed now u row image)) (sym answer))

@@ -1,4 +1,3 @@
-pub mod OthersLemmas
 pub mod KeptLemmas
 pub mod OwedLemmas
 pub mod PipeLemmas
@@ -37,6 +36,9 @@ pub mod Lengths
 pub mod PipedLemmas
 pub mod PipeKeptLemmas
 pub mod Walks
+pub mod PipeCounts
+pub mod StepWalks
+pub mod Counting
 pub mod Steady
 pub mod CoreLemmas
 pub mod PipeMovingLemmas

@@ -13,7 +13,7 @@ use Rattle.sys_files.specs.Moving.{IsFileOf}
 use Rattle.sys_files.specs.Sound.{is_of, numbers_of, IsSound, IsKept}
 use Rattle.sys_files.proofs.OwedLemmas.{count_changed, file_referred}
 use Rattle.sys_files.proofs.PipeLemmas.{pipes_with_change}
-use Rattle.sys_files.proofs.OthersLemmas.{others_all, stay_changed}
+use Rattle.sys_files.proofs.StayingLemmas.{stays_with_change}
 
 -- what does not depend on an offset is the same in each entry
 entry_same : {X : Type 0} (q : Option OpenFile → X) (files : List (Option OpenFile)) (entry n e : ℕ)
@@ -61,7 +61,8 @@ there files entry None file at used is = absurd (cc)
 there files entry (Some x) file at used is = at ∙ ap Some (sym is)
 
 -- the file of an entry in use, by what stands there
-pub file_there : (h : Handed) (entry : ℕ) (file found : OpenFile) → file_at h.files entry ≡ Some file → found ≡ file_of h entry → file ≡ found
+pub file_there : (h : Handed) (entry : ℕ) (file found : OpenFile) → file_at h.files entry ≡ Some file → found ≡ file_of h entry
+    → file ≡ found
 file_there h entry file found is of = sym (of ∙ ap (λ o. unwrap_or o no_file) is)
 
 pub referred_there : (h : Handed) (entry : ℕ) (file : OpenFile) → IsSound h → IsSome (file_at h.files entry) → file ≡ file_of h entry → 0 < slice_index h.inodes.references file.ino
@@ -75,13 +76,16 @@ is_file_of f u row image entry file sound used is = record {
 }
 
 -- Each open file may have moved on.
-pub kept_moved : (old new : Handed) (entry n : ℕ) → IsSound old → new.files ≡ with_change old.files entry (with_offset n) → new.pipes ≡ old.pipes → new.u.files ≡ old.u.files
+pub kept_moved : (old new : Handed) (entry n : ℕ) → IsSound old → new.files ≡ with_change old.files entry (with_offset n)
+    → new.pipes ≡ old.pipes → new.u.files ≡ old.u.files
     → new.u.dir ≡ old.u.dir → new.inodes.references ≡ old.inodes.references → new.inodes.store.count ≡ old.inodes.store.count → IsKept old new
 kept_moved old new entry n sound files pipes numbers dir references count = record {
   is_open = rw (files, numbers) (λ fd some. entry_same is_some old.files entry n (slice_index old.u.files fd - 1) (used_same n) ∙ sound.is_open fd some);
   numbers = λ e. rw (files, numbers, entry_same numbers_of old.files entry n e (numbers_same n)) refl;
   references = λ ino. rw (files, dir, references, count_same (is_of ino) old.files entry n (of_same ino n)) refl;
   count = count;
-  pipes = rw (files, pipes) (pipes_with_change old.files old.pipes entry (with_offset n) (λ file. refl) (λ file. refl) sound.pipes);
-  others = rw files (others_all old (with_change old.files entry (with_offset n)) (stay_changed old.files entry (with_offset n) (λ file. refl) (λ file. refl)));
+  pipes = rw (files, pipes) (pipes_with_change old.files old.pipes entry (with_offset n) (λ file. refl)
+      (λ file. refl) sound.pipes);
+  others = rw files (λ e file is fewer.
+      stays_with_change old.files entry (with_offset n) (λ file. refl) (λ file. refl) e file is);
 }

@@ -25,7 +25,7 @@ use Rattle.fs_tree.proofs.NamingLemmas.{found_more}
 use Rattle.sys_files.proofs.CheckLemmas.{check_quiet, must_hold, must_fail, need_there}
 use Rattle.sys_files.proofs.NumberLemmas.{given_times, numbers_change, open_given, set_here}
 use Rattle.sys_files.proofs.PipeLemmas.{pipes_opened}
-use Rattle.sys_files.proofs.OthersLemmas.{others_then, stay_opened}
+use Rattle.sys_files.proofs.StayingLemmas.{stays_then, stays_opened}
 use Rattle.sys_files.proofs.OwedLemmas.{count_changed}
 use Rattle.sys_files.proofs.OwingLemmas.{IsKeptBut, CanFind, kept_begins, kept_ends, kept_check, kept_finds, is_referred, referred_low, once_more}
 use Rattle.sys_files.proofs.DescriptorLemmas.{need_is}
@@ -108,12 +108,15 @@ kept_end old now taken ino fd entry kind pipes are low number free k =
           omega (arith, before, change, was, more);
       count = k.count;
       pipes = are;
-      others = others_then old now.files (slice_set now.files entry (Some (opened ino kind))) k.others (stay_opened now.files entry (Some (opened ino kind)) room.1);
+      others = stays_then old.files now.files (slice_set now.files entry (Some (opened ino kind))) old.u.files k.others
+          (stays_opened now.files entry (Some (opened ino kind)) room.1);
     }
 
 -- A file that is no pipe is opened.
-kept_opened : (old now : Handed) (taken : List ℕ) (ino fd entry : ℕ) (kind : FileKind) → kind.pipe ≡ false → ino < length now.inodes.references
-    → free_number now.u.files ≡ Some fd → free_entry now.files ≡ Some entry → IsKeptBut old now taken → IsKeptBut old (with_opened now ino kind fd entry) taken
+kept_opened : (old now : Handed) (taken : List ℕ) (ino fd entry : ℕ) (kind : FileKind) → kind.pipe ≡ false
+    → ino < length now.inodes.references
+    → free_number now.u.files ≡ Some fd → free_entry now.files ≡ Some entry → IsKeptBut old now taken
+    → IsKeptBut old (with_opened now ino kind fd entry) taken
 kept_opened old now taken ino fd entry kind plain low number free k =
     let are = pipes_opened now.files now.pipes entry (opened ino kind) (entry_free now.files entry free).1 plain k.pipes in
     let e = kept_end old now taken ino fd entry kind now.pipes are low number free k in

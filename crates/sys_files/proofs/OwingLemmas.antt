@@ -16,7 +16,7 @@ use Rattle.sys_files.specs.Pipes.{ArePipes}
 use Rattle.sys_files.specs.Sound.{owed, numbers_of, IsSound, IsKept}
 use Rattle.fs_tree.proofs.NamingLemmas.{found_more, found_none, found_referred}
 use Rattle.sys_files.proofs.OwedLemmas.{directory_referred}
-use Rattle.sys_files.proofs.OthersLemmas.{OthersStay, all_stay}
+use Rattle.sys_files.proofs.StayingLemmas.{Stay, stays_there}
 
 -- how many of the references that a call has taken are to an inode
 abbrev pub taken_of : List ℕ → ℕ → ℕ
@@ -36,7 +36,7 @@ pub record IsKeptBut (old new : Handed) (taken : List ℕ) : Type 0 where
       ≡ slice_index old.inodes.references ino + owed new ino + taken_of taken ino
   pub count : new.inodes.store.count ≡ old.inodes.store.count
   pub pipes : ArePipes new.files new.pipes
-  pub others : OthersStay old new.files
+  pub others : Stay old.files old.u.files new.files
 
 -- What has been referred to once more is one of the numbers.
 taken_low : (r : List ℕ) (i : ℕ) → 0 < slice_index (slice_set r i (slice_index r i + 1)) i → i < length r
@@ -92,7 +92,7 @@ kept_begins h sound = record {
   references = λ ino. omega arith;
   count = refl;
   pipes = sound.pipes;
-  others = λ entry file is few. all_stay h.files entry file is;
+  others = λ entry file is few. stays_there h.files entry file is;
 }
 
 pub kept_ends : (old new : Handed) → IsKeptBut old new [] → IsKept old new

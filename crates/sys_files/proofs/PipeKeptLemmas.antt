@@ -16,20 +16,22 @@ use Rattle.sys_files.specs.Did.{Did, fails}
 use Rattle.sys_files.specs.Pipes.{with_pipe}
 use Rattle.sys_files.specs.Piping.{waits_in_pipe, words_of, pipe_at, ends_at, pipe_read, with_pipe_read, ends_read, reads_pipe, pipe_write, with_pipe_write, ends_write, writes_pipe}
 use Rattle.sys_files.specs.Sound.{IsSound, IsKept}
-use Rattle.sys_files.proofs.OthersLemmas.{all_stay}
+use Rattle.sys_files.proofs.StayingLemmas.{stays_there}
 use Rattle.sys_files.proofs.PipeLemmas.{pipes_marked}
 use Rattle.sys_files.proofs.PipedLemmas.{read_leaves, write_leaves}
 
 -- A pipe has changed, and nothing else that is counted.
-pub kept_with_pipe : (old new : Handed) (p : Pipe) → IsSound old → new.files ≡ old.files → new.pipes ≡ with_pipe old.pipes p → new.u.files ≡ old.u.files
-    → new.u.dir ≡ old.u.dir → new.inodes.references ≡ old.inodes.references → new.inodes.store.count ≡ old.inodes.store.count → IsKept old new
+pub kept_with_pipe : (old new : Handed) (p : Pipe) → IsSound old → new.files ≡ old.files → new.pipes ≡ with_pipe old.pipes p
+    → new.u.files ≡ old.u.files
+    → new.u.dir ≡ old.u.dir → new.inodes.references ≡ old.inodes.references → new.inodes.store.count ≡ old.inodes.store.count
+    → IsKept old new
 kept_with_pipe old new p sound files pipes numbers dir references count = record {
   is_open = rw (files, numbers) sound.is_open;
   numbers = λ entry. rw (files, numbers) refl;
   references = λ i. rw (files, dir, references) refl;
   count = count;
   pipes = rw (files, pipes) (pipes_marked old.files old.pipes p sound.pipes);
-  others = rw files (λ entry file is few. all_stay old.files entry file is);
+  others = rw files (λ entry file is few. stays_there old.files entry file is);
 }
 
 -- What the end of a call on a pipe leaves: the parts as they were, or with another call that goes on, or with a signal.
@@ -73,17 +75,23 @@ module _ (old : Handed) (sound : IsSound old) (pending : ℕ) (words : List ℕ)
       let left = (read_leaves begun.inodes.store (ends_at begun entry) (pipe_at begun entry) begun.image at count now).count in
       read_ends (IsKept old) after (record {
         same = kept_with_pipe old after r.pipe sound refl refl refl refl refl left;
-        waits = λ pending words. kept_with_pipe old (record after { u = record after.u { pending = pending; call = words } }) r.pipe sound refl refl refl refl refl left;
-        signalled = kept_with_pipe old (record after { row = posted after.row SIGPIPE }) r.pipe sound refl refl refl refl refl left;
+        waits = λ pending words. kept_with_pipe old
+            (record after { u = record after.u { pending = pending; call = words } }) r.pipe sound refl refl refl refl refl left;
+        signalled = kept_with_pipe old
+            (record after { row = posted after.row SIGPIPE }) r.pipe sound refl refl refl refl refl left;
       }) (pipe_at begun entry).ino entry at count r.answer
 
   pub pipe_write_kept : (slot entry at count left now : ℕ) → IsKept old (writes_pipe begun slot entry at count left now).state
   pipe_write_kept slot entry at count left now =
       let w : PipeWrite = pipe_write begun entry at count left now in
       let after : Handed = with_pipe_write begun w in
-      let leaves = (write_leaves begun.inodes.store (ends_at begun entry) (pipe_at begun entry) begun.image ((at + (count - left)) % 65536) left now).leaves.count in
+      let leaves = (write_leaves begun.inodes.store (ends_at begun entry) (pipe_at begun entry) begun.image
+      ((at + (count - left)) % 65536) left now).leaves.count in
       write_ends (IsKept old) after (record {
         same = kept_with_pipe old after w.pipe sound refl refl refl refl refl leaves;
-        waits = λ pending words. kept_with_pipe old (record after { u = record after.u { pending = pending; call = words } }) w.pipe sound refl refl refl refl refl leaves;
-        signalled = kept_with_pipe old (record after { row = posted after.row SIGPIPE }) w.pipe sound refl refl refl refl refl leaves;
+        waits = λ pending words. kept_with_pipe old
+            (record after { u = record after.u { pending = pending; call = words } }) w.pipe sound refl refl refl refl refl
+            leaves;
+        signalled = kept_with_pipe old
+            (record after { row = posted after.row SIGPIPE }) w.pipe sound refl refl refl refl refl leaves;
       }) slot (pipe_at begun entry).ino entry at count w.answer

@@ -345,7 +345,7 @@ module _ (pipes : List Pipe) (ino : ℕ) (there : place_of pipes ino < length pi
       by (inr x) (inr y) = omega (arith, same, x.0, y.0)
 
   -- Each other pipe is there still.
-  others_there : (k : ℕ) → k < length pipes → k ≢ place_of pipes ino
+  pub others_there : (k : ℕ) → k < length pipes → k ≢ place_of pipes ino
       → place_of (without_pipe pipes ino) (ino_at pipes k) < length (without_pipe pipes ino)
   others_there k short other = elim (cases_lt k (place_of pipes ino)) [
     | inl below ↦ place_low (without_pipe pipes ino) (ino_at pipes k) k (omega (arith, below, there, one_less))

@@ -14,7 +14,7 @@ use Rattle.sys_files.specs.Piping.{reading_end, writing_end, with_end, with_ends
 use Rattle.sys_files.specs.Sound.{IsSound, IsKept}
 use Rattle.sys_files.proofs.OwedLemmas.{file_referred}
 use Rattle.sys_files.proofs.OwingLemmas.{IsKeptBut, taken_more, kept_check, kept_ends, kept_lets_go, referred_low}
-use Rattle.sys_files.proofs.OthersLemmas.{all_stay, others_all}
+use Rattle.sys_files.proofs.StayingLemmas.{stays_there}
 use Rattle.sys_files.proofs.DescriptorLemmas.{need_is}
 use Rattle.sys_files.proofs.EnteringLemmas.{taken}
 use Rattle.sys_files.proofs.OpeningLemmas.{entry_free, kept_end}
@@ -77,7 +77,7 @@ made_kept h a b ino sound same takes =
           omega (arith, t, more, was);
       count = takes.count ∙ ap (λ n. n.store.count) (sym same);
       pipes = sound.pipes;
-      others = others_all h h.files (all_stay h.files);
+      others = λ entry file is fewer. stays_there h.files entry file is;
     }
 
 -- No open file is of an inode to which nobody refers.

@@ -36,7 +36,8 @@ module _ (store : Store) (ends : ℕ) (p : Pipe) (image : Image) (at count time 
   read_leaves_by true = record { ino = front_ino (nat_lt ends 2) p; count = refl }
   read_leaves_by false = record { ino = refl; count = refl }
 
-  pub read_leaves : LeavesPipe p.ino store.count (reads store ends p image at count time).store (reads store ends p image at count time).pipe
+  pub read_leaves : LeavesPipe p.ino store.count (reads store ends p image at count time).store
+      (reads store ends p image at count time).pipe
   unfolding reads
   read_leaves = read_leaves_by (all_read store p)
 
@@ -65,20 +66,26 @@ pub record LeavesFew (number nodes most : ℕ) (w : PipeWrite) : Type 0 where
 few_ends : (w : Writing) (answer : Piped) → left_of answer ≤ w.left → LeavesFew w.pipe.ino w.store.count w.left (ends_as w answer)
 few_ends w answer few = record { leaves = record { ino = refl; count = refl }; few = few }
 
-few_more : (w : Writing) (ino count left : ℕ) (e : Option Errno) (on : PipeWrite) → w.pipe.ino ≡ ino → w.store.count ≡ count → w.left ≤ left
+few_more : (w : Writing) (ino count left : ℕ) (e : Option Errno) (on : PipeWrite) → w.pipe.ino ≡ ino → w.store.count ≡ count
+    → w.left ≤ left
     → LeavesFew ino count w.left on → LeavesFew ino count left (unless_error w e on)
-few_more w ino count left None on same nodes less rest = record { leaves = rest.leaves; few = let few = rest.few in omega (arith, few, less) }
-few_more w ino count left (Some e) on same nodes less rest = record { leaves = record { ino = same; count = nodes }; few = omega arith }
+few_more w ino count left None on same nodes less rest =
+    record { leaves = rest.leaves; few = let few = rest.few in omega (arith, few, less) }
+few_more w ino count left (Some e) on same nodes less rest =
+    record { leaves = record { ino = same; count = nodes }; few = omega arith }
 
-few_tests : (c : WriteCall) (w : Writing) (on : PipeWrite) → LeavesFew w.pipe.ino w.store.count (appended w (append_of c w)).left on
-    → LeavesFew w.pipe.ino w.store.count w.left (cond (w.left == 0) (ends_as w (Done c.count)) (cond (nat_lt c.ends 2) (ends_as w Broken)
+few_tests : (c : WriteCall) (w : Writing) (on : PipeWrite)
+    → LeavesFew w.pipe.ino w.store.count (appended w (append_of c w)).left on
+    → LeavesFew w.pipe.ino w.store.count w.left
+    (cond (w.left == 0) (ends_as w (Done c.count)) (cond (nat_lt c.ends 2) (ends_as w Broken)
     (cond (nat_le PIPSIZ (size_in w)) (waits w) (unless_error (appended w (append_of c w)) (append_of c w).error on))))
 few_tests c w on rest = by (w.left == 0) (nat_lt c.ends 2) (nat_le PIPSIZ (size_in w)) where
   next : Writing
   next = appended w (append_of c w)
 
   by : (none alone full : Bool) → LeavesFew w.pipe.ino w.store.count w.left
-      (cond none (ends_as w (Done c.count)) (cond alone (ends_as w Broken) (cond full (waits w) (unless_error next (append_of c w).error on))))
+      (cond none (ends_as w (Done c.count)) (cond alone (ends_as w Broken)
+      (cond full (waits w) (unless_error next (append_of c w).error on))))
   by true alone full = few_ends w (Done c.count) (omega arith)
   by false true full = few_ends w Broken (omega arith)
   by false false true = record { leaves = record { ino = refl; count = refl }; few = omega arith }
@@ -86,7 +93,8 @@ few_tests c w on rest = by (w.left == 0) (nat_lt c.ends 2) (nat_le PIPSIZ (size_
 
 few_rounds : (more : ℕ) (c : WriteCall) (w : Writing) → LeavesFew w.pipe.ino w.store.count w.left (rounds more c w)
 few_rounds zero c w = few_ends w (Done c.count) (omega arith)
-few_rounds (suc more) c w = few_tests c w (rounds more c (appended w (append_of c w))) (few_rounds more c (appended w (append_of c w)))
+few_rounds (suc more) c w =
+    few_tests c w (rounds more c (appended w (append_of c w))) (few_rounds more c (appended w (append_of c w)))
 
 pub write_leaves : (store : Store) (ends : ℕ) (p : Pipe) (image : Image) (at count time : ℕ)
     → LeavesFew p.ino store.count count (writes store ends p image at count time)

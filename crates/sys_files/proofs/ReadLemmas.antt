@@ -64,7 +64,8 @@ abbrev read_any : Handed → ℕ → ℕ → ℕ → ℕ → Bool → Did
 read_any h entry at count now pipe = if pipe then reads_pipe h entry at count now else reads_from h entry at count now
 
 abbrev read_if : Handed → ℕ → ℕ → ℕ → ℕ → Bool → Did
-read_if h entry at count now reading = check h (must EBADF reading) (λ may. read_any h entry at count now (file_of h entry).kind.pipe)
+read_if h entry at count now reading =
+    check h (must EBADF reading) (λ may. read_any h entry at count now (file_of h entry).kind.pipe)
 
 abbrev read_found : Handed → ℕ → ℕ → ℕ → Result ℕ Errno → Did
 read_found h at count now found = check h found (λ entry. read_if h entry at count now (file_of h entry).kind.reading)
@@ -86,12 +87,14 @@ pub read_not_open : (h : Handed) (at count now entry : ℕ) (file : OpenFile) �
 read_not_open h at count now entry file found is reading =
     ap (read_if h entry at count now) (sym reading ∙ ap (λ (x : OpenFile). x.kind.reading) is) ∙ ap (read_found h at count now) found
 
-module _ (h : Handed) (at count now entry : ℕ) (file : OpenFile) (found : Ok entry ≡ open_entry h (r0 h)) (is : file ≡ file_of h entry)
+module _ (h : Handed) (at count now entry : ℕ) (file : OpenFile) (found : Ok entry ≡ open_entry h (r0 h))
+    (is : file ≡ file_of h entry)
     (reading : file.kind.reading ≡ true) where
   read_row : (pipe : Bool) → file.kind.pipe ≡ pipe → read_any h entry at count now pipe ≡ read_file_of h at count now
   read_row pipe kind =
       ap (read_any h entry at count now) (sym kind ∙ ap (λ (x : OpenFile). x.kind.pipe) is)
-      ∙ ap (read_if h entry at count now) (sym reading ∙ ap (λ (x : OpenFile). x.kind.reading) is) ∙ ap (read_found h at count now) found
+      ∙ ap (read_if h entry at count now) (sym reading ∙ ap (λ (x : OpenFile). x.kind.reading) is) ∙ ap
+      (read_found h at count now) found
 
   pub read_done : file.kind.pipe ≡ false → reads_from h entry at count now ≡ read_file_of h at count now
   read_done plain = read_row false plain
@@ -104,7 +107,8 @@ read_place h entry at count now = ((file_of h entry).offset + (read_of h entry a
 
 -- A sleep leaves another call that goes on, unless a signal is due.
 kept_waits : (old h : Handed) (entry at count : ℕ) → IsKept old h
-    → IsKept old (record h { u = record h.u { pending = 1; call = entry ∷ at ∷ count ∷ 0 ∷ 0 ∷ 0 ∷ 0 ∷ 0 ∷ [] } }) → IsKept old (waits_for_keys h entry at count).state
+    → IsKept old (record h { u = record h.u { pending = 1; call = entry ∷ at ∷ count ∷ 0 ∷ 0 ∷ 0 ∷ 0 ∷ 0 ∷ [] } })
+    → IsKept old (waits_for_keys h entry at count).state
 kept_waits old h entry at count same waits = by (is_some (due h.row h.u))
   where
     by : (b : Bool) → IsKept old (cond {A = Did} b (fails h EINTR) (record {
@@ -117,12 +121,14 @@ kept_waits old h entry at count same waits = by (is_some (due h.row h.u))
 
 kept_took : (h : Handed) (entry at count now : ℕ) (r : Reading) (took : Took) → IsSound h
     → IsKept h (takes_line (with_line_read (with_read h entry (read_of h entry at count now)) r) entry at count took).state
-kept_took h entry at count now r (Done n) sound = kept_moved h _ entry (read_place h entry at count now) sound refl refl refl refl refl refl
+kept_took h entry at count now r (Done n) sound =
+    kept_moved h _ entry (read_place h entry at count now) sound refl refl refl refl refl refl
 kept_took h entry at count now r Wait sound =
     kept_waits h (with_line_read (with_read h entry (read_of h entry at count now)) r) entry at count
     (kept_moved h _ entry (read_place h entry at count now) sound refl refl refl refl refl refl)
     (kept_moved h _ entry (read_place h entry at count now) sound refl refl refl refl refl refl)
-kept_took h entry at count now r Fault sound = kept_moved h _ entry (read_place h entry at count now) sound refl refl refl refl refl refl
+kept_took h entry at count now r Fault sound =
+    kept_moved h _ entry (read_place h entry at count now) sound refl refl refl refl refl refl
 
 kept_as : (h : Handed) (entry at count now : ℕ) (console : Bool) → IsSound h → IsKept h (read_as h entry at count now console).state
 kept_as h entry at count now true sound =
@@ -167,7 +173,8 @@ abbrev pub piped_on : Handed → ℕ → ℕ → Bool → Did
 piped_on h slot now reads =
     let rest : Handed = without_pending h in
     if reads then reads_pipe rest (slice_index h.u.call 0) (slice_index h.u.call 1) (slice_index h.u.call 2) now
-    else writes_pipe rest slot (slice_index h.u.call 0) (slice_index h.u.call 1) (slice_index h.u.call 2) (slice_index h.u.call 3) now
+    else writes_pipe rest slot (slice_index h.u.call 0) (slice_index h.u.call 1) (slice_index h.u.call 2)
+    (slice_index h.u.call 3) now
 
 abbrev on_by : Handed → ℕ → ℕ → Bool → Bool → Did
 on_by h slot now console reads = if console then resume_read h else piped_on h slot now reads
@@ -175,27 +182,33 @@ on_by h slot now console reads = if console then resume_read h else piped_on h s
 abbrev resumed_by : Handed → ℕ → ℕ → Bool → Bool → Bool → Did
 resumed_by h slot now broken console reads = if broken then fails (without_pending h) EINTR else on_by h slot now console reads
 
-kept_by : (h : Handed) (slot now : ℕ) (broken console reads : Bool) → IsSound h → IsKept h (resumed_by h slot now broken console reads).state
+kept_by : (h : Handed) (slot now : ℕ) (broken console reads : Bool) → IsSound h
+    → IsKept h (resumed_by h slot now broken console reads).state
 kept_by h slot now true console reads sound = kept_same h (without_pending h) sound refl refl refl refl refl refl
 kept_by h slot now false true reads sound = resume_kept h sound
 kept_by h slot now false false true sound = pipe_read_kept h sound 0 (replicate 8 0) _ _ _ now
 kept_by h slot now false false false sound = pipe_write_kept h sound 0 (replicate 8 0) slot _ _ _ _ now
 
 pub resumes_kept : (h : Handed) (slot now : ℕ) → IsSound h → IsKept h (resumes h slot now).state
-resumes_kept h slot now sound = kept_by h slot now (is_some (due h.row (without_pending h).u)) (h.u.pending == 1) (h.u.pending == 3) sound
+resumes_kept h slot now sound =
+    kept_by h slot now (is_some (due h.row (without_pending h).u)) (h.u.pending == 1) (h.u.pending == 3) sound
 
 -- What a call comes to that is taken up again, by its tests.
-pub resume_broken : (h : Handed) (slot now : ℕ) → is_some (due h.row (without_pending h).u) ≡ true → fails (without_pending h) EINTR ≡ resumes h slot now
+pub resume_broken : (h : Handed) (slot now : ℕ) → is_some (due h.row (without_pending h).u) ≡ true
+    → fails (without_pending h) EINTR ≡ resumes h slot now
 resume_broken h slot now broken = sym (ap (λ b. resumed_by h slot now b (h.u.pending == 1) (h.u.pending == 3)) broken)
 
 module _ (h : Handed) (slot now : ℕ) (calm : is_some (due h.row (without_pending h).u) ≡ false) where
-  resumed_as : (console reads : Bool) → (h.u.pending == 1) ≡ console → (h.u.pending == 3) ≡ reads → on_by h slot now console reads ≡ resumes h slot now
+  resumed_as : (console reads : Bool) → (h.u.pending == 1) ≡ console → (h.u.pending == 3) ≡ reads
+      → on_by h slot now console reads ≡ resumes h slot now
   resumed_as console reads first third =
-      sym (ap (λ b. resumed_by h slot now b (h.u.pending == 1) (h.u.pending == 3)) calm ∙ ap (λ b. on_by h slot now b (h.u.pending == 3)) first
+      sym (ap (λ b. resumed_by h slot now b (h.u.pending == 1) (h.u.pending == 3)) calm ∙ ap
+      (λ b. on_by h slot now b (h.u.pending == 3)) first
       ∙ ap (on_by h slot now console) third)
 
   pub resume_console : h.u.pending ≡ 1 → resume_read h ≡ resumes h slot now
   resume_console is = resumed_as true (h.u.pending == 3) (eq-eqb h.u.pending 1 is) refl
 
-  pub resume_piped : (reads : Bool) → (h.u.pending == 1) ≡ false → (h.u.pending == 3) ≡ reads → piped_on h slot now reads ≡ resumes h slot now
+  pub resume_piped : (reads : Bool) → (h.u.pending == 1) ≡ false → (h.u.pending == 3) ≡ reads
+      → piped_on h slot now reads ≡ resumes h slot now
   resume_piped reads other is = resumed_as false reads other is

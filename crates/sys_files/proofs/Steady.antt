@@ -1,4 +1,5 @@
--- What a call on files leaves as it is: who its process is, its registers, times and handlers, and the sizes of its image. `user.h` and `proc.h` in Lions' Commentary.
+-- What a call on files leaves as it is: who its process is, its registers, times and handlers, and the sizes of its image.
+-- `user.h` and `proc.h` in Lions' Commentary.
 use Rattle.std.proofs.Common.{◌≡◌, ◌+◌, ◌*◌, ◌≤◌, ◌==◌, ◌++◌, ◌&&◌, ℕ, suc, Bool, true, false, not, cond, subst, List, [], ◌∷◌, length, replicate, fold, slice_index, refl, arith}
 use Rattle.std.specs.List.{range_with_len}
 use Rattle.std.proofs.lemmas.List.{append-nil}
@@ -22,8 +23,8 @@ use Rattle.sys_files.specs.Piping.{words_of}
 use Rattle.sys_files.proofs.Bounds.{Fits, fits_none, fits_lines, fits_shown, AreWakes, none_wakes, one_wakes, more_wakes, wakes_up_to, fits_wakes}
 use Rattle.sys_files.proofs.Walks.{Walks, PipesNamed, AwaitsPipe, IsNamedBy, walk_released, walk_resume}
 
--- What stays of a row of the table of processes. A process gets a terminal with the first one that it opens, and a signal where it
--- writes to a pipe that nobody reads.
+-- What stays of a row of the table of processes. A process gets a terminal with the first one that it opens, and a signal where
+-- it writes to a pipe that nobody reads.
 pub record SameRow (old new : Row) : Type 0 where
   pub pid : new.pid ≡ old.pid
   pub ppid : new.ppid ≡ old.ppid
@@ -133,7 +134,8 @@ signal_stays old row s = by (is_signal SIGPIPE && not (row.sig == SIGKIL))
     by false = s
 
 -- Each row of a call on files is confined, and a write is while its number of bytes is a word.
-pub confined_walks : (old : Handed) (slot : ℕ) → Walks (Steady old) (Confined slot old) (λ count. count ≤ 65535) (λ ino. Unit {0}) slot
+pub confined_walks : (old : Handed) (slot : ℕ)
+    → Walks (Steady old) (Confined slot old) (λ count. count ≤ 65535) (λ ino. Unit {0}) slot
 confined_walks old slot = record {
   refused = λ h e s. record { fits = fits_none slot; steady = s };
   done = λ h a b s. record { fits = fits_none slot; steady = s };
@@ -178,8 +180,10 @@ pub any_named : (h : Handed) → PipesNamed (λ ino. Unit {0}) h
 any_named h = record { file = λ entry pipe. tt; pipe = λ entry pipe. tt }
 
 -- A call goes on in which a process slept.
-pub resume_confined : (h : Handed) (slot now : ℕ) → ((h.u.pending == 1) ≡ false → AwaitsPipe (λ ino. Unit {0}) h) → Confined slot h (resumes h slot now)
-resume_confined h slot now waiting = walk_resume (confined_walks h slot) h now waiting (steady_pending h h 0 (replicate 8 0) (steady_same h))
+pub resume_confined : (h : Handed) (slot now : ℕ) → ((h.u.pending == 1) ≡ false → AwaitsPipe (λ ino. Unit {0}) h)
+    → Confined slot h (resumes h slot now)
+resume_confined h slot now waiting =
+    walk_resume (confined_walks h slot) h now waiting (steady_pending h h 0 (replicate 8 0) (steady_same h))
 
 -- A number lets its file go: so many times at most is somebody woken, who waits for a pipe or for keys.
 pub record ConfinedClosing (old : Handed) (most : ℕ) (c : Closing) : Type 0 where
@@ -192,7 +196,8 @@ close_wakes ino pipe last = more_wakes 2 1 _ _ (pipe_wakes ino pipe) (key_wakes 
   where
     pipe_wakes : (ino : ℕ) (pipe : Bool) → AreWakes 2 (cond pipe (Log (Wake (Write ino)) ∷ Log (Wake (Read ino)) ∷ []) [])
     pipe_wakes ino true =
-        more_wakes 1 1 (Log (Wake (Write ino)) ∷ []) (Log (Wake (Read ino)) ∷ []) (one_wakes (Write ino) tt) (one_wakes (Read ino) tt)
+        more_wakes 1 1 (Log (Wake (Write ino)) ∷ []) (Log (Wake (Read ino)) ∷ []) (one_wakes (Write ino) tt)
+        (one_wakes (Read ino) tt)
     pipe_wakes ino false = wakes_up_to 0 2 [] (omega arith) none_wakes
 
     key_wakes : (last : Bool) → AreWakes 1 (cond last (Log (Wake Keys) ∷ []) [])

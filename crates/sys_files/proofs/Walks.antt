@@ -90,7 +90,8 @@ pub record Walks (P : Handed → Type 0) (Q : Did → Type 0) (Few Named : ℕ �
   pub done : (h : Handed) (a b : ℕ) → P h → Q (record { answer = Ret a b; state = h; items = [] })
   pub lets_go : (ino : ℕ) (d : Did) → Q d → Q (until_end ino d)
   pub waits : (h : Handed) (entry at count : ℕ) → P h → Q (asleep_for_keys h entry at count)
-  pub waits_in_pipe : (h : Handed) (chan : Chan) (pending entry at count left : ℕ) → (pending ≡ 3) ⊎ (pending ≡ 4) → IsOfFiles Named chan
+  pub waits_in_pipe : (h : Handed) (chan : Chan) (pending entry at count left : ℕ) → (pending ≡ 3) ⊎ (pending ≡ 4)
+      → IsOfFiles Named chan
       → IsAwaiting h entry count left → P h → Q (asleep_in_pipe h chan pending (words_of entry at count left))
   pub tells : (entries : List Entry) (d : Did) → length entries ≤ 3 → All (IsLineOf Named slot) entries → d.items ≡ [] → Q d
       → Q (record d { items = map Log entries })
@@ -141,7 +142,8 @@ not_zero (suc n) is = omega arith
 is_named : (h : Handed) (fd entry : ℕ) → open_entry h fd ≡ Ok entry → 1 ≤ times h.u.files entry
 is_named h fd entry is = by (slice_index h.u.files fd == 0) refl is
   where
-    by : (none : Bool) → (slice_index h.u.files fd == 0) ≡ none → cond {A = Result ℕ Errno} none (Err EBADF) (Ok (entry_of h.u.files fd)) ≡ Ok entry
+    by : (none : Bool) → (slice_index h.u.files fd == 0) ≡ none
+        → cond {A = Result ℕ Errno} none (Err EBADF) (Ok (entry_of h.u.files fd)) ≡ Ok entry
         → 1 ≤ times h.u.files entry
     by true none same = absurd (false≢true (ap is_found same))
     by false some same =
@@ -155,7 +157,8 @@ module _ {P : Handed → Type 0} {Q : Did → Type 0} {Few Named : ℕ → Type 
   checks h (Ok a) next p goes = goes a
   checks h (Err e) next p goes = k.refused h e p
 
-  checks_as : {A : Type 0} (h : Handed) (test : Result A Errno) (next : A → Did) → P h → ((a : A) → test ≡ Ok a → Q (next a)) → Q (check h test next)
+  checks_as : {A : Type 0} (h : Handed) (test : Result A Errno) (next : A → Did) → P h → ((a : A) → test ≡ Ok a → Q (next a))
+      → Q (check h test next)
   checks_as h (Ok a) next p goes = goes a refl
   checks_as h (Err e) next p goes = k.refused h e p
 
@@ -239,7 +242,8 @@ module _ {P : Handed → Type 0} {Q : Did → Type 0} {Few Named : ℕ → Type 
   walk_reads_line h entry at count p =
       let reading : Reading = line_read h at count in
       walk_line (with_line_read h reading) entry at count reading.took
-      (k.stored (record h { line = reading.terminal }) reading.image (line_lengths h.line h.image at count) (k.around h h.inodes h.files h.pipes reading.terminal p))
+      (k.stored (record h { line = reading.terminal }) reading.image (line_lengths h.line h.image at count)
+      (k.around h h.inodes h.files h.pipes reading.terminal p))
 
   read_by : (h : Handed) (entry at count now : ℕ) (console : Bool) → P h
       → Q (cond console (reads_line (with_read h entry (read_of h entry at count now)) entry at count)
@@ -261,10 +265,12 @@ module _ {P : Handed → Type 0} {Q : Did → Type 0} {Few Named : ℕ → Type 
       (fails (record h { line = after_shown h.line (readable image at count) }) EFAULT)) { items = sent 0 (shows h.line (readable image at count)) })
   shown_by h image at count true few p =
       let after : Handed = record h { line = after_shown h.line (readable image at count) } in
-      k.showing h.line image at count (returns after count) few (k.done after count (r1 after) (k.around h h.inodes h.files h.pipes after.line p))
+      k.showing h.line image at count (returns after count) few
+      (k.done after count (r1 after) (k.around h h.inodes h.files h.pipes after.line p))
   shown_by h image at count false few p =
       let after : Handed = record h { line = after_shown h.line (readable image at count) } in
-      k.showing h.line image at count (fails after EFAULT) few (k.refused after EFAULT (k.around h h.inodes h.files h.pipes after.line p))
+      k.showing h.line image at count (fails after EFAULT) few
+      (k.refused after EFAULT (k.around h h.inodes h.files h.pipes after.line p))
 
   write_by : (h : Handed) (entry at count now : ℕ) (console : Bool) → Few count → P h
       → Q (cond console (shows_bytes (with_moved h entry (write_of h entry at count now)) count (readable h.image at count))
@@ -310,7 +316,8 @@ module _ {P : Handed → Type 0} {Q : Did → Type 0} {Few Named : ℕ → Type 
       by true = k.around h h.inodes h.files _ h.line p
       by false = p
 
-  wake_line : (chan : Chan) (entries : List Entry) → IsOfFiles Named chan → All (IsLineOf Named slot) entries → All (IsLineOf Named slot) (Wake chan ∷ entries)
+  wake_line : (chan : Chan) (entries : List Entry) → IsOfFiles Named chan → All (IsLineOf Named slot) entries
+      → All (IsLineOf Named slot) (Wake chan ∷ entries)
   wake_line chan entries named all = All-cons (IsLineOf Named slot) (Wake chan) entries (inl (chan, refl, named)) all
 
   no_line : All (IsLineOf Named slot) []
@@ -318,10 +325,16 @@ module _ {P : Handed → Type 0} {Q : Did → Type 0} {Few Named : ℕ → Type 
 
   answers : (h : Handed) (a b : ℕ) (entries : List Entry) → length entries ≤ 3 → All (IsLineOf Named slot) entries → P h
       → Q (record { answer = Ret a b; state = h; items = map Log entries })
-  answers h a b entries few all p = k.tells entries (record { answer = Ret a b; state = h; items = [] }) few all refl (k.done h a b p)
+  answers h a b entries few all p =
+      k.tells entries (record { answer = Ret a b; state = h; items = [] }) few all refl (k.done h a b p)
 
   closes_by : (h : Handed) (a b ino : ℕ) (pipe last : Bool) → (pipe ≡ true → Named ino) → P h
-      → Q (record { answer = Ret a b; state = h; items = cond pipe (Log (Wake (channel.Write ino)) ∷ Log (Wake (Read ino)) ∷ []) [] ++ cond last (Log (Wake Keys) ∷ []) [] })
+      → Q (record {
+        answer = Ret a b;
+        state = h;
+        items = cond pipe
+            (Log (Wake (channel.Write ino)) ∷ Log (Wake (Read ino)) ∷ []) [] ++ cond last (Log (Wake Keys) ∷ []) [];
+      })
   closes_by h a b ino true true named p =
       answers h a b (Wake (channel.Write ino) ∷ Wake (Read ino) ∷ Wake Keys ∷ []) (omega arith)
       (wake_line (channel.Write ino) (Wake (Read ino) ∷ Wake Keys ∷ []) (named refl)
@@ -334,7 +347,9 @@ module _ {P : Handed → Type 0} {Q : Did → Type 0} {Few Named : ℕ → Type 
 
   pub walk_released : (h : Handed) (a b : ℕ) (told : Closed) → IsNamedBy Named told → P h
       → Q (record { answer = Ret a b; state = (released h told).state; items = (released h told).items })
-  walk_released h a b (Still file) named p = subst Q (ap (λ (l : List Item). record { answer = Ret a b; state = with_roused h file; items = l }) (append-nil (pipe_roused file)))
+  walk_released h a b (Still file) named p =
+      subst Q (ap (λ (l : List Item). record { answer = Ret a b; state = with_roused h file; items = l })
+      (append-nil (pipe_roused file)))
       (closes_by (with_roused h file) a b file.ino file.kind.pipe false named (roused h file p))
   walk_released h a b (Last file) named p =
       let rest : Handed = with_gone (with_roused h file) file in
@@ -343,73 +358,93 @@ module _ {P : Handed → Type 0} {Q : Did → Type 0} {Few Named : ℕ → Type 
       (k.around rest last.inodes rest.files rest.pipes last.line (gone (with_roused h file) file (roused h file p)))
 
   -- Pipes are read and written. What a call on a pipe comes to has one line of its own at most.
-  told_after : (first rest : List Entry) (d : Did) → length first ≤ 1 → length rest ≤ 1 → All (IsLineOf Named slot) first → All (IsLineOf Named slot) rest
+  told_after : (first rest : List Entry) (d : Did) → length first ≤ 1 → length rest ≤ 1 → All (IsLineOf Named slot) first
+      → All (IsLineOf Named slot) rest
       → d.items ≡ map Log rest → Q (record d { items = [] }) → Q (after (map Log first) d)
   told_after first rest d few one all own are q =
       let P' : List Item → Type 0 = λ l. Q (record d { items = l }) in
       let long = length-append first rest in
       subst P' (map-append Log first rest ∙ ap (λ l. map Log first ++ l) (sym are))
-      (k.tells (first ++ rest) (record d { items = [] }) (omega (arith, few, one, long)) (All-append (IsLineOf Named slot) first rest all own) refl q)
+      (k.tells (first ++ rest) (record d { items = [] }) (omega (arith, few, one, long))
+      (All-append (IsLineOf Named slot) first rest all own) refl q)
 
-  told_woken : (woken : Bool) (chan : Chan) (rest : List Entry) (d : Did) → IsOfFiles Named chan → length rest ≤ 1 → All (IsLineOf Named slot) rest
+  told_woken : (woken : Bool) (chan : Chan) (rest : List Entry) (d : Did) → IsOfFiles Named chan → length rest ≤ 1
+      → All (IsLineOf Named slot) rest
       → d.items ≡ map Log rest → Q (record d { items = [] }) → Q (after (cond woken (Log (Wake chan) ∷ []) []) d)
   told_woken true chan rest d named one own are q =
       told_after (Wake chan ∷ []) rest d (omega arith) one (wake_line chan [] named no_line) own are q
   told_woken false chan rest d named one own are q = told_after [] rest d (omega arith) one no_line own are q
 
   -- a call that ends quietly on a pipe, after somebody was woken or not
-  quiet_woken : (woken : Bool) (chan : Chan) (d : Did) → IsOfFiles Named chan → d.items ≡ [] → Q d → Q (after (cond woken (Log (Wake chan) ∷ []) []) d)
+  quiet_woken : (woken : Bool) (chan : Chan) (d : Did) → IsOfFiles Named chan → d.items ≡ [] → Q d
+      → Q (after (cond woken (Log (Wake chan) ∷ []) []) d)
   quiet_woken woken chan d named none q =
       told_woken woken chan [] d named (omega arith) no_line none
       (subst Q (ap (λ (l : List Item). record { answer = d.answer; state = d.state; items = l }) none) q)
 
-  waits_woken : (woken : Bool) (on chan : Chan) (h : Handed) (pending entry at count left : ℕ) → (pending ≡ 3) ⊎ (pending ≡ 4) → IsOfFiles Named on
+  waits_woken : (woken : Bool) (on chan : Chan) (h : Handed) (pending entry at count left : ℕ) → (pending ≡ 3) ⊎ (pending ≡ 4)
+      → IsOfFiles Named on
       → IsOfFiles Named chan → IsAwaiting h entry count left → P h
       → Q (after (cond woken (Log (Wake on) ∷ []) []) (waits_in_pipe h chan pending (words_of entry at count left)))
   waits_woken woken on chan h pending entry at count left kind named name awaits p = by (is_some (due h.row h.u))
     where
-      by : (b : Bool) → Q (after (cond woken (Log (Wake on) ∷ []) []) (cond b (fails h EINTR) (asleep_in_pipe h chan pending (words_of entry at count left))))
+      by : (b : Bool) → Q
+          (after (cond woken (Log (Wake on) ∷ []) [])
+          (cond b (fails h EINTR) (asleep_in_pipe h chan pending (words_of entry at count left))))
       by true = quiet_woken woken on (fails h EINTR) named refl (k.refused h EINTR p)
       by false = quiet_woken woken on (asleep_in_pipe h chan pending (words_of entry at count left)) named refl
           (k.waits_in_pipe h chan pending entry at count left kind name awaits p)
 
   read_ends : (woken : Bool) (h : Handed) (ino entry at count : ℕ) (answer : Piped) → Named ino → IsAwaiting h entry count 0 → P h
       → Q (after (cond woken (Log (Wake (channel.Write ino)) ∷ []) []) (ends_read h ino entry at count answer))
-  read_ends woken h ino entry at count (piped.Done n) name awaits p = quiet_woken woken (channel.Write ino) (returns h n) name refl (k.done h n (r1 h) p)
+  read_ends woken h ino entry at count (piped.Done n) name awaits p =
+      quiet_woken woken (channel.Write ino) (returns h n) name refl (k.done h n (r1 h) p)
   read_ends woken h ino entry at count (piped.Wait left) name awaits p =
       waits_woken woken (channel.Write ino) (Read ino) h 3 entry at count 0 (inl refl) name name awaits p
-  read_ends woken h ino entry at count piped.Broken name awaits p = quiet_woken woken (channel.Write ino) (fails h EPIPE) name refl (k.refused h EPIPE p)
-  read_ends woken h ino entry at count (piped.Error e) name awaits p = quiet_woken woken (channel.Write ino) (fails h e) name refl (k.refused h e p)
+  read_ends woken h ino entry at count piped.Broken name awaits p =
+      quiet_woken woken (channel.Write ino) (fails h EPIPE) name refl (k.refused h EPIPE p)
+  read_ends woken h ino entry at count (piped.Error e) name awaits p =
+      quiet_woken woken (channel.Write ino) (fails h e) name refl (k.refused h e p)
 
-  write_ends : (woken : Bool) (h : Handed) (ino entry at count : ℕ) (answer : Piped) → Named ino → IsAwaiting h entry count (left_of answer) → P h
+  write_ends : (woken : Bool) (h : Handed) (ino entry at count : ℕ) (answer : Piped) → Named ino
+      → IsAwaiting h entry count (left_of answer) → P h
       → Q (after (cond woken (Log (Wake (Read ino)) ∷ []) []) (ends_write h slot ino entry at count answer))
-  write_ends woken h ino entry at count (piped.Done n) name awaits p = quiet_woken woken (Read ino) (returns h count) name refl (k.done h count (r1 h) p)
+  write_ends woken h ino entry at count (piped.Done n) name awaits p =
+      quiet_woken woken (Read ino) (returns h count) name refl (k.done h count (r1 h) p)
   write_ends woken h ino entry at count (piped.Wait left) name awaits p =
       waits_woken woken (Read ino) (channel.Write ino) h 4 entry at count left (inr refl) name name awaits p
   write_ends woken h ino entry at count piped.Broken name awaits p =
       told_woken woken (Read ino) (Signal slot SIGPIPE ∷ []) (breaks h slot) name (omega arith)
       (All-cons (IsLineOf Named slot) (Signal slot SIGPIPE) [] (inr refl) no_line) refl
       (k.refused (record h { row = posted h.row SIGPIPE }) EPIPE (k.signalled h p))
-  write_ends woken h ino entry at count (piped.Error e) name awaits p = quiet_woken woken (Read ino) (fails h e) name refl (k.refused h e p)
+  write_ends woken h ino entry at count (piped.Error e) name awaits p =
+      quiet_woken woken (Read ino) (fails h e) name refl (k.refused h e p)
 
-  walk_reads_pipe : (h : Handed) (entry at count now : ℕ) → Named (pipe_at h entry).ino → (file_of h entry).kind.pipe ≡ true → 1 ≤ times h.u.files entry → P h
+  walk_reads_pipe : (h : Handed) (entry at count now : ℕ) → Named (pipe_at h entry).ino → (file_of h entry).kind.pipe ≡ true
+      → 1 ≤ times h.u.files entry → P h
       → Q (reads_pipe h entry at count now)
   walk_reads_pipe h entry at count now name pipe named p =
       let r : PipeRead = pipe_read h entry at count now in
       let after : Handed = with_pipe_read h r in
-      read_ends ((pipe_at h entry).writer_waits && not r.pipe.writer_waits) after (pipe_at h entry).ino entry at count r.answer name
+      read_ends ((pipe_at h entry).writer_waits && not r.pipe.writer_waits) after
+      (pipe_at h entry).ino entry at count r.answer name
       (record { pipe = pipe; named = named; few = omega arith })
-      (k.stored (record after { image = h.image }) r.image (pipe_lengths h.inodes.store (ends_at h entry) (pipe_at h entry) h.image at count now)
+      (k.stored (record after { image = h.image }) r.image
+      (pipe_lengths h.inodes.store (ends_at h entry) (pipe_at h entry) h.image at count now)
       (k.around h after.inodes h.files after.pipes h.line p))
 
-  walk_writes_pipe : (h : Handed) (entry at count left now : ℕ) → Named (pipe_at h entry).ino → (file_of h entry).kind.pipe ≡ true → 1 ≤ times h.u.files entry
+  walk_writes_pipe : (h : Handed) (entry at count left now : ℕ) → Named (pipe_at h entry).ino
+      → (file_of h entry).kind.pipe ≡ true → 1 ≤ times h.u.files entry
       → left ≤ count → P h → Q (writes_pipe h slot entry at count left now)
   walk_writes_pipe h entry at count left now name pipe named less p =
       let w : PipeWrite = pipe_write h entry at count left now in
       let after : Handed = with_pipe_write h w in
-      let few = (write_leaves h.inodes.store (ends_at h entry) (pipe_at h entry) h.image ((at + (count - left)) % 65536) left now).few in
-      write_ends ((pipe_at h entry).reader_waits && not w.pipe.reader_waits) after (pipe_at h entry).ino entry at count w.answer name
-      (record { pipe = pipe; named = named; few = omega (arith, few, less) }) (k.around h after.inodes h.files after.pipes h.line p)
+      let few = (write_leaves h.inodes.store (ends_at h entry) (pipe_at h entry) h.image
+      ((at + (count - left)) % 65536) left now).few in
+      write_ends ((pipe_at h entry).reader_waits && not w.pipe.reader_waits) after
+      (pipe_at h entry).ino entry at count w.answer name
+      (record { pipe = pipe; named = named; few = omega (arith, few, less) })
+      (k.around h after.inodes h.files after.pipes h.line p)
 
   -- The rows: 3, read
   pub walk_read : (h : Handed) (at count now : ℕ) → PipesNamed Named h → P h → Q (read_file_of h at count now)
@@ -430,7 +465,8 @@ module _ {P : Handed → Type 0} {Q : Did → Type 0} {Few Named : ℕ → Type 
     where
       by : (entry : ℕ) → open_entry h (r0 h) ≡ Ok entry → (pipe : Bool) → (file_of h entry).kind.pipe ≡ pipe
           → Q (cond pipe (writes_pipe h slot entry at count count now) (writes_to h entry at count now))
-      by entry is true pipe = walk_writes_pipe h entry at count count now (named.pipe entry pipe) pipe (is_named h (r0 h) entry is) (omega arith) p
+      by entry is true pipe =
+          walk_writes_pipe h entry at count count now (named.pipe entry pipe) pipe (is_named h (r0 h) entry is) (omega arith) p
       by entry is false pipe = write_by h entry at count now (is_console (node_at h (file_of h entry).ino)) few p
 
   -- 5, open
@@ -461,7 +497,8 @@ module _ {P : Handed → Type 0} {Q : Did → Type 0} {Few Named : ℕ → Type 
 
   -- 9, link
   linked : (h : Handed) (ino links now : ℕ) → P h → Q (is_done (with_links h ino links now))
-  linked h ino links now p = k.done (with_links h ino links now) (r0 h) (r1 h) (other_inodes h (with_links h ino links now).inodes p)
+  linked h ino links now p =
+      k.done (with_links h ino links now) (r0 h) (r1 h) (other_inodes h (with_links h ino links now).inodes p)
 
   entered : (h : Handed) (ino now dir offset : ℕ) (name : List ℕ) → P h → Q (enters_again ino now h dir offset name)
   entered h ino now dir offset name p =
@@ -495,7 +532,8 @@ module _ {P : Handed → Type 0} {Q : Did → Type 0} {Few Named : ℕ → Type 
       walk_finds h name enters_directory p (λ l ino q.
       checks l (must ENOTDIR (is_directory (node_at l ino).mode)) _ q (λ is.
       checks l (permission (node_at l ino) (user_of l.u) Execute) _ q (λ may.
-      k.done (with_directory l ino) (r0 l) (r1 l) (k.around _ (with_directory l ino).inodes l.files l.pipes l.line (k.moved l l.u.files ino q)))))
+      k.done (with_directory l ino) (r0 l) (r1 l)
+      (k.around _ (with_directory l ino).inodes l.files l.pipes l.line (k.moved l l.u.files ino q)))))
 
   -- 14, mknod
   pub walk_mknod : (h : Handed) (name mode device now : ℕ) → P h → Q (mknod_at h name mode device now)
@@ -557,7 +595,8 @@ module _ {P : Handed → Type 0} {Q : Did → Type 0} {Few Named : ℕ → Type 
   -- 42, pipe
   opens_places : (h now : Handed) (next : ℕ → ℕ → Did) → P h → ((fd entry : ℕ) → Q (next fd entry)) → Q (finds_place h now next)
   opens_places h now next p goes =
-      checks h (need EMFILE (free_number now.u.files)) _ p (λ fd. checks h (need ENFILE (free_entry now.files)) _ p (λ entry. goes fd entry))
+      checks h (need EMFILE (free_number now.u.files)) _ p
+      (λ fd. checks h (need ENFILE (free_entry now.files)) _ p (λ entry. goes fd entry))
 
   pub walk_pipe : (h : Handed) (now : ℕ) → P h → Q (pipe_new h now)
   walk_pipe h now p =
@@ -568,7 +607,8 @@ module _ {P : Handed → Type 0} {Q : Did → Type 0} {Few Named : ℕ → Type 
       k.done last fd next_fd (k.around _ last.inodes last.files last.pipes last.line (k.moved l last.u.files l.u.dir q))))))
 
   -- A call goes on in which a process slept: what it waits for in a pipe is there.
-  pub walk_resume : (h : Handed) (now : ℕ) → ((h.u.pending == 1) ≡ false → AwaitsPipe Named h) → P (without_pending h) → Q (resumes h slot now)
+  pub walk_resume : (h : Handed) (now : ℕ) → ((h.u.pending == 1) ≡ false → AwaitsPipe Named h) → P (without_pending h)
+      → Q (resumes h slot now)
   walk_resume h now waiting p = unless_due_walk rest (goes_on h slot now) p (by (h.u.pending == 1) (h.u.pending == 3) refl)
     where
       rest : Handed
@@ -578,7 +618,12 @@ module _ {P : Handed → Type 0} {Q : Did → Type 0} {Few Named : ℕ → Type 
       word i = slice_index h.u.call i
 
       by : (console reads : Bool) → (h.u.pending == 1) ≡ console
-          → Q (cond console (resume_read h) (cond reads (reads_pipe rest (word 0) (word 1) (word 2) now) (writes_pipe rest slot (word 0) (word 1) (word 2) (word 3) now)))
+          → Q (cond console (resume_read h)
+          (cond reads (reads_pipe rest (word 0) (word 1) (word 2) now)
+          (writes_pipe rest slot (word 0) (word 1) (word 2) (word 3) now)))
       by true reads is = walk_reads_line rest _ _ _ p
-      by false true is = let a = waiting is in walk_reads_pipe rest (word 0) (word 1) (word 2) now a.named a.awaits.pipe a.awaits.named p
-      by false false is = let a = waiting is in walk_writes_pipe rest (word 0) (word 1) (word 2) (word 3) now a.named a.awaits.pipe a.awaits.named a.awaits.few p
+      by false true is =
+          let a = waiting is in walk_reads_pipe rest (word 0) (word 1) (word 2) now a.named a.awaits.pipe a.awaits.named p
+      by false false is =
+          let a = waiting is in walk_writes_pipe rest (word 0) (word 1) (word 2)
+          (word 3) now a.named a.awaits.pipe a.awaits.named a.awaits.few p

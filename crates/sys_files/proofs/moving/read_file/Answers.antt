@@ -38,7 +38,8 @@ returns-clause-does g c =
     let image : Image = g.S.Space.image c.args.space.now in
     let h : Handed = handed c.args.f.now c.args.u.now c.args.row.now image in
     does_kept (sym (read_done h (slice_index c.args.args 0) (slice_index c.args.args 1) c.args.now c.in-Ok.entry c.file_of-file.result
-    (c.in-Ok.ensures.entry c.args.row.now image) (c.file_of-file.ensures c.args.u.now c.args.row.now image) c.if-not-file.false c.if-file.false)
+    (c.in-Ok.ensures.entry c.args.row.now image)
+    (c.file_of-file.ensures c.args.u.now c.args.row.now image) c.if-not-file.false c.if-file.false)
     ∙ c.read_from.ensures.did) (read_kept h (slice_index c.args.args 0) (slice_index c.args.args 1) c.args.now c.requires.sound)
 
 pub read_pipe-requires-clause-pipe : goal.read_pipe-requires-clause-pipe
@@ -46,7 +47,8 @@ read_pipe-requires-clause-pipe g c file is =
     let image : Image = g.S.Space.image c.args.space.now in
     let h : Handed = handed c.args.f.now c.args.u.now c.args.row.now image in
     let P : ℕ → Type 0 = λ entry. file_at h.files entry ≡ Some file in
-    ap (λ (x : OpenFile). x.kind.pipe) (file_there h c.in-Ok.entry file c.file_of-file.result (subst P (ap (λ t. t.entry) c.transfer_of-transfer.ensures) is)
+    ap (λ (x : OpenFile). x.kind.pipe) (file_there h c.in-Ok.entry file c.file_of-file.result
+    (subst P (ap (λ t. t.entry) c.transfer_of-transfer.ensures) is)
     (c.file_of-file.ensures c.args.u.now c.args.row.now image)) ∙ c.if-file.true
 
 pub read_pipe-requires-clause-referred : goal.read_pipe-requires-clause-referred
@@ -60,7 +62,8 @@ returns-then-file-clause-does g c =
     let image : Image = g.S.Space.image c.args.space.now in
     let h : Handed = handed c.args.f.now c.args.u.now c.args.row.now image in
     let row = read_piped h (slice_index c.args.args 0) (slice_index c.args.args 1) c.args.now c.in-Ok.entry c.file_of-file.result
-    (c.in-Ok.ensures.entry c.args.row.now image) (c.file_of-file.ensures c.args.u.now c.args.row.now image) c.if-not-file.false c.if-file.true in
+    (c.in-Ok.ensures.entry c.args.row.now image)
+    (c.file_of-file.ensures c.args.u.now c.args.row.now image) c.if-not-file.false c.if-file.true in
     does_by _ (ap (λ (t : Transfer). reads_pipe h t.entry t.at t.count c.args.now) c.transfer_of-transfer.ensures ∙ row)
     c.read_pipe.ensures.answer c.read_pipe.ensures.state c.read_pipe.ensures.items
     (read_kept h (slice_index c.args.args 0) (slice_index c.args.args 1) c.args.now c.requires.sound)

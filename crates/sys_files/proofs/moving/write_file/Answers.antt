@@ -22,7 +22,8 @@ pub returns-then-not-file-clause-does : goal.returns-then-not-file-clause-does
 returns-then-not-file-clause-does g c =
     let image : Image = g.S.Space.image c.args.space.now in
     let h : Handed = handed c.args.f.now c.args.u.now c.args.row.now image in
-    does_refused (write_not_open h c.args.slot (slice_index c.args.args 0) (slice_index c.args.args 1) c.args.now c.in-Ok.entry c.file_of-file.result
+    does_refused (write_not_open h c.args.slot (slice_index c.args.args 0)
+    (slice_index c.args.args 1) c.args.now c.in-Ok.entry c.file_of-file.result
     (c.in-Ok.ensures.entry c.args.row.now image) (c.file_of-file.ensures c.args.u.now c.args.row.now image) c.if-not-file.true) c.requires.sound
 
 pub write_to-requires : goal.write_to-requires
@@ -37,8 +38,10 @@ pub returns-clause-does : goal.returns-clause-does
 returns-clause-does g c =
     let image : Image = g.S.Space.image c.args.space.now in
     let h : Handed = handed c.args.f.now c.args.u.now c.args.row.now image in
-    does_by _ (write_done h c.args.slot (slice_index c.args.args 0) (slice_index c.args.args 1) c.args.now c.in-Ok.entry c.file_of-file.result
-    (c.in-Ok.ensures.entry c.args.row.now image) (c.file_of-file.ensures c.args.u.now c.args.row.now image) c.if-not-file.false c.if-file.false)
+    does_by _ (write_done h c.args.slot (slice_index c.args.args 0)
+    (slice_index c.args.args 1) c.args.now c.in-Ok.entry c.file_of-file.result
+    (c.in-Ok.ensures.entry c.args.row.now image)
+    (c.file_of-file.ensures c.args.u.now c.args.row.now image) c.if-not-file.false c.if-file.false)
     (c.write_to.ensures.answer c.args.row.now) (c.write_to.ensures.state c.args.row.now) (c.write_to.ensures.items c.args.row.now)
     (write_kept h c.args.slot (slice_index c.args.args 0) (slice_index c.args.args 1) c.args.now c.requires.sound)
 
@@ -47,7 +50,8 @@ write_pipe-requires-clause-pipe g c file is =
     let image : Image = g.S.Space.image c.args.space.now in
     let h : Handed = handed c.args.f.now c.args.u.now c.args.row.now image in
     let P : ℕ → Type 0 = λ entry. file_at h.files entry ≡ Some file in
-    ap (λ (x : OpenFile). x.kind.pipe) (file_there h c.in-Ok.entry file c.file_of-file.result (subst P (ap (λ t. t.entry) c.transfer_of-transfer.ensures) is)
+    ap (λ (x : OpenFile). x.kind.pipe) (file_there h c.in-Ok.entry file c.file_of-file.result
+    (subst P (ap (λ t. t.entry) c.transfer_of-transfer.ensures) is)
     (c.file_of-file.ensures c.args.u.now c.args.row.now image)) ∙ c.if-file.true
 
 pub write_pipe-requires-clause-referred : goal.write_pipe-requires-clause-referred
@@ -60,8 +64,11 @@ pub returns-then-file-clause-does : goal.returns-then-file-clause-does
 returns-then-file-clause-does g c =
     let image : Image = g.S.Space.image c.args.space.now in
     let h : Handed = handed c.args.f.now c.args.u.now c.args.row.now image in
-    let row = write_piped h c.args.slot (slice_index c.args.args 0) (slice_index c.args.args 1) c.args.now c.in-Ok.entry c.file_of-file.result
-    (c.in-Ok.ensures.entry c.args.row.now image) (c.file_of-file.ensures c.args.u.now c.args.row.now image) c.if-not-file.false c.if-file.true in
-    does_by _ (ap (λ (t : Transfer). writes_pipe h c.args.slot t.entry t.at t.count t.left c.args.now) c.transfer_of-transfer.ensures ∙ row)
+    let row = write_piped h c.args.slot (slice_index c.args.args 0)
+    (slice_index c.args.args 1) c.args.now c.in-Ok.entry c.file_of-file.result
+    (c.in-Ok.ensures.entry c.args.row.now image)
+    (c.file_of-file.ensures c.args.u.now c.args.row.now image) c.if-not-file.false c.if-file.true in
+    does_by _ (ap (λ
+    (t : Transfer). writes_pipe h c.args.slot t.entry t.at t.count t.left c.args.now) c.transfer_of-transfer.ensures ∙ row)
     c.write_pipe.ensures.answer c.write_pipe.ensures.state c.write_pipe.ensures.items
     (write_kept h c.args.slot (slice_index c.args.args 0) (slice_index c.args.args 1) c.args.now c.requires.sound)
