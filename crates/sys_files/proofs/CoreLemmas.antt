@@ -155,7 +155,7 @@ pub core_kept : (old new : Handed) (now : ℕ) → IsSound old → new ≡ (core
     → IsKept old new
 core_kept old new now sound state references count =
     let same : SameTables old (core_file old now).state =
-    (core_keeps (SameTables old) (λ h inodes k. record { files = k.files; pipes = k.pipes; u = k.u }) old now
+    (core_keeps (SameTables old) (λ h inodes count_is k. record { files = k.files; pipes = k.pipes; u = k.u }) old now
     (record { files = refl; pipes = refl; u = refl })).state in
     kept_references old new sound (ap (λ (h : Handed). h.files) state ∙ same.files)
     (ap (λ (h : Handed). h.pipes) state ∙ same.pipes)
