@@ -9,7 +9,8 @@ use Rattle.abstract_unix.specs.declared.calls.FileCall.TheVariants as file
 use Rattle.abstract_unix.specs.Calls.{file_row}
 
 -- A fact that the words of the rows keep holds of what each row comes to.
-pub walk_row : {P : Handed → Type 0} {Q : Did → Type 0} {Few Named : ℕ → Type 0} {slot : ℕ} → Walks P Q Few Named slot → (call : FileCall) (h : Handed) (args : List ℕ) (now : ℕ)
+pub walk_row : {P : Handed → Type 0} {Q : Did → Type 0} {Few Named : ℕ → Type 0} {slot : ℕ} → Walks P Q Few Named slot
+    → (call : FileCall) (h : Handed) (args : List ℕ) (now : ℕ)
     → Few (slice_index args 1) → PipesNamed Named h → P h → Q (file_row call h slot args now)
 walk_row k file.Read h a now few named p = walk_read k h (slice_index a 0) (slice_index a 1) now named p
 walk_row k file.Write h a now few named p = walk_write k h (slice_index a 0) (slice_index a 1) now few named p

@@ -8,7 +8,8 @@ use Rattle.abstract_unix.specs.declared.calls.FileCall.TheVariants as file
 use Rattle.abstract_unix.specs.Calls.{file_row}
 
 -- A fact that the words of the rows keep holds of what each row comes to.
-pub step_row : {P : Handed → Type 0} {Q : Did → Type 0} {Few Known : ℕ → Type 0} {slot : ℕ} → StepWalks P Q Few Known slot → (call : FileCall) (h : Handed) (args : List ℕ) (now : ℕ)
+pub step_row : {P : Handed → Type 0} {Q : Did → Type 0} {Few Known : ℕ → Type 0} {slot : ℕ} → StepWalks P Q Few Known slot
+    → (call : FileCall) (h : Handed) (args : List ℕ) (now : ℕ)
     → Few (slice_index args 1) → P h → Q (file_row call h slot args now)
 step_row k file.Read h a now few p = walk_read k h (slice_index a 0) (slice_index a 1) now p
 step_row k file.Write h a now few p = walk_write k h (slice_index a 0) (slice_index a 1) now few p

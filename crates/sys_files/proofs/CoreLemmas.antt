@@ -52,7 +52,8 @@ module _ (P : Handed → Type 0)
   checks h (Ok a) next p goes = goes a
   checks h (Err e) next p goes = record { state = p; over = tt }
 
-  named : {A : Type 0} (h : Handed) (found : Finding A) (next : Handed → A → Did) → found.inodes.store.count ≡ h.inodes.store.count → P h
+  named : {A : Type 0} (h : Handed) (found : Finding A) (next : Handed → A → Did)
+      → found.inodes.store.count ≡ h.inodes.store.count → P h
       → ((now : Handed) (a : A) → P now → OverWith P (next now a)) → OverWith P (then_named h found next)
   named h found next same p goes =
       let now : P (with_inodes h found.inodes) = keeps h found.inodes same p in
@@ -100,7 +101,8 @@ module _ (P : Handed → Type 0)
     where
       by : (b : Bool) → OverWith P (cond b (writes_named now h) (fails h EPERM))
       by true =
-          named h (make_in h.inodes h.marks (user_of h.u) h.u.dir core_name) (by_made (writes_over now) (writes_new now)) (making_count h.inodes _) p
+          named h (make_in h.inodes h.marks (user_of h.u) h.u.dir core_name) (by_made (writes_over now) (writes_new now))
+              (making_count h.inodes _) p
           (λ l answer q. made_so now l answer q)
       by false = record { state = p; over = tt }
 

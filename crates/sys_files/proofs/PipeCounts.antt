@@ -10,7 +10,8 @@ use Rattle.pipe_ends.specs.Reads as pipe
 use Rattle.pipe_ends.specs.Writes as writing
 use Rattle.pipe_ends.specs.Writes.{WriteCall, Writing, PipeWrite}
 
-pub reads_count : (store : Store) (ends : ℕ) (p : Pipe) (image : Image) (at count time : ℕ) → (pipe.reads store ends p image at count time).store.count ≡ store.count
+pub reads_count : (store : Store) (ends : ℕ) (p : Pipe) (image : Image) (at count time : ℕ)
+    → (pipe.reads store ends p image at count time).store.count ≡ store.count
 unfolding pipe.reads
 reads_count store ends p image at count time = by (pipe.all_read store p)
   where
@@ -31,7 +32,8 @@ module _ (c : WriteCall) (all : ℕ) where
   still true x y p q = p
   still false x y p q = q
 
-  still_by : (w : Writing) (e : Option Errno) (on : PipeWrite) → w.store.count ≡ all → IsStill on → IsStill (writing.unless_error w e on)
+  still_by : (w : Writing) (e : Option Errno) (on : PipeWrite) → w.store.count ≡ all → IsStill on
+      → IsStill (writing.unless_error w e on)
   still_by w None on here p = p
   still_by w (Some e) on here p = here
 
@@ -42,7 +44,9 @@ module _ (c : WriteCall) (all : ℕ) where
       (still_by (writing.appended w (writing.append_of c w)) (writing.append_of c w).error _ here
       (rounds_count more (writing.appended w (writing.append_of c w)) here))))
 
-pub writes_count : (store : Store) (ends : ℕ) (p : Pipe) (image : Image) (at count time : ℕ) → (writing.writes store ends p image at count time).store.count ≡ store.count
+pub writes_count : (store : Store) (ends : ℕ) (p : Pipe) (image : Image) (at count time : ℕ)
+    → (writing.writes store ends p image at count time).store.count ≡ store.count
 unfolding writing.writes
 writes_count store ends p image at count time =
-    rounds_count (writing.write_call ends image count time) store.count (suc count) (record { store = store; pipe = p; at = at; left = count }) refl
+    rounds_count (writing.write_call ends image count time) store.count (suc count)
+        (record { store = store; pipe = p; at = at; left = count }) refl

@@ -1,4 +1,5 @@
--- One walk over the rows of calls on files, step by step, for each fact that asks which numbers, entries and pipes a step changes.
+-- One walk over the rows of calls on files, step by step, for each fact that asks which numbers, entries and pipes a step
+-- changes.
 use Rattle.std.proofs.Common.{◌≡◌, ◌⊎◌, ◌<◌, ◌≤◌, ◌∙◌, ◌+◌, ◌-◌, ◌/◌, ◌%◌, ◌^◌, ◌==◌, ◌&&◌, ℕ, Bool, true, false, not, nat_lt, nat_le, cond, List, [], ◌∷◌, append-nil, length, reverse, slice_index, slice_set, pos, is_some, is_none, IfSome, Option, Some, None, Result, Ok, Err, if◌then◌else◌, refl, sym, ap, subst, inl, inr, arith}
 use Rattle.std.proofs.lemmas.Bool.{eqb-false, leb-true, and_parts}
 use Rattle.v6_base.specs.Image.{Image}
@@ -93,27 +94,33 @@ pub record StepWalks (P : Handed → Type 0) (Q : Did → Type 0) (Few Known : �
   pub done : (h : Handed) (value : ℕ) → P h → Q (returns h value)
   pub lets_go : (ino : ℕ) (d : Did) → Q d → Q (until_end ino d)
   pub waits : (h : Handed) (entry at count : ℕ) → P h → Q (asleep_for_keys h entry at count)
-  pub waits_in_pipe : (h : Handed) (chan : Chan) (pending : ℕ) (words : List ℕ) → (pending ≡ 3) ⊎ (pending ≡ 4) → IsOfPipe Known chan → P h
+  pub waits_in_pipe : (h : Handed) (chan : Chan) (pending : ℕ) (words : List ℕ) → (pending ≡ 3) ⊎ (pending ≡ 4)
+      → IsOfPipe Known chan → P h
       → Q (asleep_in_pipe h chan pending words)
-  pub wakes : (h : Handed) (a b : ℕ) (last : Bool) → P h → Q (record { answer = Ret a b; state = h; items = cond last (Log (Wake Keys) ∷ []) [] })
+  pub wakes : (h : Handed) (a b : ℕ) (last : Bool) → P h → Q
+      (record { answer = Ret a b; state = h; items = cond last (Log (Wake Keys) ∷ []) [] })
   pub woken : (chan : Chan) (d : Did) → IsOfPipe Known chan → Q d → Q (after (Log (Wake chan) ∷ []) d)
   pub breaks : (h : Handed) → P h → Q (pipe.breaks h slot)
   pub showing : (line : Terminal) (image : Image) (at count : ℕ) (d : Did) → Few count → Q d
       → Q (record d { items = sent 0 (shows line (readable image at count)) })
   pub inodes : (h : Handed) (inodes : Inodes) → inodes.store.count ≡ h.inodes.store.count → P h → P (with_inodes h inodes)
-  pub opened : (h : Handed) (ino : ℕ) (kind : FileKind) (fd entry : ℕ) → kind.pipe ≡ false → free_number h.u.files ≡ Some fd → free_entry h.files ≡ Some entry
+  pub opened : (h : Handed) (ino : ℕ) (kind : FileKind) (fd entry : ℕ) → kind.pipe ≡ false → free_number h.u.files ≡ Some fd
+      → free_entry h.files ≡ Some entry
       → P h → P (record h { files = slice_set h.files entry (Some (files.opened ino kind)); u = with_number h.u fd (entry + 1) })
   pub ends : (h : Handed) (ino fd entry next_fd next_entry : ℕ) → 1 ≤ ino → ino ≤ h.inodes.store.count
       → free_number h.u.files ≡ Some fd → free_entry h.files ≡ Some entry
-      → free_number (with_end h ino reading_end fd entry).u.files ≡ Some next_fd → free_entry (with_end h ino reading_end fd entry).files ≡ Some next_entry
+      → free_number (with_end h ino reading_end fd entry).u.files ≡ Some next_fd
+          → free_entry (with_end h ino reading_end fd entry).files ≡ Some next_entry
       → P h → P (with_ends h ino fd entry next_fd next_entry)
   pub given : (h : Handed) (fd free : ℕ) → 0 < slice_index h.u.files fd → free_number h.u.files ≡ Some free → P h
-      → P (record h { files = with_change h.files (entry_of h.u.files fd) (with_more 1); u = with_number h.u free (entry_of h.u.files fd + 1) })
+      → P (record h { files = with_change h.files (entry_of h.u.files fd) (with_more 1);
+          u = with_number h.u free (entry_of h.u.files fd + 1) })
   pub offset : (h : Handed) (entry offset : ℕ) → P h → P (record h { files = with_change h.files entry (with_offset offset) })
   pub dropped : (h : Handed) (fd : ℕ) → 0 < slice_index h.u.files fd → P h → P (dropped h fd)
   pub marked : (h : Handed) (p : Pipe) → P h → P (record h { pipes = with_pipe h.pipes p })
   pub gone : (h : Handed) (ino : ℕ) → has_end h.files ino ≡ false → P h → P (record h { pipes = without_pipe h.pipes ino })
-  pub known : (h : Handed) (entry : ℕ) → (file_of h entry).kind.pipe ≡ true → P h → Known (file_of h entry).ino × Known (pipe_at h entry).ino
+  pub known : (h : Handed) (entry : ℕ) → (file_of h entry).kind.pipe ≡ true → P h
+      → Known (file_of h entry).ino × Known (pipe_at h entry).ino
   pub console : (h : Handed) (console : Terminal) → P h → P (record h { line = console })
   pub enters : (h : Handed) (dir : ℕ) → P h → P (record h { u = record h.u { dir = dir } })
   pub terminal : (h : Handed) (tty : ℕ) → P h → P (record h { row = record h.row { tty = tty } })
@@ -124,20 +131,24 @@ need_some : {A : Type 0} (e : Errno) (o : Option A) (a : A) → need e o ≡ Ok 
 need_some e (Some x) a is = ap Some (cc is)
 need_some e None a is = absurd (cc is)
 
-entry_named : (h : Handed) (fd entry : ℕ) → open_entry h fd ≡ Ok entry → (0 < slice_index h.u.files fd) × (entry ≡ entry_of h.u.files fd)
+entry_named : (h : Handed) (fd entry : ℕ) → open_entry h fd ≡ Ok entry
+    → (0 < slice_index h.u.files fd) × (entry ≡ entry_of h.u.files fd)
 entry_named h fd entry is = by (slice_index h.u.files fd == 0) refl is
   where
     by : (b : Bool) → (slice_index h.u.files fd == 0) ≡ b → cond b (Err EBADF) (Ok (entry_of h.u.files fd)) ≡ Ok entry
         → (0 < slice_index h.u.files fd) × (entry ≡ entry_of h.u.files fd)
     by true e f = absurd (cc f)
-    by false e f = let some = eqb-false (slice_index h.u.files fd) 0 e in let same : entry_of h.u.files fd ≡ entry = cc f in (omega (arith, some), sym same)
+    by false e f = let some = eqb-false (slice_index h.u.files fd) 0 e in let same : entry_of h.u.files fd ≡ entry =
+        cc f in (omega (arith, some), sym same)
 
 -- A search leaves the number of nodes, and so does what frees or truncates one.
-freed_count : (b : Bool) (store : Store) (ino : ℕ) (node : Node) → (cond b (without_node store ino node) store).count ≡ store.count
+freed_count : (b : Bool) (store : Store) (ino : ℕ) (node : Node)
+    → (cond b (without_node store ino node) store).count ≡ store.count
 freed_count true store ino node = refl
 freed_count false store ino node = refl
 
-gone_count : (b c : Bool) (store : Store) (ino : ℕ) (node : Node) → (cond b (cond c (without_node store ino node) store) store).count ≡ store.count
+gone_count : (b c : Bool) (store : Store) (ino : ℕ) (node : Node)
+    → (cond b (cond c (without_node store ino node) store) store).count ≡ store.count
 gone_count true c store ino node = freed_count c store ino node
 gone_count false c store ino node = refl
 
@@ -148,13 +159,15 @@ put_in_count store ino n (Some node) = gone_count _ _ store ino node
 pub put_back_count : (n : Inodes) (ino : ℕ) → (put_back n ino).store.count ≡ n.store.count
 put_back_count n ino = put_in_count n.store ino (slice_index n.references ino) (node_numbered n.store ino)
 
-same_count : {A : Type 0} (n : Inodes) (b : Bool) (x y : Finding A) → x.inodes.store.count ≡ n.store.count → y.inodes.store.count ≡ n.store.count
+same_count : {A : Type 0} (n : Inodes) (b : Bool) (x y : Finding A) → x.inodes.store.count ≡ n.store.count
+    → y.inodes.store.count ≡ n.store.count
     → (cond b x y).inodes.store.count ≡ n.store.count
 same_count n true x y p q = p
 same_count n false x y p q = q
 
 pub referring_count : {A : Type 0} (n : Inodes) (ino : ℕ) (a : A) → (referring n ino a).inodes.store.count ≡ n.store.count
-referring_count n ino a = same_count n (can_refer n ino) (record { answer = Ok a; inodes = with_reference n ino }) (refused n ENFILE) refl refl
+referring_count n ino a = same_count n (can_refer n ino) (record { answer = Ok a; inodes = with_reference n ino })
+    (refused n ENFILE) refl refl
 
 pub finding_count : (n : Inodes) (r : Result ℕ Errno) → (finding n r).inodes.store.count ≡ n.store.count
 finding_count n (Ok ino) = referring_count n ino ino
@@ -167,11 +180,13 @@ making_count n (Err e) = refl
 pub removing_count : (n : Inodes) (r : Result (ℕ × ℕ × ℕ) Errno) → (removing n r).inodes.store.count ≡ n.store.count
 removing_count n (Ok entry) =
     same_count n (not (can_refer n entry.0)) (refused n ENFILE) _ refl
-    (same_count n (not (can_refer (with_reference n entry.0) entry.2)) (refused (put_back (with_reference n entry.0) entry.0) ENFILE) _
+    (same_count n (not (can_refer (with_reference n entry.0) entry.2))
+        (refused (put_back (with_reference n entry.0) entry.0) ENFILE) _
     (put_back_count (with_reference n entry.0) entry.0) refl)
 removing_count n (Err e) = refl
 
-pub numbered_count : (n : Inodes) (mode : ℕ) (user : User) (now : ℕ) (d : Draw) (o : Option ℕ) → (new_numbered n mode user now d o).inodes.store.count ≡ n.store.count
+pub numbered_count : (n : Inodes) (mode : ℕ) (user : User) (now : ℕ) (d : Draw) (o : Option ℕ)
+    → (new_numbered n mode user now d o).inodes.store.count ≡ n.store.count
 numbered_count n mode user now d None = refl
 numbered_count n mode user now d (Some ino) = same_count n (nat_lt (referenced n.references) 100) _ _ refl refl
 
@@ -200,24 +215,29 @@ free_within store i is =
     let both = and_parts (nat_le 1 i) (nat_le i store.count) first.0 in
     (leb-true 1 i both.0, leb-true i store.count both.1)
 
-drawn_within : (store : Store) (spare : List ℕ) (ino : ℕ) → (drawn store spare).number ≡ Some ino → (1 ≤ ino) × (ino ≤ store.count)
+drawn_within : (store : Store) (spare : List ℕ) (ino : ℕ) → (drawn store spare).number ≡ Some ino
+    → (1 ≤ ino) × (ino ≤ store.count)
 drawn_within store [] ino is = absurd (cc is)
 drawn_within store (i ∷ below) ino is = by (is_free_number store i) refl (drawn_within store below ino) is
   where
-    by : (b : Bool) → is_free_number store i ≡ b → ((drawn store below).number ≡ Some ino → (1 ≤ ino) × (ino ≤ store.count)) → (cond {A = Draw} b (record { number = Some i; spare = reverse below }) (drawn store below)).number ≡ Some ino
+    by : (b : Bool) → is_free_number store i ≡ b → ((drawn store below).number ≡ Some ino → (1 ≤ ino) × (ino ≤ store.count))
+        → (cond {A = Draw} b (record { number = Some i; spare = reverse below }) (drawn store below)).number ≡ Some ino
         → (1 ≤ ino) × (ino ≤ store.count)
     by true e rest f = let same : i ≡ ino = cc f in subst (λ n. (1 ≤ n) × (n ≤ store.count)) same (free_within store i e)
     by false e rest f = rest f
 
-draw_within : (store : Store) (is_referenced : ℕ → Bool) (ino : ℕ) → (draw store is_referenced).number ≡ Some ino → (1 ≤ ino) × (ino ≤ store.count)
+draw_within : (store : Store) (is_referenced : ℕ → Bool) (ino : ℕ) → (draw store is_referenced).number ≡ Some ino
+    → (1 ≤ ino) × (ino ≤ store.count)
 draw_within store is_referenced ino is = by (is_some (drawn store (reverse store.spare)).number) is
   where
-    by : (b : Bool) → (cond b (drawn store (reverse store.spare)) (drawn store (reverse (refill store is_referenced)))).number ≡ Some ino
+    by : (b : Bool) → (cond b (drawn store (reverse store.spare))
+        (drawn store (reverse (refill store is_referenced)))).number ≡ Some ino
         → (1 ≤ ino) × (ino ≤ store.count)
     by true f = drawn_within store (reverse store.spare) ino f
     by false f = drawn_within store (reverse (refill store is_referenced)) ino f
 
-new_within : (n : Inodes) (mode : ℕ) (user : User) (now ino : ℕ) → (new_in n mode user now).answer ≡ Ok ino → (1 ≤ ino) × (ino ≤ n.store.count)
+new_within : (n : Inodes) (mode : ℕ) (user : User) (now ino : ℕ) → (new_in n mode user now).answer ≡ Ok ino
+    → (1 ≤ ino) × (ino ≤ n.store.count)
 new_within n mode user now ino is = by (draw n.store (λ i. nat_lt 0 (slice_index n.references i))).number refl is
   where
     d : Draw
@@ -231,7 +251,8 @@ new_within n mode user now ino is = by (draw n.store (λ i. nat_lt 0 (slice_inde
             references = slice_set n.references i 1;
           };
         }) (refused (record n { store = with_draw n.store d }) ENFILE)).answer ≡ Ok ino → (1 ≤ ino) × (ino ≤ n.store.count)
-    numbered i true e f = let same : i ≡ ino = cc f in draw_within n.store (λ i. nat_lt 0 (slice_index n.references i)) ino (e ∙ ap Some same)
+    numbered i true e f = let same : i ≡ ino = cc f in draw_within n.store (λ i. nat_lt 0 (slice_index n.references i)) ino (e
+        ∙ ap Some same)
     numbered i false e f = absurd (cc f)
 
     by : (o : Option ℕ) → d.number ≡ o → (new_numbered n mode user now d o).answer ≡ Ok ino → (1 ≤ ino) × (ino ≤ n.store.count)
@@ -239,23 +260,29 @@ new_within n mode user now ino is = by (draw n.store (λ i. nat_lt 0 (slice_inde
     by (Some i) e f = numbered i (nat_lt (referenced n.references) 100) e f
 
 module _ {P : Handed → Type 0} {Q : Did → Type 0} {Few Known : ℕ → Type 0} {slot : ℕ} (k : StepWalks P Q Few Known slot) where
-  checks : {A : Type 0} (h : Handed) (test : Result A Errno) (next : A → Did) → P h → ((a : A) → Q (next a)) → Q (check h test next)
+  checks : {A : Type 0} (h : Handed) (test : Result A Errno) (next : A → Did) → P h → ((a : A) → Q (next a))
+      → Q (check h test next)
   checks h (Ok a) next p goes = goes a
   checks h (Err e) next p goes = k.refused h e p
 
   -- the same, where what goes on asks what the test has given
-  checks_so : {A : Type 0} (h : Handed) (test : Result A Errno) (next : A → Did) → P h → ((a : A) → test ≡ Ok a → Q (next a)) → Q (check h test next)
+  checks_so : {A : Type 0} (h : Handed) (test : Result A Errno) (next : A → Did) → P h → ((a : A) → test ≡ Ok a → Q (next a))
+      → Q (check h test next)
   checks_so h (Ok a) next p goes = goes a refl
   checks_so h (Err e) next p goes = k.refused h e p
 
-  walk_named : {A : Type 0} (h : Handed) (found : Finding A) (next : Handed → A → Did) → found.inodes.store.count ≡ h.inodes.store.count → P h
+  walk_named : {A : Type 0} (h : Handed) (found : Finding A) (next : Handed → A → Did)
+      → found.inodes.store.count ≡ h.inodes.store.count → P h
       → ((now : Handed) (a : A) → P now → Q (next now a)) → Q (then_named h found next)
   walk_named h found next same p goes =
       let now : P (with_inodes h found.inodes) = k.inodes h found.inodes same p in
-      checks (with_inodes h found.inodes) found.answer (next (with_inodes h found.inodes)) now (λ a. goes (with_inodes h found.inodes) a now)
+      checks (with_inodes h found.inodes) found.answer (next (with_inodes h found.inodes)) now
+          (λ a. goes (with_inodes h found.inodes) a now)
 
-  walk_finds : (h : Handed) (name : ℕ) (next : Handed → ℕ → Did) → P h → ((now : Handed) (ino : ℕ) → P now → Q (next now ino)) → Q (finds h name next)
-  walk_finds h name next p goes = walk_named h _ _ (finding_count h.inodes _) p (λ now ino q. k.lets_go ino (next now ino) (goes now ino q))
+  walk_finds : (h : Handed) (name : ℕ) (next : Handed → ℕ → Did) → P h → ((now : Handed) (ino : ℕ) → P now → Q (next now ino))
+      → Q (finds h name next)
+  walk_finds h name next p goes = walk_named h _ _ (finding_count h.inodes _) p
+      (λ now ino q. k.lets_go ino (next now ino) (goes now ino q))
 
   walk_made : (h : Handed) (answer : Made) (there : Handed → ℕ → Did) (new : Handed → ℕ → ℕ → List ℕ → Did) → P h
       → ((now : Handed) (ino : ℕ) → P now → Q (there now ino))
@@ -269,9 +296,11 @@ module _ {P : Handed → Type 0} {Q : Did → Type 0} {Few Known : ℕ → Type 
   walk_makes h name there new p one two =
       walk_named h _ (by_made there new) (making_count h.inodes _) p (λ now answer q. walk_made now answer there new q one two)
 
-  walk_writes : (h : Handed) (dir offset : ℕ) (bytes : List ℕ) (now : ℕ) (next : Handed → Did) → P h → ((l : Handed) → P l → Q (next l))
+  walk_writes : (h : Handed) (dir offset : ℕ) (bytes : List ℕ) (now : ℕ) (next : Handed → Did) → P h
+      → ((l : Handed) → P l → Q (next l))
       → Q (writes_entry h dir offset bytes now next)
-  walk_writes h dir offset bytes now next p goes = walk_named h (entry_written h.inodes dir offset bytes now) (λ l done. next l) refl p (λ l done q. goes l q)
+  walk_writes h dir offset bytes now next p goes = walk_named h (entry_written h.inodes dir offset bytes now)
+      (λ l done. next l) refl p (λ l done q. goes l q)
 
   walk_node : (h : Handed) (dir offset : ℕ) (name : List ℕ) (mode now : ℕ) (next : Handed → ℕ → Did) → P h
       → ((l : Handed) (ino : ℕ) → P l → Q (next l ino)) → Q (makes_node h dir offset name mode now next)
@@ -282,7 +311,8 @@ module _ {P : Handed → Type 0} {Q : Did → Type 0} {Few Known : ℕ → Type 
       goes (with_links m ino 1 now) ino (k.inodes m (with_links m ino 1 now).inodes refl r))))
 
   -- An inode is opened.
-  opened : (h : Handed) (ino : ℕ) (kind : FileKind) (fd entry : ℕ) → kind.pipe ≡ false → free_number h.u.files ≡ Some fd → free_entry h.files ≡ Some entry
+  opened : (h : Handed) (ino : ℕ) (kind : FileKind) (fd entry : ℕ) → kind.pipe ≡ false → free_number h.u.files ≡ Some fd
+      → free_entry h.files ≡ Some entry
       → P h → P (with_opened h ino kind fd entry)
   opened h ino kind fd entry plain number free p = by (is_console (node_at h ino) && (h.row.tty == 0))
     where
@@ -296,7 +326,8 @@ module _ {P : Handed → Type 0} {Q : Did → Type 0} {Few Known : ℕ → Type 
             u = with_number now.u fd (entry + 1);
             line = next.line;
           })
-      entered now number free p = k.console _ next.line (k.opened (with_inodes now (with_reference now.inodes ino)) ino kind fd entry plain number free
+      entered now number free p = k.console _ next.line (k.opened
+          (with_inodes now (with_reference now.inodes ino)) ino kind fd entry plain number free
           (k.inodes now (with_reference now.inodes ino) refl p))
 
       by : (b : Bool) → P (record next { row = cond b (record h.row { tty = 1 }) h.row })
@@ -309,7 +340,8 @@ module _ {P : Handed → Type 0} {Q : Did → Type 0} {Few Known : ℕ → Type 
       checks_so h (need ENFILE (free_entry h.files)) _ p (λ entry free.
       checks h (must ENXIO (can_open (node_at h ino))) _ p (λ can.
       k.done (with_opened h ino kind fd entry) fd
-      (opened h ino kind fd entry plain (need_some EMFILE (free_number h.u.files) fd number) (need_some ENFILE (free_entry h.files) entry free) p))))
+      (opened h ino kind fd entry plain (need_some EMFILE (free_number h.u.files) fd number)
+          (need_some ENFILE (free_entry h.files) entry free) p))))
 
   -- Bytes are read, and written.
   after_moved : {Memory : Type 0} (h : Handed) (entry : ℕ) (m : Moving Memory) → P h → P (with_moved h entry m)
@@ -337,11 +369,13 @@ module _ {P : Handed → Type 0} {Q : Did → Type 0} {Few Known : ℕ → Type 
   walk_reads_line h entry at count p =
       let reading : Reading = line_read h at count in
       walk_line (with_line_read h reading) entry at count reading.took
-      (k.stored (record h { line = reading.terminal }) reading.image (line_lengths h.line h.image at count) (k.console h reading.terminal p))
+      (k.stored (record h { line = reading.terminal }) reading.image (line_lengths h.line h.image at count)
+          (k.console h reading.terminal p))
 
   read_by : (h : Handed) (entry at count now : ℕ) (console : Bool) → P h
       → Q (cond console (reads_line (with_read h entry (read_of h entry at count now)) entry at count)
-      (gives_count (with_read h entry (read_of h entry at count now)) (read_of h entry at count now).done (read_of h entry at count now).error))
+      (gives_count (with_read h entry (read_of h entry at count now)) (read_of h entry at count now).done
+          (read_of h entry at count now).error))
   read_by h entry at count now console p = by console
     where
       m : Moving Image
@@ -350,13 +384,15 @@ module _ {P : Handed → Type 0} {Q : Did → Type 0} {Few Known : ℕ → Type 
       after : P (with_read h entry m)
       after = k.stored (with_moved h entry m) m.memory (read_lengths h entry at count now) (after_moved h entry m p)
 
-      by : (console : Bool) → Q (cond console (reads_line (with_read h entry m) entry at count) (gives_count (with_read h entry m) m.done m.error))
+      by : (console : Bool)
+          → Q (cond console (reads_line (with_read h entry m) entry at count) (gives_count (with_read h entry m) m.done m.error))
       by true = walk_reads_line (with_read h entry m) entry at count after
       by false = walk_count (with_read h entry m) m.done m.error after
 
   shown_by : (h : Handed) (image : Image) (at count : ℕ) (all : Bool) → Few count → P h
       → Q (record (cond all (returns (record h { line = after_shown h.line (readable image at count) }) count)
-      (fails (record h { line = after_shown h.line (readable image at count) }) EFAULT)) { items = sent 0 (shows h.line (readable image at count)) })
+      (fails (record h { line = after_shown h.line (readable image at count) }) EFAULT)) { items =
+          sent 0 (shows h.line (readable image at count)) })
   shown_by h image at count true few p =
       let after : Handed = record h { line = after_shown h.line (readable image at count) } in
       k.showing h.line image at count (returns after count) few (k.done after count (k.console h after.line p))
@@ -367,9 +403,11 @@ module _ {P : Handed → Type 0} {Q : Did → Type 0} {Few Known : ℕ → Type 
   write_by : (h : Handed) (entry at count now : ℕ) (console : Bool) → Few count → P h
       → Q (cond console (shows_bytes (with_moved h entry (write_of h entry at count now)) count (readable h.image at count))
       (gives_count (with_moved h entry (write_of h entry at count now))
-      (if is_device (node_at h (file_of h entry).ino).mode then count else (write_of h entry at count now).done) (write_of h entry at count now).error))
+      (if is_device (node_at h (file_of h entry).ino).mode then count else (write_of h entry at count now).done)
+          (write_of h entry at count now).error))
   write_by h entry at count now true few p =
-      shown_by (with_moved h entry (write_of h entry at count now)) h.image at count (length (readable h.image at count) == count) few
+      shown_by (with_moved h entry (write_of h entry at count now)) h.image at count
+          (length (readable h.image at count) == count) few
       (after_moved h entry (write_of h entry at count now) p)
   write_by h entry at count now false few p =
       walk_count (with_moved h entry (write_of h entry at count now)) _ _ (after_moved h entry (write_of h entry at count now) p)
@@ -383,7 +421,8 @@ module _ {P : Handed → Type 0} {Q : Did → Type 0} {Few Known : ℕ → Type 
   walk_status h ino at p =
       walk_stored h _ (bytes_lengths h.image h.image at (status_bytes ino (node_at h ino)) (same_lengths h.image)) p
 
-  walk_told : (h : Handed) (at : ℕ) (odd : Bool) → P h → Q (with_stored h (cond odd None (store_bytes h.image at (bytes_of h.line.modes))))
+  walk_told : (h : Handed) (at : ℕ) (odd : Bool) → P h → Q
+      (with_stored h (cond odd None (store_bytes h.image at (bytes_of h.line.modes))))
   walk_told h at true p = k.refused h EFAULT p
   walk_told h at false p = walk_stored h _ (bytes_lengths h.image h.image at (bytes_of h.line.modes) (same_lengths h.image)) p
 
@@ -398,7 +437,8 @@ module _ {P : Handed → Type 0} {Q : Did → Type 0} {Few Known : ℕ → Type 
   woken_if true chan d of q = k.woken chan d of q
   woken_if false chan d of q = q
 
-  walk_ends_read : (h : Handed) (ino entry at count : ℕ) (answer : Piped) → Known ino → P h → Q (ends_read h ino entry at count answer)
+  walk_ends_read : (h : Handed) (ino entry at count : ℕ) (answer : Piped) → Known ino → P h
+      → Q (ends_read h ino entry at count answer)
   walk_ends_read h ino entry at count (piped.Done n) known p = k.done h n p
   walk_ends_read h ino entry at count (piped.Wait left) known p =
       unless_due_walk h (asleep_in_pipe h (chan.Read ino) 3 (words_of entry at count 0)) p
@@ -406,18 +446,22 @@ module _ {P : Handed → Type 0} {Q : Did → Type 0} {Few Known : ℕ → Type 
   walk_ends_read h ino entry at count piped.Broken known p = k.refused h EPIPE p
   walk_ends_read h ino entry at count (piped.Error e) known p = k.refused h e p
 
-  walk_reads_pipe : (h : Handed) (entry at count now : ℕ) → (file_of h entry).kind.pipe ≡ true → P h → Q (reads_pipe h entry at count now)
+  walk_reads_pipe : (h : Handed) (entry at count now : ℕ) → (file_of h entry).kind.pipe ≡ true → P h
+      → Q (reads_pipe h entry at count now)
   walk_reads_pipe h entry at count now is p =
       let r : PipeRead = pipe_read h entry at count now in
       let q : Pipe = pipe_at h entry in
       let known : Known q.ino = (k.known h entry is p).1 in
-      let read : P (with_store h r.store) = k.inodes h (record h.inodes { store = r.store }) (reads_count h.inodes.store (ends_at h entry) q h.image at count now) p in
+      let read : P (with_store h r.store) = k.inodes h (record h.inodes { store = r.store })
+          (reads_count h.inodes.store (ends_at h entry) q h.image at count now) p in
       let stored : P (record (with_store h r.store) { image = r.image }) =
       k.stored (with_store h r.store) r.image (pipe_lengths h.inodes.store (ends_at h entry) q h.image at count now) read in
       woken_if (q.writer_waits && not r.pipe.writer_waits) (chan.Write q.ino) _ known
-      (walk_ends_read (with_pipe_read h r) q.ino entry at count r.answer known (k.marked (record (with_store h r.store) { image = r.image }) r.pipe stored))
+      (walk_ends_read (with_pipe_read h r) q.ino entry at count r.answer known
+          (k.marked (record (with_store h r.store) { image = r.image }) r.pipe stored))
 
-  walk_ends_write : (h : Handed) (ino entry at count : ℕ) (answer : Piped) → Known ino → P h → Q (ends_write h slot ino entry at count answer)
+  walk_ends_write : (h : Handed) (ino entry at count : ℕ) (answer : Piped) → Known ino → P h
+      → Q (ends_write h slot ino entry at count answer)
   walk_ends_write h ino entry at count (piped.Done n) known p = k.done h count p
   walk_ends_write h ino entry at count (piped.Wait left) known p =
       unless_due_walk h (asleep_in_pipe h (chan.Write ino) 4 (words_of entry at count left)) p
@@ -425,13 +469,15 @@ module _ {P : Handed → Type 0} {Q : Did → Type 0} {Few Known : ℕ → Type 
   walk_ends_write h ino entry at count piped.Broken known p = k.breaks h p
   walk_ends_write h ino entry at count (piped.Error e) known p = k.refused h e p
 
-  walk_writes_pipe : (h : Handed) (entry at count left now : ℕ) → (file_of h entry).kind.pipe ≡ true → P h → Q (writes_pipe h slot entry at count left now)
+  walk_writes_pipe : (h : Handed) (entry at count left now : ℕ) → (file_of h entry).kind.pipe ≡ true → P h
+      → Q (writes_pipe h slot entry at count left now)
   walk_writes_pipe h entry at count left now is p =
       let w : PipeWrite = pipe_write h entry at count left now in
       let q : Pipe = pipe_at h entry in
       let known : Known q.ino = (k.known h entry is p).1 in
       let written : P (with_store h w.store) =
-      k.inodes h (record h.inodes { store = w.store }) (writes_count h.inodes.store (ends_at h entry) q h.image ((at + (count - left)) % 65536) left now) p in
+      k.inodes h (record h.inodes { store = w.store }) (writes_count h.inodes.store (ends_at h entry) q h.image
+          ((at + (count - left)) % 65536) left now) p in
       woken_if (q.reader_waits && not w.pipe.reader_waits) (chan.Read q.ino) _ known
       (walk_ends_write (with_pipe_write h w) q.ino entry at count w.answer known (k.marked (with_store h w.store) w.pipe written))
 
@@ -446,7 +492,8 @@ module _ {P : Handed → Type 0} {Q : Did → Type 0} {Few Known : ℕ → Type 
   roused h file true p = k.marked h (without_marks (pipe_of h.pipes file.ino)) p
   roused h file false p = p
 
-  without_end : (h : Handed) (ino : ℕ) (b c : Bool) → has_end h.files ino ≡ c → P h → P (cond (b && not c) (record h { pipes = without_pipe h.pipes ino }) h)
+  without_end : (h : Handed) (ino : ℕ) (b c : Bool) → has_end h.files ino ≡ c → P h
+      → P (cond (b && not c) (record h { pipes = without_pipe h.pipes ino }) h)
   without_end h ino true true e p = p
   without_end h ino true false e p = k.gone h ino e p
   without_end h ino false c e p = p
@@ -457,26 +504,33 @@ module _ {P : Handed → Type 0} {Q : Did → Type 0} {Few Known : ℕ → Type 
       k.woken (chan.Write ino) (after (Log (Wake (chan.Read ino)) ∷ []) d) (known refl) (k.woken (chan.Read ino) d (known refl) q)
   pipe_woken ino false d known q = q
 
-  pipe_after : (h : Handed) (file : OpenFile) (b : Bool) → (cond b (record h { pipes = with_pipe h.pipes (without_marks (pipe_of h.pipes file.ino)) }) h).files ≡ h.files
+  pipe_after : (h : Handed) (file : OpenFile) (b : Bool) →
+      (cond b (record h { pipes = with_pipe h.pipes (without_marks (pipe_of h.pipes file.ino)) }) h).files ≡ h.files
   pipe_after h file true = refl
   pipe_after h file false = refl
 
-  walk_released : (h : Handed) (a b : ℕ) (told : Closed) → ((file : OpenFile) → (told ≡ Still file) ⊎ (told ≡ Last file) → file.kind.pipe ≡ true → Known file.ino)
+  walk_released : (h : Handed) (a b : ℕ) (told : Closed) → ((file : OpenFile) → (told ≡ Still file) ⊎ (told ≡ Last file)
+      → file.kind.pipe ≡ true → Known file.ino)
       → P h → Q (record { answer = Ret a b; state = (released h told).state; items = (released h told).items })
   walk_released h a b (Still file) known p =
       subst (λ items. Q (record { answer = Ret a b; state = with_roused h file; items = items })) (append-nil (pipe_roused file))
-      (pipe_woken file.ino file.kind.pipe (record { answer = Ret a b; state = with_roused h file; items = [] }) (known file (inl refl))
+      (pipe_woken file.ino file.kind.pipe (record { answer = Ret a b; state = with_roused h file; items = [] })
+          (known file (inl refl))
       (k.wakes (with_roused h file) a b false (roused h file file.kind.pipe p)))
   walk_released h a b (Last file) known p =
       let rest : Handed = with_gone (with_roused h file) file in
       let left : Handed = (released h (Last file)).state in
-      let here : P rest = without_end (with_roused h file) file.ino file.kind.pipe (has_end (with_roused h file).files file.ino) refl (roused h file file.kind.pipe p) in
-      pipe_woken file.ino file.kind.pipe (record { answer = Ret a b; state = left; items = console_closed rest file }) (known file (inr refl))
+      let here : P rest = without_end (with_roused h file) file.ino file.kind.pipe
+          (has_end (with_roused h file).files file.ino) refl (roused h file file.kind.pipe p) in
+      pipe_woken file.ino file.kind.pipe (record { answer = Ret a b; state = left; items = console_closed rest file })
+          (known file (inr refl))
       (k.wakes left a b (is_closed_by rest file)
-      (k.inodes (with_closed rest file) left.inodes (put_back_count rest.inodes file.ino) (k.console rest (with_closed rest file).line here)))
+      (k.inodes (with_closed rest file) left.inodes (put_back_count rest.inodes file.ino)
+          (k.console rest (with_closed rest file).line here)))
 
   -- The file of which a number tells has the inode and the kind of its entry's.
-  told_known : (h : Handed) (fd : ℕ) (file : OpenFile) → P h → (told_by h fd ≡ Still file) ⊎ (told_by h fd ≡ Last file) → file.kind.pipe ≡ true → Known file.ino
+  told_known : (h : Handed) (fd : ℕ) (file : OpenFile) → P h → (told_by h fd ≡ Still file) ⊎ (told_by h fd ≡ Last file)
+      → file.kind.pipe ≡ true → Known file.ino
   told_known h fd file p is piped = by (here.count == 1) is
     where
       here : OpenFile
@@ -487,7 +541,8 @@ module _ {P : Handed → Type 0} {Q : Did → Type 0} {Few Known : ℕ → Type 
           let pipe : here.kind.pipe ≡ true = ap (λ (x : OpenFile). x.kind.pipe) same ∙ piped in
           subst Known (ap (λ (x : OpenFile). x.ino) same) (k.known h (entry_of h.u.files fd) pipe p).0
 
-      by : (b : Bool) → (cond b (Last (with_fewer here)) (Still (with_fewer here)) ≡ Still file) ⊎ (cond b (Last (with_fewer here)) (Still (with_fewer here)) ≡ Last file)
+      by : (b : Bool) → (cond b (Last (with_fewer here)) (Still (with_fewer here)) ≡ Still file) ⊎
+          (cond b (Last (with_fewer here)) (Still (with_fewer here)) ≡ Last file)
           → Known file.ino
       by true (inl e) = absurd (cc e)
       by true (inr e) = as_here (cc e)
@@ -496,7 +551,8 @@ module _ {P : Handed → Type 0} {Q : Did → Type 0} {Few Known : ℕ → Type 
 
   pub walk_closes : (h : Handed) (fd a b : ℕ) → 0 < slice_index h.u.files fd → P h
       → Q (record { answer = Ret a b; state = (closes h fd).state; items = (closes h fd).items })
-  walk_closes h fd a b named p = walk_released (dropped h fd) a b (told_by h fd) (λ file told. told_known h fd file p told) (k.dropped h fd named p)
+  walk_closes h fd a b named p = walk_released (dropped h fd) a b (told_by h fd) (λ file told. told_known h fd file p told)
+      (k.dropped h fd named p)
 
   -- The rows: 3, read
   pub walk_read : (h : Handed) (at count now : ℕ) → P h → Q (read_file_of h at count now)
@@ -520,7 +576,8 @@ module _ {P : Handed → Type 0} {Q : Did → Type 0} {Few Known : ℕ → Type 
   pub walk_open : (h : Handed) (name mode : ℕ) → P h → Q (open_file h name mode)
   walk_open h name mode p =
       walk_finds h name (λ l ino. opens_named l ino mode) p (λ l ino q.
-      checks l (last_failure (open_tests l.marks ino (node_at l ino) (user_of l.u) mode)) _ q (λ passed. walk_opens l ino _ refl q))
+      checks l (last_failure (open_tests l.marks ino (node_at l ino) (user_of l.u) mode)) _ q
+          (λ passed. walk_opens l ino _ refl q))
 
   -- 6, close
   pub walk_close : (h : Handed) → P h → Q (close_file h)
@@ -533,7 +590,8 @@ module _ {P : Handed → Type 0} {Q : Did → Type 0} {Few Known : ℕ → Type 
   again h ino now p =
       checks h (access h.marks ino (node_at h ino) (user_of h.u) Write) _ p (λ may.
       checks h (must EISDIR (not (is_directory (node_at h ino).mode))) _ p (λ file.
-      walk_opens (with_no_blocks h ino now) ino _ refl (k.inodes h (with_no_blocks h ino now).inodes (truncated_count h.inodes ino now) p)))
+      walk_opens (with_no_blocks h ino now) ino _ refl (k.inodes h (with_no_blocks h ino now).inodes
+          (truncated_count h.inodes ino now) p)))
 
   pub walk_creat : (h : Handed) (name mode now : ℕ) → P h → Q (creat_file h name mode now)
   walk_creat h name mode now p =
@@ -546,7 +604,8 @@ module _ {P : Handed → Type 0} {Q : Did → Type 0} {Few Known : ℕ → Type 
 
   entered : (h : Handed) (ino now dir offset : ℕ) (name : List ℕ) → P h → Q (enters_again ino now h dir offset name)
   entered h ino now dir offset name p =
-      walk_writes h dir offset _ now (λ l. is_done (with_links l ino ((node_at l ino).nlink + 1) now)) p (λ l q. linked l ino _ now q)
+      walk_writes h dir offset _ now (λ l. is_done (with_links l ino ((node_at l ino).nlink + 1) now)) p
+          (λ l q. linked l ino _ now q)
 
   pub walk_link : (h : Handed) (name new now : ℕ) → P h → Q (link_file h name new now)
   walk_link h name new now p =
@@ -560,15 +619,18 @@ module _ {P : Handed → Type 0} {Q : Did → Type 0} {Few Known : ℕ → Type 
   emptied : (h : Handed) (dir offset ino now : ℕ) → P h → Q (empties now h dir offset ino)
   emptied h dir offset ino now p =
       checks h (must EPERM (may_link h ino)) _ p (λ may.
-      walk_writes h dir offset (0 ∷ 0 ∷ []) now (λ l. is_done (with_links l ino ((node_at l ino).nlink - 1) now)) p (λ l q. linked l ino _ now q))
+      walk_writes h dir offset (0 ∷ 0 ∷ []) now (λ l. is_done (with_links l ino ((node_at l ino).nlink - 1) now)) p
+          (λ l q. linked l ino _ now q))
 
   removed : (h : Handed) (now : ℕ) (entry : ℕ × ℕ × ℕ) → P h → Q (removes now h entry)
   removed h now (dir, offset, ino) p =
-      k.lets_go ino (until_end dir (empties now h dir offset ino)) (k.lets_go dir (empties now h dir offset ino) (emptied h dir offset ino now p))
+      k.lets_go ino (until_end dir (empties now h dir offset ino))
+          (k.lets_go dir (empties now h dir offset ino) (emptied h dir offset ino now p))
 
   pub walk_unlink : (h : Handed) (name now : ℕ) → P h → Q (unlink_file h name now)
   walk_unlink h name now p =
-      walk_named h (remove_in h.inodes h.marks (user_of h.u) h.u.dir (name_at h.image name)) (removes now) (removing_count h.inodes _) p (λ l entry q. removed l now entry q)
+      walk_named h (remove_in h.inodes h.marks (user_of h.u) h.u.dir (name_at h.image name)) (removes now)
+          (removing_count h.inodes _) p (λ l entry q. removed l now entry q)
 
   -- 12, chdir
   pub walk_chdir : (h : Handed) (name : ℕ) → P h → Q (chdir_to h name)
@@ -583,9 +645,11 @@ module _ {P : Handed → Type 0} {Q : Did → Type 0} {Few Known : ℕ → Type 
   pub walk_mknod : (h : Handed) (name mode device now : ℕ) → P h → Q (mknod_at h name mode device now)
   walk_mknod h name mode device now p =
       checks h (must EPERM (is_super_user h)) _ p (λ may.
-      walk_makes h name (λ l there. fails l EEXIST) (makes_any mode device now) p (λ l there q. k.refused l EEXIST q) (λ l dir offset bytes q.
+      walk_makes h name (λ l there. fails l EEXIST) (makes_any mode device now) p (λ l there q. k.refused l EEXIST q)
+          (λ l dir offset bytes q.
       walk_node l dir offset bytes _ now (λ m ino. is_done (with_device m ino device)) q (λ m ino r.
-      k.done (with_device m ino device) (r0 m) (k.inodes m (with_device m ino device).inodes (device_count m.inodes ino device) r))))
+      k.done (with_device m ino device) (r0 m) (k.inodes m (with_device m ino device).inodes
+          (device_count m.inodes ino device) r))))
 
   -- 15, chmod, and 16, chown
   changed : (h : Handed) (ino : ℕ) (node : Node) → P h → Q (is_done (with_changed h ino node))
@@ -593,12 +657,14 @@ module _ {P : Handed → Type 0} {Q : Did → Type 0} {Few Known : ℕ → Type 
 
   pub walk_chmod : (h : Handed) (name mode now : ℕ) → P h → Q (chmod_to h name mode now)
   walk_chmod h name mode now p =
-      walk_finds h name (changes_mode mode now) p (λ l ino q. checks l (must EPERM (is_owner l ino)) _ q (λ may. changed l ino _ q))
+      walk_finds h name (changes_mode mode now) p (λ l ino q. checks l (must EPERM (is_owner l ino)) _ q
+          (λ may. changed l ino _ q))
 
   pub walk_chown : (h : Handed) (name owner now : ℕ) → P h → Q (chown_to h name owner now)
   walk_chown h name owner now p =
       checks h (must EPERM (is_super_user h)) _ p (λ may.
-      walk_finds h name _ p (λ l ino q. changed l ino (record (node_at l ino) { uid = owner % 256; gid = owner / 256; modtime = now }) q))
+      walk_finds h name _ p
+          (λ l ino q. changed l ino (record (node_at l ino) { uid = owner % 256; gid = owner / 256; modtime = now }) q))
 
   -- 18, stat, and 28, fstat
   pub walk_stat : (h : Handed) (name at : ℕ) → P h → Q (stat_file h name at)
@@ -626,7 +692,8 @@ module _ {P : Handed → Type 0} {Q : Did → Type 0} {Few Known : ℕ → Type 
 
   -- 36, sync
   pub walk_sync : (h : Handed) (now : ℕ) → P h → Q (sync_all h now)
-  walk_sync h now p = k.done (sync_all h now).state (r0 h) (k.inodes h (sync_all h now).state.inodes (synced_when h.inodes.store.mark h.inodes.store _ refl) p)
+  walk_sync h now p = k.done (sync_all h now).state (r0 h)
+      (k.inodes h (sync_all h now).state.inodes (synced_when h.inodes.store.mark h.inodes.store _ refl) p)
 
   -- 41, dup
   pub walk_dup : (h : Handed) → P h → Q (dup_file h)
@@ -634,7 +701,8 @@ module _ {P : Handed → Type 0} {Q : Did → Type 0} {Few Known : ℕ → Type 
       checks_so h (open_entry h (r0 h)) _ p (λ entry is.
       checks_so h (need EMFILE (free_number h.u.files)) _ p (λ fd number.
       let named = entry_named h (r0 h) entry is in
-      subst (λ e. Q (returns (record h { files = with_change h.files e (with_more 1); u = with_number h.u fd (e + 1) }) fd)) (sym named.1)
+      subst (λ e. Q (returns (record h { files = with_change h.files e (with_more 1); u = with_number h.u fd (e + 1) }) fd))
+          (sym named.1)
       (k.done _ fd (k.given h (r0 h) fd named.0 (need_some EMFILE (free_number h.u.files) fd number) p))))
 
   -- 42, pipe
@@ -645,8 +713,10 @@ module _ {P : Handed → Type 0} {Q : Did → Type 0} {Few Known : ℕ → Type 
       let first : Handed = with_end h ino reading_end fd entry in
       checks_so h (need EMFILE (free_number first.u.files)) _ p (λ next_fd next_number.
       checks_so h (need ENFILE (free_entry first.files)) _ p (λ next_entry next_free.
-      record_of next_fd (k.ends h ino fd entry next_fd next_entry above within (need_some EMFILE (free_number h.u.files) fd number) (need_some ENFILE (free_entry h.files) entry free)
-      (need_some EMFILE (free_number first.u.files) next_fd next_number) (need_some ENFILE (free_entry first.files) next_entry next_free) p)))))
+      record_of next_fd (k.ends h ino fd entry next_fd next_entry above within
+          (need_some EMFILE (free_number h.u.files) fd number) (need_some ENFILE (free_entry h.files) entry free)
+      (need_some EMFILE (free_number first.u.files) next_fd next_number)
+          (need_some ENFILE (free_entry first.files) next_entry next_free) p)))))
     where
       record_of : {m : Handed} {fd : ℕ} (next_fd : ℕ) → P m → Q (record { answer = Ret fd next_fd; state = m; items = [] })
       record_of {m} {fd} next_fd q = k.wakes m fd next_fd false q
@@ -654,7 +724,8 @@ module _ {P : Handed → Type 0} {Q : Did → Type 0} {Few Known : ℕ → Type 
   pub walk_pipe : (h : Handed) (now : ℕ) → P h → Q (pipe_new h now)
   walk_pipe h now p =
       let found : Finding ℕ = new_in h.inodes IALLOC (record { uid = 0; gid = 0 }) now in
-      let same : found.inodes.store.count ≡ h.inodes.store.count = numbered_count h.inodes IALLOC (record { uid = 0; gid = 0 }) now _ _ in
+      let same : found.inodes.store.count ≡ h.inodes.store.count =
+          numbered_count h.inodes IALLOC (record { uid = 0; gid = 0 }) now _ _ in
       let there : P (with_inodes h found.inodes) = k.inodes h found.inodes same p in
       checks_so (with_inodes h found.inodes) found.answer _ there (λ ino is.
       let within = new_within h.inodes IALLOC (record { uid = 0; gid = 0 }) now ino is in
@@ -664,8 +735,10 @@ module _ {P : Handed → Type 0} {Q : Did → Type 0} {Few Known : ℕ → Type 
   -- A call in which a process slept goes on: in a pipe where it has an end of one.
   goes_by : (h : Handed) (now : ℕ) (b c : Bool) → (h.u.pending == 1) ≡ b → (h.u.pending == 3) ≡ c
       → ((h.u.pending == 1) ≡ false → (file_of h (slice_index h.u.call 0)).kind.pipe ≡ true) → P (without_pending h)
-      → Q (cond b (resume_read h) (cond c (reads_pipe (without_pending h) (slice_index h.u.call 0) (slice_index h.u.call 1) (slice_index h.u.call 2) now)
-      (writes_pipe (without_pending h) slot (slice_index h.u.call 0) (slice_index h.u.call 1) (slice_index h.u.call 2) (slice_index h.u.call 3) now)))
+      → Q (cond b (resume_read h)
+          (cond c (reads_pipe (without_pending h) (slice_index h.u.call 0) (slice_index h.u.call 1) (slice_index h.u.call 2) now)
+      (writes_pipe (without_pending h) slot (slice_index h.u.call 0) (slice_index h.u.call 1) (slice_index h.u.call 2)
+          (slice_index h.u.call 3) now)))
   goes_by h now true c e f has p = walk_reads_line (without_pending h) _ _ _ p
   goes_by h now false true e f has p = walk_reads_pipe (without_pending h) _ _ _ now (has e) p
   goes_by h now false false e f has p = walk_writes_pipe (without_pending h) _ _ _ _ now (has e) p
