@@ -14,8 +14,9 @@ use Rattle.sys_files.specs.Handed.{Handed, handed}
 use Rattle.sys_files.specs.Sound.{IsKept}
 use Rattle.sys_files.specs.Does.{Does}
 use Rattle.sys_files.proofs.Bounds.{Fits, HasAll, never_filled}
-use Rattle.sys_files.proofs.Steady.{Steady, Confined, close_all_fits, close_all_steady}
+use Rattle.sys_files.proofs.Steady.{Steady, Confined, close_all_fits, close_all_steady, core_steady}
 use Rattle.sys_files.specs.Did.{Did}
+use Rattle.sys_files.specs.Core.{core_file}
 use Rattle.sys_files.specs.Descriptors.{close_all}
 use Rattle.sys_files.specs.declared.files.Files.{Files}
 use Rattle.sys_procs.proofs.Alive.{area_here}
@@ -25,9 +26,10 @@ use Rattle.unix_core.specs.declared.world.World.{World}
 use Rattle.abstract_unix.specs.Unix.{process_of}
 use Rattle.abstract_unix.specs.Calls.{handed_of, with_handed}
 use Rattle.unix_core.specs.Parts.{unix_of, IsReady, IsReadyToShow}
-use Rattle.unix_core.proofs.WorldLemmas.{ready_alive, handed_is, IsAfter, unix_after, ready_after, ready_to_show}
-use Rattle.abstract_unix.proofs.PendingRows.{Pends}
-use Rattle.unix_core.proofs.LoanLemmas.{area_now, area_other, area_core, image_now, image_other, image_core, row_now, row_other}
+use Rattle.unix_core.proofs.WorldLemmas.{ready_alive, told_here, handed_is, IsAfter, unix_after, ready_after, ready_to_show}
+use Rattle.abstract_unix.specs.Whole.{told_of}
+use Rattle.abstract_unix.proofs.PendingRows.{Pends, core_pends}
+use Rattle.unix_core.proofs.LoanLemmas.{area_now, area_other, area_core, area_back, area_alone, image_now, image_other, image_core, row_now, row_other, row_back}
 
 -- the parts that the process in a slot is handed
 abbrev pub given : World → ℕ → Handed
@@ -189,3 +191,45 @@ closing h = record { answer = Ret 0 0; state = (close_all h).state; items = (clo
 
 pub closing_confined : (slot : ℕ) (h : Handed) → Confined slot h (closing h)
 closing_confined slot h = record { fits = close_all_fits slot h; steady = close_all_steady h }
+
+-- The file `core` of the process has been written, by which nothing of the process has changed.
+module _ (w : World) (s : ℕ) {u : UArea} {m : Image} (lent : IsLent w s u (row_at w.procs.rows s) m) (none : (given w s).u.pending ≡ 0) (now : ℕ)
+    (f : Files) (k : Kept) (same : k ≡ w.procs.images)
+    (state : handed f u (row_at w.procs.rows s) m ≡ (core_file (handed w.files u (row_at w.procs.rows s) m) now).state)
+    (keeps : IsKept (handed w.files u (row_at w.procs.rows s) m) (handed f u (row_at w.procs.rows s) m)) where
+  abbrev dumped : World
+  dumped = record w { files = f; procs = record w.procs { images = k } }
+
+  its_numbers : length u.files ≡ 15
+  its_numbers =
+      ap (λ (v : UArea). length v.files) (area_is w s u lent.ready lent.area)
+      ∙ lent.ready.good.owed.fifteen s (told_of (process_of (unix_of w) s)) (told_here w s lent.ready)
+
+  same_images : k ≡ with_area (with_image w.procs.images s m) s u
+  same_images =
+      let has = lent.ready.good.running s lent.ready.runs lent.ready.user in
+      same ∙ sym (area_back w.procs.images s has) ∙ ap (with_area w.procs.images s) (sym lent.area) ∙ area_alone w.procs.images s u
+      ∙ ap (λ (x : Image). with_area (with_image w.procs.images s x) s u) (sym lent.image)
+
+  dump_leaves : Leaves w dumped s u (row_at w.procs.rows s) m (core_file (given w s) now).state
+  dump_leaves =
+      let parts : handed w.files u (row_at w.procs.rows s) m ≡ given w s = lent_parts w s lent in
+      record {
+        kept = subst (λ h. IsKept h (handed f u (row_at w.procs.rows s) m)) parts keeps;
+        is = state ∙ ap (λ h. (core_file h now).state) parts;
+        steady = core_steady (given w s) now;
+        pends = core_pends (given w s) now none;
+        rooms = (refl, refl);
+        fifteen = its_numbers;
+        rows = sym (row_back w.procs.rows s);
+        images = same_images;
+        table = refl;
+        switches = refl;
+        core = refl;
+      }
+
+  pub dumped_unix : unix_of dumped ≡ with_handed (unix_of w) s (core_file (given w s) now).state
+  dumped_unix = leaves_unix w dumped s u (row_at w.procs.rows s) m _ lent.ready dump_leaves
+
+  pub dumped_ready : IsReady dumped s
+  dumped_ready = leaves_ready w dumped s u (row_at w.procs.rows s) m _ lent.ready dump_leaves lent.form
