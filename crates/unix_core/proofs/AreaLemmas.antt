@@ -1,11 +1,14 @@
 -- The u area of the process that runs is another one, which names the same files and the same directory.
-use Rattle.std.proofs.Common.{◌≡◌, ◌<◌, ℕ, List, refl}
+use Rattle.std.proofs.Common.{◌≡◌, ◌<◌, ℕ, List, true, refl}
+use Rattle.std.proofs.lemmas.Bool.{eqb-true}
 use Rattle.u_area.specs.declared.area.UArea.{UArea}
 use Rattle.u_area.proofs.AreaLemmas.{one_area}
 use Rattle.image_keep.specs.Kept.{with_area, area_of}
 use Rattle.sys_procs.proofs.Alive.{area_here}
 use Rattle.unix_core.specs.declared.world.World.{World}
+use Rattle.sys_procs.specs.Process.{Process}
 use Rattle.abstract_unix.specs.Unix.{process_of, with_process}
+use Rattle.abstract_unix.specs.Turn.{is_user}
 use Rattle.unix_core.specs.Parts.{unix_of, board_in, IsReady}
 use Rattle.unix_core.proofs.WorldLemmas.{ready_alive}
 use Rattle.unix_core.proofs.PutLemmas.{IsLikeArea, with_images, unix_put, board_put, good_put}
@@ -31,3 +34,7 @@ module _ (w : World) (s : ℕ) (ready : IsReady w s) (u : UArea) where
 
   pub area_ready : IsLikeArea u (process_of (unix_of w) s).u → IsReady with_its_area s
   area_ready like = record { good = good_put w s u (ready_alive w s ready) like ready.good; runs = ready.runs; user = ready.user }
+
+-- who is in user mode goes on with no call
+pub none_pending : (p : Process) → is_user p ≡ true → p.u.pending ≡ 0
+none_pending p user = eqb-true p.u.pending 0 user
