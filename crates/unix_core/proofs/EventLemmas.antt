@@ -47,7 +47,7 @@ called_like t false chan = tables_same t t refl
 pub called_agree : (v : Processes) (k : Kept) (t u : Table) (called : Bool) (chan : Chan) → u ≡ called_table called chan t → IsTable u → Agree v t k → Agree v u k
 called_agree v k t u called chan is good a = agree_like v t u k a good (subst (AreLike t) (sym is) (called_like t called chan))
 
-called_running : (t : Table) (called : Bool) (chan : Chan) → (called_table called chan t).running ≡ t.running
+pub called_running : (t : Table) (called : Bool) (chan : Chan) → (called_table called chan t).running ≡ t.running
 called_running t true chan = (wakeup_kept t chan).running
 called_running t false chan = refl
 
