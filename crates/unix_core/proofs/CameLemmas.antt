@@ -142,28 +142,24 @@ pub record IsStill (w : World) (c : Comes) : Type 0 where
   pub effects : AreTamed (λ (x : its.World). x.switches ≡ w.procs.switches) c.effects
   pub switches : (came w.procs c).stop ≡ None → c.state.switches ≡ w.procs.switches
 
--- One that leaves, unless it is stopped, to each process its files and its directory, and by which all who wait can go on.
+-- One that leaves, unless it is stopped, to each process its files and its directory.
 pub record IsTame (w : World) (c : Comes) : Type 0 where
   pub still : IsStill w c
   pub like : (came w.procs c).stop ≡ None → IsLike w c.state
-  pub waits : (came w.procs c).stop ≡ None → CanGoOn (with_world (unix_of w) c.state)
 
 -- one that shows nothing
-pub tame_comes : (w : World) (x : its.World) (a : Answer) → x.switches ≡ w.procs.switches → IsLike w x → CanGoOn (with_world (unix_of w) x)
-    → IsTame w (comes x a)
-tame_comes w x a switches like waits =
-    record { still = record { effects = tt; switches = λ none. switches }; like = λ none. like; waits = λ none. waits }
+pub tame_comes : (w : World) (x : its.World) (a : Answer) → x.switches ≡ w.procs.switches → IsLike w x → IsTame w (comes x a)
+tame_comes w x a switches like = record { still = record { effects = tt; switches = λ none. switches }; like = λ none. like }
 
 pub tame_if : (w : World) (b : Bool) (x y : Comes) → IsTame w x → IsTame w y → IsTame w (if b then x else y)
 tame_if w true x y f g = f
 tame_if w false x y f g = g
 
 -- one that only shows
-pub mild_tame : (w : World) (c : Comes) → IsMild (given w) c → CanGoOn (with_world (unix_of w) c.state) → IsTame w c
-mild_tame w c mild waits = record {
+pub mild_tame : (w : World) (c : Comes) → IsMild (given w) c → IsTame w c
+mild_tame w c mild = record {
   still = record { effects = tamed_mild _ c.effects mild.effects; switches = λ none. mild.switches };
   like = λ none. record { refs = λ ino. (λ i. slice_index (mild.inodes i).references ino + shared (sym mild.texts i) ino); told = mild.told };
-  waits = λ none. waits;
 }
 
 -- which never stops
@@ -251,10 +247,10 @@ module _ (w now : World) (c : Comes) (still : IsStill w c) (stays : StaysBeside 
 
 pub gone_ready : (w now : World) (s : ℕ) (c : Comes) → IsTame w c → StaysBeside w now → {start end : Taken} → HasLeft w.procs now.procs now.files.tree.nodes start end c
     → (came w.procs c).stop ≡ None → IsReady w s → AreProcs now.procs
-    → IsMarked now.procs now.files.tree.marks → IsReady now s
-gone_ready w now s c is stays left none ready agree marks =
+    → CanGoOn (with_world (unix_of w) c.state) → IsMarked now.procs now.files.tree.marks → IsReady now s
+gone_ready w now s c is stays left none ready agree waits marks =
     moved_ready w now s ready c.state agree (left.state ∙ ap (λ o. left_by o c.state) none) (is.like none) (gone_moved w now c is.still stays left none) stays
-    (is.waits none) marks
+    waits marks
 
 -- The same of a call of the table, by its answer.
 module _ (w now : World) (s : ℕ) (c : Comes) (is : IsTame w c) (stays : StaysBeside w now) {r : Result Answer PanicKind} {start end : Taken}
@@ -283,8 +279,8 @@ module _ (w now : World) (s : ℕ) (c : Comes) (is : IsTame w c) (stays : StaysB
     pub call_unix : unix_of now ≡ with_world (unix_of w) c.state
     call_unix = gone_unix w now c is.still stays left went.0
 
-    pub call_ready : IsReady w s → AreProcs now.procs → IsMarked now.procs now.files.tree.marks → IsReady now s
-    call_ready ready agree marks = gone_ready w now s c is stays left went.0 ready agree marks
+    pub call_ready : IsReady w s → AreProcs now.procs → CanGoOn (with_world (unix_of w) c.state) → IsMarked now.procs now.files.tree.marks → IsReady now s
+    call_ready ready agree waits marks = gone_ready w now s c is stays left went.0 ready agree waits marks
 
     -- the marks, where it has left them and the texts' files
     pub call_marked : now.files.tree.marks ≡ w.files.tree.marks → IsMarked w.procs w.files.tree.marks → marks_of c.state.texts ≡ marks_of (unix_of w).texts
