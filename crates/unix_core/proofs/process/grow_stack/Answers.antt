@@ -70,3 +70,6 @@ returns-in-Err-clause-items g c =
     let w : World = c.args.world.now in
     growth_cut w (after w c.grow-grown.new.tree c.grow-grown.new.p) c.args.s c.args.sp c.requires c.see_nodes.ensures
     (beside w c.grow-grown.new.tree c.grow-grown.new.p) c.grow-grown.ensures.does c.in-Err.kind c.in-Err.is
+
+pub see_covered-requires : goal.see_covered-requires
+see_covered-requires g c = c.grow-grown.ensures.agree
