@@ -1,5 +1,5 @@
 //! A signal that is due comes to its process: signal(II), core(V); `psig` and `core` in Lions' Commentary, `sig.c`.
-ghost use Rattle.std.specs.Prelude.{◌≡◌, ◌≢◌, ◌%◌, Some, true, false};
+ghost use Rattle.std.specs.Prelude.{◌≡◌, ◌≢◌, ◌%◌, if◌then◌else◌, Some, true, false};
 ghost use Rattle.v6_base.specs.Trace.{Taken, Took};
 ghost use Rattle.fs_laws.specs.Rest.{SameRest};
 ghost use Rattle.pick_rules.specs.Board.{Board};
@@ -8,11 +8,12 @@ ghost use Rattle.proc_tab.specs.Processes.{IsUsed};
 ghost use Rattle.image_keep.specs.Kept.{HasImage, area_of, image_of, with_area, with_image};
 ghost use Rattle.sig_core.specs.Signals.{due, is_signal, handler_of};
 ghost use Rattle.sig_core.specs.Delivery.{makes_core, delivery};
-ghost use Rattle.sys_procs.specs.Handed.{process_here};
+ghost use Rattle.sys_procs.specs.Handed.{IsAlive, process_here};
 ghost use Rattle.abstract_unix.specs.Unix.{process_of};
 ghost use Rattle.abstract_unix.specs.Steps.{Steps};
 ghost use Rattle.abstract_unix.specs.Calls.{exits_with};
-ghost use Rattle.abstract_unix.specs.Delivery.{heeds, catches, ends_by, delivers, delivers_due, ends_turn};
+ghost use Rattle.abstract_unix.specs.Turn.{is_user};
+ghost use Rattle.abstract_unix.specs.Delivery.{heeds, catches, dumped, ends_by, delivers, delivers_due, ends_turn};
 ghost use Rattle.unix_core.specs.Parts.{unix_of, board_in, IsGood, IsReady, HasCome, IsCovered, is_over};
 
 use crate::files::{see_covered, see_kept, see_nodes, see_table};
@@ -31,7 +32,7 @@ const DUMPED: u16 = 0o200;
 /// The signal that is due to a process. Most have none that waits: then nobody looks at the u area.
 fn due_to(procs: &Procs, s: Slot) -> Option<u8>
     requires used { IsUsed procs.now.rows s }
-    requires image { HasImage procs.now.images s }
+    requires alive { IsAlive procs.now s }
     ensures { result ≡ due (process_here procs.now s).row (process_here procs.now s).u }
 {
     let row = procs.rows.row(s);
@@ -48,6 +49,7 @@ fn heed(world: &mut World, s: Slot)
     ensures board { board_in world.new ≡ board_in world.old }
     ensures ready { IsReady world.new s }
     ensures files { world.new.files ≡ world.old.files }
+    ensures images { world.new.procs.images ≡ world.old.procs.images }
 {
     let mut row = *world.procs.rows.row(s);
     row.sig = 0;
@@ -106,8 +108,9 @@ fn catch<T: Trace>(world: &mut World, s: Slot, sig: u8, trace: &mut T) -> Ending
 }
 
 /// Ends a process with a status: its files are closed, and it has ended.
-fn end_with<T: Trace>(world: &mut World, s: Slot, status: u16, trace: &mut T) -> Ending
-    requires { IsReady world.old s }
+pub(crate) fn end_with<T: Trace>(world: &mut World, s: Slot, status: u16, trace: &mut T) -> Ending
+    requires ready { IsReady world.old s }
+    requires user { is_user (process_of (unix_of world.old) s) ≡ true }
     ensures come { HasCome (board_in world.old) (exits_with (unix_of world.old) s status) result world.new }
     ensures good { is_over result ≡ false → IsGood world.new }
     ensures covered { is_over result ≡ true → IsCovered world.new }
@@ -130,10 +133,19 @@ fn end_with<T: Trace>(world: &mut World, s: Slot, status: u16, trace: &mut T) ->
     }
 }
 
+/// What the status of a process has for its file `core`.
+fn flag_of(whole: bool) -> u16
+    ensures { result ≡ (if whole then dumped else 0) }
+{
+    if whole { DUMPED } else { 0 }
+}
+
 /// Ends a process by a signal, which may leave the file `core`.
 fn end_by<T: Trace>(world: &mut World, s: Slot, sig: u8, core: bool, trace: &mut T) -> Ending
     requires ready { IsReady world.old s }
+    requires user { is_user (process_of (unix_of world.old) s) ≡ true }
     requires core { core ≡ makes_core sig }
+    requires signal { is_signal sig ≡ true }
     ensures come { HasCome (board_in world.old) (ends_by (unix_of world.old) s sig) result world.new }
     ensures items { Took (T.taken trace.old) (logged (board_in world.old) (ends_by (unix_of world.old) s sig).effects).items
         (T.taken trace.new) }
@@ -144,13 +156,18 @@ fn end_by<T: Trace>(world: &mut World, s: Slot, sig: u8, core: bool, trace: &mut
     ensures rest { SameRest world.old.files.tree.nodes.blocks world.new.files.tree.nodes.blocks }
 {
     let r0 = world.procs.images.area(s).r[0];
-    let dumped = if core && put_core(world, s) { DUMPED } else { 0 };
-    end_with(world, s, 256 * (r0 % 256) + u16::from(sig) + dumped, trace)
+    let status = 256 * (r0 % 256) + u16::from(sig);
+    if core {
+        let whole = put_core(world, s);
+        return end_with(world, s, status + flag_of(whole), trace);
+    }
+    end_with(world, s, status, trace)
 }
 
 /// Delivers a signal to a process.
 fn deliver_to<T: Trace>(world: &mut World, s: Slot, sig: u8, trace: &mut T) -> Ending
     requires ready { IsReady world.old s }
+    requires user { is_user (process_of (unix_of world.old) s) ≡ true }
     requires due { due (process_of (unix_of world.old) s).row (process_of (unix_of world.old) s).u ≡ Some sig }
     ensures come { HasCome (board_in world.old) (delivers (unix_of world.old) s sig) result world.new }
     ensures good { is_over result ≡ false → IsGood world.new }
@@ -173,7 +190,8 @@ fn deliver_to<T: Trace>(world: &mut World, s: Slot, sig: u8, trace: &mut T) -> E
 
 /// Delivers the signal that is due to the running process, where one is: at the end of a turn, and in a tick.
 pub(crate) fn deliver_due<T: Trace>(world: &mut World, s: Slot, trace: &mut T) -> Ending
-    requires { IsReady world.old s }
+    requires ready { IsReady world.old s }
+    requires user { is_user (process_of (unix_of world.old) s) ≡ true }
     ensures come { HasCome (board_in world.old) (delivers_due (unix_of world.old) s) result world.new }
     ensures good { is_over result ≡ false → IsGood world.new }
     ensures covered { is_over result ≡ true → IsCovered world.new }
@@ -199,6 +217,7 @@ pub(crate) fn deliver_after<T: Trace>(
     requires good { is_over ending ≡ false → IsGood world.old }
     requires covered { is_over ending ≡ true → IsCovered world.old }
     requires runs { is_over ending ≡ false → ending ≢ Ending.Ended → world.old.procs.table.running ≡ Some s }
+    requires user { ending ≡ Ending.Trapped → is_user (process_of (unix_of world.old) s) ≡ true }
     ensures good { is_over result ≡ false → IsGood world.new }
     ensures covered { is_over result ≡ true → IsCovered world.new }
     ensures runs { is_over result ≡ false → result ≢ Ending.Ended → world.new.procs.table.running ≡ Some s }
