@@ -17,6 +17,7 @@ use Rattle.fs_nodes.specs.FileSystem.{FileSystem}
 use Rattle.fs_tree.specs.Marks.{no_marks}
 use Rattle.fs_tree.specs.declared.marks.TheConstants.{INODE_NUMBERS}
 use Rattle.sys_procs.specs.TextTable.{marks_of}
+use Rattle.sys_files.specs.Pipes.{ArePipes}
 use Rattle.sys_files.specs.Sound.{is_of, numbers_of}
 use Rattle.proc_tab.specs.Processes.{first_processes, member_at}
 use Rattle.image_keep.specs.Kept.{Keeping, Nothing, Alive, Kept, Has, keeping, first_kept, with_keeping, area_in, clicks_of, text_of}
@@ -36,6 +37,7 @@ use Rattle.abstract_unix.specs.References.{is_text_of}
 use Rattle.abstract_unix.specs.Runs.{first_process, first_unix, system_with}
 use Rattle.unix_core.specs.Parts.{unix_of, system_at, first_held, IsGood, IsNew, IsKernel}
 use Rattle.abstract_unix.specs.Whole.{Told, told_of, told_in, names, stands, all_names, all_stand, refer, Owes}
+use Rattle.unix_core.proofs.GoingLemmas.{going_none}
 
 abbrev no_files : List (Option OpenFile)
 no_files = replicate 100 None
@@ -102,6 +104,19 @@ none_open entry = everywhere 100 None entry
 none_named : (entry : ℕ) → all_names first_told entry ≡ 0
 unfolding all_names
 none_named entry = slots_sum (names entry) refl ∙ count_none (λ number. number == entry + 1) 15 0 (ne_eqb 0 (entry + 1) (λ is. omega (arith, is)))
+
+no_pipes : ArePipes no_files []
+no_pipes = record {
+  there = λ entry file is pipe. (let none = none_open entry in absurd (cc (none, is)));
+  ended = λ i low. absurd (omega (arith, low));
+  once = λ i low. absurd (omega (arith, low));
+}
+
+-- nobody waits in a pipe
+nobody_waits : (s : ℕ) (p : Process) → get_or first_slots s None ≡ Some p → p.u.pending ≡ 0
+nobody_waits zero p is = absurd (cc is)
+nobody_waits (suc zero) p is = let same : first_process ≡ p = cc is in ap (λ (x : Process). x.u.pending) (sym same)
+nobody_waits (suc (suc s)) p is = absurd (let none : get_or first_slots (suc (suc s)) None ≡ None = everywhere 48 None s in cc (none, is))
 
 -- process 1 has fifteen numbers
 first_fifteen : (s : ℕ) (t : Told) → get_or first_told s None ≡ Some t → length t.files ≡ 15
@@ -220,7 +235,7 @@ nobody_out time = refl
 
 -- The world that a kernel begins with.
 module _ (fs : FileSystem) (core : ℕ) (referred : (ino : ℕ) → slice_index fs.references ino ≡ (if ino == 1 then 2 else 0))
-    (w : World) (nodes : w.files.tree.nodes ≡ fs) (marks : w.files.tree.marks ≡ no_marks) (table : w.files.table ≡ no_files) (line : w.files.line ≡ first_terminal)
+    (w : World) (nodes : w.files.tree.nodes ≡ fs) (marks : w.files.tree.marks ≡ no_marks) (table : w.files.table ≡ no_files) (pipes : w.files.pipes ≡ []) (line : w.files.line ≡ first_terminal)
     (rows : w.procs.rows ≡ first_processes) (slots : w.procs.table ≡ first_table fs.store.stamp) (good : IsTable w.procs.table)
     (images : w.procs.images ≡ first_images core) (switches : w.procs.switches ≡ 0)
     (entries : w.tape.entry_room ≡ 64) (bytes : w.tape.byte_room ≡ 524288) (clicks : w.core ≡ core) where
@@ -235,7 +250,7 @@ module _ (fs : FileSystem) (core : ℕ) (referred : (ino : ℕ) → slice_index 
     store = (nodes i).store;
     processes = processes_are i;
     files = table i;
-    pipes = [];
+    pipes = pipes i;
     texts = texts_are i;
     line = line i;
     clock = clock_of (slots i);
@@ -253,14 +268,16 @@ module _ (fs : FileSystem) (core : ℕ) (referred : (ino : ℕ) → slice_index 
   first_good : IsGood w
   first_good = record {
     agree = begun_agree;
-    owed = subst (λ texts. Owes w.files.tree.nodes.references w.files.table texts (told_in (unix_of w).processes)) (sym texts_are)
-        (subst (λ (files : List (Option OpenFile)). Owes w.files.tree.nodes.references files no_texts (told_in (unix_of w).processes)) (sym table)
-        (subst (Owes w.files.tree.nodes.references no_files no_texts) (sym (ap told_in processes_are ∙ told_is)) (record {
+    owed = subst (λ texts. Owes w.files.tree.nodes.references w.files.table w.files.pipes texts (told_in (unix_of w).processes)) (sym texts_are)
+        (subst (λ (files : List (Option OpenFile)). Owes w.files.tree.nodes.references files w.files.pipes no_texts (told_in (unix_of w).processes)) (sym table)
+        (subst (λ ps. Owes w.files.tree.nodes.references no_files ps no_texts (told_in (unix_of w).processes)) (sym pipes)
+        (subst (Owes w.files.tree.nodes.references no_files [] no_texts) (sym (ap told_in processes_are ∙ told_is)) (record {
           numbers = λ entry. ap numbers_of (none_open entry) ∙ sym (none_named entry);
           referred = λ ino. ap (λ (f : FileSystem). slice_index f.references ino) nodes ∙ referred ino ∙ sym (first_referred ino);
-          no_pipe = λ entry file is. (let none = none_open entry in absurd (cc (none, is)));
+          piped = no_pipes;
           fifteen = first_fifteen;
-        })));
+        }))));
+    pending = going_none (unix_of w) first_slots processes_are nobody_waits;
     marks = marks ∙ sym (ap marks_of texts_are ∙ marks_none);
     running = λ s runs above. absurd (let zero_ : Some 0 ≡ Some s = sym (ap (λ (t : Table). t.running) slots) ∙ runs in
         let same : 0 ≡ s = cc zero_ in omega (arith, same, above));

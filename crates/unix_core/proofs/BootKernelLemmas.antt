@@ -13,6 +13,7 @@ use Rattle.abstract_unix.specs.Turn.{pass_of, settled_after}
 use Rattle.abstract_unix.specs.Runs.{start_of, event_of, Switch, finished}
 use Rattle.unix_core.specs.Memory.{kept_in}
 use Rattle.unix_core.specs.Parts.{unix_of, board_in, system_at, phase_of, IsGood, IsUser, IsCovered, IsKernel}
+use Rattle.unix_core.proofs.GoingLemmas.{going_same}
 
 pub kernel_good : (at : Stage) (w : World) → phase_of at ≡ Started → IsKernel at w → IsGood w
 kernel_good stage.New w started kernel = (kernel.new refl).good
@@ -38,6 +39,7 @@ module _ (w : World) (word : ℕ) where
   switched_good good = record {
     agree = good.agree;
     owed = good.owed;
+    pending = going_same (unix_of w) (unix_of switched) refl refl good.pending;
     marks = good.marks;
     running = good.running;
     rooms = good.rooms;

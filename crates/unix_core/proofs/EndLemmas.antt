@@ -30,7 +30,7 @@ use Rattle.abstract_unix.specs.declared.ends.Ends.TheVariants.{AtEnd}
 use Rattle.abstract_unix.specs.Unix.{Unix, System, Started}
 use Rattle.unix_core.specs.Passing.{trapped, ended_table}
 use Rattle.abstract_unix.specs.Endings.{is_early}
-use Rattle.abstract_unix.specs.Turn.{Turn, end_effects, ending_at, settled, settled_after, turned_by, turned}
+use Rattle.abstract_unix.specs.Turn.{Turn, end_effects, ending_of, settled, settled_after, turned_by, turned}
 use Rattle.unix_core.specs.Parts.{unix_of, board_in, system_at, turn_end, phase_of, is_over, IsGood, IsCovered, IsKernel, Takes}
 use Rattle.unix_core.proofs.BootKernelLemmas.{stopped_kernel}
 use Rattle.unix_core.proofs.TableLemmas.{RunsImage, with_table, good_table}
@@ -96,17 +96,15 @@ module _ (v : Processes) (k : Kept) (t : Table) (s : ℕ) (agree : Agree v t k) 
   ended_agree u (ending.Slept pri chan) is good has =
       agree_like v (asleep t s pri chan) u k (lain_agree pri chan (has (λ e. cc e))) good (subst (AreLike (asleep t s pri chan)) (sym is) (lain_like t s pri chan))
   ended_agree u ending.Ended is good has = subst (λ x. Agree v x k) (sym is) agree
-  ended_agree u ending.NotBuilt is good has = subst (λ x. Agree v x k) (sym is) agree
   ended_agree u (ending.Panic kind) is good has = subst (λ x. Agree v x k) (sym is) agree
 
 -- a turn with which the run doesn't end
-pub not_over : (e : Ending) (pc : ℕ) → ending_at pc e ≡ AtEnd → is_over e ≡ false
-not_over ending.Next pc goes = refl
-not_over ending.Trapped pc goes = refl
-not_over (ending.Slept pri chan) pc goes = refl
-not_over ending.Ended pc goes = refl
-not_over ending.NotBuilt pc goes = absurd (cc goes)
-not_over (ending.Panic kind) pc goes = absurd (cc goes)
+pub not_over : (e : Ending) → ending_of e ≡ AtEnd → is_over e ≡ false
+not_over ending.Next goes = refl
+not_over ending.Trapped goes = refl
+not_over (ending.Slept pri chan) goes = refl
+not_over ending.Ended goes = refl
+not_over (ending.Panic kind) goes = absurd (cc goes)
 
 trapped_running : (t : Table) (s : ℕ) → (trapped t s).running ≡ t.running
 unfolding setpri
@@ -122,7 +120,6 @@ ended_runs t s ending.Next r is = is
 ended_runs t s ending.Trapped r is = sym (trapped_running t s) ∙ is
 ended_runs t s (ending.Slept pri chan) r is = absurd (let none = sleep_running t s pri chan in cc (none, is))
 ended_runs t s ending.Ended r is = is
-ended_runs t s ending.NotBuilt r is = is
 ended_runs t s (ending.Panic kind) r is = is
 
 pub ended_image : (k : Kept) (t u : Table) (s : ℕ) (e : Ending) → u ≡ ended_table t s e → RunsImage t k → RunsImage u k
@@ -133,7 +130,6 @@ ended_clock t s ending.Next = refl
 ended_clock t s ending.Trapped = trapped_clock t s
 ended_clock t s (ending.Slept pri chan) = λ i. record { time = sleep_now t s pri chan i; ticks = sleep_ticks t s pri chan i; tout = sleep_tout t s pri chan i }
 ended_clock t s ending.Ended = refl
-ended_clock t s ending.NotBuilt = refl
 ended_clock t s (ending.Panic kind) = refl
 
 module _ (w : World) (good : IsGood w) (s : ℕ) (above : 0 < s) (low : s < 50) (e : Ending) (runs : e ≢ ending.Ended → w.procs.table.running ≡ Some s)
@@ -152,50 +148,47 @@ module _ (w : World) (good : IsGood w) (s : ℕ) (above : 0 < s) (low : s < 50) 
       final ∙ (λ i. record { unix = record (unix_of w) { clock = clock i }; board = (settled (board i)).board })
 
   -- the run goes on
-  module _ (pc : ℕ) (goes : ending_at pc e ≡ AtEnd) where
+  module _ (goes : ending_of e ≡ AtEnd) where
     ended_is : settled_after (record { unix = unix_of w; log = logged (board_in w) (end_effects s e); is_idle = false; ending = AtEnd })
-        ≡ turn_end w s pc e
+        ≡ turn_end w s e
     ended_is = ap (λ o. settled_after (record { unix = unix_of w; log = logged (board_in w) (end_effects s e); is_idle = false; ending = o })) (sym goes)
 
     pub ended_takes : (at : Stage) (v : World) → IsKernel at v → phase_of at ≡ Started
         → board_in (with_table w t) ≡ (logged {W = Unix} (board_in w) (end_effects s e)).board
         → system_at v ≡ record (system_at (with_table w t)) { board = (settled (board_in (with_table w t))).board }
-        → Takes (turn_end w s pc e) at v
+        → Takes (turn_end w s e) at v
     ended_takes at v kernel started board final =
         subst (λ (x : Turn). Takes x at v) ended_is
         (record { kernel = kernel; system = ended_system _ board (system_at v) final; phase = started })
 
     pub ended_items : (a b c : Taken) → board_in (with_table w t) ≡ (logged {W = Unix} (board_in w) (end_effects s e)).board
         → Took a (logged {W = Unix} (board_in w) (end_effects s e)).items b → Took b (settled (board_in (with_table w t))).items c
-        → Took a (turn_end w s pc e).items c
+        → Took a (turn_end w s e).items c
     ended_items a b c board one two =
         subst (λ (x : Turn). Took a x.items c) ended_is
         (took_then a b c _ _ _ one two (ap (λ (x : Board). (logged {W = Unix} (board_in w) (end_effects s e)).items ++ (settled x).items) board))
 
 -- The run ends.
-module _ (w : World) (s pc : ℕ) where
-  pub stopped_takes : (e : Ending) → is_early (ending_at pc e) ≡ true → (is_over e ≡ true → IsCovered w) → Takes (turn_end w s pc e) stage.Stopped w
+module _ (w : World) (s : ℕ) where
+  pub stopped_takes : (e : Ending) → is_early (ending_of e) ≡ true → (is_over e ≡ true → IsCovered w) → Takes (turn_end w s e) stage.Stopped w
   stopped_takes ending.Next f covered = absurd (cc f)
   stopped_takes ending.Trapped f covered = absurd (cc f)
   stopped_takes (ending.Slept pri chan) f covered = absurd (cc f)
   stopped_takes ending.Ended f covered = absurd (cc f)
-  stopped_takes ending.NotBuilt f covered = record { kernel = stopped_kernel w (covered refl); system = refl; phase = refl }
   stopped_takes (ending.Panic kind) f covered = record { kernel = stopped_kernel w (covered refl); system = refl; phase = refl }
 
-  pub stopped_items : (e : Ending) → is_early (ending_at pc e) ≡ true → (turn_end w s pc e).items ≡ []
+  pub stopped_items : (e : Ending) → is_early (ending_of e) ≡ true → (turn_end w s e).items ≡ []
   stopped_items ending.Next f = absurd (cc f)
   stopped_items ending.Trapped f = absurd (cc f)
   stopped_items (ending.Slept pri chan) f = absurd (cc f)
   stopped_items ending.Ended f = absurd (cc f)
-  stopped_items ending.NotBuilt f = refl
   stopped_items (ending.Panic kind) f = refl
 
   -- what is answered of it
-  pub end_answer : (e : Ending) → turned_by (ending_at pc e) false ≡ turned (turn_end w s pc e)
-  end_answer e = by (ending_at pc e)
+  pub end_answer : (e : Ending) → turned_by (ending_of e) false ≡ turned (turn_end w s e)
+  end_answer e = by (ending_of e)
     where
       by : (o : Ends) → turned_by o false
           ≡ turned (settled_after (record { unix = unix_of w; log = logged (board_in w) (end_effects s e); is_idle = false; ending = o }))
       by AtEnd = refl
-      by (ends.NotBuilt place) = refl
       by (ends.Panic kind) = refl

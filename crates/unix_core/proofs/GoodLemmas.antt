@@ -1,5 +1,5 @@
 -- What is so of a good world: who has an image is told by the counts, and who is told has an image.
-use Rattle.std.proofs.Common.{◌≡◌, ◌<◌, ◌∙◌, ℕ, false, List, [], min, get_or, length, Option, Some, None, refl, sym, ap, subst}
+use Rattle.std.proofs.Common.{◌≡◌, ◌<◌, ◌∙◌, ℕ, false, List, min, get_or, length, Option, Some, None, refl, sym, ap, subst}
 use Rattle.std.specs.Prelude.{⊤, MatchOption, unwrap_or}
 use Rattle.std.proofs.lemmas.List.{length-map}
 use Rattle.pick_rules.specs.declared.table.Table.{Table}
@@ -18,7 +18,7 @@ use Rattle.abstract_unix.specs.Calls.{with_world}
 use Rattle.sys_procs.proofs.Slots.{process_in_slot, fifty_processes}
 use Rattle.sys_procs.proofs.Agreement.{is_there}
 use Rattle.unix_core.specs.declared.world.World.{World}
-use Rattle.abstract_unix.specs.Whole.{Told, told_by, told_in, Owed}
+use Rattle.abstract_unix.specs.Whole.{Told, told_by, told_in, Owed, CanGoOn}
 use Rattle.abstract_unix.proofs.Owing.{told_at, living}
 use Rattle.unix_core.specs.Parts.{unix_of, IsGood}
 
@@ -94,6 +94,7 @@ module _ (w now : World) (good : IsGood w) (agree : AreProcs now.procs) (table :
 
 -- Beside processes, inodes, their marks and the table of open files a world is as it was.
 pub record Rests (w now : World) : Type 0 where
+  pub pipes : now.files.pipes ≡ w.files.pipes
   pub line : now.files.line ≡ w.files.line
   pub tape : now.tape ≡ w.tape
   pub core : now.core ≡ w.core
@@ -107,7 +108,7 @@ module _ (w now : World) (rests : Rests w now) (clicks : (board now.procs).core 
         store = (state i).inodes.store;
         processes = (state i).processes;
         files = table i;
-        pipes = [];
+        pipes = rests.pipes i;
         texts = (state i).texts;
         line = rests.line i;
         clock = (state i).clock;
@@ -117,11 +118,12 @@ module _ (w now : World) (rests : Rests w now) (clicks : (board now.procs).core 
       }
 
   pub good_then : IsGood w → AreProcs now.procs → ((s : ℕ) → now.procs.table.running ≡ Some s → 0 < s → HasImage now.procs.images s) → Owed now.files.tree.nodes.references (unix_of now)
-      → IsMarked now.procs now.files.tree.marks → IsGood now
-  good_then good agree running owed marks = record {
+      → CanGoOn (unix_of now) → IsMarked now.procs now.files.tree.marks → IsGood now
+  good_then good agree running owed pending marks = record {
     agree = agree;
     running = running;
     owed = owed;
+    pending = pending;
     marks = marks;
     rooms = (ap (λ t. t.entry_room) rests.tape ∙ good.rooms.0, ap (λ t. t.byte_room) rests.tape ∙ good.rooms.1);
     core = rests.core ∙ good.core ∙ sym clicks;

@@ -38,7 +38,6 @@ nobody_can t last rows none s loaded = by (nat_lt s 50) refl
 -- A slot answers that nobody is there to run where nobody runs.
 never_idle : (o : Ends) → turned_by o false ≡ Idle → ⊥
 never_idle AtEnd idle = cc idle
-never_idle (ends.NotBuilt place) idle = cc idle
 never_idle (ends.Panic kind) idle = cc idle
 
 settled_answer : (h : Happened) → turned (settled_after h) ≡ turned_by h.ending h.is_idle

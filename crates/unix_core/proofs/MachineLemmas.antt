@@ -71,9 +71,9 @@ mode_is w s b good runs above is =
 
 -- The process that runs is charged with a tick.
 like_timed : (mode : Mode) (u : UArea) → IsLikeArea (timed_area mode u) u
-like_timed User u = record { clicks = refl; files = refl; dir = refl }
-like_timed Kernel u = record { clicks = refl; files = refl; dir = refl }
-like_timed Idle u = record { clicks = refl; files = refl; dir = refl }
+like_timed User u = record { clicks = refl; files = refl; dir = refl; pending = refl; call = refl }
+like_timed Kernel u = record { clicks = refl; files = refl; dir = refl; pending = refl; call = refl }
+like_timed Idle u = record { clicks = refl; files = refl; dir = refl; pending = refl; call = refl }
 
 module _ (mode : Mode) (w : World) (s : ℕ) (good : IsGood w) (runs : w.procs.table.running ≡ Some s) (above : 0 < s)
     (u : UArea) (is : u ≡ timed_area mode (area_of w.procs.images s)) (k : Kept) (kept : k ≡ with_area w.procs.images s u) where

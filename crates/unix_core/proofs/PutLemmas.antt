@@ -19,8 +19,9 @@ use Rattle.sys_procs.proofs.Alive.{IsHere, is_here}
 use Rattle.unix_core.specs.declared.world.World.{World}
 use Rattle.abstract_unix.specs.Unix.{process_of, with_process}
 use Rattle.unix_core.specs.Parts.{unix_of, board_in, IsGood}
-use Rattle.abstract_unix.specs.Whole.{told_in, Owes}
+use Rattle.abstract_unix.specs.Whole.{told_in, Owes, CanGoOn}
 use Rattle.abstract_unix.proofs.Owing.{told_change}
+use Rattle.unix_core.proofs.GoingLemmas.{going_put}
 use Rattle.unix_core.proofs.GoodLemmas.{runs_low, runs_same}
 use Rattle.unix_core.proofs.LoanLemmas.{area_now, area_other, area_core}
 
@@ -28,6 +29,8 @@ pub record IsLikeArea (u v : UArea) : Type 0 where
   pub clicks : clicks_of u ≡ clicks_of v
   pub files : u.files ≡ v.files
   pub dir : u.dir ≡ v.dir
+  pub pending : u.pending ≡ v.pending
+  pub call : u.call ≡ v.call
 
 abbrev pub with_images : World → Kept → World
 with_images w k = record w { procs = record w.procs { images = k } }
@@ -130,8 +133,10 @@ module _ (w : World) (s : ℕ) (u : UArea) (alive : IsAlive w.procs s) where
       running = runs_same w w' good agree_area refl;
       owed =
           let refs : List ℕ = w.files.tree.nodes.references in
-          subst (λ texts. Owes refs w.files.table texts (told_in (unix_of w').processes)) (ap (λ texts. map text_in texts) (sym (with_area_texts k s u).texts))
-          (subst (Owes refs w.files.table (unix_of w).texts) (sym told_put) good.owed);
+          subst (λ texts. Owes refs w.files.table w.files.pipes texts (told_in (unix_of w').processes)) (ap (λ texts. map text_in texts) (sym (with_area_texts k s u).texts))
+          (subst (Owes refs w.files.table w.files.pipes (unix_of w).texts) (sym told_put) good.owed);
+      pending = subst CanGoOn (sym unix_put)
+          (going_put (unix_of w) s p q (alive_slot w s alive) (record { pending = like.pending; call = like.call; files = like.files; lives = refl }) good.pending);
       marks = good.marks ∙ ap (λ texts. marks_of (map text_in texts)) (sym (with_area_texts k s u).texts);
       rooms = good.rooms;
       core = good.core ∙ sym (area_core k s u);

@@ -6,6 +6,7 @@ use Rattle.std.proofs.lemmas.List.{map-set, set-get_or}
 use Rattle.std.proofs.Math.ListN.{get_or-map}
 use Rattle.fs_tree.specs.declared.marks.TheConstants.{INODE_NUMBERS}
 use Rattle.open_files.specs.declared.file.OpenFile.{OpenFile}
+use Rattle.pipe_ends.specs.declared.ends.Pipe.{Pipe}
 use Rattle.sys_procs.specs.TextTable.{Text, is_text_of, marks_of}
 use Rattle.sys_procs.specs.Texts.{joined, with_user, joined_by_child}
 use Rattle.abstract_unix.specs.Whole.{Told, Owes}
@@ -45,10 +46,10 @@ module _ (old new : List (Option Text)) (same : (ino : ℕ) → map (is_text_of 
   unfolding marks_of
   same_marks = λ i. map (λ ino. same_found ino i) (range_with_len 0 INODE_NUMBERS)
 
-  pub same_owes : (refs : List ℕ) (files : List (Option OpenFile)) (ts : List (Option Told)) → Owes refs files old ts → Owes refs files new ts
-  same_owes refs files ts owed = record {
+  pub same_owes : (refs : List ℕ) (files : List (Option OpenFile)) (pipes : List Pipe) (ts : List (Option Told)) → Owes refs files pipes old ts → Owes refs files pipes new ts
+  same_owes refs files pipes ts owed = record {
     numbers = owed.numbers;
     referred = λ ino. let before = owed.referred ino in let count = same_count ino in omega (arith, before, count);
-    no_pipe = owed.no_pipe;
+    piped = owed.piped;
     fifteen = owed.fifteen;
   }

@@ -46,7 +46,7 @@ use Rattle.sys_procs.proofs.Places.{is_free, has_died, free_stat, died_stat, fre
 use Rattle.abstract_unix.specs.Unix.{System, Started}
 use Rattle.abstract_unix.specs.declared.ends.Ends.TheVariants as ends
 use Rattle.abstract_unix.specs.declared.ends.Ends.TheVariants.{AtEnd}
-use Rattle.abstract_unix.specs.Whole.{Owed}
+use Rattle.abstract_unix.specs.Whole.{Owed, CanGoOn}
 use Rattle.abstract_unix.specs.Turn.{Turn, settled, settled_after, passes, pass_of}
 use Rattle.abstract_unix.proofs.Passing.{pass_sleeps}
 use Rattle.unix_core.specs.declared.world.World.{World}
@@ -304,6 +304,7 @@ module _ (w : World) (u : Table) (n : Kept) (a z : Taken) (good : IsGood w) (mov
     agree = after_agree;
     running = λ s runs above. absurd (cc (none, runs));
     owed = subst (Owed w.files.tree.nodes.references) (sym after_unix) good.owed;
+    pending = subst CanGoOn (sym after_unix) good.pending;
     marks = good.marks ∙ ap marks_of (sym texts_after);
     rooms = good.rooms;
     core = good.core ∙ sym same.core;

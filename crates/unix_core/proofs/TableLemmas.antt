@@ -15,6 +15,7 @@ use Rattle.unix_core.specs.declared.world.World.{World}
 use Rattle.unix_core.specs.Passing.{settled_table}
 use Rattle.unix_core.specs.Parts.{unix_of, board_in, system_at, IsGood}
 use Rattle.unix_core.proofs.BoardLemmas.{settle_none}
+use Rattle.unix_core.proofs.GoingLemmas.{going_same}
 
 abbrev pub with_table : World → Table → World
 with_table w t = record w { procs = record w.procs { table = t } }
@@ -28,6 +29,7 @@ module _ (w : World) (t : Table) (agree : Agree w.procs.rows t w.procs.images) (
   good_table good = record {
     agree = agree;
     owed = good.owed;
+    pending = going_same (unix_of w) (unix_of (with_table w t)) refl refl good.pending;
     marks = good.marks;
     running = runs;
     rooms = good.rooms;

@@ -14,6 +14,7 @@ use Rattle.sys_procs.specs.World as its
 use Rattle.sys_procs.specs.World.{change, let_go}
 use Rattle.sys_procs.specs.ExecFile.{entry_in, text_read, with_text_read}
 use Rattle.open_files.specs.declared.file.OpenFile.{OpenFile}
+use Rattle.pipe_ends.specs.declared.ends.Pipe.{Pipe}
 use Rattle.abstract_unix.specs.Whole.{Told, Owes}
 use Rattle.abstract_unix.proofs.Owing.{some_within}
 use Rattle.abstract_unix.proofs.Dying.{put_refs}
@@ -47,13 +48,13 @@ pub record SameOthers (x y : its.World) : Type 0 where
   pub refs : (ino : ℕ) → slice_index y.inodes.references ino + shared x.texts ino
       ≡ slice_index x.inodes.references ino + shared y.texts ino
 
-pub others_owe : (x y : its.World) → SameOthers x y → (files : List (Option OpenFile)) (ts : List (Option Told))
-    → Owes x.inodes.references files x.texts ts
-    → Owes y.inodes.references files y.texts ts
-others_owe x y same files ts owed = record {
+pub others_owe : (x y : its.World) → SameOthers x y → (files : List (Option OpenFile)) (pipes : List Pipe) (ts : List (Option Told))
+    → Owes x.inodes.references files pipes x.texts ts
+    → Owes y.inodes.references files pipes y.texts ts
+others_owe x y same files pipes ts owed = record {
   numbers = owed.numbers;
   referred = λ ino. let before = owed.referred ino in let refs = same.refs ino in omega (arith, before, refs);
-  no_pipe = owed.no_pipe;
+  piped = owed.piped;
   fifteen = owed.fifteen;
 }
 

@@ -11,7 +11,6 @@ use Rattle.pick_rules.specs.Apply.{applied}
 use Rattle.pick_rules.specs.Effects.{Effect, Show, came}
 use Rattle.pick_rules.specs.Logged.{Logged, Stop, logged, log_one, with_what_came, with_item, unless_stopped, left_by}
 use Rattle.pdp_step.specs.declared.outcome.Outcome.{Outcome}
-use Rattle.sys_procs.specs.Process.{register}
 use Rattle.abstract_unix.specs.declared.ending.Ending.{Ending}
 use Rattle.abstract_unix.specs.declared.ending.Ending.TheVariants as ending
 use Rattle.unix_core.specs.declared.machine.Stage.{Stage}
@@ -23,7 +22,7 @@ use Rattle.abstract_unix.specs.Unix.{Unix, System, process_of}
 use Rattle.abstract_unix.specs.Endings.{phase_after}
 use Rattle.abstract_unix.specs.Steps.{Steps}
 use Rattle.abstract_unix.specs.Calls.{resumed}
-use Rattle.abstract_unix.specs.Turn.{Happened, Turn, comes_to, instruction, turn, end_effects, settled, settled_after, ending_at, ending_by, turn_of}
+use Rattle.abstract_unix.specs.Turn.{Happened, Turn, comes_to, instruction, begins_turn, end_effects, settled, settled_after, ending_of, ending_by, turn_of}
 use Rattle.unix_core.specs.Parts.{unix_of, board_in, turn_end, ended_as, HasCome, HasStepped, Takes}
 use Rattle.unix_core.proofs.BoardLemmas.{logged_line}
 
@@ -60,7 +59,6 @@ end_log l s ending.Next is = nothing_more l
 end_log l s ending.Trapped is = one_more_line l (line.Trap s) is
 end_log l s (ending.Slept pri chan) is = one_more_line l (line.Sleep s pri chan) is
 end_log l s ending.Ended is = nothing_more l
-end_log l s ending.NotBuilt is = nothing_more l
 end_log l s (ending.Panic kind) is = nothing_more l
 
 -- The log of both.
@@ -79,9 +77,9 @@ turn_log b es s own e is =
         ∙ ap (ended_log l s) (sym (is ∙ ap (λ o. ended_as o own) some))
 
 -- how a turn ends, stopped or not
-ending_same : (pc : ℕ) (o : Option (Stop Unix)) (own : Ending) → ending_at pc (ended_as o own) ≡ ending_by pc o own
-ending_same pc None own = refl
-ending_same pc (Some stop) own = refl
+ending_same : (o : Option (Stop Unix)) (own : Ending) → ending_of (ended_as o own) ≡ ending_by o own
+ending_same None own = refl
+ending_same (Some stop) own = refl
 
 -- what was shown before stands in front of what a turn comes to
 abbrev pub shown_before : List Item → Turn → Turn
@@ -98,21 +96,18 @@ module _ (m : System) (s : ℕ) (steps : Steps) (e : Ending) (w : World) (come :
   whole_is : whole ≡ ended_log taken s e
   whole_is = turn_log m.board steps.effects s steps.ending e come.ending
 
-  abbrev pc : ℕ
-  pc = register (process_of m.unix s) 7
-
   -- what has happened then, by what the turn has left
   abbrev left : Happened
-  left = record { unix = unix_of w; log = ended_log taken s e; is_idle = false; ending = ending_at pc e }
+  left = record { unix = unix_of w; log = ended_log taken s e; is_idle = false; ending = ending_of e }
 
   left_is : turn_of m s steps ≡ left
   left_is =
-      ap (λ (l : Logged Unix). record { unix = left_by l.stop steps.unix; log = l; is_idle = false; ending = ending_by pc l.stop steps.ending }) whole_is
+      ap (λ (l : Logged Unix). record { unix = left_by l.stop steps.unix; log = l; is_idle = false; ending = ending_by l.stop steps.ending }) whole_is
       ∙ (λ i. record {
         unix = sym come.unix i;
         log = ended_log taken s e;
         is_idle = false;
-        ending = (sym (ending_same pc taken.stop steps.ending) ∙ ap (ending_at pc) (sym come.ending)) i;
+        ending = (sym (ending_same taken.stop steps.ending) ∙ ap ending_of (sym come.ending)) i;
       })
 
   -- the end of the turn, by the board that the turn has left
@@ -137,34 +132,33 @@ module _ (m : System) (s : ℕ) (steps : Steps) (e : Ending) (w : World) (come :
         is_idle = false;
         ending = AtEnd;
       })
-  ended_is (ends.NotBuilt place) = ap (λ b. settled_after (with_last (ends.NotBuilt place) b)) (sym come.board)
   ended_is (ends.Panic kind) = ap (λ b. settled_after (with_last (ends.Panic kind) b)) (sym come.board)
 
-  pub turn_is : settled_after (turn_of m s steps) ≡ shown_before taken.items (turn_end w s pc e)
-  turn_is = ap settled_after left_is ∙ ended_is (ending_at pc e)
+  pub turn_is : settled_after (turn_of m s steps) ≡ shown_before taken.items (turn_end w s e)
+  turn_is = ap settled_after left_is ∙ ended_is (ending_of e)
 
-  pub turn_takes : (at : Stage) (now : World) → Takes (turn_end w s pc e) at now → Takes (settled_after (turn_of m s steps)) at now
+  pub turn_takes : (at : Stage) (now : World) → Takes (turn_end w s e) at now → Takes (settled_after (turn_of m s steps)) at now
   turn_takes at now takes = record {
     kernel = takes.kernel;
     system = takes.system ∙ ap (λ (t : Turn). t.next) (sym turn_is);
     phase = takes.phase ∙ ap (λ (t : Turn). phase_after t.ending) (sym turn_is);
   }
 
-  pub turn_items : (a b c : Taken) → Took a taken.items b → Took b (turn_end w s pc e).items c → Took a (settled_after (turn_of m s steps)).items c
+  pub turn_items : (a b c : Taken) → Took a taken.items b → Took b (turn_end w s e).items c → Took a (settled_after (turn_of m s steps)).items c
   turn_items a b c one two =
-      took_then a b c taken.items (turn_end w s pc e).items (settled_after (turn_of m s steps)).items one two (ap (λ (t : Turn). t.items) (sym turn_is))
+      took_then a b c taken.items (turn_end w s e).items (settled_after (turn_of m s steps)).items one two (ap (λ (t : Turn). t.items) (sym turn_is))
 
 -- The process that executes instructions has stepped.
 module _ (m : System) (s : ℕ) (o : Outcome) (w : World) (stepped : HasStepped m w s o) where
-  steps_are : comes_to (unix_of w) s o ≡ turn m s
+  steps_are : comes_to (unix_of w) s o ≡ begins_turn m s
   steps_are =
       (λ i. comes_to (stepped.unix i) s (stepped.outcome i))
       ∙ sym (ap (λ b. if b then instruction m.unix s else resumed m.unix s) stepped.user)
 
-  pub stepped_come : (e : Ending) (then_ : World) → HasCome (board_in w) (comes_to (unix_of w) s o) e then_ → HasCome m.board (turn m s) e then_
+  pub stepped_come : (e : Ending) (then_ : World) → HasCome (board_in w) (comes_to (unix_of w) s o) e then_ → HasCome m.board (begins_turn m s) e then_
   stepped_come e then_ come = subst (λ st. HasCome m.board st e then_) steps_are (subst (λ b. HasCome b (comes_to (unix_of w) s o) e then_) stepped.board come)
 
-  pub stepped_items : (a b : Taken) → Took a (logged (board_in w) (comes_to (unix_of w) s o).effects).items b → Took a (logged m.board (turn m s).effects).items b
+  pub stepped_items : (a b : Taken) → Took a (logged (board_in w) (comes_to (unix_of w) s o).effects).items b → Took a (logged m.board (begins_turn m s).effects).items b
   stepped_items a b took =
       subst (λ (st : Steps). Took a (logged m.board st.effects).items b) steps_are
       (subst (λ x. Took a (logged x (comes_to (unix_of w) s o).effects).items b) stepped.board took)

@@ -25,11 +25,13 @@ use Rattle.abstract_unix.specs.declared.ends.Ends.TheVariants.{AtEnd}
 use Rattle.abstract_unix.specs.Unix.{Unix, System, process_of, with_process}
 use Rattle.abstract_unix.specs.Steps.{steps}
 use Rattle.abstract_unix.specs.Calls.{resumed}
-use Rattle.abstract_unix.specs.Turn.{Turn, machine_of, with_machine, is_user, comes_to, instruction, turn, turn_of, slot_by, slot_of, settled_as, settled_after, turned}
+use Rattle.abstract_unix.specs.Delivery.{ends_turn}
+use Rattle.abstract_unix.specs.Turn.{Turn, machine_of, with_machine, is_user, comes_to, instruction, begins_turn, turn, turn_of, slot_by, slot_of, settled_as, settled_after, turned}
 use Rattle.abstract_unix.specs.Runs.{Slot, event_of}
 use Rattle.unix_core.specs.Parts.{unix_of, board_in, system_at, machine_in, with_machine_in, IsReady, IsUser, HasStepped}
-use Rattle.abstract_unix.specs.Whole.{told_in, Owes}
+use Rattle.abstract_unix.specs.Whole.{told_in, Owes, CanGoOn}
 use Rattle.abstract_unix.proofs.Owing.{told_change, some_within}
+use Rattle.unix_core.proofs.GoingLemmas.{going_put}
 use Rattle.unix_core.proofs.GoodLemmas.{runs_same}
 use Rattle.sys_procs.specs.Handed.{AreProcs}
 use Rattle.unix_core.proofs.WorldLemmas.{ready_alive, slot_is}
@@ -83,9 +85,11 @@ module _ (w : World) (s : ℕ) (ready : IsReady w s) (image : Image) where
       running = runs_same w with_memory ready.good memory_agree refl;
       owed =
           let refs : List ℕ = w.files.tree.nodes.references in
-          subst (λ texts. Owes refs w.files.table texts (told_in (unix_of with_memory).processes)) (ap (λ texts. map text_in texts) (sym (with_image_texts w.procs.images s image).texts))
-          (subst (Owes refs w.files.table (unix_of w).texts)
+          subst (λ texts. Owes refs w.files.table w.files.pipes texts (told_in (unix_of with_memory).processes)) (ap (λ texts. map text_in texts) (sym (with_image_texts w.procs.images s image).texts))
+          (subst (Owes refs w.files.table w.files.pipes (unix_of w).texts)
           (sym (ap (λ (x : Unix). told_in x.processes) memory_unix ∙ told_change (unix_of w).processes s p q (slot_is w s ready) refl)) ready.good.owed);
+      pending = subst CanGoOn (sym memory_unix)
+          (going_put (unix_of w) s p q (slot_is w s ready) (record { pending = refl; call = refl; files = refl; lives = refl }) ready.good.pending);
       marks = ready.good.marks ∙ ap (λ texts. marks_of (map text_in texts)) (sym (with_image_texts w.procs.images s image).texts);
       rooms = ready.good.rooms;
       core = ready.good.core ∙ sym (image_core w.procs.images s image);
@@ -123,7 +127,7 @@ module _ (w : World) (s : ℕ) (user : IsUser s w) (holds : IsKept w.procs.image
 
   area_like : IsLikeArea area (process_of (unix_of with_image_then) s).u
   area_like = subst (λ (p : Process). IsLikeArea area p.u) (sym (memory_process w s user.ready m.image))
-      (subst (λ (u : UArea). IsLikeArea area u) (own_area w s user.ready) (record { clicks = refl; files = refl; dir = refl }))
+      (subst (λ (u : UArea). IsLikeArea area u) (own_area w s user.ready) (record { clicks = refl; files = refl; dir = refl; pending = refl; call = refl }))
 
   abbrev now : World
   now = with_its_area with_image_then s ready_then area
@@ -178,10 +182,14 @@ module _ (m : System) (s : ℕ) (above : 0 < s) (w' : World) (done : HasStepped 
   abbrev u : Unix
   u = with_process m.unix s (with_machine (process_of m.unix s) (instr (machine_of m.unix.texts (process_of m.unix s))).machine)
 
-  turn_is : turn m s ≡ steps u
-  turn_is =
+  begun_is : begins_turn m s ≡ steps u
+  begun_is =
       ap (λ b. if b then instruction m.unix s else resumed m.unix s) done.user
       ∙ ap (comes_to u s) (sym done.outcome)
+
+  -- who just goes on gets no signal
+  turn_is : turn m s ≡ steps u
+  turn_is = ap (ends_turn s) begun_is
 
   abbrev plain : Turn
   plain = record { items = []; next = record m { unix = u }; is_idle = false; ending = AtEnd }

@@ -227,9 +227,9 @@ impl Machine {
         requires resting { self.old.stage ≡ Stage.Resting }
         ensures come { HasCome (board_in self.old.world)
             (turn (system_at self.old.world) s) result self.new.world }
-        ensures good { IsGood self.new.world }
+        ensures good { is_over result ≡ false → IsGood self.new.world }
         ensures covered { is_over result ≡ true → IsCovered self.new.world }
-        ensures runs { result ≢ Ending.Ended → self.new.world.procs.table.running ≡ Some s }
+        ensures runs { is_over result ≡ false → result ≢ Ending.Ended → self.new.world.procs.table.running ≡ Some s }
         ensures rest { SameRest self.old.world.files.tree.nodes.blocks self.new.world.files.tree.nodes.blocks }
         ensures items { Took (T.taken trace.old) (logged (board_in self.old.world)
             (turn (system_at self.old.world) s).effects).items (T.taken trace.new) }
