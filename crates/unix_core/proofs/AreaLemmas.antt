@@ -1,12 +1,18 @@
 -- The u area of the process that runs is another one, which names the same files and the same directory.
-use Rattle.std.proofs.Common.{◌≡◌, ◌<◌, ℕ, List, refl}
+use Rattle.std.proofs.Common.{◌≡◌, ◌∙◌, ◌<◌, ℕ, List, true, refl, sym, ap, subst}
+use Rattle.std.proofs.lemmas.Bool.{eqb-true}
 use Rattle.u_area.specs.declared.area.UArea.{UArea}
 use Rattle.u_area.proofs.AreaLemmas.{one_area}
-use Rattle.image_keep.specs.Kept.{with_area, area_of}
+use Rattle.image_keep.specs.Kept.{Kept, with_area, area_of}
 use Rattle.sys_procs.proofs.Alive.{area_here}
 use Rattle.unix_core.specs.declared.world.World.{World}
+use Rattle.sys_procs.specs.Process.{Process}
 use Rattle.abstract_unix.specs.Unix.{process_of, with_process}
-use Rattle.unix_core.specs.Parts.{unix_of, board_in, IsReady}
+use Rattle.abstract_unix.specs.Turn.{is_user}
+use Rattle.abstract_unix.specs.declared.ending.Ending.TheVariants.{Trapped}
+use Rattle.abstract_unix.specs.Steps.{returns}
+use Rattle.abstract_unix.specs.Calls as calls
+use Rattle.unix_core.specs.Parts.{unix_of, board_in, IsReady, HasCome}
 use Rattle.unix_core.proofs.WorldLemmas.{ready_alive}
 use Rattle.unix_core.proofs.PutLemmas.{IsLikeArea, with_images, unix_put, board_put, good_put}
 
@@ -31,3 +37,27 @@ module _ (w : World) (s : ℕ) (ready : IsReady w s) (u : UArea) where
 
   pub area_ready : IsLikeArea u (process_of (unix_of w) s).u → IsReady with_its_area s
   area_ready like = record { good = good_put w s u (ready_alive w s ready) like ready.good; runs = ready.runs; user = ready.user }
+
+-- who is in user mode goes on with no call
+pub none_pending : (p : Process) → is_user p ≡ true → p.u.pending ≡ 0
+none_pending p user = eqb-true p.u.pending 0 user
+
+-- The u area of who runs has become another one by a rule: the process comes out of a trap with it.
+module _ (w : World) (s : ℕ) (ready : IsReady w s) (rule : UArea → UArea) (k : Kept) (is : k ≡ with_area w.procs.images s (rule (area_of w.procs.images s))) where
+  abbrev ruled : World
+  ruled = with_images w k
+
+  own_is : k ≡ with_area w.procs.images s (rule (process_of (unix_of w) s).u)
+  own_is = is ∙ ap (λ u. with_area w.procs.images s (rule u)) (own_area w s ready)
+
+  pub ruled_unix : unix_of ruled ≡ calls.with_area (unix_of w) s rule
+  ruled_unix = ap (λ x. unix_of (with_images w x)) own_is ∙ area_unix w s ready (rule (process_of (unix_of w) s).u)
+
+  pub ruled_board : board_in ruled ≡ board_in w
+  ruled_board = ap (λ x. board_in (with_images w x)) own_is ∙ area_board w s ready (rule (process_of (unix_of w) s).u)
+
+  pub ruled_ready : IsLikeArea (rule (process_of (unix_of w) s).u) (process_of (unix_of w) s).u → IsReady ruled s
+  ruled_ready like = subst (λ x. IsReady (with_images w x) s) (sym own_is) (area_ready w s ready (rule (process_of (unix_of w) s).u) like)
+
+  pub ruled_come : HasCome (board_in w) (returns (calls.with_area (unix_of w) s rule)) Trapped ruled
+  ruled_come = record { ending = refl; unix = ruled_unix; board = ruled_board }

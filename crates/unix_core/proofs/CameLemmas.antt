@@ -5,9 +5,10 @@ use Rattle.v6_base.specs.Trace.{Taken, Took}
 use Rattle.v6_base.specs.declared.answer.Answer.{Answer}
 use Rattle.v6_base.specs.declared.entry.PanicKind.{PanicKind}
 use Rattle.pick_rules.specs.Board.{Board}
-use Rattle.pick_rules.specs.Effects.{lifted}
+use Rattle.pick_rules.specs.Effects.{Effect, lifted}
 use Rattle.pick_rules.specs.Logged.{Logged, Stop, logged, left_by}
 use Rattle.open_files.specs.declared.file.OpenFile.{OpenFile}
+use Rattle.pipe_ends.specs.declared.ends.Pipe.{Pipe}
 use Rattle.fs_nodes.specs.FileSystem.{IsFileSystem}
 use Rattle.fs_tree.specs.declared.tree.Tree.{Tree}
 use Rattle.image_keep.specs.Kept.{IsKept, area_of, area_in}
@@ -22,14 +23,16 @@ use Rattle.unix_core.specs.declared.world.World.{World}
 use Rattle.abstract_unix.specs.declared.ending.Ending.{Ending}
 use Rattle.abstract_unix.specs.declared.ending.Ending.TheVariants.{Panic}
 use Rattle.abstract_unix.specs.Unix.{Text, Unix}
-use Rattle.abstract_unix.specs.Steps.{Steps}
+use Rattle.abstract_unix.specs.Steps.{Steps, after_effects}
 use Rattle.abstract_unix.specs.Calls.{answers, came_by, with_world, world_of}
-use Rattle.unix_core.specs.Parts.{unix_of, board_in, IsGood, IsReady, HasCome, ended_as, is_over}
-use Rattle.abstract_unix.specs.Whole.{told_in, Owes, Owed}
+use Rattle.unix_core.specs.Parts.{unix_of, board_in, IsGood, IsReady, HasCome, is_over}
+use Rattle.abstract_unix.specs.Whole.{told_in, Owes, Owed, CanGoOn}
 use Rattle.abstract_unix.proofs.Owing.{few_references, stands_within}
+use Rattle.unix_core.proofs.GoingLemmas.{going_same}
 use Rattle.unix_core.proofs.GoodLemmas.{told_of_slot, forty, fifty_told, told_of_image, still_runs, Rests, moved_unix, good_then}
 use Rattle.unix_core.proofs.WorldLemmas.{ready_alive, slot_is, is_living, references_in}
 use Rattle.unix_core.proofs.LoggedLemmas.{over, stop_of, logged_over}
+use Rattle.unix_core.proofs.ThenLemmas.{come_then, items_then, come_cut, items_cut}
 use Rattle.abstract_unix.proofs.Moved.{MovedBoard, AreTamed, Moves, tamed_moves, tamed_mild}
 use Rattle.abstract_unix.proofs.Mild.{IsMild, IsNear}
 
@@ -53,7 +56,7 @@ ready_calls w s ready long holds =
           let all = ready.good.owed.referred ino in
           omega (arith, dir, own, all);
       few = λ ino.
-          let most = few_references refs w.files.table u.texts (told_in u.processes) ready.good.owed (fifty_told w) ino long (forty w.procs.images holds) in
+          let most = few_references refs w.files.table w.files.pipes u.texts (told_in u.processes) ready.good.owed (fifty_told w) ino long (forty w.procs.images holds) in
           omega (arith, most);
     }
 
@@ -87,7 +90,7 @@ abbrev pub after : World → Tree → Procs → World
 after w tree procs = record w { files = record w.files { tree = tree }; procs = procs }
 
 pub beside : (w : World) (tree : Tree) (procs : Procs) → StaysBeside w (after w tree procs)
-beside w tree procs = record { table = refl; rests = record { line = refl; tape = refl; core = refl } }
+beside w tree procs = record { table = refl; rests = record { pipes = refl; line = refl; tape = refl; core = refl } }
 
 -- how often the texts refer to an inode
 abbrev pub shared : List (Option Text) → ℕ → ℕ
@@ -99,12 +102,12 @@ pub record IsLike (w : World) (x : its.World) : Type 0 where
   pub told : told_in x.processes ≡ told_in (unix_of w).processes
 
 -- What is owed then.
-like_owes : (w : World) (x : its.World) → IsLike w x → IsGood w → Owes x.inodes.references w.files.table x.texts (told_in x.processes)
+like_owes : (w : World) (x : its.World) → IsLike w x → IsGood w → Owes x.inodes.references w.files.table w.files.pipes x.texts (told_in x.processes)
 like_owes w x like good =
-    subst (Owes x.inodes.references w.files.table x.texts) (sym like.told) (record {
+    subst (Owes x.inodes.references w.files.table w.files.pipes x.texts) (sym like.told) (record {
       numbers = good.owed.numbers;
       referred = λ ino. let before = good.owed.referred ino in let same = like.refs ino in omega (arith, before, same);
-      no_pipe = good.owed.no_pipe;
+      piped = good.owed.piped;
       fifteen = good.owed.fifteen;
     })
 
@@ -116,14 +119,15 @@ module _ (w now : World) (s : ℕ) (ready : IsReady w s) (x : its.World) (agree 
 
   moved_owed : Owed now.files.tree.nodes.references (unix_of now)
   moved_owed =
-      let P : its.World → List (Option OpenFile) → Type 0 = λ v files. Owes v.inodes.references files v.texts (told_in v.processes) in
-      subst (P (given now)) (sym stays.table) (subst (λ v. P v w.files.table) (sym state) (like_owes w x like ready.good))
+      let P : its.World → List (Option OpenFile) → List Pipe → Type 0 = λ v files pipes. Owes v.inodes.references files pipes v.texts (told_in v.processes) in
+      subst (P (given now) now.files.table) (sym stays.rests.pipes)
+      (subst (λ files. P (given now) files w.files.pipes) (sym stays.table) (subst (λ v. P v w.files.table w.files.pipes) (sym state) (like_owes w x like ready.good)))
 
-  moved_ready : IsMarked now.procs now.files.tree.marks → IsReady now s
-  moved_ready marks = record {
+  pub moved_ready : CanGoOn (with_world (unix_of w) x) → IsMarked now.procs now.files.tree.marks → IsReady now s
+  moved_ready pending marks = record {
     good = good_then w now stays.rests after.core ready.good agree
         (still_runs w now ready.good agree (λ r is. sym after.running ∙ is) (λ r t was is. told r ∙ is))
-        moved_owed marks;
+        moved_owed (going_same (with_world (unix_of w) x) (unix_of now) (ap (λ (v : its.World). v.processes) state) stays.table pending) marks;
     runs = after.running ∙ ready.runs;
     user = ready.user;
   }
@@ -200,41 +204,53 @@ module _ (w now : World) (c : Comes) (still : IsStill w c) (stays : StaysBeside 
   pub gone_unix : (came w.procs c).stop ≡ None → unix_of now ≡ with_world (unix_of w) c.state
   gone_unix none = left_unix ∙ ap (λ o. with_world (unix_of w) (left_by o c.state)) none
 
-  -- What it has come to, by steps that have its effects.
-  module _ (steps : Steps) (same : steps.effects ≡ map (lifted (with_world (unix_of w))) c.effects) where
-    log : logged (board_in w) steps.effects ≡ over (with_world (unix_of w)) (came w.procs c)
-    log = ap (logged (board_in w)) same ∙ logged_over (with_world (unix_of w)) (board_in w) c.effects
+  abbrev pub its_effects : List (Effect Unix)
+  its_effects = map (lifted (with_world (unix_of w))) c.effects
 
-    pub left_took : Took start (logged (board_in w) steps.effects).items end
-    left_took = subst (λ (l : Logged Unix). Took start l.items end) (sym log) left.items
+  log : logged (board_in w) its_effects ≡ over (with_world (unix_of w)) (came w.procs c)
+  log = logged_over (with_world (unix_of w)) (board_in w) c.effects
 
-    pub gone_come : (fin : World) (e : Ending) → (came w.procs c).stop ≡ None → e ≡ steps.ending → unix_of fin ≡ steps.unix
-        → board_in fin ≡ board_in now → HasCome (board_in w) steps e fin
-    gone_come fin e none ends unix shown =
-        let quiet : (logged (board_in w) steps.effects).stop ≡ None =
-        ap (λ (l : Logged Unix). l.stop) log ∙ ap (λ o. stop_of (with_world (unix_of w)) o) none in
-        record {
-          ending = ends ∙ ap (λ (o : Option (Stop Unix)). ended_as o steps.ending) (sym quiet);
-          unix = unix ∙ ap (λ (o : Option (Stop Unix)). left_by o steps.unix) (sym quiet);
-          board = shown ∙ left.shown ∙ ap (λ (l : Logged Unix). l.board) (sym log);
-        }
+  board_is : board_in now ≡ (logged (board_in w) its_effects).board
+  board_is = left.shown ∙ ap (λ (l : Logged Unix). l.board) (sym log)
 
-    pub stopped_come : (stop : Stop its.World) (e : Ending) → (came w.procs c).stop ≡ Some stop → e ≡ Panic stop.why
-        → HasCome (board_in w) steps e now
-    stopped_come stop e some ends =
-        let halts : (logged (board_in w) steps.effects).stop ≡ stop_of (with_world (unix_of w)) (Some stop) =
-        ap (λ (l : Logged Unix). l.stop) log ∙ ap (λ o. stop_of (with_world (unix_of w)) o) some in
-        record {
-          ending = ends ∙ ap (λ (o : Option (Stop Unix)). ended_as o steps.ending) (sym halts);
-          unix = left_unix ∙ ap (λ o. with_world (unix_of w) (left_by o c.state)) some ∙ ap (λ (o : Option (Stop Unix)). left_by o steps.unix) (sym halts);
-          board = left.shown ∙ ap (λ (l : Logged Unix). l.board) (sym log);
-        }
+  items_are : Took start (logged (board_in w) its_effects).items end
+  items_are = subst (λ (l : Logged Unix). Took start l.items end) (sym log) left.items
+
+  -- It doesn't stop: the rest of the turn comes over what it has left.
+  module _ (none : (came w.procs c).stop ≡ None) (next : Steps) where
+    quiet : (logged (board_in w) its_effects).stop ≡ None
+    quiet = ap (λ (l : Logged Unix). l.stop) log ∙ ap (λ o. stop_of (with_world (unix_of w)) o) none
+
+    pub gone_come : (e : Ending) (fin : World) → HasCome (board_in now) next e fin → HasCome (board_in w) (after_effects its_effects next) e fin
+    gone_come e fin come =
+        come_then (board_in w) its_effects next quiet e fin (subst (λ (b : Board). HasCome b next e fin) board_is come)
+
+    pub gone_took : (last : Taken) → Took end (logged (board_in now) next.effects).items last
+        → Took start (logged (board_in w) (after_effects its_effects next).effects).items last
+    gone_took last took =
+        items_then (board_in w) its_effects next quiet start end last items_are
+        (subst (λ (b : Board). Took end (logged b next.effects).items last) board_is took)
+
+  -- It stops, and the rest doesn't come.
+  module _ (stop : Stop its.World) (some : (came w.procs c).stop ≡ Some stop) (next : Steps) where
+    halts : (logged (board_in w) its_effects).stop ≡ stop_of (with_world (unix_of w)) (Some stop)
+    halts = ap (λ (l : Logged Unix). l.stop) log ∙ ap (λ o. stop_of (with_world (unix_of w)) o) some
+
+    pub stopped_come : (e : Ending) → e ≡ Panic stop.why → HasCome (board_in w) (after_effects its_effects next) e now
+    stopped_come e ends =
+        come_cut (board_in w) its_effects next (record { why = stop.why; before = with_world (unix_of w) stop.before }) halts e now ends
+        (left_unix ∙ ap (λ o. with_world (unix_of w) (left_by o c.state)) some) board_is
+
+    pub stopped_took : Took start (logged (board_in w) (after_effects its_effects next).effects).items end
+    stopped_took =
+        items_cut (board_in w) its_effects next (record { why = stop.why; before = with_world (unix_of w) stop.before }) halts start end items_are
 
 pub gone_ready : (w now : World) (s : ℕ) (c : Comes) → IsTame w c → StaysBeside w now → {start end : Taken} → HasLeft w.procs now.procs now.files.tree.nodes start end c
     → (came w.procs c).stop ≡ None → IsReady w s → AreProcs now.procs
-    → IsMarked now.procs now.files.tree.marks → IsReady now s
-gone_ready w now s c is stays left none ready agree marks =
-    moved_ready w now s ready c.state agree (left.state ∙ ap (λ o. left_by o c.state) none) (is.like none) (gone_moved w now c is.still stays left none) stays marks
+    → CanGoOn (with_world (unix_of w) c.state) → IsMarked now.procs now.files.tree.marks → IsReady now s
+gone_ready w now s c is stays left none ready agree waits marks =
+    moved_ready w now s ready c.state agree (left.state ∙ ap (λ o. left_by o c.state) none) (is.like none) (gone_moved w now c is.still stays left none) stays
+    waits marks
 
 -- The same of a call of the table, by its answer.
 module _ (w now : World) (s : ℕ) (c : Comes) (is : IsTame w c) (stays : StaysBeside w now) {r : Result Answer PanicKind} {start end : Taken}
@@ -242,13 +258,19 @@ module _ (w now : World) (s : ℕ) (c : Comes) (is : IsTame w c) (stays : StaysB
   left : HasLeft w.procs now.procs now.files.tree.nodes start end c
   left = record { state = does.state; shown = does.shown; items = does.items }
 
-  pub call_took : Took start (logged (board_in w) (came_by (unix_of w) s c).effects).items end
-  call_took = left_took w now c is.still stays left (came_by (unix_of w) s c) refl
+  abbrev rest : Steps
+  rest = answers (with_world (unix_of w) c.state) s c.answer
 
-  pub call_stops : (kind : PanicKind) (e : Ending) → r ≡ Err kind → e ≡ Panic kind → HasCome (board_in w) (came_by (unix_of w) s c) e now
-  call_stops kind e err ends =
-      let halt = stops (came w.procs c).stop c.answer kind r does.answer err in
-      stopped_come w now c is.still stays left (came_by (unix_of w) s c) refl halt.0 e halt.1.0 (ends ∙ ap Panic halt.1.1)
+  module _ (kind : PanicKind) (err : r ≡ Err kind) where
+    pub call_stops : (e : Ending) → e ≡ Panic kind → HasCome (board_in w) (came_by (unix_of w) s c) e now
+    call_stops e ends =
+        let halt = stops (came w.procs c).stop c.answer kind r does.answer err in
+        stopped_come w now c is.still stays left halt.0 halt.1.0 rest e (ends ∙ ap Panic halt.1.1)
+
+    pub call_cut : Took start (logged (board_in w) (came_by (unix_of w) s c).effects).items end
+    call_cut =
+        let halt = stops (came w.procs c).stop c.answer kind r does.answer err in
+        stopped_took w now c is.still stays left halt.0 halt.1.0 rest
 
   module _ (a : Answer) (ok : r ≡ Ok a) where
     went : ((came w.procs c).stop ≡ None) × (a ≡ c.answer)
@@ -257,19 +279,23 @@ module _ (w now : World) (s : ℕ) (c : Comes) (is : IsTame w c) (stays : StaysB
     pub call_unix : unix_of now ≡ with_world (unix_of w) c.state
     call_unix = gone_unix w now c is.still stays left went.0
 
-    pub call_ready : IsReady w s → AreProcs now.procs → IsMarked now.procs now.files.tree.marks → IsReady now s
-    call_ready ready agree marks = gone_ready w now s c is stays left went.0 ready agree marks
+    pub call_ready : IsReady w s → AreProcs now.procs → CanGoOn (with_world (unix_of w) c.state) → IsMarked now.procs now.files.tree.marks → IsReady now s
+    call_ready ready agree waits marks = gone_ready w now s c is stays left went.0 ready agree waits marks
 
     -- the marks, where it has left them and the texts' files
     pub call_marked : now.files.tree.marks ≡ w.files.tree.marks → IsMarked w.procs w.files.tree.marks → marks_of c.state.texts ≡ marks_of (unix_of w).texts
         → IsMarked now.procs now.files.tree.marks
     call_marked marks good texts = still_marked w now c.state good marks (left.state ∙ ap (λ o. left_by o c.state) went.0) texts
 
+    answers_are : answers (unix_of now) s a ≡ rest
+    answers_are = λ i. answers (call_unix i) s (went.1 i)
+
     -- when its answer has been concluded
-    pub call_come : (fin : World) (e : Ending) → e ≡ (answers (unix_of now) s a).ending → unix_of fin ≡ (answers (unix_of now) s a).unix
-        → board_in fin ≡ board_in now → HasCome (board_in w) (came_by (unix_of w) s c) e fin
-    call_come fin e ends unix shown =
-        let is_now = call_unix in
-        let answer = went.1 in
-        gone_come w now c is.still stays left (came_by (unix_of w) s c) refl fin e went.0
-        (ends ∙ (λ i. (answers (is_now i) s (answer i)).ending)) (unix ∙ (λ i. (answers (is_now i) s (answer i)).unix)) shown
+    pub call_come : (e : Ending) (fin : World) → HasCome (board_in now) (answers (unix_of now) s a) e fin → HasCome (board_in w) (came_by (unix_of w) s c) e fin
+    call_come e fin come =
+        gone_come w now c is.still stays left went.0 rest e fin (subst (λ (x : Steps). HasCome (board_in now) x e fin) answers_are come)
+
+    pub call_took : (last : Taken) → Took end (logged (board_in now) (answers (unix_of now) s a).effects).items last
+        → Took start (logged (board_in w) (came_by (unix_of w) s c).effects).items last
+    call_took last took =
+        gone_took w now c is.still stays left went.0 rest last (subst (λ (x : Steps). Took end (logged (board_in now) x.effects).items last) answers_are took)

@@ -1,18 +1,22 @@
 -- What a call on files shows, and what the board of the log comes to by it.
-use Rattle.std.proofs.Common.{◌≡◌, ℕ, suc, List, [], ◌∷◌, ◌++◌, map, fold, All, None, refl, sym, ap, ◌∙◌, arith}
+use Rattle.std.proofs.Common.{◌≡◌, ◌<◌, ℕ, suc, List, [], ◌∷◌, ◌++◌, length, map, fold, All, None, refl, sym, ap, ◌∙◌, subst, inl, inr, arith}
+use Rattle.std.proofs.lemmas.Bool.{cases_lt}
+use Rattle.std.proofs.lemmas.List.{get_or_past}
 use Rattle.v6_base.specs.Trace.{Item, Log, sent, line_bytes, entries_of}
 use Rattle.v6_base.specs.declared.entry.Entry.{Entry}
+use Rattle.v6_base.specs.declared.entry.Entry.TheVariants.{Idle}
 use Rattle.pick_rules.specs.declared.table.Table.{Table}
 use Rattle.pick_rules.specs.Board.{Board}
 use Rattle.pick_rules.specs.Apply.{applied}
 use Rattle.pick_rules.specs.Effects.{Show, came}
 use Rattle.pick_rules.specs.Logged.{Logged, logged, log_one, board_after}
 use Rattle.image_keep.specs.Kept.{Kept}
-use Rattle.sys_files.proofs.Bounds.{IsWake, Fits}
+use Rattle.sys_files.proofs.Bounds.{IsShown, Fits}
 use Rattle.sys_procs.specs.Agree.{board_of}
+use Rattle.sys_procs.proofs.Signalled.{board_signalled}
 use Rattle.sys_procs.proofs.Tables.{board_woken}
 use Rattle.abstract_unix.specs.Unix.{Unix}
-use Rattle.unix_core.specs.Passing.{woken_by, all_woken}
+use Rattle.unix_core.specs.Passing.{HaveSlots, woken_by, all_woken}
 
 -- Items that are shown in order: the board takes them one after another.
 abbrev so_far : List Item → Board → Logged Unix
@@ -28,22 +32,39 @@ bytes_after : (bytes : List ℕ) (b : Board) (items : List Item) → fold board_
 bytes_after [] b items = refl
 bytes_after (byte ∷ bytes) b items = bytes_after bytes b items
 
--- lines that wake sleepers
-woken_one : (t : Table) (k : Kept) (e : Entry) → IsWake e → applied (board_of t k) e ≡ board_of (woken_by t e) k
-woken_one t k e wakes =
-    ap (applied (board_of t k)) wakes.1 ∙ sym (board_woken t k wakes.0) ∙ ap (λ x. board_of (woken_by t x) k) (sym wakes.1)
+-- lines that wake sleepers, or that send the process of a slot a signal
+woken_one : (t : Table) (k : Kept) (slot : ℕ) (e : Entry) → IsShown slot e → applied (board_of t k) e ≡ board_of (woken_by t e) k
+woken_one t k slot e shown = elim shown [
+  | inl wakes ↦
+      ap (applied (board_of t k)) wakes.1 ∙ sym (board_woken t k wakes.0) ∙ ap (λ x. board_of (woken_by t x) k) (sym wakes.1)
+  | inr sends ↦
+      ap (applied (board_of t k)) sends.1 ∙ sym (board_signalled t k slot sends.0) ∙ ap (λ x. board_of (woken_by t x) k) (sym sends.1)
+]
 
-woken_all : (entries : List Entry) (t : Table) (k : Kept) → All IsWake entries → fold board_after (board_of t k) (map Log entries) ≡ board_of (all_woken t entries) k
-woken_all [] t k wakes = refl
-woken_all (e ∷ entries) t k wakes =
-    ap (λ b. fold board_after b (map Log entries)) (woken_one t k e (wakes 0 e (omega arith)))
-    ∙ woken_all entries (woken_by t e) k (λ i d low. wakes (suc i) d (omega (arith, low)))
+woken_all : (entries : List Entry) (t : Table) (k : Kept) (slot : ℕ) → All (IsShown slot) entries
+    → fold board_after (board_of t k) (map Log entries) ≡ board_of (all_woken t entries) k
+woken_all [] t k slot shown = refl
+woken_all (e ∷ entries) t k slot shown =
+    ap (λ b. fold board_after b (map Log entries)) (woken_one t k slot e (shown 0 e (omega arith)))
+    ∙ woken_all entries (woken_by t e) k slot (λ i d low. shown (suc i) d (omega (arith, low)))
 
 -- The board after what a call on files shows is the one after the lines of its tape.
-pub shown_woken : (items : List Item) → Fits items → (t : Table) (k : Kept)
+pub shown_woken : (slot : ℕ) (items : List Item) → Fits slot items → (t : Table) (k : Kept)
     → (logged {W = Unix} (board_of t k) (map Show items)).board ≡ board_of (all_woken t (entries_of items)) k
-shown_woken items fits t k =
+shown_woken slot items fits t k =
     shown_after items [] (board_of t k)
     ∙ ap (fold board_after (board_of t k)) fits.in_order
     ∙ bytes_after (line_bytes 0 items) (board_of t k) (map Log (entries_of items))
-    ∙ woken_all (entries_of items) t k fits.only_wakes
+    ∙ woken_all (entries_of items) t k slot fits.only_shown
+
+-- Such lines name a slot of a process.
+pub shown_slots : (slot : ℕ) (entries : List Entry) → 0 < slot → slot < 50 → All (IsShown slot) entries → HaveSlots entries
+shown_slots slot entries above low shown i r sig is = elim (cases_lt i (length entries)) [
+  | inl within ↦ elim (shown i Idle within) [
+    | inl wakes ↦ absurd (let never = sym wakes.1 ∙ is in cc never)
+    | inr sends ↦
+        let same : slot ≡ r = (let one = sym sends.1 ∙ is in cc one) in
+        subst (λ x. (0 < x) × (x < 50)) same (above, low)
+  ]
+  | inr past ↦ absurd (let never = sym (get_or_past entries i Idle past) ∙ is in cc never)
+]

@@ -14,8 +14,9 @@ use Rattle.sys_files.specs.Handed.{Handed, handed}
 use Rattle.sys_files.specs.Sound.{IsKept}
 use Rattle.sys_files.specs.Does.{Does}
 use Rattle.sys_files.proofs.Bounds.{Fits, HasAll, never_filled}
-use Rattle.sys_files.proofs.Steady.{Steady, Confined, close_all_fits, close_all_steady}
+use Rattle.sys_files.proofs.Steady.{Steady, Confined, close_all_fits, close_all_steady, core_steady}
 use Rattle.sys_files.specs.Did.{Did}
+use Rattle.sys_files.specs.Core.{core_file}
 use Rattle.sys_files.specs.Descriptors.{close_all}
 use Rattle.sys_files.specs.declared.files.Files.{Files}
 use Rattle.sys_procs.proofs.Alive.{area_here}
@@ -25,8 +26,10 @@ use Rattle.unix_core.specs.declared.world.World.{World}
 use Rattle.abstract_unix.specs.Unix.{process_of}
 use Rattle.abstract_unix.specs.Calls.{handed_of, with_handed}
 use Rattle.unix_core.specs.Parts.{unix_of, IsReady, IsReadyToShow}
-use Rattle.unix_core.proofs.WorldLemmas.{ready_alive, handed_is, IsAfter, unix_after, ready_to_show}
-use Rattle.unix_core.proofs.LoanLemmas.{area_now, area_other, area_core, image_now, image_other, image_core, row_now, row_other}
+use Rattle.unix_core.proofs.WorldLemmas.{ready_alive, told_here, handed_is, IsAfter, unix_after, ready_after, ready_to_show}
+use Rattle.abstract_unix.specs.Whole.{told_of}
+use Rattle.abstract_unix.proofs.PendingRows.{Pends, core_pends}
+use Rattle.unix_core.proofs.LoanLemmas.{area_now, area_other, area_core, area_back, area_alone, image_now, image_other, image_core, row_now, row_other, row_back}
 
 -- the parts that the process in a slot is handed
 abbrev pub given : World → ℕ → Handed
@@ -42,13 +45,12 @@ pub lent_is : (w : World) (s : ℕ) (u : UArea) → IsReady w s → IsFileSystem
 lent_is w s u ready form holds is =
     ap (λ (v : UArea). handed w.files v (row_at w.procs.rows s) (image_of w.procs.images s)) is ∙ handed_is w s ready form holds
 
--- A call on files has left the parts in this state, and has shown these items.
-pub record Leaves (w w' : World) (s : ℕ) (u : UArea) (row : Row) (image : Image) (state : Handed) (items : List Item) : Type 0 where
+-- A call on files has left the parts in this state.
+pub record Leaves (w w' : World) (s : ℕ) (u : UArea) (row : Row) (image : Image) (state : Handed) : Type 0 where
   pub kept : IsKept (given w s) (handed w'.files u row image)
   pub is : handed w'.files u row image ≡ state
   pub steady : Steady (given w s) state
-  pub fits : Fits items
-  pub took : Took (taken_on (record w.tape { entries = []; bytes = [] })) items (taken_on w'.tape)
+  pub pends : Pends state
   pub rooms : (w'.tape.entry_room ≡ w.tape.entry_room) × (w'.tape.byte_room ≡ w.tape.byte_room)
   pub fifteen : length u.files ≡ 15
   pub rows : w'.procs.rows ≡ with_change w.procs.rows s (with_row row)
@@ -57,8 +59,8 @@ pub record Leaves (w w' : World) (s : ℕ) (u : UArea) (row : Row) (image : Imag
   pub switches : w'.procs.switches ≡ w.procs.switches
   pub core : w'.core ≡ w.core
 
-module _ (w w' : World) (s : ℕ) (u : UArea) (row : Row) (image : Image) (state : Handed) (items : List Item)
-    (ready : IsReady w s) (leaves : Leaves w w' s u row image state items) where
+module _ (w w' : World) (s : ℕ) (u : UArea) (row : Row) (image : Image) (state : Handed)
+    (ready : IsReady w s) (leaves : Leaves w w' s u row image state) where
   is_after : IsAfter w w' s u row image
   is_after =
       let v : Processes = w.procs.rows in
@@ -66,6 +68,7 @@ module _ (w w' : World) (s : ℕ) (u : UArea) (row : Row) (image : Image) (state
       let same : u ≡ state.u = ap (λ (h : Handed). h.u) leaves.is in
       record {
         kept = leaves.kept;
+        pends = subst Pends (sym leaves.is) leaves.pends;
         clicks = ap clicks_of same
             ∙ (ap (λ n. 16 + n + state.u.stack_size) leaves.steady.area.data_size
             ∙ ap (λ n. 16 + (given w s).u.data_size + n) leaves.steady.area.stack_size);
@@ -93,16 +96,21 @@ module _ (w w' : World) (s : ℕ) (u : UArea) (row : Row) (image : Image) (state
   pub leaves_unix : unix_of w' ≡ with_handed (unix_of w) s state
   leaves_unix = unix_after w w' s ready u row image is_after ∙ ap (with_handed (unix_of w) s) leaves.is
 
-  has_all : HasAll w'.tape items
-  has_all =
-      let entries = ready.good.rooms.0 in
-      let bytes = ready.good.rooms.1 in
-      never_filled (record w.tape { entries = []; bytes = [] }) w'.tape items leaves.fits
-      (record { entries = refl; bytes = refl; entry_room = omega (arith, entries); byte_room = omega (arith, bytes) })
-      leaves.rooms.0 leaves.rooms.1 leaves.took
+  pub leaves_ready : IsFileSystem w.files.tree.nodes → IsReady w' s
+  leaves_ready form = ready_after w w' s ready u row image is_after form
 
-  pub leaves_shown : IsFileSystem w.files.tree.nodes → IsReadyToShow w w' s items
-  leaves_shown form = ready_to_show w w' s ready u row image is_after form items leaves.fits has_all
+  -- What it has shown stands on the tape.
+  module _ (items : List Item) (fits : Fits s items) (took : Took (taken_on (record w.tape { entries = []; bytes = [] })) items (taken_on w'.tape)) where
+    has_all : HasAll w'.tape items
+    has_all =
+        let entries = ready.good.rooms.0 in
+        let bytes = ready.good.rooms.1 in
+        never_filled s (record w.tape { entries = []; bytes = [] }) w'.tape items fits
+        (record { entries = refl; bytes = refl; entry_room = omega (arith, entries); byte_room = omega (arith, bytes) })
+        leaves.rooms.0 leaves.rooms.1 took
+
+    pub leaves_shown : IsFileSystem w.files.tree.nodes → IsReadyToShow w w' s items
+    leaves_shown form = ready_to_show w w' s ready u row image is_after form items fits has_all
 
 -- What a call on files of the process in a slot is lent: its u area, its row and its memory.
 pub record IsLent (w : World) (s : ℕ) (u : UArea) (r : Row) (m : Image) : Type 0 where
@@ -140,7 +148,7 @@ pub record HasDone (w w' : World) (s : ℕ) (a : Answer) (row : Did) : Type 0 wh
 
 -- It has worked on what it was lent, and has left this u area, this row and this memory.
 module _ (w : World) (s : ℕ) {u : UArea} {r : Row} {m : Image} (lent : IsLent w s u r m) (does : Handed → Did)
-    (confined : Confined (given w s) (does (given w s))) (cleared tape : Recording) (f : Files) (v : UArea) (row : Row) (image : Image) {a : Answer}
+    (confined : Confined s (given w s) (does (given w s))) (pends : Pends (does (given w s)).state) (cleared tape : Recording) (f : Files) (v : UArea) (row : Row) (image : Image) {a : Answer}
     (done : Does (handed w.files u r m) (handed f v row image) a (taken_on cleared) (taken_on tape) (does (handed w.files u r m))) where
   pub given_done : Does (given w s) (handed f v row image) a (taken_on cleared) (taken_on tape) (does (given w s))
   given_done =
@@ -153,34 +161,75 @@ module _ (w : World) (s : ℕ) {u : UArea} {r : Row} {m : Image} (lent : IsLent 
     abbrev after : World
     after = record w { files = f; procs = record w.procs { rows = rows; images = k }; tape = tape }
 
-    call_leaves : Leaves w after s v row image (does (given w s)).state (does (given w s)).items
-    call_leaves =
-        let P : Recording → Type 0 = λ t. Took (taken_on t) (does (given w s)).items (taken_on tape) in
-        record {
-          kept = given_done.kept;
-          is = given_done.state;
-          steady = confined.steady;
-          fits = confined.fits;
-          took = subst P clear given_done.items;
-          rooms = (rooms.0 ∙ ap (λ (t : Recording). t.entry_room) clear, rooms.1 ∙ ap (λ (t : Recording). t.byte_room) clear);
-          fifteen = fifteen;
-          rows = rows_are;
-          images = images;
-          table = refl;
-          switches = refl;
-          core = refl;
-        }
+    call_leaves : Leaves w after s v row image (does (given w s)).state
+    call_leaves = record {
+      kept = given_done.kept;
+      is = given_done.state;
+      steady = confined.steady;
+      pends = pends;
+      rooms = (rooms.0 ∙ ap (λ (t : Recording). t.entry_room) clear, rooms.1 ∙ ap (λ (t : Recording). t.byte_room) clear);
+      fifteen = fifteen;
+      rows = rows_are;
+      images = images;
+      table = refl;
+      switches = refl;
+      core = refl;
+    }
 
     pub call_done : HasDone w after s a (does (given w s))
-    call_done = record {
-      answer = given_done.answer;
-      unix = leaves_unix w after s v row image _ _ lent.ready call_leaves;
-      shown = leaves_shown w after s v row image _ _ lent.ready call_leaves lent.form;
-    }
+    call_done =
+        let P : Recording → Type 0 = λ t. Took (taken_on t) (does (given w s)).items (taken_on tape) in
+        record {
+          answer = given_done.answer;
+          unix = leaves_unix w after s v row image _ lent.ready call_leaves;
+          shown = leaves_shown w after s v row image _ lent.ready call_leaves _ confined.fits (subst P clear given_done.items) lent.form;
+        }
 
 -- Files that are closed, as what a call does. It answers nothing.
 abbrev pub closing : Handed → Did
 closing h = record { answer = Ret 0 0; state = (close_all h).state; items = (close_all h).items }
 
-pub closing_confined : (h : Handed) → Confined h (closing h)
-closing_confined h = record { fits = close_all_fits h; steady = close_all_steady h }
+pub closing_confined : (slot : ℕ) (h : Handed) → Confined slot h (closing h)
+closing_confined slot h = record { fits = close_all_fits slot h; steady = close_all_steady h }
+
+-- The file `core` of the process has been written, by which nothing of the process has changed.
+module _ (w : World) (s : ℕ) {u : UArea} {m : Image} (lent : IsLent w s u (row_at w.procs.rows s) m) (none : (given w s).u.pending ≡ 0) (now : ℕ)
+    (f : Files) (k : Kept) (same : k ≡ w.procs.images)
+    (state : handed f u (row_at w.procs.rows s) m ≡ (core_file (handed w.files u (row_at w.procs.rows s) m) now).state)
+    (keeps : IsKept (handed w.files u (row_at w.procs.rows s) m) (handed f u (row_at w.procs.rows s) m)) where
+  abbrev dumped : World
+  dumped = record w { files = f; procs = record w.procs { images = k } }
+
+  its_numbers : length u.files ≡ 15
+  its_numbers =
+      ap (λ (v : UArea). length v.files) (area_is w s u lent.ready lent.area)
+      ∙ lent.ready.good.owed.fifteen s (told_of (process_of (unix_of w) s)) (told_here w s lent.ready)
+
+  same_images : k ≡ with_area (with_image w.procs.images s m) s u
+  same_images =
+      let has = lent.ready.good.running s lent.ready.runs lent.ready.user in
+      same ∙ sym (area_back w.procs.images s has) ∙ ap (with_area w.procs.images s) (sym lent.area) ∙ area_alone w.procs.images s u
+      ∙ ap (λ (x : Image). with_area (with_image w.procs.images s x) s u) (sym lent.image)
+
+  dump_leaves : Leaves w dumped s u (row_at w.procs.rows s) m (core_file (given w s) now).state
+  dump_leaves =
+      let parts : handed w.files u (row_at w.procs.rows s) m ≡ given w s = lent_parts w s lent in
+      record {
+        kept = subst (λ h. IsKept h (handed f u (row_at w.procs.rows s) m)) parts keeps;
+        is = state ∙ ap (λ h. (core_file h now).state) parts;
+        steady = core_steady (given w s) now;
+        pends = core_pends (given w s) now none;
+        rooms = (refl, refl);
+        fifteen = its_numbers;
+        rows = sym (row_back w.procs.rows s);
+        images = same_images;
+        table = refl;
+        switches = refl;
+        core = refl;
+      }
+
+  pub dumped_unix : unix_of dumped ≡ with_handed (unix_of w) s (core_file (given w s) now).state
+  dumped_unix = leaves_unix w dumped s u (row_at w.procs.rows s) m _ lent.ready dump_leaves
+
+  pub dumped_ready : IsReady dumped s
+  dumped_ready = leaves_ready w dumped s u (row_at w.procs.rows s) m _ lent.ready dump_leaves lent.form

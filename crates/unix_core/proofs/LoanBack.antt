@@ -13,7 +13,7 @@ use Rattle.image_keep.proofs.Frames.{image_alive, with_image_has, with_image_sam
 use Rattle.sys_files.specs.declared.files.Files.{Files}
 use Rattle.sys_files.specs.Handed.{Handed, handed}
 use Rattle.sys_files.specs.Did.{Did}
-use Rattle.sys_files.proofs.Steady.{SameRow, Steady, Confined}
+use Rattle.sys_files.proofs.Steady.{SameRow, Steady}
 use Rattle.sys_procs.proofs.Alive.{SameSizes, sizes_stay}
 use Rattle.unix_core.specs.declared.world.World.{World}
 use Rattle.abstract_unix.specs.Outside.{timed_area}
@@ -28,7 +28,7 @@ sizes_kept u v m n has same long = record {
 
 -- What a call on files of the process has left of its u area and of its memory.
 module _ (w : World) (s : ℕ) {u : UArea} {r : Row} {m : Image} (lent : IsLent w s u r m) (does : Handed → Did)
-    (confined : Confined (given w s) (does (given w s))) (f : Files) (v : UArea) (row : Row) (image : Image)
+    (steadily : Steady (given w s) (does (given w s)).state) (f : Files) (v : UArea) (row : Row) (image : Image)
     (state : handed f v row image ≡ (does (handed w.files u r m)).state) where
   steady : Steady (handed w.files u r m) (handed f v row image)
   steady =
@@ -36,7 +36,7 @@ module _ (w : World) (s : ℕ) {u : UArea} {r : Row} {m : Image} (lent : IsLent 
       let is : handed f v row image ≡ (does (given w s)).state = state ∙ ap (λ x. (does x).state) was in
       let P : Handed → Type 0 = λ h. Steady h (handed f v row image) in
       let Q : Handed → Type 0 = λ h. Steady (given w s) h in
-      subst P (sym was) (subst Q (sym is) confined.steady)
+      subst P (sym was) (subst Q (sym is) steadily)
 
   pub sizes_put : HasSizes v image
   sizes_put =

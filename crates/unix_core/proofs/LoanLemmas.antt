@@ -7,10 +7,10 @@ use Rattle.u_area.specs.declared.area.UArea.{UArea}
 use Rattle.proc_tab.specs.declared.row.Row.{Row}
 use Rattle.proc_tab.specs.declared.member.Member.{Member}
 use Rattle.proc_tab.specs.Processes.{Processes, member_at, row_of, row_at, changed, with_change, with_row}
-use Rattle.image_keep.specs.Kept.{Held, Kept, Has, keeping, imaged, described, with_image, with_area, image_of}
+use Rattle.image_keep.specs.Kept.{Held, Keeping, Nothing, Alive, Grave, Kept, Has, HasImage, keeping, with_keeping, imaged, described, with_image, with_area, area_in, area_of, image_of}
 use Rattle.std.specs.Borrow.{GName}
 use Rattle.image_keep.specs.Lent.{Lent, left_of}
-use Rattle.image_keep.proofs.Frames.{after, keeping_same, keeping_other, alive_low, image_alive, image_back}
+use Rattle.image_keep.proofs.Frames.{after, keeping_same, keeping_other, keeping_back, alive_low, image_alive, image_back}
 
 pub area_now : (k : Kept) (s : ℕ) (u : UArea) (held : Held) → Has k s held → Has (with_area k s u) s (record held { u = u })
 unfolding with_area
@@ -59,6 +59,16 @@ pub row_back : (v : Processes) (s : ℕ) → with_change v s (with_row (row_at v
 row_back v s =
     ap (λ o. record v { slots = set v.slots s o }) (same_member (member_at v.slots s))
     ∙ ap (λ (l : List (Option Member)). record v { slots = l }) (set-get_or v.slots s None)
+
+-- A u area that is put as it was.
+pub area_back : (k : Kept) (s : ℕ) → HasImage k s → with_area k s (area_of k s) ≡ k
+unfolding with_area
+area_back k s has = ap (with_keeping k s) (by (keeping k s) has.1) ∙ keeping_back k s
+  where
+    by : (x : Keeping) → x ≡ Alive has.0 → described (area_in x) x ≡ x
+    by Nothing is = refl
+    by (Alive held) is = refl
+    by (Grave u block) is = absurd (cc is)
 
 -- A u area that is put where nothing else has changed.
 pub area_alone : (k : Kept) (s : ℕ) (u : UArea) → with_area k s u ≡ with_area (with_image k s (image_of k s)) s u

@@ -11,6 +11,7 @@ use Rattle.pick_rules.specs.Table.{row_at}
 use Rattle.pick_rules.specs.Board.{Board, blocks, placed, swap_fit, free_text}
 use Rattle.pick_rules.specs.Effects.{Effect, Show, Size, Fork, Text, Image, Exit, Came, Lets, Stops, at_fit, image_at, new_text_at, came, lifted}
 use Rattle.pick_rules.specs.Logged.{Logged, Stop, logged, log_one, left_by, board_after, with_what_came, unless_stopped}
+use Rattle.pick_rules.proofs.Stopping.{halted, stays_stopped}
 
 -- What effects over another state leave is the same, over that state.
 module _ {V W : Type 0} (f : V → W) where
@@ -126,3 +127,22 @@ pub logged_both : {V W : Type 0} (f : V → W) (b : Board) (items : List Item) (
     → logged b (map Show items ++ map (lifted f) es) ≡ after_items items (over f (logged (logged {W = W} b (map Show items)).board es))
 logged_both {V} {W} f b items es =
     logged_after b items (map (lifted f) es) ∙ ap (after_items items) (logged_over f (logged {W = W} b (map Show items)).board es)
+
+-- Effects, and then others: the log of both, where the first ones don't stop.
+module _ {W : Type 0} (b : Board) (es more : List (Effect W)) where
+  pub logged_then : (logged b es).stop ≡ None → logged b (es ++ more) ≡ after_items (logged b es).items (logged (logged b es).board more)
+  logged_then none =
+      let first : logged b es ≡ after_items (logged b es).items (only_shown [] (logged b es).board) =
+      (λ i. record { items = sym (append-nil (logged b es).items) i; board = (logged b es).board; stop = none i }) in
+      fold-append log_one (only_shown [] b) es more
+      ∙ ap (λ (l : Logged W). fold log_one l more) first
+      ∙ all_after (logged b es).items more (only_shown [] (logged b es).board)
+
+  -- and where they stop
+  pub logged_halted : (stop : Stop W) → (logged b es).stop ≡ Some stop → logged b (es ++ more) ≡ logged b es
+  logged_halted stop some =
+      let first : logged b es ≡ halted (logged b es).items (logged b es).board stop = (λ i. record (logged b es) { stop = some i }) in
+      fold-append log_one (only_shown [] b) es more
+      ∙ ap (λ (l : Logged W). fold log_one l more) first
+      ∙ stays_stopped (logged b es).items (logged b es).board stop more
+      ∙ sym first

@@ -1,7 +1,7 @@
 -- A process that runs: what a world says of it, what its calls on files are handed, and that they leave it running.
 use Rattle.std.proofs.Common.{◌≡◌, ◌≢◌, ◌+◌, ℕ, false, List, ◌++◌, length, get_or, set, map, Option, Some, None, refl, sym, ap, ◌∙◌, subst}
 use Rattle.v6_base.specs.Image.{Image}
-use Rattle.v6_base.specs.Trace.{Item, Log, sent}
+use Rattle.v6_base.specs.Trace.{Item, Log, sent, entries_of}
 use Rattle.u_area.specs.declared.area.UArea.{UArea}
 use Rattle.pick_rules.specs.declared.table.Table.{Table}
 use Rattle.proc_tab.specs.declared.row.Row.{Row}
@@ -29,14 +29,16 @@ use Rattle.abstract_unix.specs.Unix.{Text, process_of}
 use Rattle.abstract_unix.specs.References.{referrers, references_of}
 use Rattle.sys_procs.specs.TextTable.{marks_of}
 use Rattle.abstract_unix.specs.Calls.{handed_of, with_handed}
-use Rattle.unix_core.specs.Passing.{all_woken}
+use Rattle.unix_core.specs.Passing.{HaveSlots, all_woken}
 use Rattle.unix_core.specs.Parts.{unix_of, IsGood, IsReady, IsReadyToShow}
 use Rattle.unix_core.proofs.PutLemmas.{good_alive, alive_slot, slot_put, agree_put}
-use Rattle.unix_core.proofs.GoodLemmas.{told_of_slot, fifty_told, forty, runs_same}
+use Rattle.unix_core.proofs.GoodLemmas.{told_of_slot, fifty_told, forty, runs_low, runs_same}
 use Rattle.std.proofs.lemmas.List.FromFn.{fill_by_all}
-use Rattle.abstract_unix.specs.Whole.{Told, told_of, told_in, Owes, Owed}
+use Rattle.abstract_unix.specs.Whole.{Told, told_of, told_in, Owes, Owed, CanGoOn}
 use Rattle.abstract_unix.proofs.Owing.{told_at, refer_told, sound_by, file_owes}
-use Rattle.unix_core.proofs.FileLemmas.{shown_woken}
+use Rattle.abstract_unix.proofs.PendingRows.{Pends}
+use Rattle.abstract_unix.proofs.GoingOnLemmas.{file_goes_on}
+use Rattle.unix_core.proofs.FileLemmas.{shown_woken, shown_slots}
 
 -- who runs lives
 pub ready_alive : (w : World) (s : ℕ) → IsReady w s → IsAlive w.procs s
@@ -54,12 +56,14 @@ pub told_here : (w : World) (s : ℕ) → IsReady w s → told_of_slot w s ≡ S
 told_here w s ready = told_at (unix_of w).processes s (process_of (unix_of w) s) (slot_is w s ready) (is_living w s ready)
 
 pub sound_parts : (w : World) (s : ℕ) (h : Handed) → IsReady w s → length w.files.table ≡ 100 → kept.IsKept w.procs.images
-    → h.files ≡ w.files.table → h.u ≡ (process_of (unix_of w) s).u → h.inodes.references ≡ w.files.tree.nodes.references → IsSound h
-sound_parts w s h ready long holds files area references =
+    → h.files ≡ w.files.table → h.pipes ≡ w.files.pipes → h.u ≡ (process_of (unix_of w) s).u → h.inodes.references ≡ w.files.tree.nodes.references → IsSound h
+sound_parts w s h ready long holds files pipes area references =
     let ts : List (Option Told) = told_in (unix_of w).processes in
     let texts : List (Option Text) = (unix_of w).texts in
-    let P : List ℕ → List (Option OpenFile) → Type 0 = λ refs table. Owes refs table texts ts in
-    sound_by h texts ts s (subst (λ refs. P refs h.files) (sym references) (subst (P w.files.tree.nodes.references) (sym files) ready.good.owed))
+    let refs : List ℕ = w.files.tree.nodes.references in
+    let owed : Owes refs h.files h.pipes texts ts =
+    subst (λ table. Owes refs table h.pipes texts ts) (sym files) (subst (λ ends. Owes refs w.files.table ends texts ts) (sym pipes) ready.good.owed) in
+    sound_by h texts ts s (subst (λ l. Owes l h.files h.pipes texts ts) (sym references) owed)
     (told_here w s ready ∙ ap (λ (u : UArea). Some (record { files = u.files; dir = u.dir })) (sym area)) (ap length files ∙ long) (fifty_told w) (forty w.procs.images holds)
 
 -- the references of the file system are those that the Unix says
@@ -83,6 +87,7 @@ handed_is w s ready form holds =
       inodes = record { store = w.files.tree.nodes.store; references = references i };
       marks = ready.good.marks i;
       files = w.files.table;
+      pipes = w.files.pipes;
       line = w.files.line;
       u = area i;
       row = row i;
@@ -93,6 +98,7 @@ handed_is w s ready form holds =
 -- no file's.
 pub record IsAfter (w w' : World) (s : ℕ) (u : UArea) (row : Row) (image : Image) : Type 0 where
   pub kept : IsKept (handed_of (unix_of w) (process_of (unix_of w) s)) (handed w'.files u row image)
+  pub pends : Pends (handed w'.files u row image)
   pub clicks : clicks_of u ≡ clicks_of (process_of (unix_of w) s).u
   pub fifteen : length u.files ≡ 15
   pub member : (m : Member) → member_at w.procs.rows.slots s ≡ Some m → member_at w'.procs.rows.slots s ≡ Some (record m { row = row })
@@ -156,6 +162,8 @@ module _ (w w' : World) (s : ℕ) (ready : IsReady w s) (u : UArea) (row : Row) 
         running = runs_same w w' ready.good agree after.table;
         owed = subst (Owed w'.files.tree.nodes.references) (sym unix_after)
             (file_owes w.files.tree.nodes.references (unix_of w) s h ready.good.owed (slot_is w s ready) (is_living w s ready) (references_in w s ready form) after.kept after.fifteen);
+        pending = subst CanGoOn (sym unix_after)
+            (file_goes_on w.files.tree.nodes.references (unix_of w) s h ready.good.owed ready.good.pending (slot_is w s ready) (is_living w s ready) after.kept after.pends);
         marks = after.marks ∙ (ready.good.marks ∙ ap (λ texts. marks_of (map text_in texts)) (sym after.texts.texts));
         rooms = (after.entry_room ∙ ready.good.rooms.0, after.byte_room ∙ ready.good.rooms.1);
         core = after.world_core ∙ (ready.good.core ∙ sym after.core);
@@ -165,12 +173,13 @@ module _ (w w' : World) (s : ℕ) (ready : IsReady w s) (u : UArea) (row : Row) 
   ready_after form = record { good = good_after form; runs = running_after; user = ready.user }
 
   -- What the tape holds then can go on to the log.
-  pub ready_to_show : IsFileSystem w.files.tree.nodes → (items : List Item) → Fits items → HasAll w'.tape items → IsReadyToShow w w' s items
+  pub ready_to_show : IsFileSystem w.files.tree.nodes → (items : List Item) → Fits s items → HasAll w'.tape items → IsReadyToShow w w' s items
   ready_to_show form items fits all = record {
     ready = ready_after form;
     table = after.table;
     core = after.core;
     texts = after.texts.texts;
     shown = (λ i. sent 0 (all.bytes i) ++ map Log (all.entries i)) ∙ sym fits.in_order;
-    wakes = λ t k. shown_woken items fits t k ∙ ap (λ l. board_of (all_woken t l) k) (sym all.entries);
+    slots = subst HaveSlots (sym all.entries) (shown_slots s (entries_of items) ready.user (runs_low w s ready.good.agree ready.runs) fits.only_shown);
+    wakes = λ t k. shown_woken s items fits t k ∙ ap (λ l. board_of (all_woken t l) k) (sym all.entries);
   }

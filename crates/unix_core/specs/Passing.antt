@@ -39,9 +39,9 @@ woken_by t (Wake chan) = wakeup t chan
 woken_by t (Signal slot sig) = signalled t slot
 woken_by t e = t
 
--- a line of a signal names a slot that there is
+-- a line of a signal names a slot of a process
 abbrev pub HasSlot : Entry → Type 0
-HasSlot e = (slot sig : ℕ) → e ≡ Signal slot sig → slot < 50
+HasSlot e = (slot sig : ℕ) → e ≡ Signal slot sig → (0 < slot) × (slot < 50)
 
 abbrev pub HaveSlots : List Entry → Type 0
 HaveSlots entries = (i : ℕ) → HasSlot (slice_index_or entries i Idle)

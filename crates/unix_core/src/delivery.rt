@@ -12,6 +12,7 @@ ghost use Rattle.sys_procs.specs.Handed.{process_here};
 ghost use Rattle.abstract_unix.specs.Unix.{process_of};
 ghost use Rattle.abstract_unix.specs.Steps.{Steps};
 ghost use Rattle.abstract_unix.specs.Calls.{exits_with};
+ghost use Rattle.abstract_unix.specs.Turn.{is_user};
 ghost use Rattle.abstract_unix.specs.Delivery.{heeds, catches, ends_by, delivers, delivers_due, ends_turn};
 ghost use Rattle.unix_core.specs.Parts.{unix_of, board_in, IsGood, IsReady, HasCome, IsCovered, is_over};
 
@@ -106,8 +107,9 @@ fn catch<T: Trace>(world: &mut World, s: Slot, sig: u8, trace: &mut T) -> Ending
 }
 
 /// Ends a process with a status: its files are closed, and it has ended.
-fn end_with<T: Trace>(world: &mut World, s: Slot, status: u16, trace: &mut T) -> Ending
-    requires { IsReady world.old s }
+pub(crate) fn end_with<T: Trace>(world: &mut World, s: Slot, status: u16, trace: &mut T) -> Ending
+    requires ready { IsReady world.old s }
+    requires user { is_user (process_of (unix_of world.old) s) ≡ true }
     ensures come { HasCome (board_in world.old) (exits_with (unix_of world.old) s status) result world.new }
     ensures good { is_over result ≡ false → IsGood world.new }
     ensures covered { is_over result ≡ true → IsCovered world.new }
@@ -133,6 +135,7 @@ fn end_with<T: Trace>(world: &mut World, s: Slot, status: u16, trace: &mut T) ->
 /// Ends a process by a signal, which may leave the file `core`.
 fn end_by<T: Trace>(world: &mut World, s: Slot, sig: u8, core: bool, trace: &mut T) -> Ending
     requires ready { IsReady world.old s }
+    requires user { is_user (process_of (unix_of world.old) s) ≡ true }
     requires core { core ≡ makes_core sig }
     ensures come { HasCome (board_in world.old) (ends_by (unix_of world.old) s sig) result world.new }
     ensures items { Took (T.taken trace.old) (logged (board_in world.old) (ends_by (unix_of world.old) s sig).effects).items
@@ -151,6 +154,7 @@ fn end_by<T: Trace>(world: &mut World, s: Slot, sig: u8, core: bool, trace: &mut
 /// Delivers a signal to a process.
 fn deliver_to<T: Trace>(world: &mut World, s: Slot, sig: u8, trace: &mut T) -> Ending
     requires ready { IsReady world.old s }
+    requires user { is_user (process_of (unix_of world.old) s) ≡ true }
     requires due { due (process_of (unix_of world.old) s).row (process_of (unix_of world.old) s).u ≡ Some sig }
     ensures come { HasCome (board_in world.old) (delivers (unix_of world.old) s sig) result world.new }
     ensures good { is_over result ≡ false → IsGood world.new }
@@ -173,7 +177,8 @@ fn deliver_to<T: Trace>(world: &mut World, s: Slot, sig: u8, trace: &mut T) -> E
 
 /// Delivers the signal that is due to the running process, where one is: at the end of a turn, and in a tick.
 pub(crate) fn deliver_due<T: Trace>(world: &mut World, s: Slot, trace: &mut T) -> Ending
-    requires { IsReady world.old s }
+    requires ready { IsReady world.old s }
+    requires user { is_user (process_of (unix_of world.old) s) ≡ true }
     ensures come { HasCome (board_in world.old) (delivers_due (unix_of world.old) s) result world.new }
     ensures good { is_over result ≡ false → IsGood world.new }
     ensures covered { is_over result ≡ true → IsCovered world.new }
@@ -199,6 +204,7 @@ pub(crate) fn deliver_after<T: Trace>(
     requires good { is_over ending ≡ false → IsGood world.old }
     requires covered { is_over ending ≡ true → IsCovered world.old }
     requires runs { is_over ending ≡ false → ending ≢ Ending.Ended → world.old.procs.table.running ≡ Some s }
+    requires user { ending ≡ Ending.Trapped → is_user (process_of (unix_of world.old) s) ≡ true }
     ensures good { is_over result ≡ false → IsGood world.new }
     ensures covered { is_over result ≡ true → IsCovered world.new }
     ensures runs { is_over result ≡ false → result ≢ Ending.Ended → world.new.procs.table.running ≡ Some s }

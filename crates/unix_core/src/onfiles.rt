@@ -7,6 +7,7 @@ ghost use Rattle.sys_files.specs.Core.{core_file, is_written};
 ghost use Rattle.image_keep.specs.Kept.{area_of};
 ghost use Rattle.abstract_unix.specs.Unix.{process_of};
 ghost use Rattle.abstract_unix.specs.Calls.{handed_of, with_handed, file_row, is_on_files};
+ghost use Rattle.abstract_unix.specs.Turn.{is_user};
 ghost use Rattle.unix_core.specs.Parts.{unix_of, board_in, IsReady, IsReadyToShow};
 
 use crate::files::{see_count, see_nodes, see_numbers, see_table};
@@ -17,7 +18,8 @@ use v6_base::{Answer, Slot};
 
 /// Does a call on files by its row.
 pub(crate) fn do_on_files(world: &mut World, s: Slot, call: FileCall, args: [u16; 4]) -> Answer
-    requires { IsReady world.old s }
+    requires ready { IsReady world.old s }
+    requires user { is_user (process_of (unix_of world.old) s) ≡ true }
     ensures answer { result ≡ (file_row call
         (handed_of (unix_of world.old) (process_of (unix_of world.old) s)) s args world.old.procs.table.now).answer }
     ensures unix { unix_of world.new ≡ with_handed (unix_of world.old) s (file_row call
@@ -90,7 +92,8 @@ pub(crate) fn resume_on_files(world: &mut World, s: Slot) -> Answer
 
 /// Writes the image of a process that a signal ends to the file `core`, and says whether the whole of it was written.
 pub(crate) fn put_core(world: &mut World, s: Slot) -> bool
-    requires { IsReady world.old s }
+    requires ready { IsReady world.old s }
+    requires user { is_user (process_of (unix_of world.old) s) ≡ true }
     ensures whole { result ≡ is_written (core_file
         (handed_of (unix_of world.old) (process_of (unix_of world.old) s)) world.old.procs.table.now).answer }
     ensures unix { unix_of world.new ≡ with_handed (unix_of world.old) s (core_file
@@ -109,7 +112,8 @@ pub(crate) fn put_core(world: &mut World, s: Slot) -> bool
 
 /// Closes the files of a process that ends.
 pub(crate) fn close_files(world: &mut World, s: Slot)
-    requires { IsReady world.old s }
+    requires ready { IsReady world.old s }
+    requires user { is_user (process_of (unix_of world.old) s) ≡ true }
     ensures unix { unix_of world.new ≡ with_handed (unix_of world.old) s
         (close_all (handed_of (unix_of world.old) (process_of (unix_of world.old) s))).state }
     ensures shown { IsReadyToShow world.old world.new s

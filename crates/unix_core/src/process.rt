@@ -11,12 +11,13 @@ ghost use Rattle.abstract_unix.specs.Unix.{Unix, process_of};
 ghost use Rattle.abstract_unix.specs.Steps.{signals};
 ghost use Rattle.abstract_unix.specs.Calls.{world_of, words_passed, entered_area, given_area, refused_area, refuses, system_call, does_call, did_by, came_by, shares, forks, exits, grows_to, resumed, answers, handed_of, file_row, process_row, is_on_files};
 ghost use Rattle.abstract_unix.specs.Errors.{error_number};
-ghost use Rattle.abstract_unix.specs.Turn.{faults, comes_to, passes_setd};
+ghost use Rattle.abstract_unix.specs.Turn.{faults, comes_to, passes_setd, is_user};
 ghost use Rattle.unix_core.specs.Parts.{unix_of, board_in, IsGood, IsReady, HasCome, IsCovered, is_over};
 
 use crate::asked::ask;
+use crate::delivery::end_with;
 use crate::files::{see_covered, see_kept, see_nodes, see_procs, see_table};
-use crate::onfiles::{close_files, do_on_files, resume_on_files};
+use crate::onfiles::{do_on_files, resume_on_files};
 use crate::passing::pass_on;
 use crate::world::World;
 use abstract_unix::{Asked, Ending, FileCall, ProcessCall, SystemCall, do_process_call, sysent_of};
@@ -24,7 +25,7 @@ use image_keep::Images;
 use open_files::OpenTable;
 use pdp_step::{Kind, Outcome};
 use sig_core::{SIGBUS, SIGEMT, SIGINS, SIGIOT, SIGSEG, SIGSYS, SIGTRC};
-use sys_procs::{exit_now, fork_one, grow, resume_proc, send_signal};
+use sys_procs::{fork_one, grow, resume_proc, send_signal};
 use v6_base::{Answer, Errno, PanicKind, Slot, Trace};
 
 /// The pending calls on files: a read of the console, a read and a write of a pipe.
@@ -143,7 +144,8 @@ fn call_files<T: Trace>(
     args: [u16; 4],
     trace: &mut T,
 ) -> Ending
-    requires { IsReady world.old s }
+    requires ready { IsReady world.old s }
+    requires user { is_user (process_of (unix_of world.old) s) ≡ true }
     ensures come { HasCome (board_in world.old) (did_by (unix_of world.old) s (file_row call
         (handed_of (unix_of world.old) (process_of (unix_of world.old) s)) s args world.old.procs.table.now)) result world.new }
     ensures ready { IsReady world.new s }
@@ -167,7 +169,8 @@ fn call_processes<T: Trace>(
     args: [u16; 4],
     trace: &mut T,
 ) -> Ending
-    requires { IsReady world.old s }
+    requires ready { IsReady world.old s }
+    requires user { is_user (process_of (unix_of world.old) s) ≡ true }
     ensures come { HasCome (board_in world.old) (came_by (unix_of world.old) s
         (process_row call (world_of (unix_of world.old)) s args)) result world.new }
     ensures ready { is_over result ≡ false → IsReady world.new s }
@@ -209,7 +212,8 @@ fn share_files(table: &mut OpenTable, mine: &[u8; 15], answer: Answer)
 
 /// fork(II): the child has its parent's open files.
 fn fork<T: Trace>(world: &mut World, s: Slot, trace: &mut T) -> Ending
-    requires { IsReady world.old s }
+    requires ready { IsReady world.old s }
+    requires user { is_user (process_of (unix_of world.old) s) ≡ true }
     ensures come { HasCome (board_in world.old) (forks (unix_of world.old) s) result world.new }
     ensures ready { is_over result ≡ false → IsReady world.new s }
     ensures covered { is_over result ≡ true → IsCovered world.new }
@@ -235,7 +239,8 @@ fn fork<T: Trace>(world: &mut World, s: Slot, trace: &mut T) -> Ending
 
 /// exit(II): the files of the process are closed, and it has ended.
 fn exit<T: Trace>(world: &mut World, s: Slot, trace: &mut T) -> Ending
-    requires { IsReady world.old s }
+    requires ready { IsReady world.old s }
+    requires user { is_user (process_of (unix_of world.old) s) ≡ true }
     ensures come { HasCome (board_in world.old) (exits (unix_of world.old) s) result world.new }
     ensures good { is_over result ≡ false → IsGood world.new }
     ensures covered { is_over result ≡ true → IsCovered world.new }
@@ -245,17 +250,8 @@ fn exit<T: Trace>(world: &mut World, s: Slot, trace: &mut T) -> Ending
     ensures frame { T.leads_to trace.old trace.new }
     ensures rest { SameRest world.old.files.tree.nodes.blocks world.new.files.tree.nodes.blocks }
 {
-    close_files(world, s);
-    pass_on(&world.tape, &mut world.procs.table, trace);
-    see_nodes(&world.files.tree.nodes);
-    see_table(&world.files.table);
-    see_kept(&world.procs.images);
-    let ended = exit_now(&mut world.procs, &mut world.files.tree, s, [0; 4], trace);
-    see_covered(world);
-    match ended {
-        Ok(_) => Ending::Ended,
-        Err(kind) => Ending::Panic(kind),
-    }
+    let r0 = world.procs.images.area(s).r[0];
+    end_with(world, s, 256 * (r0 % 256), trace)
 }
 
 /// Lets the stack grow for an instruction that wanted an address below it: the instruction is done again in a later slot.
@@ -289,7 +285,8 @@ fn does_call<T: Trace>(
     args: [u16; 4],
     trace: &mut T,
 ) -> Ending
-    requires { IsReady world.old s }
+    requires ready { IsReady world.old s }
+    requires user { is_user (process_of (unix_of world.old) s) ≡ true }
     ensures come { HasCome (board_in world.old) (does_call (unix_of world.old) s call args) result world.new }
     ensures good { is_over result ≡ false → IsGood world.new }
     ensures covered { is_over result ≡ true → IsCovered world.new }
@@ -321,7 +318,8 @@ fn words_passed(asked: &Asked, count: u8) -> u8
 
 /// A call by its number, where the PC has passed its word.
 fn call<T: Trace>(world: &mut World, s: Slot, number: u8, trace: &mut T) -> Ending
-    requires { IsReady world.old s }
+    requires ready { IsReady world.old s }
+    requires user { is_user (process_of (unix_of world.old) s) ≡ true }
     ensures come { HasCome (board_in world.old) (system_call number (unix_of world.old) s) result world.new }
     ensures good { is_over result ≡ false → IsGood world.new }
     ensures covered { is_over result ≡ true → IsCovered world.new }
@@ -384,7 +382,8 @@ pub(crate) fn come_to<T: Trace>(
     outcome: Outcome,
     trace: &mut T,
 ) -> Ending
-    requires { IsReady world.old s }
+    requires ready { IsReady world.old s }
+    requires user { is_user (process_of (unix_of world.old) s) ≡ true }
     ensures come { HasCome (board_in world.old) (comes_to (unix_of world.old) s outcome) result world.new }
     ensures good { is_over result ≡ false → IsGood world.new }
     ensures covered { is_over result ≡ true → IsCovered world.new }

@@ -6,6 +6,10 @@ use Rattle.proc_tab.specs.Processes.{row_at}
 use Rattle.image_keep.specs.Kept.{image_of}
 use Rattle.sys_files.specs.Handed.{handed}
 use Rattle.unix_core.specs.declared.world.World.{World}
+use Rattle.abstract_unix.specs.Unix.{process_of}
+use Rattle.abstract_unix.proofs.PendingRows.{close_pends}
+use Rattle.unix_core.specs.Parts.{unix_of}
+use Rattle.unix_core.proofs.AreaLemmas.{none_pending}
 use Rattle.unix_core.proofs.WorldLemmas.{sound_parts}
 use Rattle.unix_core.proofs.LoanLemmas.{row_back, area_alone}
 use Rattle.unix_core.proofs.LoanBack.{sizes_put}
@@ -13,16 +17,16 @@ use Rattle.unix_core.proofs.LeavingLemmas.{given, area_is, lends, call_done, clo
 use Rattle.unix_core.proofs.onfiles.close_files.Goals as goal
 
 pub area-u-requires : goal.area-u-requires
-area-u-requires c = c.requires.good.running c.args.s c.requires.runs c.requires.user
+area-u-requires c = c.requires.ready.good.running c.args.s c.requires.ready.runs c.requires.ready.user
 
 pub close_all-requires : goal.close_all-requires
 close_all-requires c =
     let w : World = c.args.world.now in
-    let area = area_is w c.args.s c.area-u.result c.requires c.area-u.ensures.u in
+    let area = area_is w c.args.s c.area-u.result c.requires.ready c.area-u.ensures.u in
     record {
       sound = λ row image.
-          sound_parts w c.args.s (handed w.files c.area-u.result row image) c.requires c.see_table.ensures
-          c.area-u.ensures.holds refl area refl;
+          sound_parts w c.args.s (handed w.files c.area-u.result row image) c.requires.ready c.see_table.ensures
+          c.area-u.ensures.holds refl refl area refl;
     }
 
 pub set_area-requires : goal.set_area-requires
@@ -30,10 +34,10 @@ set_area-requires c =
     let w : World = c.args.world.now in
     let row : Row = row_at w.procs.rows c.args.s in
     let image : Image = image_of w.procs.images c.args.s in
-    let lent = lends w c.args.s {r = row} w.procs.images c.args.s c.requires c.see_nodes.ensures c.area-u.ensures.sizes c.area-u.ensures.holds c.area-u.ensures.u refl refl refl in
+    let lent = lends w c.args.s {r = row} w.procs.images c.args.s c.requires.ready c.see_nodes.ensures c.area-u.ensures.sizes c.area-u.ensures.holds c.area-u.ensures.u refl refl refl in
     record {
-      image = c.requires.good.running c.args.s c.requires.runs c.requires.user;
-      sizes = sizes_put w c.args.s lent closing (closing_confined (given w c.args.s)) c.close_all.new.f c.close_all.new.u row image (c.close_all.ensures.state row image);
+      image = c.requires.ready.good.running c.args.s c.requires.ready.runs c.requires.ready.user;
+      sizes = sizes_put w c.args.s lent closing (closing_confined c.args.s (given w c.args.s)).steady c.close_all.new.f c.close_all.new.u row image (c.close_all.ensures.state row image);
     }
 
 pub returns : goal.returns
@@ -41,8 +45,9 @@ returns c =
     let w : World = c.args.world.now in
     let row : Row = row_at w.procs.rows c.args.s in
     let image : Image = image_of w.procs.images c.args.s in
-    let lent = lends w c.args.s {r = row} w.procs.images c.args.s c.requires c.see_nodes.ensures c.area-u.ensures.sizes c.area-u.ensures.holds c.area-u.ensures.u refl refl refl in
-    let done = call_done w c.args.s lent closing (closing_confined (given w c.args.s)) c.clear.new.self c.close_all.new.trace c.close_all.new.f c.close_all.new.u row image
+    let lent = lends w c.args.s {r = row} w.procs.images c.args.s c.requires.ready c.see_nodes.ensures c.area-u.ensures.sizes c.area-u.ensures.holds c.area-u.ensures.u refl refl refl in
+    let done = call_done w c.args.s lent closing (closing_confined c.args.s (given w c.args.s))
+    (close_pends (given w c.args.s) (none_pending (process_of (unix_of w) c.args.s) c.requires.user)) c.clear.new.self c.close_all.new.trace c.close_all.new.f c.close_all.new.u row image
     {a = Ret 0 0}
     (record {
       answer = refl;

@@ -2,8 +2,12 @@ use Rattle.std.proofs.Common.{rules, ◌∙◌, refl, ap}
 use Rattle.image_keep.specs.Kept.{Kept, image_of, with_area}
 use Rattle.sys_files.specs.Handed.{Handed, handed}
 use Rattle.abstract_unix.specs.Calls.{file_row}
+use Rattle.abstract_unix.specs.Unix.{process_of}
 use Rattle.abstract_unix.proofs.FileRows.{row_confined}
+use Rattle.abstract_unix.proofs.PendingRows.{row_pends}
 use Rattle.unix_core.specs.declared.world.World.{World}
+use Rattle.unix_core.specs.Parts.{unix_of}
+use Rattle.unix_core.proofs.AreaLemmas.{none_pending}
 use Rattle.unix_core.proofs.WorldLemmas.{sound_parts}
 use Rattle.unix_core.proofs.LoanLemmas.{lent_back}
 use Rattle.unix_core.proofs.LoanBack.{area_put, row_put}
@@ -11,56 +15,57 @@ use Rattle.unix_core.proofs.LeavingLemmas.{given, area_is, lends, call_done}
 use Rattle.unix_core.proofs.onfiles.do_on_files.Goals as goal
 
 pub area-u-requires : goal.area-u-requires
-area-u-requires c = c.requires.good.running c.args.s c.requires.runs c.requires.user
+area-u-requires c = c.requires.ready.good.running c.args.s c.requires.ready.runs c.requires.ready.user
 
 pub space-space-requires : goal.space-space-requires
-space-space-requires c = c.requires.good.running c.args.s c.requires.runs c.requires.user
+space-space-requires c = c.requires.ready.good.running c.args.s c.requires.ready.runs c.requires.ready.user
 
 pub do_file_call-answer-requires : goal.do_file_call-answer-requires
 do_file_call-answer-requires c =
     let w : World = c.args.world.now in
     let parts : Handed = handed w.files c.area-u.result c.row.result.now (image_of c.space-space.result.images.now c.space-space.result.slot) in
-    let area = area_is w c.args.s c.area-u.result c.requires c.area-u.ensures.u in
-    record { sound = sound_parts w c.args.s parts c.requires c.see_table.ensures c.area-u.ensures.holds refl area refl }
+    let area = area_is w c.args.s c.area-u.result c.requires.ready c.area-u.ensures.u in
+    record { sound = sound_parts w c.args.s parts c.requires.ready c.see_table.ensures c.area-u.ensures.holds refl refl area refl }
 
 -- These follow from the images alone, whatever the loan says of itself.
 pub set_area-requires : goal.set_area-requires
 set_area-requires c =
     let w : World = c.args.world.now in
     let now : Kept = c.do_file_call-answer.new.space.images.now in
-    let lent = lends w c.args.s _ _ c.requires c.see_nodes.ensures c.area-u.ensures.sizes c.area-u.ensures.holds c.area-u.ensures.u c.row.ensures
+    let lent = lends w c.args.s _ _ c.requires.ready c.see_nodes.ensures c.area-u.ensures.sizes c.area-u.ensures.holds c.area-u.ensures.u c.row.ensures
     c.space-space.ensures.images c.space-space.ensures.slot in
     let back = lent_back w.procs.images c.space-space.result.images.now now c.args.s c.space-space.result.slot c.do_file_call-answer.new.space.slot _ _
     c.space-space.ensures.images c.space-space.ensures.slot c.do_file_call-answer.ensures.memory in
-    let put = area_put w c.args.s lent (λ h. file_row c.args.call h c.args.args w.procs.table.now) (row_confined c.args.call (given w c.args.s) c.args.args w.procs.table.now c.see_count.ensures)
+    let put = area_put w c.args.s lent (λ h. file_row c.args.call h c.args.s c.args.args w.procs.table.now) (row_confined c.args.call (given w c.args.s) c.args.s c.args.args w.procs.table.now c.see_count.ensures).steady
     c.do_file_call-answer.new.files c.do_file_call-answer.new.u c.do_file_call-answer.new.row _ c.do_file_call-answer.ensures.does.state now back in
     record { image = put.0; sizes = put.1 }
 
 pub set_row-requires-clause-pid : goal.set_row-requires-clause-pid
 set_row-requires-clause-pid c =
     let w : World = c.args.world.now in
-    let lent = lends w c.args.s _ _ c.requires c.see_nodes.ensures c.area-u.ensures.sizes c.area-u.ensures.holds c.area-u.ensures.u c.row.ensures
+    let lent = lends w c.args.s _ _ c.requires.ready c.see_nodes.ensures c.area-u.ensures.sizes c.area-u.ensures.holds c.area-u.ensures.u c.row.ensures
     c.space-space.ensures.images c.space-space.ensures.slot in
-    (row_put w c.args.s lent (λ h. file_row c.args.call h c.args.args w.procs.table.now) (row_confined c.args.call (given w c.args.s) c.args.args w.procs.table.now c.see_count.ensures)
+    (row_put w c.args.s lent (λ h. file_row c.args.call h c.args.s c.args.args w.procs.table.now) (row_confined c.args.call (given w c.args.s) c.args.s c.args.args w.procs.table.now c.see_count.ensures).steady
     c.do_file_call-answer.new.files c.do_file_call-answer.new.u c.do_file_call-answer.new.row _ c.do_file_call-answer.ensures.does.state).pid
 
 pub set_row-requires-clause-ppid : goal.set_row-requires-clause-ppid
 set_row-requires-clause-ppid c =
     let w : World = c.args.world.now in
-    let lent = lends w c.args.s _ _ c.requires c.see_nodes.ensures c.area-u.ensures.sizes c.area-u.ensures.holds c.area-u.ensures.u c.row.ensures
+    let lent = lends w c.args.s _ _ c.requires.ready c.see_nodes.ensures c.area-u.ensures.sizes c.area-u.ensures.holds c.area-u.ensures.u c.row.ensures
     c.space-space.ensures.images c.space-space.ensures.slot in
-    (row_put w c.args.s lent (λ h. file_row c.args.call h c.args.args w.procs.table.now) (row_confined c.args.call (given w c.args.s) c.args.args w.procs.table.now c.see_count.ensures)
+    (row_put w c.args.s lent (λ h. file_row c.args.call h c.args.s c.args.args w.procs.table.now) (row_confined c.args.call (given w c.args.s) c.args.s c.args.args w.procs.table.now c.see_count.ensures).steady
     c.do_file_call-answer.new.files c.do_file_call-answer.new.u c.do_file_call-answer.new.row _ c.do_file_call-answer.ensures.does.state).ppid
 
 pub returns : goal.returns
 returns c =
     let w : World = c.args.world.now in
     let now : Kept = c.do_file_call-answer.new.space.images.now in
-    let lent = lends w c.args.s _ _ c.requires c.see_nodes.ensures c.area-u.ensures.sizes c.area-u.ensures.holds c.area-u.ensures.u c.row.ensures
+    let lent = lends w c.args.s _ _ c.requires.ready c.see_nodes.ensures c.area-u.ensures.sizes c.area-u.ensures.holds c.area-u.ensures.u c.row.ensures
     c.space-space.ensures.images c.space-space.ensures.slot in
     let back = lent_back w.procs.images c.space-space.result.images.now now c.args.s c.space-space.result.slot c.do_file_call-answer.new.space.slot _ _
     c.space-space.ensures.images c.space-space.ensures.slot c.do_file_call-answer.ensures.memory in
-    let done = call_done w c.args.s lent (λ h. file_row c.args.call h c.args.args w.procs.table.now) (row_confined c.args.call (given w c.args.s) c.args.args w.procs.table.now c.see_count.ensures)
+    let done = call_done w c.args.s lent (λ h. file_row c.args.call h c.args.s c.args.args w.procs.table.now) (row_confined c.args.call (given w c.args.s) c.args.s c.args.args w.procs.table.now c.see_count.ensures)
+    (row_pends c.args.call (given w c.args.s) c.args.s c.args.args w.procs.table.now (none_pending (process_of (unix_of w) c.args.s) c.requires.user))
     c.clear.new.self c.do_file_call-answer.new.trace c.do_file_call-answer.new.files c.do_file_call-answer.new.u c.do_file_call-answer.new.row _ c.do_file_call-answer.ensures.does
     c.set_row.new.self c.set_area.new.self c.clear.ensures c.do_file_call-answer.ensures.frame c.see_numbers.ensures c.set_row.ensures
     (c.set_area.ensures ∙ ap (λ k. with_area k c.args.s c.do_file_call-answer.new.u) back) in

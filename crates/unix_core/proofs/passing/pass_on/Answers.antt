@@ -1,10 +1,10 @@
 use Rattle.std.proofs.Common.{◌≡◌, ℕ, List, [], ◌∷◌, ◌++◌, map, take, get_or, sym, ap, ◌∙◌, append_assoc}
-use Rattle.std.proofs.lemmas.List.{take_more}
+use Rattle.std.proofs.lemmas.List.{get_or_default, take_more}
 use Rattle.std.proofs.lemmas.List.{map-append}
 use Rattle.std.proofs.lemmas.List.Sums.{fold-append}
 use Rattle.v6_base.specs.Trace.{Item, Log, sent}
 use Rattle.v6_base.specs.declared.entry.Entry.{Entry}
-use Rattle.v6_base.specs.declared.entry.Entry.TheVariants.{Boot}
+use Rattle.v6_base.specs.declared.entry.Entry.TheVariants.{Boot, Idle}
 use Rattle.v6_base.proofs.Took.{took_then, sent-append}
 use Rattle.pick_rules.specs.declared.table.Table.{Table}
 use Rattle.unix_core.specs.Passing.{woken_by, all_woken}
@@ -18,6 +18,13 @@ loop-i-preserved g c =
           (sym (sent-append 0 (take i bytes) (get_or bytes i 0 ∷ [])) ∙ ap (sent 0) (sym (take_more bytes i 0 c.loop-i-test.true)));
       frame = g.met.T.Trace.goes_on _ _ _ c.loop-i.invariant.frame c.out.ensures.frame;
     }
+
+pub wake_by-requires-clause-slot : goal.wake_by-requires-clause-slot
+wake_by-requires-clause-slot g c slot sig is =
+    let entries : List Entry = c.entries-entries.result.now in
+    let i : ℕ = c.loop-i-2.i in
+    c.requires.slots i slot sig
+    (ap (λ (l : List Entry). get_or l i Idle) (sym c.entries-entries.ensures) ∙ get_or_default entries i Idle (Boot 0 0) c.loop-i-2-test.true ∙ is)
 
 one_more : (t : Table) (entries : List Entry) (e : Entry) → woken_by (all_woken t entries) e ≡ all_woken t (entries ++ e ∷ [])
 one_more t entries e = sym (fold-append woken_by t entries (e ∷ []))

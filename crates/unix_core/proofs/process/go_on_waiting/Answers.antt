@@ -1,4 +1,4 @@
-use Rattle.std.proofs.Common.{◌≡◌, ℕ, refl, sym, ap, subst}
+use Rattle.std.proofs.Common.{◌≡◌, ◌∙◌, ℕ, refl, sym, ap, subst}
 use Rattle.std.specs.Prelude.{Result, Err}
 use Rattle.v6_base.specs.Trace.{Took}
 use Rattle.v6_base.specs.declared.answer.Answer.{Answer}
@@ -14,6 +14,8 @@ use Rattle.sys_procs.specs.TextTable.{marks_of}
 use Rattle.unix_core.specs.declared.world.World.{World}
 use Rattle.abstract_unix.specs.Calls.{came_by}
 use Rattle.unix_core.specs.Parts.{unix_of, board_in, HasCome, IsReady}
+use Rattle.abstract_unix.proofs.GoingOnLemmas.{world_goes_on}
+use Rattle.abstract_unix.proofs.WaitingRows.{resume_waited}
 use Rattle.abstract_unix.proofs.ProcessRows.{resume_plain}
 use Rattle.abstract_unix.proofs.Mild.{IsMild, mild_plain, near_change}
 use Rattle.unix_core.proofs.CameLemmas.{given, IsTame, mild_tame, mild_goes, near_here, after, beside, world_is, ready_calls, stops, call_took, call_ready, call_marked, call_come}
@@ -41,6 +43,7 @@ conclude-requires g c =
     (tame w c.args.s c.requires) (beside w c.resume_proc.new.tree c.resume_proc.new.p) e.does
     c.in-Ok.answer c.in-Ok.is c.requires
     e.agree
+    (world_goes_on (unix_of w) (row w c.args.s).state c.requires.good.pending (resume_waited (given w) c.args.s))
     (call_marked w (after w c.resume_proc.new.tree c.resume_proc.new.p) c.args.s (row w c.args.s)
     (tame w c.args.s c.requires) (beside w c.resume_proc.new.tree c.resume_proc.new.p) e.does
     c.in-Ok.answer c.in-Ok.is e.marks c.requires.good.marks (ap marks_of (mild w c.args.s c.requires).texts))
@@ -54,7 +57,7 @@ returns-in-Ok-clause-come g c =
     (world_is w s c.requires c.see_nodes.ensures)
     (call_come w (after w c.resume_proc.new.tree c.resume_proc.new.p) s (row w s)
     (tame w s c.requires) (beside w c.resume_proc.new.tree c.resume_proc.new.p) e.does
-    c.in-Ok.answer c.in-Ok.is c.conclude.new.world c.conclude.result c.conclude.ensures.ending c.conclude.ensures.unix c.conclude.ensures.board)
+    c.in-Ok.answer c.in-Ok.is c.conclude.result c.conclude.new.world c.conclude.ensures.come)
 
 pub returns-in-Ok-clause-items : goal.returns-in-Ok-clause-items
 returns-in-Ok-clause-items g c =
@@ -62,10 +65,17 @@ returns-in-Ok-clause-items g c =
     let s = c.args.s in
     let e = c.resume_proc.ensures in
     subst (λ x. Took (g.T.Trace.taken c.args.trace.now) (logged (board_in w) (came_by (unix_of w) s (resume_proc x s)).effects).items
-    (g.T.Trace.taken c.resume_proc.new.trace))
+    (g.T.Trace.taken c.conclude.new.trace))
     (world_is w s c.requires c.see_nodes.ensures)
     (call_took w (after w c.resume_proc.new.tree c.resume_proc.new.p) s (row w s)
-    (tame w s c.requires) (beside w c.resume_proc.new.tree c.resume_proc.new.p) e.does)
+    (tame w s c.requires) (beside w c.resume_proc.new.tree c.resume_proc.new.p) e.does
+    c.in-Ok.answer c.in-Ok.is _ c.conclude.ensures.items)
+
+pub returns-in-Ok-clause-covered : goal.returns-in-Ok-clause-covered
+returns-in-Ok-clause-covered g c ends = absurd (let never = sym c.conclude.ensures.goes ∙ ends in cc never)
+
+pub returns-in-Ok-clause-frame : goal.returns-in-Ok-clause-frame
+returns-in-Ok-clause-frame g c = g.met.T.Trace.goes_on _ _ _ c.resume_proc.ensures.frame c.conclude.ensures.frame
 
 pub returns-in-Ok-clause-rest : goal.returns-in-Ok-clause-rest
 returns-in-Ok-clause-rest g c =

@@ -1,14 +1,26 @@
-use Rattle.std.proofs.Common.{rules, ◌∙◌, refl, ap}
-use Rattle.image_keep.specs.Kept.{Kept, image_of, with_area}
+use Rattle.std.proofs.Common.{rules, ◌≡◌, ◌∙◌, ℕ, true, refl, sym, ap, subst}
+use Rattle.u_area.specs.declared.area.UArea.{UArea}
+use Rattle.image_keep.specs.Kept.{Kept, area_of, image_of, with_area}
 use Rattle.sys_files.specs.Handed.{Handed, handed}
-use Rattle.sys_files.specs.Moving.{resume_read}
+use Rattle.sys_files.specs.Moving.{resumes}
+use Rattle.sys_files.specs.Sound.{CanGoOn}
 use Rattle.sys_files.proofs.Steady.{resume_confined}
 use Rattle.unix_core.specs.declared.world.World.{World}
-use Rattle.unix_core.proofs.WorldLemmas.{sound_parts}
+use Rattle.abstract_unix.specs.Unix.{process_of}
+use Rattle.abstract_unix.specs.Calls.{is_on_files}
+use Rattle.abstract_unix.proofs.PendingRows.{resume_pends}
+use Rattle.abstract_unix.proofs.GoingOnLemmas.{handed_goes_on, handed_pends}
+use Rattle.unix_core.specs.Parts.{unix_of, IsReady}
+use Rattle.unix_core.proofs.AreaLemmas.{own_area}
+use Rattle.unix_core.proofs.WorldLemmas.{slot_is, is_living, sound_parts}
 use Rattle.unix_core.proofs.LoanLemmas.{lent_back}
 use Rattle.unix_core.proofs.LoanBack.{area_put, row_put}
-use Rattle.unix_core.proofs.LeavingLemmas.{given, area_is, lends, call_done}
-use Rattle.unix_core.proofs.onfiles.read_on.Goals as goal
+use Rattle.unix_core.proofs.LeavingLemmas.{given, area_is, lends, lent_parts, call_done}
+use Rattle.unix_core.proofs.onfiles.resume_on_files.Goals as goal
+
+-- what is pending, of the process
+pends_on : (w : World) (s : ℕ) → IsReady w s → is_on_files (area_of w.procs.images s).pending ≡ true → is_on_files (process_of (unix_of w) s).u.pending ≡ true
+pends_on w s ready is = ap (λ (u : UArea). is_on_files u.pending) (sym (own_area w s ready)) ∙ is
 
 pub area-u-requires : goal.area-u-requires
 area-u-requires c = c.requires.ready.good.running c.args.s c.requires.ready.runs c.requires.ready.user
@@ -21,7 +33,16 @@ resume_file-answer-requires-clause-sound c =
     let w : World = c.args.world.now in
     let parts : Handed = handed w.files c.area-u.result c.row.result.now (image_of c.space-space.result.images.now c.space-space.result.slot) in
     let area = area_is w c.args.s c.area-u.result c.requires.ready c.area-u.ensures.u in
-    sound_parts w c.args.s parts c.requires.ready c.see_table.ensures c.area-u.ensures.holds refl area refl
+    sound_parts w c.args.s parts c.requires.ready c.see_table.ensures c.area-u.ensures.holds refl refl area refl
+
+pub resume_file-answer-requires-clause-pending : goal.resume_file-answer-requires-clause-pending
+resume_file-answer-requires-clause-pending c =
+    let w : World = c.args.world.now in
+    let ready = c.requires.ready in
+    let lent = lends w c.args.s _ _ ready c.see_nodes.ensures c.area-u.ensures.sizes c.area-u.ensures.holds c.area-u.ensures.u c.row.ensures
+    c.space-space.ensures.images c.space-space.ensures.slot in
+    subst CanGoOn (sym (lent_parts w c.args.s lent))
+    (handed_goes_on (unix_of w) c.args.s ready.good.pending (slot_is w c.args.s ready) (is_living w c.args.s ready) (pends_on w c.args.s ready c.requires.pending))
 
 -- These follow from the images alone, whatever the loan says of itself.
 pub set_area-requires : goal.set_area-requires
@@ -32,7 +53,7 @@ set_area-requires c =
     c.space-space.ensures.images c.space-space.ensures.slot in
     let back = lent_back w.procs.images c.space-space.result.images.now now c.args.s c.space-space.result.slot c.resume_file-answer.new.space.slot _ _
     c.space-space.ensures.images c.space-space.ensures.slot c.resume_file-answer.ensures.memory in
-    let put = area_put w c.args.s lent (λ h. resume_read h) (resume_confined (given w c.args.s))
+    let put = area_put w c.args.s lent (λ h. resumes h c.args.s w.procs.table.now) (resume_confined (given w c.args.s) c.args.s w.procs.table.now).steady
     c.resume_file-answer.new.f c.resume_file-answer.new.u c.resume_file-answer.new.row _ c.resume_file-answer.ensures.does.state now back in
     record { image = put.0; sizes = put.1 }
 
@@ -41,7 +62,7 @@ set_row-requires-clause-pid c =
     let w : World = c.args.world.now in
     let lent = lends w c.args.s _ _ c.requires.ready c.see_nodes.ensures c.area-u.ensures.sizes c.area-u.ensures.holds c.area-u.ensures.u c.row.ensures
     c.space-space.ensures.images c.space-space.ensures.slot in
-    (row_put w c.args.s lent (λ h. resume_read h) (resume_confined (given w c.args.s))
+    (row_put w c.args.s lent (λ h. resumes h c.args.s w.procs.table.now) (resume_confined (given w c.args.s) c.args.s w.procs.table.now).steady
     c.resume_file-answer.new.f c.resume_file-answer.new.u c.resume_file-answer.new.row _ c.resume_file-answer.ensures.does.state).pid
 
 pub set_row-requires-clause-ppid : goal.set_row-requires-clause-ppid
@@ -49,7 +70,7 @@ set_row-requires-clause-ppid c =
     let w : World = c.args.world.now in
     let lent = lends w c.args.s _ _ c.requires.ready c.see_nodes.ensures c.area-u.ensures.sizes c.area-u.ensures.holds c.area-u.ensures.u c.row.ensures
     c.space-space.ensures.images c.space-space.ensures.slot in
-    (row_put w c.args.s lent (λ h. resume_read h) (resume_confined (given w c.args.s))
+    (row_put w c.args.s lent (λ h. resumes h c.args.s w.procs.table.now) (resume_confined (given w c.args.s) c.args.s w.procs.table.now).steady
     c.resume_file-answer.new.f c.resume_file-answer.new.u c.resume_file-answer.new.row _ c.resume_file-answer.ensures.does.state).ppid
 
 pub returns : goal.returns
@@ -60,7 +81,9 @@ returns c =
     c.space-space.ensures.images c.space-space.ensures.slot in
     let back = lent_back w.procs.images c.space-space.result.images.now now c.args.s c.space-space.result.slot c.resume_file-answer.new.space.slot _ _
     c.space-space.ensures.images c.space-space.ensures.slot c.resume_file-answer.ensures.memory in
-    let done = call_done w c.args.s lent (λ h. resume_read h) (resume_confined (given w c.args.s))
+    let done = call_done w c.args.s lent (λ h. resumes h c.args.s w.procs.table.now) (resume_confined (given w c.args.s) c.args.s w.procs.table.now)
+    (resume_pends (given w c.args.s) c.args.s w.procs.table.now (pends_on w c.args.s c.requires.ready c.requires.pending)
+    (handed_pends (unix_of w) c.args.s c.requires.ready.good.pending (slot_is w c.args.s c.requires.ready) (is_living w c.args.s c.requires.ready)))
     c.clear.new.self c.resume_file-answer.new.trace c.resume_file-answer.new.f c.resume_file-answer.new.u c.resume_file-answer.new.row _ c.resume_file-answer.ensures.does
     c.set_row.new.self c.set_area.new.self c.clear.ensures c.resume_file-answer.ensures.frame c.see_numbers.ensures c.set_row.ensures
     (c.set_area.ensures ∙ ap (λ k. with_area k c.args.s c.resume_file-answer.new.u) back) in
