@@ -107,7 +107,7 @@ module _ (ts : List (Option Told)) (s : ℕ) (t : Told) (is : get_or ts s None �
       omega (arith, least, one)
 
 -- a number that names an entry counts
-times_some : (mine : List ℕ) (fd : ℕ) → 0 < slice_index mine fd → 1 ≤ times mine (entry_of mine fd)
+pub times_some : (mine : List ℕ) (fd : ℕ) → 0 < slice_index mine fd → 1 ≤ times mine (entry_of mine fd)
 times_some mine fd above =
     let within : fd < length mine = elim (cases_lt fd (length mine)) [
       | inl low ↦ low

@@ -19,7 +19,7 @@ more_numbers : (n : ℕ) (o : Option OpenFile) → (o ≡ None → n ≡ 0) → 
 more_numbers n None none = let zero = none refl in omega (arith, zero)
 more_numbers n (Some file) none = refl
 
-shared_at : (files : List (Option OpenFile)) (mine : List ℕ) (entry : ℕ) → entry < length files
+pub shared_at : (files : List (Option OpenFile)) (mine : List ℕ) (entry : ℕ) → entry < length files
     → file_at (shared files mine) entry ≡ changed (with_more (times mine entry)) (file_at files entry)
 unfolding shared
 shared_at files mine entry low =
