@@ -47,7 +47,7 @@ called_like t false chan = tables_same t t refl
 pub called_agree : (v : Processes) (k : Kept) (t u : Table) (called : Bool) (chan : Chan) → u ≡ called_table called chan t → IsTable u → Agree v t k → Agree v u k
 called_agree v k t u called chan is good a = agree_like v t u k a good (subst (AreLike t) (sym is) (called_like t called chan))
 
-called_running : (t : Table) (called : Bool) (chan : Chan) → (called_table called chan t).running ≡ t.running
+pub called_running : (t : Table) (called : Bool) (chan : Chan) → (called_table called chan t).running ≡ t.running
 called_running t true chan = (wakeup_kept t chan).running
 called_running t false chan = refl
 
@@ -59,13 +59,6 @@ pub called_image : (k : Kept) (t u : Table) (called : Bool) (chan : Chan) → u 
 called_image k t u called chan is runs s e above = runs s (sym (called_running t called chan) ∙ (ap (λ (x : Table). x.running) (sym is) ∙ e)) above
 
 -- Bytes say nothing of the board.
-bytes_board : (b : Board) (bytes : List ℕ) → fold board_after b (sent 0 bytes) ≡ b
+pub bytes_board : (b : Board) (bytes : List ℕ) → fold board_after b (sent 0 bytes) ≡ b
 bytes_board b [] = refl
 bytes_board b (byte ∷ bytes) = bytes_board b bytes
-
--- The log of bytes that are shown, and of who is woken then.
-pub bytes_logged : (b : Board) (bytes : List ℕ) (es : List (Effect Unix))
-    → logged b (map Show (sent 0 bytes) ++ es) ≡ record (logged b es) { items = sent 0 bytes ++ (logged b es).items }
-bytes_logged b bytes es =
-    logged_after b (sent 0 bytes) es
-    ∙ ap (λ x. after_items (sent 0 bytes) (logged x es)) (ap (λ (l : Logged Unix). l.board) (logged_shown b (sent 0 bytes)) ∙ bytes_board b bytes)
