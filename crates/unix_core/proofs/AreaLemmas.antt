@@ -1,19 +1,22 @@
 -- The u area of the process that runs is another one, which names the same files and the same directory.
-use Rattle.std.proofs.Common.{◌≡◌, ◌∙◌, ◌<◌, ℕ, List, true, refl, sym, ap, subst}
+use Rattle.std.proofs.Common.{◌≡◌, ◌∙◌, ◌<◌, ◌==◌, ℕ, List, get_or, Some, None, true, refl, sym, ap, subst}
+use Rattle.std.specs.Prelude.{unwrap_or}
+use Rattle.std.proofs.lemmas.List.{get_or-set_same}
 use Rattle.std.proofs.lemmas.Bool.{eqb-true}
 use Rattle.u_area.specs.declared.area.UArea.{UArea}
 use Rattle.u_area.proofs.AreaLemmas.{one_area}
 use Rattle.image_keep.specs.Kept.{Kept, with_area, area_of}
 use Rattle.sys_procs.proofs.Alive.{area_here}
 use Rattle.unix_core.specs.declared.world.World.{World}
-use Rattle.sys_procs.specs.Process.{Process}
-use Rattle.abstract_unix.specs.Unix.{process_of, with_process}
+use Rattle.sys_procs.specs.Process.{Process, no_process}
+use Rattle.abstract_unix.proofs.Owing.{some_within}
+use Rattle.abstract_unix.specs.Unix.{Unix, process_of, with_process}
 use Rattle.abstract_unix.specs.Turn.{is_user}
 use Rattle.abstract_unix.specs.declared.ending.Ending.TheVariants.{Trapped}
 use Rattle.abstract_unix.specs.Steps.{returns}
 use Rattle.abstract_unix.specs.Calls as calls
 use Rattle.unix_core.specs.Parts.{unix_of, board_in, IsReady, HasCome}
-use Rattle.unix_core.proofs.WorldLemmas.{ready_alive}
+use Rattle.unix_core.proofs.WorldLemmas.{ready_alive, slot_is}
 use Rattle.unix_core.proofs.PutLemmas.{IsLikeArea, with_images, unix_put, board_put, good_put}
 
 -- An area has its codes, whichever proof says that they are four bits.
@@ -42,6 +45,10 @@ module _ (w : World) (s : ℕ) (ready : IsReady w s) (u : UArea) where
 pub none_pending : (p : Process) → is_user p ≡ true → p.u.pending ≡ 0
 none_pending p user = eqb-true p.u.pending 0 user
 
+-- a process that is put in a slot is there
+pub own_put : (u : Unix) (s : ℕ) (p q : Process) → get_or u.processes s None ≡ Some p → process_of (with_process u s q) s ≡ q
+own_put u s p q is = ap (λ o. unwrap_or o no_process) (get_or-set_same u.processes s (Some q) None (some_within u.processes s p is))
+
 -- The u area of who runs has become another one by a rule: the process comes out of a trap with it.
 module _ (w : World) (s : ℕ) (ready : IsReady w s) (rule : UArea → UArea) (k : Kept) (is : k ≡ with_area w.procs.images s (rule (area_of w.procs.images s))) where
   abbrev ruled : World
@@ -61,3 +68,10 @@ module _ (w : World) (s : ℕ) (ready : IsReady w s) (rule : UArea → UArea) (k
 
   pub ruled_come : HasCome (board_in w) (returns (calls.with_area (unix_of w) s rule)) Trapped ruled
   ruled_come = record { ending = refl; unix = ruled_unix; board = ruled_board }
+
+  pub ruled_user : (rule (process_of (unix_of w) s).u).pending ≡ (process_of (unix_of w) s).u.pending → is_user (process_of (unix_of w) s) ≡ true
+      → is_user (process_of (unix_of ruled) s) ≡ true
+  ruled_user same user =
+      ap (λ (u : Unix). is_user (process_of u s)) ruled_unix
+      ∙ ap is_user (own_put (unix_of w) s (process_of (unix_of w) s) (record (process_of (unix_of w) s) { u = rule (process_of (unix_of w) s).u }) (slot_is w s ready))
+      ∙ ap (λ n. n == 0) same ∙ user

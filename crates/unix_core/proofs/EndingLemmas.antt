@@ -1,5 +1,5 @@
 -- How a call ends: never as an instruction does that is just done, and only exit ends a process.
-use Rattle.std.proofs.Common.{◌≡◌, ◌≢◌, ◌∙◌, ℕ, Bool, true, false, nat_lt, if◌then◌else◌, Option, Some, None, refl, sym}
+use Rattle.std.proofs.Common.{◌≡◌, ◌≢◌, ◌∙◌, ℕ, Bool, true, false, nat_lt, if◌then◌else◌, Option, Some, None, sym}
 use Rattle.v6_base.specs.declared.answer.Answer.{Answer}
 use Rattle.v6_base.specs.declared.answer.Answer.TheVariants.{Ret, Fail, Sleep}
 use Rattle.pick_rules.specs.Board.{Board}
@@ -11,16 +11,14 @@ use Rattle.unix_core.specs.declared.world.World.{World}
 use Rattle.abstract_unix.specs.declared.ending.Ending.{Ending}
 use Rattle.abstract_unix.specs.declared.ending.Ending.TheVariants.{Next, Ended}
 use Rattle.abstract_unix.specs.Unix.{Unix}
-use Rattle.abstract_unix.specs.Steps.{Steps, returns, not_built}
+use Rattle.sig_core.specs.declared.numbers.TheConstants.{SIGSYS}
+use Rattle.abstract_unix.specs.Steps.{Steps, returns, signals}
 use Rattle.abstract_unix.specs.Errors.{error_number}
 use Rattle.abstract_unix.specs.Calls.{answers, came_by, did_by, exits, forks, refused_area, with_area, with_handed, with_world, world_of}
-use Rattle.pdp_step.specs.declared.outcome.Kind.{Kind}
-use Rattle.pdp_step.specs.declared.outcome.Kind.TheVariants as kind
-use Rattle.abstract_unix.specs.Turn.{faults}
 use Rattle.unix_core.specs.Parts.{HasCome, ended_as}
 
 refused_end : (u : Unix) (s n : ℕ) (b : Bool) →
-    (if b then returns (with_area u s (refused_area n)) else not_built u).ending ≢ Next
+    (if b then returns (with_area u s (refused_area n)) else signals u s SIGSYS).ending ≢ Next
 refused_end u s n true e = absurd (cc e)
 refused_end u s n false e = absurd (cc e)
 
@@ -37,7 +35,7 @@ came_next u s c = answers_end (with_world u c.state) s c.answer
 
 -- an answer doesn't end the process
 refused_lives : (u : Unix) (s n : ℕ) (b : Bool) →
-    (if b then returns (with_area u s (refused_area n)) else not_built u).ending ≢ Ended
+    (if b then returns (with_area u s (refused_area n)) else signals u s SIGSYS).ending ≢ Ended
 refused_lives u s n true e = absurd (cc e)
 refused_lives u s n false e = absurd (cc e)
 
@@ -75,12 +73,3 @@ as_ended (Some stop) e other is = absurd (cc is)
 pub never_ended : (b : Board) (steps : Steps) (e : Ending) (w : World) → HasCome b steps e w → steps.ending ≢ Ended
     → e ≢ Ended
 never_ended b steps e w come other is = as_ended (logged b steps.effects).stop steps.ending other (sym come.ending ∙ is)
-
--- a fault for which no stack grows
-pub no_growth : (u : Unix) (s : ℕ) (k : Kind) → ((sp : ℕ) → k ≡ kind.Segment sp → ⊥) → not_built u ≡ faults u s k
-no_growth u s kind.Odd other = refl
-no_growth u s (kind.Segment sp) other = absurd (other sp refl)
-no_growth u s (kind.Illegal word) other = refl
-no_growth u s kind.Bpt other = refl
-no_growth u s kind.Iot other = refl
-no_growth u s kind.Emt other = refl

@@ -1,7 +1,5 @@
--- exit(II): what its log is, and what it has come to, whether the process has ended or the run stops.
-use Rattle.std.proofs.Common.{◌≡◌, ◌∙◌, ◌<◌, ◌*◌, ◌%◌, ℕ, length, slice_index, List, [], ◌∷◌, map, Option, Some, None, refl, sym, ap, subst, ◌⊎◌, inl, inr}
-use Rattle.std.specs.Prelude.{unwrap_or}
-use Rattle.std.proofs.lemmas.List.{get_or-set_same}
+-- A process ends with a status: what its log is, and what it has come to, whether the process has ended or the run stops.
+use Rattle.std.proofs.Common.{◌≡◌, ◌∙◌, ℕ, List, [], ◌∷◌, map, Option, Some, None, refl, sym, ap, subst, ◌⊎◌, inl, inr}
 use Rattle.v6_base.specs.Trace.{Item, Log, Taken, Took}
 use Rattle.v6_base.proofs.Took.{took_more}
 use Rattle.v6_base.specs.declared.entry.Chan.TheVariants.{Wait}
@@ -15,17 +13,14 @@ use Rattle.pick_rules.specs.Logged.{Logged, Stop, logged, log_one, left_by}
 use Rattle.sys_procs.specs.World as its
 use Rattle.sys_procs.specs.Comes.{Comes}
 use Rattle.sys_procs.specs.Texts.{leaves_text, is_sticky, xfree}
-use Rattle.sys_procs.specs.Exit.{leaves, dies, exit_status, end_proc, exit_now}
+use Rattle.sys_procs.specs.Exit.{leaves, dies, end_proc}
 use Rattle.sys_procs.specs.Handed.{handed, board, came}
 use Rattle.fs_nodes.specs.FileSystem.{IsFileSystem}
 use Rattle.unix_core.specs.declared.world.World.{World}
 use Rattle.abstract_unix.specs.declared.ending.Ending.TheVariants.{Ended, Panic}
 use Rattle.abstract_unix.specs.declared.ending.Ending.{Ending}
 use Rattle.abstract_unix.specs.Unix.{Unix, process_of}
-use Rattle.sys_procs.specs.Process.{Process, no_process}
-use Rattle.sys_files.specs.Handed.{Handed}
-use Rattle.abstract_unix.proofs.Dying.{closed_registers}
-use Rattle.abstract_unix.specs.Calls.{handed_of, exits, closes_all, with_handed, with_world, world_of}
+use Rattle.abstract_unix.specs.Calls.{exits_with, closes_all, with_handed, with_world, world_of}
 use Rattle.unix_core.specs.Parts.{unix_of, board_in, IsReady, HasCome, ended_as}
 use Rattle.unix_core.proofs.LoggedLemmas.{over, stop_of, after_items, logged_after, logged_both}
 use Rattle.unix_core.proofs.CameLemmas.{world_is}
@@ -56,13 +51,13 @@ logged_panic : {W : Type 0} (b : Board) (s parent : ℕ) (w : W) → swap_fit b 
 unfolding log_one effects.came applied
 logged_panic b s parent w none = rw none refl
 
-module _ (w1 : World) (s : ℕ) (ready : IsReady w1 s) where
+module _ (w1 : World) (s : ℕ) (ready : IsReady w1 s) (status : ℕ) where
   abbrev pub ends : Comes
-  ends = exit_now (handed w1.procs w1.files.tree.nodes) s
+  ends = end_proc (handed w1.procs w1.files.tree.nodes) s status
 
   -- the process has left its directory
   abbrev pub away : its.World
-  away = leaves (handed w1.procs w1.files.tree.nodes) s (exit_status (process_of (unix_of w1) s))
+  away = leaves (handed w1.procs w1.files.tree.nodes) s status
 
   abbrev pub its_text : Option ℕ
   its_text = (process_of (unix_of w1) s).text
@@ -100,7 +95,7 @@ module _ (w1 : World) (s : ℕ) (ready : IsReady w1 s) where
   log_by (Some k) = logged_after (board_in w1) (text_items (Some k)) (dies (left_world (Some k)) s).effects
 
   ends_are_by : ends ≡ ends_by its_text
-  unfolding exit_now end_proc
+  unfolding end_proc
   ends_are_by = refl
 
   pub ends_state : ends.state ≡ (dies has_left s).state
@@ -141,8 +136,8 @@ module _ (w1 : World) (s : ℕ) (ready : IsReady w1 s) where
       → x ≡ ends.state
   end_state x none e = e ∙ ap (λ o. left_by o ends.state) none
 
--- The whole of exit(II).
-module _ (w w1 now : World) (s : ℕ) (ready : IsReady w1 s) (low : s < length (unix_of w).processes)
+-- The files of the process are closed, and then it ends.
+module _ (w w1 now : World) (s : ℕ) (ready : IsReady w1 s) (status : ℕ)
     (form : IsFileSystem w1.files.tree.nodes)
     (unix : unix_of w1 ≡ with_handed (unix_of w) s (closes_all (unix_of w) s).state)
     (shown : board_in w1 ≡ (logged {W = Unix} (board_in w) (map Show (closes_all (unix_of w) s).items)).board) where
@@ -155,45 +150,30 @@ module _ (w w1 now : World) (s : ℕ) (ready : IsReady w1 s) (low : s < length (
   its_world : handed w1.procs w1.files.tree.nodes ≡ world_of u1
   its_world = world_is w1 s ready form ∙ ap world_of unix
 
-  -- the status stands in R0, which closing leaves
-  abbrev status : ℕ
-  status = exit_status (process_of (unix_of w) s)
+  ends_are : ends w1 s ready status ≡ end_proc (world_of u1) s status
+  ends_are = ap (λ x. end_proc x s status) its_world
 
-  row_is : exit_now (world_of u1) s ≡ end_proc (world_of u1) s status
-  unfolding exit_now
-  row_is =
-      let h : Handed = (closes_all (unix_of w) s).state in
-      let p : Process = process_of (unix_of w) s in
-      let q : Process = record p { u = h.u; row = h.row; «data» = h.image.data; stack = h.image.stack } in
-      let here : (process_of u1 s).u.r ≡ h.u.r =
-      ap (λ o. (unwrap_or o no_process).u.r) (get_or-set_same (unix_of w).processes s (Some q) None low) in
-      ap (λ (r : List ℕ). end_proc (world_of u1) s (256 * (slice_index r 0 % 256)))
-      (here ∙ closed_registers (handed_of (unix_of w) p))
-
-  ends_are : ends w1 s ready ≡ end_proc (world_of u1) s status
-  ends_are = ap (λ x. exit_now x s) its_world ∙ row_is
-
-  -- the log of the whole call
-  whole : logged (board_in w) (exits (unix_of w) s).effects
-      ≡ after_items items (over (with_world u1) (came w1.procs (ends w1 s ready)))
+  -- the log of the whole
+  whole : logged (board_in w) (exits_with (unix_of w) s status).effects
+      ≡ after_items items (over (with_world u1) (came w1.procs (ends w1 s ready status)))
   whole =
       logged_both (with_world u1) (board_in w) items (end_proc (world_of u1) s status).effects
       ∙ ap (λ b. after_items items (over (with_world u1) (logged b (end_proc (world_of u1) s status).effects))) (sym shown)
       ∙ ap (λ (c : Comes). after_items items (over (with_world u1) (logged (board_in w1) c.effects))) (sym ends_are)
 
-  pub exit_took : (a b c : Taken) → Took a items b → Took b (came w1.procs (ends w1 s ready)).items c
-      → Took a (logged (board_in w) (exits (unix_of w) s).effects).items c
+  pub exit_took : (a b c : Taken) → Took a items b → Took b (came w1.procs (ends w1 s ready status)).items c
+      → Took a (logged (board_in w) (exits_with (unix_of w) s status).effects).items c
   exit_took a b c first second =
       subst (λ (l : List Item). Took a l c) (ap (λ (l : Logged Unix). l.items) (sym whole))
-      (took_more a b c items (came w1.procs (ends w1 s ready)).items first second)
+      (took_more a b c items (came w1.procs (ends w1 s ready status)).items first second)
 
   -- it stops where the end does
-  halts : (o : Option (Stop its.World)) → (came w1.procs (ends w1 s ready)).stop ≡ o
-      → (logged (board_in w) (exits (unix_of w) s).effects).stop ≡ stop_of (with_world u1) o
+  halts : (o : Option (Stop its.World)) → (came w1.procs (ends w1 s ready status)).stop ≡ o
+      → (logged (board_in w) (exits_with (unix_of w) s status).effects).stop ≡ stop_of (with_world u1) o
   halts o is = ap (λ (l : Logged Unix). l.stop) whole ∙ ap (stop_of (with_world u1)) is
 
-  pub exit_come : (came w1.procs (ends w1 s ready)).stop ≡ None → unix_of now ≡ with_world (unix_of w1) (ends w1 s ready).state
-      → board now.procs ≡ (came w1.procs (ends w1 s ready)).board → HasCome (board_in w) (exits (unix_of w) s) Ended now
+  pub exit_come : (came w1.procs (ends w1 s ready status)).stop ≡ None → unix_of now ≡ with_world (unix_of w1) (ends w1 s ready status).state
+      → board now.procs ≡ (came w1.procs (ends w1 s ready status)).board → HasCome (board_in w) (exits_with (unix_of w) s status) Ended now
   exit_come none is board_is = record {
     ending = ap (λ (o : Option (Stop Unix)). ended_as o Ended) (sym (halts None none));
     unix = is ∙ (λ i. with_world (unix i) (ends_are i).state)
@@ -203,10 +183,10 @@ module _ (w w1 now : World) (s : ℕ) (ready : IsReady w1 s) (low : s < length (
   }
 
   -- The run has stopped, since the swap area has no block.
-  pub exit_stops : (stop : Stop its.World) → (came w1.procs (ends w1 s ready)).stop ≡ Some stop → (e : Ending)
+  pub exit_stops : (stop : Stop its.World) → (came w1.procs (ends w1 s ready status)).stop ≡ Some stop → (e : Ending)
       → e ≡ Panic stop.why
-      → unix_of now ≡ with_world (unix_of w1) stop.before → board now.procs ≡ (came w1.procs (ends w1 s ready)).board
-      → HasCome (board_in w) (exits (unix_of w) s) e now
+      → unix_of now ≡ with_world (unix_of w1) stop.before → board now.procs ≡ (came w1.procs (ends w1 s ready status)).board
+      → HasCome (board_in w) (exits_with (unix_of w) s status) e now
   exit_stops stop some e ended is board_is = record {
     ending = ended ∙ ap (λ (o : Option (Stop Unix)). ended_as o Ended) (sym (halts (Some stop) some));
     unix = is ∙ ap (λ (u : Unix). with_world u stop.before) unix

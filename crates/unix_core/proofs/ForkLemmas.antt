@@ -7,10 +7,11 @@ use Rattle.v6_base.specs.Trace.{Taken, Took}
 use Rattle.v6_base.specs.declared.answer.Answer.{Answer}
 use Rattle.v6_base.specs.declared.answer.Answer.TheVariants.{Ret, Fail, Sleep}
 use Rattle.v6_base.specs.declared.entry.PanicKind.{PanicKind}
-use Rattle.pick_rules.specs.Logged.{logged, left_by}
+use Rattle.pick_rules.specs.Logged.{Stop, logged, left_by}
 use Rattle.proc_tab.specs.Processes.{Finds, IsLowest, lowest}
 use Rattle.proc_tab.proofs.SearchLemmas.{lowest_finds}
 use Rattle.open_files.specs.declared.file.OpenFile.{OpenFile}
+use Rattle.pipe_ends.specs.declared.ends.Pipe.{Pipe}
 use Rattle.fs_nodes.specs.FileSystem.{IsFileSystem}
 use Rattle.sys_procs.specs.Process.{Process, no_process, member_of}
 use Rattle.sys_procs.specs.World as its
@@ -24,9 +25,14 @@ use Rattle.sys_procs.specs.TextTable.{Text, marks_of}
 use Rattle.sys_procs.specs.Texts.{joined_by_child}
 use Rattle.abstract_unix.specs.declared.ending.Ending.TheVariants.{Panic}
 use Rattle.abstract_unix.specs.Unix.{Unix, process_of}
-use Rattle.abstract_unix.specs.Whole.{Told, told_of, told_by, told_in, Owes}
+use Rattle.abstract_unix.specs.Whole.{Told, told_of, told_by, told_in, Owes, CanGoOn}
+use Rattle.abstract_unix.proofs.GoingOnLemmas.{shares_goes_on, world_goes_on}
+use Rattle.abstract_unix.proofs.WaitingRows.{fork_waited}
+use Rattle.unix_core.proofs.AreaLemmas.{none_pending}
 use Rattle.abstract_unix.specs.Errors.{error_number}
-use Rattle.abstract_unix.specs.Steps.{Steps, returns, not_built}
+use Rattle.abstract_unix.specs.Steps.{Steps, returns, signals}
+use Rattle.abstract_unix.specs.Turn.{is_user}
+use Rattle.sig_core.specs.declared.numbers.TheConstants.{SIGSYS}
 use Rattle.abstract_unix.specs.Calls.{with_world, with_area, refused_area, answers, came_by, shares, forks}
 use Rattle.abstract_unix.proofs.Owing.{told_none, told_change}
 use Rattle.abstract_unix.proofs.Sharing.{child_owes}
@@ -36,7 +42,7 @@ use Rattle.unix_core.specs.Parts.{unix_of, board_in, IsReady, HasCome}
 use Rattle.unix_core.proofs.GoodLemmas.{told_of_slot, fifty_told, still_runs, Rests, moved_unix, good_then}
 use Rattle.unix_core.proofs.WorldLemmas.{slot_is, is_living, told_here}
 use Rattle.unix_core.proofs.ShareLemmas.{files_of_child, same_marks, same_owes}
-use Rattle.unix_core.proofs.CameLemmas.{IsStill, StaysBeside, given, world_is, goes_on, stops, gone_moved, left_took, gone_come, stopped_come, still_marked}
+use Rattle.unix_core.proofs.CameLemmas.{IsStill, StaysBeside, given, world_is, goes_on, stops, gone_moved, gone_come, gone_took, stopped_come, stopped_took, still_marked}
 
 abbrev call : World → ℕ → Comes
 call w s = fork_one (given w) s
@@ -72,7 +78,7 @@ free_slot w child free =
 -- Who is told of then, and what is owed when the files are shared.
 record ForkOwes (w : World) (s : ℕ) (c : Comes) : Type 0 where
   stays : (t : Told) → told_of_slot w s ≡ Some t → get_or (told_in c.state.processes) s None ≡ Some t
-  owed : Owes c.state.inodes.references (shares w.files.table (process_of (unix_of w) s).u.files c.answer) c.state.texts (told_in c.state.processes)
+  owed : Owes c.state.inodes.references (shares w.files.table (process_of (unix_of w) s).u.files c.answer) w.files.pipes c.state.texts (told_in c.state.processes)
   marks : marks_of c.state.texts ≡ marks_of (unix_of w).texts
 
 module _ (w : World) (s : ℕ) (ready : IsReady w s) where
@@ -93,7 +99,7 @@ module _ (w : World) (s : ℕ) (ready : IsReady w s) where
       let same : told_in (set ps s (Some (past_word p))) ≡ ts = told_change ps s p (past_word p) (slot_is w s ready) refl in
       record {
         stays = λ t is. ap (λ l. get_or l s None) same ∙ is;
-        owed = subst (Owes refs w.files.table (unix_of w).texts) (sym same) ready.good.owed;
+        owed = subst (Owes refs w.files.table w.files.pipes (unix_of w).texts) (sym same) ready.good.owed;
         marks = refl;
       }
   fork_by (Some child) found =
@@ -111,9 +117,9 @@ module _ (w : World) (s : ℕ) (ready : IsReady w s) where
       let Q : List (Option Told) → Type 0 = λ l. (t : Told) → told_of_slot w s ≡ Some t → get_or l s None ≡ Some t in
       record {
         stays = subst Q put (λ t is. get_or-set_other ts child s (Some (told_of p)) None apart ∙ is);
-        owed = subst (Owes (set refs p.u.dir (slice_index refs p.u.dir + 1)) (shares w.files.table p.u.files (fork_into (given w) s (Some child)).answer) joins) put
-            (child_owes refs w.files.table joins ts s child (told_of p)
-            (same_owes texts joins (files_of_child texts p.text) refs w.files.table ts ready.good.owed) (told_here w s ready) (told_none ps child free.empty)
+        owed = subst (Owes (set refs p.u.dir (slice_index refs p.u.dir + 1)) (shares w.files.table p.u.files (fork_into (given w) s (Some child)).answer) w.files.pipes joins) put
+            (child_owes refs w.files.table w.files.pipes joins ts s child (told_of p)
+            (same_owes texts joins (files_of_child texts p.text) refs w.files.table w.files.pipes ts ready.good.owed) (told_here w s ready) (told_none ps child free.empty)
             (let low = free.low in let long = fifty_told w in omega (arith, low, long)));
         marks = same_marks texts joins (files_of_child texts p.text);
       }
@@ -132,16 +138,26 @@ module _ (w now : World) (s : ℕ) (ready : IsReady w s) (agree : AreProcs now.p
   told : (r : ℕ) → told_of_slot now r ≡ get_or (told_in (call w s).state.processes) r None
   told r = ap (λ (x : its.World). get_or (told_in x.processes) r None) state
 
-  forked_ready : now.files.tree.marks ≡ w.files.tree.marks → IsReady now s
-  forked_ready marks =
+  -- who waits in a pipe can go on: who calls doesn't, and the files that are shared are the same but for their counts
+  forked_waits : is_user (process_of (unix_of w) s) ≡ true → CanGoOn (unix_of now)
+  forked_waits user =
+      subst CanGoOn (sym forked_unix)
+      (shares_goes_on (with_world (unix_of w) (call w s).state) (process_of (unix_of w) s).u.files (call w s).answer
+      (world_goes_on (unix_of w) (call w s).state ready.good.pending (fork_waited (given w) s (none_pending (process_of (unix_of w) s) user))))
+
+  forked_ready : is_user (process_of (unix_of w) s) ≡ true → now.files.tree.marks ≡ w.files.tree.marks → IsReady now s
+  forked_ready user marks =
       let owes = fork_owes w s ready in
-      let P : its.World → List (Option OpenFile) → Type 0 = λ x files. Owes x.inodes.references files x.texts (told_in x.processes) in
+      let mine : List (Option OpenFile) = shares w.files.table (process_of (unix_of w) s).u.files (call w s).answer in
+      let P : its.World → List (Option OpenFile) → List Pipe → Type 0 = λ x files pipes. Owes x.inodes.references files pipes x.texts (told_in x.processes) in
       record {
         good = good_then w now rests moved.core ready.good agree
             (still_runs w now ready.good agree (λ r is. sym moved.running ∙ is) (λ r t was is.
             let same : s ≡ r = ap (λ o. unwrap_or o 0) (sym ready.runs ∙ was) in
             subst (λ n. told_of_slot now n ≡ Some t) same (told s ∙ owes.stays t (subst (λ n. told_of_slot w n ≡ Some t) (sym same) is))))
-            (subst (P (given now)) (sym table) (subst (λ x. P x (shares w.files.table (process_of (unix_of w) s).u.files (call w s).answer)) (sym state) owes.owed))
+            (subst (P (given now) now.files.table) (sym rests.pipes) (subst (λ files. P (given now) files w.files.pipes) (sym table)
+            (subst (λ x. P x mine w.files.pipes) (sym state) owes.owed)))
+            (forked_waits user)
             (still_marked w now (call w s).state ready.good.marks marks state owes.marks);
         runs = moved.running ∙ ready.runs;
         user = ready.user;
@@ -155,19 +171,18 @@ whole_is : (w : World) (s : ℕ) → IsReady w s → IsFileSystem w.files.tree.n
 whole_is w s ready form = ap (λ x. shared_by (unix_of w) s (fork_one x s)) (sym (world_is w s ready form))
 
 -- what is answered with other files
-record SameBut (u : Unix) (files : List (Option OpenFile)) (old new : Steps) : Type 0 where
-  ending : new.ending ≡ old.ending
-  unix : new.unix ≡ record old.unix { files = files }
+abbrev with_them : List (Option OpenFile) → Steps → Steps
+with_them files x = record x { unix = record x.unix { files = files } }
 
-with_files : (u : Unix) (files : List (Option OpenFile)) (s : ℕ) (a : Answer) → SameBut u files (answers u s a) (answers (record u { files = files }) s a)
-with_files u files s (Ret r0 r1) = record { ending = refl; unix = refl }
+with_files : (u : Unix) (files : List (Option OpenFile)) (s : ℕ) (a : Answer) → answers (record u { files = files }) s a ≡ with_them files (answers u s a)
+with_files u files s (Ret r0 r1) = refl
 with_files u files s (Fail e) = by (nat_lt (error_number e) 100)
   where
-    by : (b : Bool) → SameBut u files (if b then returns (with_area u s (refused_area (error_number e))) else not_built u)
-        (if b then returns (with_area (record u { files = files }) s (refused_area (error_number e))) else not_built (record u { files = files }))
-    by true = record { ending = refl; unix = refl }
-    by false = record { ending = refl; unix = refl }
-with_files u files s (Sleep pri chan) = record { ending = refl; unix = refl }
+    by : (b : Bool) → (if b then returns (with_area (record u { files = files }) s (refused_area (error_number e))) else signals (record u { files = files }) s SIGSYS)
+        ≡ with_them files (if b then returns (with_area u s (refused_area (error_number e))) else signals u s SIGSYS)
+    by true = refl
+    by false = refl
+with_files u files s (Sleep pri chan) = refl
 
 -- What it has come to, of which this is the world before the files are shared.
 module _ (w done : World) (s : ℕ) (ready : IsReady w s) (form : IsFileSystem w.files.tree.nodes) (stays : StaysBeside w done)
@@ -176,21 +191,31 @@ module _ (w done : World) (s : ℕ) (ready : IsReady w s) (form : IsFileSystem w
   left : HasLeft w.procs done.procs done.files.tree.nodes start end (call w s)
   left = record { state = does.state; shown = does.shown; items = does.items }
 
-  pub fork_took : Took start (logged (board_in w) (forks (unix_of w) s).effects).items end
-  fork_took =
-      subst (λ (x : Steps). Took start (logged (board_in w) x.effects).items end) (sym (whole_is w s ready form))
-      (left_took w done (call w s) (fork_still w s) stays left (shared_by (unix_of w) s (call w s)) refl)
+  abbrev mine : Answer → List (Option OpenFile)
+  mine a = shares w.files.table (process_of (unix_of w) s).u.files a
 
-  pub fork_stops : (kind : PanicKind) (e : Ending) → r ≡ Err kind → e ≡ Panic kind → HasCome (board_in w) (forks (unix_of w) s) e done
-  fork_stops kind e err ends =
-      let halt = stops (came w.procs (call w s)).stop (call w s).answer kind r does.answer err in
-      subst (λ (x : Steps). HasCome (board_in w) x e done) (sym (whole_is w s ready form))
-      (stopped_come w done (call w s) (fork_still w s) stays left (shared_by (unix_of w) s (call w s)) refl halt.0 e halt.1.0 (ends ∙ ap Panic halt.1.1))
+  -- what follows its effects
+  abbrev next : Steps
+  next = with_them (mine (call w s).answer) (answers (with_world (unix_of w) (call w s).state) s (call w s).answer)
+
+  module _ (kind : PanicKind) (err : r ≡ Err kind) where
+    halt : (stop : Stop its.World) × (((came w.procs (call w s)).stop ≡ Some stop) × (kind ≡ stop.why))
+    halt = stops (came w.procs (call w s)).stop (call w s).answer kind r does.answer err
+
+    pub fork_stops : HasCome (board_in w) (forks (unix_of w) s) (Panic kind) done
+    fork_stops =
+        subst (λ (x : Steps). HasCome (board_in w) x (Panic kind) done) (sym (whole_is w s ready form))
+        (stopped_come w done (call w s) (fork_still w s) stays left halt.0 halt.1.0 next (Panic kind) (ap Panic halt.1.1))
+
+    pub fork_cut : Took start (logged (board_in w) (forks (unix_of w) s).effects).items end
+    fork_cut =
+        subst (λ (x : Steps). Took start (logged (board_in w) x.effects).items end) (sym (whole_is w s ready form))
+        (stopped_took w done (call w s) (fork_still w s) stays left halt.0 halt.1.0 next)
 
   -- It has answered, and the files are shared.
   module _ (answer : Answer) (ok : r ≡ Ok answer) (now : World) (procs : now.procs ≡ done.procs) (tree : now.files.tree ≡ done.files.tree)
       (table : now.files.table ≡ shares w.files.table (process_of (unix_of w) s).u.files answer)
-      (line : now.files.line ≡ w.files.line) (tape : now.tape ≡ w.tape) (core : now.core ≡ w.core) (agree : AreProcs now.procs) where
+      (pipes : now.files.pipes ≡ w.files.pipes) (line : now.files.line ≡ w.files.line) (tape : now.tape ≡ w.tape) (core : now.core ≡ w.core) (agree : AreProcs now.procs) where
     went : ((came w.procs (call w s)).stop ≡ None) × (answer ≡ (call w s).answer)
     went = goes_on (came w.procs (call w s)).stop (call w s).answer answer r does.answer ok
 
@@ -207,19 +232,31 @@ module _ (w done : World) (s : ℕ) (ready : IsReady w s) (form : IsFileSystem w
     switches = (fork_still w s).switches went.0
 
     rests : Rests w now
-    rests = record { line = line; tape = tape; core = core }
+    rests = record { pipes = pipes; line = line; tape = tape; core = core }
 
-    pub fork_ready : done.files.tree.marks ≡ w.files.tree.marks → IsReady now s
-    fork_ready marks = forked_ready w now s ready agree state switches moved its_table rests (ap (λ t. t.marks) tree ∙ marks)
+    pub fork_ready : is_user (process_of (unix_of w) s) ≡ true → done.files.tree.marks ≡ w.files.tree.marks → IsReady now s
+    fork_ready user marks = forked_ready w now s ready agree state switches moved its_table rests user (ap (λ t. t.marks) tree ∙ marks)
 
     -- when the answer has been concluded
-    pub fork_come : (fin : World) (e : Ending) → e ≡ (answers (unix_of now) s answer).ending → unix_of fin ≡ (answers (unix_of now) s answer).unix
-        → board_in fin ≡ board_in now → HasCome (board_in w) (forks (unix_of w) s) e fin
-    fork_come fin e ends unix same =
+    next_is : answers (unix_of now) s answer ≡ next
+    next_is =
         let now_is = forked_unix w now s ready agree state switches moved its_table rests in
         let its_answer = went.1 in
-        let but = with_files (with_world (unix_of w) (call w s).state) (shares w.files.table (process_of (unix_of w) s).u.files (call w s).answer) s (call w s).answer in
+        (λ i. answers (now_is i) s (its_answer i)) ∙ with_files (with_world (unix_of w) (call w s).state) (mine (call w s).answer) s (call w s).answer
+
+    same_board : board_in now ≡ board_in done
+    same_board = ap board procs
+
+    pub fork_come : (e : Ending) (fin : World) → HasCome (board_in now) (answers (unix_of now) s answer) e fin → HasCome (board_in w) (forks (unix_of w) s) e fin
+    fork_come e fin come =
         subst (λ (x : Steps). HasCome (board_in w) x e fin) (sym (whole_is w s ready form))
-        (gone_come w done (call w s) (fork_still w s) stays left (shared_by (unix_of w) s (call w s)) refl fin e went.0
-        (ends ∙ (λ i. (answers (now_is i) s (its_answer i)).ending) ∙ but.ending) (unix ∙ (λ i. (answers (now_is i) s (its_answer i)).unix) ∙ but.unix)
-        (same ∙ ap board procs))
+        (gone_come w done (call w s) (fork_still w s) stays left went.0 next e fin
+        (subst (λ b. HasCome b next e fin) same_board (subst (λ (x : Steps). HasCome (board_in now) x e fin) next_is come)))
+
+    pub fork_took : (last : Taken) → Took end (logged (board_in now) (answers (unix_of now) s answer).effects).items last
+        → Took start (logged (board_in w) (forks (unix_of w) s).effects).items last
+    fork_took last took =
+        subst (λ (x : Steps). Took start (logged (board_in w) x.effects).items last) (sym (whole_is w s ready form))
+        (gone_took w done (call w s) (fork_still w s) stays left went.0 next last
+        (subst (λ b. Took end (logged b next.effects).items last) same_board
+        (subst (λ (x : Steps). Took end (logged (board_in now) x.effects).items last) next_is took)))

@@ -1,10 +1,12 @@
 -- break(II) and the growth of a stack: what the world is then, and what they have come to.
-use Rattle.std.proofs.Common.{◌≡◌, ◌∙◌, ℕ, Bool, true, false, option_map, is_some, Option, Some, None, refl, sym, ap, subst}
+use Rattle.std.proofs.Common.{◌≡◌, ◌∙◌, ℕ, Bool, true, false, option_map, is_some, List, [], map, append-nil, Option, Some, None, refl, sym, ap, subst}
 use Rattle.std.specs.Prelude.{Result, Ok, Err}
 use Rattle.v6_base.specs.Trace.{Taken, Took}
+use Rattle.v6_base.proofs.Took.{took_nothing}
 use Rattle.v6_base.specs.declared.answer.Answer.TheVariants.{Fail}
 use Rattle.v6_base.specs.declared.entry.PanicKind.{PanicKind}
 use Rattle.v6_base.specs.declared.errno.Errno.TheVariants.{ENOMEM}
+use Rattle.pick_rules.specs.Effects.{Effect, lifted}
 use Rattle.pick_rules.specs.Logged.{Stop, logged, left_by}
 use Rattle.fs_nodes.specs.FileSystem.{IsFileSystem}
 use Rattle.seg_regs.specs.Sizes.{is_refused}
@@ -13,18 +15,22 @@ use Rattle.sys_procs.specs.World as its
 use Rattle.sys_procs.specs.Comes.{Comes, fails}
 use Rattle.sys_procs.specs.Break.{sized, expands, clicks_up_to, break_at, grown_stack, grow, grown_or_not, grown_by}
 use Rattle.sys_procs.specs.Handed.{AreProcs, came}
-use Rattle.sys_procs.specs.Done.{HasGrown, HasLeft}
+use Rattle.sys_procs.specs.Done.{HasGrown}
+use Rattle.sig_core.specs.declared.numbers.TheConstants.{SIGSEG}
 use Rattle.sys_procs.specs.TextTable.{marks_of}
 use Rattle.unix_core.specs.declared.world.World.{World}
-use Rattle.abstract_unix.specs.Unix.{process_of}
+use Rattle.abstract_unix.specs.Unix.{Unix, process_of}
+use Rattle.abstract_unix.specs.Whole.{CanGoOn}
+use Rattle.abstract_unix.specs.Steps.{Steps, quietly, returns, signals, after_effects}
 use Rattle.abstract_unix.specs.declared.ending.Ending.{Ending}
-use Rattle.abstract_unix.specs.declared.ending.Ending.TheVariants.{Trapped, NotBuilt, Panic}
-use Rattle.abstract_unix.specs.Calls.{grows, grows_to}
+use Rattle.abstract_unix.specs.declared.ending.Ending.TheVariants.{Trapped, Panic}
+use Rattle.abstract_unix.specs.Calls.{with_world, grows, grows_to}
 use Rattle.abstract_unix.specs.Calls as unix
 use Rattle.unix_core.specs.Parts.{unix_of, board_in, IsReady, HasCome}
+use Rattle.unix_core.proofs.GoingLemmas.{going_put}
 use Rattle.unix_core.proofs.WorldLemmas.{slot_is}
 use Rattle.abstract_unix.proofs.Owing.{told_change}
-use Rattle.unix_core.proofs.CameLemmas.{StaysBeside, IsLike, IsTame, tame_comes, tame_if, world_is, gone_unix, gone_come, stopped_come, left_took, gone_ready, still_marked}
+use Rattle.unix_core.proofs.CameLemmas.{StaysBeside, IsLike, IsTame, tame_comes, tame_if, world_is, gone_unix, gone_come, gone_took, stopped_come, stopped_took, gone_ready, still_marked}
 use Rattle.unix_core.proofs.CameLemmas.{given}
 
 pub given_like : (w : World) → IsLike w (given w)
@@ -60,16 +66,27 @@ module _ (w : World) (s : ℕ) (ready : IsReady w s) where
           let same : expands (given w) s p.u.data_size stack ≡ c = cc is in
           subst (IsTame w) same (expands_tame p.u.data_size stack)
 
-  -- no text changes
-  grow_texts : (sp : ℕ) (c : Comes) → grow (given w) s sp ≡ Some c → c.state.texts ≡ (unix_of w).texts
+  -- no text changes, and who waits can go on
+  record Leaves (c : Comes) : Type 0 where
+    texts : c.state.texts ≡ (unix_of w).texts
+    waits : CanGoOn (with_world (unix_of w) c.state)
+
+  expands_leaves : (d stack : ℕ) → Leaves (expands (given w) s d stack)
+  expands_leaves d stack = record {
+    texts = refl;
+    waits = going_put (unix_of w) s (process_of (unix_of w) s) (sized d stack (process_of (unix_of w) s)) (slot_is w s ready)
+        (record { pending = refl; call = refl; files = refl; lives = refl }) ready.good.pending;
+  }
+
+  grow_leaves : (sp : ℕ) (c : Comes) → grow (given w) s sp ≡ Some c → Leaves c
   unfolding grow
-  grow_texts sp c e = by (grown_stack p.u.text_size p.u.data_size p.u.stack_size (given w).limit sp) e
+  grow_leaves sp c e = by (grown_stack p.u.text_size p.u.data_size p.u.stack_size (given w).limit sp) e
     where
-      by : (o : Option ℕ) → option_map (expands (given w) s p.u.data_size) o ≡ Some c → c.state.texts ≡ (unix_of w).texts
+      by : (o : Option ℕ) → option_map (expands (given w) s p.u.data_size) o ≡ Some c → Leaves c
       by None is = absurd (cc is)
       by (Some stack) is =
           let same : expands (given w) s p.u.data_size stack ≡ c = cc is in
-          ap (λ (x : Comes). x.state.texts) (sym same)
+          subst Leaves same (expands_leaves p.u.data_size stack)
 
 -- What is answered of a growth.
 answered_so : (o : Option (Stop its.World)) (grows b : Bool) (r : Result Bool PanicKind) → r ≡ grown_by o b → r ≡ Ok grows → (o ≡ None) × (b ≡ grows)
@@ -92,93 +109,137 @@ there_is_none None e = refl
 there_is_none (Some c) e = absurd (cc e)
 
 -- The world after it, and what it has come to.
-abbrev growth : World → ℕ → ℕ → Option Comes
+abbrev pub growth : World → ℕ → ℕ → Option Comes
 growth w s sp = grow (given w) s sp
 
-abbrev row : World → ℕ → Option Comes → Comes
+abbrev pub row : World → ℕ → Option Comes → Comes
 row w s o = grown_or_not (given w) s o
 
 row_tame : (w : World) (s sp : ℕ) → IsReady w s → (o : Option Comes) → growth w s sp ≡ o → IsTame w (row w s o)
 row_tame w s sp ready None e = tame_comes w (given w) _ refl (given_like w)
 row_tame w s sp ready (Some c) e = grow_tame w s ready sp c e
 
+row_leaves : (w : World) (s sp : ℕ) (ready : IsReady w s) (o : Option Comes) → growth w s sp ≡ o → Leaves w s ready (row w s o)
+row_leaves w s sp ready None e = record { texts = refl; waits = ready.good.pending }
+row_leaves w s sp ready (Some c) e = grow_leaves w s ready sp c e
+
+-- effects after which a turn just ends
+pub bare : (es : List (Effect Unix)) (u : Unix) (e : Ending) → after_effects es (quietly u e) ≡ record { effects = es; unix = u; ending = e }
+bare es u e = ap (λ xs. record { effects = xs; unix = u; ending = e }) (append-nil es)
+
 module _ (w now : World) (s sp : ℕ) (ready : IsReady w s) (form : IsFileSystem w.files.tree.nodes) (stays : StaysBeside w now)
     {r : Result Bool PanicKind} {start end : Taken}
     (does : HasGrown w.procs now.procs now.files.tree.nodes (given w) s r start end (growth w s sp)) where
+  -- what it has come to, whether the stack has grown or not
+  abbrev pub its_row : Comes
+  its_row = row w s (growth w s sp)
+
+  tame : IsTame w its_row
+  tame = row_tame w s sp ready (growth w s sp) refl
+
+  abbrev pub shown : List (Effect Unix)
+  shown = map (lifted (with_world (unix_of w))) its_row.effects
+
+  -- it doesn't stop
+  module _ (grown : Bool) (ok : r ≡ Ok grown) where
+    went : ((came w.procs its_row).stop ≡ None) × (is_some (growth w s sp) ≡ grown)
+    went = answered_so (came w.procs its_row).stop grown (is_some (growth w s sp)) r does.answer ok
+
+    pub grows_unix : unix_of now ≡ with_world (unix_of w) its_row.state
+    grows_unix = gone_unix w now its_row tame.still stays does.left went.0
+
+    pub grows_ready : AreProcs now.procs → now.files.tree.marks ≡ w.files.tree.marks → IsReady now s
+    grows_ready agree marks =
+        let leaves = row_leaves w s sp ready (growth w s sp) refl in
+        gone_ready w now s its_row tame stays does.left went.0 ready agree leaves.waits
+        (still_marked w now its_row.state ready.good.marks marks (does.left.state ∙ ap (λ o. left_by o its_row.state) went.0) (ap marks_of leaves.texts))
+
+    pub grows_come : (next : Steps) (e : Ending) (fin : World) → HasCome (board_in now) next e fin → HasCome (board_in w) (after_effects shown next) e fin
+    grows_come next e fin come = gone_come w now its_row tame.still stays does.left went.0 next e fin come
+
+    pub grows_took : (next : Steps) (last : Taken) → Took end (logged (board_in now) next.effects).items last
+        → Took start (logged (board_in w) (after_effects shown next).effects).items last
+    grows_took next last took = gone_took w now its_row tame.still stays does.left went.0 next last took
+
+  -- it stops
+  module _ (kind : PanicKind) (err : r ≡ Err kind) (next : Steps) where
+    halt : (stop : Stop its.World) × (((came w.procs its_row).stop ≡ Some stop) × (kind ≡ stop.why))
+    halt = stopped_so (came w.procs its_row).stop kind (is_some (growth w s sp)) r does.answer err
+
+    pub grows_stop : HasCome (board_in w) (after_effects shown next) (Panic kind) now
+    grows_stop = stopped_come w now its_row tame.still stays does.left halt.0 halt.1.0 next (Panic kind) (ap Panic halt.1.1)
+
+    pub grows_cut : Took start (logged (board_in w) (after_effects shown next).effects).items end
+    grows_cut = stopped_took w now its_row tame.still stays does.left halt.0 halt.1.0 next
+
   -- by what the growth is
-  whole_come : (o : Option Comes) (e : Ending) → growth w s sp ≡ o → HasCome (board_in w) (unix.grown_by (unix_of w) s o) e now
-      → HasCome (board_in w) (grows_to (unix_of w) s sp) e now
-  whole_come o e is come =
-      subst (λ x. HasCome (board_in w) (unix.grown_by (unix_of w) s (grow x s sp)) e now) (world_is w s ready form)
-      (subst (λ x. HasCome (board_in w) (unix.grown_by (unix_of w) s x) e now) (sym is) come)
+  whole : (o : Option Comes) → growth w s sp ≡ o → unix.grown_by (unix_of w) s o ≡ grows_to (unix_of w) s sp
+  whole o is =
+      ap (unix.grown_by (unix_of w) s) (sym is) ∙ ap (λ x. unix.grown_by (unix_of w) s (grow x s sp)) (world_is w s ready form)
 
-  module _ (c : Comes) (is : growth w s sp ≡ Some c) where
-    tame : IsTame w c
-    tame = grow_tame w s ready sp c is
+  some_whole : (c : Comes) → growth w s sp ≡ Some c → after_effects shown (returns (with_world (unix_of w) its_row.state)) ≡ grows_to (unix_of w) s sp
+  some_whole c is =
+      bare shown (with_world (unix_of w) its_row.state) Trapped
+      ∙ ap (λ o. grows (unix_of w) (row w s o)) is ∙ whole (Some c) is
 
-    left : HasLeft w.procs now.procs now.files.tree.nodes start end c
-    left = subst (λ o. HasLeft w.procs now.procs now.files.tree.nodes start end (row w s o)) is does.left
+  none_whole : growth w s sp ≡ None → after_effects shown (signals (unix_of w) s SIGSEG) ≡ grows_to (unix_of w) s sp
+  none_whole is = ap (λ o. after_effects (map (lifted (with_world (unix_of w))) (row w s o).effects) (signals (unix_of w) s SIGSEG)) is ∙ whole None is
 
-    stop_is : (o : Option (Stop its.World)) → (came w.procs (row w s (growth w s sp))).stop ≡ o → (came w.procs c).stop ≡ o
-    stop_is o e = sym (ap (λ x. (came w.procs (row w s x)).stop) is) ∙ e
-
-  module _ (grown : r ≡ Ok true) where
-    went : ((came w.procs (row w s (growth w s sp))).stop ≡ None) × (is_some (growth w s sp) ≡ true)
-    went = answered_so (came w.procs (row w s (growth w s sp))).stop true (is_some (growth w s sp)) r does.answer grown
-
+  -- The stack has grown.
+  module _ (ok : r ≡ Ok true) where
     its_growth : (c : Comes) × (growth w s sp ≡ Some c)
-    its_growth = there_is (growth w s sp) went.1
+    its_growth = there_is (growth w s sp) (went true ok).1
 
     pub grown_come : HasCome (board_in w) (grows_to (unix_of w) s sp) Trapped now
     grown_come =
-        let c : Comes = its_growth.0 in
-        let is = its_growth.1 in
-        let none = stop_is c is None went.0 in
-        let t = tame c is in
-        whole_come (Some c) Trapped is
-        (gone_come w now c t.still stays (left c is) (grows (unix_of w) c) refl now Trapped none refl
-        (gone_unix w now c t.still stays (left c is) none) refl)
+        subst (λ x. HasCome (board_in w) x Trapped now) (some_whole its_growth.0 its_growth.1)
+        (grows_come true ok (returns (with_world (unix_of w) its_row.state)) Trapped now
+        (record { ending = refl; unix = grows_unix true ok; board = refl }))
 
-    pub grown_ready : AreProcs now.procs → now.files.tree.marks ≡ w.files.tree.marks → IsReady now s
-    grown_ready agree marks =
-        let c : Comes = its_growth.0 in
-        let is = its_growth.1 in
-        gone_ready w now s c (tame c is) stays (left c is) (stop_is c is None went.0) ready agree
-        (still_marked w now c.state ready.good.marks marks ((left c is).state ∙ ap (λ o. left_by o c.state) (stop_is c is None went.0))
-        (ap marks_of (grow_texts w s ready sp c is)))
+    pub grown_took : Took start (logged (board_in w) (grows_to (unix_of w) s sp).effects).items end
+    grown_took =
+        subst (λ (x : Steps). Took start (logged (board_in w) x.effects).items end) (some_whole its_growth.0 its_growth.1)
+        (grows_took true ok (returns (with_world (unix_of w) its_row.state)) end (took_nothing end [] refl))
 
-  pub not_grown_come : r ≡ Ok false → HasCome (board_in w) (grows_to (unix_of w) s sp) NotBuilt now
-  not_grown_come grown =
-      let went = answered_so (came w.procs (row w s (growth w s sp))).stop false (is_some (growth w s sp)) r does.answer grown in
-      let none : growth w s sp ≡ None = there_is_none (growth w s sp) went.1 in
-      let c : Comes = row w s None in
-      let t : IsTame w c = row_tame w s sp ready None none in
-      let left : HasLeft w.procs now.procs now.files.tree.nodes start end c =
-      subst (λ o. HasLeft w.procs now.procs now.files.tree.nodes start end (row w s o)) none does.left in
-      whole_come None NotBuilt none
-      (gone_come w now c t.still stays left (unix.grown_by (unix_of w) s None) refl now NotBuilt refl refl
-      (gone_unix w now c t.still stays left refl) refl)
+  -- It has not, and the process is sent a signal.
+  module _ (ok : r ≡ Ok false) where
+    no_growth : growth w s sp ≡ None
+    no_growth = there_is_none (growth w s sp) (went false ok).1
 
-  pub growth_stops : (kind : PanicKind) (e : Ending) → r ≡ Err kind → e ≡ Panic kind → HasCome (board_in w) (grows_to (unix_of w) s sp) e now
-  growth_stops kind e err ends =
-      let halt = stopped_so (came w.procs (row w s (growth w s sp))).stop kind (is_some (growth w s sp)) r does.answer err in
-      by (growth w s sp) refl halt.0 halt.1.0 (ends ∙ ap Panic halt.1.1)
-    where
-      by : (o : Option Comes) → growth w s sp ≡ o → (stop : Stop its.World) → (came w.procs (row w s (growth w s sp))).stop ≡ Some stop
-          → e ≡ Panic stop.why → HasCome (board_in w) (grows_to (unix_of w) s sp) e now
-      by None is stop some same =
-          absurd (let never : None ≡ Some stop = sym (ap (λ x. (came w.procs (row w s x)).stop) is) ∙ some in cc never)
-      by (Some c) is stop some same =
-          let t = tame c is in
-          whole_come (Some c) e is
-          (stopped_come w now c t.still stays (left c is) (grows (unix_of w) c) refl stop e (stop_is c is (Some stop) some) same)
+    same_unix : unix_of now ≡ unix_of w
+    same_unix = grows_unix false ok ∙ ap (λ o. with_world (unix_of w) (row w s o).state) no_growth
 
-  pub grown_took : Took start (logged (board_in w) (grows_to (unix_of w) s sp).effects).items end
-  grown_took =
-      subst (λ x. Took start (logged (board_in w) (unix.grown_by (unix_of w) s (grow x s sp)).effects).items end) (world_is w s ready form)
-      (by (growth w s sp) refl does.left)
-    where
-      by : (o : Option Comes) → growth w s sp ≡ o → HasLeft w.procs now.procs now.files.tree.nodes start end (row w s o)
-          → Took start (logged (board_in w) (unix.grown_by (unix_of w) s o).effects).items end
-      by None is left = left.items
-      by (Some c) is left = let t = tame c is in left_took w now c t.still stays left (grows (unix_of w) c) refl
+    pub not_grown_come : (e : Ending) (fin : World) → HasCome (board_in now) (signals (unix_of now) s SIGSEG) e fin
+        → HasCome (board_in w) (grows_to (unix_of w) s sp) e fin
+    not_grown_come e fin come =
+        subst (λ x. HasCome (board_in w) x e fin) (none_whole no_growth)
+        (grows_come false ok (signals (unix_of w) s SIGSEG) e fin
+        (subst (λ (u : Unix). HasCome (board_in now) (signals u s SIGSEG) e fin) same_unix come))
+
+    pub not_grown_took : (last : Taken) → Took end (logged (board_in now) (signals (unix_of now) s SIGSEG).effects).items last
+        → Took start (logged (board_in w) (grows_to (unix_of w) s sp).effects).items last
+    not_grown_took last took =
+        subst (λ (x : Steps). Took start (logged (board_in w) x.effects).items last) (none_whole no_growth)
+        (grows_took false ok (signals (unix_of w) s SIGSEG) last
+        (subst (λ (u : Unix). Took end (logged (board_in now) (signals u s SIGSEG).effects).items last) same_unix took))
+
+  -- The run has stopped.
+  module _ (kind : PanicKind) (err : r ≡ Err kind) where
+    its_stop : (c : Comes) × (growth w s sp ≡ Some c)
+    its_stop = by (growth w s sp) refl
+      where
+        by : (o : Option Comes) → growth w s sp ≡ o → (c : Comes) × (growth w s sp ≡ Some c)
+        by (Some c) is = (c, is)
+        by None is =
+            let h = stopped_so (came w.procs its_row).stop kind (is_some (growth w s sp)) r does.answer err in
+            absurd (let never : None ≡ Some h.0 = sym (ap (λ x. (came w.procs (row w s x)).stop) is) ∙ h.1.0 in cc never)
+
+    pub growth_stops : HasCome (board_in w) (grows_to (unix_of w) s sp) (Panic kind) now
+    growth_stops =
+        subst (λ x. HasCome (board_in w) x (Panic kind) now) (some_whole its_stop.0 its_stop.1)
+        (grows_stop kind err (returns (with_world (unix_of w) its_row.state)))
+
+    pub growth_cut : Took start (logged (board_in w) (grows_to (unix_of w) s sp).effects).items end
+    growth_cut =
+        subst (λ (x : Steps). Took start (logged (board_in w) x.effects).items end) (some_whole its_stop.0 its_stop.1)
+        (grows_cut kind err (returns (with_world (unix_of w) its_row.state)))

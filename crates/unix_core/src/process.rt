@@ -273,7 +273,10 @@ fn grow_stack<T: Trace>(world: &mut World, s: Slot, sp: u16, trace: &mut T) -> E
     match grown {
         Ok(true) => Ending::Trapped,
         Ok(false) => signal(world, s, SIGSEG, trace),
-        Err(kind) => Ending::Panic(kind),
+        Err(kind) => {
+            see_covered(world);
+            Ending::Panic(kind)
+        }
     }
 }
 

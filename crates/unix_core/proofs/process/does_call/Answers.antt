@@ -39,7 +39,7 @@ returns-in-OnFiles-clause-call g c =
     let w : World = c.args.world.now in
     never_next _ _ _ _ c.call_files.ensures.come
     (did_next (unix_of w) c.args.s (file_row c.in-OnFiles.on_files
-    (handed_of (unix_of w) (process_of (unix_of w) c.args.s)) c.args.args w.procs.table.now))
+    (handed_of (unix_of w) (process_of (unix_of w) c.args.s)) c.args.s c.args.args w.procs.table.now))
 
 pub returns-in-OnProcesses-clause-good : goal.returns-in-OnProcesses-clause-good
 returns-in-OnProcesses-clause-good g c goes = (c.call_processes.ensures.ready goes).good

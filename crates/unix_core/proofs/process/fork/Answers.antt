@@ -6,7 +6,6 @@ use Rattle.open_files.specs.declared.file.OpenFile.{OpenFile}
 use Rattle.open_files.specs.Files.{AreOpen, HaveRoom}
 use Rattle.u_area.specs.declared.area.UArea.{UArea}
 use Rattle.unix_core.specs.declared.world.World.{World}
-use Rattle.abstract_unix.specs.declared.ending.Ending.TheVariants.{Panic}
 use Rattle.fs_tree.specs.declared.tree.Tree.{Tree}
 use Rattle.sys_procs.specs.declared.procs.Procs.{Procs}
 use Rattle.abstract_unix.specs.Unix.{process_of}
@@ -18,29 +17,29 @@ use Rattle.unix_core.proofs.GoodLemmas.{fifty_told}
 use Rattle.unix_core.proofs.WorldLemmas.{told_here}
 use Rattle.unix_core.proofs.AreaLemmas.{own_area}
 use Rattle.unix_core.proofs.CameLemmas.{ready_calls, after, beside, over_then}
-use Rattle.unix_core.proofs.ForkLemmas.{fork_took, fork_stops, fork_ready, fork_come}
+use Rattle.unix_core.proofs.ForkLemmas.{fork_took, fork_stops, fork_cut, fork_ready, fork_come}
 use Rattle.unix_core.proofs.process.fork.Goals as goal
 
 -- no file has so many numbers that fifteen more can't be counted
 room_for : (w : World) (s : ℕ) → IsReady w s → HaveRoom w.files.table
 room_for w s ready entry file is =
-    let few = few_numbers w.files.tree.nodes.references w.files.table (unix_of w).texts (told_in (unix_of w).processes) ready.good.owed (fifty_told w) entry file is in
+    let few = few_numbers w.files.tree.nodes.references w.files.table w.files.pipes (unix_of w).texts (told_in (unix_of w).processes) ready.good.owed (fifty_told w) entry file is in
     omega (arith, few)
 
 pub area-u-requires : goal.area-u-requires
-area-u-requires g c = c.requires.good.running c.args.s c.requires.runs c.requires.user
+area-u-requires g c = c.requires.ready.good.running c.args.s c.requires.ready.runs c.requires.ready.user
 
 pub fork_one-requires : goal.fork_one-requires
-fork_one-requires g c = ready_calls c.args.world.now c.args.s c.requires c.see_table.ensures c.area-u.ensures.holds
+fork_one-requires g c = ready_calls c.args.world.now c.args.s c.requires.ready c.see_table.ensures c.area-u.ensures.holds
 
 pub share_files-requires-clause-open : goal.share_files-requires-clause-open
 share_files-requires-clause-open g c =
     let w : World = c.args.world.now in
-    subst (λ (mine : List ℕ). AreOpen w.files.table mine) (sym (ap (λ (u : UArea). u.files) (c.area-u.ensures.u ∙ own_area w c.args.s c.requires)))
-    (names_open w.files.tree.nodes.references w.files.table (unix_of w).texts (told_in (unix_of w).processes) c.requires.good.owed c.args.s _ (told_here w c.args.s c.requires))
+    subst (λ (mine : List ℕ). AreOpen w.files.table mine) (sym (ap (λ (u : UArea). u.files) (c.area-u.ensures.u ∙ own_area w c.args.s c.requires.ready)))
+    (names_open w.files.tree.nodes.references w.files.table w.files.pipes (unix_of w).texts (told_in (unix_of w).processes) c.requires.ready.good.owed c.args.s _ (told_here w c.args.s c.requires.ready))
 
 pub share_files-requires-clause-few : goal.share_files-requires-clause-few
-share_files-requires-clause-few g c = room_for c.args.world.now c.args.s c.requires
+share_files-requires-clause-few g c = room_for c.args.world.now c.args.s c.requires.ready
 
 -- the world before the answer is concluded
 abbrev shared : World → Tree → List (Option OpenFile) → Procs → World
@@ -54,29 +53,38 @@ pub conclude-requires : goal.conclude-requires
 conclude-requires g c =
     let w : World = c.args.world.now in
     let e = c.fork_one.ensures in
-    fork_ready w (after w c.fork_one.new.tree c.fork_one.new.p) c.args.s c.requires c.see_nodes.ensures
+    fork_ready w (after w c.fork_one.new.tree c.fork_one.new.p) c.args.s c.requires.ready c.see_nodes.ensures
     (beside w c.fork_one.new.tree c.fork_one.new.p) e.does
     c.in-Ok.answer c.in-Ok.is (shared w c.fork_one.new.tree c.share_files.new.table c.fork_one.new.p) refl refl
-    (its_table w c.args.s c.area-u.result _ c.in-Ok.answer c.requires c.area-u.ensures.u c.share_files.ensures) refl refl refl
-    e.agree e.marks
+    (its_table w c.args.s c.area-u.result _ c.in-Ok.answer c.requires.ready c.area-u.ensures.u c.share_files.ensures) refl refl refl refl
+    e.agree c.requires.user e.marks
 
 pub returns-in-Ok-clause-come : goal.returns-in-Ok-clause-come
 returns-in-Ok-clause-come g c =
     let w : World = c.args.world.now in
     let e = c.fork_one.ensures in
-    fork_come w (after w c.fork_one.new.tree c.fork_one.new.p) c.args.s c.requires c.see_nodes.ensures
+    fork_come w (after w c.fork_one.new.tree c.fork_one.new.p) c.args.s c.requires.ready c.see_nodes.ensures
     (beside w c.fork_one.new.tree c.fork_one.new.p) e.does
     c.in-Ok.answer c.in-Ok.is (shared w c.fork_one.new.tree c.share_files.new.table c.fork_one.new.p) refl refl
-    (its_table w c.args.s c.area-u.result _ c.in-Ok.answer c.requires c.area-u.ensures.u c.share_files.ensures) refl refl refl
+    (its_table w c.args.s c.area-u.result _ c.in-Ok.answer c.requires.ready c.area-u.ensures.u c.share_files.ensures) refl refl refl refl
     e.agree
-    c.conclude.new.world c.conclude.result c.conclude.ensures.ending c.conclude.ensures.unix c.conclude.ensures.board
+    c.conclude.result c.conclude.new.world c.conclude.ensures.come
 
 pub returns-in-Ok-clause-items : goal.returns-in-Ok-clause-items
 returns-in-Ok-clause-items g c =
     let w : World = c.args.world.now in
     let e = c.fork_one.ensures in
-    fork_took w (after w c.fork_one.new.tree c.fork_one.new.p) c.args.s c.requires c.see_nodes.ensures
+    fork_took w (after w c.fork_one.new.tree c.fork_one.new.p) c.args.s c.requires.ready c.see_nodes.ensures
     (beside w c.fork_one.new.tree c.fork_one.new.p) e.does
+    c.in-Ok.answer c.in-Ok.is (shared w c.fork_one.new.tree c.share_files.new.table c.fork_one.new.p) refl refl
+    (its_table w c.args.s c.area-u.result _ c.in-Ok.answer c.requires.ready c.area-u.ensures.u c.share_files.ensures) refl refl refl refl
+    e.agree _ c.conclude.ensures.items
+
+pub returns-in-Ok-clause-covered : goal.returns-in-Ok-clause-covered
+returns-in-Ok-clause-covered g c ends = absurd (let never = sym c.conclude.ensures.goes ∙ ends in cc never)
+
+pub returns-in-Ok-clause-frame : goal.returns-in-Ok-clause-frame
+returns-in-Ok-clause-frame g c = g.met.T.Trace.goes_on _ _ _ c.fork_one.ensures.frame c.conclude.ensures.frame
 
 pub returns-in-Ok-clause-rest : goal.returns-in-Ok-clause-rest
 returns-in-Ok-clause-rest g c =
@@ -86,8 +94,8 @@ pub returns-in-Err-clause-come : goal.returns-in-Err-clause-come
 returns-in-Err-clause-come g c =
     let w : World = c.args.world.now in
     let e = c.fork_one.ensures in
-    fork_stops w (after w c.fork_one.new.tree c.fork_one.new.p) c.args.s c.requires c.see_nodes.ensures
-    (beside w c.fork_one.new.tree c.fork_one.new.p) e.does c.in-Err.kind (Panic c.in-Err.kind) c.in-Err.is refl
+    fork_stops w (after w c.fork_one.new.tree c.fork_one.new.p) c.args.s c.requires.ready c.see_nodes.ensures
+    (beside w c.fork_one.new.tree c.fork_one.new.p) e.does c.in-Err.kind c.in-Err.is
 
 pub returns-in-Err-clause-ready : goal.returns-in-Err-clause-ready
 returns-in-Err-clause-ready g c goes = over_then c.in-Err.kind goes
@@ -96,8 +104,8 @@ pub returns-in-Err-clause-items : goal.returns-in-Err-clause-items
 returns-in-Err-clause-items g c =
     let w : World = c.args.world.now in
     let e = c.fork_one.ensures in
-    fork_took w (after w c.fork_one.new.tree c.fork_one.new.p) c.args.s c.requires c.see_nodes.ensures
-    (beside w c.fork_one.new.tree c.fork_one.new.p) e.does
+    fork_cut w (after w c.fork_one.new.tree c.fork_one.new.p) c.args.s c.requires.ready c.see_nodes.ensures
+    (beside w c.fork_one.new.tree c.fork_one.new.p) e.does c.in-Err.kind c.in-Err.is
 
 pub see_covered-requires : goal.see_covered-requires
 see_covered-requires g c = c.fork_one.ensures.agree
