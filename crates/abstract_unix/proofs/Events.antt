@@ -10,7 +10,7 @@ use Rattle.pick_rules.specs.Effects.{Effect, Show, Size, Fork, Text, Image, Exit
 use Rattle.pick_rules.specs.Logged.{Stop, Logged, log_one, logged, left_by}
 use Rattle.pick_rules.specs.Lawful.{Over, Seen, FitAll, seen_after}
 use Rattle.log_laws.proofs.Fitting.{fit_item, seen_append, seen_items, Apt, Ends, Fitted, apt_fits}
-use Rattle.log_laws.proofs.Seats.{RunnerAt, Paused, Holds}
+use Rattle.log_laws.proofs.Seats.{RunnerAt, InTurn, Paused, Holds}
 use Rattle.log_laws.proofs.Settles.{Settled, IsSettled, settling}
 use Rattle.swap_sched.specs.Pass.{pass, stop_over}
 use Rattle.abstract_unix.specs.declared.ending.Ending.{Ending}
@@ -26,7 +26,8 @@ use Rattle.abstract_unix.proofs.Steps.{GoesOn, IsCalm, AptSteps}
 use Rattle.abstract_unix.proofs.Passing.{Passed, pass_passes}
 use Rattle.abstract_unix.proofs.Turning.{turn_apt}
 use Rattle.abstract_unix.proofs.Tidy.{IsTidy}
-use Rattle.abstract_unix.proofs.TidyTurns.{begins_numbers}
+use Rattle.abstract_unix.proofs.TidyTurns.{Runs}
+use Rattle.abstract_unix.proofs.TidySteps.{turn_tidy, begins_numbers}
 
 -- the system at these lines
 abbrev pub system_at : Unix → Seen → System
@@ -207,6 +208,14 @@ pass_fine u seen p r = by l.stop refl
     by None e = settles_fine u seen (record { items = l.items; board = l.board; stop = None }) passed.fit passed.board (passed.goes e).paused refl
     by (Some stop) e = record { fit = passed.fit; stands = λ x. absurd (cc x); over = λ kind x. passed.over stop e }
 
+-- who runs lives in its slot
+pub runs_at : (u : Unix) (s : ℕ) (b : Board) → IsTidy u → InTurn s (seats_of u) b → Runs s u
+runs_at u s b tidy t = record {
+  tidy = tidy;
+  there = runner_there u.processes u.clock u.texts u.limit s b t;
+  lives = runner_alive u.processes u.clock u.texts u.limit s b t;
+}
+
 -- a slot
 pub slot_fine : (u : Unix) (seen : Seen) → IsTidy u → Holds (seats_of u) seen
     → FineTurn seen (settled_after (slot_of (system_at u seen) seen.board.table.running))
@@ -221,5 +230,4 @@ slot_fine u seen tidy h = by seen.board.table.running refl h.paused.runner
     by (Some (suc s)) e (inl z) = absurd (cc z)
     by (Some (suc s)) e (inr t) =
         turned_fine (suc s) u seen _ (turn_apt (suc s) seen u tidy
-        (begins_numbers (suc s) u seen.board tidy (runner_there u.processes u.clock u.texts u.limit (suc s) seen.board t)
-        (runner_alive u.processes u.clock u.texts u.limit (suc s) seen.board t)) h.paused t)
+        (begins_numbers (suc s) u seen.board (runs_at u (suc s) seen.board tidy t)) h.paused t)

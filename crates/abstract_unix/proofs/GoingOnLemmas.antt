@@ -191,10 +191,11 @@ named_twice ts s r t x entry here there other =
     let one : names entry (get_or rest r None) ≡ times x.files entry = ap (names entry) at in
     omega (arith, change, old, least, one)
 
-pub file_goes_on : (refs : List ℕ) (u : Unix) (s : ℕ) (h : Handed) → Owed refs u → CanGoOn u
-    → get_or u.processes s None ≡ Some (process_of u s)
-    → (process_of u s).is_zombie ≡ false → IsKept (handed_of u (process_of u s)) h → Pends h → CanGoOn (with_handed u s h)
-file_goes_on refs u s h owed can is lives kept pends = goes_on_by (with_handed u s h) each
+pub handed_back_goes_on : (u : Unix) (s : ℕ) (h : Handed) → ((entry : ℕ) → numbers_of (file_at u.files entry) ≡ all_names (told_in u.processes) entry)
+    → CanGoOn u → get_or u.processes s None ≡ Some (process_of u s) → (process_of u s).is_zombie ≡ false
+    → ((entry : ℕ) (file : OpenFile) → file_at u.files entry ≡ Some file → times (process_of u s).u.files entry < file.count → StaysOpen h.files entry file)
+    → Pends h → CanGoOn (with_handed u s h)
+handed_back_goes_on u s h counted can is lives others pends = goes_on_by (with_handed u s h) each
   where
     p : Process
     p = process_of u s
@@ -215,10 +216,10 @@ file_goes_on refs u s h owed can is lives kept pends = goes_on_by (with_handed u
         let held = end_held u r can x there living waits in
         let entry : ℕ = slice_index x.u.call 0 in
         let both = named_twice (told_in ps) s r (told_of p) (told_of x) entry (told_at ps s p is lives) (told_at ps r x there living) other in
-        let count = owed.numbers entry in
+        let count = counted entry in
         let more = held.end.named in
         let numbers : numbers_of (file_at u.files entry) ≡ held.end.file.count = ap numbers_of held.end.there in
-        let now = kept.others entry held.end.file held.end.there (omega (arith, both, count, more, numbers)) in
+        let now = others entry held.end.file held.end.there (omega (arith, both, count, more, numbers)) in
         record {
           end = record {
             file = now.now;
@@ -236,6 +237,11 @@ file_goes_on refs u s h owed can is lives kept pends = goes_on_by (with_handed u
           subst (HoldsEnd h.files) (sym (ap (λ n. get_or (set ps s (Some q)) n None) here ∙ get_or-set_same ps s (Some q) None low)) own
       | inr other ↦ subst (HoldsEnd h.files) (sym (get_or-set_other ps s r (Some q) None other)) (stays r other)
     ]
+
+pub file_goes_on : (refs : List ℕ) (u : Unix) (s : ℕ) (h : Handed) → Owed refs u → CanGoOn u
+    → get_or u.processes s None ≡ Some (process_of u s)
+    → (process_of u s).is_zombie ≡ false → IsKept (handed_of u (process_of u s)) h → Pends h → CanGoOn (with_handed u s h)
+file_goes_on refs u s h owed can is lives kept pends = handed_back_goes_on u s h owed.numbers can is lives kept.others pends
 
 -- 3. fork(II): files that are shared stay open, of the same kind.
 shared_end : (files : List (Option OpenFile)) (mine more : List ℕ) (entry : ℕ) → HasEnd files mine entry

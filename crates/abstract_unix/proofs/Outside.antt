@@ -128,7 +128,7 @@ tick_keeps : (u : Unix) (seen : Seen) (mode : Mode) → Paused (seats_of u) seen
 tick_keeps u seen mode p =
     subst (λ v. Paused v (seen_after seen (tick_line mode))) (ticked_seats u seen p) (tick_paused (seats_of u) seen mode p)
 
-shown_wakes : (due : Bool) (chan : Chan) → AreShown (wakes due chan)
+pub shown_wakes : (due : Bool) (chan : Chan) → AreShown (wakes due chan)
 shown_wakes true chan = tt
 shown_wakes false chan = tt
 
@@ -266,7 +266,7 @@ key_apt u terminal seen (Signal n) due p =
     (λ at q. (q.going, q.agrees)) (λ at r q. signal_paused v at r n q) (λ at q. wakes_apt now at due Keys tt (subst (λ x. Paused x at) (sym same) q))
     (meant_in has_console u.processes) (meant_seated has_console u.processes v (λ r. seat_in u.processes u.clock u.texts u.limit r)) seen p
 
-shown_items : (items : List Item) (tail : List (Effect Unix)) → AreShown tail → AreShown (map Show items ++ tail)
+pub shown_items : (items : List Item) (tail : List (Effect Unix)) → AreShown tail → AreShown (map Show items ++ tail)
 shown_items [] tail shown = shown
 shown_items (item ∷ items) tail shown = shown_items items tail shown
 

@@ -120,7 +120,7 @@ times_some mine fd above =
     let all : sum_by test mine ≡ times mine (entry_of mine fd) = refl in
     omega (arith, least, one, all)
 
-is_used : (o : Option OpenFile) → 1 ≤ numbers_of o → IsSome o
+pub is_used : (o : Option OpenFile) → 1 ≤ numbers_of o → IsSome o
 is_used None some = absurd (omega (arith, some))
 is_used (Some file) some = refl
 

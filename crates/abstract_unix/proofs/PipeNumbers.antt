@@ -8,13 +8,14 @@ use Rattle.std.proofs.Math.Seq.{get_or-append_seam}
 use Rattle.open_files.specs.declared.file.FileKind.{FileKind}
 use Rattle.open_files.specs.declared.file.OpenFile.{OpenFile}
 use Rattle.open_files.specs.declared.file.Closed.TheVariants.{Still, Last}
-use Rattle.open_files.specs.Files.{file_at, opened, changed, with_fewer, with_change, closed, left}
+use Rattle.open_files.specs.Files.{file_at, times, shared, opened, changed, with_more, with_fewer, with_change, closed, left}
 use Rattle.pick_rules.specs.Ranges.{IsInode}
 use Rattle.pipe_ends.specs.declared.ends.Pipe.{Pipe}
 use Rattle.fs_tree.specs.Finding.{Inodes}
 use Rattle.sys_files.specs.Handed.{Handed, no_file, file_of}
 use Rattle.sys_files.specs.Pipes.{new_pipe, place_of, pipe_of, with_pipe, without_pipe, has_end}
 use Rattle.sys_files.specs.Piping.{reading_end, writing_end}
+use Rattle.abstract_unix.proofs.Sharing.{shared_all}
 use Rattle.sys_files.proofs.PipeLemmas.{place_ino, place_low, set_cases, with_pipe_place, with_pipe_long, end_has, others_there}
 
 -- an inode that has its pipe, and a number that a channel may have
@@ -137,3 +138,13 @@ pub pipes_ends : (files : List (Option OpenFile)) (pipes : List Pipe) (ino first
 pipes_ends files pipes ino first second range have =
     pipes_set _ _ second (opened ino writing_end) (λ pipe. new_has pipes ino range)
     (pipes_set files _ first (opened ino reading_end) (λ pipe. new_has pipes ino range) (pipes_more files pipes ino have))
+
+-- Files that are shared are of the same inodes and kinds.
+pub shared_ends : (files : List (Option OpenFile)) (pipes : List Pipe) (mine : List ℕ) → HavePipes files pipes → HavePipes (shared files mine) pipes
+shared_ends files pipes mine have entry file at pipe = by (file_at files entry) refl (sym (shared_all files mine entry) ∙ at)
+  where
+    by : (o : Option OpenFile) → file_at files entry ≡ o → changed (with_more (times mine entry)) o ≡ Some file → HasPipe pipes file.ino
+    by None is e = absurd (none-some file e)
+    by (Some old) is e =
+        let same : with_more (times mine entry) old ≡ file = same_Some (with_more (times mine entry) old) file e in
+        subst (HasPipe pipes) (ap (λ (x : OpenFile). x.ino) same) (have entry old is (ap (λ (x : OpenFile). x.kind.pipe) same ∙ pipe))

@@ -29,7 +29,7 @@ shared_length : (files : List (Option OpenFile)) (mine : List ℕ) → length (s
 unfolding shared
 shared_length files mine = length-map-range_with_len (λ entry. changed (with_more (times mine entry)) (file_at files entry)) 0 (length files)
 
-shared_numbers : (files : List (Option OpenFile)) (mine : List ℕ) (entry : ℕ) → AreOpen files mine
+pub shared_numbers : (files : List (Option OpenFile)) (mine : List ℕ) (entry : ℕ) → AreOpen files mine
     → numbers_of (file_at (shared files mine) entry) ≡ numbers_of (file_at files entry) + times mine entry
 shared_numbers files mine entry are = elim (cases_lt entry (length files)) [
   | inl low ↦
@@ -65,7 +65,7 @@ shared_inodes files mine ino =
     (λ i low. ap (is_of ino) (shared_at files mine i (let same = shared_length files mine in omega (arith, low, same))) ∙ is_of_more ino (times mine i) (file_at files i))
 
 -- Each entry has the file that it had, named more often, or none.
-shared_all : (files : List (Option OpenFile)) (mine : List ℕ) (entry : ℕ) → file_at (shared files mine) entry ≡ changed (with_more (times mine entry)) (file_at files entry)
+pub shared_all : (files : List (Option OpenFile)) (mine : List ℕ) (entry : ℕ) → file_at (shared files mine) entry ≡ changed (with_more (times mine entry)) (file_at files entry)
 shared_all files mine entry = elim (cases_lt entry (length files)) [
   | inl low ↦ shared_at files mine entry low
   | inr past ↦

@@ -15,6 +15,7 @@ use Rattle.abstract_unix.proofs.Quiet.{HasNumbers}
 
 pub record IsTidy (u : Unix) : Type 0 where
   pub numbers : (entry : ℕ) → numbers_of (file_at u.files entry) ≡ all_names (told_in u.processes) entry
+  pub fifty : length u.processes ≡ 50
   pub fifteen : (s : ℕ) (t : Told) → get_or (told_in u.processes) s None ≡ Some t → length t.files ≡ 15
   pub waits : CanGoOn u
   pub count : u.store.count ≤ 65535
