@@ -4,7 +4,7 @@ use Rattle.std.specs.Prelude.{⊤, MatchOption}
 use Rattle.std.specs.List.{list_any}
 use Rattle.std.proofs.lemmas.List.{length-set}
 use Rattle.std.proofs.lemmas.List.Folds.{list_any-append}
-use Rattle.v6_base.specs.Trace.{Item, Log, sent}
+use Rattle.v6_base.specs.Trace.{Item, sent}
 use Rattle.v6_base.specs.declared.errno.Errno.TheVariants.{ENOSYS}
 use Rattle.v6_base.specs.declared.answer.Answer.{Answer}
 use Rattle.v6_base.specs.declared.answer.Answer.TheVariants.{Ret, Fail, Sleep}
