@@ -1,12 +1,20 @@
 use Rattle.std.proofs.Common.{◌∙◌, ap, sym}
 use Rattle.unix_core.specs.declared.world.World.{World}
 use Rattle.abstract_unix.specs.Turn.{begins_turn, turn, turned}
-use Rattle.unix_core.specs.Parts.{HasCome}
+use Rattle.unix_core.specs.Parts.{board_in, HasCome}
 use Rattle.unix_core.proofs.TurnLemmas.{turn_is, turn_takes, turn_items, stepped_come, stepped_items}
+use Rattle.unix_core.proofs.TrapLemmas.{step_user}
+use Rattle.unix_core.proofs.WorldLemmas.{slot_is}
 use Rattle.unix_core.proofs.machine.Machine.after_step.Goals as goal
 
 pub come_to-ending-requires : goal.come_to-ending-requires
-come_to-ending-requires g c = c.requires.ready
+come_to-ending-requires g c = record { ready = c.requires.ready; user = c.requires.user }
+
+pub deliver_after-ending-requires-clause-user : goal.deliver_after-ending-requires-clause-user
+deliver_after-ending-requires-clause-user g c =
+    let w : World = c.args.self.now.world in
+    let first = c.come_to-ending in
+    step_user w first.new.world c.args.s c.args.outcome (board_in w) first.result (slot_is w c.args.s c.requires.ready) c.requires.user first.ensures.come
 
 pub returns-clause-answer : goal.returns-clause-answer
 returns-clause-answer g c p stepped =

@@ -3,9 +3,18 @@ use Rattle.fs_laws.proofs.RestLemmas.{rest_then}
 use Rattle.unix_core.specs.declared.world.World.{World}
 use Rattle.abstract_unix.specs.Unix.{System, process_of}
 use Rattle.abstract_unix.specs.Turn.{is_user, begins_turn}
-use Rattle.unix_core.specs.Parts.{unix_of, board_in, system_at}
+use Rattle.unix_core.specs.Parts.{unix_of, board_in, system_at, IsReady}
 use Rattle.unix_core.proofs.SlotLemmas.{later_come, later_took}
+use Rattle.unix_core.proofs.TrapLemmas.{resume_user}
+use Rattle.unix_core.proofs.WorldLemmas.{slot_is, is_living}
 use Rattle.unix_core.proofs.machine.Machine.go_on.Goals as goal
+
+pub deliver_after-requires-clause-user : goal.deliver_after-requires-clause-user
+deliver_after-requires-clause-user g c =
+    let w : World = c.args.self.now.world in
+    let first = c.resume-ending in
+    let ready : IsReady w c.args.s = record { good = (c.requires.kernel.resting c.requires.resting).good; runs = c.requires.runs; user = c.requires.user } in
+    resume_user w first.new.world c.args.s (board_in w) first.result ready.good.pending (slot_is w c.args.s ready) (is_living w c.args.s ready) first.ensures.come
 
 pub returns-clause-come : goal.returns-clause-come
 returns-clause-come g c =
