@@ -47,11 +47,14 @@ use Rattle.abstract_unix.specs.Unix.{Unix, System, process_of, with_process}
 use Rattle.abstract_unix.specs.Steps.{Steps, quietly, returns, signals, after_effects}
 use Rattle.abstract_unix.specs.Errors.{error_number}
 use Rattle.abstract_unix.specs.Calls.{handed_of, with_handed, world_of, with_world, with_area, entered_area, words_passed, asked, given_area, refused_area, refuses, answers, file_row, process_row, did_by, came_by, forks, closes_all, exits_with, grows, grown_by, does_call, sysent_of, does_asked, is_on_files, resumed}
-use Rattle.abstract_unix.specs.Delivery.{heeds, catches, signal_status, dumped, ends_by, delivers, delivers_if, delivers_due, ends_by_ending}
+use Rattle.abstract_unix.specs.Delivery.{heeds, catches, signal_status, dumped, ends_by, delivers_if, delivers_due, ends_by_ending}
 use Rattle.abstract_unix.specs.Turn.{Happened, stays, settles, calls_for_settling, settled_after, machine_of, with_machine, passes_setd, faults, comes_to, instruction, is_user, begins_turn, turn, end_effects, turn_of, pass_of, slot_of}
 use Rattle.abstract_unix.specs.Outside.{mode_of, timed, charged, ticked, is_due, is_as_trap, wakes, tick_effects, tick_delivery, delivers_to, tick_of, calls, with_key, key_lines, typed_of}
 use Rattle.abstract_unix.specs.Runs.{Slot, Tick, Byte, Switch, event_of, start_of}
 use Rattle.abstract_unix.specs.Private.{IsUndisturbed, AllUndisturbed, OthersUndisturbed, TickUndisturbed, UndisturbedIf, is_due_to, tick_delivers}
+use Rattle.sys_procs.proofs.Slots.{fifty_processes}
+use Rattle.unix_core.specs.declared.world.World.{World}
+use Rattle.unix_core.specs.Parts.{system_at}
 use Rattle.unix_core.proofs.PrivateSlots.{Spared, AllCarry, spared_same, spared_then, spared_other, spared_timed, spared_signalled, left_carried, carry_shown, carry_both, carry_lifted}
 use Rattle.unix_core.proofs.PrivateExec.{IsSparingCall, sparing_row, sparing_grow, sparing_grown}
 use Rattle.unix_core.proofs.PrivateRows.{IsSparing, sparing_fork, sparing_end, sparing_resume}
@@ -369,6 +372,11 @@ settled_unix h = by (calls_for_settling h)
     by : (b : Bool) → (cond b (settles h) (stays h)).next.unix ≡ h.unix
     by true = refl
     by false = refl
+
+-- a kernel has fifty slots
+pub fifty_slots : (w : World) (m : System) → system_at w ≡ m → length m.unix.processes ≡ 50
+fifty_slots w m same =
+    subst (λ (n : System). length n.unix.processes ≡ 50) same (fifty_processes w.procs.rows.slots w.procs.images)
 
 -- The law, event by event: at the start,
 pub start_private : (m : System) → AllUndisturbed m (start_of m).next

@@ -11,7 +11,7 @@ use Rattle.image_keep.specs.Kept.{IsKept}
 use Rattle.unix_core.specs.Parts.{IsReady}
 use Rattle.sys_procs.specs.Process.{Process}
 use Rattle.sys_procs.specs.World as its
-use Rattle.sys_procs.specs.Comes.{Comes, fails, returns, shows}
+use Rattle.sys_procs.specs.Comes.{fails, returns, shows}
 use Rattle.sys_procs.specs.Signals.{signalled, signalled_if, all_signalled, signal_lines, meant_in, is_reached, kill_to}
 use Rattle.sys_procs.proofs.Slots.{fifty_processes}
 use Rattle.v6_base.specs.declared.errno.Errno.TheVariants.{ESRCH}

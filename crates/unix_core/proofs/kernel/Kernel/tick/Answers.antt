@@ -3,7 +3,7 @@ use Rattle.abstract_unix.specs.Unix.{System}
 use Rattle.unix_core.specs.State.{KernelState}
 use Rattle.abstract_unix.specs.Turn.{settled_after}
 use Rattle.abstract_unix.specs.Outside.{tick_of}
-use Rattle.abstract_unix.specs.Private.{AllUndisturbed}
+use Rattle.abstract_unix.specs.Private.{TickUndisturbed}
 use Rattle.unix_core.proofs.PrivateLemmas.{tick_private}
 use Rattle.abstract_unix.specs.Shared.{AllTextsStay}
 use Rattle.unix_core.proofs.StayingLemmas.{tick_stays}
@@ -21,7 +21,7 @@ returns-clause-next g c = c.tick.ensures.takes.system ∙ ap (λ (k : KernelStat
 pub returns-clause-private : goal.returns-clause-private
 returns-clause-private g c =
     let m : System = c.args.self.now.system in
-    subst (λ (n : System). AllUndisturbed m n) (sym (returns-clause-next g c)) (tick_private m)
+    subst (λ (n : System). TickUndisturbed m n) (sym (returns-clause-next g c)) (tick_private m)
 
 pub returns-clause-texts : goal.returns-clause-texts
 returns-clause-texts g c =
