@@ -74,7 +74,8 @@ module _ (ps : List (Option Process)) (r s : ℕ) (other : r ≢ s) where
 
   sparing_after : (es : List (Effect Unix)) (steps : Steps) → AllCarry (HasSpared ps r) es → AreSparing ps r steps
       → AreSparing ps r (after_effects es steps)
-  sparing_after es steps carry h = record { effects = carry_both (HasSpared ps r) es steps.effects carry h.effects; unix = h.unix }
+  sparing_after es steps carry h =
+      record { effects = carry_both (HasSpared ps r) es steps.effects carry h.effects; unix = h.unix }
 
   sparing_if : (b : Bool) (x y : Steps) → AreSparing ps r x → AreSparing ps r y → AreSparing ps r (if b then x else y)
   sparing_if true x y k l = k
@@ -93,11 +94,13 @@ module _ (ps : List (Option Process)) (r s : ℕ) (other : r ≢ s) where
   -- answers
   sparing_refuses : (u : Unix) (n : ℕ) → Spared ps u.processes r → AreSparing ps r (refuses u s n)
   sparing_refuses u n h =
-      sparing_if (nat_lt n 100) _ _ (sparing_quiet (with_area u s (refused_area n)) ending.Trapped (spared_area u (refused_area n) h))
+      sparing_if (nat_lt n 100) _ _
+      (sparing_quiet (with_area u s (refused_area n)) ending.Trapped (spared_area u (refused_area n) h))
       (sparing_signals u SIGSYS h)
 
   sparing_answers : (u : Unix) (a : Answer) → Spared ps u.processes r → AreSparing ps r (answers u s a)
-  sparing_answers u (Ret r0 r1) h = sparing_quiet (with_area u s (given_area r0 r1)) ending.Trapped (spared_area u (given_area r0 r1) h)
+  sparing_answers u (Ret r0 r1) h =
+      sparing_quiet (with_area u s (given_area r0 r1)) ending.Trapped (spared_area u (given_area r0 r1) h)
   sparing_answers u (Fail e) h = sparing_refuses u (error_number e) h
   sparing_answers u (Sleep pri chan) h = sparing_quiet u (ending.Slept pri chan) h
 
@@ -181,7 +184,8 @@ module _ (ps : List (Option Process)) (r s : ℕ) (other : r ≢ s) where
 
   sparing_ends : (steps : Steps) (e : Ending) → AreSparing ps r steps → AreSparing ps r (ends_by_ending s steps e)
   sparing_ends steps ending.Next h = h
-  sparing_ends steps ending.Trapped h = sparing_after steps.effects (delivers_due steps.unix s) h.effects (sparing_due steps.unix h.unix)
+  sparing_ends steps ending.Trapped h =
+      sparing_after steps.effects (delivers_due steps.unix s) h.effects (sparing_due steps.unix h.unix)
   sparing_ends steps (ending.Slept pri chan) h = h
   sparing_ends steps ending.Ended h = h
   sparing_ends steps (ending.Panic kind) h = h
@@ -250,7 +254,8 @@ timed_due Idle p = refl
 ticked_due : (m : System) (s : ℕ) → m.board.table.running ≡ Some s
     → due (process_of (ticked m) s).row (process_of (ticked m) s).u ≡ due (process_of m.unix s).row (process_of m.unix s).u
 ticked_due m s runs =
-    ap (λ o. due (process_of (charged m.unix (mode_of m) o) s).row (process_of (charged m.unix (mode_of m) o) s).u) runs ∙ by (s == 0)
+    ap (λ o. due (process_of (charged m.unix (mode_of m) o) s).row (process_of (charged m.unix (mode_of m) o) s).u) runs
+    ∙ by (s == 0)
   where
     ps : List (Option Process)
     ps = m.unix.processes
@@ -266,7 +271,8 @@ ticked_due m s runs =
     by true = refl
     by false = elim (cases_lt s (length ps)) [
       | inl low ↦ ap found (get_or-set_same ps s (Some now) None low) ∙ timed_due (mode_of m) (process_of m.unix s)
-      | inr past ↦ ap found (get_or_past (set ps s (Some now)) s None (subst (λ n. n ≤ s) (sym (length-set ps s (Some now))) past))
+      | inr past ↦
+          ap found (get_or_past (set ps s (Some now)) s None (subst (λ n. n ≤ s) (sym (length-set ps s (Some now))) past))
           ∙ ap found (sym (get_or_past ps s None past))
     ]
 
@@ -321,9 +327,10 @@ module _ (m : System) (r : ℕ) where
       quiet : AreSparing before r (returns (ticked m))
       quiet = record { effects = tt; unix = spared_ticked }
 
-      nothing_due : (s : ℕ) → is_some (due (process_of m.unix s).row (process_of m.unix s).u) ≡ false → m.board.table.running ≡ Some s
-          → AreSparing before r (delivers_due (ticked m) s)
-      nothing_due s none runs = at (due (process_of (ticked m) s).row (process_of (ticked m) s).u) (ap is_some (ticked_due m s runs) ∙ none)
+      nothing_due : (s : ℕ) → is_some (due (process_of m.unix s).row (process_of m.unix s).u) ≡ false
+          → m.board.table.running ≡ Some s → AreSparing before r (delivers_due (ticked m) s)
+      nothing_due s none runs =
+          at (due (process_of (ticked m) s).row (process_of (ticked m) s).u) (ap is_some (ticked_due m s runs) ∙ none)
         where
           at : (o : Option ℕ) → is_some o ≡ false → AreSparing before r (delivers_if (ticked m) s o)
           at None is = quiet
@@ -352,7 +359,8 @@ module _ (m : System) (r : ℕ) where
   spared_key long Ready u same = subst (λ ps. Spared before ps r) (sym same) (spared_same before r)
   spared_key long Flushed u same = subst (λ ps. Spared before ps r) (sym same) (spared_same before r)
   spared_key long (Signal n) u same =
-      spared_then before u.processes (all_signalled has_console n u.processes) r (subst (λ ps. Spared before ps r) (sym same) (spared_same before r))
+      spared_then before u.processes (all_signalled has_console n u.processes) r
+      (subst (λ ps. Spared before ps r) (sym same) (spared_same before r))
       (spared_signalled u.processes has_console n r (ap length same ∙ long))
 
   spared_typed : length before ≡ 50 → (byte : ℕ) → IsUndisturbed m.unix (typed_of m byte).unix r

@@ -136,7 +136,8 @@ pub spared_signalled : (ps : List (Option Process)) (who : ℕ → Process → B
 spared_signalled ps who n r long p is lives =
     let low : r < 50 = subst (λ k. r < k) long (some_within ps r p is) in
     by (who r p)
-    (get_or-map-range_with_len (λ s. signalled_if who n s (get_or ps s None)) 0 50 r r None low (omega arith) ∙ ap (signalled_if who n r) is)
+    (get_or-map-range_with_len (λ s. signalled_if who n s (get_or ps s None)) 0 50 r r None low (omega arith)
+    ∙ ap (signalled_if who n r) is)
   where
     by : (b : Bool) → get_or (all_signalled who n ps) r None ≡ Some (cond b (signalled n p) p)
         → LivesOn (get_or (all_signalled who n ps) r None) p

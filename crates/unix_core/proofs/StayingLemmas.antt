@@ -96,7 +96,8 @@ module _ (ts : List (Option Text)) (k s : ℕ) where
   staying_quiet : (u : Unix) (e : Ending) → Stays u → AreStaying (quietly u e)
   staying_quiet u e h = record { effects = tt; unix = h }
 
-  staying_after : (es : List (Effect Unix)) (steps : Steps) → AllCarry Stays es → AreStaying steps → AreStaying (after_effects es steps)
+  staying_after : (es : List (Effect Unix)) (steps : Steps) → AllCarry Stays es → AreStaying steps
+      → AreStaying (after_effects es steps)
   staying_after es steps carry h = record { effects = carry_both Stays es steps.effects carry h.effects; unix = h.unix }
 
   staying_if : (x : Bool) (one two : Steps) → AreStaying one → AreStaying two → AreStaying (if x then one else two)
@@ -112,7 +113,8 @@ module _ (ts : List (Option Text)) (k s : ℕ) where
   answered_texts u (Ret r0 r1) = refl
   answered_texts u (Fail e) = by (nat_lt (error_number e) 100)
     where
-      by : (b : Bool) → (if b then returns (with_area u s (refused_area (error_number e))) else signals u s SIGSYS).unix.texts ≡ u.texts
+      by : (b : Bool)
+          → (if b then returns (with_area u s (refused_area (error_number e))) else signals u s SIGSYS).unix.texts ≡ u.texts
       by true = refl
       by false = refl
   answered_texts u (Sleep pri chan) = refl
@@ -121,7 +123,8 @@ module _ (ts : List (Option Text)) (k s : ℕ) where
   carry_answers u (Ret r0 r1) = tt
   carry_answers u (Fail e) = by (nat_lt (error_number e) 100)
     where
-      by : (b : Bool) → AllCarry Stays (if b then returns (with_area u s (refused_area (error_number e))) else signals u s SIGSYS).effects
+      by : (b : Bool)
+          → AllCarry Stays (if b then returns (with_area u s (refused_area (error_number e))) else signals u s SIGSYS).effects
       by true = tt
       by false = carry_shown Stays (signal_lines SIGSYS (s ∷ []))
   carry_answers u (Sleep pri chan) = tt
@@ -133,7 +136,8 @@ module _ (ts : List (Option Text)) (k s : ℕ) where
   module _ (u : Unix) (h : Stays u) where
     staying_did : (did : Did) → AreStaying (did_by u s did)
     staying_did did =
-        staying_after (map Show did.items) _ (carry_shown Stays did.items) (staying_answers (with_handed u s did.state) did.answer h)
+        staying_after (map Show did.items) _ (carry_shown Stays did.items)
+        (staying_answers (with_handed u s did.state) did.answer h)
 
     staying_came : (c : Comes) → IsStaying ts k c → AreStaying (came_by u s c)
     staying_came c staying =
@@ -159,7 +163,8 @@ module _ (ts : List (Option Text)) (k s : ℕ) where
         }
 
     staying_grows : (c : Comes) → IsStaying ts k c → AreStaying (grows u c)
-    staying_grows c staying = record { effects = carry_lifted (with_world u) Stays c.effects staying.effects; unix = staying.state }
+    staying_grows c staying =
+        record { effects = carry_lifted (with_world u) Stays c.effects staying.effects; unix = staying.state }
 
     staying_grown_by : (o : Option Comes) → MatchOption o ⊤ (IsStaying ts k) → AreStaying (grown_by u s o)
     staying_grown_by None staying = staying_signals u SIGSEG h
@@ -184,7 +189,8 @@ module _ (ts : List (Option Text)) (k s : ℕ) where
   staying_delivers : (u : Unix) → Stays u → (o : Option ℕ) → AreStaying (delivers_if u s o)
   staying_delivers u h None = staying_quiet u ending.Trapped h
   staying_delivers u h (Some sig) =
-      staying_if (handler_of (process_of u s).u sig == 0) _ _ (staying_ends_by (heeds u s) h sig) (staying_catches (heeds u s) h sig)
+      staying_if (handler_of (process_of u s).u sig == 0) _ _ (staying_ends_by (heeds u s) h sig)
+      (staying_catches (heeds u s) h sig)
 
   staying_due : (u : Unix) → Stays u → AreStaying (delivers_due u s)
   unfolding delivers_due

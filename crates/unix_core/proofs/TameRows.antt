@@ -1,24 +1,24 @@
 -- Each row of the calls on processes keeps the switches and core, and, unless it is stopped, leaves to each process its files
 -- and its directory, and to whoever has an image a place in core.
 use Rattle.std.proofs.Common.{◌≡◌, ℕ, Bool, true, false, ◌==◌, cond, List, [], length, Option, Some, None, slice_index, refl}
-use Rattle.unix_core.specs.declared.world.World.{World}
-use Rattle.abstract_unix.specs.declared.calls.ProcessCall.{ProcessCall}
-use Rattle.abstract_unix.specs.declared.calls.ProcessCall.TheVariants as process
-use Rattle.abstract_unix.specs.Calls.{process_row}
-use Rattle.abstract_unix.proofs.ProcessRows.{plain_row}
+use Rattle.v6_base.specs.declared.errno.Errno.TheVariants.{ESRCH}
 use Rattle.fs_nodes.specs.FileSystem.{IsFileSystem}
 use Rattle.image_keep.specs.Kept.{IsKept}
-use Rattle.unix_core.specs.Parts.{IsReady}
 use Rattle.sys_procs.specs.Process.{Process}
 use Rattle.sys_procs.specs.World as its
 use Rattle.sys_procs.specs.Comes.{fails, returns, shows}
 use Rattle.sys_procs.specs.Signals.{signalled, signalled_if, all_signalled, signal_lines, meant_in, is_reached, kill_to}
 use Rattle.sys_procs.proofs.Slots.{fifty_processes}
-use Rattle.v6_base.specs.declared.errno.Errno.TheVariants.{ESRCH}
+use Rattle.abstract_unix.specs.declared.calls.ProcessCall.{ProcessCall}
+use Rattle.abstract_unix.specs.declared.calls.ProcessCall.TheVariants as process
+use Rattle.abstract_unix.specs.Calls.{process_row}
 use Rattle.abstract_unix.specs.Whole.{told_by}
+use Rattle.abstract_unix.proofs.ProcessRows.{plain_row}
 use Rattle.abstract_unix.proofs.CallLemmas.{signal_tamed}
 use Rattle.abstract_unix.proofs.Mild.{IsMild, mild_plain}
 use Rattle.abstract_unix.proofs.Posting.{all_alike}
+use Rattle.unix_core.specs.declared.world.World.{World}
+use Rattle.unix_core.specs.Parts.{IsReady}
 use Rattle.unix_core.proofs.CameLemmas.{given, IsTame, mild_tame, near_here}
 use Rattle.unix_core.proofs.GrowthLemmas.{break_tame}
 use Rattle.unix_core.proofs.ProgramLemmas.{exec_tame}
