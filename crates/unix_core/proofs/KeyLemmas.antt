@@ -101,7 +101,7 @@ told_signalled who n ps fifty = same_lists (told_in now) (told_in ps) (size ∙ 
 module _ (w : World) (good : IsGood w) (procs : Procs) (n : ℕ) (agree : AreProcs procs)
     (state : (fs : FileSystem) → handed procs fs ≡ record (handed w.procs fs) { processes = all_signalled has_console n (handed w.procs fs).processes })
     (shown : (fs : FileSystem) → board procs ≡ (logged {W = its.World} (board w.procs)
-        (map Show (signal_lines n (meant_in has_console (handed w.procs fs).processes)))).board) where
+    (map Show (signal_lines n (meant_in has_console (handed w.procs fs).processes)))).board) where
   abbrev now : World
   now = record w { procs = procs }
 

@@ -117,7 +117,7 @@ module _ (w : World) (mode : Mode) (mode_is : mode ≡ mode_of (system_at w)) (w
       ap (mode_by (unix_of w2)) running_is
       ∙ ap (λ x. mode_by x w.procs.table.running) unix_is
       ∙ mode_charged m.unix (clock_after m.unix.clock) (mode_of m) w.procs.table.running
-        (λ s runs. (let low = good_low s runs in let fifty = fifty_processes w.procs.rows.slots w.procs.images in omega (arith, low, fifty)))
+      (λ s runs. (let low = good_low s runs in let fifty = fifty_processes w.procs.rows.slots w.procs.images in omega (arith, low, fifty)))
 
   module _ (as_trap : Bool) (trap_is : as_trap ≡ (is_user_mode mode && is_second (clock_of w'.procs.table))) where
     trap_mode : as_trap ≡ true → is_user_mode (mode_of (system_at w2)) ≡ true

@@ -271,7 +271,12 @@ impl Machine {
     /// Takes what an instruction comes to, where that isn't the next one, with the signal that is due then, and settles. It stands
     /// out of line, beside the loop over slots.
     #[inline(never)]
-    pub(crate) fn after_step<T: Trace>(&mut self, s: Slot, outcome: Outcome, trace: &mut T) -> Turned
+    pub(crate) fn after_step<T: Trace>(
+        &mut self,
+        s: Slot,
+        outcome: Outcome,
+        trace: &mut T,
+    ) -> Turned
         requires { IsUser s self.old.world }
         ensures answer { (m : System) → HasStepped m self.old.world s outcome
             → result ≡ turned (settled_after (turn_of m s (turn m s))) }
