@@ -1,5 +1,8 @@
 -- What a call on files leaves, by what it has done to the parts that were lent to it.
-use Rattle.std.proofs.Common.{◌≡◌, ◌∙◌, ◌+◌, ℕ, List, [], length, refl, ap, subst, arith, sym}
+use Rattle.std.proofs.Common.{◌≡◌, ◌∙◌, ◌+◌, ℕ, true, List, [], length, Some, None, refl, ap, subst, arith, sym}
+use Rattle.std.specs.Prelude.{unwrap_or}
+use Rattle.std.proofs.lemmas.Bool.{eq-eqb}
+use Rattle.std.proofs.lemmas.List.{get_or-set_same}
 use Rattle.v6_base.specs.Image.{Image}
 use Rattle.v6_base.specs.Tape.{Recording, taken_on}
 use Rattle.v6_base.specs.declared.answer.Answer.{Answer}
@@ -23,12 +26,15 @@ use Rattle.sys_procs.proofs.Alive.{area_here}
 use Rattle.image_keep.specs.Kept as kept
 use Rattle.image_keep.proofs.Frames.{with_image_texts, with_area_texts}
 use Rattle.unix_core.specs.declared.world.World.{World}
-use Rattle.abstract_unix.specs.Unix.{process_of}
+use Rattle.sys_procs.specs.Process.{Process, no_process}
+use Rattle.abstract_unix.specs.Unix.{Unix, process_of}
 use Rattle.abstract_unix.specs.Calls.{handed_of, with_handed}
 use Rattle.unix_core.specs.Parts.{unix_of, IsReady, IsReadyToShow}
-use Rattle.unix_core.proofs.WorldLemmas.{ready_alive, told_here, handed_is, IsAfter, unix_after, ready_after, ready_to_show}
+use Rattle.unix_core.proofs.WorldLemmas.{ready_alive, slot_is, told_here, handed_is, IsAfter, unix_after, ready_after, ready_to_show}
 use Rattle.abstract_unix.specs.Whole.{told_of}
-use Rattle.abstract_unix.proofs.PendingRows.{Pends, core_pends}
+use Rattle.abstract_unix.proofs.PendingRows.{Pends, core_pends, core_pending}
+use Rattle.abstract_unix.proofs.Owing.{some_within}
+use Rattle.abstract_unix.specs.Turn.{is_user}
 use Rattle.unix_core.proofs.LoanLemmas.{area_now, area_other, area_core, area_back, area_alone, image_now, image_other, image_core, row_now, row_other, row_back}
 
 -- the parts that the process in a slot is handed
@@ -233,3 +239,14 @@ module _ (w : World) (s : ℕ) {u : UArea} {m : Image} (lent : IsLent w s u (row
 
   pub dumped_ready : IsReady dumped s
   dumped_ready = leaves_ready w dumped s u (row_at w.procs.rows s) m _ lent.ready dump_leaves lent.form
+
+  -- and it is in user mode still
+  pub dumped_user : is_user (process_of (unix_of dumped) s) ≡ true
+  dumped_user =
+      let h : Handed = (core_file (given w s) now).state in
+      let p : Process = process_of (unix_of w) s in
+      let q : Process = record p { u = h.u; row = h.row; «data» = h.image.data; stack = h.image.stack } in
+      ap (λ (x : Unix). is_user (process_of x s)) dumped_unix
+      ∙ ap (λ o. is_user (unwrap_or o no_process))
+      (get_or-set_same (unix_of w).processes s (Some q) None (some_within (unix_of w).processes s p (slot_is w s lent.ready)))
+      ∙ eq-eqb h.u.pending 0 (core_pending (given w s) now ∙ none)

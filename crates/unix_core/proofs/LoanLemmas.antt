@@ -37,7 +37,7 @@ unfolding with_image
 image_core k s m = refl
 
 -- Who is in a slot is within the list.
-member_low : (slots : List (Option Member)) (s : ℕ) (m : Member) → member_at slots s ≡ Some m → s < length slots
+pub member_low : (slots : List (Option Member)) (s : ℕ) (m : Member) → member_at slots s ≡ Some m → s < length slots
 member_low slots s m is = elim (cases_lt s (length slots)) [
   | inl low ↦ low
   | inr high ↦ absurd (let none = get_or_past slots s None high in cc)

@@ -1,5 +1,5 @@
 //! A signal that is due comes to its process: signal(II), core(V); `psig` and `core` in Lions' Commentary, `sig.c`.
-ghost use Rattle.std.specs.Prelude.{◌≡◌, ◌≢◌, ◌%◌, Some, true, false};
+ghost use Rattle.std.specs.Prelude.{◌≡◌, ◌≢◌, ◌%◌, if◌then◌else◌, Some, true, false};
 ghost use Rattle.v6_base.specs.Trace.{Taken, Took};
 ghost use Rattle.fs_laws.specs.Rest.{SameRest};
 ghost use Rattle.pick_rules.specs.Board.{Board};
@@ -8,12 +8,12 @@ ghost use Rattle.proc_tab.specs.Processes.{IsUsed};
 ghost use Rattle.image_keep.specs.Kept.{HasImage, area_of, image_of, with_area, with_image};
 ghost use Rattle.sig_core.specs.Signals.{due, is_signal, handler_of};
 ghost use Rattle.sig_core.specs.Delivery.{makes_core, delivery};
-ghost use Rattle.sys_procs.specs.Handed.{process_here};
+ghost use Rattle.sys_procs.specs.Handed.{IsAlive, process_here};
 ghost use Rattle.abstract_unix.specs.Unix.{process_of};
 ghost use Rattle.abstract_unix.specs.Steps.{Steps};
 ghost use Rattle.abstract_unix.specs.Calls.{exits_with};
 ghost use Rattle.abstract_unix.specs.Turn.{is_user};
-ghost use Rattle.abstract_unix.specs.Delivery.{heeds, catches, ends_by, delivers, delivers_due, ends_turn};
+ghost use Rattle.abstract_unix.specs.Delivery.{heeds, catches, dumped, ends_by, delivers, delivers_due, ends_turn};
 ghost use Rattle.unix_core.specs.Parts.{unix_of, board_in, IsGood, IsReady, HasCome, IsCovered, is_over};
 
 use crate::files::{see_covered, see_kept, see_nodes, see_table};
@@ -32,7 +32,7 @@ const DUMPED: u16 = 0o200;
 /// The signal that is due to a process. Most have none that waits: then nobody looks at the u area.
 fn due_to(procs: &Procs, s: Slot) -> Option<u8>
     requires used { IsUsed procs.now.rows s }
-    requires image { HasImage procs.now.images s }
+    requires alive { IsAlive procs.now s }
     ensures { result ≡ due (process_here procs.now s).row (process_here procs.now s).u }
 {
     let row = procs.rows.row(s);
@@ -49,6 +49,7 @@ fn heed(world: &mut World, s: Slot)
     ensures board { board_in world.new ≡ board_in world.old }
     ensures ready { IsReady world.new s }
     ensures files { world.new.files ≡ world.old.files }
+    ensures images { world.new.procs.images ≡ world.old.procs.images }
 {
     let mut row = *world.procs.rows.row(s);
     row.sig = 0;
@@ -132,11 +133,19 @@ pub(crate) fn end_with<T: Trace>(world: &mut World, s: Slot, status: u16, trace:
     }
 }
 
+/// What the status of a process has for its file `core`.
+fn flag_of(whole: bool) -> u16
+    ensures { result ≡ (if whole then dumped else 0) }
+{
+    if whole { DUMPED } else { 0 }
+}
+
 /// Ends a process by a signal, which may leave the file `core`.
 fn end_by<T: Trace>(world: &mut World, s: Slot, sig: u8, core: bool, trace: &mut T) -> Ending
     requires ready { IsReady world.old s }
     requires user { is_user (process_of (unix_of world.old) s) ≡ true }
     requires core { core ≡ makes_core sig }
+    requires signal { is_signal sig ≡ true }
     ensures come { HasCome (board_in world.old) (ends_by (unix_of world.old) s sig) result world.new }
     ensures items { Took (T.taken trace.old) (logged (board_in world.old) (ends_by (unix_of world.old) s sig).effects).items
         (T.taken trace.new) }
@@ -147,8 +156,12 @@ fn end_by<T: Trace>(world: &mut World, s: Slot, sig: u8, core: bool, trace: &mut
     ensures rest { SameRest world.old.files.tree.nodes.blocks world.new.files.tree.nodes.blocks }
 {
     let r0 = world.procs.images.area(s).r[0];
-    let dumped = if core && put_core(world, s) { DUMPED } else { 0 };
-    end_with(world, s, 256 * (r0 % 256) + u16::from(sig) + dumped, trace)
+    let status = 256 * (r0 % 256) + u16::from(sig);
+    if core {
+        let whole = put_core(world, s);
+        return end_with(world, s, status + flag_of(whole), trace);
+    }
+    end_with(world, s, status, trace)
 }
 
 /// Delivers a signal to a process.

@@ -99,6 +99,7 @@ pub(crate) fn put_core(world: &mut World, s: Slot) -> bool
     ensures unix { unix_of world.new ≡ with_handed (unix_of world.old) s (core_file
         (handed_of (unix_of world.old) (process_of (unix_of world.old) s)) world.old.procs.table.now).state }
     ensures ready { IsReady world.new s }
+    ensures user { is_user (process_of (unix_of world.new) s) ≡ true }
     ensures procs { world.new.procs ≡ world.old.procs }
     ensures rest { SameRest world.old.files.tree.nodes.blocks world.new.files.tree.nodes.blocks }
 {

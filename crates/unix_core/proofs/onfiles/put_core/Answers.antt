@@ -11,7 +11,7 @@ use Rattle.abstract_unix.specs.Unix.{process_of}
 use Rattle.unix_core.specs.Parts.{unix_of}
 use Rattle.unix_core.proofs.AreaLemmas.{none_pending}
 use Rattle.unix_core.proofs.WorldLemmas.{sound_parts}
-use Rattle.unix_core.proofs.LeavingLemmas.{area_is, lends, lent_parts, dumped_unix, dumped_ready}
+use Rattle.unix_core.proofs.LeavingLemmas.{area_is, lends, lent_parts, dumped_unix, dumped_ready, dumped_user}
 use Rattle.unix_core.proofs.onfiles.put_core.Goals as goal
 
 pub area-u-requires : goal.area-u-requires
@@ -51,4 +51,13 @@ returns-clause-ready c =
     let lent = lends w c.args.s {r = row} _ _ c.requires.ready c.see_nodes.ensures c.area-u.ensures.sizes c.area-u.ensures.holds c.area-u.ensures.u refl
     c.space-space.ensures.images c.space-space.ensures.slot in
     dumped_ready w c.args.s lent (none_pending (process_of (unix_of w) c.args.s) c.requires.user) w.procs.table.now c.write_core.new.f
+    c.space-space.result.images.now c.space-space.ensures.images (c.write_core.ensures.state row) (c.write_core.ensures.kept row)
+
+pub returns-clause-user : goal.returns-clause-user
+returns-clause-user c =
+    let w : World = c.args.world.now in
+    let row : Row = row_at w.procs.rows c.args.s in
+    let lent = lends w c.args.s {r = row} _ _ c.requires.ready c.see_nodes.ensures c.area-u.ensures.sizes c.area-u.ensures.holds c.area-u.ensures.u refl
+    c.space-space.ensures.images c.space-space.ensures.slot in
+    dumped_user w c.args.s lent (none_pending (process_of (unix_of w) c.args.s) c.requires.user) w.procs.table.now c.write_core.new.f
     c.space-space.result.images.now c.space-space.ensures.images (c.write_core.ensures.state row) (c.write_core.ensures.kept row)

@@ -97,7 +97,7 @@ returns-in-Err-clause-come g c =
     (world_is w s c.requires.ready c.see_nodes.ensures)
     (call_stops w (after w c.do_process_call.new.tree c.do_process_call.new.p) s (row w c.args.call s c.args.args)
     (tame w c.args.call s c.args.args c.requires.ready c.see_nodes.ensures c.see_kept.ensures) (beside w c.do_process_call.new.tree c.do_process_call.new.p) e.does
-    c.in-Err.kind (Panic c.in-Err.kind) c.in-Err.is refl)
+    c.in-Err.kind c.in-Err.is (Panic c.in-Err.kind) refl)
 
 pub returns-in-Err-clause-ready : goal.returns-in-Err-clause-ready
 returns-in-Err-clause-ready g c goes = over_then c.in-Err.kind goes

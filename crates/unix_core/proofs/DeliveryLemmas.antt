@@ -1,0 +1,139 @@
+-- A process has been told of a signal, and goes on with its routine, where it has one.
+use Rattle.std.proofs.Common.{◌≡◌, ◌∙◌, ◌+◌, ◌%◌, ◌/◌, ◌==◌, ℕ, Bool, true, false, cond, if◌then◌else◌, List, set, slice_index, Option, Some, refl, sym, ap, subst}
+use Rattle.std.specs.Prelude.{Result, Ok, Err}
+use Rattle.std.proofs.lemmas.Bool.{eq-eqb}
+use Rattle.std.proofs.lemmas.List.{set-set}
+use Rattle.v6_base.specs.Image.{Image}
+use Rattle.v6_base.specs.Access.{then_do, store_byte, store_word, image_after}
+use Rattle.v6_base.specs.declared.space.Trap.{Trap}
+use Rattle.v6_base.specs.declared.space.Trap.TheVariants.{Odd}
+use Rattle.v6_base.proofs.Copies.{SameLengths, same_lengths, then_lengths, store_lengths}
+use Rattle.u_area.specs.declared.area.UArea.{UArea}
+use Rattle.u_area.specs.Area.{status_word}
+use Rattle.image_keep.specs.Kept.{Kept, HasSizes, area_of, image_of, with_area, with_image}
+use Rattle.image_keep.specs.Kept as kept
+use Rattle.sig_core.specs.declared.psig.Delivered.TheVariants.{Caught, Ends}
+use Rattle.sig_core.specs.Signals.{handler_of}
+use Rattle.sig_core.specs.Delivery.{Delivery, makes_core, below_stack, with_word_at, caught, pushed, delivery}
+use Rattle.sys_procs.specs.Process as one
+use Rattle.sys_procs.specs.Process.{Process}
+use Rattle.sys_procs.proofs.Alive.{SameSizes}
+use Rattle.sys_procs.proofs.MemoryLemmas.{image_here}
+use Rattle.abstract_unix.specs.Unix.{process_of, with_process}
+use Rattle.abstract_unix.specs.Delivery.{interrupted}
+use Rattle.unix_core.specs.declared.world.World.{World}
+use Rattle.unix_core.specs.Parts.{unix_of, board_in, IsReady}
+use Rattle.unix_core.proofs.WorldLemmas.{ready_alive}
+use Rattle.unix_core.proofs.AreaLemmas.{own_area, area_unix, area_board, area_ready}
+use Rattle.unix_core.proofs.PutLemmas.{IsLikeArea, with_images}
+use Rattle.unix_core.proofs.LoanLemmas.{area_back, area_alone}
+use Rattle.unix_core.proofs.LoanBack.{sizes_kept}
+use Rattle.unix_core.proofs.TurnSteps.{with_memory, memory_unix, memory_board, memory_process, memory_ready}
+
+-- A word that is stored, or refused, leaves the sizes of an image.
+word_lengths : (m : Image) (v x : ℕ) → SameLengths m (image_after m (store_word m v x))
+unfolding store_word
+word_lengths m v x = by (v % 2 == 1)
+  where
+    next : (half : Image) → SameLengths m half → (r : Result Image Trap) → SameLengths half (image_after half r) → SameLengths m (image_after m r)
+    next half same (Ok new) later = then_lengths m half new new same later refl
+    next half same (Err trap) later = same_lengths m
+
+    second : (r : Result Image Trap) → SameLengths m (image_after m r)
+        → SameLengths m (image_after m (then_do r (λ half. store_byte half (v + 1) (x / 256))))
+    second (Ok half) same = next half same (store_byte half (v + 1) (x / 256)) (store_lengths half (v + 1) (x / 256))
+    second (Err trap) same = same_lengths m
+
+    by : (b : Bool) → SameLengths m (image_after m (if b then Err Odd else then_do (store_byte m v (x % 256)) (λ half. store_byte half (v + 1) (x / 256))))
+    by true = same_lengths m
+    by false = second (store_byte m v (x % 256)) (store_lengths m v (x % 256))
+
+-- What a delivery leaves as it is.
+module _ (u : UArea) (sig : ℕ) (m : Image) where
+  abbrev by_handler : Bool → Delivery
+  by_handler b =
+      if b then record { area = u; image = m; answer = Ends (makes_core sig) } else record { area = caught u sig; image = pushed u m; answer = Caught }
+
+  pub delivered_area : IsLikeArea (delivery u sig m).area u
+  delivered_area = by (handler_of u sig == 0)
+    where
+      by : (b : Bool) → IsLikeArea (by_handler b).area u
+      by true = record { clicks = refl; files = refl; dir = refl; pending = refl; call = refl }
+      by false = record { clicks = refl; files = refl; dir = refl; pending = refl; call = refl }
+
+  pub delivered_sizes : SameSizes (delivery u sig m).area u
+  delivered_sizes = by (handler_of u sig == 0)
+    where
+      by : (b : Bool) → SameSizes (by_handler b).area u
+      by true = record { text = refl; «data» = refl; stack = refl }
+      by false = record { text = refl; «data» = refl; stack = refl }
+
+  pub delivered_lengths : SameLengths m (delivery u sig m).image
+  delivered_lengths = by (handler_of u sig == 0)
+    where
+      first : Image
+      first = with_word_at m (below_stack u 2) (status_word u)
+
+      by : (b : Bool) → SameLengths m (by_handler b).image
+      by true = same_lengths m
+      by false =
+          then_lengths m first _ _ (word_lengths m (below_stack u 2) (status_word u)) (word_lengths first (below_stack u 4) (slice_index u.r 7)) refl
+
+  -- without a routine the process ends, and nothing has changed
+  pub delivered_none : handler_of u sig ≡ 0 → delivery u sig m ≡ record { area = u; image = m; answer = Ends (makes_core sig) }
+  delivered_none zero = ap by_handler (eq-eqb (handler_of u sig) 0 zero)
+
+pub told_sizes : (u : UArea) (sig : ℕ) (m : Image) → HasSizes u m → HasSizes (delivery u sig m).area (delivery u sig m).image
+told_sizes u sig m has = sizes_kept u (delivery u sig m).area m (delivery u sig m).image has (delivered_sizes u sig m) (delivered_lengths u sig m)
+
+module _ (w : World) (s : ℕ) (ready : IsReady w s) (holds : kept.IsKept w.procs.images) (sig : ℕ) (k : Kept)
+    (is : k ≡ with_area (with_image w.procs.images s (delivery (area_of w.procs.images s) sig (image_of w.procs.images s)).image) s
+    (delivery (area_of w.procs.images s) sig (image_of w.procs.images s)).area) where
+  abbrev told : World
+  told = with_images w k
+
+  abbrev p : Process
+  p = process_of (unix_of w) s
+
+  abbrev d : Delivery
+  d = delivery p.u sig (one.image_of (unix_of w).texts p)
+
+  abbrev mem : World
+  mem = with_memory w s ready d.image
+
+  mem_ready : IsReady mem s
+  mem_ready = memory_ready w s ready d.image
+
+  its : k ≡ with_area (with_image w.procs.images s d.image) s d.area
+  its =
+      let own = own_area w s ready in
+      let image : image_of w.procs.images s ≡ one.image_of (unix_of w).texts p = sym (image_here w.procs s (ready_alive w s ready) holds) in
+      is ∙ (λ i. with_area (with_image w.procs.images s (delivery (own i) sig (image i)).image) s (delivery (own i) sig (image i)).area)
+
+  like : IsLikeArea d.area (process_of (unix_of mem) s).u
+  like =
+      subst (λ (x : Process). IsLikeArea d.area x.u) (sym (memory_process w s ready d.image))
+      (delivered_area p.u sig (one.image_of (unix_of w).texts p))
+
+  pub told_ready : IsReady told s
+  told_ready = subst (λ x. IsReady (with_images w x) s) (sym its) (area_ready mem s mem_ready d.area like)
+
+  pub told_unix : unix_of told ≡ interrupted (unix_of w) s sig
+  told_unix =
+      let ps : List (Option Process) = (unix_of w).processes in
+      let q : Process = record p { «data» = d.image.data; stack = d.image.stack } in
+      ap (λ x. unix_of (with_images w x)) its
+      ∙ area_unix mem s mem_ready d.area
+      ∙ (λ i. with_process (memory_unix w s ready d.image i) s (record (memory_process w s ready d.image i) { u = d.area }))
+      ∙ ap (λ l. record (unix_of w) { processes = l }) (set-set ps s (Some q) (Some (record q { u = d.area })))
+
+  pub told_board : board_in told ≡ board_in w
+  told_board = ap (λ x. board_in (with_images w x)) its ∙ area_board mem s mem_ready d.area ∙ memory_board w s ready d.image
+
+  -- without a routine nothing has changed
+  pub told_none : handler_of (area_of w.procs.images s) sig ≡ 0 → k ≡ w.procs.images
+  told_none zero =
+      let none = delivered_none (area_of w.procs.images s) sig (image_of w.procs.images s) zero in
+      is ∙ ap (λ (x : Delivery). with_area (with_image w.procs.images s x.image) s x.area) none
+      ∙ sym (area_alone w.procs.images s (area_of w.procs.images s))
+      ∙ area_back w.procs.images s (ready.good.running s ready.runs ready.user)
