@@ -1,10 +1,10 @@
 -- A signal that is delivered at the end of a turn, or in a tick: its effects are apt.
-use Rattle.std.proofs.Common.{◌≡◌, ◌∙◌, ◌==◌, ◌+◌, ℕ, Bool, true, false, cond, if◌then◌else◌, List, [], ◌∷◌, ◌++◌, append_assoc, Option, Some, None, refl, sym, ap, subst}
+use Rattle.std.proofs.Common.{◌≡◌, ◌∙◌, ◌==◌, ◌+◌, ℕ, Bool, true, false, cond, if◌then◌else◌, [], ◌∷◌, ◌++◌, append_assoc, Option, Some, None, refl, sym, subst}
 use Rattle.v6_base.specs.Image.{Image}
 use Rattle.v6_base.specs.Trace.{Log}
 use Rattle.v6_base.specs.declared.entry.Entry.TheVariants as line
 use Rattle.u_area.specs.declared.area.UArea.{UArea}
-use Rattle.pick_rules.specs.Effects.{Effect, Show}
+use Rattle.pick_rules.specs.Effects.{Show}
 use Rattle.pick_rules.specs.Lawful.{Seen}
 use Rattle.image_keep.specs.Kept.{clicks_of}
 use Rattle.log_laws.proofs.Fitting.{Apt, apt_append, apt_more}
@@ -13,20 +13,18 @@ use Rattle.log_laws.proofs.Lines.{trap_apt}
 use Rattle.sig_core.specs.Signals.{handler_of, due}
 use Rattle.sig_core.specs.declared.psig.Delivered.TheVariants.{Ends, Caught}
 use Rattle.sig_core.specs.Delivery.{Delivery, makes_core, signal_stack, delivery, caught, pushed}
-use Rattle.sys_files.specs.Handed.{Handed}
 use Rattle.sys_files.specs.Did.{Did}
 use Rattle.sys_files.specs.Core.{core_file, is_written}
 use Rattle.sys_files.proofs.CoreLemmas.{OverWith, core_keeps}
 use Rattle.sys_procs.specs.Process.{Process, image_of}
-use Rattle.sys_procs.specs.Break.{grow, grown_or_not}
 use Rattle.abstract_unix.specs.declared.ending.Ending.{Ending}
 use Rattle.abstract_unix.specs.declared.ending.Ending.TheVariants as ending
-use Rattle.abstract_unix.specs.Unix.{Unix, process_of, with_process}
-use Rattle.abstract_unix.specs.Steps.{Steps, returns, follows, after_effects}
-use Rattle.abstract_unix.specs.Calls.{handed_of, with_handed, world_of, grows, exits_with}
+use Rattle.abstract_unix.specs.Unix.{Unix, process_of}
+use Rattle.abstract_unix.specs.Steps.{Steps}
+use Rattle.abstract_unix.specs.Calls.{handed_of, with_handed, world_of, exits_with}
 use Rattle.abstract_unix.specs.Delivery.{heeding, heeds, interrupted, calls_routine, catches, signal_status, dumped, ends_after, ends_by, delivers, delivers_if, delivers_due, ends_by_ending, ends_turn}
 use Rattle.abstract_unix.specs.Turn.{end_effects}
-use Rattle.abstract_unix.proofs.Sitting.{seats_of, runner_alive, kept_in}
+use Rattle.abstract_unix.proofs.Sitting.{seats_of, kept_in}
 use Rattle.abstract_unix.proofs.Steps.{GoesOn, IsCalm, AptSteps, Begun, AptBegun, ends_in, returns_apt}
 use Rattle.abstract_unix.proofs.Quiet.{same_call, HasNumbers, InCalm, other_inodes}
 use Rattle.abstract_unix.proofs.Rows.{Calling}

@@ -27,7 +27,7 @@ use Rattle.abstract_unix.proofs.Passing.{Passed, pass_passes}
 use Rattle.abstract_unix.proofs.Turning.{turn_apt}
 use Rattle.abstract_unix.proofs.Tidy.{IsTidy}
 use Rattle.abstract_unix.proofs.TidyTurns.{Runs}
-use Rattle.abstract_unix.proofs.TidySteps.{turn_tidy, begins_numbers}
+use Rattle.abstract_unix.proofs.TidySteps.{begins_numbers}
 
 -- the system at these lines
 abbrev pub system_at : Unix → Seen → System

@@ -5,7 +5,6 @@ use Rattle.std.proofs.lemmas.List.{length-map}
 use Rattle.v6_base.specs.Trace.{Item, Byte, Log}
 use Rattle.v6_base.specs.declared.answer.Answer.{Answer}
 use Rattle.v6_base.specs.declared.answer.Answer.TheVariants.{Ret, Fail, Sleep}
-use Rattle.v6_base.specs.declared.entry.Chan.{Chan}
 use Rattle.v6_base.specs.declared.entry.Chan.TheVariants.{Wait}
 use Rattle.v6_base.specs.declared.entry.Entry.{Entry}
 use Rattle.v6_base.specs.declared.entry.Entry.TheVariants as line
@@ -13,11 +12,9 @@ use Rattle.u_area.specs.declared.area.UArea.{UArea}
 use Rattle.proc_tab.specs.Processes.{member_at, lowest, passes}
 use Rattle.proc_tab.specs.Pids.{has_pid}
 use Rattle.pick_rules.specs.Effects.{Effect, Show, lifted, came}
-use Rattle.pick_rules.specs.Ranges.{IsChannel}
-use Rattle.pick_rules.specs.Fits.{IsSleep}
 use Rattle.pick_rules.specs.Lawful.{Seen, Fits, seen_after}
 use Rattle.pick_rules.proofs.Found.{found_in}
-use Rattle.log_laws.proofs.Fitting.{IsGoing, Apt, apt_append, wake_apt}
+use Rattle.log_laws.proofs.Fitting.{Apt, apt_append, wake_apt}
 use Rattle.log_laws.proofs.Seats.{Seat, Seats, InCall, Paused}
 use Rattle.log_laws.proofs.Lines.{wake_in, wake_paused, signal_in, signal_fits}
 use Rattle.log_laws.proofs.Deaths.{with_own, leave_fits, leave_in, exit_apt}

@@ -1,4 +1,5 @@
--- What a call on files leaves of a turn: it shows bytes, wakes, and a signal of its own process alone; the image keeps its size; the
+-- What a call on files leaves of a turn: it shows bytes, wakes, and a signal of its own process alone; the image keeps its
+-- size; the
 -- process waits in a call exactly where the answer is to sleep; and the pipes that are open have numbers that a channel may have.
 use Rattle.std.proofs.Common.{◌≡◌, ◌⊎◌, ◌≤◌, ◌<◌, ◌==◌, ◌∙◌, ◌++◌, ℕ, Bool, true, false, cond, List, [], ◌∷◌, ℤ, pos, fold, slice_index, refl, sym, ap, subst, inl, inr, arith}
 use Rattle.std.specs.List.{range_with_len}
@@ -22,7 +23,7 @@ use Rattle.sys_files.specs.Handed.{Handed, file_of, with_inodes, let_go}
 use Rattle.sys_files.specs.Did.{Did}
 use Rattle.sys_files.specs.Descriptors.{Closing, dropped, closes, then_closes, close_all}
 use Rattle.sys_files.specs.Moving.{without_pending, resumes}
-use Rattle.sys_files.proofs.Walks.{IsOfPipe, Walks, put_back_count, walk_closes, walk_resume}
+use Rattle.sys_files.proofs.StepWalks.{IsOfPipe, StepWalks, put_back_count, walk_closes, walk_resume}
 use Rattle.abstract_unix.proofs.PipeNumbers.{HavePipes, end_known, pipes_opened, pipes_change, pipes_left, pipes_marked, pipes_gone, pipes_ends}
 
 -- Items that are bytes, wakes, and the signal of the process of a slot that writes to a pipe which nobody reads.
@@ -78,13 +79,16 @@ pub record InCalm (old : UArea) (h : Handed) : Type 0 where
   pub same : SameCall old h.u
   pub numbers : HasNumbers h
 
-same_size : {old : UArea} {h : Handed} {pending : ℕ} {call : List ℕ} → InCalm old h → SameSize old (record h.u { pending = pending; call = call })
+same_size : {old : UArea} {h : Handed} {pending : ℕ} {call : List ℕ} → InCalm old h
+    → SameSize old (record h.u { pending = pending; call = call })
 same_size p = record { «data» = p.same.size.data; stack = p.same.size.stack }
 
-same_call_in : {old : UArea} {h : Handed} {numbers : List ℕ} {dir : ℕ} → InCalm old h → SameCall old (record h.u { files = numbers; dir = dir })
+same_call_in : {old : UArea} {h : Handed} {numbers : List ℕ} {dir : ℕ} → InCalm old h
+    → SameCall old (record h.u { files = numbers; dir = dir })
 same_call_in p = record { size = record { «data» = p.same.size.data; stack = p.same.size.stack }; pending = p.same.pending }
 
-pub other_inodes : (h : Handed) (inodes : Inodes) → inodes.store.count ≡ h.inodes.store.count → HasNumbers h → HasNumbers (with_inodes h inodes)
+pub other_inodes : (h : Handed) (inodes : Inodes) → inodes.store.count ≡ h.inodes.store.count → HasNumbers h
+    → HasNumbers (with_inodes h inodes)
 other_inodes h inodes same n = record { count = subst (λ c. c ≤ 65535) (sym same) n.count; pipes = n.pipes }
 
 dropped_calm : (old : UArea) (h : Handed) (fd : ℕ) → InCalm old h → InCalm old (dropped h fd)
@@ -116,22 +120,26 @@ woken_quiet s (Wait slot) of = absurd of
 woken_quiet s (Read ino) of = inl (Read ino, refl, of)
 woken_quiet s (Write ino) of = inl (Write ino, refl, of)
 
-sleeps_so : (old new : UArea) (pending : ℕ) (chan : Chan) → SameSize old new → (pending ≡ 3) ⊎ (pending ≡ 4) → new.pending ≡ pending → IsOfPipe IsInode chan
+sleeps_so : (old new : UArea) (pending : ℕ) (chan : Chan) → SameSize old new → (pending ≡ 3) ⊎ (pending ≡ 4)
+    → new.pending ≡ pending → IsOfPipe IsInode chan
     → Waits old new (pos 1) chan
 sleeps_so old new pending RunIn same which is of = absurd of
 sleeps_so old new pending RunOut same which is of = absurd of
 sleeps_so old new pending Tout same which is of = absurd of
 sleeps_so old new pending Keys same which is of = absurd of
 sleeps_so old new pending (Wait slot) same which is of = absurd of
-sleeps_so old new pending (Read ino) same which is of = record { size = same; pending = not_user new.pending pending which is; at = λ s. refl; on = of }
-sleeps_so old new pending (Write ino) same which is of = record { size = same; pending = not_user new.pending pending which is; at = λ s. refl; on = of }
+sleeps_so old new pending (Read ino) same which is of = record { size = same; pending = not_user new.pending pending which is;
+    at = λ s. refl; on = of }
+sleeps_so old new pending (Write ino) same which is of = record { size = same; pending = not_user new.pending pending which is;
+    at = λ s. refl; on = of }
 
 -- Each row of a call on files is calm.
-pub calm_walks : (old : UArea) (s : ℕ) → Walks (InCalm old) (Calm old s) (λ count. Unit {0}) IsInode s
+pub calm_walks : (old : UArea) (s : ℕ) → StepWalks (InCalm old) (Calm old s) (λ count. Unit {0}) IsInode s
 calm_walks old s = record {
   refused = λ h e p. record { quiet = tt; ends = p.same; numbers = p.numbers };
   done = λ h value p. record { quiet = tt; ends = p.same; numbers = p.numbers };
-  lets_go = λ ino d c. record { quiet = c.quiet; ends = c.ends; numbers = other_inodes d.state (let_go d.state ino).inodes (put_back_count d.state.inodes ino) c.numbers };
+  lets_go = λ ino d c. record { quiet = c.quiet; ends = c.ends;
+      numbers = other_inodes d.state (let_go d.state ino).inodes (put_back_count d.state.inodes ino) c.numbers };
   waits = λ h entry at count p. record {
     quiet = tt;
     ends = record { size = same_size p; pending = refl; at = λ s. refl; on = tt };
@@ -144,8 +152,10 @@ calm_walks old s = record {
   };
   wakes = λ h a b last p. record { quiet = close_quiet s last; ends = p.same; numbers = p.numbers };
   woken = λ chan d of c. record { quiet = (woken_quiet s chan of, c.quiet); ends = c.ends; numbers = c.numbers };
-  breaks = λ h p. record { quiet = (inr refl, tt); ends = p.same; numbers = record { count = p.numbers.count; pipes = p.numbers.pipes } };
-  showing = λ line image at count d few c. record { quiet = quiet_sent s 0 (shows line (readable image at count)); ends = c.ends; numbers = c.numbers };
+  breaks = λ h p. record { quiet = (inr refl, tt); ends = p.same;
+      numbers = record { count = p.numbers.count; pipes = p.numbers.pipes } };
+  showing = λ line image at count d few c. record { quiet = quiet_sent s 0 (shows line (readable image at count));
+      ends = c.ends; numbers = c.numbers };
   inodes = λ h inodes same p. record { same = p.same; numbers = other_inodes h inodes same p.numbers };
   opened = λ h ino kind fd entry plain number free p. record {
     same = same_call_in p;
@@ -155,7 +165,8 @@ calm_walks old s = record {
     same = same_call_in p;
     numbers = record {
       count = p.numbers.count;
-      pipes = pipes_ends h.files h.pipes ino entry next_entry (above, (let few = p.numbers.count in omega (arith, within, few))) p.numbers.pipes;
+      pipes = pipes_ends h.files h.pipes ino entry next_entry
+          (above, (let few = p.numbers.count in omega (arith, within, few))) p.numbers.pipes;
     };
   };
   given = λ h fd free named number p. record {
@@ -189,7 +200,8 @@ calm_walks old s = record {
 }
 
 -- A call in which a process slept goes on: until it sleeps again no call is waited in.
-pub resume_calm : (h : Handed) (s now : ℕ) → ((h.u.pending == 1) ≡ false → (file_of h (slice_index h.u.call 0)).kind.pipe ≡ true) → HasNumbers h
+pub resume_calm : (h : Handed) (s now : ℕ) → ((h.u.pending == 1) ≡ false
+    → (file_of h (slice_index h.u.call 0)).kind.pipe ≡ true) → HasNumbers h
     → Calm (without_pending h).u s (resumes h s now)
 resume_calm h s now has numbers =
     walk_resume (calm_walks (without_pending h).u s) h now has
@@ -200,9 +212,11 @@ pub record CalmClosing (old : UArea) (s : ℕ) (c : Closing) : Type 0 where
   pub quiet : AreQuiet s c.items
   pub calm : InCalm old c.state
 
-closes_calm : (old : UArea) (s : ℕ) (h : Handed) (fd : ℕ) → 0 < slice_index h.u.files fd → InCalm old h → CalmClosing old s (closes h fd)
+closes_calm : (old : UArea) (s : ℕ) (h : Handed) (fd : ℕ) → 0 < slice_index h.u.files fd → InCalm old h
+    → CalmClosing old s (closes h fd)
 closes_calm old s h fd named p =
-    let c : Calm old s (record { answer = Ret 0 0; state = (closes h fd).state; items = (closes h fd).items }) = walk_closes (calm_walks old s) h fd 0 0 named p in
+    let c : Calm old s (record { answer = Ret 0 0; state = (closes h fd).state; items = (closes h fd).items }) =
+        walk_closes (calm_walks old s) h fd 0 0 named p in
     record { quiet = c.quiet; calm = record { same = c.ends; numbers = c.numbers } }
 
 -- all numbers of a process, one after another
@@ -210,14 +224,16 @@ more_closing : (old : UArea) (s : ℕ) (c : Closing) (fd : ℕ) → CalmClosing 
 more_closing old s c fd k = by (slice_index c.state.u.files fd == 0) refl
   where
     by : (none : Bool) → (slice_index c.state.u.files fd == 0) ≡ none
-        → CalmClosing old s (cond {A = Closing} none c (record { state = (closes c.state fd).state; items = c.items ++ (closes c.state fd).items }))
+        → CalmClosing old s (cond {A = Closing} none c (record { state = (closes c.state fd).state;
+            items = c.items ++ (closes c.state fd).items }))
     by true e = k
     by false e =
         let ne = eqb-false (slice_index c.state.u.files fd) 0 e in
         let next = closes_calm old s c.state fd (omega (arith, ne)) k.calm in
         record { quiet = quiet_append s c.items (closes c.state fd).items k.quiet next.quiet; calm = next.calm }
 
-all_closing : (old : UArea) (s : ℕ) (c : Closing) (fds : List ℕ) → CalmClosing old s c → CalmClosing old s (fold then_closes c fds)
+all_closing : (old : UArea) (s : ℕ) (c : Closing) (fds : List ℕ) → CalmClosing old s c
+    → CalmClosing old s (fold then_closes c fds)
 all_closing old s c [] k = k
 all_closing old s c (fd ∷ fds) k = all_closing old s (then_closes c fd) fds (more_closing old s c fd k)
 

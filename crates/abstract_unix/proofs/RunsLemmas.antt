@@ -1,5 +1,5 @@
 -- How a run over a list of events is made of runs over its parts.
-use Rattle.std.proofs.Common.{◌≡◌, ◌≢◌, ℕ, cond, Bool, true, false, List, [], ◌∷◌, ◌++◌, Option, Some, None, Result, Ok, Err, refl, sym, ◌∙◌, ap, append_assoc}
+use Rattle.std.proofs.Common.{◌≡◌, ◌≢◌, ℕ, cond, Bool, true, false, List, [], ◌∷◌, ◌++◌, Ok, Err, refl, sym, ◌∙◌, ap, append_assoc}
 use Rattle.std.proofs.lemmas.List.{append-nil}
 use Rattle.v6_base.specs.Trace.{Item}
 use Rattle.v6_base.specs.declared.entry.PanicKind.{PanicKind}
@@ -10,8 +10,7 @@ use Rattle.abstract_unix.specs.declared.turned.Turned.{Turned}
 use Rattle.abstract_unix.specs.declared.turned.Turned.TheVariants.{Ran, Idle, Panic}
 use Rattle.abstract_unix.specs.Unix.{System}
 use Rattle.abstract_unix.specs.Turn.{Happened, Turn, stays, settles, calls_for_settling, settled_after, turned_by, turned, ticked_by}
-use Rattle.abstract_unix.specs.Outside.{tick_of}
-use Rattle.abstract_unix.specs.Runs.{Event, Slot, Tick, Byte, Switch, Course, begun, event_of, goes_on_by, unless_ended, after_event, course, started, after_items}
+use Rattle.abstract_unix.specs.Runs.{Event, Tick, Byte, Switch, Course, begun, event_of, goes_on_by, unless_ended, after_event, course, after_items}
 
 -- first these events and then those
 pub course-append : (c : Course) (xs ys : List Event) → course c (xs ++ ys) ≡ course (course c xs) ys

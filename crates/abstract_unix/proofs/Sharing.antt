@@ -1,5 +1,5 @@
 -- fork(II): a child names the files that its parent does, and is where its parent is.
-use Rattle.std.proofs.Common.{◌≡◌, ◌<◌, ◌+◌, ◌∙◌, ℕ, suc, Bool, false, cond, ◌==◌, if◌then◌else◌, List, [], ◌∷◌, length, get_or, set, fold, count_by, Option, Some, None, slice_index, refl, sym, ap, inl, inr, arith}
+use Rattle.std.proofs.Common.{◌≡◌, ◌<◌, ◌+◌, ◌∙◌, ℕ, suc, Bool, cond, ◌==◌, if◌then◌else◌, List, [], ◌∷◌, length, get_or, set, fold, count_by, Option, Some, None, slice_index, refl, sym, ap, inl, inr, arith}
 use Rattle.std.proofs.lemmas.Bool.{cases_lt, cases_eq, ne_eqb, eq-eqb}
 use Rattle.std.proofs.lemmas.List.{get_or_past, get_or-set_same, get_or-set_other}
 use Rattle.std.proofs.lemmas.List.FromFn.{get_or-map-range_with_len, length-map-range_with_len}

@@ -15,7 +15,7 @@ use Rattle.pick_rules.specs.Fits.{IsSleep}
 use Rattle.pick_rules.specs.Lawful.{Seen}
 use Rattle.log_laws.proofs.Fitting.{Apt, AptCame, apt_append, apt_more}
 use Rattle.log_laws.proofs.Seats.{Seats, InCall, Paused}
-use Rattle.log_laws.proofs.Lines.{trap_apt, sleep_apt, signal_in, signal_fits}
+use Rattle.log_laws.proofs.Lines.{sleep_apt, signal_in, signal_fits}
 use Rattle.sig_core.specs.declared.numbers.TheConstants.{SIGSYS}
 use Rattle.sig_core.specs.Signals.{is_signal}
 use Rattle.sys_procs.specs.Comes.{Comes}

@@ -1,17 +1,16 @@
 -- A signal that a tick delivers: its effects are apt, and no row says that a call waits.
-use Rattle.std.proofs.Common.{◌≡◌, ◌∙◌, ◌==◌, ℕ, zero, suc, nat_le, Bool, true, false, cond, List, [], ◌∷◌, ◌++◌, append-nil, map, get_or, set, option_map, Option, Some, None, refl, sym, ap, subst, inr}
+use Rattle.std.proofs.Common.{◌≡◌, ◌∙◌, ◌==◌, ℕ, zero, suc, nat_le, Bool, true, false, cond, List, [], ◌∷◌, append-nil, get_or, set, option_map, Option, Some, None, refl, sym, ap, subst, inr}
 use Rattle.std.proofs.lemmas.List.{set-get_or}
-use Rattle.v6_base.specs.declared.entry.PanicKind.TheVariants as panic
 use Rattle.v6_base.specs.declared.entry.Place.{Place}
 use Rattle.v6_base.specs.declared.entry.Place.TheVariants.{Core, Swap}
 use Rattle.v6_base.specs.declared.entry.Entry.TheVariants as line
 use Rattle.v6_base.specs.Trace.{Log}
 use Rattle.pick_rules.specs.declared.row.TableRow.{TableRow}
 use Rattle.pick_rules.specs.declared.table.Table.{Table}
-use Rattle.pick_rules.specs.Table.{row_at, empty_row, is_loaded, with_row}
+use Rattle.pick_rules.specs.Table.{row_at, empty_row, is_loaded}
 use Rattle.pick_rules.specs.Board.{TextPlace, Board, placed}
-use Rattle.pick_rules.specs.Apply.{applied, in_table, change_row, change_text, enters_core, leaves_core, without_place, at_place}
-use Rattle.pick_rules.specs.Effects.{Effect, Show, Size, Fork, Text, Image, Exit, Lets, image_at, came, lifted}
+use Rattle.pick_rules.specs.Apply.{applied, in_table, change_row, change_text, leaves_core, without_place, at_place}
+use Rattle.pick_rules.specs.Effects.{Effect, Show, Size, Fork, Text, Image, Exit, Lets, image_at, came}
 use Rattle.pick_rules.specs.Lawful.{Seen, seen_after}
 use Rattle.pick_rules.specs.Sleepers.{made_ready, runout_told}
 use Rattle.pick_rules.proofs.Shapes.{shape_at}
@@ -23,16 +22,14 @@ use Rattle.sig_core.specs.Signals.{handler_of, due}
 use Rattle.sig_core.specs.Delivery.{makes_core, signal_stack}
 use Rattle.sys_files.specs.Did.{Did}
 use Rattle.sys_files.specs.Core.{core_file}
-use Rattle.sys_procs.specs.World.{World}
 use Rattle.sys_procs.specs.Process.{Process}
 use Rattle.sys_procs.specs.Break.{grow, grown_or_not, grown_stack, expands}
-use Rattle.abstract_unix.specs.declared.ending.Ending.TheVariants as ending
 use Rattle.abstract_unix.specs.Unix.{Unix, process_of}
 use Rattle.abstract_unix.specs.Steps.{Steps}
 use Rattle.abstract_unix.specs.Calls.{handed_of, world_of, grows, exits_with}
-use Rattle.abstract_unix.specs.Delivery.{heeds, calls_routine, catches, signal_status, ends_after, ends_by, delivers_if, delivers_due}
+use Rattle.abstract_unix.specs.Delivery.{heeds, catches, signal_status, ends_after, ends_by, delivers_if, delivers_due}
 use Rattle.abstract_unix.proofs.Sitting.{seats_of}
-use Rattle.abstract_unix.proofs.Steps.{AptSteps, AptBegun}
+use Rattle.abstract_unix.proofs.Steps.{AptSteps}
 use Rattle.abstract_unix.proofs.Quiet.{HasNumbers}
 use Rattle.abstract_unix.proofs.Rows.{Calling}
 use Rattle.abstract_unix.proofs.Delivering.{core_ends, routine_apt, heeded}

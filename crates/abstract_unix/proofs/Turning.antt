@@ -1,5 +1,5 @@
 -- The turn of each slot is apt.
-use Rattle.std.proofs.Common.{◌≡◌, ◌∙◌, ◌==◌, ℕ, not, Bool, true, false, cond, List, [], Option, Some, None, slice_index, replicate, arith, set, refl, sym, ap, subst}
+use Rattle.std.proofs.Common.{◌≡◌, ◌∙◌, ◌==◌, ℕ, not, Bool, true, false, cond, List, [], Option, Some, slice_index, replicate, arith, set, refl, sym, ap, subst}
 use Rattle.pdp_step.specs.declared.outcome.Kind.{Kind}
 use Rattle.pdp_step.specs.declared.outcome.Kind.TheVariants as kind
 use Rattle.pdp_step.specs.declared.outcome.Outcome.{Outcome}
@@ -20,7 +20,6 @@ use Rattle.sys_procs.specs.Resume.{awake, resume_proc}
 use Rattle.v6_base.specs.declared.answer.Answer.TheVariants.{Fail}
 use Rattle.v6_base.specs.declared.errno.Errno.TheVariants.{ENOSYS}
 use Rattle.sig_core.specs.declared.numbers.TheConstants.{SIGINS, SIGTRC, SIGIOT, SIGEMT, SIGBUS}
-use Rattle.pick_rules.specs.Effects.{came}
 use Rattle.open_files.specs.declared.file.OpenFile.{OpenFile}
 use Rattle.abstract_unix.specs.declared.asked.Asked.{Asked}
 use Rattle.abstract_unix.specs.declared.ending.Ending.{Ending}
@@ -38,7 +37,7 @@ use Rattle.abstract_unix.specs.Turn.{machine_of, with_machine, faults, comes_to,
 use Rattle.abstract_unix.proofs.Sitting.{seat_for, seats_in, seats_of, found_in, runner_seat, runner_there, runner_alive, put_in, kept_in, changed_in}
 use Rattle.abstract_unix.proofs.Steps.{AptSteps, Begun, AptBegun, returns_apt, signals_apt, answers_apt, came_apt}
 use Rattle.abstract_unix.proofs.Quiet.{HasNumbers, Calm, same_call, calm_walks, resume_calm}
-use Rattle.abstract_unix.proofs.FileRows.{walk_row}
+use Rattle.abstract_unix.proofs.StepRows.{step_row}
 use Rattle.abstract_unix.proofs.ProcessRows.{plain_row, resume_plain}
 use Rattle.abstract_unix.proofs.Rows.{FineComes, Calling, plain_fine}
 use Rattle.abstract_unix.proofs.Posting.{kill_fine}
@@ -51,7 +50,7 @@ use Rattle.abstract_unix.proofs.Tidy.{IsTidy, tidy_numbers, tidy_end}
 
 -- a row of a call on files
 calm_row : (call : FileCall) (h : Handed) (s : ℕ) (args : List ℕ) (now : ℕ) → HasNumbers h → Calm h.u s (file_row call h s args now)
-calm_row call h s args now numbers = walk_row (calm_walks h.u s) call h args now tt (record { same = same_call h.u; numbers = numbers })
+calm_row call h s args now numbers = step_row (calm_walks h.u s) call h args now tt (record { same = same_call h.u; numbers = numbers })
 
 -- a row of a call on processes
 fine_row : (call : ProcessCall) (s : ℕ) (seen : Seen) (w : World) (args : List ℕ) → Calling s w seen → FineComes w.limit s seen (process_row call w s args)
