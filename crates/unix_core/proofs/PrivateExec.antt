@@ -1,5 +1,5 @@
--- exec, break and the growth of a stack leave the processes of other slots alone, and so does each row.
-use Rattle.std.proofs.Common.{◌≢◌, ℕ, Bool, true, false, ◌==◌, List, Option, Some, None, slice_index, sym, subst}
+-- exec, break, kill and the growth of a stack leave the processes of other slots alone, and so does each row.
+use Rattle.std.proofs.Common.{◌≡◌, ◌≢◌, ℕ, Bool, true, false, ◌==◌, List, [], map, length, Option, Some, None, slice_index, sym, subst}
 use Rattle.std.specs.Prelude.{⊤, MatchOption, Result, Ok, Err}
 use Rattle.std.specs.Option.{option_map}
 use Rattle.v6_base.specs.declared.entry.Entry.TheVariants.{Bare, Share}
@@ -7,6 +7,7 @@ use Rattle.v6_base.specs.declared.errno.Errno.{Errno}
 use Rattle.seg_regs.specs.Sizes.{is_refused}
 use Rattle.fs_tree.specs.Finding.{with_reference}
 use Rattle.pick_rules.specs.Effects as effect
+use Rattle.pick_rules.specs.Effects.{Show}
 use Rattle.u_area.specs.declared.area.UArea.{UArea}
 use Rattle.sys_procs.specs.Process.{Process}
 use Rattle.sys_procs.specs.World.{World, process_of, change}
@@ -14,14 +15,15 @@ use Rattle.sys_procs.specs.Comes.{Comes, does, logs}
 use Rattle.sys_procs.specs.TextTable.{entry_of, with_text}
 use Rattle.sys_procs.specs.Texts.{free_entry, new_text, with_user, with_entry, shares_text, makes_text, xalloc_by, xalloc}
 use Rattle.sys_procs.specs.Tests.{node_at}
-use Rattle.sys_procs.specs.Break.{break_at, grow, grown_stack, clicks_up_to, sized, expands}
+use Rattle.sys_procs.specs.Break.{break_at, grow, grown_stack, grown_or_not, clicks_up_to, sized, expands}
+use Rattle.sys_procs.specs.Signals.{signal_lines, meant_in, all_signalled, is_reached, kill_to}
 use Rattle.sys_procs.specs.ExecFile.{Tested, tests, with_moved, data_read, reads_text, image_clicks, bared, begins, executes, begins_anew, loads, done_by, exec_file}
 use Rattle.sys_procs.proofs.TestedSlots.{tests_processes}
 use Rattle.abstract_unix.specs.declared.calls.ProcessCall.{ProcessCall}
 use Rattle.abstract_unix.specs.declared.calls.ProcessCall.TheVariants as process
 use Rattle.abstract_unix.specs.Calls.{process_row}
 use Rattle.abstract_unix.proofs.ProcessRows.{plain_row}
-use Rattle.unix_core.proofs.PrivateSlots.{Spared}
+use Rattle.unix_core.proofs.PrivateSlots.{Spared, spared_then, spared_signalled, carry_shown, carry_both}
 use Rattle.unix_core.proofs.PrivateRows.{IsSparing, spared_change, sparing_comes, sparing_logs, sparing_if, sparing_xfree, sparing_plain}
 
 module _ (ps : List (Option Process)) (r s : ℕ) (other : r ≢ s) where
@@ -110,8 +112,30 @@ module _ (ps : List (Option Process)) (r s : ℕ) (other : r ≢ s) where
       let p : Process = process_of w s in
       sparing_stack w p.u.data_size (grown_stack p.u.text_size p.u.data_size p.u.stack_size w.limit sp) h
 
+  -- where it grows, and where it doesn't
+  pub sparing_grown : (w : World) (sp : ℕ) → SparedIn w → IsSparing ps r (grown_or_not w s (grow w s sp))
+  sparing_grown w sp h = by (grow w s sp) (sparing_grow w sp h)
+    where
+      by : (o : Option Comes) → MatchOption o ⊤ IsSparingCall → IsSparing ps r (grown_or_not w s o)
+      by None grown = sparing_comes ps r s other w _ h
+      by (Some c) grown = grown
+
+  -- kill
+  sparing_kill : (w : World) (n : ℕ) → length w.processes ≡ 50 → SparedIn w → IsSparing ps r (kill_to w s n)
+  unfolding kill_to
+  sparing_kill w n long h =
+      let who = is_reached s (process_of w s) in
+      let slots : List ℕ = meant_in who w.processes in
+      sparing_if ps r s other (length slots == 0) _ _ (sparing_comes ps r s other w _ h)
+      (record {
+        effects = carry_both SparedIn (map Show (signal_lines n slots)) [] (carry_shown SparedIn (signal_lines n slots)) tt;
+        state = spared_then ps w.processes (all_signalled who n w.processes) r h (spared_signalled w.processes who n r long);
+      })
+
   -- each row
-  pub sparing_row : (call : ProcessCall) (w : World) (args : List ℕ) → SparedIn w → IsSparing ps r (process_row call w s args)
-  sparing_row process.Exec w a h = sparing_exec w (slice_index a 0) (slice_index a 1) h
-  sparing_row process.Break w a h = sparing_break w (slice_index a 0) h
-  sparing_row call w a h = sparing_plain ps r s other w _ (plain_row call tt s w a) h
+  pub sparing_row : (call : ProcessCall) (w : World) (args : List ℕ) → length w.processes ≡ 50 → SparedIn w
+      → IsSparing ps r (process_row call w s args)
+  sparing_row process.Exec w a long h = sparing_exec w (slice_index a 0) (slice_index a 1) h
+  sparing_row process.Break w a long h = sparing_break w (slice_index a 0) h
+  sparing_row process.Kill w a long h = sparing_kill w (slice_index a 0) long h
+  sparing_row call w a long h = sparing_plain ps r s other w _ (plain_row call tt s w a) h

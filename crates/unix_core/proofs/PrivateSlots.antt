@@ -1,8 +1,9 @@
 -- What a change of one slot leaves of the others, and what is so of every Unix that effects leave, stopped or not.
-use Rattle.std.proofs.Common.{◌≡◌, ◌≢◌, ◌∙◌, ℕ, Bool, true, false, cond, nat_le, List, [], ◌∷◌, ◌++◌, get_or, set, map, fold, Option, Some, None, refl, sym, ap, inl, inr}
+use Rattle.std.proofs.Common.{◌≡◌, ◌≢◌, ◌<◌, ◌∙◌, ℕ, Bool, true, false, not, ◌&&◌, cond, nat_le, List, [], ◌∷◌, ◌++◌, length, get_or, set, map, fold, Option, Some, None, refl, sym, ap, subst, inl, inr, arith}
 use Rattle.std.specs.Prelude.{⊤, ◌==◌, unwrap_or}
 use Rattle.std.proofs.lemmas.Bool.{cases_eq}
 use Rattle.std.proofs.lemmas.List.{get_or-map, get_or-set_same, get_or-set_other}
+use Rattle.std.proofs.lemmas.List.FromFn.{get_or-map-range_with_len}
 use Rattle.v6_base.specs.Trace.{Item, Log}
 use Rattle.v6_base.specs.declared.entry.PanicKind.{PanicKind}
 use Rattle.v6_base.specs.declared.entry.PanicKind.TheVariants as panic
@@ -14,8 +15,12 @@ use Rattle.pick_rules.specs.Table.{row_at}
 use Rattle.pick_rules.specs.Board.{Board, blocks, placed, swap_fit, free_text}
 use Rattle.pick_rules.specs.Effects.{Effect, Show, Size, Fork, Text, Image, Exit, Came, Lets, Stops, at_fit, image_at, new_text_at, came, lifted}
 use Rattle.pick_rules.specs.Logged.{Logged, Stop, logged, log_one, left_by, with_what_came, unless_stopped}
+use Rattle.proc_tab.specs.declared.row.Row.{Row}
+use Rattle.sig_core.specs.declared.numbers.TheConstants.{SIGKIL}
+use Rattle.sig_core.specs.Signals.{is_signal, posted}
 use Rattle.sys_procs.specs.Process.{Process, no_process}
 use Rattle.sys_procs.specs.Exit.{adopted}
+use Rattle.sys_procs.specs.Signals.{signalled, signalled_if, all_signalled}
 use Rattle.abstract_unix.specs.Outside.{timed}
 use Rattle.abstract_unix.specs.Private.{SameMemory, LivesOn}
 use Rattle.abstract_unix.proofs.Owing.{some_within}
@@ -116,6 +121,34 @@ spared_adopted ps pid r p is lives =
 pub spared_strays : (ps : List (Option Process)) (b : Bool) (ppid r : ℕ) → Spared ps (cond b (map (adopted ppid) ps) ps) r
 spared_strays ps true ppid r = spared_adopted ps ppid r
 spared_strays ps false ppid r = spared_same ps r
+
+-- a signal has been sent to a process
+posted_pid : (row : Row) (n : ℕ) → (posted row n).pid ≡ row.pid
+posted_pid row n = by (is_signal n && not (row.sig == SIGKIL))
+  where
+    by : (b : Bool) → (cond b (record row { sig = n }) row).pid ≡ row.pid
+    by true = refl
+    by false = refl
+
+-- and to all that are meant
+pub spared_signalled : (ps : List (Option Process)) (who : ℕ → Process → Bool) (n r : ℕ) → length ps ≡ 50
+    → Spared ps (all_signalled who n ps) r
+spared_signalled ps who n r long p is lives =
+    let low : r < 50 = subst (λ k. r < k) long (some_within ps r p is) in
+    by (who r p)
+    (get_or-map-range_with_len (λ s. signalled_if who n s (get_or ps s None)) 0 50 r r None low (omega arith)
+    ∙ ap (signalled_if who n r) is)
+  where
+    by : (b : Bool) → get_or (all_signalled who n ps) r None ≡ Some (cond b (signalled n p) p)
+        → LivesOn (get_or (all_signalled who n ps) r None) p
+    by true got = record {
+      now = signalled n p;
+      there = got;
+      lives = lives;
+      pid = posted_pid p.row n;
+      memory = record { registers = refl; codes = refl; «data» = refl; stack = refl };
+    }
+    by false got = record { now = p; there = got; lives = lives; pid = refl; memory = memory_same p }
 
 -- A fact of each state that effects carry is one of the state that they leave.
 module _ {W : Type 0} (P : W → Type 0) where

@@ -1,13 +1,14 @@
 -- Texts stay as they were made: what each event leaves of those that are shared.
-use Rattle.std.proofs.Common.{◌≡◌, ◌<◌, ◌∙◌, ◌||◌, ◌==◌, ℕ, zero, suc, Bool, true, false, cond, nat_lt, if◌then◌else◌, List, ◌∷◌, ◌++◌, length, set, map, Option, Some, None, refl, sym, subst}
+use Rattle.std.proofs.Common.{◌≡◌, ◌<◌, ◌∙◌, ◌==◌, ◌+◌, ℕ, zero, suc, Bool, true, false, cond, nat_lt, if◌then◌else◌, List, [], ◌∷◌, ◌++◌, length, set, map, Option, Some, None, refl, sym, subst}
 use Rattle.std.specs.Prelude.{⊤, MatchOption}
 use Rattle.std.specs.List.{list_any}
 use Rattle.std.proofs.lemmas.List.{length-set}
 use Rattle.std.proofs.lemmas.List.Folds.{list_any-append}
-use Rattle.v6_base.specs.Trace.{Item, Log, sent}
+use Rattle.v6_base.specs.Trace.{Item, sent}
+use Rattle.v6_base.specs.declared.errno.Errno.TheVariants.{ENOSYS}
 use Rattle.v6_base.specs.declared.answer.Answer.{Answer}
 use Rattle.v6_base.specs.declared.answer.Answer.TheVariants.{Ret, Fail, Sleep}
-use Rattle.v6_base.specs.declared.entry.Chan.TheVariants.{Keys, Tout}
+use Rattle.v6_base.specs.declared.entry.Chan.TheVariants.{Keys}
 use Rattle.pdp_step.specs.declared.outcome.Outcome.{Outcome}
 use Rattle.pdp_step.specs.declared.outcome.Outcome.TheVariants.{Next, Call, Fault}
 use Rattle.pdp_step.specs.Instruction.{Stepped, instr}
@@ -15,38 +16,44 @@ use Rattle.pdp_step.specs.declared.outcome.Kind.{Kind}
 use Rattle.pdp_step.specs.declared.outcome.Kind.TheVariants as kind
 use Rattle.pick_rules.specs.declared.row.Mode.{Mode}
 use Rattle.pick_rules.specs.Board.{Board}
-use Rattle.pick_rules.specs.Effects.{Show}
+use Rattle.pick_rules.specs.Effects.{Effect, Show}
 use Rattle.pick_rules.specs.Logged.{Stop, left_by}
 use Rattle.swap_sched.specs.Pass.{pass, stop_over}
+use Rattle.sig_core.specs.declared.numbers.TheConstants.{SIGINS, SIGTRC, SIGIOT, SIGEMT, SIGBUS, SIGSEG, SIGSYS}
+use Rattle.sig_core.specs.Signals.{handler_of, due}
+use Rattle.sig_core.specs.Delivery.{makes_core, signal_stack}
 use Rattle.sys_files.specs.Did.{Did}
+use Rattle.sys_files.specs.Core.{core_file, is_written}
 use Rattle.sys_files.specs.Descriptors.{Closing}
-use Rattle.sys_files.specs.Moving.{resume_read}
+use Rattle.sys_files.specs.Moving.{resumes}
+use Rattle.tty_line.specs.declared.line.Keyed.{Keyed}
+use Rattle.tty_line.specs.declared.line.Keyed.TheVariants.{Nothing, Ready, Flushed, Signal}
 use Rattle.tty_line.specs.Input.{Typed, typed}
 use Rattle.log_laws.proofs.Users.{users_on}
 use Rattle.abstract_unix.proofs.Sitting.{users}
 use Rattle.sys_procs.specs.Process.{Process, register, image_of}
 use Rattle.sys_procs.specs.TextTable.{Text}
 use Rattle.sys_procs.specs.Comes.{Comes}
-use Rattle.sys_procs.specs.Break.{grow}
-use Rattle.sys_procs.specs.Times.{pending_sleep}
-use Rattle.sys_procs.specs.Wait.{pending_wait}
+use Rattle.sys_procs.specs.Break.{grow, grown_or_not}
 use Rattle.sys_procs.specs.Exit.{exit_status, end_proc}
 use Rattle.sys_procs.specs.Fork.{fork_one}
 use Rattle.sys_procs.specs.Resume.{resume_proc}
+use Rattle.sys_procs.specs.Signals.{signal_lines}
 use Rattle.abstract_unix.specs.declared.asked.Asked.{Asked}
 use Rattle.abstract_unix.specs.declared.calls.ProcessCall.{ProcessCall}
 use Rattle.abstract_unix.specs.declared.calls.ProcessCall.TheVariants as process
 use Rattle.abstract_unix.specs.declared.calls.SystemCall.{SystemCall}
-use Rattle.abstract_unix.specs.declared.calls.SystemCall.TheVariants.{Indirect, Exit, Fork, OnFiles, OnProcesses}
+use Rattle.abstract_unix.specs.declared.calls.SystemCall.TheVariants.{Indirect, Exit, Fork, Unknown, OnFiles, OnProcesses}
 use Rattle.abstract_unix.specs.declared.calls.Sysent.{Sysent}
 use Rattle.abstract_unix.specs.declared.ending.Ending.{Ending}
 use Rattle.abstract_unix.specs.declared.ending.Ending.TheVariants as ending
 use Rattle.abstract_unix.specs.Unix.{Unix, System, Started, process_of, with_process}
-use Rattle.abstract_unix.specs.Steps.{Steps, quietly, returns, not_built}
+use Rattle.abstract_unix.specs.Steps.{Steps, quietly, returns, signals, after_effects}
 use Rattle.abstract_unix.specs.Errors.{error_number}
-use Rattle.abstract_unix.specs.Calls.{handed_of, with_handed, world_of, with_world, with_area, entered_area, words_passed, asked, refused_area, answers, file_row, process_row, did_by, came_by, forks, closes_all, exits_with, grown_by, does_call, sysent_of, does_if_built, pending_read, resumed}
-use Rattle.abstract_unix.specs.Turn.{Happened, settled, stays, settles, calls_for_settling, settled_after, machine_of, with_machine, faults, comes_to, instruction, is_user, turn, end_effects, turn_of, pass_of, slot_of}
-use Rattle.abstract_unix.specs.Outside.{mode_of, timed, charged, ticked, is_due, wakes, tick_entry, tick_of, calls, typed_of}
+use Rattle.abstract_unix.specs.Calls.{handed_of, with_handed, world_of, with_world, with_area, entered_area, words_passed, asked, refused_area, refuses, answers, file_row, process_row, did_by, came_by, forks, closes_all, exits_with, grows, grown_by, does_call, sysent_of, does_asked, is_on_files, resumed}
+use Rattle.abstract_unix.specs.Delivery.{heeds, catches, signal_status, dumped, ends_by, delivers_if, delivers_due, ends_by_ending}
+use Rattle.abstract_unix.specs.Turn.{Happened, settled, stays, settles, calls_for_settling, settled_after, machine_of, with_machine, passes_setd, faults, comes_to, instruction, is_user, begins_turn, turn, end_effects, turn_of, pass_of, slot_of}
+use Rattle.abstract_unix.specs.Outside.{mode_of, timed, charged, ticked, is_as_trap, wakes, tick_effects, tick_delivery, delivers_to, tick_of, calls, with_key, key_lines, typed_of}
 use Rattle.abstract_unix.specs.Runs.{Slot, Tick, Byte, Switch, event_of, start_of}
 use Rattle.abstract_unix.specs.Shared.{TextStays, is_made_by, AllTextsStay, OtherTextsStay}
 use Rattle.abstract_unix.proofs.ProcessRows.{plain_row}
@@ -59,9 +66,9 @@ use Rattle.unix_core.proofs.BootKernelLemmas.{kernel_good}
 use Rattle.unix_core.proofs.GoodLemmas.{forty, runs_low}
 use Rattle.unix_core.proofs.ProgramLemmas.{same_users}
 use Rattle.unix_core.proofs.PrivateSlots.{AllCarry, left_carried, carry_shown, carry_both, carry_lifted}
-use Rattle.unix_core.proofs.PrivateLemmas.{carry_end, carry_wakes, settled_unix}
-use Rattle.unix_core.proofs.StayingTexts.{first_false, stays_same, Leaves, leaves_carried}
-use Rattle.unix_core.proofs.StayingRows.{IsStaying, staying_plain, staying_break, staying_fork, staying_end, staying_resume, staying_grow}
+use Rattle.unix_core.proofs.PrivateLemmas.{carry_end, carry_wakes, carry_tick, settled_unix}
+use Rattle.unix_core.proofs.StayingTexts.{first_false, stays_same, Leaves, leaves_carried, leaves_then}
+use Rattle.unix_core.proofs.StayingRows.{IsStaying, staying_plain, staying_break, staying_kill, staying_fork, staying_end, staying_resume, staying_grow, staying_grown}
 use Rattle.unix_core.proofs.StayingExec.{IsAt, exec_goes}
 
 -- what is so of a system in which a turn begins
@@ -74,9 +81,9 @@ module _ (ts : List (Option Text)) (k s : ℕ) where
   abbrev Stays : Unix → Type 0
   Stays u = TextStays ts u.texts k
 
-  -- A turn of the process leaves a text in its entry, on a board.
+  -- Some steps of the process leave a text in its entry, on a board.
   abbrev StaysAfter : Board → Steps → Type 0
-  StaysAfter b steps = Leaves Stays k b (steps.effects ++ end_effects s steps.ending) steps.unix
+  StaysAfter b steps = Leaves Stays k b steps.effects steps.unix
 
   -- Most leave it whatever the log tells.
   record AreStaying (steps : Steps) : Type 0 where
@@ -84,35 +91,58 @@ module _ (ts : List (Option Text)) (k s : ℕ) where
     pub unix : Stays steps.unix
 
   after_steps : (b : Board) (steps : Steps) → AreStaying steps → StaysAfter b steps
-  after_steps b steps h = leaves_carried Stays k b _ steps.unix
-      (carry_both Stays steps.effects (end_effects s steps.ending) h.effects (carry_end Stays s steps.ending)) h.unix
+  after_steps b steps h = leaves_carried Stays k b steps.effects steps.unix h.effects h.unix
 
   staying_quiet : (u : Unix) (e : Ending) → Stays u → AreStaying (quietly u e)
   staying_quiet u e h = record { effects = tt; unix = h }
 
-  -- answers
+  staying_after : (es : List (Effect Unix)) (steps : Steps) → AllCarry Stays es → AreStaying steps
+      → AreStaying (after_effects es steps)
+  staying_after es steps carry h = record { effects = carry_both Stays es steps.effects carry h.effects; unix = h.unix }
+
+  staying_if : (x : Bool) (one two : Steps) → AreStaying one → AreStaying two → AreStaying (if x then one else two)
+  staying_if true one two h l = h
+  staying_if false one two h l = l
+
+  -- the process is sent a signal
+  staying_signals : (u : Unix) (n : ℕ) → Stays u → AreStaying (signals u s n)
+  staying_signals u n h = record { effects = carry_shown Stays (signal_lines n (s ∷ [])); unix = h }
+
+  -- Answers change no text, and their lines carry no state.
   answered_texts : (u : Unix) (a : Answer) → (answers u s a).unix.texts ≡ u.texts
   answered_texts u (Ret r0 r1) = refl
   answered_texts u (Fail e) = by (nat_lt (error_number e) 100)
     where
-      by : (b : Bool) → (if b then returns (with_area u s (refused_area (error_number e))) else not_built u).unix.texts ≡ u.texts
+      by : (b : Bool)
+          → (if b then returns (with_area u s (refused_area (error_number e))) else signals u s SIGSYS).unix.texts ≡ u.texts
       by true = refl
       by false = refl
   answered_texts u (Sleep pri chan) = refl
 
-  stays_answered : (u : Unix) (a : Answer) → Stays u → Stays (answers u s a).unix
-  stays_answered u a h = subst (λ l. TextStays ts l k) (sym (answered_texts u a)) h
+  carry_answers : (u : Unix) (a : Answer) → AllCarry Stays (answers u s a).effects
+  carry_answers u (Ret r0 r1) = tt
+  carry_answers u (Fail e) = by (nat_lt (error_number e) 100)
+    where
+      by : (b : Bool)
+          → AllCarry Stays (if b then returns (with_area u s (refused_area (error_number e))) else signals u s SIGSYS).effects
+      by true = tt
+      by false = carry_shown Stays (signal_lines SIGSYS (s ∷ []))
+  carry_answers u (Sleep pri chan) = tt
+
+  staying_answers : (u : Unix) (a : Answer) → Stays u → AreStaying (answers u s a)
+  staying_answers u a h =
+      record { effects = carry_answers u a; unix = subst (λ l. TextStays ts l k) (sym (answered_texts u a)) h }
 
   module _ (u : Unix) (h : Stays u) where
     staying_did : (did : Did) → AreStaying (did_by u s did)
     staying_did did =
-        record { effects = carry_shown Stays did.items; unix = stays_answered (with_handed u s did.state) did.answer h }
+        staying_after (map Show did.items) _ (carry_shown Stays did.items)
+        (staying_answers (with_handed u s did.state) did.answer h)
 
     staying_came : (c : Comes) → IsStaying ts k c → AreStaying (came_by u s c)
-    staying_came c staying = record {
-      effects = carry_lifted (with_world u) Stays c.effects staying.effects;
-      unix = stays_answered (with_world u c.state) c.answer staying.state;
-    }
+    staying_came c staying =
+        staying_after _ _ (carry_lifted (with_world u) Stays c.effects staying.effects)
+        (staying_answers (with_world u c.state) c.answer staying.state)
 
     staying_forks : AreStaying (forks u s)
     staying_forks =
@@ -132,10 +162,50 @@ module _ (ts : List (Option Text)) (k s : ℕ) where
           unix = came.state;
         }
 
-    staying_grown : (o : Option Comes) → MatchOption o ⊤ (IsStaying ts k) → AreStaying (grown_by u s o)
-    staying_grown None staying = staying_quiet u ending.NotBuilt h
-    staying_grown (Some c) staying =
+    staying_grows : (c : Comes) → IsStaying ts k c → AreStaying (grows u c)
+    staying_grows c staying =
         record { effects = carry_lifted (with_world u) Stays c.effects staying.effects; unix = staying.state }
+
+    staying_grown_by : (o : Option Comes) → MatchOption o ⊤ (IsStaying ts k) → AreStaying (grown_by u s o)
+    staying_grown_by None staying = staying_signals u SIGSEG h
+    staying_grown_by (Some c) staying = staying_grows c staying
+
+  -- A signal is delivered: it is caught, or the process ends and leaves its text.
+  module _ (u : Unix) (h : Stays u) where
+    staying_catches : (sig : ℕ) → AreStaying (catches u s sig)
+    staying_catches sig =
+        let sp : ℕ = signal_stack (process_of u s).u in
+        let c : Comes = grown_or_not (world_of u) s (grow (world_of u) s sp) in
+        let grown : AreStaying (grows u c) = staying_grows u h c (staying_grown ts k s (world_of u) sp h) in
+        record { effects = grown.effects; unix = grown.unix }
+
+    staying_ends_by : (sig : ℕ) → AreStaying (ends_by u s sig)
+    staying_ends_by sig =
+        let core : Did = core_file (handed_of u (process_of u s)) u.clock.time in
+        staying_if (makes_core sig) _ _
+        (staying_exits (with_handed u s core.state) h (signal_status u s sig + (if is_written core.answer then dumped else 0)))
+        (staying_exits u h (signal_status u s sig))
+
+  staying_delivers : (u : Unix) → Stays u → (o : Option ℕ) → AreStaying (delivers_if u s o)
+  staying_delivers u h None = staying_quiet u ending.Trapped h
+  staying_delivers u h (Some sig) =
+      staying_if (handler_of (process_of u s).u sig == 0) _ _ (staying_ends_by (heeds u s) h sig)
+      (staying_catches (heeds u s) h sig)
+
+  staying_due : (u : Unix) → Stays u → AreStaying (delivers_due u s)
+  unfolding delivers_due
+  staying_due u h = staying_delivers u h (due (process_of u s).row (process_of u s).u)
+
+  -- The turn ends.
+  after_ends : (b : Board) (steps : Steps) (e : Ending) → StaysAfter b steps → StaysAfter b (ends_by_ending s steps e)
+  after_ends b steps ending.Next begun = begun
+  after_ends b steps ending.Trapped begun =
+      let next : Steps = delivers_due steps.unix s in
+      leaves_then Stays k b steps.effects next.effects steps.unix next.unix begun (λ h.
+      let due : AreStaying next = staying_due steps.unix h in (due.effects, due.unix))
+  after_ends b steps (ending.Slept pri chan) begun = begun
+  after_ends b steps ending.Ended begun = begun
+  after_ends b steps (ending.Panic kind) begun = begun
 
   module _ (b : Board) where
     abbrev IsIn : Unix → Type 0
@@ -154,47 +224,56 @@ module _ (ts : List (Option Text)) (k s : ℕ) where
       after_row : (call : ProcessCall) (args : List ℕ) → StaysAfter b (came_by u s (process_row call (world_of u) s args))
       after_row process.Exec a =
           let c : Comes = process_row process.Exec (world_of u) s a in
-          let steps : Steps = came_by u s c in
-          exec_goes ts k s u b (world_of u) _ _ is (end_effects s steps.ending) steps.unix (carry_end Stays s steps.ending)
-          (answered_texts (with_world u c.state) c.answer)
+          let now : Unix = with_world u c.state in
+          exec_goes ts k s u b (world_of u) _ _ is (answers now s c.answer).effects (answers now s c.answer).unix
+          (carry_answers now c.answer) (answered_texts now c.answer)
       after_row process.Break a =
           after_steps b _ (staying_came u is.stays _ (staying_break ts k s (world_of u) _ is.stays))
+      after_row process.Kill a =
+          after_steps b _ (staying_came u is.stays _ (staying_kill ts k s (world_of u) _ is.stays))
       after_row call a =
           after_steps b _ (staying_came u is.stays _
           (staying_plain ts k s (world_of u) _ (plain_row call tt s (world_of u) a) is.stays))
+
+      after_refused : (n : ℕ) → StaysAfter b (refuses u s n)
+      after_refused n = after_steps b _
+          (staying_if (nat_lt n 100) _ _ (staying_quiet (with_area u s (refused_area n)) ending.Trapped is.stays)
+          (staying_signals u SIGSYS is.stays))
 
       after_call : (call : SystemCall) (args : List ℕ) → StaysAfter b (does_call u s call args)
       after_call Indirect a = after_steps b _ (staying_quiet u ending.Trapped is.stays)
       after_call Exit a = after_steps b _ (staying_exits u is.stays (exit_status (process_of u s)))
       after_call Fork a = after_steps b _ (staying_forks u is.stays)
+      after_call Unknown a = after_refused (error_number ENOSYS)
       after_call (OnFiles call) a =
-          after_steps b _ (staying_did u is.stays (file_row call (handed_of u (process_of u s)) a u.clock.time))
+          after_steps b _ (staying_did u is.stays (file_row call (handed_of u (process_of u s)) s a u.clock.time))
       after_call (OnProcesses call) a = after_row call a
 
     module _ (u : Unix) (is : IsIn u) where
-      after_built : (a : Asked) (o : Option Sysent) → StaysAfter b (does_if_built u s a o)
-      after_built a None = after_steps b _ (staying_quiet u ending.NotBuilt is.stays)
-      after_built a (Some entry) =
+      after_asked : (a : Asked) (entry : Sysent) → StaysAfter b (does_asked u s a entry)
+      after_asked a entry =
           after_call (with_area u s (entered_area (words_passed a entry.count))) (put_in u _ is) entry.call a.args
 
-      nothing_built : StaysAfter b (not_built u)
-      nothing_built = after_steps b _ (staying_quiet u ending.NotBuilt is.stays)
+      after_signal : (n : ℕ) → StaysAfter b (signals u s n)
+      after_signal n = after_steps b _ (staying_signals u n is.stays)
 
       after_fault : (kind : Kind) → StaysAfter b (faults u s kind)
-      after_fault kind.Odd = nothing_built
+      after_fault kind.Odd = after_signal SIGBUS
       after_fault (kind.Segment sp) =
-          after_steps b _ (staying_grown u is.stays (grow (world_of u) s sp) (staying_grow ts k s (world_of u) sp is.stays))
-      after_fault (kind.Illegal word) = nothing_built
-      after_fault kind.Bpt = nothing_built
-      after_fault kind.Iot = nothing_built
-      after_fault kind.Emt = nothing_built
+          after_steps b _ (staying_grown_by u is.stays (grow (world_of u) s sp) (staying_grow ts k s (world_of u) sp is.stays))
+      after_fault (kind.Illegal word) =
+          after_steps b _
+          (staying_if (passes_setd u s word) _ _ (staying_quiet u ending.Trapped is.stays) (staying_signals u SIGINS is.stays))
+      after_fault kind.Bpt = after_signal SIGTRC
+      after_fault kind.Iot = after_signal SIGIOT
+      after_fault kind.Emt = after_signal SIGEMT
 
       after_outcome : (o : Outcome) → StaysAfter b (comes_to u s o)
       after_outcome Next = after_steps b _ (staying_quiet u ending.Next is.stays)
       after_outcome (Call number) =
           let p : Process = process_of u s in
           let a : Asked = asked (image_of u.texts p) (register p 7) number in
-          after_built a (sysent_of a.number)
+          after_asked a (sysent_of a.number)
       after_outcome (Fault kind) = after_fault kind
 
     module _ (u : Unix) (is : IsIn u) where
@@ -210,12 +289,9 @@ module _ (ts : List (Option Text)) (k s : ℕ) where
 
       after_resumed : StaysAfter b (resumed u s)
       after_resumed =
-          let pending = (process_of u s).u.pending in
-          after_if (pending == pending_read) _ _
-          (after_steps b _ (staying_did u is.stays (resume_read (handed_of u (process_of u s)))))
-          (after_if ((pending == pending_sleep) || (pending == pending_wait)) _ _
+          after_if (is_on_files (process_of u s).u.pending) _ _
+          (after_steps b _ (staying_did u is.stays (resumes (handed_of u (process_of u s)) s u.clock.time)))
           (after_steps b _ (staying_came u is.stays (resume_proc (world_of u) s) (staying_resume ts k s (world_of u) is.stays)))
-          (nothing_built u is))
 
 -- What happens in an event, before the kernel settles.
 module _ (m : System) (k : ℕ) where
@@ -227,8 +303,15 @@ module _ (m : System) (k : ℕ) where
 
   stays_turn : (s : ℕ) → IsAt before k s m.board before m.unix.processes
       → list_any (is_made_by k) (turn_of m s (turn m s)).log.items ≡ false → HasStayed (turn_of m s (turn m s)).unix
-  stays_turn s is = after_if before k s m.board m.unix is (is_user (process_of m.unix s)) _ _
-      (after_instruction before k s m.board m.unix is) (after_resumed before k s m.board m.unix is)
+  stays_turn s is =
+      let u : Unix = m.unix in
+      let begun : Leaves HasStayed k m.board (begins_turn m s).effects (begins_turn m s).unix =
+      after_if before k s m.board u is (is_user (process_of u s)) _ _
+      (after_instruction before k s m.board u is) (after_resumed before k s m.board u is) in
+      let done : Steps = turn m s in
+      leaves_then HasStayed k m.board done.effects (end_effects s done.ending) done.unix done.unix
+      (after_ends before k s m.board (begins_turn m s) (begins_turn m s).ending begun)
+      (λ h. (carry_end HasStayed s done.ending, h))
 
   -- a pass of the swapper changes no text
   stays_pass : HasStayed (pass_of m).unix
@@ -257,18 +340,44 @@ module _ (m : System) (k : ℕ) where
       by true = refl
       by false = refl
 
+  stays_ticked : HasStayed (ticked m)
+  stays_ticked = subst (λ l. TextStays before l k) (sym (charged_texts (mode_of m) m.board.table.running)) (stays_same before k)
+
+  staying_tick : AllCarry HasStayed (tick_delivery m).effects × HasStayed (tick_delivery m).unix
+  staying_tick = by (is_as_trap m) m.board.table.running
+    where
+      by : (b : Bool) (o : Option ℕ) → AllCarry HasStayed (if b then delivers_to (ticked m) o else returns (ticked m)).effects
+          × HasStayed (if b then delivers_to (ticked m) o else returns (ticked m)).unix
+      by false o = (tt, stays_ticked)
+      by true None = (tt, stays_ticked)
+      by true (Some s) =
+          let h : AreStaying before k s (delivers_due (ticked m) s) = staying_due before k s (ticked m) stays_ticked in
+          (h.effects, h.unix)
+
   stays_tick : HasStayed (tick_of m).unix
-  stays_tick = left_carried HasStayed m.board (Show (Log (tick_entry (mode_of m))) ∷ wakes (is_due m.unix.clock) Tout) (ticked m)
-      (tt, carry_wakes HasStayed (is_due m.unix.clock) Tout)
-      (subst (λ l. TextStays before l k) (sym (charged_texts (mode_of m) m.board.table.running)) (stays_same before k))
+  stays_tick =
+      let s : Steps = tick_delivery m in
+      left_carried HasStayed m.board (tick_effects m ++ s.effects) s.unix
+      (carry_both HasStayed (tick_effects m) s.effects (carry_tick HasStayed m) staying_tick.0) staying_tick.1
+
+  -- a key that sends a signal
+  stays_key : (key : Keyed) (u : Unix) → u.texts ≡ before → HasStayed (with_key key u)
+  stays_key key u same = subst (λ l. TextStays before l k) (sym (by key ∙ same)) (stays_same before k)
+    where
+      by : (key : Keyed) → (with_key key u).texts ≡ u.texts
+      by Nothing = refl
+      by Ready = refl
+      by Flushed = refl
+      by (Signal n) = refl
 
   stays_typed : (byte : ℕ) → HasStayed (typed_of m byte).unix
   stays_typed byte =
       let t : Typed = typed m.unix.line byte in
-      left_carried HasStayed m.board (map Show (sent 0 t.shown) ++ wakes (calls t.keyed) Keys)
-      (record m.unix { line = t.terminal })
-      (carry_both HasStayed (map Show (sent 0 t.shown)) (wakes (calls t.keyed) Keys) (carry_shown HasStayed (sent 0 t.shown))
-      (carry_wakes HasStayed (calls t.keyed) Keys)) (stays_same before k)
+      let shown : List Item = sent 0 t.shown ++ key_lines t.keyed m.unix in
+      left_carried HasStayed m.board (map Show shown ++ wakes (calls t.keyed) Keys)
+      (with_key t.keyed (record m.unix { line = t.terminal }))
+      (carry_both HasStayed (map Show shown) (wakes (calls t.keyed) Keys) (carry_shown HasStayed shown)
+      (carry_wakes HasStayed (calls t.keyed) Keys)) (stays_key t.keyed (record m.unix { line = t.terminal }) refl)
 
 -- Settling adds lines and leaves the Unix as it is.
 settled_items : (h : Happened) (test : Item → Bool) → list_any test (settled_after h).items ≡ false
@@ -294,10 +403,11 @@ slot_stays m are k none =
 
 -- a tick, a key and the switches.
 pub tick_stays : (m : System) → AllTextsStay m (event_of Tick m).next
-tick_stays m k = stays_tick m k
+tick_stays m k = subst (λ (u : Unix). TextStays m.unix.texts u.texts k) (sym (settled_unix (tick_of m))) (stays_tick m k)
 
 pub typed_stays : (m : System) (byte : ℕ) → AllTextsStay m (event_of (Byte byte) m).next
-typed_stays m byte k = stays_typed m k byte
+typed_stays m byte k =
+    subst (λ (u : Unix). TextStays m.unix.texts u.texts k) (sym (settled_unix (typed_of m byte))) (stays_typed m k byte)
 
 pub switched_stays : (m : System) (word : ℕ) → AllTextsStay m (event_of (Switch word) m).next
 switched_stays m word k = stays_same m.unix.texts k

@@ -1,25 +1,27 @@
 -- The calls on processes but for exec: each leaves the texts that are shared, for more or fewer users.
-use Rattle.std.proofs.Common.{◌≡◌, ℕ, Bool, true, false, if◌then◌else◌, List, get_or, set, Option, Some, None, refl, sym, subst}
+use Rattle.std.proofs.Common.{◌≡◌, ℕ, Bool, true, false, ◌==◌, if◌then◌else◌, List, [], length, get_or, set, map, Option, Some, None, refl, sym, subst}
 use Rattle.std.specs.Prelude.{⊤, MatchOption}
 use Rattle.std.specs.Option.{option_map}
 use Rattle.v6_base.specs.declared.answer.Answer.{Answer}
 use Rattle.v6_base.specs.declared.entry.Entry.{Entry}
 use Rattle.v6_base.specs.declared.entry.Entry.TheVariants as line
+use Rattle.pick_rules.specs.Effects.{Show}
 use Rattle.proc_tab.specs.Processes.{lowest}
 use Rattle.seg_regs.specs.Sizes.{is_refused}
 use Rattle.sys_procs.specs.Process.{Process}
 use Rattle.sys_procs.specs.World.{World, process_of, change, without_process, members, let_go}
 use Rattle.sys_procs.specs.Comes.{Comes, comes, logs}
 use Rattle.sys_procs.specs.Times.{with_time}
-use Rattle.sys_procs.specs.Break.{break_at, grow, grown_stack, clicks_up_to, expands}
+use Rattle.sys_procs.specs.Break.{break_at, grow, grown_stack, grown_or_not, clicks_up_to, expands}
 use Rattle.sys_procs.specs.Fork.{fork_one, fork_into, past_word}
 use Rattle.sys_procs.specs.Exit.{end_proc, leaves, dies}
 use Rattle.sys_procs.specs.Resume.{resume_proc, awake}
+use Rattle.sys_procs.specs.Signals.{signal_lines, meant_in, is_reached, kill_to}
 use Rattle.sys_procs.specs.TextTable.{Text, text_of}
 use Rattle.sys_procs.specs.Texts.{goes, remaining, without_text, leaves_text, is_sticky, xfree}
 use Rattle.abstract_unix.specs.Shared.{TextStays}
 use Rattle.abstract_unix.proofs.ProcessRows.{Plain, gives, refuses, waits, changes, due, nice, wakes, dated, buries, resume_plain}
-use Rattle.unix_core.proofs.PrivateSlots.{AllCarry}
+use Rattle.unix_core.proofs.PrivateSlots.{AllCarry, carry_shown, carry_both}
 use Rattle.unix_core.proofs.StayingTexts.{stays_then, stays_child, stays_left}
 
 -- A call has left the text of an entry, and so had its parts before each effect.
@@ -133,3 +135,22 @@ module _ (ts : List (Option Text)) (k s : ℕ) where
   staying_grow w sp h =
       let p : Process = process_of w s in
       staying_stack w p.u.data_size (grown_stack p.u.text_size p.u.data_size p.u.stack_size w.limit sp) h
+
+  -- where it grows, and where it doesn't
+  pub staying_grown : (w : World) (sp : ℕ) → StaysIn w → IsStaying ts k (grown_or_not w s (grow w s sp))
+  staying_grown w sp h = by (grow w s sp) (staying_grow w sp h)
+    where
+      by : (o : Option Comes) → MatchOption o ⊤ IsStayingCall → IsStaying ts k (grown_or_not w s o)
+      by None grown = staying_comes w _ h
+      by (Some c) grown = grown
+
+  -- kill changes no text
+  pub staying_kill : (w : World) (n : ℕ) → StaysIn w → IsStaying ts k (kill_to w s n)
+  unfolding kill_to
+  staying_kill w n h =
+      let slots : List ℕ = meant_in (is_reached s (process_of w s)) w.processes in
+      staying_if (length slots == 0) _ _ (staying_comes w _ h)
+      (record {
+        effects = carry_both StaysIn (map Show (signal_lines n slots)) [] (carry_shown StaysIn (signal_lines n slots)) tt;
+        state = h;
+      })

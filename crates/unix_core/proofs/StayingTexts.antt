@@ -1,8 +1,9 @@
 -- What a change of the table of texts leaves in an entry, and what effects leave that make no text there.
-use Rattle.std.proofs.Common.{◌≡◌, ◌≢◌, ◌≤◌, ◌||◌, ◌==◌, ◌+◌, ◌-◌, ◌∙◌, ℕ, Bool, true, false, cond, List, [], ◌∷◌, length, get_or, set, fold, Option, Some, None, option_map, refl, sym, ap, subst, inl, inr}
+use Rattle.std.proofs.Common.{◌≡◌, ◌≢◌, ◌≤◌, ◌||◌, ◌==◌, ◌+◌, ◌-◌, ◌∙◌, ℕ, Bool, true, false, cond, List, [], ◌∷◌, ◌++◌, length, get_or, set, fold, Option, Some, None, option_map, refl, sym, ap, subst, inl, inr}
 use Rattle.std.specs.List.{list_any}
 use Rattle.std.proofs.lemmas.Bool.{cases_eq, cases_lt, eq-eqb}
 use Rattle.std.proofs.lemmas.List.{get_or-set_same, get_or-set_other, get_or_past, length-set}
+use Rattle.std.proofs.lemmas.List.Folds.{list_any-append}
 use Rattle.v6_base.specs.Trace.{Log}
 use Rattle.v6_base.specs.declared.entry.Entry.{Entry}
 use Rattle.v6_base.specs.declared.entry.Entry.TheVariants as line
@@ -11,12 +12,12 @@ use Rattle.v6_base.specs.declared.entry.PanicKind.TheVariants as panic
 use Rattle.pick_rules.specs.Board.{Board, blocks, swap_fit, free_text}
 use Rattle.pick_rules.specs.Apply.{applied}
 use Rattle.pick_rules.specs.Effects.{Effect, Show, Text, new_text_at, came}
-use Rattle.pick_rules.specs.Logged.{Logged, logged, log_one, left_by, nothing_logged, with_what_came}
+use Rattle.pick_rules.specs.Logged.{Logged, Stop, logged, log_one, left_by, nothing_logged, with_what_came}
 use Rattle.pick_rules.proofs.Stopping.{stays_stopped}
 use Rattle.sys_procs.specs.TextTable as its
 use Rattle.sys_procs.specs.Texts.{joined, with_user, joined_by_child, goes, remaining}
 use Rattle.abstract_unix.specs.Shared.{WasThere, TextStays, is_made_by}
-use Rattle.unix_core.proofs.LoggedLemmas.{after_items, logged_after}
+use Rattle.unix_core.proofs.LoggedLemmas.{after_items, logged_after, logged_then, logged_halted}
 use Rattle.unix_core.proofs.PrivateSlots.{AllCarry, left_carried}
 
 abbrev Table : Type 0
@@ -104,6 +105,22 @@ module _ {W : Type 0} (P : W → Type 0) (k : ℕ) where
 
   pub leaves_carried : (b : Board) (es : List (Effect W)) (after : W) → AllCarry P es → P after → Leaves b es after
   leaves_carried b es after h now none = left_carried P b es after h now
+
+  -- some effects, and then others, which carry the fact where the first ones have left it
+  pub leaves_then : (b : Board) (es more : List (Effect W)) (between after : W) → Leaves b es between
+      → (P between → AllCarry P more × P after) → Leaves b (es ++ more) after
+  leaves_then b es more between after first rest = by (logged b es).stop refl
+    where
+      by : (o : Option (Stop W)) → (logged b es).stop ≡ o → Leaves b (es ++ more) after
+      by None none = subst (λ (l : Logged W). LeavesIn l after) (sym (logged_then b es more none)) (λ made.
+          let now : Board = (logged b es).board in
+          let early = first_false (list_any (is_made_by k) (logged b es).items) (list_any (is_made_by k) (logged now more).items)
+              (sym (list_any-append (is_made_by k) (logged b es).items (logged now more).items) ∙ made) in
+          let others = rest (subst (λ (o : Option (Stop W)). P (left_by o between)) none (first early)) in
+          left_carried P now more after others.0 others.1)
+      by (Some stop) some = subst (λ (l : Logged W). LeavesIn l after) (sym (logged_halted b es more stop some)) (λ made.
+          subst (λ (o : Option (Stop W)). P (left_by o after)) (sym some)
+          (subst (λ (o : Option (Stop W)). P (left_by o between)) some (first made)))
 
   line_is : (b : Board) (e : Entry) (es : List (Effect W))
       → logged b (Show (Log e) ∷ es) ≡ after_items (Log e ∷ []) (logged (applied b e) es)

@@ -13,7 +13,7 @@ use Rattle.unix_core.specs.Parts.{system_at, phase_of, HasStepped, IsKernel, IsP
 use Rattle.unix_core.proofs.MachineLemmas.{runs_kernel}
 use Rattle.unix_core.proofs.TurnSteps.{has_stepped, stepped_user, user_slot, quiet_system, plain_answer, plain_goes, plain_next, plain_items}
 use Rattle.abstract_unix.specs.Private.{OthersUndisturbed}
-use Rattle.unix_core.proofs.PrivateLemmas.{slot_private}
+use Rattle.unix_core.proofs.PrivateLemmas.{fifty_slots, slot_private}
 use Rattle.unix_core.proofs.StayingLemmas.{turned_stays}
 use Rattle.unix_core.proofs.IdleLemmas.{idle_nobody}
 use Rattle.unix_core.proofs.kernel.Kernel.turn.Goals as goal
@@ -66,7 +66,8 @@ returns-in-Next-clause-next g c =
 pub returns-in-Next-clause-private : goal.returns-in-Next-clause-private
 returns-in-Next-clause-private g c =
     let was : System = c.args.self.now.system in
-    subst (λ (n : System). OthersUndisturbed was n) (sym (returns-in-Next-clause-next g c)) (slot_private was)
+    let fifty = fifty_slots c.self.inside.machine.world was (ap (λ (x : KernelState). x.system) c.self.view_is) in
+    subst (λ (n : System). OthersUndisturbed was n) (sym (returns-in-Next-clause-next g c)) (slot_private was fifty)
 
 pub returns-in-Next-clause-texts : goal.returns-in-Next-clause-texts
 returns-in-Next-clause-texts g c =
@@ -119,7 +120,7 @@ returns-in_default g c =
       phase = takes.phase ∙ ap (λ (t : Turn). phase_after t.ending) slot;
       idle = idle_nobody c.self.inside.machine.stage w (ap (λ (x : KernelState). x.phase) c.self.view_is ∙ c.requires) c.self.invariant was same _ answer;
       next = next;
-      private = subst (λ (n : System). OthersUndisturbed was n) (sym next) (slot_private was);
+      private = subst (λ (n : System). OthersUndisturbed was n) (sym next) (slot_private was (fifty_slots w was same));
       texts = turned_stays c.self.inside.machine.stage w (ap (λ (x : KernelState). x.phase) c.self.view_is ∙ c.requires)
           c.self.invariant c.see_kept.ensures was _ same next;
       rest = subst (λ b. SameRest b after.new.self.world.files.tree.nodes.blocks) (ap (λ (x : KernelState). x.blocks) c.self.view_is) after.ensures.rest;
@@ -142,7 +143,8 @@ returns-in-Resting g c =
       phase = other.ensures.takes.phase ∙ ap (λ (t : Turn). phase_after t.ending) same;
       idle = idle_nobody m.stage m.world (ap phase_of c.in-Resting.is) c.self.invariant was (ap (λ (x : KernelState). x.system) c.self.view_is) _ answer;
       next = next;
-      private = subst (λ (n : System). OthersUndisturbed was n) (sym next) (slot_private was);
+      private = subst (λ (n : System). OthersUndisturbed was n) (sym next)
+          (slot_private was (fifty_slots m.world was (ap (λ (x : KernelState). x.system) c.self.view_is)));
       texts = turned_stays m.stage m.world (ap (λ (x : KernelState). x.phase) c.self.view_is ∙ c.requires) c.self.invariant
           c.see_kept.ensures was _ (ap (λ (x : KernelState). x.system) c.self.view_is) next;
       rest = subst (λ b. SameRest b other.new.self.world.files.tree.nodes.blocks) (ap (λ (x : KernelState). x.blocks) c.self.view_is) other.ensures.rest;

@@ -5,7 +5,7 @@ use Rattle.unix_core.specs.State.{KernelState}
 use Rattle.abstract_unix.specs.Turn.{settled_after}
 use Rattle.abstract_unix.specs.Outside.{typed_of}
 use Rattle.abstract_unix.specs.Private.{AllUndisturbed}
-use Rattle.unix_core.proofs.PrivateLemmas.{typed_private}
+use Rattle.unix_core.proofs.PrivateLemmas.{fifty_slots, typed_private}
 use Rattle.abstract_unix.specs.Shared.{AllTextsStay}
 use Rattle.unix_core.proofs.StayingLemmas.{typed_stays}
 use Rattle.unix_core.proofs.kernel.Kernel.typed.Goals as goal
@@ -22,7 +22,8 @@ returns-clause-next g c = c.typed.ensures.takes.system ∙ ap (λ (k : KernelSta
 pub returns-clause-private : goal.returns-clause-private
 returns-clause-private g c =
     let m : System = c.args.self.now.system in
-    subst (λ (n : System). AllUndisturbed m n) (sym (returns-clause-next g c)) (typed_private m c.args.b)
+    let fifty = fifty_slots c.self.inside.machine.world m (ap (λ (v : KernelState). v.system) c.self.view_is) in
+    subst (λ (n : System). AllUndisturbed m n) (sym (returns-clause-next g c)) (typed_private m fifty c.args.b)
 
 pub returns-clause-texts : goal.returns-clause-texts
 returns-clause-texts g c =
