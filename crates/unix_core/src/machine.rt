@@ -114,7 +114,7 @@ fn calls(keyed: Keyed) -> bool
 
 /// What a turn came to that ended so.
 fn turned(ending: Ending) -> Turned
-    ensures { result ≡ turned_by (ending_of ending) false }
+    ensures answer { result ≡ turned_by (ending_of ending) false }
     ensures goes { result ≡ Turned.Ran → ending_of ending ≡ AtEnd }
     ensures stops { result ≢ Turned.Ran → is_early (ending_of ending) ≡ true }
 {
