@@ -1,5 +1,5 @@
 -- What the writing of the file `core` keeps: all that a change of inodes keeps. It never sleeps.
-use Rattle.std.proofs.Common.{◌==◌, ◌+◌, ℕ, Bool, true, false, cond, List, length, Result, Ok, Err}
+use Rattle.std.proofs.Common.{◌≡◌, refl, ◌==◌, ◌+◌, ℕ, Bool, true, false, cond, List, length, Result, Ok, Err}
 use Rattle.v6_base.specs.declared.answer.Answer.{Answer}
 use Rattle.v6_base.specs.declared.answer.Answer.TheVariants.{Ret, Fail, Sleep}
 use Rattle.v6_base.specs.declared.errno.Errno.{Errno}
@@ -15,6 +15,7 @@ use Rattle.sys_files.specs.Handed.{Handed, r0, node_at, user_of, with_inodes, le
 use Rattle.sys_files.specs.Did.{Did, fails, is_done, check, must, until_end, then_named, by_made}
 use Rattle.sys_files.specs.Making.{new_in, entry_written, writes_entry, with_links, enters_new, makes_node, with_no_blocks}
 use Rattle.sys_files.specs.Core.{core_name, is_plain, writes_parts, writes_over, writes_new, writes_named, core_file}
+use Rattle.sys_files.proofs.Walks.{put_back_count, making_count, numbered_count, truncated_count}
 
 -- a call that is done or refused
 abbrev pub IsOver : Answer → Type 0
@@ -26,23 +27,23 @@ pub record OverWith (P : Handed → Type 0) (d : Did) : Type 0 where
   pub state : P d.state
   pub over : IsOver d.answer
 
-module _ (P : Handed → Type 0) (keeps : (h : Handed) (inodes : Inodes) → P h → P (with_inodes h inodes)) where
+module _ (P : Handed → Type 0) (keeps : (h : Handed) (inodes : Inodes) → inodes.store.count ≡ h.inodes.store.count → P h → P (with_inodes h inodes)) where
   checks : {A : Type 0} (h : Handed) (test : Result A Errno) (next : A → Did) → P h → ((a : A) → OverWith P (next a)) → OverWith P (check h test next)
   checks h (Ok a) next p goes = goes a
   checks h (Err e) next p goes = record { state = p; over = tt }
 
-  named : {A : Type 0} (h : Handed) (found : Finding A) (next : Handed → A → Did) → P h
+  named : {A : Type 0} (h : Handed) (found : Finding A) (next : Handed → A → Did) → found.inodes.store.count ≡ h.inodes.store.count → P h
       → ((now : Handed) (a : A) → P now → OverWith P (next now a)) → OverWith P (then_named h found next)
-  named h found next p goes =
-      let now : P (with_inodes h found.inodes) = keeps h found.inodes p in
+  named h found next same p goes =
+      let now : P (with_inodes h found.inodes) = keeps h found.inodes same p in
       checks (with_inodes h found.inodes) found.answer (next (with_inodes h found.inodes)) now (λ a. goes (with_inodes h found.inodes) a now)
 
   lets_go : (ino : ℕ) (d : Did) → OverWith P d → OverWith P (until_end ino d)
-  lets_go ino d k = record { state = keeps d.state (let_go d.state ino).inodes k.state; over = k.over }
+  lets_go ino d k = record { state = keeps d.state (let_go d.state ino).inodes (put_back_count d.state.inodes ino) k.state; over = k.over }
 
   writes : (h : Handed) (dir offset : ℕ) (bytes : List ℕ) (now : ℕ) (next : Handed → Did) → P h → ((l : Handed) → P l → OverWith P (next l))
       → OverWith P (writes_entry h dir offset bytes now next)
-  writes h dir offset bytes now next p goes = named h (entry_written h.inodes dir offset bytes now) (λ l done. next l) p (λ l done q. goes l q)
+  writes h dir offset bytes now next p goes = named h (entry_written h.inodes dir offset bytes now) (λ l done. next l) refl p (λ l done q. goes l q)
 
   parts : (now : ℕ) (h : Handed) (ino : ℕ) → P h → OverWith P (writes_parts now h ino)
   parts now h ino p =
@@ -56,14 +57,14 @@ module _ (P : Handed → Type 0) (keeps : (h : Handed) (inodes : Inodes) → P h
   over_file now h ino p =
       checks h (must EACCES (is_plain (node_at h ino).mode)) _ p (λ plain.
       checks h (access h.marks ino (node_at h ino) (user_of h.u) Write) _ p (λ may.
-      parts now (with_no_blocks h ino now) ino (keeps h (with_no_blocks h ino now).inodes p)))
+      parts now (with_no_blocks h ino now) ino (keeps h (with_no_blocks h ino now).inodes (truncated_count h.inodes ino now) p)))
 
   new_file : (now : ℕ) (h : Handed) (dir offset : ℕ) (name : List ℕ) → P h → OverWith P (writes_new now h dir offset name)
   new_file now h dir offset name p =
-      named h (new_in h.inodes 0o666 (user_of h.u) now) _ p (λ l ino q.
+      named h (new_in h.inodes 0o666 (user_of h.u) now) _ (numbered_count h.inodes 0o666 (user_of h.u) now _ _) p (λ l ino q.
       lets_go ino (enters_new l dir offset name ino now (writes_parts now))
       (writes l dir offset _ now (λ m. writes_parts now (with_links m ino 1 now) ino) q (λ m r.
-      parts now (with_links m ino 1 now) ino (keeps m (with_links m ino 1 now).inodes r))))
+      parts now (with_links m ino 1 now) ino (keeps m (with_links m ino 1 now).inodes refl r))))
 
   made_so : (now : ℕ) (h : Handed) (answer : Made) → P h → OverWith P (by_made (writes_over now) (writes_new now) h answer)
   made_so now h (made.Found ino) p = lets_go ino (writes_over now h ino) (over_file now h ino p)
@@ -75,6 +76,6 @@ module _ (P : Handed → Type 0) (keeps : (h : Handed) (inodes : Inodes) → P h
     where
       by : (b : Bool) → OverWith P (cond b (writes_named now h) (fails h EPERM))
       by true =
-          named h (make_in h.inodes h.marks (user_of h.u) h.u.dir core_name) (by_made (writes_over now) (writes_new now)) p
+          named h (make_in h.inodes h.marks (user_of h.u) h.u.dir core_name) (by_made (writes_over now) (writes_new now)) (making_count h.inodes _) p
           (λ l answer q. made_so now l answer q)
       by false = record { state = p; over = tt }

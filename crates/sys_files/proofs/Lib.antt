@@ -30,5 +30,6 @@ pub mod CreatingLemmas
 pub mod Bounds
 pub mod Lengths
 pub mod Walks
+pub mod Counting
 pub mod Steady
 pub mod CoreLemmas
