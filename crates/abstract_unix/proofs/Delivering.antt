@@ -28,7 +28,7 @@ use Rattle.abstract_unix.specs.Delivery.{heeding, heeds, interrupted, calls_rout
 use Rattle.abstract_unix.specs.Turn.{end_effects}
 use Rattle.abstract_unix.proofs.Sitting.{seats_of, runner_alive, kept_in}
 use Rattle.abstract_unix.proofs.Steps.{GoesOn, IsCalm, AptSteps, Begun, AptBegun, ends_in, returns_apt}
-use Rattle.abstract_unix.proofs.Quiet.{SameCall, same_call}
+use Rattle.abstract_unix.proofs.Quiet.{same_call, HasNumbers, InCalm, other_inodes}
 use Rattle.abstract_unix.proofs.Rows.{Calling}
 use Rattle.abstract_unix.proofs.Exiting.{handed_in, no_pending, exits_apt}
 use Rattle.abstract_unix.proofs.Executing.{grown_or_not_apt}
@@ -50,24 +50,26 @@ same_pending u sig image = by (handler_of u sig == 0)
 
 module _ (s : ℕ) (seen : Seen) where
   -- with a file `core` or without one
-  pub core_ends : (u : Unix) (sig : ℕ) → Calling s (world_of u) seen
+  pub core_ends : (u : Unix) (sig : ℕ) → HasNumbers (handed_of u (process_of u s)) → Calling s (world_of u) seen
       → AptSteps s seen (ends_after u s sig (core_file (handed_of u (process_of u s)) u.clock.time))
-  core_ends u sig i =
+  core_ends u sig numbers i =
       exits_apt s (with_handed u s core.state) seen (signal_status u s sig + (if is_written core.answer then dumped else 0))
-      (handed_in s u seen false core.state 0 i kept.state.size (kept.state.pending ∙ no_pending s u seen i))
+      (record { count = kept.state.numbers.count; pipes = kept.state.numbers.pipes })
+      (handed_in s u seen false core.state 0 i kept.state.same.size (kept.state.same.pending ∙ no_pending s u seen i))
     where
       core : Did
       core = core_file (handed_of u (process_of u s)) u.clock.time
 
-      kept : OverWith (λ h. SameCall (process_of u s).u h.u) core
-      kept = core_keeps (λ h. SameCall (process_of u s).u h.u) (λ h inodes k. k) (handed_of u (process_of u s)) u.clock.time (same_call (process_of u s).u)
+      kept : OverWith (InCalm (process_of u s).u) core
+      kept = core_keeps (InCalm (process_of u s).u) (λ h inodes same k. record { same = k.same; numbers = other_inodes h inodes same k.numbers })
+          (handed_of u (process_of u s)) u.clock.time (record { same = same_call (process_of u s).u; numbers = numbers })
 
-  core_apt : (u : Unix) (sig : ℕ) → Calling s (world_of u) seen → AptBegun s seen (ends_by u s sig)
-  core_apt u sig i = by (makes_core sig)
+  core_apt : (u : Unix) (sig : ℕ) → HasNumbers (handed_of u (process_of u s)) → Calling s (world_of u) seen → AptBegun s seen (ends_by u s sig)
+  core_apt u sig numbers i = by (makes_core sig)
     where
       by : (b : Bool) → AptBegun s seen (cond b (ends_after u s sig (core_file (handed_of u (process_of u s)) u.clock.time)) (exits_with u s (signal_status u s sig)))
-      by true = record { begun = core_ends u sig i }
-      by false = record { begun = exits_apt s u seen (signal_status u s sig) i }
+      by true = record { begun = core_ends u sig numbers i }
+      by false = record { begun = exits_apt s u seen (signal_status u s sig) numbers i }
 
   -- the routine goes on where the stack has grown, or not
   pub routine_apt : (grown : Steps) (sig : ℕ) → grown.ending ≡ ending.Trapped → AptBegun s seen grown → AptBegun s seen (calls_routine s sig grown)
@@ -92,20 +94,20 @@ module _ (s : ℕ) (seen : Seen) where
   heeded u i = kept_in u.processes u.clock u.texts u.limit s false seen (heeding (process_of u s)) i refl refl refl refl
 
   -- what a delivery comes to is apt, with the line of a trap where its process goes on
-  delivers_apt : (u : Unix) (sig : ℕ) → Calling s (world_of u) seen → AptBegun s seen (delivers u s sig)
-  delivers_apt u sig i = by (handler_of (process_of u s).u sig == 0)
+  delivers_apt : (u : Unix) (sig : ℕ) → HasNumbers (handed_of u (process_of u s)) → Calling s (world_of u) seen → AptBegun s seen (delivers u s sig)
+  delivers_apt u sig numbers i = by (handler_of (process_of u s).u sig == 0)
     where
       by : (b : Bool) → AptBegun s seen (cond b (ends_by (heeds u s) s sig) (catches (heeds u s) s sig))
-      by true = core_apt (heeds u s) sig (heeded u i)
+      by true = core_apt (heeds u s) sig (record { count = numbers.count; pipes = numbers.pipes }) (heeded u i)
       by false = routine_apt _ sig refl (grown_or_not_apt s seen (heeds u s) (signal_stack (process_of (heeds u s) s).u) (heeded u i))
 
-  pub due_apt : (u : Unix) → Calling s (world_of u) seen → AptBegun s seen (delivers_due u s)
+  pub due_apt : (u : Unix) → HasNumbers (handed_of u (process_of u s)) → Calling s (world_of u) seen → AptBegun s seen (delivers_due u s)
   unfolding delivers_due
-  due_apt u i = by (due (process_of u s).row (process_of u s).u)
+  due_apt u numbers i = by (due (process_of u s).row (process_of u s).u)
     where
       by : (o : Option ℕ) → AptBegun s seen (delivers_if u s o)
       by None = returns_apt s seen u i
-      by (Some sig) = delivers_apt u sig i
+      by (Some sig) = delivers_apt u sig numbers i
 
 -- A delivery itself is no panic.
 if_calm : (b : Bool) (x y : Steps) → IsCalm x.ending → IsCalm y.ending → IsCalm (cond b x y).ending
@@ -133,11 +135,10 @@ trap_ends s seen steps a = by steps.ending a.begun
         (λ now i. trap_apt Unix s (seats_of steps.unix) now i))
     by (ending.Slept pri chan) b = b
     by ending.Ended b = b
-    by ending.NotBuilt b = b
     by (ending.Panic kind) b = b
 
-pub ended_apt : (s : ℕ) (seen : Seen) (steps : Steps) → AptBegun s seen steps → AptSteps s seen (ends_turn s steps)
-ended_apt s seen steps a = by steps.ending a.begun
+pub ended_apt : (s : ℕ) (seen : Seen) (steps : Steps) → HasNumbers (handed_of steps.unix (process_of steps.unix s)) → AptBegun s seen steps → AptSteps s seen (ends_turn s steps)
+ended_apt s seen steps numbers a = by steps.ending a.begun
   where
     next : Steps
     next = delivers_due steps.unix s
@@ -147,10 +148,9 @@ ended_apt s seen steps a = by steps.ending a.begun
     by ending.Trapped b = record {
       apt = subst (Apt {W = Unix} (GoesOn next.unix next.ending) seen) (sym (append_assoc steps.effects next.effects (end_effects s next.ending)))
           (apt_append (InCall s false (seats_of steps.unix)) (GoesOn next.unix next.ending) seen steps.effects (next.effects ++ end_effects s next.ending) b
-          (λ now i. (trap_ends s now next (due_apt s now steps.unix i)).apt));
+          (λ now i. (trap_ends s now next (due_apt s now steps.unix numbers i)).apt));
       calm = due_calm s steps.unix;
     }
     by (ending.Slept pri chan) b = b
     by ending.Ended b = b
-    by ending.NotBuilt b = b
     by (ending.Panic kind) b = b

@@ -76,7 +76,6 @@ event_goes c e f = by c.ending refl
 
     by : (o : run.Ends) → c.ending ≡ o → FineCourse (unless_ended o c e)
     by AtEnd n = further c (event_of e c.system) f.fit (at_lines (f.stands n))
-    by (ends.NotBuilt place) n = f
     by (ends.Panic kind) n = f
 
 course_fine : (events : List Event) (c : Course) → FineCourse c → FineCourse (course c events)
@@ -150,7 +149,6 @@ module _ (c : Course) (f : FineCourse c) where
       by : (o : run.Ends) → c.ending ≡ o → FitAll nothing_seen (entries_of (c.items ++ last_line o))
       by AtEnd e =
           fit_item nothing_seen c.items (Log line.End) f.fit (end_fits (seats_of c.system.unix) (seen_items nothing_seen c.items) (f.stands e).holds, tt)
-      by (ends.NotBuilt place) e = rw (append-nil c.items) f.fit
       by (ends.Panic kind) e = rw (append-nil c.items) f.fit
 
   log_ends : is_whole c.ending ≡ true → (seen_of (log_of c)).stage ≡ Over
@@ -158,7 +156,6 @@ module _ (c : Course) (f : FineCourse c) where
     where
       by : (o : run.Ends) → c.ending ≡ o → is_whole o ≡ true → (seen_of (entries_of (c.items ++ last_line o))).stage ≡ Over
       by AtEnd e whole = ap (λ s. s.stage) (seen_append nothing_seen c.items (Log line.End ∷ []))
-      by (ends.NotBuilt place) e whole = absurd (cc whole)
       by (ends.Panic kind) e whole = ap (λ items. (seen_of (entries_of items)).stage) (append-nil c.items) ∙ f.over kind e
 
   log_lawful : FitAll nothing_seen (log_of c) × (is_whole c.ending ≡ true → Lawful (log_of c))

@@ -22,3 +22,8 @@ pub mod Dying
 pub mod Moved
 pub mod Mild
 pub mod CallLemmas
+pub mod NeverWaiting
+pub mod PendingRows
+pub mod GoingOnLemmas
+pub mod WaitingRows
+pub mod GoingOnSteps

@@ -1,12 +1,13 @@
 -- Stores leave the sizes of an image, and so does what is read into it.
-use Rattle.std.proofs.Common.{◌+◌, ◌%◌, ◌==◌, ℕ, zero, suc, Bool, true, false, not, cond, List, [], ◌∷◌, length, min, Option, Some, None, Result, Ok, Err, if◌then◌else◌, refl, IfSome, IfOk}
+use Rattle.std.proofs.Common.{◌+◌, ◌%◌, ◌==◌, ◌≡◌, nat_lt, nat_le, ℕ, zero, suc, Bool, true, false, not, cond, List, [], ◌∷◌, length, min, Option, Some, None, Result, Ok, Err, if◌then◌else◌, refl, IfSome, IfOk}
 use Rattle.v6_base.specs.Image.{Image}
 use Rattle.v6_base.specs.Access.{store_byte, image_after}
 use Rattle.v6_base.specs.Copy.{then_store, store_bytes}
+use Rattle.v6_base.specs.declared.errno.Errno.{Errno}
 use Rattle.v6_base.specs.declared.space.Trap.{Trap}
 use Rattle.v6_base.proofs.Copies.{SameLengths, same_lengths, byte_lengths, bytes_lengths}
 use Rattle.fs_codec.specs.Modes.{is_device}
-use Rattle.fs_codec.specs.Store.{Node}
+use Rattle.fs_codec.specs.Store.{Node, Store}
 use Rattle.fs_laws.specs.Pieces.{Moving, going_on, reading, read_file, pieces, beginning}
 use Rattle.fs_nodes.specs.Copy.{put_into}
 use Rattle.tty_line.specs.Terminal.{Terminal}
@@ -14,6 +15,12 @@ use Rattle.tty_line.specs.declared.line.Took.TheVariants.{Wait}
 use Rattle.tty_line.specs.Canonical.{with_line}
 use Rattle.tty_line.specs.Reading as line
 use Rattle.tty_line.specs.Reading.{HandedOut, then_hands, hands_out, Reading, reads}
+use Rattle.pipe_ends.specs.declared.ends.Pipe.{Pipe}
+use Rattle.pipe_ends.specs.declared.ends.TheConstants.{PIPSIZ}
+use Rattle.pipe_ends.specs.Pipes.{pipe_file, begun_again}
+use Rattle.pipe_ends.specs.Reads as pipe
+use Rattle.pipe_ends.specs.Writes as writing
+use Rattle.pipe_ends.specs.Writes.{WriteCall, Writing, PipeWrite}
 use Rattle.sys_files.specs.Handed.{Handed, node_at, file_of}
 use Rattle.sys_files.specs.Moving.{read_of}
 
@@ -81,3 +88,56 @@ read_lengths h entry at count now =
     file_keeps (SameLengths h.image) (put_into at)
     (λ image n bytes kept. bytes_lengths h.image image (at + n) bytes kept) (node_at h (file_of h entry).ino)
     h.inodes.store.room h.image (file_of h entry).offset count now (same_lengths h.image)
+
+-- And a read of a pipe. It leaves the number of nodes, as a write of one does.
+pub pipe_lengths : (store : Store) (ends : ℕ) (p : Pipe) (image : Image) (at count time : ℕ) → SameLengths image (pipe.reads store ends p image at count time).image
+unfolding pipe.reads
+pipe_lengths store ends p image at count time = by (pipe.all_read store p)
+  where
+    by : (b : Bool) → SameLengths image (cond b (record {
+      store = begun_again store p;
+      image = image;
+      pipe = pipe.at_front ends p;
+      answer = pipe.told_of_nothing ends count;
+    }) (pipe.reads_some store p (pipe.read_of store p image at count time))).image
+    by true = same_lengths image
+    by false =
+        file_keeps (SameLengths image) (put_into at) (λ m n bytes kept. bytes_lengths image m (at + n) bytes kept) (pipe_file store p)
+        store.room image p.offset count time (same_lengths image)
+
+pub reads_count : (store : Store) (ends : ℕ) (p : Pipe) (image : Image) (at count time : ℕ) → (pipe.reads store ends p image at count time).store.count ≡ store.count
+unfolding pipe.reads
+reads_count store ends p image at count time = by (pipe.all_read store p)
+  where
+    by : (b : Bool) → (cond b (record {
+      store = begun_again store p;
+      image = image;
+      pipe = pipe.at_front ends p;
+      answer = pipe.told_of_nothing ends count;
+    }) (pipe.reads_some store p (pipe.read_of store p image at count time))).store.count ≡ store.count
+    by true = refl
+    by false = refl
+
+module _ (c : WriteCall) (all : ℕ) where
+  abbrev IsStill : PipeWrite → Type 0
+  IsStill w = w.store.count ≡ all
+
+  still : (b : Bool) (x y : PipeWrite) → IsStill x → IsStill y → IsStill (cond b x y)
+  still true x y p q = p
+  still false x y p q = q
+
+  still_by : (w : Writing) (e : Option Errno) (on : PipeWrite) → w.store.count ≡ all → IsStill on → IsStill (writing.unless_error w e on)
+  still_by w None on here p = p
+  still_by w (Some e) on here p = here
+
+  rounds_count : (fuel : ℕ) (w : Writing) → w.store.count ≡ all → IsStill (writing.rounds fuel c w)
+  rounds_count zero w here = here
+  rounds_count (suc more) w here =
+      still (w.left == 0) _ _ here (still (nat_lt c.ends 2) _ _ here (still (nat_le PIPSIZ (writing.size_in w)) _ _ here
+      (still_by (writing.appended w (writing.append_of c w)) (writing.append_of c w).error _ here
+      (rounds_count more (writing.appended w (writing.append_of c w)) here))))
+
+pub writes_count : (store : Store) (ends : ℕ) (p : Pipe) (image : Image) (at count time : ℕ) → (writing.writes store ends p image at count time).store.count ≡ store.count
+unfolding writing.writes
+writes_count store ends p image at count time =
+    rounds_count (writing.write_call ends image count time) store.count (suc count) (record { store = store; pipe = p; at = at; left = count }) refl
