@@ -66,7 +66,7 @@ fn does(w: &mut World, call: Call, told: Told) -> bool
 
 /// Whether the process waits in a pipe whose end is open still.
 fn is_in_pipe(w: &World) -> bool
-    ensures { result ≡ true → (row : Row) (image : Image) → IsInPipe (handed w.now.files w.now.u row image) }
+    ensures { result ≡ true → (row : Row) (image : Image) → IsInPipe (handed w.entry.now.files w.entry.now.u row image) }
 {
     let [entry, _, count, left, ..] = w.u.call;
     if entry >= 100 || left > count || !w.files.table.in_use(entry as u8) {
@@ -77,7 +77,7 @@ fn is_in_pipe(w: &World) -> bool
 
 /// Whether the process waits in a call that can go on: a read of the console, or a read or a write of a pipe.
 fn can_go_on(w: &World) -> bool
-    ensures { result ≡ true → (row : Row) (image : Image) → CanGoOn (handed w.now.files w.now.u row image) }
+    ensures { result ≡ true → (row : Row) (image : Image) → CanGoOn (handed w.entry.now.files w.entry.now.u row image) }
 {
     match w.u.pending {
         1 => true,
