@@ -1,5 +1,5 @@
 -- What is ready can be called on, and stays ready through every call that keeps what it must.
-use Rattle.std.proofs.Common.{◌≡◌, ◌+◌, ◌*◌, cond, eqb, ◌<◌, ◌≤◌, ◌==◌, ℕ, zero, suc, List, length, replicate, slice_index, Option, None, refl, sym, ap, ◌∙◌, subst, arith, if◌then◌else◌, Bool, true, false}
+use Rattle.std.proofs.Common.{◌≡◌, ◌+◌, ◌*◌, cond, eqb, ◌<◌, ◌≤◌, ◌==◌, ℕ, zero, suc, List, length, replicate, slice_index, Option, None, [], refl, sym, ap, ◌∙◌, subst, arith, if◌then◌else◌, Bool, true, false}
 use Rattle.std.specs.Prelude.{count_by}
 use Rattle.std.proofs.lemmas.List.Sums.{count_by-le-length}
 use Rattle.std.proofs.lemmas.Bool.{eqb-true, ne_eqb}
@@ -11,8 +11,10 @@ use Rattle.u_area.specs.declared.area.UArea.{UArea}
 use Rattle.open_files.specs.declared.file.OpenFile.{OpenFile}
 use Rattle.open_files.specs.Files.{file_at, times, HaveRoom}
 use Rattle.fs_nodes.specs.FileSystem.{FileSystem}
+use Rattle.pipe_ends.specs.declared.ends.Pipe.{Pipe}
 use Rattle.sys_files.specs.declared.files.Files.{Files}
 use Rattle.sys_files.specs.Handed.{Handed, handed}
+use Rattle.sys_files.specs.Pipes.{ArePipes}
 use Rattle.sys_files.specs.Sound.{IsSound, IsKept, numbers_of, is_of}
 use Rattle.file_rows.specs.Ready.{IsReady}
 
@@ -20,7 +22,7 @@ one_or_none : (b : Bool) → (if b then 1 else 0) ≤ 1
 one_or_none true = omega arith
 one_or_none false = omega arith
 
-pub sound_of : (f : Files) (u : UArea) (row : Row) (image : Image) → IsReady f.table u.files u.dir f.tree.nodes.references
+pub sound_of : (f : Files) (u : UArea) (row : Row) (image : Image) → IsReady f.table f.pipes u.files u.dir f.tree.nodes.references
     → length f.table ≡ 100 → HaveRoom f.table → IsSound (handed f u row image)
 sound_of f u row image ready long room = record {
   is_open = ready.is_open;
@@ -35,11 +37,11 @@ sound_of f u row image ready long room = record {
       let c = count_by-le-length (is_of ino) f.table in
       let o = one_or_none (u.dir == ino) in
       omega (arith, n, c, o, long);
-  no_pipe = ready.no_pipe;
+  pipes = ready.piped;
 }
 
-pub kept_ready : (old new : Handed) → IsReady old.files old.u.files old.u.dir old.inodes.references → IsKept old new
-    → IsReady new.files new.u.files new.u.dir new.inodes.references
+pub kept_ready : (old new : Handed) → IsReady old.files old.pipes old.u.files old.u.dir old.inodes.references → IsKept old new
+    → IsReady new.files new.pipes new.u.files new.u.dir new.inodes.references
 kept_ready old new ready kept = record {
   is_open = kept.is_open;
   counted = λ entry.
@@ -54,13 +56,13 @@ kept_ready old new ready kept = record {
       let a = ready.few ino in
       let b = kept.references ino in
       omega (arith, a, b);
-  no_pipe = kept.no_pipe;
+  piped = kept.pipes;
 }
 
 -- The same references, by another name.
-pub same : (files : List (Option OpenFile)) (numbers : List ℕ) (dir : ℕ) (old new : List ℕ) → new ≡ old
-    → IsReady files numbers dir old → IsReady files numbers dir new
-same files numbers dir old new e ready = let P : List ℕ → Type 0 = λ r. IsReady files numbers dir r in subst P (sym e) ready
+pub same : (files : List (Option OpenFile)) (pipes : List Pipe) (numbers : List ℕ) (dir : ℕ) (old new : List ℕ) → new ≡ old
+    → IsReady files pipes numbers dir old → IsReady files pipes numbers dir new
+same files pipes numbers dir old new e ready = let P : List ℕ → Type 0 = λ r. IsReady files pipes numbers dir r in subst P (sym e) ready
 
 zeros : (n i : ℕ) → slice_index (replicate n 0) i ≡ 0
 zeros zero i = refl
@@ -76,14 +78,14 @@ named_by_none n entry =
     omega (arith, all, product)
 
 -- another process, without an open file
-pub fresh_ready : (files : List (Option OpenFile)) (numbers : List ℕ) (dir : ℕ) (references : List ℕ)
-    → IsReady files numbers dir references → IsReady files (replicate 15 0) dir references
-fresh_ready files numbers dir references ready = record {
+pub fresh_ready : (files : List (Option OpenFile)) (pipes : List Pipe) (numbers : List ℕ) (dir : ℕ) (references : List ℕ)
+    → IsReady files pipes numbers dir references → IsReady files pipes (replicate 15 0) dir references
+fresh_ready files pipes numbers dir references ready = record {
   is_open = λ fd used. let z = zeros 15 fd in absurd (omega (arith, used, z));
   counted = λ entry. let z = named_by_none 15 entry in omega (arith, z);
   referred = ready.referred;
   few = ready.few;
-  no_pipe = ready.no_pipe;
+  piped = ready.piped;
 }
 
 all_free : (n entry : ℕ) → file_at (replicate n None) entry ≡ None
@@ -98,9 +100,17 @@ owing_root : (ino : ℕ) (references : List ℕ) (b : Bool) → (1 == ino) ≡ b
 owing_root ino references true e root = let P : ℕ → Type 0 = λ i. 1 ≤ slice_index references i in subst P (eqb-true 1 ino e) (omega (arith, root))
 owing_root ino references false e root = omega arith
 
+-- Where no file is open, no pipe is.
+no_pipes : ArePipes (replicate 100 None) []
+no_pipes = record {
+  there = λ entry file is pipe. absurd (none-some file (sym (all_free 100 entry) ∙ is));
+  ended = λ i low. absurd (omega (arith, low));
+  once = λ i low. absurd (omega (arith, low));
+}
+
 -- Nothing is open, and the process is in the root.
 begins : (references : List ℕ) → ((i : ℕ) → slice_index references i ≤ 2) → 0 < slice_index references 1
-    → IsReady (replicate 100 None) (replicate 15 0) 1 references
+    → IsReady (replicate 100 None) [] (replicate 15 0) 1 references
 begins references few root = record {
   is_open = λ fd used. let z = zeros 15 fd in absurd (omega (arith, used, z));
   counted = λ entry. let z = named_by_none 15 entry in omega (arith, z);
@@ -109,12 +119,14 @@ begins references few root = record {
       let o = owing_root ino references (1 == ino) refl root in
       omega (arith, n, o);
   few = λ ino. let f = few ino in omega (arith, f);
-  no_pipe = λ entry file is. absurd (none-some file (sym (all_free 100 entry) ∙ is));
+  piped = no_pipes;
 }
 
-pub begun : (files : List (Option OpenFile)) (old new : FileSystem) → files ≡ replicate 100 None → new ≡ old
-    → ((i : ℕ) → slice_index old.references i ≤ 2) → 0 < slice_index old.references 1 → IsReady files (replicate 15 0) 1 new.references
-begun files old new none here few root =
-    let P : List (Option OpenFile) → Type 0 = λ l. IsReady l (replicate 15 0) 1 new.references in
-    let Q : FileSystem → Type 0 = λ fs. IsReady (replicate 100 None) (replicate 15 0) 1 fs.references in
-    subst P (sym none) (subst Q (sym here) (begins old.references few root))
+pub begun : (files : List (Option OpenFile)) (pipes : List Pipe) (old new : FileSystem) → files ≡ replicate 100 None → pipes ≡ []
+    → new ≡ old → ((i : ℕ) → slice_index old.references i ≤ 2) → 0 < slice_index old.references 1
+    → IsReady files pipes (replicate 15 0) 1 new.references
+begun files pipes old new free none here few root =
+    let P : List (Option OpenFile) → Type 0 = λ l. IsReady l pipes (replicate 15 0) 1 new.references in
+    let Q : List Pipe → Type 0 = λ l. IsReady (replicate 100 None) l (replicate 15 0) 1 new.references in
+    let R : FileSystem → Type 0 = λ fs. IsReady (replicate 100 None) [] (replicate 15 0) 1 fs.references in
+    subst P (sym free) (subst Q (sym none) (subst R (sym here) (begins old.references few root)))

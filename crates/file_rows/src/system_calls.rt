@@ -16,6 +16,7 @@ mod making;
 mod moving;
 mod names;
 mod opening;
+mod pipes;
 mod scenes;
 mod shared;
 mod status;

@@ -6,7 +6,7 @@ use run_fixtures::{
 use std::alloc::{AllocError, Global};
 use std::test::Fail;
 use v6_port::{InPort, OutPort};
-use v6_run::{ImageFault, PanicKind, ScriptFault, Status, Unbuilt};
+use v6_run::{ImageFault, PanicKind, ScriptFault, Status};
 
 /// The least disk without a fault: a block of inodes of which the first is a directory, and one data block.
 const LEAST_DISK: [Piece<'static>; 2] = [(512, b"\x01\x00\x04\x00"), (1024, b"\xed\xc1")];
@@ -107,7 +107,7 @@ fn other_commands_whose_files_fail_end_as_the_manual_says(rt: HostRuntime) -> Re
 }
 
 /// The numbers that a program exits with.
-const NUMBERS: [(Status, u8); 10] = [
+const NUMBERS: [(Status, u8); 9] = [
     (Status::Done, 0),
     (Status::Usage, 1),
     (Status::ReadFault(InPort::Script), 2),
@@ -117,7 +117,6 @@ const NUMBERS: [(Status, u8); 10] = [
     (Status::ImageFault(ImageFault::TooLong), 6),
     (Status::Panic(PanicKind::Swap), 7),
     (Status::NoMemory, 8),
-    (Status::NotBuilt(Unbuilt::At(2)), 11),
 ];
 
 #[test]

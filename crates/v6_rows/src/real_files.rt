@@ -7,13 +7,10 @@ use run_fixtures::{HI_BYTES, Piece, RUN, TEXT, end_over, hi_image, is_front, put
 use std::fs;
 use std::test::Fail;
 use v6_port::{FileHost, Host, OutPort};
-use v6_run::{Status, Unbuilt};
+use v6_run::Status;
 
 /// The words of `run`, with a device that has no room for the terminal.
 const RUN_ONTO_FULL: &str = "run image 1200 script /dev/full log final";
-
-/// pipe(II) in the place of the exit of `hi`, at address 16.
-const HI_AND_PIPE: &[Piece<'static>] = &[(TEXT + 16, b"\x2a\x89")];
 
 /// A program that opens `/dev/tty8` and then writes 128 bytes over and over: open, 24, 1; write, 40, 128; CLR R0; BR to the
 /// write. Before it the size of its file, 184, and of its text, 168.
@@ -44,7 +41,7 @@ struct FileRow<'a> {
     disk: Option<usize>,
 }
 
-const FILE_ROWS: [FileRow<'static>; 8] = [
+const FILE_ROWS: [FileRow<'static>; 7] = [
     FileRow {
         name: "hi_over_files",
         pieces: &[],
@@ -54,16 +51,6 @@ const FILE_ROWS: [FileRow<'static>; 8] = [
         shown: Some((b"HI\r\n", 1)),
         graves: GRAVE,
         disk: Some(2_494_464),
-    },
-    FileRow {
-        name: "port that isn't finished",
-        pieces: HI_AND_PIPE,
-        script: "run 20\n",
-        words: RUN,
-        status: Status::NotBuilt(Unbuilt::At(16)),
-        shown: Some((b"HI\r\n", 1)),
-        graves: &[],
-        disk: Some(0),
     },
     // The first slot is the exec, the second the open, and each third from the third on a write: 100 in 300.
     FileRow {

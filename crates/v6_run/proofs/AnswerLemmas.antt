@@ -15,7 +15,7 @@ use Rattle.v6_run.specs.declared.files.ReadError.TheVariants as reading
 use Rattle.v6_run.specs.declared.image.ImageError.{ImageError}
 use Rattle.v6_run.specs.declared.image.ImageError.TheVariants as image
 use Rattle.v6_run.specs.Words.{Command}
-use Rattle.v6_run.specs.Status.{is_decided, has_written, is_closed, is_unfinished}
+use Rattle.v6_run.specs.Status.{is_decided, has_written, is_closed}
 use Rattle.v6_run.specs.Errors.{image_status}
 use Rattle.v6_run.specs.Causes.{IsCaused}
 use Rattle.v6_run.specs.Steps.{StopsImage}
@@ -29,12 +29,6 @@ not_so P is = absurd (cc)
 -- a status without a file is none with one
 pub no_file : (s t : Status) → has_written s ≡ false → has_written t ≡ true → s ≡ t → ⊥
 no_file s t before after is = let both : has_written s ≡ true = ap has_written is ∙ after in cc
-
-written_by : (s : Status) → is_unfinished s ≡ true → has_written s ≡ true
-written_by Done is = refl
-written_by (WriteFault port) is = refl
-written_by (Panic kind) is = refl
-written_by _ is = is
 
 closed_by : (s : Status) → is_closed s ≡ true → has_written s ≡ true
 closed_by Done is = refl
@@ -54,7 +48,6 @@ unwritten command s old new only ends before none order complete cause = record 
   order = order;
   none = λ _. none;
   closed = λ is. not_so _ (sym before ∙ closed_by s is);
-  unfinished = λ is. not_so _ (sym before ∙ written_by s is);
   cause = cause;
 }
 

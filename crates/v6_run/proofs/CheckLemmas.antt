@@ -33,7 +33,6 @@ module _ (name : List ℕ) (old new : Outside) (only : OnlyAt (same (In in_port.
     order = λ is. absurd (cc);
     none = λ before. not_so _ (sym before);
     closed = λ _. closed;
-    unfinished = λ is. not_so _ is;
     cause = calm;
   }
     where

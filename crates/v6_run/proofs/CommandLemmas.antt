@@ -133,7 +133,6 @@ module _ (done : List ℕ) where
   error_line (error.Run (run_error.Write output.Log)) = refl
   error_line (error.Run (run_error.Write output.Final)) = refl
   error_line (error.Run (run_error.Panic kind)) = refl
-  error_line (error.Run (run_error.NotBuilt place)) = refl
   error_line (error.Check e) = image_line e
   error_line (error.Make make_error.NoMemory) = refl
   error_line (error.Make make_error.Fault) = refl

@@ -15,11 +15,9 @@ use Rattle.make_image.specs.Demo.{demo_text}
 use Rattle.abstract_unix.specs.Unix.{System}
 use Rattle.abstract_unix.specs.declared.ends.Ends.{Ends}
 use Rattle.abstract_unix.specs.declared.ends.Ends.TheVariants as ends
-use Rattle.abstract_unix.specs.declared.turned.Unbuilt.TheVariants as unbuilt
 use Rattle.abstract_unix.specs.Runs.{Course, system_of, boots, started, course, run_of}
-use Rattle.abstract_unix.proofs.RunsLemmas.{IsMet, started_is, course_is}
 use Rattle.v6_run.specs.declared.status.Status.{Status}
-use Rattle.v6_run.specs.declared.status.Status.TheVariants.{Done, ReadFault, ImageFault, Panic, NoMemory, NotBuilt}
+use Rattle.v6_run.specs.declared.status.Status.TheVariants.{Done, ReadFault, ImageFault, Panic, NoMemory}
 use Rattle.v6_run.specs.declared.image.ImageError.TheVariants as image
 use Rattle.v6_run.specs.declared.script.ScriptError.{ScriptError}
 use Rattle.v6_run.specs.declared.script.ScriptError.TheVariants as script_error
@@ -68,7 +66,6 @@ module _ (number : ℕ) (o : Outside) where
     order = λ is. absurd (let some : fault_port s ≡ fault_port (ReadFault _) = ap fault_port is in cc);
     none = λ before p. refl;
     closed = λ is p named. not_so _ named;
-    unfinished = λ is p named. not_so _ named;
     cause = subst (λ at. MatchOption at (Calm o o) (λ p. FaultAt p (is_known (Some (Demo number)) o.fixed p) o o)) (sym none) (calm_still o);
   }
 
@@ -85,7 +82,6 @@ module _ (number : ℕ) (o : Outside) where
   disk_refused (run.Refused e) refused = absurd refused
   disk_refused (run.Write output) refused = absurd refused
   disk_refused (run.Panic kind) refused = absurd refused
-  disk_refused (run.NotBuilt place) refused = absurd refused
 
   -- the disk has no fault, and the script is read
   module _ (good : image_fault (build_of number) ≡ None) (events : List asked.Event) (read : script_of demo_text ≡ Ok events) where
@@ -100,26 +96,20 @@ module _ (number : ℕ) (o : Outside) where
         (subst (λ r. IsComplete (status_at all.ending) o o (lines_completion DEMO_CORE no_writing (build_of number) r)) (sym read)
         (complete_unwritten (status_at all.ending) o o (λ p. refl)))
 
-    met : IsMet all.ending
-    met = course_is (started system) (events_of events) (started_is system)
-
-    ends_so : (e : Ends) → all.ending ≡ e → IsMet e → Answers (Demo number) (status_at e) o o
-    ends_so ends.AtEnd is has_met = answers_by Done refl refl (λ _. subst (λ e. IsKnownAnd (demo_completion number) (IsComplete (status_at e) o o)) is complete)
-    ends_so (ends.NotBuilt (unbuilt.At pc)) is has_met = answers_by (NotBuilt (unbuilt.At pc)) refl refl
-        (λ _. subst (λ e. IsKnownAnd (demo_completion number) (IsComplete (status_at e) o o)) is complete)
-    ends_so (ends.Panic kind) is has_met = answers_by (Panic kind) refl refl (λ _. subst (λ e. IsKnownAnd (demo_completion number) (IsComplete (status_at e) o o)) is complete)
+    ends_so : (e : Ends) → all.ending ≡ e → Answers (Demo number) (status_at e) o o
+    ends_so ends.AtEnd is = answers_by Done refl refl (λ _. subst (λ e. IsKnownAnd (demo_completion number) (IsComplete (status_at e) o o)) is complete)
+    ends_so (ends.Panic kind) is = answers_by (Panic kind) refl refl (λ _. subst (λ e. IsKnownAnd (demo_completion number) (IsComplete (status_at e) o o)) is complete)
 
     stops_so : (e : RunError) → StopsCourse all e → Answers (Demo number) (run_status e) o o
     stops_so run.NoMemory stops = no_memory
-    stops_so (run.Panic kind) stops = ends_so (ends.Panic kind) stops (subst IsMet stops met)
-    stops_so (run.NotBuilt place) stops = ends_so (ends.NotBuilt place) stops (subst IsMet stops met)
+    stops_so (run.Panic kind) stops = ends_so (ends.Panic kind) stops
     stops_so (run.Image e) stops = absurd stops
     stops_so (run.Script e) stops = absurd stops
     stops_so (run.Refused e) stops = absurd stops
     stops_so (run.Write output) stops = absurd stops
 
     outcome_so : (r : Result Summary RunError) → MatchResult r (EndsCourse number all) (StopsCourse all) → Answers (Demo number) (end_of run_status r) o o
-    outcome_so (Ok summary) outcome = ends_so ends.AtEnd outcome.ended (subst IsMet outcome.ended met)
+    outcome_so (Ok summary) outcome = ends_so ends.AtEnd outcome.ended
     outcome_so (Err e) outcome = stops_so e outcome
 
     line_so : (r : Result Summary RunError) → MatchResult r (EndsCourse number all) (StopsCourse all) → IfOk r (λ summary. run_line number (script_of demo_text) ≡ summary_line summary)

@@ -5,8 +5,6 @@ use Rattle.v6_port.specs.declared.host.OutPort.TheVariants as out_port
 use Rattle.v6_port.specs.Outside.{Out, same, PortState, Outside, Tells, OnlyAt}
 use Rattle.v6_port.specs.Causes.{Calm, FaultAt}
 use Rattle.abstract_unix.specs.declared.ends.Ends.{Ends}
-use Rattle.abstract_unix.specs.declared.ends.Ends.TheVariants as ends
-use Rattle.abstract_unix.specs.declared.ends.Ends.TheVariants.{AtEnd}
 use Rattle.image_keep.specs.Kept.{Kept}
 use Rattle.image_keep.specs.Holds.{CoreHolds, SwapHolds, MemoryHolds, AreRangesApart}
 use Rattle.abstract_unix.specs.Unix.{System}
@@ -16,7 +14,7 @@ use Rattle.v6_run.specs.declared.outputs.Output.TheVariants.{Final}
 use Rattle.v6_run.specs.Ports.{final_of}
 use Rattle.v6_run.specs.Fronts.{HoldsFront, HoldsSome, HoldsFrontOfSome}
 use Rattle.v6_run.specs.Final.{IsMemory}
-use Rattle.v6_run.specs.Outputs.{memory_writes, core_writes, is_finished, EndsRun, StopsRun}
+use Rattle.v6_run.specs.Outputs.{memory_writes, core_writes, EndsRun, StopsRun}
 use Rattle.v6_port.proofs.CauseLemmas.{still_tells, calm_then, fault_then}
 use Rattle.v6_run.proofs.OutputLemmas.{nothing_of, all_of, empty_of, fault_any}
 
@@ -41,32 +39,8 @@ module _ (run : Course) (a b : Outside) (opens : OnlyAt (same (Out out_port.Fina
     at out_port.Final = nothing_of _ _ _ opened
     at out_port.Report = nothing_of _ _ _ (others_same out_port.Report refl)
 
-  -- the run has come to what isn't built: the file stays open, and nothing is written
-  pub memory_unbuilt : (ended : Ends) → is_finished ended ≡ false → ended ≡ run.ending → (final_of b).is_open ≡ true → Calm a b
-      → EndsRun (same (Out out_port.Final)) (core_writes run) run ended a b
-  memory_unbuilt ended is last unclosed calm = record { ended = last; written = λ told. at; is_open = still; calm = calm } where
-    leaves_none : (e : Ends) → is_finished e ≡ false → memory_writes e run.system []
-    leaves_none AtEnd f = absurd (cc f)
-    leaves_none (ends.NotBuilt place) f = refl
-    leaves_none (ends.Panic kind) f = refl
-
-    none : memory_writes run.ending run.system []
-    none = subst (λ e. memory_writes e run.system []) last (leaves_none ended is)
-
-    at : (p : OutPort) → HoldsSome (core_writes run p) (a.port (Out p)).bytes (b.port (Out p)).bytes
-    at out_port.Term = empty_of _ _ _ refl (others_same out_port.Term refl)
-    at out_port.Log = empty_of _ _ _ refl (others_same out_port.Log refl)
-    at out_port.Final = empty_of _ _ _ none opened
-    at out_port.Report = empty_of _ _ _ refl (others_same out_port.Report refl)
-
-    still : (p : OutPort) → same (Out out_port.Final) (Out p) ≡ true → (b.port (Out p)).is_open ≡ not (is_finished ended)
-    still out_port.Term out = absurd (let no : false ≡ true = out in cc)
-    still out_port.Log out = absurd (let no : false ≡ true = out in cc)
-    still out_port.Final out = unclosed ∙ sym (ap not is)
-    still out_port.Report out = absurd (let no : false ≡ true = out in cc)
-
   -- the run has ended, and what it leaves is written
-  module _ (ended : Ends) (last : ended ≡ run.ending) (is : is_finished ended ≡ true) (text : List ℕ) (leaves : memory_writes ended run.system text) (c : Outside) (writes : OnlyAt (same (Out out_port.Final)) b c) where
+  module _ (ended : Ends) (last : ended ≡ run.ending) (text : List ℕ) (leaves : memory_writes ended run.system text) (c : Outside) (writes : OnlyAt (same (Out out_port.Final)) b c) where
     is_memory : memory_writes run.ending run.system text
     is_memory = subst (λ e. memory_writes e run.system text) last leaves
 
@@ -106,7 +80,7 @@ module _ (run : Course) (a b : Outside) (opens : OnlyAt (same (Out out_port.Fina
       memory_left closed calm calm_too calm_last = record {
         ended = last;
         written = all_written;
-        is_open = λ p out. shut p out ∙ sym (ap not is);
+        is_open = shut;
         calm = calm_then _ _ _ (calm_then _ _ _ calm calm_too) calm_last;
       } where
         shut : (p : OutPort) → same (Out out_port.Final) (Out p) ≡ true → (d.port (Out p)).is_open ≡ false

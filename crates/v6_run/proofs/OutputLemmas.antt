@@ -29,7 +29,7 @@ use Rattle.v6_run.specs.Ports.{term, log_of, final_of, HasShown, HasShownFronts}
 use Rattle.v6_run.specs.Fronts.{HoldsFront, HoldsSome, HoldsFrontOfSome}
 use Rattle.v6_run.specs.Final.{IsFinal, disk_text}
 use Rattle.v6_run.specs.Words.{Outputs, ToDisk, ToMemory}
-use Rattle.v6_run.specs.Outputs.{port_of, is_shown, is_disk_output, is_output, final_writes, is_finished, disk_writes, run_writes, EndsRun, StopsRun}
+use Rattle.v6_run.specs.Outputs.{port_of, is_shown, is_disk_output, is_output, disk_writes, run_writes, EndsRun, StopsRun}
 use Rattle.v6_port.proofs.CauseLemmas.{still_tells, calm_then, fault_then}
 use Rattle.v6_run.proofs.FrontLemmas.{front_of_nothing, front_of_all}
 use Rattle.v6_run.proofs.FinalLemmas.{final_is, final_same}
@@ -89,44 +89,8 @@ module _ (first : Disk) (run : Course) (a b c : Outside) (opens : OnlyAt is_disk
     log_shown : Tells a → (log_of c).bytes ≡ (log_of a).bytes ++ text_of (shown_by run)
     log_shown told = (shown (tells_b told)).log ∙ ap (λ l. l ++ text_of (shown_by run)) (opened out_port.Log)
 
-    pub came_to_unbuilt : (ended : Ends) → is_finished ended ≡ false → ended ≡ run.ending → ((p : OutPort) → is_disk_output (Out p) ≡ true → (b.port (Out p)).is_open ≡ true)
-        → (term c).is_open ≡ true → (log_of c).is_open ≡ true → Calm a b → Calm b c → EndsRun is_disk_output (disk_writes first run) run ended a c
-    came_to_unbuilt ended is last open_b open_term open_log calm calm_too = record {
-      ended = last;
-      written = at;
-      is_open = λ p out. still p out ∙ sym (ap not is);
-      calm = calm_c calm calm_too;
-    } where
-      leaves_none : (e : Ends) → is_finished e ≡ false → final_writes first e run.system []
-      leaves_none AtEnd f = absurd (cc f)
-      leaves_none (ends.NotBuilt place) f = refl
-      leaves_none (ends.Panic kind) f = absurd (cc f)
-
-      no_disk : final_writes first run.ending run.system []
-      no_disk = subst (λ e. final_writes first e run.system []) last (leaves_none ended is)
-
-      at : Tells a → (p : OutPort) → HoldsSome (disk_writes first run p) (a.port (Out p)).bytes (c.port (Out p)).bytes
-      at told out_port.Term = record { text = line_bytes 0 (shown_by run); fits = refl; holds = term_shown told }
-      at told out_port.Log = record { text = text_of (shown_by run); fits = refl; holds = log_shown told }
-      at told out_port.Final = empty_of _ _ _ no_disk (unplayed out_port.Final refl)
-      at told out_port.Report = empty_of _ _ _ refl (unplayed out_port.Report refl)
-
-      still : (p : OutPort) → is_disk_output (Out p) ≡ true → (c.port (Out p)).is_open ≡ true
-      still out_port.Term out = open_term
-      still out_port.Log out = open_log
-      still out_port.Final out = ap (λ (state : PortState). state.is_open) (plays.others (Out out_port.Final) refl) ∙ open_b out_port.Final refl
-      still out_port.Report out = absurd (let no : false ≡ true = out in cc)
-
     -- the run has ended, and its disk is written
-    module _ (ended : Ends) (last : ended ≡ run.ending) (is : is_finished ended ≡ true) (text : List ℕ) (final : IsFinal first (finished run.system) text) (d : Outside) (writes : OnlyAt (same (Out out_port.Final)) c d) where
-      fits : final_writes first run.ending run.system text
-      fits = subst (λ e. final_writes first e run.system text) last (leaves ended is)
-        where
-          leaves : (e : Ends) → is_finished e ≡ true → final_writes first e run.system text
-          leaves AtEnd f = final
-          leaves (ends.NotBuilt place) f = absurd (cc f)
-          leaves (ends.Panic kind) f = final
-
+    module _ (ended : Ends) (last : ended ≡ run.ending) (text : List ℕ) (fits : IsFinal first (finished run.system) text) (d : Outside) (writes : OnlyAt (same (Out out_port.Final)) c d) where
       unwritten_by : (p : OutPort) → same (Out out_port.Final) (Out p) ≡ false → (d.port (Out p)).bytes ≡ (c.port (Out p)).bytes
       unwritten_by p other = ap (λ (state : PortState). state.bytes) (writes.others (Out p) other)
 
@@ -173,7 +137,7 @@ module _ (first : Disk) (run : Course) (a b c : Outside) (opens : OnlyAt is_disk
         came_to_end closed calm calm_too calm_still calm_last = record {
           ended = last;
           written = written_e;
-          is_open = λ p out. closed p out ∙ sym (ap not is);
+          is_open = closed;
           calm = calm_then _ _ _ (calm_then _ _ _ (calm_c calm calm_too) calm_still) calm_last;
         }
 
@@ -189,7 +153,6 @@ run_leaves old played ended run low plays first finishes stands second form swap
 -- such a run can be finished
 pub phase_ended : (ended : Ends) (phase : Phase) → phase ≡ phase_after ended → (phase ≡ Started) ⊎ (phase ≡ Stopped)
 phase_ended AtEnd phase is = inl is
-phase_ended (ends.NotBuilt place) phase is = inr is
 phase_ended (ends.Panic kind) phase is = inr is
 
 pub fault_where_err : {T E : Type 0} (r : Result T E) (P Q : Type 0) → true ≡ is_err r → MatchResult r (λ _. P) (λ _. Q) → Q
@@ -209,15 +172,10 @@ pub same_blocks : (image : List ℕ) (blocks : List (List ℕ)) → blocks ≡ b
 same_blocks image blocks is n low = ap (λ l. block_at l n) is ∙ block_of_image image n low
 
 module _ (d e : Disk) (same_disk : (n : ℕ) → n < DISK_BLOCKS → e n ≡ d n) where
-  final_over : (ending : Ends) (m : System) (text : List ℕ) → final_writes e ending m text → final_writes d ending m text
-  final_over AtEnd m text final = final_same d e (finished m) text same_disk final
-  final_over (ends.NotBuilt place) m text none = none
-  final_over (ends.Panic kind) m text final = final_same d e (finished m) text same_disk final
-
   writes_over : (outputs : Outputs) (run : Course) (p : OutPort) (text : List ℕ) → run_writes outputs e run p text → run_writes outputs d run p text
   writes_over (ToDisk files) run out_port.Term text fits = fits
   writes_over (ToDisk files) run out_port.Log text fits = fits
-  writes_over (ToDisk files) run out_port.Final text fits = final_over run.ending run.system text fits
+  writes_over (ToDisk files) run out_port.Final text fits = final_same d e (finished run.system) text same_disk fits
   writes_over (ToDisk files) run out_port.Report text fits = fits
   writes_over (ToMemory final) run p text fits = fits
 

@@ -11,17 +11,14 @@ use Rattle.fs_codec.specs.Disk.{disk_of}
 use Rattle.fs_codec.specs.Faults.{image_fault}
 use Rattle.fs_codec.specs.declared.fault.ImageFault as codec
 use Rattle.abstract_unix.specs.Unix.{System}
-use Rattle.abstract_unix.proofs.RunsLemmas.{IsMet, started_is, course_is}
 use Rattle.abstract_unix.specs.Runs.{Course, system_of, started, boots, course}
 use Rattle.v6_run.specs.declared.image.TheConstants.{IMAGE_LIMIT}
 use Rattle.v6_run.specs.declared.run.TheConstants.{SCRIPT_LIMIT}
 use Rattle.v6_run.specs.declared.status.Status.{Status}
-use Rattle.v6_run.specs.declared.status.Status.TheVariants.{ReadFault, WriteFault, ScriptFault, NoMemory, NotBuilt}
+use Rattle.v6_run.specs.declared.status.Status.TheVariants.{ReadFault, WriteFault, ScriptFault, NoMemory}
 use Rattle.abstract_unix.specs.declared.ends.Ends.{Ends}
 use Rattle.abstract_unix.specs.declared.ends.Ends.TheVariants as ends
 use Rattle.abstract_unix.specs.declared.ends.Ends.TheVariants.{AtEnd}
-use Rattle.abstract_unix.specs.declared.turned.Unbuilt.{Unbuilt}
-use Rattle.abstract_unix.specs.declared.turned.Unbuilt.TheVariants as unbuilt
 use Rattle.v6_run.specs.declared.files.ReadError.{ReadError}
 use Rattle.v6_run.specs.declared.files.ReadError.TheVariants as reading
 use Rattle.v6_run.specs.declared.image.ImageError.{ImageError}
@@ -99,10 +96,9 @@ completion_is words (Some i) (Some s) image bytes image_is good script_is =
     ap (λ l. fault_completion (image_fault l) (Known (bytes_completion words l (take SCRIPT_LIMIT s)))) same_image
     ∙ ap (λ f. fault_completion f (Known (bytes_completion words image (take SCRIPT_LIMIT s)))) good ∙ ap (λ l. Known (bytes_completion words image l)) same_script
 
-has_begun : (ended : Ends) → IsMet ended → has_written (status_at ended) ≡ true
-has_begun AtEnd met = refl
-has_begun (ends.NotBuilt (unbuilt.At pc)) met = refl
-has_begun (ends.Panic kind) met = refl
+has_begun : (ended : Ends) → has_written (status_at ended) ≡ true
+has_begun AtEnd = refl
+has_begun (ends.Panic kind) = refl
 
 -- the files that a run writes are those for writing that its words name
 named_output : (words : RunWords) (p : OutPort) → is_named (Run words) (Out p) ≡ true → is_output words.outputs (Out p) ≡ true
@@ -169,9 +165,6 @@ module _ (words : RunWords) (image bytes : List ℕ) (old middle : Outside) (fil
       run_completion : Tells old → command_completion (Run words) old.fixed ≡ Known (course_completion (run_writes words.outputs (disk_of image)) run)
       run_completion told = run_is told ∙ ap Known (boots_as system boots_is)
 
-      run_is_met : IsMet run.ending
-      run_is_met = course_is (started system) (events_of events) (started_is system)
-
       only_run : OnlyAt (is_named (Run words)) old new
       only_run = only_then _ _ _ _ files.only (only_within _ _ _ _ (names_outputs words) only)
 
@@ -183,22 +176,6 @@ module _ (words : RunWords) (image bytes : List ℕ) (old middle : Outside) (fil
             (all.written (still_tells _ _ _ files.only told) p);
       })
 
-      -- before its last event it came to what isn't built
-      unbuilt_at : (place : Unbuilt) → has_written (NotBuilt place) ≡ true
-          → EndsRun (is_output words.outputs) (run_writes words.outputs (disk_of image) run) run (ends.NotBuilt place) middle new → Answers (Run words) (NotBuilt place) old new
-      unbuilt_at place begun ended = record {
-        only = only_run;
-        ends = refl;
-        unreported = λ is. cc;
-        complete = λ _. run_complete (ends.NotBuilt place) ended;
-        partial = λ p is. absurd (cc);
-        order = λ is. absurd (cc);
-        none = λ before. not_so _ (sym before ∙ begun);
-        closed = λ is. not_so _ is;
-        unfinished = λ _ p named. ended.is_open p (named_output words p named);
-        cause = calm_then _ _ _ files.calm ended.calm;
-      }
-
       pub run_ended : (ended : Ends) → EndsRun (is_output words.outputs) (run_writes words.outputs (disk_of image) run) run ended middle new → Answers (Run words) (status_at ended) old new
       run_ended AtEnd ended = record {
         only = only_run;
@@ -209,10 +186,8 @@ module _ (words : RunWords) (image bytes : List ℕ) (old middle : Outside) (fil
         order = λ is. absurd (cc);
         none = λ before. not_so _ (sym before);
         closed = λ _ p named. ended.is_open p (named_output words p named);
-        unfinished = λ is. not_so _ is;
         cause = calm_then _ _ _ files.calm ended.calm;
       }
-      run_ended (ends.NotBuilt (unbuilt.At pc)) ended = unbuilt_at (unbuilt.At pc) refl ended
       run_ended (ends.Panic kind) ended = record {
         only = only_run;
         ends = refl;
@@ -222,14 +197,13 @@ module _ (words : RunWords) (image bytes : List ℕ) (old middle : Outside) (fil
         order = λ is. absurd (cc);
         none = λ before. not_so _ (sym before);
         closed = λ _ p named. ended.is_open p (named_output words p named);
-        unfinished = λ is. not_so _ is;
         cause = calm_then _ _ _ files.calm ended.calm;
       }
 
       run_partial : (output : Output) (known : Bool) → StopsRun (is_output words.outputs) (run_writes words.outputs (disk_of image) run) output known middle new → Tells old
           → IsKnownAnd (command_completion (Run words) old.fixed) (IsPartial old new)
       run_partial output known stops told = subst (λ m. IsKnownAnd m (IsPartial old new)) (sym (run_completion told)) (record {
-        begun = has_begun run.ending run_is_met;
+        begun = has_begun run.ending;
         written = λ p _. subst (λ (state : PortState). HoldsFrontOfSome (run_writes words.outputs (disk_of image) run p) state.bytes (new.port (Out p)).bytes) (files.none p)
             (stops.written (still_tells _ _ _ files.only told) p);
       })
@@ -248,6 +222,5 @@ module _ (words : RunWords) (image bytes : List ℕ) (old middle : Outside) (fil
             order = λ is. absurd (cc);
             none = λ before. not_so _ (sym before);
             closed = λ is. absurd (cc);
-            unfinished = λ is. not_so _ is;
             cause = fault_known (Out (port_of output)) _ _ old new known (fault_then _ _ old middle new files.only.fixed files.calm stops.fault);
           }

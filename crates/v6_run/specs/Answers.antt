@@ -14,7 +14,7 @@ use Rattle.v6_run.specs.declared.status.Status.TheVariants.{Done, ReadFault, Wri
 use Rattle.v6_run.specs.declared.error.CommandError.{CommandError}
 use Rattle.v6_run.specs.declared.report.Found.{Found}
 use Rattle.v6_run.specs.Words.{RunWords, Command, Run}
-use Rattle.v6_run.specs.Status.{is_decided, has_written, is_closed, is_unfinished}
+use Rattle.v6_run.specs.Status.{is_decided, has_written, is_closed}
 use Rattle.v6_run.specs.Errors.{command_status, end_of}
 use Rattle.v6_run.specs.Report.{report, answer_line}
 use Rattle.v6_run.specs.Fronts.{HoldsFront}
@@ -31,8 +31,6 @@ pub record Answers (command : Command) (status : Status) (old new : Outside) : T
   pub order : status ≡ ReadFault in_port.Script → Tells old → IsImageGood (Some command) old.fixed
   pub none : has_written status ≡ false → (p : OutPort) → new.port (Out p) ≡ old.port (Out p)
   pub closed : is_closed status ≡ true → (p : OutPort) → is_named command (Out p) ≡ true → (new.port (Out p)).is_open ≡ false
-  pub unfinished : is_unfinished status ≡ true → (p : OutPort) → is_named command (Out p) ≡ true
-      → (new.port (Out p)).is_open ≡ true
   pub cause : IsCaused (is_known (Some command) old.fixed) status old new
 
 -- what any words come to, before the report

@@ -25,5 +25,4 @@ pub record EndsCourse (number : ℕ) (c : Course) (summary : Summary) : Type 0 w
 abbrev pub StopsCourse : Course → RunError → Type 0
 StopsCourse c run.NoMemory = ⊤
 StopsCourse c (run.Panic kind) = c.ending ≡ ends.Panic kind
-StopsCourse c (run.NotBuilt place) = c.ending ≡ ends.NotBuilt place
 StopsCourse c _ = ⊥

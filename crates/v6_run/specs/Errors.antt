@@ -44,7 +44,6 @@ run_status (run.Refused error) = script_status error
 run_status run.NoMemory = status.NoMemory
 run_status (run.Write output) = status.WriteFault (port_of output)
 run_status (run.Panic kind) = status.Panic kind
-run_status (run.NotBuilt place) = status.NotBuilt place
 
 abbrev pub make_status : MakeError → Status
 make_status make.NoMemory = status.NoMemory

@@ -23,10 +23,10 @@ use Rattle.v6_run.specs.declared.demo.TheConstants.{DEMO_CORE}
 use Rattle.v6_run.specs.declared.status.Status.{Status}
 use Rattle.v6_run.specs.declared.status.Status.TheVariants as status
 use Rattle.abstract_unix.specs.declared.ends.Ends.{Ends}
-use Rattle.abstract_unix.specs.declared.ends.Ends.TheVariants.{AtEnd, NotBuilt, Panic}
+use Rattle.abstract_unix.specs.declared.ends.Ends.TheVariants.{AtEnd, Panic}
 use Rattle.v6_run.specs.Words.{Outputs, ToDisk, ToMemory, RunWords, Command, Run, Check, Make, Demo}
 use Rattle.v6_run.specs.Events.{events_of}
-use Rattle.v6_run.specs.Status.{has_written, is_unfinished}
+use Rattle.v6_run.specs.Status.{has_written}
 use Rattle.v6_run.specs.Fronts.{HoldsSome, HoldsFrontOfSome, exactly}
 use Rattle.v6_run.specs.Outputs.{is_output, run_writes}
 use Rattle.v6_run.specs.Report.{store_line, course_line}
@@ -68,7 +68,6 @@ only_to port text q = exactly (if same (Out port) (Out q) then text else [])
 
 abbrev pub status_at : Ends → Status
 status_at AtEnd = status.Done
-status_at (NotBuilt place) = status.NotBuilt place
 status_at (Panic kind) = status.Panic kind
 
 -- which texts a run may write to each file, by its course
@@ -197,7 +196,6 @@ may_end command (status.ScriptFault fault) = is_run command && is_script_fault f
 may_end command (status.ImageFault fault) = is_named command (In in_port.Image) || is_demo command
 may_end command status.NoMemory = true
 may_end command (status.Panic kind) = is_run command || is_demo command
-may_end command (status.NotBuilt place) = is_run command || (is_demo command && is_unfinished (status.NotBuilt place))
 may_end command _ = false
 
 abbrev pub words_may_end : Option Command → Status → Bool

@@ -8,7 +8,7 @@ use Rattle.v6_port.specs.Outside.{Port, Out, same, Outside, Tells}
 use Rattle.v6_port.specs.Causes.{Calm, FaultAt}
 use Rattle.fs_codec.specs.Disk.{Disk}
 use Rattle.abstract_unix.specs.declared.ends.Ends.{Ends}
-use Rattle.abstract_unix.specs.declared.ends.Ends.TheVariants.{AtEnd, NotBuilt, Panic}
+use Rattle.abstract_unix.specs.declared.ends.Ends.TheVariants.{AtEnd, Panic}
 use Rattle.abstract_unix.specs.Unix.{System}
 use Rattle.abstract_unix.specs.Runs.{Course, shown_by, finished}
 use Rattle.v6_run.specs.declared.outputs.Output.{Output}
@@ -33,29 +33,16 @@ abbrev pub is_output : Outputs → Port → Bool
 is_output (ToDisk files) q = is_disk_output q
 is_output (ToMemory final) q = same (Out out_port.Final) q
 
--- a run that has come to its end, or to a panic, leaves its disk, and one that came to what isn't built nothing
-abbrev pub final_writes : Disk → Ends → System → List ℕ → Type 0
-final_writes first AtEnd m = IsFinal first (finished m)
-final_writes first (NotBuilt place) m = exactly []
-final_writes first (Panic kind) m = IsFinal first (finished m)
-
--- or it leaves its core and its swap area; after a panic it leaves nothing
+-- A run for its memory leaves its core and its swap area; after a panic it leaves nothing.
 abbrev pub memory_writes : Ends → System → List ℕ → Type 0
 memory_writes AtEnd m = IsMemory m
-memory_writes (NotBuilt place) m = exactly []
 memory_writes (Panic kind) m = exactly []
 
--- and its files are finished, where it didn't come to what isn't built
-abbrev pub is_finished : Ends → Bool
-is_finished AtEnd = true
-is_finished (NotBuilt place) = false
-is_finished (Panic kind) = true
-
--- the texts that `run` from a disk may write to each port
+-- The texts that `run` from a disk may write to each port: at its end, or at a panic, it leaves its disk.
 abbrev pub disk_writes : Disk → Course → OutPort → List ℕ → Type 0
 disk_writes first c out_port.Term = exactly (line_bytes 0 (shown_by c))
 disk_writes first c out_port.Log = exactly (text_of (shown_by c))
-disk_writes first c out_port.Final = final_writes first c.ending c.system
+disk_writes first c out_port.Final = IsFinal first (finished c.system)
 disk_writes first c out_port.Report = exactly []
 
 -- `memory` writes nothing of what is shown
@@ -73,7 +60,7 @@ run_writes (ToMemory final) first c p = core_writes c p
 pub record EndsRun (outputs : Port → Bool) (writes : OutPort → List ℕ → Type 0) (c : Course) (ends : Ends) (old new : Outside) : Type 0 where
   pub ended : ends ≡ c.ending
   pub written : Tells old → (p : OutPort) → HoldsSome (writes p) (old.port (Out p)).bytes (new.port (Out p)).bytes
-  pub is_open : (p : OutPort) → outputs (Out p) ≡ true → (new.port (Out p)).is_open ≡ not (is_finished ends)
+  pub is_open : (p : OutPort) → outputs (Out p) ≡ true → (new.port (Out p)).is_open ≡ false
   pub calm : Calm old new
 
 -- One of its files, under a name that is known or not, has failed.

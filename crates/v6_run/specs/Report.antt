@@ -16,8 +16,6 @@ use Rattle.v6_run.specs.declared.status.Status.{Status}
 use Rattle.v6_run.specs.declared.status.Status.TheVariants as status
 use Rattle.v6_base.specs.declared.entry.PanicKind.{PanicKind}
 use Rattle.v6_base.specs.declared.entry.PanicKind.TheVariants as panic
-use Rattle.abstract_unix.specs.declared.turned.Unbuilt.{Unbuilt}
-use Rattle.abstract_unix.specs.declared.turned.Unbuilt.TheVariants.{At}
 use Rattle.v6_run.specs.declared.error.CommandError.{CommandError}
 use Rattle.v6_run.specs.declared.report.Found.{Found}
 use Rattle.v6_run.specs.declared.report.Found.TheVariants as found
@@ -55,9 +53,6 @@ fault_line (NodeOutside inode block) =
 fault_line (BlockTwice block) = line_of (codes "image: block " ++ decimal block ++ codes " twice")
 fault_line NoRoot = line_of (codes "image: no root")
 
-abbrev pub unbuilt_line : Unbuilt → List ℕ
-unbuilt_line (At pc) = line_of (codes "not built: pc " ++ decimal pc)
-
 -- what a panic in Lions' book says
 abbrev pub panic_line : PanicKind → List ℕ
 panic_line panic.Swap = line_of (codes "panic: out of swap space")
@@ -78,7 +73,6 @@ status_line (status.ScriptFault fault) = script_line fault
 status_line (status.ImageFault fault) = fault_line fault
 status_line (status.Panic kind) = panic_line kind
 status_line status.NoMemory = line_of (codes "no memory")
-status_line (status.NotBuilt place) = unbuilt_line place
 
 -- what `check` tells of a disk without a fault: how many nodes and how many free blocks it has
 abbrev pub ok_line : ℕ → ℕ → List ℕ

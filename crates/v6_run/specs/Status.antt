@@ -2,8 +2,7 @@
 use Rattle.std.specs.Prelude.{ℕ, Bool, true, false, Option, Some, None}
 use Rattle.v6_port.specs.Outside.{Port, In, Out}
 use Rattle.v6_run.specs.declared.status.Status.{Status}
-use Rattle.v6_run.specs.declared.status.Status.TheVariants.{Done, Usage, ReadFault, WriteFault, CoreSize, ScriptFault, ImageFault, Panic, NoMemory, NotBuilt}
-use Rattle.abstract_unix.specs.declared.turned.Unbuilt.TheVariants as unbuilt
+use Rattle.v6_run.specs.declared.status.Status.TheVariants.{Done, Usage, ReadFault, WriteFault, CoreSize, ScriptFault, ImageFault, Panic, NoMemory}
 
 abbrev pub status_number : Status → ℕ
 status_number Done = 0
@@ -15,7 +14,6 @@ status_number (ScriptFault fault) = 5
 status_number (ImageFault fault) = 6
 status_number (Panic kind) = 7
 status_number NoMemory = 8
-status_number (NotBuilt place) = 11
 
 -- the port that is at fault
 abbrev pub fault_port : Status → Option Port
@@ -29,13 +27,7 @@ is_decided Done = true
 is_decided (ScriptFault fault) = true
 is_decided (ImageFault fault) = true
 is_decided (Panic kind) = true
-is_decided (NotBuilt place) = true
 is_decided _ = false
-
--- whether it is a run that ends so before its last event, at what isn't built
-abbrev pub is_unfinished : Status → Bool
-is_unfinished (NotBuilt (unbuilt.At pc)) = true
-is_unfinished _ = false
 
 -- whether the files that the command writes are finished then
 abbrev pub is_closed : Status → Bool
@@ -48,4 +40,4 @@ abbrev pub has_written : Status → Bool
 has_written Done = true
 has_written (WriteFault port) = true
 has_written (Panic kind) = true
-has_written status = is_unfinished status
+has_written _ = false

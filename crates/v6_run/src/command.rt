@@ -8,7 +8,7 @@ ghost use Rattle.abstract_unix.specs.Law.{LogsAreLawful};
 ghost use Rattle.v6_run.specs.Words.{command_in, command_value};
 ghost use Rattle.v6_run.specs.Fronts.{HoldsFront};
 ghost use Rattle.v6_run.specs.Report.{report, report_line, told_line};
-ghost use Rattle.v6_run.specs.Status.{is_decided, has_written, is_closed, is_unfinished};
+ghost use Rattle.v6_run.specs.Status.{is_decided, has_written, is_closed};
 ghost use Rattle.v6_run.specs.Errors.{command_status, end_of};
 ghost use Rattle.v6_run.specs.Causes.{HasCause, MissesUnknown};
 ghost use Rattle.v6_run.specs.Headline.{is_core_size, has_core_size, refused_by, reports_done, words_completion, done_line, IsKnownAnd, IsComplete, IsPartial, IsImageGood, words_may_end, is_touched, is_known};
@@ -126,8 +126,8 @@ pub fn v6<H: Host>(alloc: Global, words: &Vec<String>, host: &mut H) -> Status
     ensures unopened { IsSome (refused_by (command_in words.now.items))
         → OnlyAt is_report (H.outside host.old) (H.outside host.new) }
 
-    // Done, ScriptFault, ImageFault, Panic and NotBuilt are exactly what the command's files come to, and each file has got all of a text
-    // that may be written to it. At a write fault each has got a front of one, or nothing.
+    // Done, ScriptFault, ImageFault and Panic are exactly what the command's files come to, and each file has got all of a text that may
+    // be written to it. At a write fault each has got a front of one, or nothing.
     ensures complete { is_decided result ≡ true → Tells (H.outside host.old)
         → IsKnownAnd (words_completion (command_in words.now.items) (H.outside host.old).fixed)
         (IsComplete result (H.outside host.old) (H.outside host.new)) }
@@ -140,9 +140,6 @@ pub fn v6<H: Host>(alloc: Global, words: &Vec<String>, host: &mut H) -> Status
         → (p : OutPort) → is_report (Out p) ≡ false → (H.outside host.new).port (Out p) ≡ (H.outside host.old).port (Out p) }
     ensures closed { is_closed result ≡ true
         → (p : OutPort) → is_report (Out p) ≡ false → ((H.outside host.new).port (Out p)).is_open ≡ false }
-    ensures unfinished { is_unfinished result ≡ true
-        → (p : OutPort) → is_touched (command_in words.now.items) (Out p) ≡ true → is_report (Out p) ≡ false
-        → ((H.outside host.new).port (Out p)).is_open ≡ true }
 
     // Each line of the log of a run has its numbers in their ranges and fits what the lines before it give, so that each choice
     // is the one that the rules give; and the log of a run that comes to the end of its script is lawful.

@@ -136,7 +136,6 @@ fn run_counted<H: Host>(
             shown: played.shown,
             tally: final_tally(kernel, image),
         }),
-        Ends::NotBuilt(place) => Err(RunError::NotBuilt(place)),
         Ends::Panic(kind) => Err(RunError::Panic(kind)),
     }
 }

@@ -71,7 +71,6 @@ fn run_status(error: RunError) -> Status
         RunError::NoMemory => Status::NoMemory,
         RunError::Write(output) => Status::WriteFault(output.port()),
         RunError::Panic(kind) => Status::Panic(kind),
-        RunError::NotBuilt(place) => Status::NotBuilt(place),
     }
 }
 

@@ -26,5 +26,4 @@ pub use command::v6;
 pub use fs_check::ImageFault;
 pub use script_text::ScriptFault;
 pub use status::Status;
-pub use unix_core::Unbuilt;
 pub use v6_base::PanicKind;

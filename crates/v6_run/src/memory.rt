@@ -13,13 +13,12 @@ ghost use Rattle.v6_run.specs.Events.{events_of};
 ghost use Rattle.v6_run.specs.Words.{ToMemory};
 ghost use Rattle.v6_run.specs.Ports.{final_of};
 ghost use Rattle.v6_run.specs.Fronts.{HoldsFront};
-ghost use Rattle.v6_run.specs.Outputs.{port_of, is_finished, memory_writes, core_writes, EndsRun, StopsRun};
+ghost use Rattle.v6_run.specs.Outputs.{port_of, memory_writes, core_writes, EndsRun, StopsRun};
 ghost use Rattle.v6_run.specs.Headline.{outputs_know};
 
 use crate::files::write_all;
 use crate::outputs::Output;
 use crate::ports::Ports;
-use crate::run::is_finished;
 use crate::slots::show_run;
 use script_text::Event;
 use unix_core::{Ends, Kernel};
@@ -76,7 +75,6 @@ fn write_memory<H: Host>(kernel: &mut Kernel, host: &mut H) -> Result<(), Failed
 /// Writes what a run leaves that ends so: after a panic it leaves nothing.
 fn leave_memory<H: Host>(kernel: &mut Kernel, ends: Ends, host: &mut H) -> Result<(), Failed>
     requires phase { kernel.old.phase ≡ phase_after ends }
-    requires finished { is_finished ends ≡ true }
     requires is_open { IsOpen (H.outside host.old) (Out out_port.Final) }
     ensures only { OnlyAt (same (Out out_port.Final)) (H.outside host.old) (H.outside host.new) }
     ensures is_open { IsOpen (H.outside host.new) (Out out_port.Final) }
@@ -90,7 +88,7 @@ fn leave_memory<H: Host>(kernel: &mut Kernel, ends: Ends, host: &mut H) -> Resul
 {
     match ends {
         Ends::AtEnd => write_memory(kernel, host),
-        Ends::NotBuilt(_) | Ends::Panic(_) => Ok(()),
+        Ends::Panic(_) => Ok(()),
     }
 }
 
@@ -120,7 +118,7 @@ fn finish_final<H: Host>(host: &mut H) -> Result<(), Failed>
 }
 
 /// Runs the kernel with the one file of `memory` opened, and tells how the run ends. Where it comes to its end, its core and its
-/// swap area are written; there, and after a panic, the file is finished.
+/// swap area are written; the file is finished then, and after a panic too.
 pub(crate) fn run_to_memory<H: Host>(
     kernel: &mut Kernel,
     events: &[Event],
@@ -143,9 +141,6 @@ pub(crate) fn run_to_memory<H: Host>(
         return Err(Output::Final);
     }
     let ends = play_unshown(kernel, events, host);
-    if !is_finished(ends) {
-        return Ok(ends);
-    }
     if leave_memory(kernel, ends, host).is_err() {
         return Err(Output::Final);
     }

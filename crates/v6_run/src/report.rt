@@ -4,7 +4,7 @@ ghost use Rattle.v6_port.specs.Outside.{Out, OnlyAt, Tells, same};
 ghost use Rattle.v6_port.specs.declared.host.OutPort.TheVariants.{Report};
 ghost use Rattle.v6_port.specs.Causes.{Calm, FaultAt};
 ghost use Rattle.v6_run.specs.Fronts.{HoldsFront};
-ghost use Rattle.v6_run.specs.Report.{report, status_line, unbuilt_line, panic_line, script_line, fault_line, ok_line, demo_line, found_line};
+ghost use Rattle.v6_run.specs.Report.{report, status_line, panic_line, script_line, fault_line, ok_line, demo_line, found_line};
 ghost use Rattle.v6_run.specs.Answers.{Reports};
 
 use crate::demo::Summary;
@@ -14,7 +14,6 @@ use crate::line::{Line, numbered, plain, push_number, twice_numbered};
 use crate::status::Status;
 use fs_check::{ImageFault, Tally};
 use script_text::ScriptFault;
-use unix_core::Unbuilt;
 use v6_base::PanicKind;
 use v6_port::{Failed, Host, InPort, OutPort};
 
@@ -60,14 +59,6 @@ fn fault_line(fault: ImageFault) -> Line
     }
 }
 
-fn unbuilt_line(place: Unbuilt) -> Line
-    ensures { result.bytes ≡ unbuilt_line place }
-{
-    match place {
-        Unbuilt::At(pc) => numbered("not built: pc ", u32::from(pc), ""),
-    }
-}
-
 /// What a panic in Lions' book says.
 fn panic_line(kind: PanicKind) -> Line
     ensures { result.bytes ≡ panic_line kind }
@@ -98,7 +89,6 @@ fn status_line(status: Status) -> Line
         Status::ImageFault(fault) => fault_line(fault),
         Status::Panic(kind) => panic_line(kind),
         Status::NoMemory => plain("no memory"),
-        Status::NotBuilt(place) => unbuilt_line(place),
     }
 }
 

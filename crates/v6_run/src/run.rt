@@ -15,7 +15,7 @@ ghost use Rattle.v6_run.specs.Words.{Run, ToDisk, disk_files_value, run_words_va
 ghost use Rattle.v6_run.specs.Events.{events_of};
 ghost use Rattle.v6_run.specs.Ports.{HasShown, HasShownFronts};
 ghost use Rattle.v6_run.specs.Errors.{end_of, run_status};
-ghost use Rattle.v6_run.specs.Outputs.{port_of, is_shown, is_disk_output, is_output, is_finished, disk_writes, run_writes, EndsRun, StopsRun};
+ghost use Rattle.v6_run.specs.Outputs.{port_of, is_shown, is_disk_output, is_output, disk_writes, run_writes, EndsRun, StopsRun};
 ghost use Rattle.v6_run.specs.Headline.{outputs_know};
 ghost use Rattle.v6_run.specs.Answers.{Answers, HasFiles};
 
@@ -30,7 +30,7 @@ use crate::words::{DiskFiles, Outputs, RunWords};
 use fs_codec::SWAP_START;
 use script_text::{Event, MAX_BYTES};
 use std::alloc::Global;
-use unix_core::{BootFault, Ends, Kernel, Unbuilt};
+use unix_core::{BootFault, Ends, Kernel};
 use v6_base::PanicKind;
 use v6_port::{Host, InPort};
 
@@ -44,7 +44,7 @@ pub(crate) enum RunError {
     Image(ImageError),
     /// The script could not be read.
     Script(ReadError),
-    /// The script has a fault, or a line that is not built.
+    /// The script has a fault.
     Refused(ScriptError),
     /// There was no memory for a kernel.
     NoMemory,
@@ -52,8 +52,6 @@ pub(crate) enum RunError {
     Write(Output),
     /// The run came to a panic.
     Panic(PanicKind),
-    /// The run comes to what is not built.
-    NotBuilt(Unbuilt),
 }
 
 impl From<ImageError> for RunError {
@@ -136,18 +134,8 @@ fn play<H: Host>(kernel: &mut Kernel, events: &[Event], host: &mut H) -> Result<
     }
 }
 
-/// Whether a run that ends so leaves its files finished.
-pub(crate) fn is_finished(ends: Ends) -> bool
-    ensures { result ≡ is_finished ends }
-{
-    match ends {
-        Ends::AtEnd | Ends::Panic(_) => true,
-        Ends::NotBuilt(_) => false,
-    }
-}
-
-/// Runs the kernel with the files of `run` opened, and tells how the run ends. Where it leaves its disk, that is written, and
-/// then the files are finished.
+/// Runs the kernel with the files of `run` opened, and tells how the run ends: the disk that it leaves is written, and then the
+/// files are finished.
 fn run_to_disk<H: Host>(
     kernel: &mut Kernel,
     events: &[Event],
@@ -170,9 +158,6 @@ fn run_to_disk<H: Host>(
 {
     open_outputs(files, host)?;
     let ends = play(kernel, events, host)?;
-    if !is_finished(ends) {
-        return Ok(ends);
-    }
     if leave_disk(kernel, host).is_err() {
         return Err(Output::Final);
     }
@@ -245,7 +230,6 @@ pub(crate) fn run<H: Host>(
     let mut kernel = boot(alloc, &files.image, words.core)?;
     match run_with_outputs(&mut kernel, &script.events, words, host) {
         Ok(Ends::AtEnd) => Ok(()),
-        Ok(Ends::NotBuilt(place)) => Err(RunError::NotBuilt(place)),
         Ok(Ends::Panic(kind)) => Err(RunError::Panic(kind)),
         Err(output) => Err(RunError::Write(output)),
     }

@@ -30,7 +30,6 @@ fn run_slots<T: Trace>(kernel: &mut Kernel, count: u32, trace: &mut T) -> Ends
     'slots: for _ in 0..count {
         match kernel.turn(trace) {
             Turned::Ran | Turned::Idle => {}
-            Turned::NotBuilt(place) => return Ends::NotBuilt(place),
             Turned::Panic(kind) => return Ends::Panic(kind),
         }
     }
@@ -185,7 +184,7 @@ fn last_line<T: Trace>(ends: Ends, trace: &mut T)
 {
     match ends {
         Ends::AtEnd => trace.entry(Entry::End),
-        Ends::NotBuilt(_) | Ends::Panic(_) => {}
+        Ends::Panic(_) => {}
     }
 }
 

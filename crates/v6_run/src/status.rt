@@ -4,7 +4,6 @@ ghost use Rattle.v6_run.specs.Status.{status_number};
 
 use fs_check::ImageFault;
 use script_text::ScriptFault;
-use unix_core::Unbuilt;
 use v6_base::PanicKind;
 use v6_port::{InPort, OutPort};
 
@@ -29,8 +28,6 @@ pub enum Status {
     Panic(PanicKind),
     /// There was no memory, before the first slot of a run, or before a demo reports, and before anything else is written.
     NoMemory,
-    /// The run comes to something that is not built yet.
-    NotBuilt(Unbuilt),
 }
 
 impl Status {
@@ -48,7 +45,6 @@ impl Status {
             Status::ImageFault(_) => 6,
             Status::Panic(_) => 7,
             Status::NoMemory => 8,
-            Status::NotBuilt(_) => 11,
         }
     }
 }

@@ -12,7 +12,7 @@ use crate::system_calls::world::{DATA_END, World};
 use proc_tab::Row;
 use sys_files::{
     Files, chdir_to, chmod_to, chown_to, close_all, close_file, creat_file, dup_file, gtty_get,
-    link_file, mknod_at, open_file, read_file, seek_to, stat_file, stat_open, stty_set, sync_all,
+    link_file, mknod_at, open_file, pipe_new, read_file, seek_to, stat_file, stat_open, stty_set, sync_all,
     unlink_file, write_file,
 };
 use u_area::UArea;
@@ -46,6 +46,7 @@ pub enum Call {
     /// A name and an address.
     Stat(&'static [u8], u16),
     Sync,
+    Pipe,
 }
 
 /// What a call comes to.
@@ -55,12 +56,16 @@ pub enum Told {
     Done,
     /// It is done, R0 takes a word, and R1 stays.
     Gives(u16),
+    /// It is done, and R0 and R1 take a word each.
+    GivesTwo(u16, u16),
     Fails(Errno),
     /// It waits for keys, at the priority of terminal input.
     Waits,
+    /// It waits for bytes of a pipe, or for room, at the priority of pipes.
+    WaitsIn(Chan),
 }
 
-/// R0 of a call without a number, and R1 of every call.
+/// R0 of a call without a number, and R1 of every call before it.
 const R0: u16 = 0o123;
 
 const R1: u16 = 0o456;
@@ -105,7 +110,7 @@ fn arguments(space: &mut Whole, call: Call) -> [u16; 4] {
             let at = put_name(space, new, NEW_END);
             [put_name(space, name, DATA_END), at, 0, 0]
         }
-        Call::Dup(_) | Call::Close(_) | Call::CloseAll | Call::Sync => [0; 4],
+        Call::Dup(_) | Call::Close(_) | Call::CloseAll | Call::Sync | Call::Pipe => [0; 4],
     }
 }
 
@@ -133,6 +138,7 @@ fn by_number(
         Call::Stty(..) => stty_set(f, 1, u, row, s, args, now, t),
         Call::Gtty(..) => gtty_get(f, 1, u, row, s, args, now, t),
         Call::Sync => sync_all(f, 1, u, row, s, args, now, t),
+        Call::Pipe => pipe_new(f, 1, u, row, s, args, now, t),
         _ => {
             close_all(f, u, now, t);
             Answer::Ret { r0: R0, r1: R1 }
@@ -195,6 +201,7 @@ pub fn is(answer: Answer, r0: u16, told: Told) -> bool {
     match told {
         Told::Done => answer == Answer::Ret { r0, r1: R1 },
         Told::Gives(r0) => answer == Answer::Ret { r0, r1: R1 },
+        Told::GivesTwo(r0, r1) => answer == Answer::Ret { r0, r1 },
         Told::Fails(errno) => answer == Answer::Fail(errno),
         Told::Waits => {
             answer
@@ -203,5 +210,6 @@ pub fn is(answer: Answer, r0: u16, told: Told) -> bool {
                     chan: Chan::Keys,
                 }
         }
+        Told::WaitsIn(chan) => answer == Answer::Sleep { pri: 1, chan },
     }
 }

@@ -29,6 +29,8 @@ pub enum Look {
     File(usize, u16, u32, u16),
     /// Whether it can be read and written.
     Kind(usize, bool, bool),
+    /// It is an end of a pipe, which can be read or else written.
+    End(usize, bool),
     /// One more than the entry of a number, or 0.
     Number(usize, u8),
     /// The current directory.
@@ -45,6 +47,10 @@ pub enum Look {
     Memory(u16, &'static [u8]),
     /// What was shown since the last such look, and how often those who wait for keys were woken.
     Shown(&'static [u8], usize),
+    /// The lines of the log since the last look at what was shown or logged.
+    Logged(&'static [Entry]),
+    /// The signal that the process has, or 0.
+    Posted(u8),
     /// How many inodes are used and how many blocks free; and the disk has no fault.
     Counts(u16, u16),
     /// Bytes of the disk.
@@ -112,10 +118,10 @@ fn is_file(w: &World, fd: usize, ino: u16, offset: u32, count: u16) -> bool {
     }
 }
 
-fn is_of_kind(w: &World, fd: usize, reading: bool, writing: bool) -> bool {
+fn is_of_kind(w: &World, fd: usize, reading: bool, writing: bool, pipe: bool) -> bool {
     match file(w, fd) {
         Some(file) => {
-            (file.kind.reading, file.kind.writing, file.kind.pipe) == (reading, writing, false)
+            (file.kind.reading, file.kind.writing, file.kind.pipe) == (reading, writing, pipe)
         }
         None => false,
     }
@@ -137,6 +143,12 @@ fn has_shown(tape: &mut Tape, bytes: &[u8], wakes: usize) -> bool {
             .entries()
             .iter()
             .all(|entry| *entry == Entry::Wake(Chan::Keys));
+    tape.clear();
+    right
+}
+
+fn has_logged(tape: &mut Tape, entries: &[Entry]) -> bool {
+    let right = tape.entries() == entries;
     tape.clear();
     right
 }
@@ -190,11 +202,13 @@ fn shows_inode(nodes: &mut Nodes, look: Look) -> bool
 pub fn shows(w: &mut World, look: Look) -> bool
     ensures references { w.new.files.tree.nodes.references ≡ w.old.files.tree.nodes.references }
     ensures table { w.new.files.table ≡ w.old.files.table }
+    ensures pipes { w.new.files.pipes ≡ w.old.files.pipes }
     ensures process { w.new.u ≡ w.old.u }
 {
     match look {
         Look::File(fd, ino, offset, count) => is_file(w, fd, ino, offset, count),
-        Look::Kind(fd, reading, writing) => is_of_kind(w, fd, reading, writing),
+        Look::Kind(fd, reading, writing) => is_of_kind(w, fd, reading, writing, false),
+        Look::End(fd, reading) => is_of_kind(w, fd, reading, !reading, true),
         Look::Number(fd, number) => w.u.files.get(fd) == Some(&number),
         Look::Directory(ino) => w.u.dir == ino,
         Look::Terminal(tty) => w.row.tty == tty,
@@ -203,6 +217,8 @@ pub fn shows(w: &mut World, look: Look) -> bool
         Look::IsOpen(is) => w.files.line.is_open() == is,
         Look::Memory(at, bytes) => has_bytes(&w.space, at, bytes),
         Look::Shown(bytes, wakes) => has_shown(&mut w.tape, bytes, wakes),
+        Look::Logged(entries) => has_logged(&mut w.tape, entries),
+        Look::Posted(sig) => w.row.sig == sig,
         Look::Counts(used, free) => counts(&mut w.files.tree.nodes, used, free, w.now),
         _ => shows_inode(&mut w.files.tree.nodes, look),
     }

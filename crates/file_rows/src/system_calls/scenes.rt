@@ -1,5 +1,9 @@
 //! Scenes: what happens on the small disk, step by step.
 ghost use Rattle.std.specs.Prelude.{◌≡◌, true};
+ghost use Rattle.v6_base.specs.Image.{Image};
+ghost use Rattle.proc_tab.specs.declared.row.Row.{Row};
+ghost use Rattle.sys_files.specs.Handed.{handed};
+ghost use Rattle.sys_files.specs.Sound.{IsInPipe, CanGoOn};
 ghost use Rattle.file_rows.specs.Ready.{IsReady};
 
 use crate::file_system::files::have_room;
@@ -28,6 +32,8 @@ pub enum Step {
     OnLine(u8),
     /// Another process, without an open file, goes on.
     Fresh,
+    /// The process has this signal from now on, or none.
+    Posts(u8),
     /// The memory has 64 bytes of text from address 0 on, and its data begin at address 8,192.
     Text,
     /// Bytes stand at an address.
@@ -58,11 +64,33 @@ fn does(w: &mut World, call: Call, told: Told) -> bool
     is(answer, number(call), told)
 }
 
+/// Whether the process waits in a pipe whose end is open still.
+fn is_in_pipe(w: &World) -> bool
+    ensures { result ≡ true → (row : Row) (image : Image) → IsInPipe (handed w.entry.now.files w.entry.now.u row image) }
+{
+    let [entry, _, count, left, ..] = w.u.call;
+    if entry >= 100 || left > count || !w.files.table.in_use(entry as u8) {
+        return false;
+    }
+    w.files.table.file(entry as u8).kind.pipe
+}
+
+/// Whether the process waits in a call that can go on: a read of the console, or a read or a write of a pipe.
+fn can_go_on(w: &World) -> bool
+    ensures { result ≡ true → (row : Row) (image : Image) → CanGoOn (handed w.entry.now.files w.entry.now.u row image) }
+{
+    match w.u.pending {
+        1 => true,
+        3 | 4 => is_in_pipe(w),
+        _ => false,
+    }
+}
+
 fn goes_on(w: &mut World, told: Told) -> bool
     requires { IsReady w.old.files.table w.old.files.pipes w.old.u.files w.old.u.dir w.old.files.tree.nodes.references }
     ensures { IsReady w.new.files.table w.new.files.pipes w.new.u.files w.new.u.dir w.new.files.tree.nodes.references }
 {
-    if !have_room(&w.files.table) || w.u.pending != 1 {
+    if !have_room(&w.files.table) || !can_go_on(w) {
         return false;
     }
     let r0 = w.u.r[0];
@@ -114,6 +142,7 @@ fn changes(w: &mut World, step: Step) -> bool
         Step::Now(time) => w.now = time,
         Step::OnLine(tty) => w.row.tty = tty,
         Step::Fresh => w.u.files = [0; 15],
+        Step::Posts(sig) => w.row.sig = sig,
         Step::Text => w.space.set_sizes(1, 20, 1),
         _ => return false,
     }

@@ -25,10 +25,9 @@ returns-then-is_err-2-clause-outcome g c =
     let opens = subst (λ (o : Outside). OnlyAt (same (Out out_port.Final)) a o) (sym played.outside) c.open_final.ensures.only in
     let opened = ap (λ (o : Outside). (final_of o).bytes) played.outside ∙ c.open_final.ensures.bytes in
     let calm = subst (λ (o : Outside). Calm a o) (sym played.outside) (calm_where_ok c.open_final.result _ _ c.if-is_err.ensures.value c.open_final.ensures.cause) in
-    let is = sym c.is_finished.ensures ∙ c.if-not-is_finished.false in
     let left = c.leave_memory.ensures in
     let leaves = subst (λ (m : System). memory_writes c.play_unshown-ends.result m left.written.0) played.system left.written.1 in
-    memory_stopped run a _ opens opened c.play_unshown-ends.result played.ending is left.written.0 leaves _ left.only _ left.written.3 calm
+    memory_stopped run a _ opens opened c.play_unshown-ends.result played.ending left.written.0 leaves _ left.only _ left.written.3 calm
     (fault_where_err c.leave_memory.result _ _ c.if-is_err-2.ensures.value left.cause)
 
 pub returns-then-is_err-3-clause-outcome : goal.returns-then-is_err-3-clause-outcome
@@ -39,10 +38,9 @@ returns-then-is_err-3-clause-outcome g c =
     let opens = subst (λ (o : Outside). OnlyAt (same (Out out_port.Final)) a o) (sym played.outside) c.open_final.ensures.only in
     let opened = ap (λ (o : Outside). (final_of o).bytes) played.outside ∙ c.open_final.ensures.bytes in
     let calm = subst (λ (o : Outside). Calm a o) (sym played.outside) (calm_where_ok c.open_final.result _ _ c.if-is_err.ensures.value c.open_final.ensures.cause) in
-    let is = sym c.is_finished.ensures ∙ c.if-not-is_finished.false in
     let left = c.leave_memory.ensures in
     let leaves = subst (λ (m : System). memory_writes c.play_unshown-ends.result m left.written.0) played.system left.written.1 in
-    memory_unfinished run a _ opens opened c.play_unshown-ends.result played.ending is left.written.0 leaves _ left.only
+    memory_unfinished run a _ opens opened c.play_unshown-ends.result played.ending left.written.0 leaves _ left.only
     (told_where_ok c.leave_memory.result _ c.if-is_err-2.ensures.value left.written.2) _ c.finish_final.ensures.only c.finish_final.ensures.bytes _ calm
     (calm_where_ok c.leave_memory.result _ _ c.if-is_err-2.ensures.value left.cause)
     (fault_where_err c.finish_final.result _ _ c.if-is_err-3.ensures.value c.finish_final.ensures.cause)
@@ -55,10 +53,9 @@ returns-clause-outcome g c =
     let opens = subst (λ (o : Outside). OnlyAt (same (Out out_port.Final)) a o) (sym played.outside) c.open_final.ensures.only in
     let opened = ap (λ (o : Outside). (final_of o).bytes) played.outside ∙ c.open_final.ensures.bytes in
     let calm = subst (λ (o : Outside). Calm a o) (sym played.outside) (calm_where_ok c.open_final.result _ _ c.if-is_err.ensures.value c.open_final.ensures.cause) in
-    let is = sym c.is_finished.ensures ∙ c.if-not-is_finished.false in
     let left = c.leave_memory.ensures in
     let leaves = subst (λ (m : System). memory_writes c.play_unshown-ends.result m left.written.0) played.system left.written.1 in
-    memory_left run a _ opens opened c.play_unshown-ends.result played.ending is left.written.0 leaves _ left.only
+    memory_left run a _ opens opened c.play_unshown-ends.result played.ending left.written.0 leaves _ left.only
     (told_where_ok c.leave_memory.result _ c.if-is_err-2.ensures.value left.written.2) _ c.finish_final.ensures.only c.finish_final.ensures.bytes
     (told_where_ok c.finish_final.result _ c.if-is_err-3.ensures.value c.finish_final.ensures.is_open) calm
     (calm_where_ok c.leave_memory.result _ _ c.if-is_err-2.ensures.value left.cause)

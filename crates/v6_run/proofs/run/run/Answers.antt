@@ -80,28 +80,6 @@ returns-in-Ok-AtEnd g c =
     let ended = subst (λ (e : Ends). EndsRun (is_output words.outputs) (run_writes words.outputs (block_at kernel.blocks) (course (started kernel.system) (events_of c.deref-3.result.now))) (course (started kernel.system) (events_of c.deref-3.result.now)) e middle new) none c.in-Ok-AtEnd.ensures.outcome in
     run_ended words image bytes old middle files _ script_is kernel.system boots_is new only AtEnd (ends_over (disk_of image) (block_at kernel.blocks) (same_blocks image kernel.blocks blocks_is) words.outputs _ _ _ _ ended)
 
-pub returns-in-Ok-NotBuilt : goal.returns-in-Ok-NotBuilt
-returns-in-Ok-NotBuilt g c =
-    let words = run_words_value c.args.words.now in
-    let old = g.H.Host.outside c.args.host.now in
-    let middle = g.H.Host.outside c.read_files.new.host in
-    let new = g.H.Host.outside c.run_with_outputs.new.host in
-    let files = value_where_ok _ _ _ c.in_ok-files.was c.read_files.ensures.files in
-    let image = c.in_ok-files.files.image.items in
-    let bytes = c.in_ok-files.files.script.items in
-    let events = c.in_ok-script.script.events.items in
-    let kernel = c.in_ok-kernel.kernel in
-    let read = subst (λ l. script_of l ≡ Ok events) c.deref.ensures.value (value_where_ok _ _ _ c.in_ok-script.was c.read_script.ensures.events) in
-    let script_is = subst (λ l. script_of bytes ≡ Ok l) (sym c.deref-3.ensures.value) read in
-    let boots_is = subst (λ l. boots l words.core ≡ Some kernel.system) c.deref-2.ensures.value (value_where_ok _ _ _ c.in_ok-kernel.was c.boot.ensures.system) in
-    let blocks_is = subst (λ l. kernel.blocks ≡ blocks_of l) c.deref-2.ensures.value (value_where_ok _ _ _ c.in_ok-kernel.was c.boot.ensures.blocks) in
-    let only = c.run_with_outputs.ensures.only in
-    let field = c.in-Ok-NotBuilt.field-0-is in
-    let same = c.in-Ok-NotBuilt.place-is in
-    let some : c.in-Ok-NotBuilt.field-0 ≡ ends.NotBuilt c.in-Ok-NotBuilt.place = cc in
-    let ended = subst (λ (e : Ends). EndsRun (is_output words.outputs) (run_writes words.outputs (block_at kernel.blocks) (course (started kernel.system) (events_of c.deref-3.result.now))) (course (started kernel.system) (events_of c.deref-3.result.now)) e middle new) some c.in-Ok-NotBuilt.ensures.outcome in
-    run_ended words image bytes old middle files _ script_is kernel.system boots_is new only (ends.NotBuilt c.in-Ok-NotBuilt.place) (ends_over (disk_of image) (block_at kernel.blocks) (same_blocks image kernel.blocks blocks_is) words.outputs _ _ _ _ ended)
-
 pub returns-in-Ok-Panic : goal.returns-in-Ok-Panic
 returns-in-Ok-Panic g c =
     let words = run_words_value c.args.words.now in

@@ -1,4 +1,4 @@
-use Rattle.std.proofs.Common.{◌∙◌, sym, subst}
+use Rattle.std.proofs.Common.{◌∙◌}
 use Rattle.abstract_unix.specs.Runs.{started, course}
 use Rattle.v6_run.specs.Events.{events_of}
 use Rattle.v6_run.proofs.ResultLemmas.{match_passed}
@@ -20,10 +20,9 @@ returns-then-is_err-clause-outcome g c =
     let run = course (started c.args.kernel.now.system) (events_of c.args.events.now) in
     let opened = c.in_ok-open_outputs.ensures in
     let played = c.in_ok-ends.ensures in
-    let is = sym c.is_finished.ensures ∙ c.if-not-is_finished.false in
     let written = c.leave_disk.ensures in
     let leaves = run_leaves c.args.kernel.now c.play.new.kernel c.leave_disk.new.kernel run c.requires.root played.system played.rest written.system written.stands written.rest written.form written.written.0 written.written.1 in
-    stopped_writing _ run _ _ _ opened.only opened.bytes played.only played.shown _ played.ending is _ leaves _ written.only _ written.written.3 opened.cause played.cause
+    stopped_writing _ run _ _ _ opened.only opened.bytes played.only played.shown _ played.ending _ leaves _ written.only _ written.written.3 opened.cause played.cause
     (fault_where_err c.leave_disk.result _ _ c.if-is_err.ensures.value written.cause)
 
 pub returns-in_err-finish_outputs-clause-outcome : goal.returns-in_err-finish_outputs-clause-outcome
@@ -31,12 +30,11 @@ returns-in_err-finish_outputs-clause-outcome g c =
     let run = course (started c.args.kernel.now.system) (events_of c.args.events.now) in
     let opened = c.in_ok-open_outputs.ensures in
     let played = c.in_ok-ends.ensures in
-    let is = sym c.is_finished.ensures ∙ c.if-not-is_finished.false in
     let written = c.leave_disk.ensures in
     let finished = c.in_err-finish_outputs.ensures in
     let leaves = run_leaves c.args.kernel.now c.play.new.kernel c.leave_disk.new.kernel run c.requires.root played.system played.rest written.system written.stands written.rest written.form written.written.0 written.written.1 in
     match_passed _ _ _ _ c.from_residual-in_err-finish_outputs.ensures.1
-    (stopped_finishing _ run _ _ _ opened.only opened.bytes played.only played.shown _ played.ending is _ leaves _ written.only
+    (stopped_finishing _ run _ _ _ opened.only opened.bytes played.only played.shown _ played.ending _ leaves _ written.only
     (told_where_ok c.leave_disk.result _ c.if-is_err.ensures.value written.written.2) _ finished.bytes _ _ opened.cause played.cause
     (calm_where_ok c.leave_disk.result _ _ c.if-is_err.ensures.value written.cause) finished.cause)
 
@@ -45,10 +43,9 @@ returns-clause-outcome g c =
     let run = course (started c.args.kernel.now.system) (events_of c.args.events.now) in
     let opened = c.in_ok-open_outputs.ensures in
     let played = c.in_ok-ends.ensures in
-    let is = sym c.is_finished.ensures ∙ c.if-not-is_finished.false in
     let written = c.leave_disk.ensures in
     let finished = c.in_ok-finish_outputs.ensures in
     let leaves = run_leaves c.args.kernel.now c.play.new.kernel c.leave_disk.new.kernel run c.requires.root played.system played.rest written.system written.stands written.rest written.form written.written.0 written.written.1 in
-    came_to_end _ run _ _ _ opened.only opened.bytes played.only played.shown _ played.ending is _ leaves _ written.only
+    came_to_end _ run _ _ _ opened.only opened.bytes played.only played.shown _ played.ending _ leaves _ written.only
     (told_where_ok c.leave_disk.result _ c.if-is_err.ensures.value written.written.2) _ finished.bytes finished.is_open opened.cause played.cause
     (calm_where_ok c.leave_disk.result _ _ c.if-is_err.ensures.value written.cause) finished.cause

@@ -11,19 +11,6 @@ use Rattle.v6_run.proofs.slots.run_slots.Goals as goal
 pub slots-init : goal.slots-init
 slots-init g c = record { run = run_none _ _; phase = c.requires.started; rest = rest_stays _; frame = g.met.T.Trace.stays _ }
 
-pub returns-in-NotBuilt : goal.returns-in-NotBuilt
-returns-in-NotBuilt g c =
-    let turn = c.turn.ensures in
-    let ended = turn_told (event_of Slot c.slots.kernel.system) ∙ ap ending_told (sym turn.answer ∙ c.in-NotBuilt.is) in
-    let one = run_event c.slots.kernel.system _ Slot (ends.NotBuilt c.in-NotBuilt.place) _ _ turn.next turn.items ended in
-    let left = c.args.count - (c.slots.counter + 1) in
-    record {
-      phase = turn.phase ∙ ap phase_after ended;
-      run = run_last _ _ _ _ _ _ _ _ _ (replicate left Slot) _ c.slots.invariant.run (λ is. absurd (cc is)) one (some_more c.args.count c.slots.counter c.slots-test.true);
-      rest = rest_then _ _ _ c.slots.invariant.rest turn.rest;
-      frame = g.met.T.Trace.goes_on _ _ _ c.slots.invariant.frame turn.frame;
-    }
-
 pub returns-in-Panic : goal.returns-in-Panic
 returns-in-Panic g c =
     let turn = c.turn.ensures in
