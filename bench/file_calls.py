@@ -34,7 +34,7 @@ from random_calls import random_plan
 from random_disk import Tree
 from random_program import CALLS, MARK, RESULTS, Call, init_of, items_of, slots_of
 
-DISK_BYTES, SWAP_AT, NOT_BUILT = 2494464, 2048000, 11
+DISK_BYTES, SWAP_AT = 2494464, 2048000
 ERRORS = {1: "EPERM", 2: "ENOENT", 6: "ENXIO", 9: "EBADF", 13: "EACCES", 17: "EEXIST", 20: "ENOTDIR", 21: "EISDIR",
           23: "ENFILE", 24: "EMFILE", 27: "EFBIG", 28: "ENOSPC", 29: "ESPIPE", 31: "EMLINK"}
 Outcome = collections.namedtuple("Outcome", "status report term final")

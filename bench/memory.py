@@ -7,8 +7,7 @@ COMMAND is a built v6. The runs are by turns those of bench/processes.py, those 
 `small`, or all of them those with the word `full`; COUNT seeds from FIRST on (0 where it isn't given). Compared are the status,
 the report, the number of bytes, and each byte of core and of the swap area that is prescribed: u areas, data and stacks of
 processes that live, half of the u area of each that has ended, and texts; and the same of the swap area of the disk that `v6 run`
-leaves. Where a run comes to what isn't built, nothing may be
-written, and nothing is compared; where it comes to a panic `memory` may write nothing, and the disk alone is compared.
+leaves. Where a run comes to a panic `memory` may write nothing, and the disk alone is compared.
 
 The reference is the Python module `abstract_unix`; the environment variable ABSTRACT_UNIX names the folder in which it is.
 It writes beside its FINAL a mask, with 1 for each byte that is prescribed.
@@ -21,7 +20,7 @@ import subprocess
 import sys
 import tempfile
 
-from file_calls import NOT_BUILT, SWAP_AT
+from file_calls import SWAP_AT
 from processes import PANIC, Case, ExecCase, FullCase, in_small_core
 
 KINDS = (Case, ExecCase, in_small_core(Case), in_small_core(ExecCase))
@@ -42,8 +41,6 @@ def differences(command, oracle, case, folder):
     mine, other = f"{folder}/mine", f"{folder}/other"
     done = subprocess.run([*command, *words, mine], capture_output=True, check=False)
     came = read(mine)
-    if done.returncode == NOT_BUILT:
-        return False, 0, ["something was written"] if came else []
     said = io.StringIO()
     with contextlib.redirect_stdout(said):
         status = oracle([*words, other])

@@ -1,7 +1,7 @@
 """Which calls a random program makes: in short sequences that belong together, with good arguments and bad ones.
 
 No call opens the console for reading, and no buffer lies where nothing is. So a program comes to no fault and waits for
-nothing, but for an ending that isn't built.
+nothing, but for an ending by a signal.
 """
 from random_disk import CHARACTER, CONSOLE, NAMES
 from random_program import MOST_BYTES, STACK, TOP, Call, Plan, assembled, may_be_console, text_of

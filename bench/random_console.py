@@ -306,7 +306,7 @@ class Chooser:
         return self.rng.choices([kind for kind, _ in kinds], [weight for _, weight in kinds])[0]()
 
     def broken(self):
-        """A call or an instruction that isn't built."""
+        """A call or an instruction that makes a signal."""
         bad = self.rng.choice((0o60000, 0o60001, STACK - 1, STACK - 3))
         odd = self.rng.choice((STACK + 1, STACK - 2, 0o60000))
         kinds = (Call(READ, bad, 5, r0=FD), Call(READ, bad, 5, r0=FD), Call(WRITE, bad, 7, r0=FD),

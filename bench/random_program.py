@@ -35,7 +35,7 @@ class Call:
 class Plan(collections.namedtuple("Plan", "calls fd in_file leave_open total room registers ending exits")):
     """The calls, and what is around them: the number of the file that takes results, and whether it is a plain file;
     whether the numbers below it are left open; the bytes of text, data and bss; the bytes of room; what R1 and R2
-    hold; a last call that isn't built; whether the program exits."""
+    hold; a last call that makes a signal; whether the program exits."""
 
     def clicks_end(self):
         """The address behind the data."""

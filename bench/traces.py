@@ -7,7 +7,7 @@
 The runs are those of bench/processes.py, cut after SLOTS slots (1,000): a seed gives a disk, a size of core and a script.
 COMMAND is a built v6. Compared are, turn by turn in the kernel, the slot of the run, the number of the process, the name of the
 call, whether it waits, ends or goes on, the error or the number that is the answer, and how many turns there are. Where the run
-comes to what isn't built, the turns until then are compared.
+comes to a panic, the turns until then are compared.
 
 The reference is the Python module `abstract_unix`; the environment variable ABSTRACT_UNIX names the folder in which it is. Of a v6
 without the command `memory`, the memory of each moment is the reference's too: then the moments, the names of processes and the
@@ -120,7 +120,7 @@ def compare(command, count, first, slots, kind):
             run = (Run if has_memory else ReferenceRun)(command, folder + "/image", case.core, script, folder)
             told = [said for _, said in trace.Tracer(run, options).follow()]
         want = turns_of(case.image, case.core, script) if not run.status else None
-        if want is None:  # up to what isn't built
+        if want is None:  # up to a panic
             want = turns_of(case.image, case.core, Script(script).cut(int(TOLD.match(told[-1])[1]), True))[: len(told)]
         turns += len(want)
         found = [f"{turn}: {said}" for turn, said in zip(want, told) if not fits(turn, said)]

@@ -253,10 +253,6 @@ class Refused(DialogueError):
 
 def reason(played, lines):
     """Why a run isn't done, with the line of the script that the program names."""
-    found = re.fullmatch(r"(script: line|script: too many slots at line|not built: line) ([0-9]+)", played.said)
+    found = re.fullmatch(r"(script: line|script: too many slots at line) ([0-9]+)", played.said)
     line = lines[int(found[2]) - 1].decode("ascii", "replace") if found and int(found[2]) <= len(lines) else ""
-    if not found:
-        return played.said
-    if found[1] == "not built: line":
-        return f"{played.said}: the keys that interrupt (0177, control-C) and quit (034) make signals, which aren't built yet"
-    return f"{played.said}: '{line}'"
+    return f"{played.said}: '{line}'" if found else played.said

@@ -11,7 +11,7 @@ from scriptfile import COUNT, OTHER, ScriptError, lines_of
 
 CLICK, BLOCK, SEGMENT, U_AREA, ADDRESSES = 64, 512, 8192, 1024, 65536
 SWAP_BYTES = (SWAP_LAST - SWAP_FIRST + 1) * BLOCK
-DONE, USAGE, NOT_BUILT = 0, 1, 11  # of the program's statuses: docs/manual/commands.md
+DONE, USAGE = 0, 1  # of the program's statuses: docs/manual/commands.md
 WORKERS = os.cpu_count() or 1
 ENDS = ("trap", "sleep", "exit")  # words of the lines with which a turn in the kernel ends
 
@@ -139,7 +139,7 @@ class Run:
         return found
 
     def end(self):
-        """After how many slots the run can be shown last: all of the script's, or fewer where it comes to what isn't built."""
+        """After how many slots the run can be shown last: all of the script's, or fewer where it comes to a panic."""
         if self.status == DONE:
             return self.script.slots
         low, high = -1, self.script.slots

@@ -15,7 +15,7 @@ from processes import BUSY, RUNS, WAITS
 from program import CORE, V6, ProgramError, add_version, call
 from volume import CHARACTER, ROOT, DiskError, Volume, check_name
 
-FAILED, OUT_OF_SLOTS, NOT_BUILT = 125, 124, 126  # the status where it isn't the program's own
+FAILED, OUT_OF_SLOTS, STOPPED = 125, 124, 126  # the status where it isn't the program's own
 ENDS = 20  # how often the end of a file is typed to a program that reads on
 PIECE = 200  # keys that are typed at once: 256 may wait
 EXACT = 1000000  # up to so many slots are counted exactly
@@ -226,15 +226,6 @@ def word_of(volume, path):
     return struct.unpack("<H", data)[0] if len(data) == 2 else None
 
 
-def where(said, assembler):
-    """The line of the source that an answer of the program speaks of."""
-    address = said.removeprefix("not built: pc ")
-    if not (assembler and address.isdecimal()):
-        return said
-    lines = [text for part, start, text in assembler.lines if part == "text" and start <= int(address) and text.strip()]
-    return f"{said}: {lines[-1].strip()}" if lines and int(address) < assembler.sizes["text"] else said
-
-
 def finish(run, found, options):
     """Tells how the program ended; gives its status."""
     image = run.machine.disk(run.dialogue.lines())
@@ -273,8 +264,8 @@ def run_program(options):
             found = run.run(Input(sys.stdin.buffer))
         except Refused as error:
             run.show(error.term)
-            tell(where(str(error), assembler))
-            return NOT_BUILT
+            tell(str(error))
+            return STOPPED
         return finish(run, found, options)
 
 

@@ -9,7 +9,7 @@ trap 'rm -rf "$out"' EXIT
 
 cp -R $here/disk "$out/disk"
 mkdir "$out/disk/bin" "$out/disk/etc"
-for name in cat chmod cmp cp date echo ed ln ls mkdir mv od ps rm sh sleep stty wc; do
+for name in cat chmod cmp cp date echo ed kill ln ls mkdir mv od ps rm sh sleep stty wc; do
     tools/as.py -o "$out/disk/bin/$name" $here/src/$name.s $here/src/lib.s
 done
 cp "$out/disk/bin/sh" "$out/disk/etc/init"

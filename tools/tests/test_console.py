@@ -36,6 +36,16 @@ rm slp.c
 ls
 eck#ho hello, world >/tmp/greeting
 cat /tmp/greeting
+ls /bin ^ wc
+echo again >>/tmp/greeting; cat </tmp/greeting ^ wc
+cat
+~^?
+cat
+~^\\
+ls -l core
+sleep 60 &
+kill 22
+rm core ^ ^ wc
 chdir /nowhere
 exit
 """
@@ -48,8 +58,8 @@ if not wanted:
     sys.exit(subprocess.run(words).returncode)
 with open(words[-3], "wb") as term:
     term.write(b"# ECHO A\\r\\nA\\r\\n# OOPS")
-print("not built: pc 2")
-sys.exit(11)
+print("panic: out of swap space")
+sys.exit(7)
 """
 READER = """
 	sys	open; tty; 2
@@ -263,9 +273,12 @@ class Sessions(Case):
         self.assertEqual(self.session("~?\n"), (0, b"# ", f"\nconsole: lines that begin with ~:\n{console.HELP}"))
 
     def test_signals(self):
-        status, _, said = self.session("~^?\n")
-        self.assertEqual((status, said), (1, "\nconsole: not built: line 3: the keys that interrupt (0177, control-C) and quit "
-                                             "(034) make signals, which aren't built yet\nconsole: this line is taken back\n"))
+        """The shell ignores an interrupt, and its child ends by it."""
+        script = self.path("script")
+        status, term, said = self.session("~^?\ncat\n~^?\necho b\n", "--script", script)
+        self.assertEqual((status, term, said), (0, b"# CAT\r\n\r\n# ECHO B\r\nB\r\n# ", ""))
+        self.assertEqual(read(script), self.script("run 10000\nbyte 177\nrun 10000\ntype cat\nrun 10000\nbyte 177\nrun 10000\n"
+                                                   "type echo b\nrun 10000\n"))
 
     def test_names_of_programs(self):
         """Programs of 100 and 200 bytes have images of 16, 20 and two or four clicks; a text of 0410 is no part of one."""
@@ -291,7 +304,7 @@ class Sessions(Case):
         root = b"LS\r\nBIN\r\nDEV\r\nETC\r\nUSR\r\n# "
         self.assertEqual(term, b"# CHDIR /USR\r\n# LS\r\nSYS\r\n# " + root + root + root)
         self.assertIn("reads the terminal (", said)
-        said = re.sub(r" \(/bin/[^)]*or /bin/sh or /etc/init\)", "", said)
+        said = said.replace(" (/bin/sh or /etc/init)", "")
         self.assertEqual(said, "\nconsole: 0 lines, as they were typed\ntaken back:\n    1  chdir /usr\n    2  ls\n"
                                "\nconsole: 1 lines, as they were typed\n    1  ls\ntaken back:\n    2  ls\n"
                                "\nconsole: process 1 reads the terminal\n"
@@ -299,13 +312,13 @@ class Sessions(Case):
         self.assertEqual(read(self.path("new")), self.script("run 10000\n" + "type ls\nrun 10000\n" * 2))
 
     def test_a_run_that_does_not_end(self):
-        """A program that answers as v6 does where it comes to something that isn't built."""
+        """A program that answers as v6 does where it comes to a panic."""
         other = self.put("other.py", OTHER.encode())
         script = self.path("script")
         words = ("--v6", f"{sys.executable} {other} {V6}", "--script", script)
         status, term, said = self.session("echo a\n~^?\necho b\n", *words)
         self.assertEqual((status, term), (1, b"# ECHO A\r\nA\r\n# OOPSECHO B\r\nB\r\n# "))
-        self.assertEqual(said, "\nconsole: not built: pc 2\nconsole: this line is taken back\n")
+        self.assertEqual(said, "\nconsole: panic: out of swap space\nconsole: this line is taken back\n")
         self.assertEqual(read(script), self.script("run 10000\ntype echo a\nrun 10000\ntype echo b\nrun 10000\n"))
 
     def test_a_program_that_runs_on(self):

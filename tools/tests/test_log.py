@@ -211,7 +211,7 @@ class Log(Case):
         shell, names = os.path.join(TOP, "examples", "shell"), [self.path(name) for name in ("term", "log", "final")]
         self.assertEqual(v6("run", os.path.join(shell, "image"), "1200", os.path.join(shell, "script"), *names)[0], 0)
         page = read(os.path.join(TOP, "docs", "tools", "log.md")).decode()
-        shown = self.log("show", "--disk", os.path.join(shell, "image"), "--from", "24", "--to", "34", names[1])[1]
+        shown = self.log("show", "--disk", os.path.join(shell, "image"), "--from", "26", "--to", "38", names[1])[1]
         self.assertIn("\n\n" + shown + "```\n", page)
         self.assertEqual(self.log("draw", names[1])[1], read(os.path.join(TOP, "docs", "tools", "log.svg")).decode())
 

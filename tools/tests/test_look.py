@@ -62,7 +62,7 @@ def placed(*images):
 
 class ByHand(Run):
     """A run that is given by hand: its lines with the slots in which they come, and what its memory is after a slot. From a slot
-    on it may come to what isn't built."""
+    on it may come to a panic."""
 
     def __init__(self, slots, lines, memory, stops=None):
         self.told, self.held, self.stops, self.looks = lines, memory, stops, 0
@@ -70,8 +70,8 @@ class ByHand(Run):
 
     def played(self, script):
         slots = Script(script).slots
-        status = 11 if self.stops is not None and slots >= self.stops else 0
-        return [line for slot, line in self.told if slot <= slots], status, "not built: pc 6"
+        status = 7 if self.stops is not None and slots >= self.stops else 0
+        return [line for slot, line in self.told if slot <= slots], status, "panic: out of swap space"
 
     def memory(self, slots, more=False):
         self.looks += 1
@@ -375,7 +375,7 @@ class Moves(unittest.TestCase):
             self.looker.lines_of("words 0 of 2")
 
     def test_a_run_that_stops(self):
-        """A run that comes to what isn't built in slot 700 is shown up to slot 699."""
+        """A run that comes to a panic in slot 700 is shown up to slot 699."""
         looker = looker_of(ByHand(900, (*START, (700, "fork 1 2 at 38")), self.held, stops=700))
         self.assertEqual(looker.history.last, 699)
         with self.assertRaisesRegex(LookError, "fork: not found"):

@@ -36,15 +36,16 @@ class Run(Case):
     def test_a_run_that_is_not_done(self):
         """The image keeps its bytes though it is the disk of the run too; what was shown until then is kept."""
         program, image = self.path("init"), self.image()
-        source = self.put("init.s", b"\tsys\topen; tty; 2\n\tsys\twrite; hi; 3\n\tsys\tpipe\n"
+        source = self.put("init.s", b"\tsys\topen; tty; 2\n\tsys\twrite; hi; 3\n\tsys\tbreak; 140000\n"
+                                    b"1:\tsys\tfork\n2:\tbr\t2b\n\tbr\t1b\n"
                                     b"tty:\t</dev/tty8\\0>\nhi:\t<hi\\n>\n")
         self.assertEqual(self.call(as_main, "-o", program, source), (0, "", ""))
         self.assertEqual(self.call(tool("disk").main, "--v6", V6, "put", image, program, "/etc/init"), (0, "", ""))
         before, log = read(image), self.path("log")
-        script = self.put("script", b"run 100\n")
-        said = "run.py: not built: pc 12\n"
-        self.assertEqual(self.run_it(image, script, "--log", log, "--disk", image), (11, SHOWN, said))
-        self.assertEqual((read(image), b"boot 3968" in read(log)), (before, True))
+        script = self.put("script", b"run 10000\n")
+        said = "run.py: panic: out of swap space\n"
+        self.assertEqual(self.run_it(image, script, "--core", "900", "--log", log, "--disk", image), (7, SHOWN, said))
+        self.assertEqual((read(image), b"panic swap" in read(log)), (before, True))
 
     def test_a_run_that_does_not_begin(self):
         term = self.put("term", b"before")

@@ -213,9 +213,9 @@ class Shell(Case):
         back, disk = self.path("back"), self.put("disk", final)
         self.assertEqual(self.call(disk_main, "--v6", V6, "get", disk, "/", back, "--table", self.path("table")), (0, "", ""))
         source = read(os.path.join(SHELL, "disk", "usr", "sys", "ken", "slp.c"))
-        for name, data in (("again", source), ("slp.c", source), ("greeting", b"hello, world\n")):
+        for name, data in (("again", source), ("slp.c", source), ("greeting", b"hello, world\nagain\n")):
             self.assertEqual(read(f"{back}/tmp/{name}"), data)
-        self.assertEqual(os.listdir(f"{back}/usr/sys/ken"), [])
+        self.assertEqual(os.listdir(f"{back}/usr/sys/ken"), ["core"])
 
     def test_more(self):
         typed = [line[2:] for line in MORE.splitlines() if line.startswith("# ")]

@@ -207,7 +207,8 @@ class Traces(Case):
         self.assertEqual((status, error), (0, ""))
         told = [re.sub(", 0[0-7]+, ", ", A, ", line.strip().partition("] ")[2]) for line in out.splitlines()]
         slp = '"\\t/*\\n\\t * You are not expected to "..'
-        self.assertEqual(told, ['exec("cat", ["cat", "nosuch", "/usr/sys/ken/slp.c"]) = ENOENT',
+        self.assertEqual(told, ["signal(2, 0) = 01", "signal(3, 0) = 01",
+                                'exec("cat", ["cat", "nosuch", "/usr/sys/ken/slp.c"]) = ENOENT',
                                 'exec("/bin/cat", ["cat", "nosuch", "/usr/sys/ken/slp.c"]) = done', 'open("nosuch", 0) = ENOENT',
                                 'open("/usr/sys/ken/slp.c", 0) = 3', f"read(3, A, 512) = 54 {slp}", f"write(1, {slp}, 54) = 54",
                                 "read(3, A, 512) = 0", "close(3) = done", "exit(0)"])

@@ -69,8 +69,9 @@ class Try(Case):
         self.assertEqual(read(image), before)
 
     def test_what_does_not_end(self):
-        pipe = self.source("\tmov\t$3,r0\n\tsys\tpipe\n\tsys\texit\n")
-        self.assertEqual(self.run_it(pipe), (126, b"", "try.py: not built: pc 4: sys\tpipe\n"))
+        forks = self.source("\tsys\tbreak; 140000\n1:\tsys\tfork\n2:\tbr\t2b\n\tbr\t1b\n")
+        self.assertEqual(self.run_it("--core", "900", forks), (126, b"", "try.py: panic: out of swap space\n"))
+        self.assertEqual(self.run_it(self.source("\t0\n")), (132, b"", ""))
         self.assertEqual(self.run_it("--slots", "1000", self.source("\tbr\t.\n")),
                          (124, b"", "try.py: it runs on after 1000 slots\n"))
 
