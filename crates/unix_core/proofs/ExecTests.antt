@@ -148,7 +148,7 @@ module _ (w : World) (s : ℕ) (ready : IsReady w s) (form : IsFileSystem w.file
     where
       dir : IsSome (node_numbered base.inodes.store (process_of (unix_of w) s).u.dir)
       dir = form.used (process_of (unix_of w) s).u.dir
-          (dir_referred w.files.tree.nodes.references w.files.table (unix_of w).texts
+          (dir_referred w.files.tree.nodes.references w.files.table w.files.pipes (unix_of w).texts
           (told_in (unix_of w).processes) ready.good.owed s (told_of (process_of (unix_of w) s))
           (told_here w s ready))
 
