@@ -42,7 +42,7 @@ few_inodes s none =
     let last = two (when (nat_lt SWAP_START s.f_size) (NoSwap s.f_size)) [] parts.1 in
     let good = not_when (is_bad_super s) BadSuper parts.0 in
     let short = ltb-false s.f_size (s.i_size + 2) (first_of (s.i_size == 0) (nat_lt s.f_size (s.i_size + 2))
-        (nat_lt LIST_SIZE s.nfree) (nat_lt LIST_SIZE s.ninode) good) in
+    (nat_lt LIST_SIZE s.nfree) (nat_lt LIST_SIZE s.ninode) good) in
     let fits = ltb-false SWAP_START s.f_size (not_when (nat_lt SWAP_START s.f_size) (NoSwap s.f_size) last.0) in
     omega (arith, short, fits)
 
@@ -50,9 +50,9 @@ disk_few : (disk : Disk) → disk_fault SWAP_START disk ≡ None → (head disk)
 unfolding disk_fault
 disk_few disk none =
     few_inodes (head disk) (five (super_fault SWAP_START (head disk)) (free_walk disk).fault
-        (first_some (map (inode_fault disk) (inode_numbers disk)))
+    (first_some (map (inode_fault disk) (inode_numbers disk)))
     (option_map BlockTwice (least (filter (is_twice (all_blocks disk)) (all_blocks disk))))
-        (when (not (is_directory (inode disk 1).mode)) NoRoot) none).0
+    (when (not (is_directory (inode disk 1).mode)) NoRoot) none).0
 
 pub few_nodes : (image : List ℕ) → image_fault image ≡ None → (store_of (disk_of image)).count ≤ 65535
 unfolding image_fault fault_within store_of
@@ -82,11 +82,11 @@ module _ (store : Store) (core : ℕ) where
   names_none entry zero = omega arith
   names_none entry (suc zero) =
       let none = free_times u.files first_process.u.files entry
-          (λ fd above. absurd (let zero_is = no_number fd in omega (arith, above, zero_is))) (no_file entry) in
+      (λ fd above. absurd (let zero_is = no_number fd in omega (arith, above, zero_is))) (no_file entry) in
       omega (arith, none)
   names_none entry (suc (suc k)) =
       let at : get_or (told_in u.processes) (suc (suc k)) None ≡ None = get_or-map told_by (replicate 48 None) k None
-          ∙ ap told_by (get_same {X = Option Process} None 48 k) in
+      ∙ ap told_by (get_same {X = Option Process} None 48 k) in
       let none : names entry (get_or (told_in u.processes) (suc (suc k)) None) ≡ 0 = ap (names entry) at in
       omega (arith, none)
 
@@ -94,14 +94,14 @@ module _ (store : Store) (core : ℕ) where
   unfolding all_names
   nobody_names entry =
       sum_by-le (names entry) 0 (told_in u.processes) (All-from_get_or (λ o. names entry o ≤ 0) (told_in u.processes) None
-          (λ i low. names_none entry i))
+      (λ i low. names_none entry i))
 
   told_first : (s : ℕ) (t : Told) → get_or (told_in u.processes) s None ≡ Some t → length t.files ≡ 15
   told_first zero t e = absurd (cc e)
   told_first (suc zero) t e = let same : told_of first_process ≡ t = cc e in ap (λ (x : Told). length x.files) (sym same)
   told_first (suc (suc k)) t e =
       let at : get_or (told_in u.processes) (suc (suc k)) None ≡ None = get_or-map told_by (replicate 48 None) k None
-          ∙ ap told_by (get_same {X = Option Process} None 48 k) in
+      ∙ ap told_by (get_same {X = Option Process} None 48 k) in
       absurd (let none : None ≡ Some t = sym at ∙ e in cc none)
 
   user_first : (s : ℕ) (p : Process) → get_or u.processes s None ≡ Some p → p.u.pending ≡ 0

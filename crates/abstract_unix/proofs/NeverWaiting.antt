@@ -11,7 +11,6 @@ use Rattle.fs_tree.specs.declared.made.Made.TheVariants as made
 use Rattle.fs_tree.specs.declared.user.Want.TheVariants.{Write, Execute}
 use Rattle.fs_tree.specs.Name.{name_at}
 use Rattle.fs_tree.specs.Finding.{Finding, find_in, make_in, remove_in}
-
 use Rattle.fs_tree.specs.Permission.{permission, access}
 use Rattle.open_files.specs.declared.file.OpenFile.{OpenFile}
 use Rattle.open_files.specs.declared.file.FileKind.{FileKind}

@@ -155,10 +155,13 @@ user_runs u seen r p runs user = by (subst (RunnerAt (seats_of u) seen.board) ru
     by : RunnerAt (seats_of u) seen.board (Some r)
         → (r ≢ 0) × ((seat : Seat) → seat_at (seats_of (ticked (system_at u seen))) r ≡ Some seat → seat.calling ≡ false)
     by (inl z) = absurd (eqb-false r 0 mode.0 z)
-    by (inr t) = (eqb-false r 0 mode.0, λ seat at.
-        let slots = ap (λ (v : Seats). seat_at v r) (charged_seats u seen (mode_by u seen.board.table.running) p.runner) in
-        let is : seat ≡ t.seat = same_Some _ _ (sym at ∙ slots ∙ t.at) in
-        ap (λ (x : Seat). x.calling) is ∙ ap (λ (x : Seat). x.calling) (sym (runner_seat u.processes u.clock u.texts u.limit r seen.board t)) ∙ ap not mode.1)
+    by (inr t) = (
+      eqb-false r 0 mode.0,
+      λ seat at.
+          let slots = ap (λ (v : Seats). seat_at v r) (charged_seats u seen (mode_by u seen.board.table.running) p.runner) in
+          let is : seat ≡ t.seat = same_Some _ _ (sym at ∙ slots ∙ t.at) in
+          ap (λ (x : Seat). x.calling) is ∙ ap (λ (x : Seat). x.calling) (sym (runner_seat u.processes u.clock u.texts u.limit r seen.board t)) ∙ ap not mode.1,
+    )
 
 -- a tick and a wake leave who runs
 tick_runs : (u : Unix) (seen : Seen) (mode : Mode) → Paused (seats_of u) seen
@@ -217,12 +220,13 @@ pub tick_fine : (u : Unix) (seen : Seen) → IsTidy u → Paused (seats_of u) se
 unfolding Apt came
 tick_fine u seen tidy p =
     passes_fine s.unix seen (Show (Log (tick_entry mode)) ∷ wakes due Tout ++ s.effects)
-    (subst (λ x. Fits seen x × Apt (Paused (seats_of s.unix)) (seen_after seen x) (wakes due Tout ++ s.effects)) (sym line_is)
-    (tick_fits seen p.going,
-    apt_append (RunsOn now runner) (Paused (seats_of s.unix)) (seen_after seen (tick_line (mode_now seen.board))) (wakes due Tout) s.effects
-    (wakes_on now runner (seen_after seen (tick_line (mode_now seen.board))) due
-    (tick_keeps u seen (mode_now seen.board) p, tick_runs u seen (mode_now seen.board) p))
-    (λ at q. delivery_apt now runner at (is_as_trap (system_at u seen)) in_user (λ r. ticked_numbers u mode runner tidy r) q)))
+    (subst (λ x. Fits seen x × Apt (Paused (seats_of s.unix)) (seen_after seen x) (wakes due Tout ++ s.effects)) (sym line_is) (
+      tick_fits seen p.going,
+      apt_append (RunsOn now runner) (Paused (seats_of s.unix)) (seen_after seen (tick_line (mode_now seen.board))) (wakes due Tout) s.effects
+          (wakes_on now runner (seen_after seen (tick_line (mode_now seen.board))) due
+          (tick_keeps u seen (mode_now seen.board) p, tick_runs u seen (mode_now seen.board) p))
+          (λ at q. delivery_apt now runner at (is_as_trap (system_at u seen)) in_user (λ r. ticked_numbers u mode runner tidy r) q),
+    ))
   where
     mode : Mode
     mode = mode_by u seen.board.table.running

@@ -70,7 +70,7 @@ pipes_change files pipes entry change ino kind have = by (file_at files entry) r
     by None at = pipes_set_none files pipes entry have
     by (Some file) at = pipes_set files pipes entry (change file)
         (λ pipe. subst (HasPipe pipes) (sym (ino file)) (have entry file at (sym (ap (λ (k : FileKind). k.pipe) (kind file))
-            ∙ pipe))) have
+        ∙ pipe))) have
 
 -- A number lets its file go.
 pub pipes_left : (h : Handed) (entry : ℕ) → HavePipes h.files h.pipes
@@ -101,7 +101,7 @@ pipes_marked files pipes p have entry file at pipe =
 remove_past : (pipes : List Pipe) (i : ℕ) → length pipes ≤ i → remove pipes i ≡ pipes
 remove_past pipes i past =
     ap (λ l. l ++ drop (suc i) pipes) (take_all i pipes past)
-        ∙ ap (λ l. pipes ++ l) (drop_all (suc i) pipes (omega (arith, past))) ∙ append-nil pipes
+    ∙ ap (λ l. pipes ++ l) (drop_all (suc i) pipes (omega (arith, past))) ∙ append-nil pipes
 
 pub pipes_gone : (files : List (Option OpenFile)) (pipes : List Pipe) (ino : ℕ) → has_end files ino ≡ false
     → HavePipes files pipes
@@ -136,7 +136,7 @@ pipes_more files pipes ino have entry file at pipe =
       there = place_low (pipes ++ new_pipe ino ∷ []) file.ino (place_of pipes file.ino)
           (let low = own.there in omega (arith, low, long))
           (ap (λ (q : Pipe). q.ino) (get_or_append_left pipes (new_pipe ino ∷ []) (new_pipe 0)
-              (place_of pipes file.ino) own.there) ∙ place_ino pipes file.ino own.there);
+          (place_of pipes file.ino) own.there) ∙ place_ino pipes file.ino own.there);
     }
 
 pub new_has : (pipes : List Pipe) (ino : ℕ) → IsInode ino → HasPipe (pipes ++ new_pipe ino ∷ []) ino
@@ -149,7 +149,7 @@ new_has pipes ino range = record {
 
 pub pipes_ends : (files : List (Option OpenFile)) (pipes : List Pipe) (ino first second : ℕ) → IsInode ino → HavePipes files pipes
     → HavePipes (set (set files first (Some (opened ino reading_end))) second (Some (opened ino writing_end)))
-        (pipes ++ new_pipe ino ∷ [])
+    (pipes ++ new_pipe ino ∷ [])
 pipes_ends files pipes ino first second range have =
     pipes_set _ _ second (opened ino writing_end) (λ pipe. new_has pipes ino range)
     (pipes_set files _ first (opened ino reading_end) (λ pipe. new_has pipes ino range) (pipes_more files pipes ino have))
@@ -165,4 +165,4 @@ shared_ends files pipes mine have entry file at pipe = by (file_at files entry) 
     by (Some old) is e =
         let same : with_more (times mine entry) old ≡ file = same_Some (with_more (times mine entry) old) file e in
         subst (HasPipe pipes) (ap (λ (x : OpenFile). x.ino) same)
-            (have entry old is (ap (λ (x : OpenFile). x.kind.pipe) same ∙ pipe))
+        (have entry old is (ap (λ (x : OpenFile). x.kind.pipe) same ∙ pipe))

@@ -107,9 +107,10 @@ module _ (W : Type 0) (busy : ℕ) (v : Seats) (n : ℕ) (P Q : Seen → Type 0)
   lines_apt low high [] seated seen p = after seen p
   lines_apt low high (r ∷ slots) seated seen p =
       let a = agrees seen p in
-      let first = seated.0 in
-      (signal_fits busy v seen r n first.1 a.0 a.1 first.0 first.2 low high,
-      lines_apt low high slots seated.1 (seen_after seen (line.Signal r n)) (goes seen r p))
+      let first = seated.0 in (
+        signal_fits busy v seen r n first.1 a.0 a.1 first.0 first.2 low high,
+        lines_apt low high slots seated.1 (seen_after seen (line.Signal r n)) (goes seen r p),
+      )
 
   pub signal_lines_apt : (slots : List ℕ) → AreSeated v slots → (seen : Seen) → P seen
       → Apt {W = W} Q seen (map Show (signal_lines n slots) ++ rest)

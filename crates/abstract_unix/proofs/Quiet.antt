@@ -128,18 +128,29 @@ sleeps_so old new pending RunOut same which is of = absurd of
 sleeps_so old new pending Tout same which is of = absurd of
 sleeps_so old new pending Keys same which is of = absurd of
 sleeps_so old new pending (Wait slot) same which is of = absurd of
-sleeps_so old new pending (Read ino) same which is of = record { size = same; pending = not_user new.pending pending which is;
-    at = λ s. refl; on = of }
-sleeps_so old new pending (Write ino) same which is of = record { size = same; pending = not_user new.pending pending which is;
-    at = λ s. refl; on = of }
+sleeps_so old new pending (Read ino) same which is of = record {
+  size = same;
+  pending = not_user new.pending pending which is;
+  at = λ s. refl;
+  on = of;
+}
+sleeps_so old new pending (Write ino) same which is of = record {
+  size = same;
+  pending = not_user new.pending pending which is;
+  at = λ s. refl;
+  on = of;
+}
 
 -- Each row of a call on files is calm.
 pub calm_walks : (old : UArea) (s : ℕ) → StepWalks (InCalm old) (Calm old s) (λ count. Unit {0}) IsInode s
 calm_walks old s = record {
   refused = λ h e p. record { quiet = tt; ends = p.same; numbers = p.numbers };
   done = λ h value p. record { quiet = tt; ends = p.same; numbers = p.numbers };
-  lets_go = λ ino d c. record { quiet = c.quiet; ends = c.ends;
-      numbers = other_inodes d.state (let_go d.state ino).inodes (put_back_count d.state.inodes ino) c.numbers };
+  lets_go = λ ino d c. record {
+    quiet = c.quiet;
+    ends = c.ends;
+    numbers = other_inodes d.state (let_go d.state ino).inodes (put_back_count d.state.inodes ino) c.numbers;
+  };
   waits = λ h entry at count p. record {
     quiet = tt;
     ends = record { size = same_size p; pending = refl; at = λ s. refl; on = tt };
@@ -152,10 +163,16 @@ calm_walks old s = record {
   };
   wakes = λ h a b last p. record { quiet = close_quiet s last; ends = p.same; numbers = p.numbers };
   woken = λ chan d of c. record { quiet = (woken_quiet s chan of, c.quiet); ends = c.ends; numbers = c.numbers };
-  breaks = λ h p. record { quiet = (inr refl, tt); ends = p.same;
-      numbers = record { count = p.numbers.count; pipes = p.numbers.pipes } };
-  showing = λ line image at count d few c. record { quiet = quiet_sent s 0 (shows line (readable image at count));
-      ends = c.ends; numbers = c.numbers };
+  breaks = λ h p. record {
+    quiet = (inr refl, tt);
+    ends = p.same;
+    numbers = record { count = p.numbers.count; pipes = p.numbers.pipes };
+  };
+  showing = λ line image at count d few c. record {
+    quiet = quiet_sent s 0 (shows line (readable image at count));
+    ends = c.ends;
+    numbers = c.numbers;
+  };
   inodes = λ h inodes same p. record { same = p.same; numbers = other_inodes h inodes same p.numbers };
   opened = λ h ino kind fd entry plain number free p. record {
     same = same_call_in p;
@@ -216,7 +233,7 @@ closes_calm : (old : UArea) (s : ℕ) (h : Handed) (fd : ℕ) → 0 < slice_inde
     → CalmClosing old s (closes h fd)
 closes_calm old s h fd named p =
     let c : Calm old s (record { answer = Ret 0 0; state = (closes h fd).state; items = (closes h fd).items }) =
-        walk_closes (calm_walks old s) h fd 0 0 named p in
+    walk_closes (calm_walks old s) h fd 0 0 named p in
     record { quiet = c.quiet; calm = record { same = c.ends; numbers = c.numbers } }
 
 -- all numbers of a process, one after another
@@ -224,8 +241,10 @@ more_closing : (old : UArea) (s : ℕ) (c : Closing) (fd : ℕ) → CalmClosing 
 more_closing old s c fd k = by (slice_index c.state.u.files fd == 0) refl
   where
     by : (none : Bool) → (slice_index c.state.u.files fd == 0) ≡ none
-        → CalmClosing old s (cond {A = Closing} none c (record { state = (closes c.state fd).state;
-            items = c.items ++ (closes c.state fd).items }))
+        → CalmClosing old s (cond {A = Closing} none c (record {
+          state = (closes c.state fd).state;
+          items = c.items ++ (closes c.state fd).items;
+        }))
     by true e = k
     by false e =
         let ne = eqb-false (slice_index c.state.u.files fd) 0 e in

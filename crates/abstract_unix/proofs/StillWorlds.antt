@@ -66,7 +66,7 @@ module _ (base : World) (s : ℕ) where
   pub still_change : (v : World) (rule : Process → Process) → IsStill v
       → (rule (process_of v s)).u.files ≡ (process_of v s).u.files
       → (rule (process_of v s)).u.dir ≡ (process_of v s).u.dir → (rule (process_of v s)).is_zombie ≡ (process_of v s).is_zombie
-          → IsStill (change v s rule)
+      → IsStill (change v s rule)
   still_change v rule k files dir dead =
       let p : Process = process_of v s in
       let at = put_at v (rule p) (within v k) in
@@ -88,7 +88,7 @@ module _ (base : World) (s : ℕ) where
       let is : (process_of v s).is_zombie ≡ true = ap (λ (q : Process). q.is_zombie) alike ∙ grave.dead in
       let lives = k.lives in cc (is, lives) in
       let at : get_or (set v.processes d None) s None ≡ get_or v.processes s None =
-          get_or-set_other v.processes d s None None other in
+      get_or-set_other v.processes d s None None other in
       let is : process_of (without_process v d) s ≡ process_of v s = ap (λ o. unwrap_or o no_process) at in
       record {
         count = k.count;
@@ -139,7 +139,7 @@ module _ (base : World) (s : ℕ) where
       by b at =
           let q : Process = cond b (signalled n (process_of v s)) (process_of v s) in
           let is : process_of (record v { processes = all_signalled who n v.processes }) s ≡ q =
-              ap (λ o. unwrap_or o no_process) at in
+          ap (λ o. unwrap_or o no_process) at in
           record {
             count = k.count;
             told = all_alike who n v.processes told_by (λ r o. signalled_told who n r o) k.fifty ∙ k.told;
@@ -156,7 +156,7 @@ module _ (base : World) (s : ℕ) where
   unfolding kill_to
   still_kill v n k =
       still_if (length (meant_in (is_reached s (process_of v s)) v.processes) == 0) _ _ k
-          (still_signalled (is_reached s (process_of v s)) n v k)
+      (still_signalled (is_reached s (process_of v s)) n v k)
 
   -- break, and the growth of a stack
   still_expands : (v : World) (d st : ℕ) → IsStill v → IsStill (expands v s d st).state
@@ -180,8 +180,13 @@ module _ (base : World) (s : ℕ) where
     fifty : length v.processes ≡ 50
 
   but_still : (v : World) → IsStill v → IsBut v
-  but_still v k = record { count = k.count; but = ap (λ l. set l s None) k.told; there = k.there; lives = k.lives;
-      fifty = k.fifty }
+  but_still v k = record {
+    count = k.count;
+    but = ap (λ l. set l s None) k.told;
+    there = k.there;
+    lives = k.lives;
+    fifty = k.fifty;
+  }
 
   but_inodes : (v w : World) → w.processes ≡ v.processes → w.inodes.store.count ≡ v.inodes.store.count → IsBut v → IsBut w
   but_inodes v w same count k =
@@ -258,7 +263,7 @@ module _ (base : World) (s : ℕ) where
 
   begun_told : (u : UArea) (p : Process) (node : Node) (program : Program) (read : List ℕ)
       → told_by (Some (exec.begins u p node program read)) ≡ cond p.is_zombie None
-          (Some (record { files = u.files; dir = u.dir }))
+      (Some (record { files = u.files; dir = u.dir }))
   begun_told u p node program read =
       let begun : Process = record p { u = exec.begun_area u program; «data» = read; stack = first_stack program.arguments } in
       group_so (not (bit_and node.mode ISGID == 0)) (exec.as_owner node begun) node.gid
@@ -286,7 +291,7 @@ module _ (base : World) (s : ℕ) where
       begun_told u (process_of read s) (node_at v program.ino) program m.memory.data
       ∙ ap (λ b. cond b None (Some (record { files = u.files; dir = u.dir }))) still.lives ∙ sym its in
       let begun = but_ends read q own (told_again read q own still) still
-          (begun_lives u (process_of read s) (node_at v program.ino) program m.memory.data ∙ still.lives) in
+      (begun_lives u (process_of read s) (node_at v program.ino) program m.memory.data ∙ still.lives) in
       record {
         count = put_back_count read.inodes program.ino ∙ begun.count;
         told = begun.told;
@@ -302,7 +307,7 @@ module _ (base : World) (s : ℕ) where
   abbrev goes_on : Program → UArea → World → Bool → Comes
   goes_on program u placed new =
       does (effect.Image s (exec.image_clicks program.plan) placed)
-          (exec.executes (exec.reads_text new placed s program) s u program)
+      (exec.executes (exec.reads_text new placed s program) s u program)
 
   still_placed : (v : World) (u : UArea) (program : Program) (b : Bool) → IsItsArea u → IsBut v
       → IsStill (goes_on program u v b).state
@@ -314,35 +319,47 @@ module _ (base : World) (s : ℕ) where
       → IsStill (xalloc_by v s program.ino program.text_clicks o (goes_on program u)).state
   still_alloc_by v u program (Some k) its but =
       let e = still_placed (shares_text v s k) u program false its
-          (but_change (record v { texts = with_user v.texts k }) (with_entry k) refl
-          (but_inodes v (record v { texts = with_user v.texts k }) refl refl but)) in
+      (but_change (record v { texts = with_user v.texts k }) (with_entry k) refl
+      (but_inodes v (record v { texts = with_user v.texts k }) refl refl but)) in
       record { count = e.count; told = e.told; there = e.there; lives = e.lives; fifty = e.fifty }
   still_alloc_by v u program None its but =
       let entry : ℕ = free_entry v.texts in
-      let made : World = record v { texts = with_text v.texts entry (new_text program.ino program.text_clicks);
-          inodes = with_reference v.inodes program.ino } in
+      let made : World = record v {
+        texts = with_text v.texts entry (new_text program.ino program.text_clicks);
+        inodes = with_reference v.inodes program.ino;
+      } in
       let e = still_placed (makes_text v s program.ino program.text_clicks) u program true its
-          (but_change made (with_entry entry) refl (but_inodes v made refl refl but)) in
+      (but_change made (with_entry entry) refl (but_inodes v made refl refl but)) in
       record { count = e.count; told = e.told; there = e.there; lives = e.lives; fifty = e.fifty }
 
   still_begins : (v : World) (u : UArea) (program : Program) → IsItsArea u → IsBut v
       → IsStill (exec.begins_anew v s u program).state
   still_begins v u program its but =
       still_if (program.text_clicks == 0) (goes_on program u v false)
-          (xalloc_by v s program.ino program.text_clicks (entry_of v.texts program.ino) (goes_on program u))
+      (xalloc_by v s program.ino program.text_clicks (entry_of v.texts program.ino) (goes_on program u))
       (still_placed v u program false its but) (still_alloc_by v u program (entry_of v.texts program.ino) its but)
 
   let_go_still : (b : Bool) (v : World) (ino : ℕ) → IsStill v → IsStill (cond b (let_go v ino) v)
-  let_go_still true v ino k = record { count = put_back_count v.inodes ino ∙ k.count; told = k.told; there = k.there;
-      lives = k.lives; fifty = k.fifty }
+  let_go_still true v ino k = record {
+    count = put_back_count v.inodes ino ∙ k.count;
+    told = k.told;
+    there = k.there;
+    lives = k.lives;
+    fifty = k.fifty;
+  }
   let_go_still false v ino k = k
 
   pub still_left : (v : World) (k : ℕ) (sticky : Bool) → IsStill v → IsStill (leaves_text v s k sticky)
   still_left v k sticky still =
       let_go_still (goes (text_of v.texts k) sticky) _ (text_of v.texts k).ino
       (still_change (record v { texts = set v.texts k (remaining sticky (get_or v.texts k None)) }) without_text
-          (record { count = still.count; told = still.told; there = still.there; lives = still.lives;
-          fifty = still.fifty }) refl refl refl)
+      (record {
+        count = still.count;
+        told = still.told;
+        there = still.there;
+        lives = still.lives;
+        fifty = still.fifty;
+      }) refl refl refl)
 
   area_told : (v : World) → IsStill v → IsItsArea (process_of v s).u
   area_told v k =
@@ -353,7 +370,7 @@ module _ (base : World) (s : ℕ) where
       → IsStill (logs (Bare s) (exec.begins_anew (change left s exec.bared) s (process_of left s).u program)).state
   still_bare left program k =
       let e = still_begins (change left s exec.bared) (process_of left s).u program (area_told left k)
-          (but_change left exec.bared refl (but_still left k)) in
+      (but_change left exec.bared refl (but_still left k)) in
       record { count = e.count; told = e.told; there = e.there; lives = e.lives; fifty = e.fifty }
 
   still_loads : (v : World) (program : Program) → IsStill v → IsStill (exec.loads v s program).state
@@ -384,15 +401,18 @@ module _ (base : World) (s : ℕ) where
       let left : out.inodes.store.count ≡ n = put_back_count now.inodes ino ∙ k in
       let text : Plan → ℕ = λ plan. exec.text_clicks_in now.texts ino plan in
       let fitting : Plan → Unit {0}
-          → exec.Tested = λ plan fits. record { answer = Ok
-          (record { ino = ino; plan = plan; text_clicks = text plan; arguments = args }); world = now } in
+      → exec.Tested = λ plan fits. record {
+        answer = Ok
+            (record { ino = ino; plan = plan; text_clicks = text plan; arguments = args });
+        world = now;
+      } in
       let fits : Plan → Result (Unit {0}) Errno = λ plan. must ENOMEM
-          (not (is_refused (text plan) (exec.data_clicks plan) stack_clicks now.limit)) in
+      (not (is_refused (text plan) (exec.data_clicks plan) stack_clicks now.limit)) in
       let last : Plan → exec.Tested = λ plan. exec.check out (fits plan) (fitting plan) in
       let planned : Unit {0} → exec.Tested = λ free. exec.check out (exec.or_no_memory (plan_of h)) last in
       let idle : Unit {0} → exec.Tested = λ program. exec.check out (must ETXTBSY (not (exec.is_busy now ino h))) planned in
       let good : Unit {0} → exec.Tested = λ read. exec.check out
-          (must ENOEXEC ((head.done == 16) && exec.is_magic (plan_of h))) idle in
+      (must ENOEXEC ((head.done == 16) && exec.is_magic (plan_of h))) idle in
       check_count {A = Unit {0}} n out (exec.unless_error head.error) good left (λ a.
       check_count {A = Unit {0}} n out (must ENOEXEC ((head.done == 16) && exec.is_magic (plan_of h))) idle left (λ b.
       check_count {A = Unit {0}} n out (must ETXTBSY (not (exec.is_busy now ino h))) planned left (λ d.
@@ -420,7 +440,7 @@ module _ (base : World) (s : ℕ) where
       let found : Finding ℕ = find_in v.inodes (user_of p) p.u.dir (name_at (image_of v.texts p) name) in
       let same : found.inodes.store.count ≡ v.inodes.store.count = finding_count v.inodes _ in
       check_count v.inodes.store.count (with_inodes v found.inodes) found.answer
-          (λ ino. exec.tests_file (with_inodes v found.inodes) s ino list) same
+      (λ ino. exec.tests_file (with_inodes v found.inodes) s ino list) same
       (λ ino. file_count v.inodes.store.count (with_inodes v found.inodes) ino list same)
 
   still_exec : (v : World) (name list : ℕ) → IsStill v → IsStill (exec.exec_file v s name list).state
@@ -490,7 +510,7 @@ module _ (base : World) (s : ℕ) where
   but_left v k sticky but =
       let now : World = record v { texts = set v.texts k (remaining sticky (get_or v.texts k None)) } in
       let_go_but (goes (text_of v.texts k) sticky) (change now s without_text) (text_of v.texts k).ino
-          (but_change now without_text refl (but_inodes v now refl refl but))
+      (but_change now without_text refl (but_inodes v now refl refl but))
 
   pub gone_ended : (v : World) (status : ℕ) → IsStill v → IsGone (end_proc v s status).state
   unfolding end_proc

@@ -111,14 +111,20 @@ module _ (s : ℕ) (P : Seen → Type 0) where
       fit : ((now : Seen) → calls_at now.board.table s ≡ false → Apt P now es → Apt Both now es) → (o : Option Place) → AptCame seen (image_at before o (λ place. line.Size r clicks place)) (λ now. Apt P now es)
           → AptCame seen (image_at before o (λ place. line.Size r clicks place)) (λ now. Apt Both now es)
       fit rest None a = a
-      fit rest (Some place) a = (a.0, rest (seen_after seen (line.Size r clicks place))
-          (here (applied seen.board (line.Size r clicks place)) ∙ size_calls seen.board r clicks place ∙ sym (here seen.board) ∙ out) a.1)
+      fit rest (Some place) a = (
+        a.0,
+        rest (seen_after seen (line.Size r clicks place))
+            (here (applied seen.board (line.Size r clicks place)) ∙ size_calls seen.board r clicks place ∙ sym (here seen.board) ∙ out) a.1,
+      )
 
       by : ((now : Seen) → calls_at now.board.table s ≡ false → Apt P now es → Apt Both now es) → (x : Bool)
           → AptCame seen (cond x (Lets (Log (line.SizeKeep r clicks))) (image_at before (placed seen.board r clicks) (λ place. line.Size r clicks place))) (λ now. Apt P now es)
           → AptCame seen (cond x (Lets (Log (line.SizeKeep r clicks))) (image_at before (placed seen.board r clicks) (λ place. line.Size r clicks place))) (λ now. Apt Both now es)
-      by rest true a = (a.0, rest (seen_after seen (line.SizeKeep r clicks))
-          (here (applied seen.board (line.SizeKeep r clicks)) ∙ size_keep_calls seen.board r clicks ∙ sym (here seen.board) ∙ out) a.1)
+      by rest true a = (
+        a.0,
+        rest (seen_after seen (line.SizeKeep r clicks))
+            (here (applied seen.board (line.SizeKeep r clicks)) ∙ size_keep_calls seen.board r clicks ∙ sym (here seen.board) ∙ out) a.1,
+      )
       by rest false a = fit rest (placed seen.board r clicks) a
   sizes_apt (Fork r child before ∷ es) are seen out a = absurd are
   sizes_apt (Text r clicks before ∷ es) are seen out a = absurd are

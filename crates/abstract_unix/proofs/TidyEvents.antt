@@ -126,7 +126,7 @@ slot_tidy u seen p tidy = by seen.board.table.running p.runner
     by (Some (suc s)) (inr t) e =
         let steps : Steps = turn (system_at u seen) (suc s) in
         stopped (suc s) (turn_of (system_at u seen) (suc s) steps).log.stop steps
-            (turn_tidy (suc s) (system_at u seen) (runs_at u (suc s) seen.board tidy t)) e
+        (turn_tidy (suc s) (system_at u seen) (runs_at u (suc s) seen.board tidy t)) e
 
 either_tidy : (b : Bool) (x y : Steps) → IsTidy x.unix → IsTidy y.unix → IsTidy (cond b x y).unix
 either_tidy true x y p q = p
@@ -145,29 +145,34 @@ tick_tidy u seen p tidy = by seen.board.table.running p.runner
         cond (is_user_mode (mode_by u o) && is_second u.clock) (delivers_to now o) (returns now)
 
     now : ℕ → Bool → Bool → Unix
-    now s b c = record (cond b u (with_process u s (timed (cond b Kernel (cond c User Kernel)) (process_of u s)))) { clock =
-        clock }
+    now s b c = record (cond b u (with_process u s (timed (cond b Kernel (cond c User Kernel)) (process_of u s)))) {
+      clock =
+          clock;
+    }
 
     some : (s : ℕ) → RunnerAt (seats_of u) seen.board (Some s) → (b c : Bool) → (s == 0) ≡ b → is_user (process_of u s) ≡ c
         → IsTidy (cond (is_user_mode (cond b Kernel (cond c User Kernel)) && is_second u.clock) (delivers_due (now s b c) s)
-            (returns (now s b c))).unix
+        (returns (now s b c))).unix
     some s runs true c is_zero user = tidy_like u (record u { clock = clock }) refl refl refl refl tidy
     some s (inl z) false c is_zero user = absurd (eqb-false s 0 is_zero z)
     some s (inr t) false false is_zero user =
         let r = runs_put s u (timed Kernel (process_of u s)) (timed_held Kernel (process_of u s))
-            (runs_at u s seen.board tidy t) in
+        (runs_at u s seen.board tidy t) in
         tidy_like (with_process u s (timed Kernel (process_of u s))) (now s false false) refl refl refl refl r.tidy
     some s (inr t) false true is_zero user =
         let q : Process = timed User (process_of u s) in
         let r = runs_put s u q (timed_held User (process_of u s)) (runs_at u s seen.board tidy t) in
         let v : Unix = now s false true in
-        let k : Runs s v = record { tidy = tidy_like (with_process u s q) v refl refl refl refl r.tidy; there = r.there;
-            lives = r.lives } in
+        let k : Runs s v = record {
+          tidy = tidy_like (with_process u s q) v refl refl refl refl r.tidy;
+          there = r.there;
+          lives = r.lives;
+        } in
         let at : get_or (set u.processes s (Some q)) s None ≡ Some q =
-            get_or-set_same u.processes s (Some q) None (some_within u.processes s (process_of u s)
-            (runs_at u s seen.board tidy t).there) in
+        get_or-set_same u.processes s (Some q) None (some_within u.processes s (process_of u s)
+        (runs_at u s seen.board tidy t).there) in
         let free : (process_of v s).u.pending ≡ 0 = ap (λ o. (unwrap_or o no_process).u.pending) at
-            ∙ eqb-true (process_of u s).u.pending 0 user in
+        ∙ eqb-true (process_of u s).u.pending 0 user in
         either_tidy (is_second u.clock) (delivers_due v s) (returns v) (due_tidy s v free k) k.tidy
 
     by : (o : Option ℕ) → RunnerAt (seats_of u) seen.board o → IsTidy (to o).unix
@@ -185,7 +190,7 @@ event_tidy Tick u seen h tidy ends =
     let m : System = system_at u seen in
     let what : Happened = tick_of m in
     subst IsTidy (sym (settled_unix what)) (went_on what.log.stop (tick_delivery m).unix (tick_tidy u seen h.paused tidy)
-        (sym (settled_ending what) ∙ ends))
+    (sym (settled_ending what) ∙ ends))
 event_tidy (Byte byte) u seen h tidy ends =
     let m : System = system_at u seen in
     let what : Happened = typed_of m byte in
@@ -194,9 +199,9 @@ event_tidy (Byte byte) u seen h tidy ends =
     let items : List Item = sent 0 k.shown ++ key_lines k.keyed u in
     let none : what.log.stop ≡ None =
     shown_stop seen.board (map Show items ++ wakes (calls k.keyed) Keys)
-        (shown_items items (wakes (calls k.keyed) Keys) (shown_wakes (calls k.keyed) Keys)) in
+    (shown_items items (wakes (calls k.keyed) Keys) (shown_wakes (calls k.keyed) Keys)) in
     subst IsTidy (sym (settled_unix what)) (subst IsTidy (sym (ap (λ o. left_by o now) none))
-        (key_tidy k.keyed (record u { line = k.terminal })
+    (key_tidy k.keyed (record u { line = k.terminal })
     (tidy_like u (record u { line = k.terminal }) refl refl refl refl tidy)))
 event_tidy (Switch word) u seen h tidy ends = tidy_like u (record u { switches = word }) refl refl refl refl tidy
 

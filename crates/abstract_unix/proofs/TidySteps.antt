@@ -79,10 +79,10 @@ module _ (s : ℕ) where
   runs_area : (u : Unix) (rule : UArea → UArea) → (rule (process_of u s).u).files ≡ (process_of u s).u.files
       → (rule (process_of u s).u).dir ≡ (process_of u s).u.dir
       → (rule (process_of u s).u).pending ≡ (process_of u s).u.pending
-          → (rule (process_of u s).u).call ≡ (process_of u s).u.call → Runs s u → Runs s (with_area u s rule)
+      → (rule (process_of u s).u).call ≡ (process_of u s).u.call → Runs s u → Runs s (with_area u s rule)
   runs_area u rule files dir pending call r =
       runs_put s u (record (process_of u s) { u = rule (process_of u s).u })
-          (record { files = files; dir = dir; dead = refl; pending = pending; call = call }) r
+      (record { files = files; dir = dir; dead = refl; pending = pending; call = call }) r
 
   runs_refuses : (u : Unix) (n : ℕ) → Runs s u → Runs s (refuses u s n).unix
   runs_refuses u n r = runs_if (nat_lt n 100) (returns (with_area u s (refused_area n))) (signals u s SIGSYS)
@@ -106,17 +106,20 @@ module _ (s : ℕ) where
   free_slot : (u : Unix) (c : ℕ) → lowest is_none (members (world_of u)) ≡ Some c → (get_or u.processes c None ≡ None) × (c < 50)
   unfolding lowest
   free_slot u c e =
-      let found = found_in (λ k. is_none (member_at (members (world_of u)) k)) 1 49 c e in
-      (none_is (get_or u.processes c None) (ap is_none (sym (get_or-map member_of u.processes c None)) ∙ found.passes),
-          (let l = found.below in omega (arith, l)))
+      let found = found_in (λ k. is_none (member_at (members (world_of u)) k)) 1 49 c e in (
+        none_is (get_or u.processes c None) (ap is_none (sym (get_or-map member_of u.processes c None)) ∙ found.passes),
+        (let l = found.below in omega (arith, l)),
+      )
     where
       none_is : (o : Option Process) → is_none (member_of o) ≡ true → o ≡ None
       none_is None e = refl
       none_is (Some p) e = absurd (cc e)
 
   born : (u : Unix) (c : ℕ) → Runs s u → (process_of u s).u.pending ≡ 0 → get_or u.processes c None ≡ None → c < 50
-      → Runs s (record (with_world u (with_child (world_of u) s c (next_pid (world_of u)))) { files =
-          shared u.files (process_of u s).u.files })
+      → Runs s (record (with_world u (with_child (world_of u) s c (next_pid (world_of u)))) {
+        files =
+            shared u.files (process_of u s).u.files;
+      })
   born u c r free none low =
       let p : Process = process_of u s in
       let w : World = world_of u in
@@ -125,13 +128,13 @@ module _ (s : ℕ) where
       let ts : List (Option Told) = told_in u.processes in
       let t : Told = told_of p in
       let other : s ≢ c = (λ same. let some : Some p ≡ None = sym r.there ∙ ap (λ n. get_or u.processes n None) same
-          ∙ none in cc some) in
+      ∙ none in cc some) in
       let short : c < length u.processes = (let fifty = r.tidy.fifty in omega (arith, low, fifty)) in
       let own = told_at u.processes s p r.there r.lives in
       let born_told : told_in (set u.processes c (Some q)) ≡ set ts c (Some t) = map-set told_by u.processes c (Some q)
-          ∙ ap (λ b. set ts c (cond b None (Some t))) r.lives in
+      ∙ ap (λ b. set ts c (cond b None (Some t))) r.lives in
       let at : get_or (set u.processes c (Some q)) s None ≡ get_or u.processes s None =
-          get_or-set_other u.processes c s (Some q) None other in
+      get_or-set_other u.processes c s (Some q) None other in
       let is : unwrap_or (get_or (set u.processes c (Some q)) s None) no_process ≡ p = ap (λ o. unwrap_or o no_process) at in
       record {
         tidy = record {
@@ -141,7 +144,7 @@ module _ (s : ℕ) where
               let change = names_set ts c (Some t) entry (subst (λ n. c < n) (sym (length-map u.processes told_by)) short) in
               let was : names entry (get_or ts c None) ≡ 0 = ap (names entry) (told_none u.processes c none) in
               let now : numbers_of (file_at (shared u.files p.u.files) entry) ≡ all_names (set ts c (Some t)) entry =
-                  omega (arith, more, before, change, was) in
+              omega (arith, more, before, change, was) in
               now ∙ ap (λ l. all_names l entry) (sym born_told);
           fifty = length-set u.processes c (Some q) ∙ r.tidy.fifty;
           fifteen = λ i x e. fifteen_set ts c (Some t) r.tidy.fifteen
@@ -149,7 +152,7 @@ module _ (s : ℕ) where
               (ap (λ l. get_or l i None) (sym born_told) ∙ e);
           waits = shared_goes_on (with_world u (with_child w s c pid)) p.u.files
               (world_goes_on u (with_child w s c pid) r.tidy.waits
-                  (all_waited_put u.processes c (Some q) (user_waited (get_or u.processes c None) q free)));
+              (all_waited_put u.processes c (Some q) (user_waited (get_or u.processes c None) q free)));
           count = r.tidy.count;
           pipes = shared_ends u.files u.pipes p.u.files r.tidy.pipes;
         };
@@ -172,18 +175,25 @@ module _ (s : ℕ) where
 
       by : (o : Option ℕ) → lowest is_none (members w) ≡ o → Runs s (come o).unix
       by None e = runs_refuses (with_world u (change w s past_word)) (error_number EAGAIN)
-          (runs_put s u (past_word (process_of u s)) (record { files = refl; dir = refl; dead = refl; pending = refl;
-              call = refl }) r)
+          (runs_put s u (past_word (process_of u s)) (record {
+            files = refl;
+            dir = refl;
+            dead = refl;
+            pending = refl;
+            call = refl;
+          }) r)
       by (Some c) e =
           let free_is = free_slot u c e in
           let first = born u c r free free_is.0 free_is.1 in
-          let v : Unix = record (with_world u (with_child w s c (next_pid w))) { files =
-              shared u.files (process_of u s).u.files } in
+          let v : Unix = record (with_world u (with_child w s c (next_pid w))) {
+            files =
+                shared u.files (process_of u s).u.files;
+          } in
           let passed = runs_put s v (past_word (process_of v s))
-              (record { files = refl; dir = refl; dead = refl; pending = refl; call = refl }) first in
+          (record { files = refl; dir = refl; dead = refl; pending = refl; call = refl }) first in
           runs_area (with_process v s (past_word (process_of v s)))
           (given_area (next_pid w)
-              (register (world.process_of (change (with_child w s c (next_pid w)) s past_word) s) 1)) refl refl refl refl passed
+          (register (world.process_of (change (with_child w s c (next_pid w)) s past_word) s) 1)) refl refl refl refl passed
 
   -- A process ends: it has closed its files, and is told of no more.
   user_held : (u : Unix) (h : Handed) → s < length u.processes → h.u.pending ≡ 0
@@ -191,13 +201,13 @@ module _ (s : ℕ) where
   user_held u h low free =
       ap (λ o. (unwrap_or o no_process).u.pending)
       (get_or-set_same u.processes s
-          (Some (record (process_of u s) { u = h.u; row = h.row; «data» = h.image.data; stack = h.image.stack })) None low) ∙ free
+      (Some (record (process_of u s) { u = h.u; row = h.row; «data» = h.image.data; stack = h.image.stack })) None low) ∙ free
 
   held_files : (u : Unix) (h : Handed) → s < length u.processes → (process_of (with_handed u s h) s).u.files ≡ h.u.files
   held_files u h low =
       ap (λ o. (unwrap_or o no_process).u.files)
       (get_or-set_same u.processes s
-          (Some (record (process_of u s) { u = h.u; row = h.row; «data» = h.image.data; stack = h.image.stack })) None low)
+      (Some (record (process_of u s) { u = h.u; row = h.row; «data» = h.image.data; stack = h.image.stack })) None low)
 
   ended_tidy : (u : Unix) (status : ℕ) → (process_of u s).u.pending ≡ 0
       → ((entry : ℕ) → times (process_of u s).u.files entry ≡ 0) → Runs s u
@@ -214,7 +224,7 @@ module _ (s : ℕ) where
             let old = ap (names entry) own in
             let gone = closed entry in
             let now : numbers_of (file_at u.files entry) ≡ all_names (set ts s None) entry =
-                omega (arith, before, change, old, gone) in
+            omega (arith, before, change, old, gone) in
             now ∙ ap (λ l. all_names l entry) (sym g.told);
         fifty = g.fifty;
         fifteen = λ i x e. fifteen_set ts s None r.tidy.fifteen (λ t same. absurd (cc same)) i x
@@ -231,7 +241,7 @@ module _ (s : ℕ) where
       let calm : CalmClosing h.u s c = close_all_calm h s (tidy_numbers u s r.tidy) in
       let counted : IsCounted h c.state = close_all_counted h (runs_counted s u r) in
       let now = runs_handed s u c.state counted (record { count = calm.calm.numbers.count; pipes = calm.calm.numbers.pipes })
-          (close_pends h free) r in
+      (close_pends h free) r in
       let low = some_within u.processes s (process_of u s) r.there in
       let own = told_at u.processes s (process_of u s) r.there r.lives in
       let long : length c.state.u.files ≡ 15 = counted.long ∙ r.tidy.fifteen s (told_of (process_of u s)) own in
@@ -278,22 +288,24 @@ module _ (s : ℕ) where
   leaves_call : (u : Unix) (call : SystemCall) (args : List ℕ) → (process_of u s).u.pending ≡ 0 → Runs s u
       → Leaves s (does_call u s call args)
   leaves_call u Indirect args free r = leaves_runs (returns u) r
-  leaves_call u Exit args free r = record { tidy = exits_tidy s u (exit_status (process_of u s)) free r;
-      runs = λ e. absurd (cc e) }
+  leaves_call u Exit args free r = record {
+    tidy = exits_tidy s u (exit_status (process_of u s)) free r;
+    runs = λ e. absurd (cc e);
+  }
   leaves_call u Fork args free r = leaves_runs (forks u s) (runs_forks s u free r)
   leaves_call u Unknown args free r = leaves_runs (refuses u s (error_number ENOSYS)) (runs_refuses s u (error_number ENOSYS) r)
   leaves_call u (OnFiles call) args free r =
       let h : Handed = handed_of u (process_of u s) in
       let did : Did = file_row call h s args u.clock.time in
       let calm : Calm h.u s did = step_row (calm_walks h.u s) call h args u.clock.time tt
-          (record { same = same_call h.u; numbers = tidy_numbers u s r.tidy }) in
+      (record { same = same_call h.u; numbers = tidy_numbers u s r.tidy }) in
       leaves_runs (did_by u s did)
       (runs_did s u did (step_row (counted_walks h s) call h args u.clock.time tt (runs_counted s u r)) calm.numbers
-          (row_pends call h s args u.clock.time free) r)
+      (row_pends call h s args u.clock.time free) r)
   leaves_call u (OnProcesses call) args free r =
       leaves_runs (came_by u s (process_row call (world_of u) s args))
       (runs_came s u (process_row call (world_of u) s args) (still_row (world_of u) s call (world_of u) args (runs_still s u r))
-          (row_waited (world_of u) s free call args) r)
+      (row_waited (world_of u) s free call args) r)
 
   leaves_asked : (u : Unix) (a : Asked) (entry : Sysent) → (process_of u s).u.pending ≡ 0 → Runs s u
       → Leaves s (does_asked u s a entry)
@@ -303,14 +315,14 @@ module _ (s : ℕ) where
       let now = runs_put s u q (record { files = refl; dir = refl; dead = refl; pending = refl; call = refl }) r in
       leaves_call (with_process u s q) entry.call a.args
       (ap (λ o. (unwrap_or o no_process).u.pending) (get_or-set_same u.processes s (Some q) None
-          (some_within u.processes s p r.there)) ∙ free) now
+      (some_within u.processes s p r.there)) ∙ free) now
 
   leaves_faults : (u : Unix) (k : Kind) → Runs s u → Leaves s (faults u s k)
   leaves_faults u kind.Odd r = leaves_runs (signals u s SIGBUS) (runs_signals s u SIGBUS r)
   leaves_faults u (kind.Segment sp) r = leaves_runs (grows_to u s sp) (runs_grows s u sp r)
   leaves_faults u (kind.Illegal word) r =
       leaves_runs (cond (passes_setd u s word) (returns u) (signals u s SIGINS))
-          (runs_if s (passes_setd u s word) (returns u) (signals u s SIGINS) r (runs_signals s u SIGINS r))
+      (runs_if s (passes_setd u s word) (returns u) (signals u s SIGINS) r (runs_signals s u SIGINS r))
   leaves_faults u kind.Bpt r = leaves_runs (signals u s SIGTRC) (runs_signals s u SIGTRC r)
   leaves_faults u kind.Iot r = leaves_runs (signals u s SIGIOT) (runs_signals s u SIGIOT r)
   leaves_faults u kind.Emt r = leaves_runs (signals u s SIGEMT) (runs_signals s u SIGEMT r)
@@ -319,7 +331,7 @@ module _ (s : ℕ) where
   leaves_outcome u outcome.Next free r = record { tidy = r.tidy; runs = λ e. r }
   leaves_outcome u (outcome.Call number) free r =
       let a : Asked = asked (image_of u.texts (process_of u s)) (register (process_of u s) 7) number in leaves_asked u a
-          (sysent_of a.number) free r
+      (sysent_of a.number) free r
   leaves_outcome u (outcome.Fault k) free r = leaves_faults u k r
 
   leaves_instruction : (u : Unix) → (process_of u s).u.pending ≡ 0 → Runs s u → Leaves s (instruction u s)
@@ -330,7 +342,7 @@ module _ (s : ℕ) where
       let now = runs_put s u q (record { files = refl; dir = refl; dead = refl; pending = refl; call = refl }) r in
       leaves_outcome (with_process u s q) step.outcome
       (ap (λ o. (unwrap_or o no_process).u.pending) (get_or-set_same u.processes s (Some q) None
-          (some_within u.processes s p r.there)) ∙ free) now
+      (some_within u.processes s p r.there)) ∙ free) now
 
   leaves_resumed : (u : Unix) → Runs s u → Leaves s (resumed u s)
   leaves_resumed u r = by (is_on_files (process_of u s).u.pending) refl
@@ -352,7 +364,7 @@ module _ (s : ℕ) where
       by false on =
           leaves_runs (came_by u s (resume_proc (world_of u) s))
           (runs_came s u (resume_proc (world_of u) s) (still_resume (world_of u) s (world_of u) (runs_still s u r))
-              (resume_waited (world_of u) s) r)
+          (resume_waited (world_of u) s) r)
 
   pub leaves_begun : (m : System) → Runs s m.unix → Leaves s (begins_turn m s)
   leaves_begun m r = by (is_user (process_of m.unix s)) refl
@@ -363,8 +375,11 @@ module _ (s : ℕ) where
 
   -- A signal is delivered.
   delivered_held : (p : Process) (sig : ℕ) (image : Image)
-      → SameHeld p (record p { u = (delivery p.u sig image).area; «data» = (delivery p.u sig image).image.data;
-          stack = (delivery p.u sig image).image.stack })
+      → SameHeld p (record p {
+        u = (delivery p.u sig image).area;
+        «data» = (delivery p.u sig image).image.data;
+        stack = (delivery p.u sig image).image.stack;
+      })
   delivered_held p sig image = by (handler_of p.u sig == 0)
     where
       told : Bool → Delivery
@@ -384,11 +399,13 @@ module _ (s : ℕ) where
       let h : Handed = handed_of u (process_of u s) in
       let core : Did = core_file h u.clock.time in
       let calm : OverWith (InCalm h.u) core =
-      core_keeps (InCalm h.u) (λ l inodes same k. record { same = k.same;
-          numbers = other_inodes l inodes same k.numbers }) h u.clock.time
+      core_keeps (InCalm h.u) (λ l inodes same k. record {
+        same = k.same;
+        numbers = other_inodes l inodes same k.numbers;
+      }) h u.clock.time
       (record { same = same_call h.u; numbers = tidy_numbers u s r.tidy }) in
       let counted : OverWith (IsCounted h) core = core_keeps (IsCounted h) (λ l inodes same k. k) h u.clock.time
-          (runs_counted s u r) in
+      (runs_counted s u r) in
       let now = runs_handed s u core.state counted.state calm.state.numbers (core_pends h u.clock.time free) r in
       tidy_if (makes_core sig) (ends_after u s sig core) (exits_with u s (signal_status u s sig))
       (exits_tidy s (with_handed u s core.state) (signal_status u s sig + cond (is_written core.answer) dumped 0)
@@ -400,7 +417,7 @@ module _ (s : ℕ) where
       let grown : Steps = grows u (grown_or_not (world_of u) s (grow (world_of u) s (signal_stack (process_of u s).u))) in
       let p : Process = process_of grown.unix s in
       runs_put s grown.unix _ (delivered_held p sig (image_of grown.unix.texts p))
-          (runs_grown s u (signal_stack (process_of u s).u) r)
+      (runs_grown s u (signal_stack (process_of u s).u) r)
 
   pub due_tidy : (u : Unix) → (process_of u s).u.pending ≡ 0 → Runs s u → IsTidy (delivers_due u s).unix
   unfolding delivers_due
@@ -436,13 +453,13 @@ module _ (s : ℕ) where
       by ending.Next is = begun.tidy
       by ending.Trapped is =
           due_tidy steps.unix (eqb-true (process_of steps.unix s).u.pending 0
-              (trapped_user m s r.tidy.waits r.there r.lives is)) (begun.runs is)
+          (trapped_user m s r.tidy.waits r.there r.lives is)) (begun.runs is)
       by (ending.Slept pri chan) is = begun.tidy
       by ending.Ended is = begun.tidy
       by (ending.Panic kind) is = begun.tidy
 
   pub begins_numbers : (u : Unix) (board : Board) → Runs s u
       → HasNumbers (handed_of (begins_turn (record { unix = u; board = board }) s).unix
-          (process_of (begins_turn (record { unix = u; board = board }) s).unix s))
+      (process_of (begins_turn (record { unix = u; board = board }) s).unix s))
   begins_numbers u board r = tidy_numbers (begins_turn (record { unix = u; board = board }) s).unix s
       (leaves_begun (record { unix = u; board = board }) r).tidy

@@ -44,7 +44,7 @@ module _ (s : ℕ) where
       let at = put_there u q (some_within u.processes s p r.there) in
       let is : process_of (with_process u s q) s ≡ q = ap (λ o. unwrap_or o no_process) at in
       let as_told : told_by (Some q) ≡ told_by (Some p) = (λ i. cond (same.dead i) None
-          (Some (record { files = same.files i; dir = same.dir i }))) in
+      (Some (record { files = same.files i; dir = same.dir i }))) in
       let told : told_in (set u.processes s (Some q)) ≡ told_in u.processes = told_change u.processes s p q r.there as_told in
       record {
         tidy = record {
@@ -105,7 +105,7 @@ module _ (s : ℕ) where
       let at = put_there u q low in
       let is : process_of (with_handed u s h) s ≡ q = ap (λ o. unwrap_or o no_process) at in
       let put : told_in (set u.processes s (Some q)) ≡ set ts s (Some t) = map-set told_by u.processes s (Some q)
-          ∙ ap (λ b. set ts s (cond b None (Some t))) r.lives in
+      ∙ ap (λ b. set ts s (cond b None (Some t))) r.lives in
       let own = its_told u r in
       let long : length h.u.files ≡ 15 = k.long ∙ r.tidy.fifteen s (told_of p) own in
       record {
@@ -116,7 +116,7 @@ module _ (s : ℕ) where
               let change = names_set ts s (Some t) entry (some_within ts s (told_of p) own) in
               let old = ap (names entry) own in
               let now : numbers_of (file_at h.files entry) ≡ all_names (set ts s (Some t)) entry =
-                  omega (arith, before, counts, change, old) in
+              omega (arith, before, counts, change, old) in
               now ∙ ap (λ l. all_names l entry) (sym put);
           fifty = length-set u.processes s (Some q) ∙ r.tidy.fifty;
           fifteen = λ i x e. fifteen_set ts s (Some t) r.tidy.fifteen

@@ -14,12 +14,12 @@ use fs_tree::Tree;
 use proc_tab::Row;
 use sys_files::{
     Files, chdir_to, chmod_to, chown_to, close_file, creat_file, dup_file, gtty_get, link_file,
-    mknod_at, open_file, pipe_new, read_file, seek_to, stat_file, stat_open, stty_set, sync_all, unlink_file,
-    write_file,
+    mknod_at, open_file, pipe_new, read_file, seek_to, stat_file, stat_open, stty_set, sync_all,
+    unlink_file, write_file,
 };
 use sys_procs::{
-    Procs, break_at, exec_file, get_gid, get_uid, kill_to, nice_to, no_op, pid_of, set_gid, set_time,
-    set_uid, signal_set, sleep_for, switches, time_now, times_to, wait_child,
+    Procs, break_at, exec_file, get_gid, get_uid, kill_to, nice_to, no_op, pid_of, set_gid,
+    set_time, set_uid, signal_set, sleep_for, switches, time_now, times_to, wait_child,
 };
 use u_area::UArea;
 use v6_base::{Answer, PanicKind, Slot, Space, Trace};

@@ -102,7 +102,7 @@ module _ (P : Handed → Type 0)
       by : (b : Bool) → OverWith P (cond b (writes_named now h) (fails h EPERM))
       by true =
           named h (make_in h.inodes h.marks (user_of h.u) h.u.dir core_name) (by_made (writes_over now) (writes_new now))
-              (making_count h.inodes _) p
+          (making_count h.inodes _) p
           (λ l answer q. made_so now l answer q)
       by false = record { state = p; over = tt }
 

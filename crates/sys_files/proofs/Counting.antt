@@ -94,9 +94,9 @@ module _ (files : List (Option OpenFile)) (mine : List ℕ) (new : List (Option 
       (open_given new its fd entry (Some file) room.0 refl k.is_open)
       (numbers_change new its (slice_set its fd (entry + 1)) entry (Some file) room.0 (omega (arith, once, own, none, count))
       (λ i other. let at = given_times its fd entry i place.0 place.1 in let zero =
-          no_one entry i other in omega (arith, at, zero)))
+      no_one entry i other in omega (arith, at, zero)))
       (λ e f at fewer. stays_there (slice_set new entry (Some file)) e f
-          (set_other new entry e (Some file) f (free_other new entry e f room.1 at) at))
+      (set_other new entry e (Some file) f (free_other new entry e f room.1 at) at))
       (length-set its fd (entry + 1))
 
   -- a file that is open is given one number more
@@ -114,9 +114,9 @@ module _ (files : List (Option OpenFile)) (mine : List ℕ) (new : List (Option 
       (counted_then files new (slice_set new entry (Some (with_more 1 file))) mine its (slice_set its fd (entry + 1)) k
       (open_given new its fd entry (Some (with_more 1 file)) here refl k.is_open)
       (numbers_change new its (slice_set its fd (entry + 1)) entry (Some (with_more 1 file)) here
-          (omega (arith, count, own, more))
+      (omega (arith, count, own, more))
       (λ i other. let at = given_times its fd entry i place.0 place.1 in let zero =
-          no_one entry i other in omega (arith, at, zero)))
+      no_one entry i other in omega (arith, at, zero)))
       (λ e f at fewer. stays_changed new entry file (with_more 1 file) is refl refl e f at)
       (length-set its fd (entry + 1)))
 
@@ -138,14 +138,14 @@ module _ (files : List (Option OpenFile)) (mine : List ℕ) (new : List (Option 
           let here = used_low new entry file is in
           let count : numbers_of (file_at new entry) ≡ file.count = ap numbers_of is in
           counted_then files new (slice_set new entry (Some (with_offset offset file))) mine its its k
-              (open_set entry (with_offset offset file) here)
+          (open_set entry (with_offset offset file) here)
           (numbers_change new its its entry (Some (with_offset offset file)) here (omega (arith, count)) (λ i other. refl))
           (λ e f at fewer. stays_changed new entry file (with_offset offset file) is refl refl e f at) refl
 
   -- a number lets its file go
   counted_left : (fd : ℕ) → 0 < slice_index its fd
       → Counted files mine (slice_set new (entry_of its fd) (left (closed (unwrap_or (file_at new (entry_of its fd)) no_file))))
-          (slice_set its fd 0)
+      (slice_set its fd 0)
   counted_left fd above = by (file.count == 1) refl
     where
       entry : ℕ
@@ -181,7 +181,7 @@ module _ (files : List (Option OpenFile)) (mine : List ℕ) (new : List (Option 
 
       by : (b : Bool) → (file.count == 1) ≡ b
           → Counted files mine (slice_set new entry (left (cond b (Last (with_fewer file)) (Still (with_fewer file)))))
-              (slice_set its fd 0)
+          (slice_set its fd 0)
       by true e =
           let last = eqb-true file.count 1 e in
           let once = one entry in
@@ -195,7 +195,7 @@ module _ (files : List (Option OpenFile)) (mine : List ℕ) (new : List (Option 
           counted_then files new (slice_set new entry (Some (with_fewer file))) mine its (slice_set its fd 0) k
           (open_taken new its fd entry (Some (with_fewer file)) here named (λ none. absurd (false≢true (sym none))) k.is_open)
           (numbers_change new its (slice_set its fd 0) entry (Some (with_fewer file)) here
-              (omega (arith, count, own, once, least, most)) others)
+          (omega (arith, count, own, once, least, most)) others)
           (λ x f at fewer. stays_changed new entry file (with_fewer file) is refl refl x f at)
           (length-set its fd 0)
 
@@ -220,7 +220,7 @@ counted_walks old slot = record {
       (opened ino kind) fd entry refl number free;
   ends = λ h ino fd entry next_fd next_entry above within number free next_number next_free p.
       counted_opened old.files old.u.files (slice_set h.files entry (Some (opened ino reading_end)))
-          (slice_set h.u.files fd (entry + 1))
+      (slice_set h.u.files fd (entry + 1))
       (counted_opened old.files old.u.files h.files h.u.files p (opened ino reading_end) fd entry refl number free)
       (opened ino writing_end) next_fd next_entry refl next_number next_free;
   given = λ h fd free named number p. counted_given old.files old.u.files h.files h.u.files p free (entry_of h.u.files fd)
@@ -241,8 +241,10 @@ then_counted : (old : Handed) (c : Closing) (fd : ℕ) → IsCounted old c.state
 then_counted old c fd k = by (slice_index c.state.u.files fd == 0) refl
   where
     by : (b : Bool) → (slice_index c.state.u.files fd == 0) ≡ b
-        → IsCounted old (cond {A = Closing} b c (record { state = (closes c.state fd).state;
-            items = c.items ++ (closes c.state fd).items })).state
+        → IsCounted old (cond {A = Closing} b c (record {
+          state = (closes c.state fd).state;
+          items = c.items ++ (closes c.state fd).items;
+        })).state
     by true e = k
     by false e = let some = eqb-false (slice_index c.state.u.files fd) 0 e in walk_closes (counted_walks old 0) c.state fd 0 0
         (omega (arith, some)) k

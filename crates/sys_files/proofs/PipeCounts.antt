@@ -49,4 +49,4 @@ pub writes_count : (store : Store) (ends : ℕ) (p : Pipe) (image : Image) (at c
 unfolding writing.writes
 writes_count store ends p image at count time =
     rounds_count (writing.write_call ends image count time) store.count (suc count)
-        (record { store = store; pipe = p; at = at; left = count }) refl
+    (record { store = store; pipe = p; at = at; left = count }) refl

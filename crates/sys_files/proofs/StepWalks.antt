@@ -110,11 +110,13 @@ pub record StepWalks (P : Handed → Type 0) (Q : Did → Type 0) (Few Known : �
   pub ends : (h : Handed) (ino fd entry next_fd next_entry : ℕ) → 1 ≤ ino → ino ≤ h.inodes.store.count
       → free_number h.u.files ≡ Some fd → free_entry h.files ≡ Some entry
       → free_number (with_end h ino reading_end fd entry).u.files ≡ Some next_fd
-          → free_entry (with_end h ino reading_end fd entry).files ≡ Some next_entry
+      → free_entry (with_end h ino reading_end fd entry).files ≡ Some next_entry
       → P h → P (with_ends h ino fd entry next_fd next_entry)
   pub given : (h : Handed) (fd free : ℕ) → 0 < slice_index h.u.files fd → free_number h.u.files ≡ Some free → P h
-      → P (record h { files = with_change h.files (entry_of h.u.files fd) (with_more 1);
-          u = with_number h.u free (entry_of h.u.files fd + 1) })
+      → P (record h {
+        files = with_change h.files (entry_of h.u.files fd) (with_more 1);
+        u = with_number h.u free (entry_of h.u.files fd + 1);
+      })
   pub offset : (h : Handed) (entry offset : ℕ) → P h → P (record h { files = with_change h.files entry (with_offset offset) })
   pub dropped : (h : Handed) (fd : ℕ) → 0 < slice_index h.u.files fd → P h → P (dropped h fd)
   pub marked : (h : Handed) (p : Pipe) → P h → P (record h { pipes = with_pipe h.pipes p })
@@ -181,7 +183,7 @@ pub removing_count : (n : Inodes) (r : Result (ℕ × ℕ × ℕ) Errno) → (re
 removing_count n (Ok entry) =
     same_count n (not (can_refer n entry.0)) (refused n ENFILE) _ refl
     (same_count n (not (can_refer (with_reference n entry.0) entry.2))
-        (refused (put_back (with_reference n entry.0) entry.0) ENFILE) _
+    (refused (put_back (with_reference n entry.0) entry.0) ENFILE) _
     (put_back_count (with_reference n entry.0) entry.0) refl)
 removing_count n (Err e) = refl
 
@@ -277,7 +279,7 @@ module _ {P : Handed → Type 0} {Q : Did → Type 0} {Few Known : ℕ → Type 
   walk_named h found next same p goes =
       let now : P (with_inodes h found.inodes) = k.inodes h found.inodes same p in
       checks (with_inodes h found.inodes) found.answer (next (with_inodes h found.inodes)) now
-          (λ a. goes (with_inodes h found.inodes) a now)
+      (λ a. goes (with_inodes h found.inodes) a now)
 
   walk_finds : (h : Handed) (name : ℕ) (next : Handed → ℕ → Did) → P h → ((now : Handed) (ino : ℕ) → P now → Q (next now ino))
       → Q (finds h name next)
@@ -341,7 +343,7 @@ module _ {P : Handed → Type 0} {Q : Did → Type 0} {Few Known : ℕ → Type 
       checks h (must ENXIO (can_open (node_at h ino))) _ p (λ can.
       k.done (with_opened h ino kind fd entry) fd
       (opened h ino kind fd entry plain (need_some EMFILE (free_number h.u.files) fd number)
-          (need_some ENFILE (free_entry h.files) entry free) p))))
+      (need_some ENFILE (free_entry h.files) entry free) p))))
 
   -- Bytes are read, and written.
   after_moved : {Memory : Type 0} (h : Handed) (entry : ℕ) (m : Moving Memory) → P h → P (with_moved h entry m)
@@ -370,12 +372,12 @@ module _ {P : Handed → Type 0} {Q : Did → Type 0} {Few Known : ℕ → Type 
       let reading : Reading = line_read h at count in
       walk_line (with_line_read h reading) entry at count reading.took
       (k.stored (record h { line = reading.terminal }) reading.image (line_lengths h.line h.image at count)
-          (k.console h reading.terminal p))
+      (k.console h reading.terminal p))
 
   read_by : (h : Handed) (entry at count now : ℕ) (console : Bool) → P h
       → Q (cond console (reads_line (with_read h entry (read_of h entry at count now)) entry at count)
       (gives_count (with_read h entry (read_of h entry at count now)) (read_of h entry at count now).done
-          (read_of h entry at count now).error))
+      (read_of h entry at count now).error))
   read_by h entry at count now console p = by console
     where
       m : Moving Image
@@ -391,8 +393,10 @@ module _ {P : Handed → Type 0} {Q : Did → Type 0} {Few Known : ℕ → Type 
 
   shown_by : (h : Handed) (image : Image) (at count : ℕ) (all : Bool) → Few count → P h
       → Q (record (cond all (returns (record h { line = after_shown h.line (readable image at count) }) count)
-      (fails (record h { line = after_shown h.line (readable image at count) }) EFAULT)) { items =
-          sent 0 (shows h.line (readable image at count)) })
+      (fails (record h { line = after_shown h.line (readable image at count) }) EFAULT)) {
+        items =
+            sent 0 (shows h.line (readable image at count));
+      })
   shown_by h image at count true few p =
       let after : Handed = record h { line = after_shown h.line (readable image at count) } in
       k.showing h.line image at count (returns after count) few (k.done after count (k.console h after.line p))
@@ -404,10 +408,10 @@ module _ {P : Handed → Type 0} {Q : Did → Type 0} {Few Known : ℕ → Type 
       → Q (cond console (shows_bytes (with_moved h entry (write_of h entry at count now)) count (readable h.image at count))
       (gives_count (with_moved h entry (write_of h entry at count now))
       (if is_device (node_at h (file_of h entry).ino).mode then count else (write_of h entry at count now).done)
-          (write_of h entry at count now).error))
+      (write_of h entry at count now).error))
   write_by h entry at count now true few p =
       shown_by (with_moved h entry (write_of h entry at count now)) h.image at count
-          (length (readable h.image at count) == count) few
+      (length (readable h.image at count) == count) few
       (after_moved h entry (write_of h entry at count now) p)
   write_by h entry at count now false few p =
       walk_count (with_moved h entry (write_of h entry at count now)) _ _ (after_moved h entry (write_of h entry at count now) p)
@@ -453,12 +457,12 @@ module _ {P : Handed → Type 0} {Q : Did → Type 0} {Few Known : ℕ → Type 
       let q : Pipe = pipe_at h entry in
       let known : Known q.ino = (k.known h entry is p).1 in
       let read : P (with_store h r.store) = k.inodes h (record h.inodes { store = r.store })
-          (reads_count h.inodes.store (ends_at h entry) q h.image at count now) p in
+      (reads_count h.inodes.store (ends_at h entry) q h.image at count now) p in
       let stored : P (record (with_store h r.store) { image = r.image }) =
       k.stored (with_store h r.store) r.image (pipe_lengths h.inodes.store (ends_at h entry) q h.image at count now) read in
       woken_if (q.writer_waits && not r.pipe.writer_waits) (chan.Write q.ino) _ known
       (walk_ends_read (with_pipe_read h r) q.ino entry at count r.answer known
-          (k.marked (record (with_store h r.store) { image = r.image }) r.pipe stored))
+      (k.marked (record (with_store h r.store) { image = r.image }) r.pipe stored))
 
   walk_ends_write : (h : Handed) (ino entry at count : ℕ) (answer : Piped) → Known ino → P h
       → Q (ends_write h slot ino entry at count answer)
@@ -477,7 +481,7 @@ module _ {P : Handed → Type 0} {Q : Did → Type 0} {Few Known : ℕ → Type 
       let known : Known q.ino = (k.known h entry is p).1 in
       let written : P (with_store h w.store) =
       k.inodes h (record h.inodes { store = w.store }) (writes_count h.inodes.store (ends_at h entry) q h.image
-          ((at + (count - left)) % 65536) left now) p in
+      ((at + (count - left)) % 65536) left now) p in
       woken_if (q.reader_waits && not w.pipe.reader_waits) (chan.Read q.ino) _ known
       (walk_ends_write (with_pipe_write h w) q.ino entry at count w.answer known (k.marked (with_store h w.store) w.pipe written))
 
@@ -515,18 +519,18 @@ module _ {P : Handed → Type 0} {Q : Did → Type 0} {Few Known : ℕ → Type 
   walk_released h a b (Still file) known p =
       subst (λ items. Q (record { answer = Ret a b; state = with_roused h file; items = items })) (append-nil (pipe_roused file))
       (pipe_woken file.ino file.kind.pipe (record { answer = Ret a b; state = with_roused h file; items = [] })
-          (known file (inl refl))
+      (known file (inl refl))
       (k.wakes (with_roused h file) a b false (roused h file file.kind.pipe p)))
   walk_released h a b (Last file) known p =
       let rest : Handed = with_gone (with_roused h file) file in
       let left : Handed = (released h (Last file)).state in
       let here : P rest = without_end (with_roused h file) file.ino file.kind.pipe
-          (has_end (with_roused h file).files file.ino) refl (roused h file file.kind.pipe p) in
+      (has_end (with_roused h file).files file.ino) refl (roused h file file.kind.pipe p) in
       pipe_woken file.ino file.kind.pipe (record { answer = Ret a b; state = left; items = console_closed rest file })
-          (known file (inr refl))
+      (known file (inr refl))
       (k.wakes left a b (is_closed_by rest file)
       (k.inodes (with_closed rest file) left.inodes (put_back_count rest.inodes file.ino)
-          (k.console rest (with_closed rest file).line here)))
+      (k.console rest (with_closed rest file).line here)))
 
   -- The file of which a number tells has the inode and the kind of its entry's.
   told_known : (h : Handed) (fd : ℕ) (file : OpenFile) → P h → (told_by h fd ≡ Still file) ⊎ (told_by h fd ≡ Last file)
@@ -577,7 +581,7 @@ module _ {P : Handed → Type 0} {Q : Did → Type 0} {Few Known : ℕ → Type 
   walk_open h name mode p =
       walk_finds h name (λ l ino. opens_named l ino mode) p (λ l ino q.
       checks l (last_failure (open_tests l.marks ino (node_at l ino) (user_of l.u) mode)) _ q
-          (λ passed. walk_opens l ino _ refl q))
+      (λ passed. walk_opens l ino _ refl q))
 
   -- 6, close
   pub walk_close : (h : Handed) → P h → Q (close_file h)
@@ -591,7 +595,7 @@ module _ {P : Handed → Type 0} {Q : Did → Type 0} {Few Known : ℕ → Type 
       checks h (access h.marks ino (node_at h ino) (user_of h.u) Write) _ p (λ may.
       checks h (must EISDIR (not (is_directory (node_at h ino).mode))) _ p (λ file.
       walk_opens (with_no_blocks h ino now) ino _ refl (k.inodes h (with_no_blocks h ino now).inodes
-          (truncated_count h.inodes ino now) p)))
+      (truncated_count h.inodes ino now) p)))
 
   pub walk_creat : (h : Handed) (name mode now : ℕ) → P h → Q (creat_file h name mode now)
   walk_creat h name mode now p =
@@ -605,7 +609,7 @@ module _ {P : Handed → Type 0} {Q : Did → Type 0} {Few Known : ℕ → Type 
   entered : (h : Handed) (ino now dir offset : ℕ) (name : List ℕ) → P h → Q (enters_again ino now h dir offset name)
   entered h ino now dir offset name p =
       walk_writes h dir offset _ now (λ l. is_done (with_links l ino ((node_at l ino).nlink + 1) now)) p
-          (λ l q. linked l ino _ now q)
+      (λ l q. linked l ino _ now q)
 
   pub walk_link : (h : Handed) (name new now : ℕ) → P h → Q (link_file h name new now)
   walk_link h name new now p =
@@ -620,17 +624,17 @@ module _ {P : Handed → Type 0} {Q : Did → Type 0} {Few Known : ℕ → Type 
   emptied h dir offset ino now p =
       checks h (must EPERM (may_link h ino)) _ p (λ may.
       walk_writes h dir offset (0 ∷ 0 ∷ []) now (λ l. is_done (with_links l ino ((node_at l ino).nlink - 1) now)) p
-          (λ l q. linked l ino _ now q))
+      (λ l q. linked l ino _ now q))
 
   removed : (h : Handed) (now : ℕ) (entry : ℕ × ℕ × ℕ) → P h → Q (removes now h entry)
   removed h now (dir, offset, ino) p =
       k.lets_go ino (until_end dir (empties now h dir offset ino))
-          (k.lets_go dir (empties now h dir offset ino) (emptied h dir offset ino now p))
+      (k.lets_go dir (empties now h dir offset ino) (emptied h dir offset ino now p))
 
   pub walk_unlink : (h : Handed) (name now : ℕ) → P h → Q (unlink_file h name now)
   walk_unlink h name now p =
       walk_named h (remove_in h.inodes h.marks (user_of h.u) h.u.dir (name_at h.image name)) (removes now)
-          (removing_count h.inodes _) p (λ l entry q. removed l now entry q)
+      (removing_count h.inodes _) p (λ l entry q. removed l now entry q)
 
   -- 12, chdir
   pub walk_chdir : (h : Handed) (name : ℕ) → P h → Q (chdir_to h name)
@@ -646,10 +650,10 @@ module _ {P : Handed → Type 0} {Q : Did → Type 0} {Few Known : ℕ → Type 
   walk_mknod h name mode device now p =
       checks h (must EPERM (is_super_user h)) _ p (λ may.
       walk_makes h name (λ l there. fails l EEXIST) (makes_any mode device now) p (λ l there q. k.refused l EEXIST q)
-          (λ l dir offset bytes q.
+      (λ l dir offset bytes q.
       walk_node l dir offset bytes _ now (λ m ino. is_done (with_device m ino device)) q (λ m ino r.
       k.done (with_device m ino device) (r0 m) (k.inodes m (with_device m ino device).inodes
-          (device_count m.inodes ino device) r))))
+      (device_count m.inodes ino device) r))))
 
   -- 15, chmod, and 16, chown
   changed : (h : Handed) (ino : ℕ) (node : Node) → P h → Q (is_done (with_changed h ino node))
@@ -658,13 +662,13 @@ module _ {P : Handed → Type 0} {Q : Did → Type 0} {Few Known : ℕ → Type 
   pub walk_chmod : (h : Handed) (name mode now : ℕ) → P h → Q (chmod_to h name mode now)
   walk_chmod h name mode now p =
       walk_finds h name (changes_mode mode now) p (λ l ino q. checks l (must EPERM (is_owner l ino)) _ q
-          (λ may. changed l ino _ q))
+      (λ may. changed l ino _ q))
 
   pub walk_chown : (h : Handed) (name owner now : ℕ) → P h → Q (chown_to h name owner now)
   walk_chown h name owner now p =
       checks h (must EPERM (is_super_user h)) _ p (λ may.
       walk_finds h name _ p
-          (λ l ino q. changed l ino (record (node_at l ino) { uid = owner % 256; gid = owner / 256; modtime = now }) q))
+      (λ l ino q. changed l ino (record (node_at l ino) { uid = owner % 256; gid = owner / 256; modtime = now }) q))
 
   -- 18, stat, and 28, fstat
   pub walk_stat : (h : Handed) (name at : ℕ) → P h → Q (stat_file h name at)
@@ -702,7 +706,7 @@ module _ {P : Handed → Type 0} {Q : Did → Type 0} {Few Known : ℕ → Type 
       checks_so h (need EMFILE (free_number h.u.files)) _ p (λ fd number.
       let named = entry_named h (r0 h) entry is in
       subst (λ e. Q (returns (record h { files = with_change h.files e (with_more 1); u = with_number h.u fd (e + 1) }) fd))
-          (sym named.1)
+      (sym named.1)
       (k.done _ fd (k.given h (r0 h) fd named.0 (need_some EMFILE (free_number h.u.files) fd number) p))))
 
   -- 42, pipe
@@ -714,9 +718,9 @@ module _ {P : Handed → Type 0} {Q : Did → Type 0} {Few Known : ℕ → Type 
       checks_so h (need EMFILE (free_number first.u.files)) _ p (λ next_fd next_number.
       checks_so h (need ENFILE (free_entry first.files)) _ p (λ next_entry next_free.
       record_of next_fd (k.ends h ino fd entry next_fd next_entry above within
-          (need_some EMFILE (free_number h.u.files) fd number) (need_some ENFILE (free_entry h.files) entry free)
+      (need_some EMFILE (free_number h.u.files) fd number) (need_some ENFILE (free_entry h.files) entry free)
       (need_some EMFILE (free_number first.u.files) next_fd next_number)
-          (need_some ENFILE (free_entry first.files) next_entry next_free) p)))))
+      (need_some ENFILE (free_entry first.files) next_entry next_free) p)))))
     where
       record_of : {m : Handed} {fd : ℕ} (next_fd : ℕ) → P m → Q (record { answer = Ret fd next_fd; state = m; items = [] })
       record_of {m} {fd} next_fd q = k.wakes m fd next_fd false q
@@ -725,7 +729,7 @@ module _ {P : Handed → Type 0} {Q : Did → Type 0} {Few Known : ℕ → Type 
   walk_pipe h now p =
       let found : Finding ℕ = new_in h.inodes IALLOC (record { uid = 0; gid = 0 }) now in
       let same : found.inodes.store.count ≡ h.inodes.store.count =
-          numbered_count h.inodes IALLOC (record { uid = 0; gid = 0 }) now _ _ in
+      numbered_count h.inodes IALLOC (record { uid = 0; gid = 0 }) now _ _ in
       let there : P (with_inodes h found.inodes) = k.inodes h found.inodes same p in
       checks_so (with_inodes h found.inodes) found.answer _ there (λ ino is.
       let within = new_within h.inodes IALLOC (record { uid = 0; gid = 0 }) now ino is in
@@ -736,9 +740,9 @@ module _ {P : Handed → Type 0} {Q : Did → Type 0} {Few Known : ℕ → Type 
   goes_by : (h : Handed) (now : ℕ) (b c : Bool) → (h.u.pending == 1) ≡ b → (h.u.pending == 3) ≡ c
       → ((h.u.pending == 1) ≡ false → (file_of h (slice_index h.u.call 0)).kind.pipe ≡ true) → P (without_pending h)
       → Q (cond b (resume_read h)
-          (cond c (reads_pipe (without_pending h) (slice_index h.u.call 0) (slice_index h.u.call 1) (slice_index h.u.call 2) now)
+      (cond c (reads_pipe (without_pending h) (slice_index h.u.call 0) (slice_index h.u.call 1) (slice_index h.u.call 2) now)
       (writes_pipe (without_pending h) slot (slice_index h.u.call 0) (slice_index h.u.call 1) (slice_index h.u.call 2)
-          (slice_index h.u.call 3) now)))
+      (slice_index h.u.call 3) now)))
   goes_by h now true c e f has p = walk_reads_line (without_pending h) _ _ _ p
   goes_by h now false true e f has p = walk_reads_pipe (without_pending h) _ _ _ now (has e) p
   goes_by h now false false e f has p = walk_writes_pipe (without_pending h) _ _ _ _ now (has e) p

@@ -145,8 +145,10 @@ module _ (who : ℕ → Process → Bool) (n : ℕ) where
   set_where l k o false = sym (set-get_or l k None)
 
   world_where : (w : World) (k : ℕ) (b : Bool) → cond b (change w k (signalled n)) w
-      ≡ record w { processes = cond b
-          (set w.processes k (Some (signalled n (unwrap_or (get_or w.processes k None) no_process)))) w.processes }
+      ≡ record w {
+        processes = cond b
+            (set w.processes k (Some (signalled n (unwrap_or (get_or w.processes k None) no_process)))) w.processes;
+      }
   world_where w k true = refl
   world_where w k false = refl
 

@@ -34,7 +34,7 @@ reached w s = meant_in (is_reached s (process_of w s)) w.processes
 abbrev reaches_some : World → ℕ → ℕ → Comes
 reaches_some w s n =
     shows (signal_lines n (reached w s))
-        (returns (record w { processes = all_signalled (is_reached s (process_of w s)) n w.processes }) s)
+    (returns (record w { processes = all_signalled (is_reached s (process_of w s)) n w.processes }) s)
 
 pub kill_none : (w : World) (s n : ℕ) → nat_lt 0 (length (reached w s)) ≡ false → fails w ESRCH ≡ kill_to w s n
 unfolding kill_to
@@ -76,7 +76,7 @@ pub none_meant : (who : ℕ → Process → Bool) (n : ℕ) (ps : List (Option P
     → nat_lt 0 (length (meant_in who ps)) ≡ false → all_signalled who n ps ≡ ps
 none_meant who n ps fifty kernel none =
     they_are who n (all_signalled who n ps) ps
-        (length-map-range_with_len (λ s. signalled_if who n s (get_or ps s None)) 0 50) fifty each
+    (length-map-range_with_len (λ s. signalled_if who n s (get_or ps s None)) 0 50) fifty each
   where
     l : ℕ
     l = length (meant_in who ps)
@@ -110,9 +110,9 @@ pub kill_answer : (w : World) (s n : ℕ) (who : ℕ → Process → Bool) (u : 
 kill_answer w s n who u low is =
     let now : World = record w { processes = all_signalled who n w.processes } in
     let at : get_or now.processes s None ≡ signalled_if who n s (get_or w.processes s None) =
-        get_or-map-range_with_len (λ s. signalled_if who n s (get_or w.processes s None)) 0 50 s s None low (omega arith) in
+    get_or-map-range_with_len (λ s. signalled_if who n s (get_or w.processes s None)) 0 50 s s None low (omega arith) in
     let same : u ≡ (process_of now s).u =
-        is ∙ sym (ap (λ (o : Option Process). (unwrap_or o no_process).u) at ∙ area_stays who n s (get_or w.processes s None)) in
+    is ∙ sym (ap (λ (o : Option Process). (unwrap_or o no_process).u) at ∙ area_stays who n s (get_or w.processes s None)) in
     ap (λ (v : UArea). Ret (get_or v.r 0 0) (get_or v.r 1 0)) same
 
 -- signal
@@ -179,7 +179,7 @@ stays_there p fs s alive =
     let w : World = handed p fs in
     ap (λ (ps : List (Option Process)). record w { processes = ps })
     (sym (set-get_or w.processes s None)
-        ∙ ap (set w.processes s) (there p.rows.slots p.images s it.member alive.below it.member_is))
+    ∙ ap (set w.processes s) (there p.rows.slots p.images s it.member alive.below it.member_is))
 
 pub set_answer : (p : Procs) (fs : FileSystem) (s n handler at : ℕ) (u : UArea) → IsAlive p s
     → u ≡ (process_of (handed p fs) s).u → at ≡ n
@@ -189,8 +189,8 @@ set_answer p fs s n handler at u alive is same =
     let w : World = handed p fs in
     let low : s < length w.processes = let below = alive.below in omega (arith, below, fifty_processes p.rows.slots p.images) in
     let r : u.r ≡ (process_of (change w s (asking n handler)) s).u.r =
-        ap (λ (v : UArea). v.r) is
-            ∙ sym (ap (λ (q : Process). q.u.r) (put_here w.processes s (asking n handler (process_of w s)) low)) in
+    ap (λ (v : UArea). v.r) is
+    ∙ sym (ap (λ (q : Process). q.u.r) (put_here w.processes s (asking n handler (process_of w s)) low)) in
     ap (λ (v : UArea). Ret (get_or v.handlers at 0) (get_or u.r 1 0)) is
     ∙ (ap (λ k. Ret (get_or (process_of w s).u.handlers k 0) (get_or u.r 1 0)) same
     ∙ ap (λ (l : List ℕ). Ret (get_or (process_of w s).u.handlers n 0) (get_or l 1 0)) r)

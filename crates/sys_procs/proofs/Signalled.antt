@@ -133,14 +133,14 @@ row_agrees : (v : Processes) (t u : Table) (k : Kept) (s : ℕ) (row : TableRow)
     → Agree v u k
 row_agrees v t u k s row a above low is good agrees text =
     let here : row_at u s ≡ row =
-        ap (λ rows. get_or rows s empty_row) is
-            ∙ get_or-set_same t.rows s row empty_row (let long = a.rows in omega (arith, low, long)) in
+    ap (λ rows. get_or rows s empty_row) is
+    ∙ get_or-set_same t.rows s row empty_row (let long = a.rows in omega (arith, low, long)) in
     let same : SameTexts k k = record { texts = refl; users = refl } in
     agree_but v v t u k k s a above good (ap length is ∙ length-set t.rows s row)
     (subst (λ (r : TableRow). Agrees (member_at v.slots s) r (keeping k s)) (sym here) agrees)
     (ap (λ (r : TableRow). r.text) here ∙ (text ∙ a.text s above low)) same
     (λ r other. refl) (λ r other. ap (λ rows. get_or rows r empty_row) is ∙ get_or-set_other t.rows s r row empty_row other)
-        (λ r other. refl)
+    (λ r other. refl)
 
 waits_live : (stat : Stat) → is_waiting stat ≡ true → kind_of_stat stat ≡ Lives
 waits_live Empty e = absurd (cc e)
@@ -169,9 +169,15 @@ ready_agrees v t k s a above low waits =
     let good = a.table in
     let lives : Lives ≡ kind_of_member (member_at v.slots s) = sym (waits_live (row_at t s).stat waits) ∙ old.stat in
     row_agrees v t (made_ready t s) k s row a above low refl
-        (record { last = good.last; running = good.running; ticks = good.ticks })
-    (record { stat = lives; image = old.image; place = old.place; size = old.size;
-      quiet = λ f. refl; textless = old.textless }) refl
+    (record { last = good.last; running = good.running; ticks = good.ticks })
+    (record {
+      stat = lives;
+      image = old.image;
+      place = old.place;
+      size = old.size;
+      quiet = λ f. refl;
+      textless = old.textless;
+    }) refl
 
 runs_agree : (v : Processes) (t : Table) (k : Kept) (s : ℕ) → Agree v (made_ready t s) k → Agree v (setrun t s) k
 unfolding setrun
@@ -195,9 +201,15 @@ agree_signalled v t k s a above low = by (is_waiting (row_at t s).stat) refl
         let old = a.each s above low in
         let good = a.table in
         row_agrees v t (lowered t s) k s row a above low refl
-            (record { last = good.last; running = good.running; ticks = good.ticks })
-        (record { stat = old.stat; image = old.image; place = old.place; size = old.size;
-          quiet = old.quiet; textless = old.textless }) refl
+        (record { last = good.last; running = good.running; ticks = good.ticks })
+        (record {
+          stat = old.stat;
+          image = old.image;
+          place = old.place;
+          size = old.size;
+          quiet = old.quiet;
+          textless = old.textless;
+        }) refl
 
     here : row_at (lowered t s) s ≡ row
     here = get_or-set_same t.rows s row empty_row (let long = a.rows in omega (arith, low, long))
@@ -215,29 +227,38 @@ pub agree_row : (v : Processes) (t : Table) (k : Kept) (s : ℕ) (m : Member) (r
 agree_row v t k s m row a above low within here =
     let new : Option Member = changed (processes.with_row row) (member_at v.slots s) in
     let now : member_at (set v.slots s new) s ≡ Some (processes.with_row row m) =
-        get_or-set_same v.slots s new None within ∙ ap (changed (processes.with_row row)) here in
+    get_or-set_same v.slots s new None within ∙ ap (changed (processes.with_row row)) here in
     let old : Agrees (Some m) (row_at t s) (keeping k s) =
-        subst (λ o. Agrees o (row_at t s) (keeping k s)) here (a.each s above low) in
+    subst (λ o. Agrees o (row_at t s) (keeping k s)) here (a.each s above low) in
     let same : SameTexts k k = record { texts = refl; users = refl } in
     agree_but v (with_change v s (processes.with_row row)) t t k k s a above a.table refl
     (subst (λ o. Agrees o (row_at t s) (keeping k s)) (sym now)
-    (record { stat = old.stat; image = old.image; place = old.place; size = old.size;
-      quiet = old.quiet; textless = old.textless }))
+    (record {
+      stat = old.stat;
+      image = old.image;
+      place = old.place;
+      size = old.size;
+      quiet = old.quiet;
+      textless = old.textless;
+    }))
     (a.text s above low) same
     (λ r other. get_or-set_other v.slots s r new None other) (λ r other. refl) (λ r other. refl)
 
 -- What is handed then.
 pub sent : (p : Procs) (s sig : ℕ) (row : Row) (fs : FileSystem) → IsUsed p.rows s → s < 50 → s < length p.rows.slots
     → row ≡ posted (processes.row_at p.rows s) sig
-    → handed (record p { rows = with_change p.rows s
-    (processes.with_row row); table = sleepers.signalled p.table s }) fs ≡ change (handed p fs) s (signalled sig)
+    → handed (record p {
+      rows = with_change p.rows s
+          (processes.with_row row);
+      table = sleepers.signalled p.table s;
+    }) fs ≡ change (handed p fs) s (signalled sig)
 sent p s sig row fs used low within is =
     let it = member_there (member_at p.rows.slots s) used in
     let w : World = handed p fs in
     let mine : row ≡ posted (process_of w s).row sig =
-        is ∙ ap (λ (r : Row). posted r sig) (sym (own_row p.rows.slots p.images s low)) in
+    is ∙ ap (λ (r : Row). posted r sig) (sym (own_row p.rows.slots p.images s low)) in
     ap (λ clock. record (handed (record p { rows = with_change p.rows s (processes.with_row row) }) fs) { clock = clock })
-        (clock_signalled p.table s)
+    (clock_signalled p.table s)
     ∙ (ap (λ (ps : List (Option Process)). record w { processes = ps })
     (used_row p.rows.slots p.images s it.0 low it.1 row within)
     ∙ ap (λ (r : Row). record w { processes = set w.processes s (Some (record (process_of w s) { row = r })) }) mine)
@@ -249,7 +270,7 @@ none_sent p s sig fs used low no_signal =
     let w : World = handed p fs in
     let here : get_or w.processes s None ≡ Some (process_of w s) = there p.rows.slots p.images s it.0 low it.1 in
     ap (λ (ps : List (Option Process)). record w { processes = ps })
-        (sym (set-get_or w.processes s None) ∙ ap (set w.processes s) here)
+    (sym (set-get_or w.processes s None) ∙ ap (set w.processes s) here)
     ∙ ap (λ (r : Row). record w { processes = set w.processes s (Some (record (process_of w s) { row = r })) })
     (sym (posted_none (process_of w s).row sig no_signal))
 

@@ -280,5 +280,8 @@ pub fn signal_set<T: Trace>(
     let old = u.handlers[usize::from(sig)];
     p.put_area(s, &asking(u, sig, args[1]));
     forget(p, s, sig);
-    Ok(Answer::Ret { r0: old, r1: u.r[1] })
+    Ok(Answer::Ret {
+        r0: old,
+        r1: u.r[1],
+    })
 }

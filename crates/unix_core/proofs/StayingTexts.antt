@@ -115,7 +115,7 @@ module _ {W : Type 0} (P : W → Type 0) (k : ℕ) where
       by None none = subst (λ (l : Logged W). LeavesIn l after) (sym (logged_then b es more none)) (λ made.
           let now : Board = (logged b es).board in
           let early = first_false (list_any (is_made_by k) (logged b es).items) (list_any (is_made_by k) (logged now more).items)
-              (sym (list_any-append (is_made_by k) (logged b es).items (logged now more).items) ∙ made) in
+          (sym (list_any-append (is_made_by k) (logged b es).items (logged now more).items) ∙ made) in
           let others = rest (subst (λ (o : Option (Stop W)). P (left_by o between)) none (first early)) in
           left_carried P now more after others.0 others.1)
       by (Some stop) some = subst (λ (l : Logged W). LeavesIn l after) (sym (logged_halted b es more stop some)) (λ made.

@@ -10,9 +10,8 @@ use crate::system_calls::looks::Look::{
 use crate::system_calls::scenes::Step::{Does, Fresh, GoesOn, Has, Now, Opens, Posts, Puts, User};
 use crate::system_calls::scenes::{Scene, failure};
 use std::process::Abort;
-use v6_base::Chan;
-use v6_base::Entry;
 use v6_base::Errno::{EBADF, EFAULT, EINTR, EMFILE, ENFILE, ENOSPC, ENOTTY, EPIPE, ESPIPE};
+use v6_base::{Chan, Entry};
 
 const T: u32 = 0x0005_0006;
 

@@ -33,9 +33,9 @@ pub returns-then-is_due-clause-does : goal.returns-then-is_due-clause-does
 returns-then-is_due-clause-does g c =
     let w : World = handed c.args.p.now c.args.tree.now.nodes in
     done_none (change w c.args.s awake) (Fail EINTR)
-        (sym (resume_broken_off w c.args.s
-        (heard _ (handed c.wake_up.new.p c.args.tree.now.nodes) c.args.s c.is_due.result
-        (c.wake_up.ensures.state c.args.tree.now.nodes) c.is_due.ensures
+    (sym (resume_broken_off w c.args.s
+    (heard _ (handed c.wake_up.new.p c.args.tree.now.nodes) c.args.s c.is_due.result
+    (c.wake_up.ensures.state c.args.tree.now.nodes) c.is_due.ensures
     ∙ c.if-is_due.true))) refl
     (c.wake_up.ensures.state c.args.tree.now.nodes) c.wake_up.ensures.board
 
@@ -59,8 +59,8 @@ says g c =
     let at : ℕ → ℕ → ℕ = λ a b. 65536 * a + b in
     let is : resume_proc w c.args.s ≡ sleep_until (handed c.wake_up.new.p fs) c.args.s (until g c) =
     resume_sleep w c.args.s c.area-u.result c.area-u.ensures
-        (heard _ (handed c.wake_up.new.p c.args.tree.now.nodes) c.args.s c.is_due.result
-        (c.wake_up.ensures.state c.args.tree.now.nodes) c.is_due.ensures
+    (heard _ (handed c.wake_up.new.p c.args.tree.now.nodes) c.args.s c.is_due.result
+    (c.wake_up.ensures.state c.args.tree.now.nodes) c.is_due.ensures
     ∙ c.if-is_due.false) c.if-u-eq-SLEEP.true
     ∙ (ap (λ n. sleep_until (change w c.args.s awake) c.args.s n)
     (ap (λ n. at n (get_or c.area-u.result.call 5 0)) (sym c.from.ensures) ∙ ap (at c.from.result) (sym c.from-then-u-eq-SLEEP.ensures))
@@ -86,7 +86,7 @@ is g c =
     ap (λ (w : World). wait_child w c.args.s) (c.wake_up.ensures.state c.args.tree.now.nodes)
     ∙ sym (resume_wait (handed c.args.p.now c.args.tree.now.nodes) c.args.s c.area-u.result c.area-u.ensures
     (heard _ (handed c.wake_up.new.p c.args.tree.now.nodes) c.args.s c.is_due.result
-        (c.wake_up.ensures.state c.args.tree.now.nodes) c.is_due.ensures
+    (c.wake_up.ensures.state c.args.tree.now.nodes) c.is_due.ensures
     ∙ c.if-is_due.false) c.if-u-eq-SLEEP.false)
 
 -- what is done from where the process is awake is done from before

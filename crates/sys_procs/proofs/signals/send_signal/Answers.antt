@@ -24,7 +24,7 @@ set_row-requires-clause-pid g c =
 pub set_row-requires-clause-ppid : goal.set_row-requires-clause-ppid
 set_row-requires-clause-ppid g c =
     ap (λ (r : Row). r.ppid) c.post.ensures.row
-        ∙ (posted_ppid c.row.result.now c.args.sig ∙ ap (λ (r : Row). r.ppid) c.row.ensures)
+    ∙ (posted_ppid c.row.result.now c.args.sig ∙ ap (λ (r : Row). r.ppid) c.row.ensures)
 
 -- What is no signal does nothing.
 pub returns-then-not-post-clause-state : goal.returns-then-not-post-clause-state

@@ -37,8 +37,8 @@ loop-s-preserved g c = record {
       ap (λ b. b || c.reaches-means.result) (c.loop-s.invariant.found fs who sender)
       ∙ (sym (found_next (meant_below test c.args.sig c.loop-s.s ps) c.loop-s.s c.reaches-means.result)
       ∙ ap (λ xs. nat_lt 0 (length xs)) (sym (found_more test c.args.sig (c.loop-s.invariant.sent who sender)
-          (omega (arith, c.loop-s.auto)) (omega (arith, c.loop-s-test.true))
-              (λ gs. c.reaches-means.ensures.meant gs who sender) fs)));
+      (omega (arith, c.loop-s.auto)) (omega (arith, c.loop-s-test.true))
+      (λ gs. c.reaches-means.ensures.meant gs who sender) fs)));
   frame = g.met.T.Trace.goes_on _ _ _ c.loop-s.invariant.frame c.send_where.ensures.frame;
   agree = c.send_where.ensures.agree;
 }
@@ -57,14 +57,14 @@ returns-clause-none g c = λ fs who sender none.
     let test : ℕ → Process → Bool = is_reached c.args.sender.slot who in
     let end : c.loop-s.s ≡ 50 = omega (arith, c.loop-s-test.false, c.loop-s.auto) in
     let nobody : nat_lt 0 (length (meant_in test w.processes)) ≡ false =
-        sym (ap (λ k. nat_lt 0 (length (meant_below test c.args.sig k w.processes))) end)
-        ∙ (sym (c.loop-s.invariant.found fs who sender) ∙ none) in
+    sym (ap (λ k. nat_lt 0 (length (meant_below test c.args.sig k w.processes))) end)
+    ∙ (sym (c.loop-s.invariant.found fs who sender) ∙ none) in
     (c.loop-s.invariant.sent who sender).state fs
     ∙ ap (λ (ps : List (Option Process)). record w { processes = ps })
     (ap (λ k. sent_below test c.args.sig k w.processes) end
     ∙ (all_below test c.args.sig w.processes
     ∙ none_meant test c.args.sig w.processes (fifty_processes p.rows.slots p.images)
-      (kernel_is_none p fs c.in_use-kernel.ensures.table.kernel) nobody))
+    (kernel_is_none p fs c.in_use-kernel.ensures.table.kernel) nobody))
 
 pub returns-clause-state : goal.returns-clause-state
 returns-clause-state g c = λ fs who sender.
@@ -91,4 +91,4 @@ returns-clause-items g c = λ fs who sender.
     let end : c.loop-s.s ≡ 50 = omega (arith, c.loop-s-test.false, c.loop-s.auto) in
     let P : List Item → Type 0 = λ l. Took (g.T.Trace.taken c.args.trace.now) l (g.T.Trace.taken c.loop-s.trace) in
     subst P (ap (λ k. signal_lines c.args.sig (meant_below test c.args.sig k w.processes)) end)
-        ((c.loop-s.invariant.sent who sender).items fs)
+    ((c.loop-s.invariant.sent who sender).items fs)

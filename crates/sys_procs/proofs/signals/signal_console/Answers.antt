@@ -29,13 +29,13 @@ loop-s-preserved g c =
     let means : Bool = c.is_on_console-means.result in
     let s : ℕ = c.loop-s.s in
     let P : ℕ → Type 0 = λ n. Took (g.T.Trace.taken c.loop-s.trace) (lines_where means n s)
-        (g.T.Trace.taken c.send_where.new.trace) in
+    (g.T.Trace.taken c.send_where.new.trace) in
     record {
       sent = sent_next has_console c.args.sig c.loop-s.invariant.sent (omega (arith, c.loop-s.auto))
           (omega (arith, c.loop-s-test.true))
           c.is_on_console-means.ensures.meant {new = c.send_where.new.p}
           (λ fs. c.send_where.ensures.state fs
-              ∙ ap (λ n. cond means (change (handed c.loop-s.p fs) s (rule.signalled n)) (handed c.loop-s.p fs)) c.from.ensures)
+          ∙ ap (λ n. cond means (change (handed c.loop-s.p fs) s (rule.signalled n)) (handed c.loop-s.p fs)) c.from.ensures)
           (c.send_where.ensures.board
           ∙ ap (λ n. (logged {W = World} (board c.loop-s.p) (map Show (lines_where means n s))).board) c.from.ensures)
           (subst P c.from.ensures c.send_where.ensures.items);
@@ -65,4 +65,4 @@ returns-clause-items g c = λ fs.
     let end : c.loop-s.s ≡ 50 = omega (arith, c.loop-s-test.false, c.loop-s.auto) in
     let P : List Item → Type 0 = λ l. Took (g.T.Trace.taken c.args.trace.now) l (g.T.Trace.taken c.loop-s.trace) in
     subst P (ap (λ k. signal_lines c.args.sig (meant_below has_console c.args.sig k w.processes)) end)
-        (c.loop-s.invariant.sent.items fs)
+    (c.loop-s.invariant.sent.items fs)

@@ -40,11 +40,11 @@ returns-clause-does g c =
     let q : Process = record own { u = c.asking.result } in
     let done : Answer → Result Answer PanicKind = λ a. Ok a in
     let asked : may_ask n ≡ true =
-        asks_one n c.if-sig-eq0.false (omega (arith, c.from.ensures, c.if-sig-from.false))
-        (λ e. c.if-sig-from-2.false (e ∙ sym c.from-else-sig-from.ensures)) in
+    asks_one n c.if-sig-eq0.false (omega (arith, c.from.ensures, c.if-sig-from.false))
+    (λ e. c.if-sig-from-2.false (e ∙ sym c.from-else-sig-from.ensures)) in
     done_none _ _ (set_asked w c.args.s n handler asked)
     (ap done (set_answer p fs c.args.s n handler c.from-2.result c.area-u.result
-        (calls_alive p fs c.args.s c.requires) c.area-u.ensures c.from-2.ensures))
+    (calls_alive p fs c.args.s c.requires) c.area-u.ensures c.from-2.ensures))
     (c.forget.ensures.state fs
     ∙ (ap (λ (x : Process). with_process (handed c.put_area.new.self fs) c.args.s (forgetting n x)) c.put_area.ensures.here
     ∙ (ap (λ (v : World). with_process v c.args.s (forgetting n q)) (c.put_area.ensures.state fs)

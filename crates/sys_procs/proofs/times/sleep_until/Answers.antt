@@ -11,7 +11,7 @@ pub returns-then-is_due-clause-answer : goal.returns-then-is_due-clause-answer
 returns-then-is_due-clause-answer c = λ fs.
     let w : World = handed c.args.p.now fs in
     ap (λ (d : Comes). d.answer)
-        (sym (sleep_broken_off w c.args.s c.args.until c.if-until-p.false (sym c.is_due.ensures ∙ c.if-is_due.true)))
+    (sym (sleep_broken_off w c.args.s c.args.until c.if-until-p.false (sym c.is_due.ensures ∙ c.if-is_due.true)))
 
 pub returns-then-is_due-clause-state : goal.returns-then-is_due-clause-state
 returns-then-is_due-clause-state c = λ fs.
@@ -25,7 +25,7 @@ pub returns-clause-answer : goal.returns-clause-answer
 returns-clause-answer c = λ fs.
     let w : World = handed c.args.p.now fs in
     ap (λ (d : Comes). d.answer)
-        (sym (sleep_begins w c.args.s c.args.until c.if-until-p.false (sym c.is_due.ensures ∙ c.if-is_due.false)))
+    (sym (sleep_begins w c.args.s c.args.until c.if-until-p.false (sym c.is_due.ensures ∙ c.if-is_due.false)))
 
 pub returns-clause-state : goal.returns-clause-state
 returns-clause-state c = λ fs.
