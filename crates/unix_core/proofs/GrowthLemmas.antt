@@ -29,6 +29,7 @@ use Rattle.abstract_unix.specs.Calls as unix
 use Rattle.unix_core.specs.Parts.{unix_of, board_in, IsReady, HasCome}
 use Rattle.unix_core.proofs.GoingLemmas.{going_put}
 use Rattle.unix_core.proofs.WorldLemmas.{slot_is}
+use Rattle.unix_core.proofs.AreaLemmas.{own_put}
 use Rattle.abstract_unix.proofs.Owing.{told_change}
 use Rattle.unix_core.proofs.CameLemmas.{StaysBeside, IsLike, IsTame, tame_comes, tame_if, world_is, gone_unix, gone_come, gone_took, stopped_come, stopped_took, gone_ready, still_marked}
 use Rattle.unix_core.proofs.CameLemmas.{given}
@@ -70,12 +71,15 @@ module _ (w : World) (s : ℕ) (ready : IsReady w s) where
   record Leaves (c : Comes) : Type 0 where
     texts : c.state.texts ≡ (unix_of w).texts
     waits : CanGoOn (with_world (unix_of w) c.state)
+    handlers : (its.process_of c.state s).u.handlers ≡ (process_of (unix_of w) s).u.handlers
 
   expands_leaves : (d stack : ℕ) → Leaves (expands (given w) s d stack)
   expands_leaves d stack = record {
     texts = refl;
     waits = going_put (unix_of w) s (process_of (unix_of w) s) (sized d stack (process_of (unix_of w) s)) (slot_is w s ready)
         (record { pending = refl; call = refl; files = refl; lives = refl }) ready.good.pending;
+    handlers = ap (λ (x : Process). x.u.handlers)
+        (own_put (unix_of w) s (process_of (unix_of w) s) (sized d stack (process_of (unix_of w) s)) (slot_is w s ready));
   }
 
   grow_leaves : (sp : ℕ) (c : Comes) → grow (given w) s sp ≡ Some c → Leaves c
@@ -120,7 +124,7 @@ row_tame w s sp ready None e = tame_comes w (given w) _ refl (given_like w)
 row_tame w s sp ready (Some c) e = grow_tame w s ready sp c e
 
 row_leaves : (w : World) (s sp : ℕ) (ready : IsReady w s) (o : Option Comes) → growth w s sp ≡ o → Leaves w s ready (row w s o)
-row_leaves w s sp ready None e = record { texts = refl; waits = ready.good.pending }
+row_leaves w s sp ready None e = record { texts = refl; waits = ready.good.pending; handlers = refl }
 row_leaves w s sp ready (Some c) e = grow_leaves w s ready sp c e
 
 -- effects after which a turn just ends
@@ -153,6 +157,12 @@ module _ (w now : World) (s sp : ℕ) (ready : IsReady w s) (form : IsFileSystem
         let leaves = row_leaves w s sp ready (growth w s sp) refl in
         gone_ready w now s its_row tame stays does.left went.0 ready agree leaves.waits
         (still_marked w now its_row.state ready.good.marks marks (does.left.state ∙ ap (λ o. left_by o its_row.state) went.0) (ap marks_of leaves.texts))
+
+    -- who is told of signals as before
+    pub grows_handlers : (process_of (unix_of now) s).u.handlers ≡ (process_of (unix_of w) s).u.handlers
+    grows_handlers =
+        let leaves = row_leaves w s sp ready (growth w s sp) refl in
+        ap (λ (u : Unix). (process_of u s).u.handlers) grows_unix ∙ leaves.handlers
 
     pub grows_come : (next : Steps) (e : Ending) (fin : World) → HasCome (board_in now) next e fin → HasCome (board_in w) (after_effects shown next) e fin
     grows_come next e fin come = gone_come w now its_row tame.still stays does.left went.0 next e fin come

@@ -1,0 +1,17 @@
+use Rattle.std.proofs.Common.{◌≡◌, ◌∙◌, refl, sym, ap, subst}
+use Rattle.abstract_unix.specs.declared.ending.Ending.{Ending}
+use Rattle.abstract_unix.specs.declared.ending.Ending.TheVariants.{Trapped}
+use Rattle.unix_core.specs.declared.world.World.{World}
+use Rattle.unix_core.specs.Parts.{HasCome}
+use Rattle.unix_core.proofs.TurnEnds.{due_come, due_items, other_come, other_items}
+use Rattle.unix_core.proofs.delivery.deliver_after.Goals as goal
+
+pub returns-in-Trapped-clause-come : goal.returns-in-Trapped-clause-come
+returns-in-Trapped-clause-come g c b steps come =
+    due_come b steps c.args.s c.args.world.now (subst (λ (e : Ending). HasCome b steps e c.args.world.now) c.in-Trapped.is come)
+    c.deliver_due.result c.deliver_due.new.world c.deliver_due.ensures.come
+
+pub returns-in-Trapped-clause-items : goal.returns-in-Trapped-clause-items
+returns-in-Trapped-clause-items g c b steps start come took =
+    due_items b steps c.args.s c.args.world.now (subst (λ (e : Ending). HasCome b steps e c.args.world.now) c.in-Trapped.is come)
+    start _ _ took c.deliver_due.ensures.items
