@@ -1,5 +1,5 @@
 //! A signal that is due comes to its process: signal(II), core(V); `psig` and `core` in Lions' Commentary, `sig.c`.
-ghost use Rattle.std.specs.Prelude.{◌≡◌, ◌≢◌, ◌%◌, ◌==◌, if◌then◌else◌, Bool, Some, true, false};
+ghost use Rattle.std.specs.Prelude.{◌≡◌, ◌≢◌, ◌<◌, ◌%◌, ◌==◌, if◌then◌else◌, Bool, Some, true, false};
 ghost use Rattle.v6_base.specs.Trace.{Taken, Took};
 ghost use Rattle.fs_laws.specs.Rest.{SameRest};
 ghost use Rattle.pick_rules.specs.Board.{Board};
@@ -233,6 +233,7 @@ pub(crate) fn deliver_after<T: Trace>(
     ending: Ending,
     trace: &mut T,
 ) -> Ending
+    requires above { 0 < s }
     requires good { is_over ending ≡ false → IsGood world.old }
     requires covered { is_over ending ≡ true → IsCovered world.old }
     requires runs { is_over ending ≡ false → ending ≢ Ending.Ended → world.old.procs.table.running ≡ Some s }

@@ -11,7 +11,8 @@ use Rattle.unix_core.specs.Parts.{unix_of, board_in, HasCome, IsReady}
 use Rattle.unix_core.proofs.PutLemmas.{with_images}
 use Rattle.unix_core.proofs.AreaLemmas.{own_area}
 use Rattle.unix_core.proofs.CameLemmas.{after, beside, ready_calls, over_then}
-use Rattle.unix_core.proofs.GrowthLemmas.{grows_ready, grows_handlers}
+use Rattle.unix_core.proofs.GrowthLemmas.{grows_ready, grows_handlers, grows_runs}
+use Rattle.abstract_unix.specs.Steps.{returns}
 use Rattle.unix_core.proofs.CatchLemmas.{caught_come, caught_took, catch_stops, catch_cut}
 use Rattle.unix_core.proofs.DeliveryLemmas.{told_ready, told_unix, told_board}
 use Rattle.unix_core.proofs.delivery.catch.Goals as goal
@@ -97,3 +98,17 @@ returns-in-Err-clause-items g c =
 
 pub see_covered-requires : goal.see_covered-requires
 see_covered-requires g c = c.grow.ensures.agree
+
+pub returns-in-Ok-clause-runs : goal.returns-in-Ok-clause-runs
+returns-in-Ok-clause-runs g c =
+    let w : World = c.args.world.now in
+    let e = c.grow.ensures in
+    let grown = grows_ready w (after w c.grow.new.tree c.grow.new.p) c.args.s _ c.requires.ready c.see_nodes.ensures (beside w c.grow.new.tree c.grow.new.p)
+    e.does c.in-Ok.field-0 c.in-Ok.is e.agree e.marks in
+    ap (λ (x : World). x.procs.table.running) c.tell-caught.ensures.others ∙ grown.runs
+
+pub returns-in-Err-clause-runs : goal.returns-in-Err-clause-runs
+returns-in-Err-clause-runs g c =
+    let w : World = c.args.world.now in
+    grows_runs w (after w c.grow.new.tree c.grow.new.p) c.args.s _ c.requires.ready c.see_nodes.ensures (beside w c.grow.new.tree c.grow.new.p)
+    c.grow.ensures.does c.in-Err.kind c.in-Err.is (returns (unix_of w))

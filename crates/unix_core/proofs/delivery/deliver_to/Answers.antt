@@ -32,7 +32,7 @@ module _ (w w1 : World) (s sig : ℕ) (ready : IsReady w s) (its : due (process_
   still_user : is_user (process_of (unix_of w) s) ≡ true → is_user (process_of (unix_of w1) s) ≡ true
   still_user user = ap (λ (u : Unix). is_user (process_of u s)) unix ∙ heeds_user w s ready ∙ user
 
-  by_handler : Bool → Steps
+  abbrev by_handler : Bool → Steps
   by_handler b = if b then ends_by (heeds (unix_of w) s) s sig else catches (heeds (unix_of w) s) s sig
 
   ends_is : (b : Bool) → b ≡ (handler_of (area_of w1.procs.images s) sig == 0) → b ≡ true → ends_by (unix_of w1) s sig ≡ delivers (unix_of w) s sig

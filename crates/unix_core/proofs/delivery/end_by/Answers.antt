@@ -37,6 +37,9 @@ status_is : (w : World) (s sig : ℕ) (u : UArea) (n : ℕ) → IsReady w s → 
 status_is w s sig u n ready area same =
     (λ i. 256 * (slice_index (area i).r 0 % 256) + same i) ∙ ap (λ (v : UArea). 256 * (slice_index v.r 0 % 256) + sig) (own_area w s ready)
 
+total : (a b x y : ℕ) → a ≡ b → x ≡ y → a + x ≡ b + y
+total a b x y first second = λ i. first i + second i
+
 -- The world is as it was, and so is what is answered.
 module _ (w w1 : World) (s sig : ℕ) (ready : IsReady w s) (holds : IsKept w.procs.images) (zero : handler_of (area_of w.procs.images s) sig ≡ 0) (told : Delivered)
     (answer : told ≡ (delivery (area_of w.procs.images s) sig (image_of w.procs.images s)).answer)
@@ -51,7 +54,7 @@ module _ (w w1 : World) (s sig : ℕ) (ready : IsReady w s) (holds : IsKept w.pr
 
   -- without the file
   module _ (b : Bool) (each : (core : Bool) → told ≡ Ends core → b ≡ core) where
-    by_core : Bool → Steps
+    abbrev by_core : Bool → Steps
     by_core x =
         if x then ends_after (unix_of w) s sig (core_file (handed_of (unix_of w) (process_of (unix_of w) s)) (unix_of w).clock.time)
         else exits_with (unix_of w) s (signal_status (unix_of w) s sig)
@@ -99,8 +102,8 @@ returns-then-leaves_core-clause-come g c =
     let p = c.put_core-whole.ensures in
     let is = same w w1 c.args.s c.args.sig c.requires.ready t.holds c.requires.default c.tell-told.result t.answer t.images t.others in
     let board : board_in c.put_core-whole.new.world ≡ board_in w = ap (λ (x : Procs). board_of x.table x.images) p.procs ∙ ap board_in is in
-    let n = (λ i. status_is w c.args.s c.args.sig c.area.result c.from.result c.requires.ready c.area.ensures.u c.from.ensures i
-    + (c.flag_of.ensures ∙ ap (λ b. if b then dumped else 0) p.whole) i) in
+    let n = total _ _ _ _ (status_is w c.args.s c.args.sig c.area.result c.from.result c.requires.ready c.area.ensures.u c.from.ensures)
+    (c.flag_of.ensures ∙ ap (λ b. if b then dumped else 0) p.whole) in
     subst (λ b. HasCome b (ends_by (unix_of w) c.args.s c.args.sig) c.end_with.result c.end_with.new.world) board
     (subst (λ x. HasCome (board_in c.put_core-whole.new.world) x c.end_with.result c.end_with.new.world)
     (with_file w w1 c.args.s c.args.sig c.requires.ready t.holds c.requires.default c.tell-told.result t.answer t.images t.others
@@ -115,8 +118,8 @@ returns-then-leaves_core-clause-items g c =
     let p = c.put_core-whole.ensures in
     let is = same w w1 c.args.s c.args.sig c.requires.ready t.holds c.requires.default c.tell-told.result t.answer t.images t.others in
     let board : board_in c.put_core-whole.new.world ≡ board_in w = ap (λ (x : Procs). board_of x.table x.images) p.procs ∙ ap board_in is in
-    let n = (λ i. status_is w c.args.s c.args.sig c.area.result c.from.result c.requires.ready c.area.ensures.u c.from.ensures i
-    + (c.flag_of.ensures ∙ ap (λ b. if b then dumped else 0) p.whole) i) in
+    let n = total _ _ _ _ (status_is w c.args.s c.args.sig c.area.result c.from.result c.requires.ready c.area.ensures.u c.from.ensures)
+    (c.flag_of.ensures ∙ ap (λ b. if b then dumped else 0) p.whole) in
     subst (λ b. Took (g.T.Trace.taken c.args.trace.now) (logged b (ends_by (unix_of w) c.args.s c.args.sig).effects).items (g.T.Trace.taken c.end_with.new.trace)) board
     (subst (λ (x : Steps). Took (g.T.Trace.taken c.args.trace.now) (logged (board_in c.put_core-whole.new.world) x.effects).items (g.T.Trace.taken c.end_with.new.trace))
     (with_file w w1 c.args.s c.args.sig c.requires.ready t.holds c.requires.default c.tell-told.result t.answer t.images t.others
@@ -130,15 +133,15 @@ returns-then-leaves_core-clause-rest g c =
     subst (λ (x : World). SameRest x.files.tree.nodes.blocks c.end_with.new.world.files.tree.nodes.blocks) is
     (rest_then _ _ _ c.put_core-whole.ensures.rest c.end_with.ensures.rest)
 
-pub end_with-2-requires-clause-ready : goal.end_with-2-requires-clause-ready
-end_with-2-requires-clause-ready g c =
+pub end_with-requires-2-clause-ready : goal.end_with-requires-2-clause-ready
+end_with-requires-2-clause-ready g c =
     let w : World = c.args.world.now in
     let t = c.tell-told.ensures in
     subst (λ x. IsReady x c.args.s) (sym (same w c.tell-told.new.world c.args.s c.args.sig c.requires.ready t.holds c.requires.default c.tell-told.result t.answer t.images t.others))
     c.requires.ready
 
-pub end_with-2-requires-clause-user : goal.end_with-2-requires-clause-user
-end_with-2-requires-clause-user g c =
+pub end_with-requires-2-clause-user : goal.end_with-requires-2-clause-user
+end_with-requires-2-clause-user g c =
     let w : World = c.args.world.now in
     let t = c.tell-told.ensures in
     subst (λ x. is_user (process_of (unix_of x) c.args.s) ≡ true)
