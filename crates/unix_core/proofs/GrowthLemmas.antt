@@ -1,20 +1,26 @@
 -- break(II) and the growth of a stack: what the world is then, and what they have come to.
-use Rattle.std.proofs.Common.{◌≡◌, ◌∙◌, ℕ, Bool, true, false, option_map, is_some, List, [], map, append-nil, Option, Some, None, refl, sym, ap, subst}
+use Rattle.std.proofs.Common.{◌≡◌, ◌∙◌, ℕ, Bool, true, false, option_map, is_some, List, [], map, append-nil, Option, Some, None, ◌⊎◌, inl, inr, ◌+◌, ◌∷◌, nat_le, if◌then◌else◌, refl, sym, ap, subst}
 use Rattle.std.specs.Prelude.{Result, Ok, Err}
-use Rattle.v6_base.specs.Trace.{Taken, Took}
+use Rattle.v6_base.specs.Trace.{Log, Taken, Took}
+use Rattle.v6_base.specs.declared.entry.Place.{Place}
+use Rattle.v6_base.specs.declared.entry.Entry.TheVariants as line
+use Rattle.pick_rules.specs.Table.{row_at}
+use Rattle.pick_rules.specs.Board.{Board, placed}
+use Rattle.pick_rules.specs.Apply.{applied}
 use Rattle.v6_base.proofs.Took.{took_nothing}
 use Rattle.v6_base.specs.declared.answer.Answer.TheVariants.{Fail}
 use Rattle.v6_base.specs.declared.entry.PanicKind.{PanicKind}
 use Rattle.v6_base.specs.declared.errno.Errno.TheVariants.{ENOMEM}
-use Rattle.pick_rules.specs.Effects.{Effect, lifted}
-use Rattle.pick_rules.specs.Logged.{Stop, logged, left_by}
+use Rattle.pick_rules.specs.Effects as effects
+use Rattle.pick_rules.specs.Effects.{Effect, Size, Lets, image_at, lifted}
+use Rattle.pick_rules.specs.Logged.{Logged, Stop, logged, log_one, with_what_came, left_by}
 use Rattle.fs_nodes.specs.FileSystem.{IsFileSystem}
 use Rattle.seg_regs.specs.Sizes.{is_refused}
 use Rattle.sys_procs.specs.Process.{Process}
 use Rattle.sys_procs.specs.World as its
 use Rattle.sys_procs.specs.Comes.{Comes, fails}
 use Rattle.sys_procs.specs.Break.{sized, expands, clicks_up_to, break_at, grown_stack, grow, grown_or_not, grown_by}
-use Rattle.sys_procs.specs.Handed.{AreProcs, came}
+use Rattle.sys_procs.specs.Handed.{AreProcs, board, came}
 use Rattle.sys_procs.specs.Done.{HasGrown}
 use Rattle.sig_core.specs.declared.numbers.TheConstants.{SIGSEG}
 use Rattle.sys_procs.specs.TextTable.{marks_of}
@@ -29,12 +35,30 @@ use Rattle.abstract_unix.specs.Calls as unix
 use Rattle.unix_core.specs.Parts.{unix_of, board_in, IsReady, HasCome}
 use Rattle.unix_core.proofs.GoingLemmas.{going_put}
 use Rattle.unix_core.proofs.WorldLemmas.{slot_is}
+use Rattle.unix_core.proofs.AreaLemmas.{own_put}
 use Rattle.abstract_unix.proofs.Owing.{told_change}
 use Rattle.unix_core.proofs.CameLemmas.{StaysBeside, IsLike, IsTame, tame_comes, tame_if, world_is, gone_unix, gone_come, gone_took, stopped_come, stopped_took, gone_ready, still_marked}
 use Rattle.unix_core.proofs.CameLemmas.{given}
 
 pub given_like : (w : World) → IsLike w (given w)
 given_like w = record { refs = λ ino. refl; told = refl }
+
+-- what the log says of a growth, by whether it keeps its place and else by the place that it finds
+abbrev log_by : {W : Type 0} → Board → ℕ → ℕ → W → Bool → Option Place → Logged W
+log_by b s clicks before x o =
+    with_what_came (record { items = []; board = b; stop = None })
+    (if x then Lets (Log (line.SizeKeep s clicks)) else image_at before o (λ place. line.Size s clicks place))
+
+-- Where a growth finds no place, the board is as it was.
+size_log : {W : Type 0} (b : Board) (s clicks : ℕ) (before : W)
+    → ((logged b (Size s clicks before ∷ [])).stop ≡ None) ⊎ ((logged b (Size s clicks before ∷ [])).board ≡ b)
+unfolding log_one effects.came applied
+size_log {W} b s clicks before = by (nat_le clicks (row_at b.table s).size) (placed b s clicks)
+  where
+    by : (x : Bool) (o : Option Place) → ((log_by b s clicks before x o).stop ≡ None) ⊎ ((log_by b s clicks before x o).board ≡ b)
+    by true o = inl refl
+    by false None = inr refl
+    by false (Some place) = inl refl
 
 module _ (w : World) (s : ℕ) (ready : IsReady w s) where
   abbrev p : Process
@@ -70,12 +94,17 @@ module _ (w : World) (s : ℕ) (ready : IsReady w s) where
   record Leaves (c : Comes) : Type 0 where
     texts : c.state.texts ≡ (unix_of w).texts
     waits : CanGoOn (with_world (unix_of w) c.state)
+    handlers : (its.process_of c.state s).u.handlers ≡ (process_of (unix_of w) s).u.handlers
+    halts : ((came w.procs c).stop ≡ None) ⊎ ((came w.procs c).board ≡ board w.procs)
 
   expands_leaves : (d stack : ℕ) → Leaves (expands (given w) s d stack)
   expands_leaves d stack = record {
     texts = refl;
     waits = going_put (unix_of w) s (process_of (unix_of w) s) (sized d stack (process_of (unix_of w) s)) (slot_is w s ready)
         (record { pending = refl; call = refl; files = refl; lives = refl }) ready.good.pending;
+    handlers = ap (λ (x : Process). x.u.handlers)
+        (own_put (unix_of w) s (process_of (unix_of w) s) (sized d stack (process_of (unix_of w) s)) (slot_is w s ready));
+    halts = size_log (board w.procs) s (16 + d + stack) (given w);
   }
 
   grow_leaves : (sp : ℕ) (c : Comes) → grow (given w) s sp ≡ Some c → Leaves c
@@ -120,7 +149,7 @@ row_tame w s sp ready None e = tame_comes w (given w) _ refl (given_like w)
 row_tame w s sp ready (Some c) e = grow_tame w s ready sp c e
 
 row_leaves : (w : World) (s sp : ℕ) (ready : IsReady w s) (o : Option Comes) → growth w s sp ≡ o → Leaves w s ready (row w s o)
-row_leaves w s sp ready None e = record { texts = refl; waits = ready.good.pending }
+row_leaves w s sp ready None e = record { texts = refl; waits = ready.good.pending; handlers = refl; halts = inl refl }
 row_leaves w s sp ready (Some c) e = grow_leaves w s ready sp c e
 
 -- effects after which a turn just ends
@@ -154,6 +183,12 @@ module _ (w now : World) (s sp : ℕ) (ready : IsReady w s) (form : IsFileSystem
         gone_ready w now s its_row tame stays does.left went.0 ready agree leaves.waits
         (still_marked w now its_row.state ready.good.marks marks (does.left.state ∙ ap (λ o. left_by o its_row.state) went.0) (ap marks_of leaves.texts))
 
+    -- who is told of signals as before
+    pub grows_handlers : (process_of (unix_of now) s).u.handlers ≡ (process_of (unix_of w) s).u.handlers
+    grows_handlers =
+        let leaves = row_leaves w s sp ready (growth w s sp) refl in
+        ap (λ (u : Unix). (process_of u s).u.handlers) grows_unix ∙ leaves.handlers
+
     pub grows_come : (next : Steps) (e : Ending) (fin : World) → HasCome (board_in now) next e fin → HasCome (board_in w) (after_effects shown next) e fin
     grows_come next e fin come = gone_come w now its_row tame.still stays does.left went.0 next e fin come
 
@@ -165,6 +200,15 @@ module _ (w now : World) (s sp : ℕ) (ready : IsReady w s) (form : IsFileSystem
   module _ (kind : PanicKind) (err : r ≡ Err kind) (next : Steps) where
     halt : (stop : Stop its.World) × (((came w.procs its_row).stop ≡ Some stop) × (kind ≡ stop.why))
     halt = stopped_so (came w.procs its_row).stop kind (is_some (growth w s sp)) r does.answer err
+
+    -- and who runs still does
+    pub grows_runs : now.procs.table.running ≡ Some s
+    grows_runs =
+        let leaves = row_leaves w s sp ready (growth w s sp) refl in
+        elim leaves.halts [
+          | inl none ↦ absurd (let some = halt.1.0 in cc (none, some))
+          | inr same ↦ ap (λ (b : Board). b.table.running) (does.left.shown ∙ same) ∙ ready.runs
+        ]
 
     pub grows_stop : HasCome (board_in w) (after_effects shown next) (Panic kind) now
     grows_stop = stopped_come w now its_row tame.still stays does.left halt.0 halt.1.0 next (Panic kind) (ap Panic halt.1.1)

@@ -1,11 +1,11 @@
 //! A signal that is due comes to its process: signal(II), core(V); `psig` and `core` in Lions' Commentary, `sig.c`.
-ghost use Rattle.std.specs.Prelude.{◌≡◌, ◌≢◌, ◌%◌, if◌then◌else◌, Some, true, false};
+ghost use Rattle.std.specs.Prelude.{◌≡◌, ◌≢◌, ◌<◌, ◌%◌, ◌==◌, if◌then◌else◌, Bool, Some, true, false};
 ghost use Rattle.v6_base.specs.Trace.{Taken, Took};
 ghost use Rattle.fs_laws.specs.Rest.{SameRest};
 ghost use Rattle.pick_rules.specs.Board.{Board};
 ghost use Rattle.pick_rules.specs.Logged.{logged};
 ghost use Rattle.proc_tab.specs.Processes.{IsUsed};
-ghost use Rattle.image_keep.specs.Kept.{HasImage, area_of, image_of, with_area, with_image};
+ghost use Rattle.image_keep.specs.Kept.{HasImage, IsKept, area_of, image_of, with_area, with_image};
 ghost use Rattle.sig_core.specs.Signals.{due, is_signal, handler_of};
 ghost use Rattle.sig_core.specs.Delivery.{makes_core, delivery};
 ghost use Rattle.sys_procs.specs.Handed.{IsAlive, process_here};
@@ -57,22 +57,43 @@ fn heed(world: &mut World, s: Slot)
 }
 
 /// Does what a process has asked for where this signal comes. Where it has a routine its stack has grown.
-fn tell(images: &mut Images, s: Slot, sig: u8) -> Delivered
-    requires image { HasImage images.old s }
+fn tell(world: &mut World, s: Slot, sig: u8) -> Delivered
+    requires image { HasImage world.old.procs.images s }
     requires signal { is_signal sig ≡ true }
-    requires heeded { handler_of (area_of images.old s) sig % 2 ≡ 0 }
-    ensures answer { result ≡ (delivery (area_of images.old s) sig (image_of images.old s)).answer }
-    ensures images { images.new
-        ≡ with_area (with_image images.old s (delivery (area_of images.old s) sig (image_of images.old s)).image) s
-        (delivery (area_of images.old s) sig (image_of images.old s)).area }
+    requires heeded { handler_of (area_of world.old.procs.images s) sig % 2 ≡ 0 }
+    ensures answer { result ≡ (delivery (area_of world.old.procs.images s) sig (image_of world.old.procs.images s)).answer }
+    ensures images { world.new.procs.images
+        ≡ with_area (with_image world.old.procs.images s (delivery (area_of world.old.procs.images s) sig (image_of world.old.procs.images s)).image)
+        s (delivery (area_of world.old.procs.images s) sig (image_of world.old.procs.images s)).area }
+    ensures others { world.new ≡ record world.old { procs = record world.old.procs { images = world.new.procs.images } } }
+    ensures holds { IsKept world.old.procs.images }
 {
-    let mut u = images.area(s);
+    let mut u = world.procs.images.area(s);
     let told = {
-        let mut space = images.space(s);
+        let mut space = world.procs.images.space(s);
         deliver(&mut u, sig, &mut space)
     };
-    images.set_area(s, &u);
+    world.procs.images.set_area(s, &u);
     told
+}
+
+/// Whether a process has asked for nothing where this signal comes.
+fn is_default(images: &Images, s: Slot, sig: u8) -> bool
+    requires image { HasImage images.now s }
+    requires signal { is_signal sig ≡ true }
+    ensures { result ≡ (handler_of (area_of images.now s) sig == 0) }
+{
+    images.area(s).handlers[usize::from(sig)] == 0
+}
+
+/// Whether a process that was told of a signal leaves the file `core`.
+fn leaves_core(told: Delivered) -> bool
+    ensures { (core : Bool) → told ≡ Delivered.Ends core → result ≡ core }
+{
+    match told {
+        Delivered::Ends { core } => core,
+        Delivered::Caught => false,
+    }
 }
 
 /// A process goes on with its routine for a signal: its stack grows first for what is pushed, where it must and can. Where it
@@ -85,7 +106,7 @@ fn catch<T: Trace>(world: &mut World, s: Slot, sig: u8, trace: &mut T) -> Ending
     ensures come { HasCome (board_in world.old) (catches (unix_of world.old) s sig) result world.new }
     ensures ready { is_over result ≡ false → IsReady world.new s }
     ensures covered { is_over result ≡ true → IsCovered world.new }
-    ensures lives { result ≢ Ending.Ended }
+    ensures runs { world.new.procs.table.running ≡ Some s }
     ensures items { Took (T.taken trace.old) (logged (board_in world.old) (catches (unix_of world.old) s sig).effects).items
         (T.taken trace.new) }
     ensures frame { T.leads_to trace.old trace.new }
@@ -97,7 +118,7 @@ fn catch<T: Trace>(world: &mut World, s: Slot, sig: u8, trace: &mut T) -> Ending
     let sp = world.procs.images.area(s).r[6].wrapping_sub(4);
     match grow(&mut world.procs, &mut world.files.tree, s, sp, trace) {
         Ok(_) => {
-            let _caught = tell(&mut world.procs.images, s, sig);
+            let _caught = tell(world, s, sig);
             Ending::Trapped
         }
         Err(kind) => {
@@ -141,11 +162,11 @@ fn flag_of(whole: bool) -> u16
 }
 
 /// Ends a process by a signal, which may leave the file `core`.
-fn end_by<T: Trace>(world: &mut World, s: Slot, sig: u8, core: bool, trace: &mut T) -> Ending
+fn end_by<T: Trace>(world: &mut World, s: Slot, sig: u8, trace: &mut T) -> Ending
     requires ready { IsReady world.old s }
     requires user { is_user (process_of (unix_of world.old) s) ≡ true }
-    requires core { core ≡ makes_core sig }
     requires signal { is_signal sig ≡ true }
+    requires default { handler_of (area_of world.old.procs.images s) sig ≡ 0 }
     ensures come { HasCome (board_in world.old) (ends_by (unix_of world.old) s sig) result world.new }
     ensures items { Took (T.taken trace.old) (logged (board_in world.old) (ends_by (unix_of world.old) s sig).effects).items
         (T.taken trace.new) }
@@ -157,7 +178,8 @@ fn end_by<T: Trace>(world: &mut World, s: Slot, sig: u8, core: bool, trace: &mut
 {
     let r0 = world.procs.images.area(s).r[0];
     let status = 256 * (r0 % 256) + u16::from(sig);
-    if core {
+    let told = tell(world, s, sig);
+    if leaves_core(told) {
         let whole = put_core(world, s);
         return end_with(world, s, status + flag_of(whole), trace);
     }
@@ -179,13 +201,10 @@ fn deliver_to<T: Trace>(world: &mut World, s: Slot, sig: u8, trace: &mut T) -> E
     ensures rest { SameRest world.old.files.tree.nodes.blocks world.new.files.tree.nodes.blocks }
 {
     heed(world, s);
-    if world.procs.images.area(s).handlers[usize::from(sig)] != 0 {
-        return catch(world, s, sig, trace);
+    if is_default(&world.procs.images, s, sig) {
+        return end_by(world, s, sig, trace);
     }
-    match tell(&mut world.procs.images, s, sig) {
-        Delivered::Caught => Ending::Trapped,
-        Delivered::Ends { core } => end_by(world, s, sig, core, trace),
-    }
+    catch(world, s, sig, trace)
 }
 
 /// Delivers the signal that is due to the running process, where one is: at the end of a turn, and in a tick.
@@ -214,6 +233,7 @@ pub(crate) fn deliver_after<T: Trace>(
     ending: Ending,
     trace: &mut T,
 ) -> Ending
+    requires above { 0 < s }
     requires good { is_over ending ≡ false → IsGood world.old }
     requires covered { is_over ending ≡ true → IsCovered world.old }
     requires runs { is_over ending ≡ false → ending ≢ Ending.Ended → world.old.procs.table.running ≡ Some s }

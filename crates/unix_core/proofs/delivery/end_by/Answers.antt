@@ -1,0 +1,180 @@
+use Rattle.std.proofs.Common.{◌≡◌, ◌∙◌, ◌+◌, ◌*◌, ◌%◌, ℕ, Bool, true, false, if◌then◌else◌, slice_index, refl, sym, ap, subst}
+use Rattle.v6_base.specs.Trace.{Took}
+use Rattle.fs_laws.specs.Rest.{SameRest}
+use Rattle.fs_laws.proofs.RestLemmas.{rest_then}
+use Rattle.pick_rules.specs.Logged.{logged}
+use Rattle.u_area.specs.declared.area.UArea.{UArea}
+use Rattle.image_keep.specs.Kept.{IsKept, area_of, image_of, with_area, with_image}
+use Rattle.sig_core.specs.declared.psig.Delivered.{Delivered}
+use Rattle.sig_core.specs.declared.psig.Delivered.TheVariants.{Ends}
+use Rattle.sig_core.specs.Signals.{handler_of}
+use Rattle.sig_core.specs.Delivery.{Delivery, makes_core, delivery}
+use Rattle.sys_files.specs.Did.{Did}
+use Rattle.sys_files.specs.Core.{core_file, is_written}
+use Rattle.sys_procs.specs.Agree.{board_of}
+use Rattle.sys_procs.specs.declared.procs.Procs.{Procs}
+use Rattle.abstract_unix.specs.Unix.{process_of}
+use Rattle.abstract_unix.specs.Steps.{Steps}
+use Rattle.abstract_unix.specs.Calls.{handed_of, with_handed, exits_with}
+use Rattle.abstract_unix.specs.Delivery.{signal_status, dumped, ends_after, ends_by}
+use Rattle.abstract_unix.specs.Turn.{is_user}
+use Rattle.unix_core.specs.declared.world.World.{World}
+use Rattle.unix_core.specs.Parts.{unix_of, board_in, HasCome, IsReady}
+use Rattle.unix_core.proofs.AreaLemmas.{own_area}
+use Rattle.unix_core.proofs.PutLemmas.{with_images}
+use Rattle.unix_core.proofs.DeliveryLemmas.{told_none, delivered_none}
+use Rattle.unix_core.proofs.delivery.end_by.Goals as goal
+
+-- the file `core`, as the process writes it
+abbrev core_of : World → ℕ → Did
+core_of w s = core_file (handed_of (unix_of w) (process_of (unix_of w) s)) w.procs.table.now
+
+abbrev flag : World → ℕ → ℕ
+flag w s = if is_written (core_of w s).answer then dumped else 0
+
+status_is : (w : World) (s sig : ℕ) (u : UArea) (n : ℕ) → IsReady w s → u ≡ area_of w.procs.images s → n ≡ sig
+    → 256 * (slice_index u.r 0 % 256) + n ≡ signal_status (unix_of w) s sig
+status_is w s sig u n ready area same =
+    (λ i. 256 * (slice_index (area i).r 0 % 256) + same i) ∙ ap (λ (v : UArea). 256 * (slice_index v.r 0 % 256) + sig) (own_area w s ready)
+
+total : (a b x y : ℕ) → a ≡ b → x ≡ y → a + x ≡ b + y
+total a b x y first second = λ i. first i + second i
+
+-- The world is as it was, and so is what is answered.
+module _ (w w1 : World) (s sig : ℕ) (ready : IsReady w s) (holds : IsKept w.procs.images) (zero : handler_of (area_of w.procs.images s) sig ≡ 0) (told : Delivered)
+    (answer : told ≡ (delivery (area_of w.procs.images s) sig (image_of w.procs.images s)).answer)
+    (images : w1.procs.images ≡ with_area (with_image w.procs.images s (delivery (area_of w.procs.images s) sig (image_of w.procs.images s)).image) s
+    (delivery (area_of w.procs.images s) sig (image_of w.procs.images s)).area)
+    (others : w1 ≡ with_images w w1.procs.images) where
+  same : w1 ≡ w
+  same = others ∙ ap (with_images w) (told_none w s ready holds sig w1.procs.images images zero)
+
+  ends_so : told ≡ Ends (makes_core sig)
+  ends_so = answer ∙ ap (λ (d : Delivery). d.answer) (delivered_none (area_of w.procs.images s) sig (image_of w.procs.images s) zero)
+
+  -- without the file
+  module _ (b : Bool) (each : (core : Bool) → told ≡ Ends core → b ≡ core) where
+    abbrev by_core : Bool → Steps
+    by_core x =
+        if x then ends_after (unix_of w) s sig (core_file (handed_of (unix_of w) (process_of (unix_of w) s)) (unix_of w).clock.time)
+        else exits_with (unix_of w) s (signal_status (unix_of w) s sig)
+
+    without : b ≡ false → (n : ℕ) → n ≡ signal_status (unix_of w) s sig → exits_with (unix_of w1) s n ≡ ends_by (unix_of w) s sig
+    without is n status =
+        (λ i. exits_with (unix_of (same i)) s (status i)) ∙ ap by_core (sym is ∙ each (makes_core sig) ends_so)
+
+    with_file : b ≡ true → (w2 : World) (n : ℕ) → unix_of w2 ≡ with_handed (unix_of w1) s (core_of w1 s).state → n ≡ signal_status (unix_of w) s sig + flag w1 s
+        → exits_with (unix_of w2) s n ≡ ends_by (unix_of w) s sig
+    with_file is w2 n unix status =
+        let whole : n ≡ signal_status (unix_of w) s sig + flag w s = status ∙ ap (λ x. signal_status (unix_of w) s sig + flag x s) same in
+        (λ i. exits_with (unix i) s (whole i))
+        ∙ ap (λ x. exits_with (with_handed (unix_of x) s (core_of x s).state) s (signal_status (unix_of w) s sig + flag w s)) same
+        ∙ ap by_core (sym is ∙ each (makes_core sig) ends_so)
+
+pub area-requires : goal.area-requires
+area-requires g c = c.requires.ready.good.running c.args.s c.requires.ready.runs c.requires.ready.user
+
+pub tell-told-requires-clause-image : goal.tell-told-requires-clause-image
+tell-told-requires-clause-image g c = c.requires.ready.good.running c.args.s c.requires.ready.runs c.requires.ready.user
+
+pub tell-told-requires-clause-heeded : goal.tell-told-requires-clause-heeded
+tell-told-requires-clause-heeded g c = ap (λ n. n % 2) c.requires.default
+
+pub put_core-whole-requires-clause-ready : goal.put_core-whole-requires-clause-ready
+put_core-whole-requires-clause-ready g c =
+    let w : World = c.args.world.now in
+    let t = c.tell-told.ensures in
+    subst (λ x. IsReady x c.args.s) (sym (same w c.tell-told.new.world c.args.s c.args.sig c.requires.ready t.holds c.requires.default c.tell-told.result t.answer t.images t.others))
+    c.requires.ready
+
+pub put_core-whole-requires-clause-user : goal.put_core-whole-requires-clause-user
+put_core-whole-requires-clause-user g c =
+    let w : World = c.args.world.now in
+    let t = c.tell-told.ensures in
+    subst (λ x. is_user (process_of (unix_of x) c.args.s) ≡ true)
+    (sym (same w c.tell-told.new.world c.args.s c.args.sig c.requires.ready t.holds c.requires.default c.tell-told.result t.answer t.images t.others)) c.requires.user
+
+pub returns-then-leaves_core-clause-come : goal.returns-then-leaves_core-clause-come
+returns-then-leaves_core-clause-come g c =
+    let w : World = c.args.world.now in
+    let w1 : World = c.tell-told.new.world in
+    let t = c.tell-told.ensures in
+    let p = c.put_core-whole.ensures in
+    let is = same w w1 c.args.s c.args.sig c.requires.ready t.holds c.requires.default c.tell-told.result t.answer t.images t.others in
+    let board : board_in c.put_core-whole.new.world ≡ board_in w = ap (λ (x : Procs). board_of x.table x.images) p.procs ∙ ap board_in is in
+    let n = total _ _ _ _ (status_is w c.args.s c.args.sig c.area.result c.from.result c.requires.ready c.area.ensures.u c.from.ensures)
+    (c.flag_of.ensures ∙ ap (λ b. if b then dumped else 0) p.whole) in
+    subst (λ b. HasCome b (ends_by (unix_of w) c.args.s c.args.sig) c.end_with.result c.end_with.new.world) board
+    (subst (λ x. HasCome (board_in c.put_core-whole.new.world) x c.end_with.result c.end_with.new.world)
+    (with_file w w1 c.args.s c.args.sig c.requires.ready t.holds c.requires.default c.tell-told.result t.answer t.images t.others
+    c.leaves_core.result c.leaves_core.ensures c.if-leaves_core.true c.put_core-whole.new.world _ p.unix n)
+    c.end_with.ensures.come)
+
+pub returns-then-leaves_core-clause-items : goal.returns-then-leaves_core-clause-items
+returns-then-leaves_core-clause-items g c =
+    let w : World = c.args.world.now in
+    let w1 : World = c.tell-told.new.world in
+    let t = c.tell-told.ensures in
+    let p = c.put_core-whole.ensures in
+    let is = same w w1 c.args.s c.args.sig c.requires.ready t.holds c.requires.default c.tell-told.result t.answer t.images t.others in
+    let board : board_in c.put_core-whole.new.world ≡ board_in w = ap (λ (x : Procs). board_of x.table x.images) p.procs ∙ ap board_in is in
+    let n = total _ _ _ _ (status_is w c.args.s c.args.sig c.area.result c.from.result c.requires.ready c.area.ensures.u c.from.ensures)
+    (c.flag_of.ensures ∙ ap (λ b. if b then dumped else 0) p.whole) in
+    subst (λ b. Took (g.T.Trace.taken c.args.trace.now) (logged b (ends_by (unix_of w) c.args.s c.args.sig).effects).items (g.T.Trace.taken c.end_with.new.trace)) board
+    (subst (λ (x : Steps). Took (g.T.Trace.taken c.args.trace.now) (logged (board_in c.put_core-whole.new.world) x.effects).items (g.T.Trace.taken c.end_with.new.trace))
+    (with_file w w1 c.args.s c.args.sig c.requires.ready t.holds c.requires.default c.tell-told.result t.answer t.images t.others
+    c.leaves_core.result c.leaves_core.ensures c.if-leaves_core.true c.put_core-whole.new.world _ p.unix n)
+    c.end_with.ensures.items)
+
+pub returns-then-leaves_core-clause-rest : goal.returns-then-leaves_core-clause-rest
+returns-then-leaves_core-clause-rest g c =
+    let t = c.tell-told.ensures in
+    let is = same c.args.world.now c.tell-told.new.world c.args.s c.args.sig c.requires.ready t.holds c.requires.default c.tell-told.result t.answer t.images t.others in
+    subst (λ (x : World). SameRest x.files.tree.nodes.blocks c.end_with.new.world.files.tree.nodes.blocks) is
+    (rest_then _ _ _ c.put_core-whole.ensures.rest c.end_with.ensures.rest)
+
+pub end_with-requires-2-clause-ready : goal.end_with-requires-2-clause-ready
+end_with-requires-2-clause-ready g c =
+    let w : World = c.args.world.now in
+    let t = c.tell-told.ensures in
+    subst (λ x. IsReady x c.args.s) (sym (same w c.tell-told.new.world c.args.s c.args.sig c.requires.ready t.holds c.requires.default c.tell-told.result t.answer t.images t.others))
+    c.requires.ready
+
+pub end_with-requires-2-clause-user : goal.end_with-requires-2-clause-user
+end_with-requires-2-clause-user g c =
+    let w : World = c.args.world.now in
+    let t = c.tell-told.ensures in
+    subst (λ x. is_user (process_of (unix_of x) c.args.s) ≡ true)
+    (sym (same w c.tell-told.new.world c.args.s c.args.sig c.requires.ready t.holds c.requires.default c.tell-told.result t.answer t.images t.others)) c.requires.user
+
+pub returns-clause-come : goal.returns-clause-come
+returns-clause-come g c =
+    let w : World = c.args.world.now in
+    let w1 : World = c.tell-told.new.world in
+    let t = c.tell-told.ensures in
+    let is = same w w1 c.args.s c.args.sig c.requires.ready t.holds c.requires.default c.tell-told.result t.answer t.images t.others in
+    subst (λ b. HasCome b (ends_by (unix_of w) c.args.s c.args.sig) c.end_with-2.result c.end_with-2.new.world) (ap board_in is)
+    (subst (λ x. HasCome (board_in w1) x c.end_with-2.result c.end_with-2.new.world)
+    (without w w1 c.args.s c.args.sig c.requires.ready t.holds c.requires.default c.tell-told.result t.answer t.images t.others
+    c.leaves_core.result c.leaves_core.ensures c.if-leaves_core.false _
+    (status_is w c.args.s c.args.sig c.area.result c.from.result c.requires.ready c.area.ensures.u c.from.ensures))
+    c.end_with-2.ensures.come)
+
+pub returns-clause-items : goal.returns-clause-items
+returns-clause-items g c =
+    let w : World = c.args.world.now in
+    let w1 : World = c.tell-told.new.world in
+    let t = c.tell-told.ensures in
+    let is = same w w1 c.args.s c.args.sig c.requires.ready t.holds c.requires.default c.tell-told.result t.answer t.images t.others in
+    subst (λ b. Took (g.T.Trace.taken c.args.trace.now) (logged b (ends_by (unix_of w) c.args.s c.args.sig).effects).items (g.T.Trace.taken c.end_with-2.new.trace)) (ap board_in is)
+    (subst (λ (x : Steps). Took (g.T.Trace.taken c.args.trace.now) (logged (board_in w1) x.effects).items (g.T.Trace.taken c.end_with-2.new.trace))
+    (without w w1 c.args.s c.args.sig c.requires.ready t.holds c.requires.default c.tell-told.result t.answer t.images t.others
+    c.leaves_core.result c.leaves_core.ensures c.if-leaves_core.false _
+    (status_is w c.args.s c.args.sig c.area.result c.from.result c.requires.ready c.area.ensures.u c.from.ensures))
+    c.end_with-2.ensures.items)
+
+pub returns-clause-rest : goal.returns-clause-rest
+returns-clause-rest g c =
+    let t = c.tell-told.ensures in
+    let is = same c.args.world.now c.tell-told.new.world c.args.s c.args.sig c.requires.ready t.holds c.requires.default c.tell-told.result t.answer t.images t.others in
+    subst (λ (x : World). SameRest x.files.tree.nodes.blocks c.end_with-2.new.world.files.tree.nodes.blocks) is c.end_with-2.ensures.rest
