@@ -32,7 +32,8 @@ use Rattle.abstract_unix.specs.Calls.{handed_of, with_handed}
 use Rattle.unix_core.specs.Parts.{unix_of, IsReady, IsReadyToShow}
 use Rattle.unix_core.proofs.WorldLemmas.{ready_alive, slot_is, told_here, handed_is, IsAfter, unix_after, ready_after, ready_to_show}
 use Rattle.abstract_unix.specs.Whole.{told_of}
-use Rattle.abstract_unix.proofs.PendingRows.{Pends, core_pends, core_pending}
+use Rattle.abstract_unix.proofs.PendingRows.{Pends, core_pends}
+use Rattle.abstract_unix.proofs.NeverWaiting.{core_pending}
 use Rattle.abstract_unix.proofs.Owing.{some_within}
 use Rattle.abstract_unix.specs.Turn.{is_user}
 use Rattle.unix_core.proofs.LoanLemmas.{area_now, area_other, area_core, area_back, area_alone, image_now, image_other, image_core, row_now, row_other, row_back}
