@@ -31,4 +31,5 @@ pub mod Bounds
 pub mod Lengths
 pub mod Walks
 pub mod Steady
+pub mod CoreSteady
 pub mod CoreLemmas

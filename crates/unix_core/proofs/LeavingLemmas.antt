@@ -17,7 +17,8 @@ use Rattle.sys_files.specs.Handed.{Handed, handed}
 use Rattle.sys_files.specs.Sound.{IsKept}
 use Rattle.sys_files.specs.Does.{Does}
 use Rattle.sys_files.proofs.Bounds.{Fits, HasAll, never_filled}
-use Rattle.sys_files.proofs.Steady.{Steady, Confined, close_all_fits, close_all_steady, core_steady}
+use Rattle.sys_files.proofs.Steady.{Steady, Confined, close_all_fits, close_all_steady}
+use Rattle.sys_files.proofs.CoreSteady.{core_steady}
 use Rattle.sys_files.specs.Did.{Did}
 use Rattle.sys_files.specs.Core.{core_file}
 use Rattle.sys_files.specs.Descriptors.{close_all}
