@@ -6,9 +6,12 @@ use Rattle.open_files.specs.declared.file.OpenFile.{OpenFile}
 use Rattle.open_files.specs.declared.file.Closed.{Closed}
 use Rattle.open_files.specs.declared.file.Closed.TheVariants.{Still, Last}
 use Rattle.open_files.specs.Files.{times}
+use Rattle.pipe_ends.specs.declared.ends.Pipe.{Pipe}
+use Rattle.u_area.specs.declared.area.UArea.{UArea}
 use Rattle.fs_tree.specs.Finding.{put_back}
 use Rattle.sys_files.specs.Handed.{Handed}
-use Rattle.sys_files.specs.Descriptors.{Closing, released, dropped, closes, then_closes, close_all}
+use Rattle.sys_files.specs.Descriptors.{Closing, without_marks, with_roused, is_gone_with, released, dropped, closes, then_closes, close_all}
+use Rattle.sys_files.specs.Pipes.{pipe_of, with_pipe, without_pipe}
 use Rattle.sys_files.specs.Descriptors as closing
 use Rattle.std.specs.List.{range_with_len}
 use Rattle.sys_files.proofs.ClosingLemmas.{closed_below, below_more, below_all}
@@ -18,10 +21,23 @@ use Rattle.sys_procs.specs.Exit.{slot_of, adopted, dead}
 use Rattle.abstract_unix.specs.Whole.{Told, told_of, told_by, told_in, names, stands, Owes}
 use Rattle.abstract_unix.proofs.Owing.{told_at, some_within, names_set, stand_set, dir_referred, fifteen_set}
 
+-- What a number lets go changes nothing of the area.
+either_area : (b : Bool) (x y : Handed) (u : UArea) → x.u ≡ u → y.u ≡ u → (cond b x y).u ≡ u
+either_area true x y u p q = p
+either_area false x y u p q = q
+
+roused_area : (h : Handed) (file : OpenFile) → (with_roused h file).u ≡ h.u
+roused_area h file = either_area file.kind.pipe (record h { pipes = with_pipe h.pipes (without_marks (pipe_of h.pipes file.ino)) }) h h.u refl refl
+
+pub released_area : (h : Handed) (told : Closed) → (released h told).state.u ≡ h.u
+released_area h (Still file) = roused_area h file
+released_area h (Last file) =
+    let roused : Handed = with_roused h file in
+    either_area (is_gone_with roused file) (record roused { pipes = without_pipe roused.pipes file.ino }) roused roused.u refl refl ∙ roused_area h file
+
 -- A process that has closed all its files names none.
 released_files : (h : Handed) (told : Closed) → (released h told).state.u.files ≡ h.u.files
-released_files h (Still file) = refl
-released_files h (Last file) = refl
+released_files h told = ap (λ (u : UArea). u.files) (released_area h told)
 
 closes_files : (h : Handed) (fd : ℕ) → (closes h fd).state.u.files ≡ set h.u.files fd 0
 closes_files h fd = released_files (dropped h fd) (closing.told_by h fd)
@@ -88,8 +104,7 @@ put_refs l d ino some =
 
 -- Closing files changes no register.
 released_registers : (h : Handed) (told : Closed) → (released h told).state.u.r ≡ h.u.r
-released_registers h (Still file) = refl
-released_registers h (Last file) = refl
+released_registers h told = ap (λ (u : UArea). u.r) (released_area h told)
 
 then_registers : (c : Closing) (fd : ℕ) → (then_closes c fd).state.u.r ≡ c.state.u.r
 then_registers c fd = by (slice_index c.state.u.files fd == 0)
@@ -133,10 +148,10 @@ told_dead w s =
     ∙ map-set told_by w.processes s (Some z)
 
 -- What is owed where it has left its directory, and is told of no more. Its files are closed.
-pub end_owes : (w : World) (s : ℕ) (files : List (Option OpenFile)) → get_or w.processes s None ≡ Some (process_of w s) → (process_of w s).is_zombie ≡ false
-    → ((entry : ℕ) → times (process_of w s).u.files entry ≡ 0) → Owes w.inodes.references files w.texts (told_in w.processes)
-    → Owes (put_back w.inodes (process_of w s).u.dir).references files w.texts (set (told_in w.processes) s None)
-end_owes w s files is lives closed owed =
+pub end_owes : (w : World) (s : ℕ) (files : List (Option OpenFile)) (pipes : List Pipe) → get_or w.processes s None ≡ Some (process_of w s) → (process_of w s).is_zombie ≡ false
+    → ((entry : ℕ) → times (process_of w s).u.files entry ≡ 0) → Owes w.inodes.references files pipes w.texts (told_in w.processes)
+    → Owes (put_back w.inodes (process_of w s).u.dir).references files pipes w.texts (set (told_in w.processes) s None)
+end_owes w s files pipes is lives closed owed =
     let p : Process = process_of w s in
     let ts : List (Option Told) = told_in w.processes in
     let at = told_at w.processes s p is lives in
@@ -149,11 +164,11 @@ end_owes w s files is lives closed owed =
           let gone = closed entry in
           omega (arith, before, change, old, gone);
       referred = λ ino.
-          let put = put_refs w.inodes.references p.u.dir ino (dir_referred w.inodes.references files w.texts ts owed s (told_of p) at) in
+          let put = put_refs w.inodes.references p.u.dir ino (dir_referred w.inodes.references files pipes w.texts ts owed s (told_of p) at) in
           let before = owed.referred ino in
           let change = stand_set ts s None ino low in
           let old = ap (stands ino) at in
           omega (arith, put, before, change, old);
-      no_pipe = owed.no_pipe;
+      piped = owed.piped;
       fifteen = fifteen_set ts s None owed.fifteen (λ t e. absurd (cc e));
     }

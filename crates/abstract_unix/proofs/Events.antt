@@ -10,22 +10,24 @@ use Rattle.pick_rules.specs.Effects.{Effect, Show, Size, Fork, Text, Image, Exit
 use Rattle.pick_rules.specs.Logged.{Stop, Logged, log_one, logged, left_by}
 use Rattle.pick_rules.specs.Lawful.{Over, Seen, FitAll, seen_after}
 use Rattle.log_laws.proofs.Fitting.{fit_item, seen_append, seen_items, Apt, Ends, Fitted, apt_fits}
-use Rattle.log_laws.proofs.Seats.{RunnerAt, Paused, Holds}
+use Rattle.log_laws.proofs.Seats.{RunnerAt, InTurn, Paused, Holds}
 use Rattle.log_laws.proofs.Settles.{Settled, IsSettled, settling}
 use Rattle.swap_sched.specs.Pass.{pass, stop_over}
-use Rattle.sys_procs.specs.Process.{register}
 use Rattle.abstract_unix.specs.declared.ending.Ending.{Ending}
 use Rattle.abstract_unix.specs.declared.ending.Ending.TheVariants as ending
 use Rattle.abstract_unix.specs.declared.ends.Ends as run
 use Rattle.abstract_unix.specs.declared.ends.Ends.TheVariants as ends
 use Rattle.abstract_unix.specs.declared.ends.Ends.TheVariants.{AtEnd}
-use Rattle.abstract_unix.specs.Unix.{Unix, System, process_of}
+use Rattle.abstract_unix.specs.Unix.{Unix, System}
 use Rattle.abstract_unix.specs.Steps.{Steps}
-use Rattle.abstract_unix.specs.Turn.{Turn, happens, settled_after, end_effects, ending_at, ending_by, settled_as, settled, turn_of, passes, pass_of, slot_of}
-use Rattle.abstract_unix.proofs.Sitting.{seats_of, all_sized}
+use Rattle.abstract_unix.specs.Turn.{Turn, happens, settled_after, end_effects, ending_of, ending_by, settled_as, settled, turn_of, passes, pass_of, slot_of}
+use Rattle.abstract_unix.proofs.Sitting.{seats_of, all_sized, runner_there, runner_alive}
 use Rattle.abstract_unix.proofs.Steps.{GoesOn, IsCalm, AptSteps}
 use Rattle.abstract_unix.proofs.Passing.{Passed, pass_passes}
 use Rattle.abstract_unix.proofs.Turning.{turn_apt}
+use Rattle.abstract_unix.proofs.Tidy.{IsTidy}
+use Rattle.abstract_unix.proofs.TidyTurns.{Runs}
+use Rattle.abstract_unix.proofs.TidySteps.{begins_numbers}
 
 -- the system at these lines
 abbrev pub system_at : Unix → Seen → System
@@ -145,32 +147,28 @@ passes_fine v seen es a = by l.stop refl
     }
 
 -- A turn.
-stops : (pc : ℕ) (o : Option (Stop Unix)) (steps : Steps) → ending_by pc o steps.ending ≡ AtEnd
-    → (o ≡ None) × (ending_at pc steps.ending ≡ AtEnd)
-stops pc None steps e = (refl, e)
-stops pc (Some stop) steps e = absurd (cc e)
+stops : (o : Option (Stop Unix)) (steps : Steps) → ending_by o steps.ending ≡ AtEnd
+    → (o ≡ None) × (ending_of steps.ending ≡ AtEnd)
+stops None steps e = (refl, e)
+stops (Some stop) steps e = absurd (cc e)
 
 -- a turn that ends in a panic, which is the last line
-self_calm : (pc : ℕ) (ending : Ending) (kind : PanicKind) → IsCalm ending → ending_at pc ending ≡ ends.Panic kind → ⊥
-self_calm pc ending.Next kind calm e = cc e
-self_calm pc ending.Trapped kind calm e = cc e
-self_calm pc (ending.Slept pri chan) kind calm e = cc e
-self_calm pc ending.Ended kind calm e = cc e
-self_calm pc ending.NotBuilt kind calm e = cc e
-self_calm pc (ending.Panic other) kind calm e = calm
+self_calm : (ending : Ending) (kind : PanicKind) → IsCalm ending → ending_of ending ≡ ends.Panic kind → ⊥
+self_calm ending.Next kind calm e = cc e
+self_calm ending.Trapped kind calm e = cc e
+self_calm (ending.Slept pri chan) kind calm e = cc e
+self_calm ending.Ended kind calm e = cc e
+self_calm (ending.Panic other) kind calm e = calm
 
-panics : (Q : Seen → Type 0) (pc : ℕ) (o : Option (Stop Unix)) (ending : Ending) (kind : PanicKind) (seen : Seen) → IsCalm ending
-    → ending_by pc o ending ≡ ends.Panic kind → Ends Q o seen → seen.stage ≡ Over
-panics Q pc None ending kind seen calm e q = absurd (self_calm pc ending kind calm e)
-panics Q pc (Some stop) ending kind seen calm e q = q
+panics : (Q : Seen → Type 0) (o : Option (Stop Unix)) (ending : Ending) (kind : PanicKind) (seen : Seen) → IsCalm ending
+    → ending_by o ending ≡ ends.Panic kind → Ends Q o seen → seen.stage ≡ Over
+panics Q None ending kind seen calm e q = absurd (self_calm ending kind calm e)
+panics Q (Some stop) ending kind seen calm e q = q
 
 turned_fine : (s : ℕ) (u : Unix) (seen : Seen) (steps : Steps) → AptSteps s seen steps
     → FineTurn seen (settled_after (turn_of (system_at u seen) s steps))
-turned_fine s u seen steps a = by (ending_by pc l.stop steps.ending) refl
+turned_fine s u seen steps a = by (ending_by l.stop steps.ending) refl
   where
-    pc : ℕ
-    pc = register (process_of u s) 7
-
     es : List (Effect Unix)
     es = steps.effects ++ end_effects s steps.ending
 
@@ -183,16 +181,15 @@ turned_fine s u seen steps a = by (ending_by pc l.stop steps.ending) refl
     f : Fitted Goes seen l
     f = apt_fits Goes seen es a.apt
 
-    by : (o : run.Ends) → ending_by pc l.stop steps.ending ≡ o
+    by : (o : run.Ends) → ending_by l.stop steps.ending ≡ o
         → FineTurn seen (settled_after (record (happens steps.unix l) { ending = o }))
     by AtEnd e =
-        let k = stops pc l.stop steps e in
-        settles_fine steps.unix seen l f.fit f.board (ends_none Goes l.stop (seen_items seen l.items) k.0 f.ends pc k.1) k.0
-    by (ends.NotBuilt place) e = record { fit = f.fit; stands = λ x. absurd (cc x); over = λ kind x. absurd (cc x) }
+        let k = stops l.stop steps e in
+        settles_fine steps.unix seen l f.fit f.board (ends_none Goes l.stop (seen_items seen l.items) k.0 f.ends k.1) k.0
     by (ends.Panic kind) e = record {
       fit = f.fit;
       stands = λ x. absurd (cc x);
-      over = λ other x. panics Goes pc l.stop steps.ending kind (seen_items seen l.items) a.calm e f.ends;
+      over = λ other x. panics Goes l.stop steps.ending kind (seen_items seen l.items) a.calm e f.ends;
     }
 
 -- The pass of process 0: it ends asleep, or in a panic.
@@ -211,11 +208,19 @@ pass_fine u seen p r = by l.stop refl
     by None e = settles_fine u seen (record { items = l.items; board = l.board; stop = None }) passed.fit passed.board (passed.goes e).paused refl
     by (Some stop) e = record { fit = passed.fit; stands = λ x. absurd (cc x); over = λ kind x. passed.over stop e }
 
+-- who runs lives in its slot
+pub runs_at : (u : Unix) (s : ℕ) (b : Board) → IsTidy u → InTurn s (seats_of u) b → Runs s u
+runs_at u s b tidy t = record {
+  tidy = tidy;
+  there = runner_there u.processes u.clock u.texts u.limit s b t;
+  lives = runner_alive u.processes u.clock u.texts u.limit s b t;
+}
+
 -- a slot
-pub slot_fine : (u : Unix) (seen : Seen) → Holds (seats_of u) seen
+pub slot_fine : (u : Unix) (seen : Seen) → IsTidy u → Holds (seats_of u) seen
     → FineTurn seen (settled_after (slot_of (system_at u seen) seen.board.table.running))
 unfolding FitAll
-slot_fine u seen h = by seen.board.table.running refl h.paused.runner
+slot_fine u seen tidy h = by seen.board.table.running refl h.paused.runner
   where
     by : (o : Option ℕ) → seen.board.table.running ≡ o → RunnerAt (seats_of u) seen.board o
         → FineTurn seen (settled_after (slot_of (system_at u seen) o))
@@ -224,4 +229,5 @@ slot_fine u seen h = by seen.board.table.running refl h.paused.runner
     by (Some zero) e r = pass_fine u seen h.paused e
     by (Some (suc s)) e (inl z) = absurd (cc z)
     by (Some (suc s)) e (inr t) =
-        turned_fine (suc s) u seen _ (turn_apt (suc s) seen u h.paused t)
+        turned_fine (suc s) u seen _ (turn_apt (suc s) seen u tidy
+        (begins_numbers (suc s) u seen.board (runs_at u (suc s) seen.board tidy t)) h.paused t)

@@ -1,11 +1,10 @@
 -- exit(II): its effects are apt, and so are those of the calls on files.
-use Rattle.std.proofs.Common.{◌≡◌, ◌∙◌, ◌==◌, ◌<◌, ◌≤◌, ℕ, not, Bool, true, false, cond, is_none, List, [], ◌∷◌, ◌++◌, append-nil, map, length, get_or, get_or-set_same, set, Option, Some, None, unwrap_or, refl, sym, ap, subst, arith}
+use Rattle.std.proofs.Common.{inl, inr, ◌≡◌, ◌∙◌, ◌==◌, ◌<◌, ◌≤◌, ℕ, not, Bool, true, false, cond, is_none, List, [], ◌∷◌, ◌++◌, append-nil, map, length, get_or, get_or-set_same, set, Option, Some, None, unwrap_or, refl, sym, ap, subst, arith}
 use Rattle.std.proofs.lemmas.Bool.{eqb-true}
 use Rattle.std.proofs.lemmas.List.{length-map}
 use Rattle.v6_base.specs.Trace.{Item, Byte, Log}
 use Rattle.v6_base.specs.declared.answer.Answer.{Answer}
 use Rattle.v6_base.specs.declared.answer.Answer.TheVariants.{Ret, Fail, Sleep}
-use Rattle.v6_base.specs.declared.entry.Chan.{Chan}
 use Rattle.v6_base.specs.declared.entry.Chan.TheVariants.{Wait}
 use Rattle.v6_base.specs.declared.entry.Entry.{Entry}
 use Rattle.v6_base.specs.declared.entry.Entry.TheVariants as line
@@ -13,15 +12,14 @@ use Rattle.u_area.specs.declared.area.UArea.{UArea}
 use Rattle.proc_tab.specs.Processes.{member_at, lowest, passes}
 use Rattle.proc_tab.specs.Pids.{has_pid}
 use Rattle.pick_rules.specs.Effects.{Effect, Show, lifted, came}
-use Rattle.pick_rules.specs.Ranges.{IsChannel}
-use Rattle.pick_rules.specs.Fits.{IsSleep}
 use Rattle.pick_rules.specs.Lawful.{Seen, Fits, seen_after}
 use Rattle.pick_rules.proofs.Found.{found_in}
-use Rattle.log_laws.proofs.Fitting.{IsGoing, Apt, apt_append, wake_apt}
+use Rattle.log_laws.proofs.Fitting.{Apt, apt_append, wake_apt}
 use Rattle.log_laws.proofs.Seats.{Seat, Seats, InCall, Paused}
-use Rattle.log_laws.proofs.Lines.{wake_in, wake_paused}
+use Rattle.log_laws.proofs.Lines.{wake_in, wake_paused, signal_in, signal_fits}
 use Rattle.log_laws.proofs.Deaths.{with_own, leave_fits, leave_in, exit_apt}
 use Rattle.log_laws.proofs.Deaths.{without_text as seats_without}
+use Rattle.sig_core.specs.declared.numbers.TheConstants.{SIGPIPE}
 use Rattle.sys_files.specs.Handed.{Handed}
 use Rattle.sys_files.specs.Did.{Did}
 use Rattle.sys_files.specs.Descriptors.{Closing}
@@ -37,26 +35,31 @@ use Rattle.abstract_unix.specs.Unix.{Unix}
 use Rattle.abstract_unix.specs.Calls.{handed_of, with_handed, world_of, with_world, did_by, closes_all, exits_with}
 use Rattle.abstract_unix.proofs.Sitting.{seat_for, seat_of, seats_in, seats_under, seats_here, seats_of, users, users_left, runner_seat, runner_alive, runner_text, put_in, changed_in, kept_in}
 use Rattle.abstract_unix.proofs.Steps.{AptSteps, AptBegun, Answered, ends_in, apt_lifted, answers_apt}
-use Rattle.abstract_unix.proofs.Quiet.{AreQuiet, SameSize, SameCall, EndsIn, Calm, CalmClosing, close_all_calm}
+use Rattle.abstract_unix.proofs.Quiet.{IsQuiet, AreQuiet, SameSize, SameCall, EndsIn, HasNumbers, Calm, CalmClosing, close_all_calm}
 use Rattle.abstract_unix.proofs.Rows.{Calling}
 
--- bytes and wakes leave a call as it is
+-- bytes, wakes and a signal of its own process leave a call as it is
 module _ (W : Type 0) (s : ℕ) (calling : Bool) (v : Seats) where
-  wake_first : (seen : Seen) (e : Entry) (items : List Item) → ((chan : Chan) × (e ≡ line.Wake chan) × IsChannel chan)
-      → IsGoing seen.stage
-      → ((chan : Chan) → Apt {W = W} (InCall s calling v) (seen_after seen (line.Wake chan)) (map Show items))
+  quiet_first : (seen : Seen) (e : Entry) (items : List Item) → IsQuiet s e → InCall s calling v seen
+      → ((now : Seen) → InCall s calling v now → Apt {W = W} (InCall s calling v) now (map Show items))
       → Apt {W = W} (InCall s calling v) seen (Show (Log e) ∷ map Show items)
-  wake_first seen e items (chan, is, r) going rest =
-      subst (λ x. Apt {W = W} (InCall s calling v) seen (Show (Log x) ∷ map Show items)) (sym is) (wake_apt (InCall s calling v) seen chan (map Show items) going r (rest chan))
+  unfolding Apt came
+  quiet_first seen e items (inl (chan, is, r)) i rest =
+      subst (λ x. Apt {W = W} (InCall s calling v) seen (Show (Log x) ∷ map Show items)) (sym is)
+      (wake_apt (InCall s calling v) seen chan (map Show items) i.going r (rest (seen_after seen (line.Wake chan)) (wake_in s calling v seen chan i)))
+  quiet_first seen e items (inr is) i rest =
+      subst (λ x. Apt {W = W} (InCall s calling v) seen (Show (Log x) ∷ map Show items)) (sym is) (
+        signal_fits s v seen s SIGPIPE i.turn.seat i.going i.agrees i.turn.user i.turn.at (omega arith) (omega arith),
+        rest (seen_after seen (line.Signal s SIGPIPE)) (signal_in s calling v seen s SIGPIPE i),
+      )
 
-  pub shown_apt : (seen : Seen) (items : List Item) → AreQuiet items → InCall s calling v seen
+  pub shown_apt : (seen : Seen) (items : List Item) → AreQuiet s items → InCall s calling v seen
       → Apt {W = W} (InCall s calling v) seen (map Show items)
   unfolding Apt came
   shown_apt seen [] q i = i
   shown_apt seen (Byte line byte ∷ items) q i = shown_apt seen items q i
   shown_apt seen (Log e ∷ items) q i =
-      wake_first seen e items q.0 i.going
-      (λ chan. shown_apt (seen_after seen (line.Wake chan)) items q.1 (wake_in s calling v seen chan i))
+      quiet_first seen e items q.0 i (λ now j. shown_apt now items q.1 j)
 
 module _ (s : ℕ) where
   -- what a call on files leaves of the process
@@ -69,7 +72,7 @@ module _ (s : ℕ) where
 
   pub did_apt : (u : Unix) (seen : Seen) (calling : Bool) (old : UArea) (did : Did) → InCall s calling (seats_of u) seen
       → SameSize (unix.process_of u s).u old
-      → old.pending ≡ 0 → Calm old did → AptBegun s seen (did_by u s did)
+      → old.pending ≡ 0 → Calm old s did → AptBegun s seen (did_by u s did)
   did_apt u seen calling old did i k quiet c = answers_apt s seen (with_handed u s did.state) (map Show did.items) did.answer (by did.answer c.ends)
     where
       same : SameSize old did.state.u → SameSize (unix.process_of u s).u did.state.u
@@ -85,9 +88,11 @@ module _ (s : ℕ) where
       by (Ret r0 r1) e = goes e
       by (Fail x) e = goes e
       by (Sleep pri chan) e = (
-        shown_apt Unix s true (seats_of (with_handed u s did.state)) seen did.items c.quiet (handed_in u seen calling did.state 1 i (same e.size) e.pending),
-        subst (λ w. IsSleep s w pri) (sym e.on) e.at,
-        subst (λ w. IsChannel w) (sym e.on) tt,
+        shown_apt Unix s true (seats_of (with_handed u s did.state)) seen did.items c.quiet
+            (subst (λ b. InCall s (not b) (seats_of (with_handed u s did.state)) seen) e.pending
+            (handed_in u seen calling did.state did.state.u.pending i (same e.size) refl)),
+        e.at s,
+        e.on,
       )
 
   -- a process in its call waits in none
@@ -244,14 +249,14 @@ module _ (s : ℕ) where
           after : ℕ → World
           after k = leaves_text left s k (is_sticky left k)
 
-  pub exits_apt : (u : Unix) (seen : Seen) (status : ℕ) → Calling s (world_of u) seen → AptSteps s seen (exits_with u s status)
-  exits_apt u seen status i = ends_in s seen (exits_with u s status).unix (exits_with u s status).effects Ended tt by
+  pub exits_apt : (u : Unix) (seen : Seen) (status : ℕ) → HasNumbers (handed_of u (unix.process_of u s)) → Calling s (world_of u) seen → AptSteps s seen (exits_with u s status)
+  exits_apt u seen status numbers i = ends_in s seen (exits_with u s status).unix (exits_with u s status).effects Ended tt by
     where
       closed : Closing
       closed = closes_all u s
 
-      calm : CalmClosing (unix.process_of u s).u closed
-      calm = close_all_calm (handed_of u (unix.process_of u s))
+      calm : CalmClosing (unix.process_of u s).u s closed
+      calm = close_all_calm (handed_of u (unix.process_of u s)) s numbers
 
       now : Unix
       now = with_handed u s closed.state
@@ -262,5 +267,5 @@ module _ (s : ℕ) where
       by : Apt {W = Unix} (Paused (seats_under u.limit c.state)) seen ((map Show closed.items ++ map (lifted (with_world now)) c.effects) ++ [])
       by = rw (append-nil (map Show closed.items ++ map (lifted (with_world now)) c.effects)) (
           apt_append (InCall s false (seats_of now)) (Paused (seats_under u.limit c.state)) seen (map Show closed.items) (map (lifted (with_world now)) c.effects)
-          (shown_apt Unix s false (seats_of now) seen closed.items calm.quiet (handed_in u seen false closed.state 0 i calm.same.size (calm.same.pending ∙ no_pending u seen i)))
+          (shown_apt Unix s false (seats_of now) seen closed.items calm.quiet (handed_in u seen false closed.state 0 i calm.calm.same.size (calm.calm.same.pending ∙ no_pending u seen i)))
           (λ later j. apt_lifted (with_world now) (Paused (seats_under u.limit c.state)) later c.effects (ends_apt (world_of now) later status j)))

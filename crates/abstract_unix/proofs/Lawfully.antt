@@ -9,6 +9,7 @@ use Rattle.v6_base.specs.declared.entry.Chan.TheVariants.{RunOut}
 use Rattle.v6_base.specs.declared.entry.Entry.TheVariants as line
 use Rattle.fs_codec.specs.Store.{Store}
 use Rattle.fs_codec.specs.Faults.{image_fault}
+use Rattle.fs_codec.specs.declared.fault.ImageFault.{ImageFault}
 use Rattle.fs_codec.specs.Words.{bytes_from}
 use Rattle.fs_codec.specs.Disk.{disk_of}
 use Rattle.fs_codec.specs.Stands.{store_of}
@@ -38,29 +39,36 @@ use Rattle.abstract_unix.proofs.Sitting.{seats_of}
 use Rattle.abstract_unix.proofs.Passing.{only_sleeps, pass_sleeps}
 use Rattle.abstract_unix.proofs.Events.{system_at, Stands, Fine, FineTurn, settles_fine, slot_fine}
 use Rattle.abstract_unix.proofs.Outside.{tick_fine, typed_fine, switched_fine}
+use Rattle.abstract_unix.proofs.Tidy.{IsTidy}
+use Rattle.abstract_unix.proofs.TidyEvents.{event_tidy, start_tidy}
+use Rattle.abstract_unix.proofs.FirstTidy.{few_nodes, first_tidy}
 
 get_replicate : {X : Type 0} (x : X) (n k : ℕ) → get_or (replicate n x) k x ≡ x
 get_replicate x zero k = refl
 get_replicate x (suc n) zero = refl
 get_replicate x (suc n) (suc k) = get_replicate x n k
 
-event_fine : (e : Event) (u : Unix) (seen : Seen) → Holds (seats_of u) seen
+event_fine : (e : Event) (u : Unix) (seen : Seen) → IsTidy u → Holds (seats_of u) seen
     → FineTurn seen (event_of e (system_at u seen))
-event_fine Slot u seen h = slot_fine u seen h
-event_fine Tick u seen h = tick_fine u seen h.paused
-event_fine (Byte byte) u seen h = typed_fine u seen byte h.paused
-event_fine (Switch word) u seen h = switched_fine u seen word h
+event_fine Slot u seen tidy h = slot_fine u seen tidy h
+event_fine Tick u seen tidy h = tick_fine u seen tidy h.paused
+event_fine (Byte byte) u seen tidy h = typed_fine u seen byte h.paused
+event_fine (Switch word) u seen tidy h = switched_fine u seen word h
 
--- a run as far as it has come
-abbrev FineCourse : Course → Type 0
-FineCourse c = Fine nothing_seen c.items c.system c.ending
+-- a run as far as it has come: its lines fit, and where it goes on its Unix is tidy
+record FineCourse (c : Course) : Type 0 where
+  fine : Fine nothing_seen c.items c.system c.ending
+  tidy : c.ending ≡ AtEnd → IsTidy c.system.unix
 
 further : (c : Course) (t : Turn) → FitAll nothing_seen (entries_of c.items) → FineTurn (seen_items nothing_seen c.items) t
-    → FineCourse (goes_on_by c t)
-further c t f g = record {
-  fit = fit_items nothing_seen c.items t.items f g.fit;
-  stands = λ e. subst (Stands t.next) (sym (seen_append nothing_seen c.items t.items)) (g.stands e);
-  over = λ kind e. ap (λ (x : Seen). x.stage) (seen_append nothing_seen c.items t.items) ∙ g.over kind e;
+    → (t.ending ≡ AtEnd → IsTidy t.next.unix) → FineCourse (goes_on_by c t)
+further c t f g tidy = record {
+  fine = record {
+    fit = fit_items nothing_seen c.items t.items f g.fit;
+    stands = λ e. subst (Stands t.next) (sym (seen_append nothing_seen c.items t.items)) (g.stands e);
+    over = λ kind e. ap (λ (x : Seen). x.stage) (seen_append nothing_seen c.items t.items) ∙ g.over kind e;
+  };
+  tidy = tidy;
 }
 
 event_goes : (c : Course) (e : Event) → FineCourse c → FineCourse (after_event c e)
@@ -70,13 +78,18 @@ event_goes c e f = by c.ending refl
     now = seen_items nothing_seen c.items
 
     -- the system with the board that the lines give
-    at_lines : Stands c.system now → FineTurn now (event_of e c.system)
-    at_lines h = subst (λ b. FineTurn now (event_of e (record { unix = c.system.unix; board = b }))) h.board
-        (event_fine e c.system.unix now h.holds)
+    at_lines : IsTidy c.system.unix → Stands c.system now → FineTurn now (event_of e c.system)
+    at_lines tidy h = subst (λ b. FineTurn now (event_of e (record { unix = c.system.unix; board = b }))) h.board
+        (event_fine e c.system.unix now tidy h.holds)
+
+    -- and leaves it tidy
+    tidy_then : IsTidy c.system.unix → Stands c.system now → (event_of e c.system).ending ≡ AtEnd → IsTidy (event_of e c.system).next.unix
+    tidy_then tidy h = subst (λ b. let t : Turn = event_of e (record { unix = c.system.unix; board = b }) in t.ending ≡ AtEnd → IsTidy t.next.unix) h.board
+        (event_tidy e c.system.unix now h.holds tidy)
 
     by : (o : run.Ends) → c.ending ≡ o → FineCourse (unless_ended o c e)
-    by AtEnd n = further c (event_of e c.system) f.fit (at_lines (f.stands n))
-    by (ends.NotBuilt place) n = f
+    by AtEnd n =
+        further c (event_of e c.system) f.fine.fit (at_lines (f.tidy n) (f.fine.stands n)) (tidy_then (f.tidy n) (f.fine.stands n))
     by (ends.Panic kind) n = f
 
 course_fine : (events : List Event) (c : Course) → FineCourse c → FineCourse (course c events)
@@ -136,13 +149,15 @@ module _ (store : Store) (core : ℕ) (low : 64 ≤ core) (high : core ≤ 3968)
       (settles_fine u booted_seen (record { items = Log (line.Sleep 0 pswp RunOut) ∷ []; board = applied (first_board core store.stamp) (line.Sleep 0 pswp RunOut); stop = None })
       (((omega arith, (omega (arith, ints), omega (arith, ints)), tt), refl), tt) refl first_paused refl)
 
-  started_fine : IsTime store.stamp → FineCourse (started (system_with store core))
+  started_fine : IsTime store.stamp → store.count ≤ 65535 → FineCourse (started (system_with store core))
   unfolding FitAll applied
-  started_fine time =
-      record { fit = (((omega (arith, high), time), (low, high)), start_fine.fit); stands = start_fine.stands; over = start_fine.over }
+  started_fine time few = record {
+    fine = record { fit = (((omega (arith, high), time), (low, high)), start_fine.fit); stands = start_fine.stands; over = start_fine.over };
+    tidy = λ e. start_tidy (system_with store core) (first_tidy store core few) e;
+  }
 
 -- the log of a run, with its last line where it has come to its end or to a panic
-module _ (c : Course) (f : FineCourse c) where
+module _ (c : Course) (f : Fine nothing_seen c.items c.system c.ending) where
   log_fits : FitAll nothing_seen (log_of c)
   unfolding FitAll
   log_fits = by c.ending refl
@@ -150,7 +165,6 @@ module _ (c : Course) (f : FineCourse c) where
       by : (o : run.Ends) → c.ending ≡ o → FitAll nothing_seen (entries_of (c.items ++ last_line o))
       by AtEnd e =
           fit_item nothing_seen c.items (Log line.End) f.fit (end_fits (seats_of c.system.unix) (seen_items nothing_seen c.items) (f.stands e).holds, tt)
-      by (ends.NotBuilt place) e = rw (append-nil c.items) f.fit
       by (ends.Panic kind) e = rw (append-nil c.items) f.fit
 
   log_ends : is_whole c.ending ≡ true → (seen_of (log_of c)).stage ≡ Over
@@ -158,7 +172,6 @@ module _ (c : Course) (f : FineCourse c) where
     where
       by : (o : run.Ends) → c.ending ≡ o → is_whole o ≡ true → (seen_of (entries_of (c.items ++ last_line o))).stage ≡ Over
       by AtEnd e whole = ap (λ s. s.stage) (seen_append nothing_seen c.items (Log line.End ∷ []))
-      by (ends.NotBuilt place) e whole = absurd (cc whole)
       by (ends.Panic kind) e whole = ap (λ items. (seen_of (entries_of items)).stage) (append-nil c.items) ∙ f.over kind e
 
   log_lawful : FitAll nothing_seen (log_of c) × (is_whole c.ending ≡ true → Lawful (log_of c))
@@ -177,6 +190,13 @@ stamp_in_range image are =
     omega (arith, byte_in image 924 are, byte_in image 925 are, byte_in image 926 are, byte_in image 927 are)
 
 -- the system that an image boots
+no_fault : (image : List ℕ) (core : ℕ) (m : System) → boots image core ≡ Some m → image_fault image ≡ None
+no_fault image core m e = by (image_fault image) e
+  where
+    by : (o : Option ImageFault) → (if is_some o then None else Some (system_with (store_of (disk_of image)) core)) ≡ Some m → o ≡ None
+    by None f = refl
+    by (Some fault) f = absurd (cc f)
+
 boots_is : (image : List ℕ) (core : ℕ) (m : System) → boots image core ≡ Some m
     → system_with (store_of (disk_of image)) core ≡ m
 boots_is image core m e = by (is_some (image_fault image)) e
@@ -197,6 +217,6 @@ logs_are_lawful image core events c are low high e = by (boots image core) refl 
         let store : Store = store_of (disk_of image) in
         let is : course (started (system_with store core)) events ≡ c =
         ap (λ n. course (started n) events) (boots_is image core m f) ∙ cc g in
-        let fine : FineCourse (started (system_with store core)) = started_fine store core low high (stamp_in_range image are) in
+        let fine : FineCourse (started (system_with store core)) = started_fine store core low high (stamp_in_range image are) (few_nodes image (no_fault image core m f)) in
         subst (λ c. FitAll nothing_seen (log_of c) × (is_whole c.ending ≡ true → Lawful (log_of c))) is
-        (log_lawful (course (started (system_with store core)) events) (course_fine events (started (system_with store core)) fine))
+        (log_lawful (course (started (system_with store core)) events) (course_fine events (started (system_with store core)) fine).fine)

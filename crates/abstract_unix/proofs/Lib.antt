@@ -1,6 +1,8 @@
 pub mod Sitting
 pub mod Steps
+pub mod PipeNumbers
 pub mod Quiet
+pub mod StepRows
 pub mod ProcessRows
 pub mod Rows
 pub mod Posting
@@ -8,11 +10,17 @@ pub mod Children
 pub mod Exiting
 pub mod Executing
 pub mod Delivering
+pub mod Tidy
+pub mod StillWorlds
+pub mod TidyTurns
+pub mod TidySteps
 pub mod Turning
 pub mod Passing
 pub mod Events
 pub mod Ticking
 pub mod Outside
+pub mod TidyEvents
+pub mod FirstTidy
 pub mod Lawfully
 pub mod RunsLemmas
 pub mod FileRows
@@ -22,3 +30,8 @@ pub mod Dying
 pub mod Moved
 pub mod Mild
 pub mod CallLemmas
+pub mod NeverWaiting
+pub mod PendingRows
+pub mod GoingOnLemmas
+pub mod WaitingRows
+pub mod GoingOnSteps

@@ -38,6 +38,9 @@ use Rattle.abstract_unix.proofs.Posting.{posted_seats, signal_lines_apt, meant_s
 use Rattle.abstract_unix.proofs.Turning.{same_seats}
 use Rattle.abstract_unix.proofs.Events.{system_at, FineTurn, AreShown, shown_stop, event_by, passes_fine}
 use Rattle.abstract_unix.proofs.Ticking.{due_paused}
+use Rattle.abstract_unix.proofs.Quiet.{HasNumbers}
+use Rattle.abstract_unix.proofs.Tidy.{IsTidy}
+use Rattle.abstract_unix.specs.Calls.{handed_of}
 
 -- a wake between two events
 wakes_apt : (u : Unix) (seen : Seen) (due : Bool) (chan : Chan) → IsChannel chan → Paused (seats_of u) seen
@@ -125,7 +128,7 @@ tick_keeps : (u : Unix) (seen : Seen) (mode : Mode) → Paused (seats_of u) seen
 tick_keeps u seen mode p =
     subst (λ v. Paused v (seen_after seen (tick_line mode))) (ticked_seats u seen p) (tick_paused (seats_of u) seen mode p)
 
-shown_wakes : (due : Bool) (chan : Chan) → AreShown (wakes due chan)
+pub shown_wakes : (due : Bool) (chan : Chan) → AreShown (wakes due chan)
 shown_wakes true chan = tt
 shown_wakes false chan = tt
 
@@ -181,12 +184,12 @@ wakes_on u o seen false p = p
 
 -- A signal comes to who runs, in user mode.
 delivery_apt : (u : Unix) (o : Option ℕ) (seen : Seen) (b : Bool) → (b ≡ true → (s : ℕ) → o ≡ Some s → InUserMode u s)
-    → RunsOn u o seen
+    → ((s : ℕ) → HasNumbers (handed_of u (process_of u s))) → RunsOn u o seen
     → Apt (Paused (seats_of (cond b (delivers_to u o) (returns u)).unix)) seen (cond b (delivers_to u o) (returns u)).effects
 unfolding Apt
-delivery_apt u o seen false in_user p = p.0
-delivery_apt u None seen true in_user p = p.0
-delivery_apt u (Some s) seen true in_user p = by (subst (RunnerAt (seats_of u) seen.board) p.1 p.0.runner)
+delivery_apt u o seen false in_user numbers p = p.0
+delivery_apt u None seen true in_user numbers p = p.0
+delivery_apt u (Some s) seen true in_user numbers p = by (subst (RunnerAt (seats_of u) seen.board) p.1 p.0.runner)
   where
     user : (s ≢ 0) × ((seat : Seat) → seat_at (seats_of u) s ≡ Some seat → seat.calling ≡ false)
     user = in_user refl s refl
@@ -197,19 +200,29 @@ delivery_apt u (Some s) seen true in_user p = by (subst (RunnerAt (seats_of u) s
         let calls : t.seat.calling ≡ false = user.1 t.seat t.at in
         let out : (row_at seen.board.table s).calling ≡ false =
         (own 0 s (seats_of u) seen.board p.0.agrees t).calling (not_zero s t.user) t.alive ∙ calls in
-        due_paused s seen u (record { going = p.0.going; agrees = busy_agrees s (seats_of u) seen.board p.0.agrees; turn = t; calls = calls }) out
+        due_paused s seen u (numbers s) (record { going = p.0.going; agrees = busy_agrees s (seats_of u) seen.board p.0.agrees; turn = t; calls = calls }) out
 
-pub tick_fine : (u : Unix) (seen : Seen) → Paused (seats_of u) seen
+-- a tick changes the times of a process alone
+ticked_numbers : (u : Unix) (mode : Mode) (o : Option ℕ) → IsTidy u → (r : ℕ) → HasNumbers (handed_of (record (charged u mode o) { clock = clock_after u.clock }) (process_of (charged u mode o) r))
+ticked_numbers u mode None tidy r = record { count = tidy.count; pipes = tidy.pipes }
+ticked_numbers u mode (Some s) tidy r = by (s == 0)
+  where
+    by : (b : Bool) → HasNumbers (handed_of (record (cond b u (with_process u s (timed mode (process_of u s)))) { clock = clock_after u.clock })
+        (process_of (cond b u (with_process u s (timed mode (process_of u s)))) r))
+    by true = record { count = tidy.count; pipes = tidy.pipes }
+    by false = record { count = tidy.count; pipes = tidy.pipes }
+
+pub tick_fine : (u : Unix) (seen : Seen) → IsTidy u → Paused (seats_of u) seen
     → FineTurn seen (settled_after (tick_of (system_at u seen)))
 unfolding Apt came
-tick_fine u seen p =
+tick_fine u seen tidy p =
     passes_fine s.unix seen (Show (Log (tick_entry mode)) ∷ wakes due Tout ++ s.effects)
     (subst (λ x. Fits seen x × Apt (Paused (seats_of s.unix)) (seen_after seen x) (wakes due Tout ++ s.effects)) (sym line_is)
     (tick_fits seen p.going,
     apt_append (RunsOn now runner) (Paused (seats_of s.unix)) (seen_after seen (tick_line (mode_now seen.board))) (wakes due Tout) s.effects
     (wakes_on now runner (seen_after seen (tick_line (mode_now seen.board))) due
     (tick_keeps u seen (mode_now seen.board) p, tick_runs u seen (mode_now seen.board) p))
-    (λ at q. delivery_apt now runner at (is_as_trap (system_at u seen)) in_user q)))
+    (λ at q. delivery_apt now runner at (is_as_trap (system_at u seen)) in_user (λ r. ticked_numbers u mode runner tidy r) q)))
   where
     mode : Mode
     mode = mode_by u seen.board.table.running
@@ -253,7 +266,7 @@ key_apt u terminal seen (Signal n) due p =
     (λ at q. (q.going, q.agrees)) (λ at r q. signal_paused v at r n q) (λ at q. wakes_apt now at due Keys tt (subst (λ x. Paused x at) (sym same) q))
     (meant_in has_console u.processes) (meant_seated has_console u.processes v (λ r. seat_in u.processes u.clock u.texts u.limit r)) seen p
 
-shown_items : (items : List Item) (tail : List (Effect Unix)) → AreShown tail → AreShown (map Show items ++ tail)
+pub shown_items : (items : List Item) (tail : List (Effect Unix)) → AreShown tail → AreShown (map Show items ++ tail)
 shown_items [] tail shown = shown
 shown_items (item ∷ items) tail shown = shown_items items tail shown
 

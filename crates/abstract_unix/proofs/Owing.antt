@@ -7,6 +7,7 @@ use Rattle.std.proofs.lemmas.List.Sums.{get_or-le-sum_by, sum_by-set, sum_by-le,
 use Rattle.std.proofs.Math.ListN.{get_or-map}
 use Rattle.open_files.specs.declared.file.OpenFile.{OpenFile}
 use Rattle.open_files.specs.Files.{file_at, times, entry_of, AreOpen}
+use Rattle.pipe_ends.specs.declared.ends.Pipe.{Pipe}
 use Rattle.sys_files.specs.Handed.{Handed}
 use Rattle.sys_files.specs.Sound.{is_of, numbers_of, IsSound, IsKept}
 use Rattle.sys_procs.specs.Process.{Process}
@@ -106,7 +107,7 @@ module _ (ts : List (Option Told)) (s : ℕ) (t : Told) (is : get_or ts s None �
       omega (arith, least, one)
 
 -- a number that names an entry counts
-times_some : (mine : List ℕ) (fd : ℕ) → 0 < slice_index mine fd → 1 ≤ times mine (entry_of mine fd)
+pub times_some : (mine : List ℕ) (fd : ℕ) → 0 < slice_index mine fd → 1 ≤ times mine (entry_of mine fd)
 times_some mine fd above =
     let within : fd < length mine = elim (cases_lt fd (length mine)) [
       | inl low ↦ low
@@ -119,7 +120,7 @@ times_some mine fd above =
     let all : sum_by test mine ≡ times mine (entry_of mine fd) = refl in
     omega (arith, least, one, all)
 
-is_used : (o : Option OpenFile) → 1 ≤ numbers_of o → IsSome o
+pub is_used : (o : Option OpenFile) → 1 ≤ numbers_of o → IsSome o
 is_used None some = absurd (omega (arith, some))
 is_used (Some file) some = refl
 
@@ -152,7 +153,7 @@ few_stand ts ino long =
     let most = sum_by-le (stands ino) 1 ts (All-from_get_or (λ o. stands ino o ≤ 1) ts None (λ i low. stands_once ino (get_or ts i None))) in
     omega (arith, most, long)
 
-module _ (refs : List ℕ) (files : List (Option OpenFile)) (texts : List (Option Text)) (ts : List (Option Told)) (owed : Owes refs files texts ts) where
+module _ (refs : List ℕ) (files : List (Option OpenFile)) (pipes : List Pipe) (texts : List (Option Text)) (ts : List (Option Told)) (owed : Owes refs files pipes texts ts) where
   -- a process, and what it names and where it is
   module _ (s : ℕ) (t : Told) (is : get_or ts s None ≡ Some t) where
     pub names_open : AreOpen files t.files
@@ -199,35 +200,35 @@ fifteen_set ts s o all own r t is = elim (cases_eq r s) [
 ]
 
 -- references that are the same by each inode
-pub owes_refs : (refs more : List ℕ) (files : List (Option OpenFile)) (texts : List (Option Text)) (ts : List (Option Told)) → ((ino : ℕ) → slice_index more ino ≡ slice_index refs ino)
-    → Owes refs files texts ts → Owes more files texts ts
-owes_refs refs more files texts ts same owed = record {
+pub owes_refs : (refs more : List ℕ) (files : List (Option OpenFile)) (pipes : List Pipe) (texts : List (Option Text)) (ts : List (Option Told)) → ((ino : ℕ) → slice_index more ino ≡ slice_index refs ino)
+    → Owes refs files pipes texts ts → Owes more files pipes texts ts
+owes_refs refs more files pipes texts ts same owed = record {
   numbers = owed.numbers;
   referred = λ ino. same ino ∙ owed.referred ino;
-  no_pipe = owed.no_pipe;
+  piped = owed.piped;
   fifteen = owed.fifteen;
 }
 
 -- What a process is handed for a call on files is sound.
-pub sound_by : (h : Handed) (texts : List (Option Text)) (ts : List (Option Told)) (s : ℕ) → Owes h.inodes.references h.files texts ts
+pub sound_by : (h : Handed) (texts : List (Option Text)) (ts : List (Option Told)) (s : ℕ) → Owes h.inodes.references h.files h.pipes texts ts
     → get_or ts s None ≡ Some (record { files = h.u.files; dir = h.u.dir }) → length h.files ≡ 100 → length ts ≡ 50 → length texts ≡ 40 → IsSound h
 sound_by h texts ts s owed is entries fifty forty =
     let t : Told = record { files = h.u.files; dir = h.u.dir } in
     let refs : List ℕ = h.inodes.references in
     record {
-      is_open = names_open refs h.files texts ts owed s t is;
+      is_open = names_open refs h.files h.pipes texts ts owed s t is;
       counted = λ entry file there.
           let most = names_within ts s t is entry in
           let all = owed.numbers entry in
           let count : numbers_of (file_at h.files entry) ≡ file.count = ap numbers_of there in
           omega (arith, most, all, count);
-      room = λ entry file there. let few = few_numbers refs h.files texts ts owed fifty entry file there in omega (arith, few);
+      room = λ entry file there. let few = few_numbers refs h.files h.pipes texts ts owed fifty entry file there in omega (arith, few);
       referred = λ ino.
           let dir = stands_within ts s t is ino in
           let all = owed.referred ino in
           omega (arith, dir, all);
-      few = λ ino. let few = few_references refs h.files texts ts owed fifty ino entries forty in omega (arith, few);
-      no_pipe = owed.no_pipe;
+      few = λ ino. let few = few_references refs h.files h.pipes texts ts owed fifty ino entries forty in omega (arith, few);
+      pipes = owed.piped;
     }
 
 -- A call on files of a process keeps what is owed, whatever it does.
@@ -241,7 +242,7 @@ file_owes refs u s h owed is lives one kept long =
     let low = some_within ts s (told_of p) at in
     let put : told_in (with_handed u s h).processes ≡ set ts s (Some q) =
     map-set told_by u.processes s _ ∙ ap (λ b. set ts s (cond b None (Some q))) lives in
-    subst (λ (l : List (Option Told)). Owes h.inodes.references h.files u.texts l) (sym put) (record {
+    subst (λ (l : List (Option Told)). Owes h.inodes.references h.files h.pipes u.texts l) (sym put) (record {
       numbers = λ entry.
           let before = owed.numbers entry in
           let counts = kept.numbers entry in
@@ -255,6 +256,6 @@ file_owes refs u s h owed is lives one kept long =
           let old = ap (stands ino) at in
           let same = ap (λ (l : List ℕ). slice_index l ino) one in
           omega (arith, before, counts, change, old, same);
-      no_pipe = kept.no_pipe;
+      piped = kept.pipes;
       fifteen = fifteen_set ts s (Some q) owed.fifteen (λ t e. (let same : q ≡ t = cc e in ap (λ (x : Told). length x.files) (sym same) ∙ long));
     })

@@ -1,5 +1,5 @@
 -- A signal is sent to some processes: they sit as they did, and the lines of the log fit.
-use Rattle.std.proofs.Common.{◌≡◌, ◌∙◌, ◌<◌, ◌≤◌, ◌+◌, ◌==◌, ◌&&◌, ℕ, zero, suc, nat_le, nat_lt, Bool, true, false, cond, List, [], ◌∷◌, ◌++◌, map, filter, length, append-nil, Option, Some, None, get_or, refl, sym, ap, subst, arith}
+use Rattle.std.proofs.Common.{◌≡◌, ◌∙◌, ◌<◌, ◌≤◌, ◌+◌, ◌==◌, ◌&&◌, ℕ, zero, suc, nat_le, nat_lt, Bool, true, false, cond, List, [], ◌∷◌, ◌++◌, map, filter, length, Option, Some, None, get_or, refl, sym, ap, subst, arith}
 use Rattle.std.specs.Prelude.{slice_index_or}
 use Rattle.std.specs.List.{range_with_len}
 use Rattle.std.proofs.lemmas.Bool.{leb-true, ltb-true}
@@ -8,7 +8,6 @@ use Rattle.v6_base.specs.Trace.{Log}
 use Rattle.v6_base.specs.declared.entry.Entry.TheVariants as line
 use Rattle.v6_base.specs.declared.errno.Errno.TheVariants.{ESRCH}
 use Rattle.proc_tab.specs.Processes.{slots_above_0}
-use Rattle.pick_rules.specs.Board.{Board}
 use Rattle.pick_rules.specs.Effects.{Effect, Show, came}
 use Rattle.pick_rules.specs.Lawful.{Seen, seen_after}
 use Rattle.log_laws.proofs.Fitting.{IsGoing, Apt}
@@ -18,7 +17,7 @@ use Rattle.sig_core.specs.Signals.{is_signal}
 use Rattle.sys_procs.specs.Process.{Process}
 use Rattle.sys_procs.specs.TextTable.{Text}
 use Rattle.sys_procs.specs.World.{Clock, World, process_of}
-use Rattle.sys_procs.specs.Comes.{Comes, fails, shows, returns}
+use Rattle.sys_procs.specs.Comes.{fails, shows, returns}
 use Rattle.sys_procs.specs.Signals.{signal_lines, is_meant, meant_in, signalled, signalled_if, all_signalled, is_reached, kill_to}
 use Rattle.abstract_unix.proofs.Sitting.{seat_for, seat_of, seats_in, seats_under, seats_here, seat_in}
 use Rattle.abstract_unix.proofs.Rows.{FineComes, Calling, fails_fine}

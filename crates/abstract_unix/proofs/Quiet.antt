@@ -1,40 +1,48 @@
--- What a call on files leaves of a turn: it shows bytes and wakes alone; the image keeps its size; and the process waits in a
--- call exactly where the answer is to sleep.
-use Rattle.std.proofs.Common.{◌≡◌, ◌==◌, ◌++◌, ℕ, Bool, true, false, cond, List, [], ◌∷◌, ℤ, fold, slice_index, replicate, refl}
+-- What a call on files leaves of a turn: it shows bytes, wakes, and a signal of its own process alone; the image keeps its
+-- size; the
+-- process waits in a call exactly where the answer is to sleep; and the pipes that are open have numbers that a channel may have.
+use Rattle.std.proofs.Common.{◌≡◌, ◌⊎◌, ◌≤◌, ◌<◌, ◌==◌, ◌∙◌, ◌++◌, ℕ, Bool, true, false, cond, List, [], ◌∷◌, ℤ, pos, fold, slice_index, refl, sym, ap, subst, inl, inr, arith}
 use Rattle.std.specs.List.{range_with_len}
+use Rattle.std.proofs.lemmas.Bool.{eqb-false}
 use Rattle.v6_base.specs.Trace.{Item, Byte, Log, sent}
 use Rattle.v6_base.specs.declared.answer.Answer.{Answer}
 use Rattle.v6_base.specs.declared.answer.Answer.TheVariants.{Ret, Fail, Sleep}
 use Rattle.v6_base.specs.declared.entry.Chan.{Chan}
-use Rattle.v6_base.specs.declared.entry.Chan.TheVariants.{Keys}
-use Rattle.v6_base.specs.declared.entry.Entry.TheVariants.{Wake}
+use Rattle.v6_base.specs.declared.entry.Chan.TheVariants.{RunIn, RunOut, Tout, Keys, Wait, Read, Write}
+use Rattle.v6_base.specs.declared.entry.Entry.{Entry}
+use Rattle.v6_base.specs.declared.entry.Entry.TheVariants.{Wake, Signal}
 use Rattle.u_area.specs.declared.area.UArea.{UArea}
 use Rattle.fs_tree.specs.Name.{readable}
-use Rattle.open_files.specs.declared.file.Closed.{Closed}
-use Rattle.open_files.specs.declared.file.Closed.TheVariants.{Still, Last}
+use Rattle.fs_tree.specs.Finding.{Inodes}
+use Rattle.open_files.specs.Files.{entry_of, with_more, with_offset}
 use Rattle.tty_line.specs.Output.{shows}
-use Rattle.pick_rules.specs.Priority.{ttipri}
-use Rattle.pick_rules.specs.Ranges.{IsChannel}
-use Rattle.sys_files.specs.Handed.{Handed}
+use Rattle.pick_rules.specs.Fits.{IsSleep}
+use Rattle.pick_rules.specs.Ranges.{IsInode, IsChannel}
+use Rattle.sig_core.specs.declared.numbers.TheConstants.{SIGPIPE}
+use Rattle.sys_files.specs.Handed.{Handed, file_of, with_inodes, let_go}
 use Rattle.sys_files.specs.Did.{Did}
-use Rattle.sys_files.specs.Descriptors.{is_closed_by, Closing, released, told_by, dropped, closes, then_closes, close_all}
-use Rattle.sys_files.specs.Moving.{resume_read}
-use Rattle.sys_files.proofs.Walks.{Walks, walk_resume}
+use Rattle.sys_files.specs.Descriptors.{Closing, dropped, closes, then_closes, close_all}
+use Rattle.sys_files.specs.Moving.{without_pending, resumes}
+use Rattle.sys_files.proofs.StepWalks.{IsOfPipe, StepWalks, put_back_count, walk_closes, walk_resume}
+use Rattle.abstract_unix.proofs.PipeNumbers.{HavePipes, end_known, pipes_opened, pipes_change, pipes_left, pipes_marked, pipes_gone, pipes_ends}
 
--- items that are bytes and wakes
-abbrev pub AreQuiet : List Item → Type 0
-AreQuiet [] = Unit {0}
-AreQuiet (Byte line byte ∷ items) = AreQuiet items
-AreQuiet (Log e ∷ items) = ((chan : Chan) × (e ≡ Wake chan) × IsChannel chan) × AreQuiet items
+-- Items that are bytes, wakes, and the signal of the process of a slot that writes to a pipe which nobody reads.
+abbrev pub IsQuiet : ℕ → Entry → Type 0
+IsQuiet s e = ((chan : Chan) × (e ≡ Wake chan) × IsChannel chan) ⊎ (e ≡ Signal s SIGPIPE)
 
-quiet_append : (xs ys : List Item) → AreQuiet xs → AreQuiet ys → AreQuiet (xs ++ ys)
-quiet_append [] ys p q = q
-quiet_append (Byte line byte ∷ xs) ys p q = quiet_append xs ys p q
-quiet_append (Log e ∷ xs) ys p q = (p.0, quiet_append xs ys p.1 q)
+abbrev pub AreQuiet : ℕ → List Item → Type 0
+AreQuiet s [] = Unit {0}
+AreQuiet s (Byte line byte ∷ items) = AreQuiet s items
+AreQuiet s (Log e ∷ items) = IsQuiet s e × AreQuiet s items
 
-pub quiet_sent : (line : ℕ) (bytes : List ℕ) → AreQuiet (sent line bytes)
-quiet_sent line [] = tt
-quiet_sent line (byte ∷ bytes) = quiet_sent line bytes
+quiet_append : (s : ℕ) (xs ys : List Item) → AreQuiet s xs → AreQuiet s ys → AreQuiet s (xs ++ ys)
+quiet_append s [] ys p q = q
+quiet_append s (Byte line byte ∷ xs) ys p q = quiet_append s xs ys p q
+quiet_append s (Log e ∷ xs) ys p q = (p.0, quiet_append s xs ys p.1 q)
+
+pub quiet_sent : (s line : ℕ) (bytes : List ℕ) → AreQuiet s (sent line bytes)
+quiet_sent s line [] = tt
+quiet_sent s line (byte ∷ bytes) = quiet_sent s line bytes
 
 -- the image has the same size
 pub record SameSize (old new : UArea) : Type 0 where
@@ -49,80 +57,188 @@ pub record SameCall (old new : UArea) : Type 0 where
 pub same_call : (u : UArea) → SameCall u u
 same_call u = record { size = record { «data» = refl; stack = refl }; pending = refl }
 
--- it waits for keys
-pub record WaitsForKeys (old new : UArea) (pri : ℤ) (chan : Chan) : Type 0 where
+-- it waits in a call, for a channel
+pub record Waits (old new : UArea) (pri : ℤ) (chan : Chan) : Type 0 where
   pub size : SameSize old new
-  pub pending : new.pending ≡ 1
-  pub at : pri ≡ ttipri
-  pub on : chan ≡ Keys
+  pub pending : (new.pending == 0) ≡ false
+  pub at : (s : ℕ) → IsSleep s chan pri
+  pub on : IsChannel chan
 
 abbrev pub EndsIn : UArea → UArea → Answer → Type 0
 EndsIn old new (Ret r0 r1) = SameCall old new
 EndsIn old new (Fail e) = SameCall old new
-EndsIn old new (Sleep pri chan) = WaitsForKeys old new pri chan
+EndsIn old new (Sleep pri chan) = Waits old new pri chan
 
-pub record Calm (old : UArea) (did : Did) : Type 0 where
-  pub quiet : AreQuiet did.items
-  pub ends : EndsIn old did.state.u did.answer
+-- The numbers of nodes are words, and those of pipes that are open are numbers of inodes.
+pub record HasNumbers (h : Handed) : Type 0 where
+  pub count : h.inodes.store.count ≤ 65535
+  pub pipes : HavePipes h.files h.pipes
 
-close_quiet : (last : Bool) → AreQuiet (cond last (Log (Wake Keys) ∷ []) [])
-close_quiet true = ((Keys, refl, tt), tt)
-close_quiet false = tt
+-- So it is in a call, of a process that waits in a call or not as before,
+pub record InCalm (old : UArea) (h : Handed) : Type 0 where
+  pub same : SameCall old h.u
+  pub numbers : HasNumbers h
 
--- Each row of a call on files is calm.
-pub calm_walks : (old : UArea) → Walks (λ h. SameCall old h.u) (Calm old) (λ count. Unit {0})
-calm_walks old = record {
-  refused = λ h e s. record { quiet = tt; ends = s };
-  done = λ h value s. record { quiet = tt; ends = s };
-  lets_go = λ ino d c. record { quiet = c.quiet; ends = c.ends };
-  waits = λ h entry at count s. record {
-    quiet = tt;
-    ends = record { size = record { «data» = s.size.data; stack = s.size.stack }; pending = refl; at = refl; on = refl };
-  };
-  wakes = λ h a b last s. record { quiet = close_quiet last; ends = s };
-  showing = λ line image at count d few c. record { quiet = quiet_sent 0 (shows line (readable image at count)); ends = c.ends };
-  around = λ h inodes files console s. s;
-  moved = λ h numbers dir s. record { size = record { «data» = s.size.data; stack = s.size.stack }; pending = s.pending };
-  terminal = λ h tty s. s;
-  stored = λ h m same s. s;
+same_size : {old : UArea} {h : Handed} {pending : ℕ} {call : List ℕ} → InCalm old h
+    → SameSize old (record h.u { pending = pending; call = call })
+same_size p = record { «data» = p.same.size.data; stack = p.same.size.stack }
+
+same_call_in : {old : UArea} {h : Handed} {numbers : List ℕ} {dir : ℕ} → InCalm old h
+    → SameCall old (record h.u { files = numbers; dir = dir })
+same_call_in p = record { size = record { «data» = p.same.size.data; stack = p.same.size.stack }; pending = p.same.pending }
+
+pub other_inodes : (h : Handed) (inodes : Inodes) → inodes.store.count ≡ h.inodes.store.count → HasNumbers h
+    → HasNumbers (with_inodes h inodes)
+other_inodes h inodes same n = record { count = subst (λ c. c ≤ 65535) (sym same) n.count; pipes = n.pipes }
+
+dropped_calm : (old : UArea) (h : Handed) (fd : ℕ) → InCalm old h → InCalm old (dropped h fd)
+dropped_calm old h fd p = record {
+  same = same_call_in p;
+  numbers = record { count = p.numbers.count; pipes = pipes_left h (entry_of h.u.files fd) p.numbers.pipes };
 }
 
--- A read of the console goes on: until it sleeps again no call is waited in.
-pub resume_calm : (h : Handed) → Calm (record h.u { pending = 0; call = replicate 8 0 }) (resume_read h)
-resume_calm h =
-    walk_resume (calm_walks (record h.u { pending = 0; call = replicate 8 0 })) h (same_call (record h.u { pending = 0; call = replicate 8 0 }))
+not_user : (n pending : ℕ) → (pending ≡ 3) ⊎ (pending ≡ 4) → n ≡ pending → (n == 0) ≡ false
+not_user n pending (inl three) is = ap (λ m. m == 0) (is ∙ three)
+not_user n pending (inr four) is = ap (λ m. m == 0) (is ∙ four)
+
+-- and when it has ended.
+pub record Calm (old : UArea) (s : ℕ) (did : Did) : Type 0 where
+  pub quiet : AreQuiet s did.items
+  pub ends : EndsIn old did.state.u did.answer
+  pub numbers : HasNumbers did.state
+
+close_quiet : (s : ℕ) (last : Bool) → AreQuiet s (cond last (Log (Wake Keys) ∷ []) [])
+close_quiet s true = (inl (Keys, refl, tt), tt)
+close_quiet s false = tt
+
+woken_quiet : (s : ℕ) (chan : Chan) → IsOfPipe IsInode chan → IsQuiet s (Wake chan)
+woken_quiet s RunIn of = absurd of
+woken_quiet s RunOut of = absurd of
+woken_quiet s Tout of = absurd of
+woken_quiet s Keys of = absurd of
+woken_quiet s (Wait slot) of = absurd of
+woken_quiet s (Read ino) of = inl (Read ino, refl, of)
+woken_quiet s (Write ino) of = inl (Write ino, refl, of)
+
+sleeps_so : (old new : UArea) (pending : ℕ) (chan : Chan) → SameSize old new → (pending ≡ 3) ⊎ (pending ≡ 4)
+    → new.pending ≡ pending → IsOfPipe IsInode chan
+    → Waits old new (pos 1) chan
+sleeps_so old new pending RunIn same which is of = absurd of
+sleeps_so old new pending RunOut same which is of = absurd of
+sleeps_so old new pending Tout same which is of = absurd of
+sleeps_so old new pending Keys same which is of = absurd of
+sleeps_so old new pending (Wait slot) same which is of = absurd of
+sleeps_so old new pending (Read ino) same which is of = record { size = same; pending = not_user new.pending pending which is;
+    at = λ s. refl; on = of }
+sleeps_so old new pending (Write ino) same which is of = record { size = same; pending = not_user new.pending pending which is;
+    at = λ s. refl; on = of }
+
+-- Each row of a call on files is calm.
+pub calm_walks : (old : UArea) (s : ℕ) → StepWalks (InCalm old) (Calm old s) (λ count. Unit {0}) IsInode s
+calm_walks old s = record {
+  refused = λ h e p. record { quiet = tt; ends = p.same; numbers = p.numbers };
+  done = λ h value p. record { quiet = tt; ends = p.same; numbers = p.numbers };
+  lets_go = λ ino d c. record { quiet = c.quiet; ends = c.ends;
+      numbers = other_inodes d.state (let_go d.state ino).inodes (put_back_count d.state.inodes ino) c.numbers };
+  waits = λ h entry at count p. record {
+    quiet = tt;
+    ends = record { size = same_size p; pending = refl; at = λ s. refl; on = tt };
+    numbers = record { count = p.numbers.count; pipes = p.numbers.pipes };
+  };
+  waits_in_pipe = λ h chan pending words which of p. record {
+    quiet = tt;
+    ends = sleeps_so old (record h.u { pending = pending; call = words }) pending chan (same_size p) which refl of;
+    numbers = record { count = p.numbers.count; pipes = p.numbers.pipes };
+  };
+  wakes = λ h a b last p. record { quiet = close_quiet s last; ends = p.same; numbers = p.numbers };
+  woken = λ chan d of c. record { quiet = (woken_quiet s chan of, c.quiet); ends = c.ends; numbers = c.numbers };
+  breaks = λ h p. record { quiet = (inr refl, tt); ends = p.same;
+      numbers = record { count = p.numbers.count; pipes = p.numbers.pipes } };
+  showing = λ line image at count d few c. record { quiet = quiet_sent s 0 (shows line (readable image at count));
+      ends = c.ends; numbers = c.numbers };
+  inodes = λ h inodes same p. record { same = p.same; numbers = other_inodes h inodes same p.numbers };
+  opened = λ h ino kind fd entry plain number free p. record {
+    same = same_call_in p;
+    numbers = record { count = p.numbers.count; pipes = pipes_opened h.files h.pipes entry ino kind plain p.numbers.pipes };
+  };
+  ends = λ h ino fd entry next_fd next_entry above within number free next_number next_free p. record {
+    same = same_call_in p;
+    numbers = record {
+      count = p.numbers.count;
+      pipes = pipes_ends h.files h.pipes ino entry next_entry
+          (above, (let few = p.numbers.count in omega (arith, within, few))) p.numbers.pipes;
+    };
+  };
+  given = λ h fd free named number p. record {
+    same = same_call_in p;
+    numbers = record {
+      count = p.numbers.count;
+      pipes = pipes_change h.files h.pipes (entry_of h.u.files fd) (with_more 1) (λ file. refl) (λ file. refl) p.numbers.pipes;
+    };
+  };
+  offset = λ h entry offset p. record {
+    same = p.same;
+    numbers = record {
+      count = p.numbers.count;
+      pipes = pipes_change h.files h.pipes entry (with_offset offset) (λ file. refl) (λ file. refl) p.numbers.pipes;
+    };
+  };
+  dropped = λ h fd named p. dropped_calm old h fd p;
+  marked = λ h pipe p. record {
+    same = p.same;
+    numbers = record { count = p.numbers.count; pipes = pipes_marked h.files h.pipes pipe p.numbers.pipes };
+  };
+  gone = λ h ino none p. record {
+    same = p.same;
+    numbers = record { count = p.numbers.count; pipes = pipes_gone h.files h.pipes ino none p.numbers.pipes };
+  };
+  known = λ h entry is p. end_known h entry p.numbers.pipes is;
+  console = λ h console p. record { same = p.same; numbers = record { count = p.numbers.count; pipes = p.numbers.pipes } };
+  enters = λ h dir p. record { same = same_call_in p; numbers = record { count = p.numbers.count; pipes = p.numbers.pipes } };
+  terminal = λ h tty p. record { same = p.same; numbers = record { count = p.numbers.count; pipes = p.numbers.pipes } };
+  stored = λ h m same p. record { same = p.same; numbers = record { count = p.numbers.count; pipes = p.numbers.pipes } };
+}
+
+-- A call in which a process slept goes on: until it sleeps again no call is waited in.
+pub resume_calm : (h : Handed) (s now : ℕ) → ((h.u.pending == 1) ≡ false
+    → (file_of h (slice_index h.u.call 0)).kind.pipe ≡ true) → HasNumbers h
+    → Calm (without_pending h).u s (resumes h s now)
+resume_calm h s now has numbers =
+    walk_resume (calm_walks (without_pending h).u s) h now has
+    (record { same = same_call (without_pending h).u; numbers = record { count = numbers.count; pipes = numbers.pipes } })
 
 -- Numbers let their files go.
-pub record CalmClosing (old : UArea) (c : Closing) : Type 0 where
-  pub quiet : AreQuiet c.items
-  pub same : SameCall old c.state.u
+pub record CalmClosing (old : UArea) (s : ℕ) (c : Closing) : Type 0 where
+  pub quiet : AreQuiet s c.items
+  pub calm : InCalm old c.state
 
-released_calm : (old : UArea) (h : Handed) (told : Closed) → SameCall old h.u → CalmClosing old (released h told)
-released_calm old h (Still file) s = record { quiet = tt; same = s }
-released_calm old h (Last file) s = record { quiet = close_quiet (is_closed_by h file); same = s }
-
-closes_calm : (old : UArea) (h : Handed) (fd : ℕ) → SameCall old h.u → CalmClosing old (closes h fd)
-closes_calm old h fd s =
-    released_calm old (dropped h fd) (told_by h fd)
-    (record { size = record { «data» = s.size.data; stack = s.size.stack }; pending = s.pending })
+closes_calm : (old : UArea) (s : ℕ) (h : Handed) (fd : ℕ) → 0 < slice_index h.u.files fd → InCalm old h
+    → CalmClosing old s (closes h fd)
+closes_calm old s h fd named p =
+    let c : Calm old s (record { answer = Ret 0 0; state = (closes h fd).state; items = (closes h fd).items }) =
+        walk_closes (calm_walks old s) h fd 0 0 named p in
+    record { quiet = c.quiet; calm = record { same = c.ends; numbers = c.numbers } }
 
 -- all numbers of a process, one after another
-more_closing : (old : UArea) (c : Closing) (fd : ℕ) → CalmClosing old c → CalmClosing old (then_closes c fd)
-more_closing old c fd k = by (slice_index c.state.u.files fd == 0)
+more_closing : (old : UArea) (s : ℕ) (c : Closing) (fd : ℕ) → CalmClosing old s c → CalmClosing old s (then_closes c fd)
+more_closing old s c fd k = by (slice_index c.state.u.files fd == 0) refl
   where
-    by : (none : Bool)
-        → CalmClosing old (cond {A = Closing} none c (record { state = (closes c.state fd).state; items = c.items ++ (closes c.state fd).items }))
-    by true = k
-    by false =
-        let next = closes_calm old c.state fd k.same in
-        record { quiet = quiet_append c.items (closes c.state fd).items k.quiet next.quiet; same = next.same }
+    by : (none : Bool) → (slice_index c.state.u.files fd == 0) ≡ none
+        → CalmClosing old s (cond {A = Closing} none c (record { state = (closes c.state fd).state;
+            items = c.items ++ (closes c.state fd).items }))
+    by true e = k
+    by false e =
+        let ne = eqb-false (slice_index c.state.u.files fd) 0 e in
+        let next = closes_calm old s c.state fd (omega (arith, ne)) k.calm in
+        record { quiet = quiet_append s c.items (closes c.state fd).items k.quiet next.quiet; calm = next.calm }
 
-all_closing : (old : UArea) (c : Closing) (fds : List ℕ) → CalmClosing old c → CalmClosing old (fold then_closes c fds)
-all_closing old c [] k = k
-all_closing old c (fd ∷ fds) k = all_closing old (then_closes c fd) fds (more_closing old c fd k)
+all_closing : (old : UArea) (s : ℕ) (c : Closing) (fds : List ℕ) → CalmClosing old s c
+    → CalmClosing old s (fold then_closes c fds)
+all_closing old s c [] k = k
+all_closing old s c (fd ∷ fds) k = all_closing old s (then_closes c fd) fds (more_closing old s c fd k)
 
-pub close_all_calm : (h : Handed) → CalmClosing h.u (close_all h)
+pub close_all_calm : (h : Handed) (s : ℕ) → HasNumbers h → CalmClosing h.u s (close_all h)
 unfolding close_all
-close_all_calm h =
-    all_closing h.u (record { state = h; items = [] }) (range_with_len 0 15)
-    (record { quiet = tt; same = same_call h.u })
+close_all_calm h s numbers =
+    all_closing h.u s (record { state = h; items = [] }) (range_with_len 0 15)
+    (record { quiet = tt; calm = record { same = same_call h.u; numbers = numbers } })

@@ -1,25 +1,16 @@
--- How a run over a list of events is made of runs over its parts, and what it may end at.
-use Rattle.std.specs.Bool.{⊤}
-use Rattle.std.proofs.Common.{◌≡◌, ◌≢◌, ℕ, zero, suc, cond, subst, Bool, true, false, List, [], ◌∷◌, ◌++◌, Option, Some, None, Result, Ok, Err, refl, sym, ◌∙◌, ap, append_assoc}
+-- How a run over a list of events is made of runs over its parts.
+use Rattle.std.proofs.Common.{◌≡◌, ◌≢◌, ℕ, cond, Bool, true, false, List, [], ◌∷◌, ◌++◌, Ok, Err, refl, sym, ◌∙◌, ap, append_assoc}
 use Rattle.std.proofs.lemmas.List.{append-nil}
 use Rattle.v6_base.specs.Trace.{Item}
 use Rattle.v6_base.specs.declared.entry.PanicKind.{PanicKind}
-use Rattle.pick_rules.specs.Logged.{Stop, logged}
-use Rattle.sys_procs.specs.Process.{register}
-use Rattle.abstract_unix.specs.declared.ending.Ending.{Ending}
-use Rattle.abstract_unix.specs.declared.ending.Ending.TheVariants as came
 use Rattle.abstract_unix.specs.declared.ends.Ends.{Ends}
 use Rattle.abstract_unix.specs.declared.ends.Ends.TheVariants as ends
 use Rattle.abstract_unix.specs.declared.ends.Ends.TheVariants.{AtEnd}
-use Rattle.abstract_unix.specs.declared.turned.Unbuilt.{Unbuilt}
-use Rattle.abstract_unix.specs.declared.turned.Unbuilt.TheVariants as unbuilt
 use Rattle.abstract_unix.specs.declared.turned.Turned.{Turned}
-use Rattle.abstract_unix.specs.declared.turned.Turned.TheVariants.{Ran, Idle, NotBuilt, Panic}
-use Rattle.abstract_unix.specs.Unix.{Unix, System, process_of}
-use Rattle.abstract_unix.specs.Steps.{Steps}
-use Rattle.abstract_unix.specs.Turn.{Happened, Turn, stays, settles, calls_for_settling, settled_after, ending_at, ending_by, ending_of_pass, end_effects, turn_of, slot_of, pass_of, turn, turned_by, turned, ticked_by}
-use Rattle.abstract_unix.specs.Outside.{tick_of}
-use Rattle.abstract_unix.specs.Runs.{Event, Slot, Tick, Byte, Switch, Course, begun, event_of, goes_on_by, unless_ended, after_event, course, started, after_items}
+use Rattle.abstract_unix.specs.declared.turned.Turned.TheVariants.{Ran, Idle, Panic}
+use Rattle.abstract_unix.specs.Unix.{System}
+use Rattle.abstract_unix.specs.Turn.{Happened, Turn, stays, settles, calls_for_settling, settled_after, turned_by, turned, ticked_by}
+use Rattle.abstract_unix.specs.Runs.{Event, Tick, Byte, Switch, Course, begun, event_of, goes_on_by, unless_ended, after_event, course, after_items}
 
 -- first these events and then those
 pub course-append : (c : Course) (xs ys : List Event) → course c (xs ++ ys) ≡ course (course c xs) ys
@@ -28,7 +19,6 @@ course-append c (x ∷ xs) ys = course-append (after_event c x) xs ys
 
 event_ended : (c : Course) (e : Ends) (x : Event) → e ≢ AtEnd → unless_ended e c x ≡ c
 event_ended c AtEnd x early = absurd (early refl)
-event_ended c (ends.NotBuilt place) x early = refl
 event_ended c (ends.Panic kind) x early = refl
 
 -- a run that has ended stays as it is
@@ -38,7 +28,6 @@ course_ended c (x ∷ xs) early = ap (λ d. course d xs) (event_ended c c.ending
 
 event_after_items : (items : List Item) (c : Course) (e : Ends) (x : Event) → unless_ended e (after_items items c) x ≡ after_items items (unless_ended e c x)
 event_after_items items c AtEnd x = ap (λ (l : List Item). record (goes_on_by c (event_of x c.system)) { items = l }) (append_assoc items c.items (event_of x c.system).items)
-event_after_items items c (ends.NotBuilt place) x = refl
 event_after_items items c (ends.Panic kind) x = refl
 
 -- what was shown before stands in front
@@ -73,49 +62,15 @@ module _ (c : Course) (m : System) (xs : List Event) (goes : (course c xs).endin
 abbrev pub ending_told : Turned → Ends
 ending_told Ran = AtEnd
 ending_told Idle = AtEnd
-ending_told (NotBuilt place) = ends.NotBuilt place
 ending_told (Panic kind) = ends.Panic kind
 
 told_by : (ending : Ends) (is_idle : Bool) → ending ≡ ending_told (turned_by ending is_idle)
 told_by AtEnd true = refl
 told_by AtEnd false = refl
-told_by (ends.NotBuilt place) is_idle = refl
 told_by (ends.Panic kind) is_idle = refl
 
 pub turn_told : (t : Turn) → t.ending ≡ ending_told (turned t)
 turn_told t = told_by t.ending t.is_idle
-
--- what a run may end at before its last event: a place in a program, or a panic
-abbrev pub IsMet : Ends → Type 0
-IsMet AtEnd = ⊤
-IsMet (ends.NotBuilt (unbuilt.At pc)) = ⊤
-IsMet (ends.Panic kind) = ⊤
-
-ending_is : (pc : ℕ) (e : Ending) → IsMet (ending_at pc e)
-ending_is pc came.Next = tt
-ending_is pc came.Trapped = tt
-ending_is pc (came.Slept pri chan) = tt
-ending_is pc came.Ended = tt
-ending_is pc came.NotBuilt = tt
-ending_is pc (came.Panic kind) = tt
-
-stop_is : (pc : ℕ) (stop : Option (Stop Unix)) (e : Ending) → IsMet (ending_by pc stop e)
-stop_is pc None e = ending_is pc e
-stop_is pc (Some stop) e = tt
-
-turn_is : (m : System) (slot : ℕ) (steps : Steps) → IsMet (turn_of m slot steps).ending
-turn_is m slot steps =
-    let pc : ℕ = register (process_of m.unix slot) 7 in
-    stop_is pc (logged m.board (steps.effects ++ end_effects slot steps.ending)).stop steps.ending
-
-pass_is : (stop : Option (Stop Unix)) → IsMet (ending_of_pass stop)
-pass_is None = tt
-pass_is (Some stop) = tt
-
-slot_is : (m : System) (slot : Option ℕ) → IsMet (slot_of m slot).ending
-slot_is m None = tt
-slot_is m (Some zero) = pass_is (pass_of m).log.stop
-slot_is m (Some (suc s)) = turn_is m (suc s) (turn m (suc s))
 
 -- settling ends no run
 pub settled_ending : (h : Happened) → (settled_after h).ending ≡ h.ending
@@ -125,31 +80,7 @@ settled_ending h = by (calls_for_settling h)
     by true = refl
     by false = refl
 
-pub started_is : (m : System) → IsMet (started m).ending
-started_is m = subst IsMet (sym (settled_ending (pass_of m))) (pass_is (pass_of m).log.stop)
-
-event_is : (event : Event) (m : System) → IsMet (event_of event m).ending
-event_is Slot m =
-    let o : Option ℕ = m.board.table.running in subst IsMet (sym (settled_ending (slot_of m o))) (slot_is m o)
-event_is Tick m = subst IsMet (sym (settled_ending (tick_of m))) (pass_is (tick_of m).log.stop)
-event_is (Byte byte) m = tt
-event_is (Switch word) m = tt
-
-step_is : (c : Course) (ended : Ends) (event : Event) → IsMet c.ending
-    → IsMet (unless_ended ended c event).ending
-step_is c AtEnd event met = event_is event c.system
-step_is c (ends.NotBuilt place) event met = met
-step_is c (ends.Panic kind) event met = met
-
-pub course_is : (c : Course) (events : List Event) → IsMet c.ending → IsMet (course c events).ending
-course_is c [] met = met
-course_is c (event ∷ events) met = course_is (after_event c event) events (step_is c c.ending event met)
-
 -- A tick lets the run go on, or ends it in a panic, as its answer says.
-never_unbuilt : (stop : Option (Stop Unix)) (place : Unbuilt) → ending_of_pass stop ≡ ends.NotBuilt place → ⊥
-never_unbuilt None place e = cc e
-never_unbuilt (Some stop) place e = cc e
-
 pub tick_told : (m : System) (o : Ends) → (ticked_by (event_of Tick m).ending ≡ Ok tt → o ≡ AtEnd)
     → ((kind : PanicKind) → ticked_by (event_of Tick m).ending ≡ Err kind → o ≡ ends.Panic kind)
     → (event_of Tick m).ending ≡ o
@@ -157,7 +88,6 @@ tick_told m o goes stops = by (event_of Tick m).ending refl
   where
     by : (e : Ends) → (event_of Tick m).ending ≡ e → e ≡ o
     by AtEnd is = sym (goes (ap ticked_by is))
-    by (ends.NotBuilt place) is = absurd (never_unbuilt (tick_of m).log.stop place (sym (settled_ending (tick_of m)) ∙ is))
     by (ends.Panic kind) is = sym (stops kind (ap ticked_by is))
 
 -- a byte and the switches end no run

@@ -1,12 +1,15 @@
 -- fork(II): a child names the files that its parent does, and is where its parent is.
-use Rattle.std.proofs.Common.{◌≡◌, ◌<◌, ◌+◌, ◌∙◌, ℕ, suc, Bool, false, cond, ◌==◌, if◌then◌else◌, List, [], ◌∷◌, length, get_or, set, fold, count_by, Option, Some, None, slice_index, refl, sym, ap, inl, inr, arith}
+use Rattle.std.proofs.Common.{◌≡◌, ◌<◌, ◌+◌, ◌∙◌, ℕ, suc, Bool, cond, ◌==◌, if◌then◌else◌, List, [], ◌∷◌, length, get_or, set, fold, count_by, Option, Some, None, slice_index, refl, sym, ap, inl, inr, arith}
 use Rattle.std.proofs.lemmas.Bool.{cases_lt, cases_eq, ne_eqb, eq-eqb}
 use Rattle.std.proofs.lemmas.List.{get_or_past, get_or-set_same, get_or-set_other}
 use Rattle.std.proofs.lemmas.List.FromFn.{get_or-map-range_with_len, length-map-range_with_len}
 use Rattle.open_files.specs.declared.file.OpenFile.{OpenFile}
 use Rattle.open_files.specs.Files.{AreOpen, file_at, times, changed, with_more, shared}
-use Rattle.sys_files.specs.Sound.{is_of, numbers_of, HasNoPipe}
+use Rattle.pipe_ends.specs.declared.ends.Pipe.{Pipe}
+use Rattle.sys_files.specs.Sound.{is_of, numbers_of}
+use Rattle.sys_files.specs.Pipes.{ArePipes}
 use Rattle.sys_files.proofs.NumberLemmas.{free_times}
+use Rattle.sys_files.proofs.PipeLemmas.{pipes_alike}
 use Rattle.abstract_unix.specs.Unix.{Text}
 use Rattle.abstract_unix.specs.Whole.{Told, names, stands, Owes}
 use Rattle.abstract_unix.proofs.Owing.{names_set, stand_set, names_open, dir_referred, fifteen_set}
@@ -16,7 +19,7 @@ more_numbers : (n : ℕ) (o : Option OpenFile) → (o ≡ None → n ≡ 0) → 
 more_numbers n None none = let zero = none refl in omega (arith, zero)
 more_numbers n (Some file) none = refl
 
-shared_at : (files : List (Option OpenFile)) (mine : List ℕ) (entry : ℕ) → entry < length files
+pub shared_at : (files : List (Option OpenFile)) (mine : List ℕ) (entry : ℕ) → entry < length files
     → file_at (shared files mine) entry ≡ changed (with_more (times mine entry)) (file_at files entry)
 unfolding shared
 shared_at files mine entry low =
@@ -26,7 +29,7 @@ shared_length : (files : List (Option OpenFile)) (mine : List ℕ) → length (s
 unfolding shared
 shared_length files mine = length-map-range_with_len (λ entry. changed (with_more (times mine entry)) (file_at files entry)) 0 (length files)
 
-shared_numbers : (files : List (Option OpenFile)) (mine : List ℕ) (entry : ℕ) → AreOpen files mine
+pub shared_numbers : (files : List (Option OpenFile)) (mine : List ℕ) (entry : ℕ) → AreOpen files mine
     → numbers_of (file_at (shared files mine) entry) ≡ numbers_of (file_at files entry) + times mine entry
 shared_numbers files mine entry are = elim (cases_lt entry (length files)) [
   | inl low ↦
@@ -61,22 +64,19 @@ shared_inodes files mine ino =
     counts_like (is_of ino) (shared files mine) files 0 (shared_length files mine)
     (λ i low. ap (is_of ino) (shared_at files mine i (let same = shared_length files mine in omega (arith, low, same))) ∙ is_of_more ino (times mine i) (file_at files i))
 
--- no end of a pipe is among them
-no_pipe_more : (n : ℕ) (o : Option OpenFile) → ((file : OpenFile) → o ≡ Some file → file.kind.pipe ≡ false)
-    → (file : OpenFile) → changed (with_more n) o ≡ Some file → file.kind.pipe ≡ false
-no_pipe_more n None each file e = absurd (cc e)
-no_pipe_more n (Some old) each file e =
-    let same : with_more n old ≡ file = cc e in ap (λ (x : OpenFile). x.kind.pipe) (sym same) ∙ each old refl
-
-shared_no_pipe : (files : List (Option OpenFile)) (mine : List ℕ) → HasNoPipe files → HasNoPipe (shared files mine)
-shared_no_pipe files mine none entry file is = elim (cases_lt entry (length files)) [
-  | inl low ↦
-      no_pipe_more (times mine entry) (file_at files entry) (λ old there. none entry old there) file (sym (shared_at files mine entry low) ∙ is)
-  | inr past ↦ absurd (
-      let empty : file_at (shared files mine) entry ≡ None = get_or_past (shared files mine) entry None (let same = shared_length files mine in omega (arith, past, same)) in
-      let never : ◌≡◌ {A = Option OpenFile} None (Some file) = sym empty ∙ is in
-      cc never)
+-- Each entry has the file that it had, named more often, or none.
+pub shared_all : (files : List (Option OpenFile)) (mine : List ℕ) (entry : ℕ) → file_at (shared files mine) entry ≡ changed (with_more (times mine entry)) (file_at files entry)
+shared_all files mine entry = elim (cases_lt entry (length files)) [
+  | inl low ↦ shared_at files mine entry low
+  | inr past ↦
+      let long = shared_length files mine in
+      get_or_past (shared files mine) entry None (omega (arith, past, long)) ∙ ap (changed (with_more (times mine entry))) (sym (get_or_past files entry None past))
 ]
+
+-- So the same ends of pipes are open.
+shared_pipes : (files : List (Option OpenFile)) (pipes : List Pipe) (mine : List ℕ) → ArePipes files pipes → ArePipes (shared files mine) pipes
+shared_pipes files pipes mine are =
+    pipes_alike files (shared files mine) pipes (λ entry. with_more (times mine entry)) (λ entry file. refl) (λ entry file. refl) (shared_all files mine) are
 
 -- A reference is taken.
 pub more_within : (l : List ℕ) (d ino : ℕ) → d < length l → slice_index (set l d (slice_index l d + 1)) ino ≡ slice_index l ino + (if d == ino then 1 else 0)
@@ -100,23 +100,23 @@ more_refs l d ino some = elim (cases_lt d (length l)) [
 ]
 
 -- One more process, in a slot that is free, and one reference more.
-pub child_owes : (refs : List ℕ) (files : List (Option OpenFile)) (texts : List (Option Text)) (ts : List (Option Told)) (s c : ℕ) (t : Told) → Owes refs files texts ts
+pub child_owes : (refs : List ℕ) (files : List (Option OpenFile)) (pipes : List Pipe) (texts : List (Option Text)) (ts : List (Option Told)) (s c : ℕ) (t : Told) → Owes refs files pipes texts ts
     → get_or ts s None ≡ Some t → get_or ts c None ≡ None → c < length ts
-    → Owes (set refs t.dir (slice_index refs t.dir + 1)) (shared files t.files) texts (set ts c (Some t))
-child_owes refs files texts ts s c t owed at free within = record {
+    → Owes (set refs t.dir (slice_index refs t.dir + 1)) (shared files t.files) pipes texts (set ts c (Some t))
+child_owes refs files pipes texts ts s c t owed at free within = record {
   numbers = λ entry.
-      let more = shared_numbers files t.files entry (names_open refs files texts ts owed s t at) in
+      let more = shared_numbers files t.files entry (names_open refs files pipes texts ts owed s t at) in
       let before = owed.numbers entry in
       let change = names_set ts c (Some t) entry within in
       let none = ap (names entry) free in
       omega (arith, more, before, change, none);
   referred = λ ino.
-      let taken = more_refs refs t.dir ino (dir_referred refs files texts ts owed s t at) in
+      let taken = more_refs refs t.dir ino (dir_referred refs files pipes texts ts owed s t at) in
       let before = owed.referred ino in
       let same = shared_inodes files t.files ino in
       let change = stand_set ts c (Some t) ino within in
       let none = ap (stands ino) free in
       omega (arith, taken, before, same, change, none);
-  no_pipe = shared_no_pipe files t.files owed.no_pipe;
+  piped = shared_pipes files pipes t.files owed.piped;
   fifteen = fifteen_set ts c (Some t) owed.fifteen (λ x e. (let same : t ≡ x = cc e in ap (λ (y : Told). length y.files) (sym same) ∙ owed.fifteen s t at));
 }

@@ -145,6 +145,9 @@ module _ (processes : List (Option Process)) (clock : Clock) (texts : List (Opti
   pub runner_is : found_in processes s ≡ runner.process
   runner_is = ap (λ o. unwrap_or o no_process) runner.at
 
+  pub runner_there : process_in processes s ≡ Some (found_in processes s)
+  runner_there = runner.at ∙ ap Some (sym runner_is)
+
   pub runner_seat : seat_for (found_in processes s) ≡ t.seat
   runner_seat = ap seat_for runner_is ∙ runner.is
 

@@ -15,24 +15,24 @@ use Rattle.pick_rules.specs.Fits.{IsSleep}
 use Rattle.pick_rules.specs.Lawful.{Seen}
 use Rattle.log_laws.proofs.Fitting.{Apt, AptCame, apt_append, apt_more}
 use Rattle.log_laws.proofs.Seats.{Seats, InCall, Paused}
-use Rattle.log_laws.proofs.Lines.{trap_apt, sleep_apt, signal_in, signal_fits}
+use Rattle.log_laws.proofs.Lines.{sleep_apt, signal_in, signal_fits}
 use Rattle.sig_core.specs.declared.numbers.TheConstants.{SIGSYS}
 use Rattle.sig_core.specs.Signals.{is_signal}
 use Rattle.sys_procs.specs.Comes.{Comes}
 use Rattle.sys_procs.specs.Signals.{signalled}
 use Rattle.abstract_unix.specs.declared.ending.Ending.{Ending}
 use Rattle.abstract_unix.specs.declared.ends.Ends.TheVariants.{AtEnd}
-use Rattle.abstract_unix.specs.declared.ending.Ending.TheVariants.{Next, Trapped, Slept, Ended, NotBuilt, Panic}
+use Rattle.abstract_unix.specs.declared.ending.Ending.TheVariants.{Next, Trapped, Slept, Ended, Panic}
 use Rattle.abstract_unix.specs.Unix.{Unix, process_of, with_process}
 use Rattle.abstract_unix.specs.Errors.{error_number}
-use Rattle.abstract_unix.specs.Steps.{Steps, returns, not_built, signals, after_effects}
+use Rattle.abstract_unix.specs.Steps.{Steps, returns, signals, after_effects}
 use Rattle.abstract_unix.specs.Calls.{given_area, refused_area, with_area, answers, came_by, with_world}
-use Rattle.abstract_unix.specs.Turn.{end_effects, ending_at}
+use Rattle.abstract_unix.specs.Turn.{end_effects, ending_of}
 use Rattle.abstract_unix.proofs.Sitting.{seats_under, seats_of, kept_in}
 
 -- after a turn by which the run goes on its process is between two turns
 abbrev pub GoesOn : Unix → Ending → Seen → Type 0
-GoesOn u ending seen = (pc : ℕ) → ending_at pc ending ≡ AtEnd → Paused (seats_of u) seen
+GoesOn u ending seen = ending_of ending ≡ AtEnd → Paused (seats_of u) seen
 
 -- A panic comes of a demand alone: no turn ends in one by itself.
 abbrev pub IsCalm : Ending → Type 0
@@ -40,7 +40,6 @@ IsCalm Next = Unit {0}
 IsCalm Trapped = Unit {0}
 IsCalm (Slept pri chan) = Unit {0}
 IsCalm Ended = Unit {0}
-IsCalm NotBuilt = Unit {0}
 IsCalm (Panic kind) = ⊥
 
 -- a turn whose effects are apt, with the lines with which it ends
@@ -54,23 +53,17 @@ Begun s seen es u Trapped = Apt {W = Unix} (InCall s false (seats_of u)) seen es
 Begun s seen es u Next = AptSteps s seen (record { effects = es; unix = u; ending = Next })
 Begun s seen es u (Slept pri chan) = AptSteps s seen (record { effects = es; unix = u; ending = Slept pri chan })
 Begun s seen es u Ended = AptSteps s seen (record { effects = es; unix = u; ending = Ended })
-Begun s seen es u NotBuilt = AptSteps s seen (record { effects = es; unix = u; ending = NotBuilt })
 Begun s seen es u (Panic kind) = AptSteps s seen (record { effects = es; unix = u; ending = Panic kind })
 
 pub record AptBegun (s : ℕ) (seen : Seen) (steps : Steps) : Type 0 where
   pub begun : Begun s seen steps.effects steps.unix steps.ending
-
--- after what isn't built nothing goes on
-pub nothing_built : (s : ℕ) (seen : Seen) (u : Unix) → AptSteps s seen (not_built u)
-unfolding Apt
-nothing_built s seen u = record { apt = λ pc b. absurd (cc b); calm = tt }
 
 -- a turn by which it goes on
 pub ends_in : (s : ℕ) (seen : Seen) (u : Unix) (es : List (Effect Unix)) (ending : Ending) → IsCalm ending
     → Apt (Paused (seats_of u)) seen (es ++ end_effects s ending)
     → AptSteps s seen (record { effects = es; unix = u; ending = ending })
 ends_in s seen u es ending calm a = record {
-  apt = apt_more (Paused (seats_of u)) (GoesOn u ending) seen (es ++ end_effects s ending) (λ now p pc b. p) a;
+  apt = apt_more (Paused (seats_of u)) (GoesOn u ending) seen (es ++ end_effects s ending) (λ now p b. p) a;
   calm = calm;
 }
 

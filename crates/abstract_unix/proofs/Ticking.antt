@@ -1,17 +1,16 @@
 -- A signal that a tick delivers: its effects are apt, and no row says that a call waits.
-use Rattle.std.proofs.Common.{◌≡◌, ◌∙◌, ◌==◌, ℕ, zero, suc, nat_le, Bool, true, false, cond, List, [], ◌∷◌, ◌++◌, append-nil, map, get_or, set, option_map, Option, Some, None, refl, sym, ap, subst, inr}
+use Rattle.std.proofs.Common.{◌≡◌, ◌∙◌, ◌==◌, ℕ, zero, suc, nat_le, Bool, true, false, cond, List, [], ◌∷◌, append-nil, get_or, set, option_map, Option, Some, None, refl, sym, ap, subst, inr}
 use Rattle.std.proofs.lemmas.List.{set-get_or}
-use Rattle.v6_base.specs.declared.entry.PanicKind.TheVariants as panic
 use Rattle.v6_base.specs.declared.entry.Place.{Place}
 use Rattle.v6_base.specs.declared.entry.Place.TheVariants.{Core, Swap}
 use Rattle.v6_base.specs.declared.entry.Entry.TheVariants as line
 use Rattle.v6_base.specs.Trace.{Log}
 use Rattle.pick_rules.specs.declared.row.TableRow.{TableRow}
 use Rattle.pick_rules.specs.declared.table.Table.{Table}
-use Rattle.pick_rules.specs.Table.{row_at, empty_row, is_loaded, with_row}
+use Rattle.pick_rules.specs.Table.{row_at, empty_row, is_loaded}
 use Rattle.pick_rules.specs.Board.{TextPlace, Board, placed}
-use Rattle.pick_rules.specs.Apply.{applied, in_table, change_row, change_text, enters_core, leaves_core, without_place, at_place}
-use Rattle.pick_rules.specs.Effects.{Effect, Show, Size, Fork, Text, Image, Exit, Lets, image_at, came, lifted}
+use Rattle.pick_rules.specs.Apply.{applied, in_table, change_row, change_text, leaves_core, without_place, at_place}
+use Rattle.pick_rules.specs.Effects.{Effect, Show, Size, Fork, Text, Image, Exit, Lets, image_at, came}
 use Rattle.pick_rules.specs.Lawful.{Seen, seen_after}
 use Rattle.pick_rules.specs.Sleepers.{made_ready, runout_told}
 use Rattle.pick_rules.proofs.Shapes.{shape_at}
@@ -23,16 +22,15 @@ use Rattle.sig_core.specs.Signals.{handler_of, due}
 use Rattle.sig_core.specs.Delivery.{makes_core, signal_stack}
 use Rattle.sys_files.specs.Did.{Did}
 use Rattle.sys_files.specs.Core.{core_file}
-use Rattle.sys_procs.specs.World.{World}
 use Rattle.sys_procs.specs.Process.{Process}
 use Rattle.sys_procs.specs.Break.{grow, grown_or_not, grown_stack, expands}
-use Rattle.abstract_unix.specs.declared.ending.Ending.TheVariants as ending
 use Rattle.abstract_unix.specs.Unix.{Unix, process_of}
 use Rattle.abstract_unix.specs.Steps.{Steps}
 use Rattle.abstract_unix.specs.Calls.{handed_of, world_of, grows, exits_with}
-use Rattle.abstract_unix.specs.Delivery.{heeds, calls_routine, catches, signal_status, ends_after, ends_by, delivers_if, delivers_due}
+use Rattle.abstract_unix.specs.Delivery.{heeds, catches, signal_status, ends_after, ends_by, delivers_if, delivers_due}
 use Rattle.abstract_unix.proofs.Sitting.{seats_of}
-use Rattle.abstract_unix.proofs.Steps.{AptSteps, AptBegun}
+use Rattle.abstract_unix.proofs.Steps.{AptSteps}
+use Rattle.abstract_unix.proofs.Quiet.{HasNumbers}
 use Rattle.abstract_unix.proofs.Rows.{Calling}
 use Rattle.abstract_unix.proofs.Delivering.{core_ends, routine_apt, heeded}
 use Rattle.abstract_unix.proofs.Executing.{grown_or_not_apt}
@@ -148,11 +146,11 @@ module _ (s : ℕ) (seen : Seen) where
   exits_paused : (u : Unix) (status : ℕ) → AptSteps s seen (exits_with u s status) → Apt (Paused (seats_of (exits_with u s status).unix)) seen (exits_with u s status).effects
   exits_paused u status a =
       let steps : Steps = exits_with u s status in
-      apt_more _ (Paused (seats_of steps.unix)) seen steps.effects (λ now p. p 0 refl)
+      apt_more _ (Paused (seats_of steps.unix)) seen steps.effects (λ now p. p refl)
       (subst (Apt {W = Unix} _ seen) (append-nil steps.effects) a.apt)
 
-  ends_paused : (u : Unix) (sig : ℕ) → Calling s (world_of u) seen → Apt (Paused (seats_of (ends_by u s sig).unix)) seen (ends_by u s sig).effects
-  ends_paused u sig i = by (makes_core sig)
+  ends_paused : (u : Unix) (sig : ℕ) → HasNumbers (handed_of u (process_of u s)) → Calling s (world_of u) seen → Apt (Paused (seats_of (ends_by u s sig).unix)) seen (ends_by u s sig).effects
+  ends_paused u sig numbers i = by (makes_core sig)
     where
       core : Did
       core = core_file (handed_of u (process_of u s)) u.clock.time
@@ -161,8 +159,8 @@ module _ (s : ℕ) (seen : Seen) where
       ended b = cond b (ends_after u s sig core) (exits_with u s (signal_status u s sig))
 
       by : (b : Bool) → Apt (Paused (seats_of (ended b).unix)) seen (ended b).effects
-      by true = exits_paused _ _ (core_ends s seen u sig i)
-      by false = exits_paused u (signal_status u s sig) (exits_apt s u seen (signal_status u s sig) i)
+      by true = exits_paused _ _ (core_ends s seen u sig numbers i)
+      by false = exits_paused u (signal_status u s sig) (exits_apt s u seen (signal_status u s sig) numbers i)
 
   sizes_of : (u : Unix) (sp : ℕ) → AreSizes s (grows u (grown_or_not (world_of u) s (grow (world_of u) s sp))).effects
   unfolding grow
@@ -189,13 +187,13 @@ module _ (s : ℕ) (seen : Seen) where
   if_paused true x y a c = a
   if_paused false x y a c = c
 
-  pub due_paused : (u : Unix) → Calling s (world_of u) seen → calls_at seen.board.table s ≡ false
+  pub due_paused : (u : Unix) → HasNumbers (handed_of u (process_of u s)) → Calling s (world_of u) seen → calls_at seen.board.table s ≡ false
       → Apt (Paused (seats_of (delivers_due u s).unix)) seen (delivers_due u s).effects
   unfolding delivers_due Apt
-  due_paused u i out = by (due (process_of u s).row (process_of u s).u)
+  due_paused u numbers i out = by (due (process_of u s).row (process_of u s).u)
     where
       by : (o : Option ℕ) → Apt (Paused (seats_of (delivers_if u s o).unix)) seen (delivers_if u s o).effects
       by None = call_paused s (seats_of u) seen i out
       by (Some sig) =
           if_paused (handler_of (process_of u s).u sig == 0) (ends_by (heeds u s) s sig) (catches (heeds u s) s sig)
-          (ends_paused (heeds u s) sig (heeded s seen u i)) (caught_paused (heeds u s) sig (heeded s seen u i) out)
+          (ends_paused (heeds u s) sig (record { count = numbers.count; pipes = numbers.pipes }) (heeded s seen u i)) (caught_paused (heeds u s) sig (heeded s seen u i) out)

@@ -1,5 +1,5 @@
 -- The turn of each slot is apt.
-use Rattle.std.proofs.Common.{◌≡◌, ◌∙◌, ◌==◌, ◌||◌, ℕ, not, Bool, true, false, cond, List, [], Option, Some, None, slice_index, replicate, arith, set, refl, sym, ap, subst}
+use Rattle.std.proofs.Common.{◌≡◌, ◌∙◌, ◌==◌, ℕ, not, Bool, true, false, cond, List, [], Option, Some, slice_index, replicate, arith, set, refl, sym, ap, subst}
 use Rattle.pdp_step.specs.declared.outcome.Kind.{Kind}
 use Rattle.pdp_step.specs.declared.outcome.Kind.TheVariants as kind
 use Rattle.pdp_step.specs.declared.outcome.Outcome.{Outcome}
@@ -10,7 +10,8 @@ use Rattle.log_laws.proofs.Fitting.{Apt}
 use Rattle.log_laws.proofs.Seats.{Seats, with_seat, InTurn, InCall, Paused, busy_agrees}
 use Rattle.log_laws.proofs.Lines.{seat_stays}
 use Rattle.u_area.specs.declared.area.UArea.{UArea}
-use Rattle.sys_files.specs.Handed.{Handed}
+use Rattle.sys_files.specs.Handed.{Handed, file_of}
+use Rattle.sys_files.specs.Moving.{resumes}
 use Rattle.sys_procs.specs.Process.{Process, register, image_of}
 use Rattle.sys_procs.specs.TextTable.{Text}
 use Rattle.sys_procs.specs.World.{Clock, World, change}
@@ -19,7 +20,6 @@ use Rattle.sys_procs.specs.Resume.{awake, resume_proc}
 use Rattle.v6_base.specs.declared.answer.Answer.TheVariants.{Fail}
 use Rattle.v6_base.specs.declared.errno.Errno.TheVariants.{ENOSYS}
 use Rattle.sig_core.specs.declared.numbers.TheConstants.{SIGINS, SIGTRC, SIGIOT, SIGEMT, SIGBUS}
-use Rattle.pick_rules.specs.Effects.{came}
 use Rattle.open_files.specs.declared.file.OpenFile.{OpenFile}
 use Rattle.abstract_unix.specs.declared.asked.Asked.{Asked}
 use Rattle.abstract_unix.specs.declared.ending.Ending.{Ending}
@@ -31,15 +31,13 @@ use Rattle.abstract_unix.specs.declared.calls.SystemCall.{SystemCall}
 use Rattle.abstract_unix.specs.declared.calls.SystemCall.TheVariants.{Indirect, Exit, Fork, Unknown, OnFiles, OnProcesses}
 use Rattle.abstract_unix.specs.declared.calls.Sysent.{Sysent}
 use Rattle.abstract_unix.specs.Unix.{Unix, process_of, with_process}
-use Rattle.sys_procs.specs.Times.{pending_sleep}
-use Rattle.sys_procs.specs.Wait.{pending_wait}
-use Rattle.abstract_unix.specs.Steps.{Steps, not_built}
-use Rattle.abstract_unix.specs.Calls.{handed_of, world_of, with_area, entered_area, words_passed, asked, came_by, shares, forks, file_row, process_row, does_call, sysent_of, does_if_built, system_call, pending_read, resumed}
+use Rattle.abstract_unix.specs.Steps.{Steps}
+use Rattle.abstract_unix.specs.Calls.{handed_of, world_of, with_area, entered_area, words_passed, asked, did_by, came_by, shares, forks, file_row, process_row, does_call, sysent_of, does_asked, system_call, is_on_files, resumed}
 use Rattle.abstract_unix.specs.Turn.{machine_of, with_machine, faults, comes_to, instruction, is_user, passes_setd, begins_turn, turn}
-use Rattle.abstract_unix.proofs.Sitting.{seat_for, seats_in, seats_of, found_in, runner_seat, runner_alive, put_in, kept_in, changed_in}
-use Rattle.abstract_unix.proofs.Steps.{AptSteps, Begun, AptBegun, nothing_built, returns_apt, signals_apt, answers_apt, came_apt}
-use Rattle.abstract_unix.proofs.Quiet.{Calm, same_call, calm_walks, resume_calm}
-use Rattle.abstract_unix.proofs.FileRows.{walk_row}
+use Rattle.abstract_unix.proofs.Sitting.{seat_for, seats_in, seats_of, found_in, runner_seat, runner_there, runner_alive, put_in, kept_in, changed_in}
+use Rattle.abstract_unix.proofs.Steps.{AptSteps, Begun, AptBegun, returns_apt, signals_apt, answers_apt, came_apt}
+use Rattle.abstract_unix.proofs.Quiet.{HasNumbers, Calm, same_call, calm_walks, resume_calm}
+use Rattle.abstract_unix.proofs.StepRows.{step_row}
 use Rattle.abstract_unix.proofs.ProcessRows.{plain_row, resume_plain}
 use Rattle.abstract_unix.proofs.Rows.{FineComes, Calling, plain_fine}
 use Rattle.abstract_unix.proofs.Posting.{kill_fine}
@@ -48,10 +46,11 @@ use Rattle.sys_procs.specs.Exit.{exit_status}
 use Rattle.abstract_unix.proofs.Exiting.{did_apt, no_pending, exits_apt}
 use Rattle.abstract_unix.proofs.Executing.{break_fine, grow_apt, exec_fine}
 use Rattle.abstract_unix.proofs.Delivering.{ended_apt}
+use Rattle.abstract_unix.proofs.Tidy.{IsTidy, tidy_numbers, tidy_end}
 
 -- a row of a call on files
-calm_row : (call : FileCall) (h : Handed) (args : List ℕ) (now : ℕ) → Calm h.u (file_row call h args now)
-calm_row call h args now = walk_row (calm_walks h.u) call h args now tt (same_call h.u)
+calm_row : (call : FileCall) (h : Handed) (s : ℕ) (args : List ℕ) (now : ℕ) → HasNumbers h → Calm h.u s (file_row call h s args now)
+calm_row call h s args now numbers = step_row (calm_walks h.u s) call h args now tt (record { same = same_call h.u; numbers = numbers })
 
 -- a row of a call on processes
 fine_row : (call : ProcessCall) (s : ℕ) (seen : Seen) (w : World) (args : List ℕ) → Calling s w seen → FineComes w.limit s seen (process_row call w s args)
@@ -75,7 +74,6 @@ module _ (s : ℕ) (seen : Seen) where
       by ending.Trapped b = b
       by (ending.Slept pri chan) b = record { apt = b.apt; calm = b.calm }
       by ending.Ended b = record { apt = b.apt; calm = b.calm }
-      by ending.NotBuilt b = record { apt = b.apt; calm = b.calm }
       by (ending.Panic kind) b = record { apt = b.apt; calm = b.calm }
 
   -- a fork: all slots are used, or a child's image wants a place
@@ -84,28 +82,27 @@ module _ (s : ℕ) (seen : Seen) where
       let came : AptBegun s seen (came_by u s (fork_one (world_of u) s)) = came_apt s seen u (fork_one (world_of u) s) (fork_fine s seen (world_of u) i).fine in
       shared_apt (came_by u s (fork_one (world_of u) s)) (shares u.files (process_of u s).u.files (fork_one (world_of u) s).answer) came
 
-  call_apt : (u : Unix) (call : SystemCall) (args : List ℕ) → Calling s (world_of u) seen
+  call_apt : (u : Unix) (call : SystemCall) (args : List ℕ) → HasNumbers (handed_of u (process_of u s)) → Calling s (world_of u) seen
       → AptBegun s seen (does_call u s call args)
   unfolding Apt
-  call_apt u Indirect args i = returns_apt s seen u i
-  call_apt u Exit args i = record { begun = exits_apt s u seen (exit_status (process_of u s)) i }
-  call_apt u Fork args i = forks_apt u i
-  call_apt u Unknown args i = answers_apt s seen u [] (Fail ENOSYS) i
-  call_apt u (OnFiles call) args i =
-      did_apt s u seen false (process_of u s).u (file_row call (handed_of u (process_of u s)) args u.clock.time) i (same_call (process_of u s).u).size (no_pending s u seen i)
-      (calm_row call (handed_of u (process_of u s)) args u.clock.time)
-  call_apt u (OnProcesses call) args i = came_apt s seen u (process_row call (world_of u) s args) (fine_row call s seen (world_of u) args i).fine
+  call_apt u Indirect args numbers i = returns_apt s seen u i
+  call_apt u Exit args numbers i = record { begun = exits_apt s u seen (exit_status (process_of u s)) numbers i }
+  call_apt u Fork args numbers i = forks_apt u i
+  call_apt u Unknown args numbers i = answers_apt s seen u [] (Fail ENOSYS) i
+  call_apt u (OnFiles call) args numbers i =
+      did_apt s u seen false (process_of u s).u (file_row call (handed_of u (process_of u s)) s args u.clock.time) i (same_call (process_of u s).u).size (no_pending s u seen i)
+      (calm_row call (handed_of u (process_of u s)) s args u.clock.time numbers)
+  call_apt u (OnProcesses call) args numbers i = came_apt s seen u (process_row call (world_of u) s args) (fine_row call s seen (world_of u) args i).fine
 
-  built_apt : (u : Unix) (a : Asked) (o : Option Sysent) → Calling s (world_of u) seen → AptBegun s seen (does_if_built u s a o)
-  built_apt u a None i = record { begun = nothing_built s seen u }
-  built_apt u a (Some entry) i =
-      call_apt (with_area u s (entered_area (words_passed a entry.count))) entry.call a.args
+  asked_apt : (u : Unix) (a : Asked) (entry : Sysent) → HasNumbers (handed_of u (process_of u s)) → Calling s (world_of u) seen → AptBegun s seen (does_asked u s a entry)
+  asked_apt u a entry numbers i =
+      call_apt (with_area u s (entered_area (words_passed a entry.count))) entry.call a.args (record { count = numbers.count; pipes = numbers.pipes })
       (kept_in u.processes u.clock u.texts u.limit s false seen (record (process_of u s) { u = entered_area (words_passed a entry.count) (process_of u s).u }) i refl refl refl refl)
 
-  called_apt : (u : Unix) (number : ℕ) → Calling s (world_of u) seen
+  called_apt : (u : Unix) (number : ℕ) → HasNumbers (handed_of u (process_of u s)) → Calling s (world_of u) seen
       → AptBegun s seen (system_call number u s)
-  called_apt u number i =
-      let a : Asked = asked (image_of u.texts (process_of u s)) (register (process_of u s) 7) number in built_apt u a (sysent_of a.number) i
+  called_apt u number numbers i =
+      let a : Asked = asked (image_of u.texts (process_of u s)) (register (process_of u s) 7) number in asked_apt u a (sysent_of a.number) numbers i
 
   -- its turn begins
   begins : (u : Unix) → Paused (seats_of u) seen → (t : InTurn s (seats_of u) seen.board)
@@ -120,12 +117,25 @@ module _ (s : ℕ) (seen : Seen) where
       changed_in u.processes u.clock u.texts u.limit s t.seat.calling seen (awake (process_of u s)) (begins u p t)
       (runner_alive u.processes u.clock u.texts u.limit s seen.board t) refl refl
 
-  resumed_apt : (u : Unix) → Paused (seats_of u) seen → InTurn s (seats_of u) seen.board → AptBegun s seen (resumed u s)
-  resumed_apt u p t =
-      let old : UArea = record (process_of u s).u { pending = 0; call = replicate 8 0 } in
-      if_apt ((process_of u s).u.pending == pending_read) _ _ (did_apt s u seen t.seat.calling old _ (begins u p t) (record { «data» = refl; stack = refl }) refl (resume_calm (handed_of u (process_of u s)))) (
-      if_apt (((process_of u s).u.pending == pending_sleep) || ((process_of u s).u.pending == pending_wait)) _ (not_built u) (came_apt s seen u (resume_proc (world_of u) s) (plain_fine s seen _ _ (resume_plain s (world_of u)) (wakes u p t)).fine)
-      (record { begun = nothing_built s seen u }))
+  resumed_apt : (u : Unix) → IsTidy u → Paused (seats_of u) seen → InTurn s (seats_of u) seen.board → AptBegun s seen (resumed u s)
+  resumed_apt u tidy p t = by (is_on_files (process_of u s).u.pending) refl
+    where
+      old : UArea
+      old = record (process_of u s).u { pending = 0; call = replicate 8 0 }
+
+      at_end : is_on_files (process_of u s).u.pending ≡ true → ((process_of u s).u.pending == 1) ≡ false
+          → (file_of (handed_of u (process_of u s)) (slice_index (process_of u s).u.call 0)).kind.pipe ≡ true
+      at_end on other =
+          tidy_end u s tidy (runner_there u.processes u.clock u.texts u.limit s seen.board t)
+          (runner_alive u.processes u.clock u.texts u.limit s seen.board t) on other
+
+      by : (b : Bool) → is_on_files (process_of u s).u.pending ≡ b
+          → AptBegun s seen (cond b (did_by u s (resumes (handed_of u (process_of u s)) s u.clock.time)) (came_by u s (resume_proc (world_of u) s)))
+      by true on =
+          did_apt s u seen t.seat.calling old (resumes (handed_of u (process_of u s)) s u.clock.time) (begins u p t) (record { «data» = refl; stack = refl }) refl
+          (resume_calm (handed_of u (process_of u s)) s u.clock.time (at_end on) (tidy_numbers u s tidy))
+      by false on =
+          came_apt s seen u (resume_proc (world_of u) s) (plain_fine s seen _ _ (resume_plain s (world_of u)) (wakes u p t)).fine
 
   -- another process that sits as this one did
   pub same_seats : (processes : List (Option Process)) (clock : Clock) (texts : List (Option Text)) (limit : ℕ) (p : Process)
@@ -138,11 +148,11 @@ module _ (s : ℕ) (seen : Seen) where
       ∙ ap (λ slots. record v { slots = slots }) (sym (seat_stays s v seen.board t))
 
   -- an instruction of a process in user mode
-  instruction_apt : (u : Unix) → Paused (seats_of u) seen → InTurn s (seats_of u) seen.board
+  instruction_apt : (u : Unix) → HasNumbers (handed_of u (process_of u s)) → Paused (seats_of u) seen → InTurn s (seats_of u) seen.board
       → is_user (process_of u s) ≡ true
       → AptBegun s seen (instruction u s)
   unfolding Apt
-  instruction_apt u p t user = by step.outcome
+  instruction_apt u numbers p t user = by step.outcome
     where
       step : Stepped
       step = instr (machine_of u.texts (process_of u s))
@@ -160,8 +170,8 @@ module _ (s : ℕ) (seen : Seen) where
       i = subst (λ v. InCall s false v seen) (sym same) (subst (λ c. InCall s c (seats_of u) seen) calls (begins u p t))
 
       by : (o : Outcome) → AptBegun s seen (comes_to now s o)
-      by outcome.Next = record { begun = record { apt = λ pc b. subst (λ v. Paused v seen) (sym same) p; calm = tt } }
-      by (outcome.Call number) = called_apt now number i
+      by outcome.Next = record { begun = record { apt = λ b. subst (λ v. Paused v seen) (sym same) p; calm = tt } }
+      by (outcome.Call number) = called_apt now number (record { count = numbers.count; pipes = numbers.pipes }) i
       by (outcome.Fault k) = fault_apt k
         where
           fault_apt : (k : Kind) → AptBegun s seen (faults now s k)
@@ -173,11 +183,12 @@ module _ (s : ℕ) (seen : Seen) where
           fault_apt kind.Iot = signals_apt s seen now SIGIOT [] refl (omega arith) (omega arith) i
           fault_apt kind.Emt = signals_apt s seen now SIGEMT [] refl (omega arith) (omega arith) i
 
-  pub turn_apt : (u : Unix) → Paused (seats_of u) seen → InTurn s (seats_of u) seen.board
-      → AptSteps s seen (turn (record { unix = u; board = seen.board }) s)
-  turn_apt u p t = ended_apt s seen (begins_turn (record { unix = u; board = seen.board }) s) (by (is_user (process_of u s)) refl)
+  pub turn_apt : (u : Unix) → IsTidy u
+      → HasNumbers (handed_of (begins_turn (record { unix = u; board = seen.board }) s).unix (process_of (begins_turn (record { unix = u; board = seen.board }) s).unix s))
+      → Paused (seats_of u) seen → InTurn s (seats_of u) seen.board → AptSteps s seen (turn (record { unix = u; board = seen.board }) s)
+  turn_apt u tidy numbers p t = ended_apt s seen (begins_turn (record { unix = u; board = seen.board }) s) numbers (by (is_user (process_of u s)) refl)
     where
       by : (x : Bool) → is_user (process_of u s) ≡ x
           → AptBegun s seen (cond x (instruction u s) (resumed u s))
-      by true e = instruction_apt u p t e
-      by false e = resumed_apt u p t
+      by true e = instruction_apt u (tidy_numbers u s tidy) p t e
+      by false e = resumed_apt u tidy p t

@@ -28,9 +28,9 @@ use Rattle.sys_procs.specs.Comes.{Comes}
 use Rattle.sys_procs.specs.Break.{break_at, grow}
 use Rattle.sys_procs.specs.ExecFile.{exec_file}
 use Rattle.sys_procs.specs.Ids.{pid_of, set_uid, get_uid, set_gid, get_gid, switches, no_op, nice_to}
-use Rattle.sys_procs.specs.Times.{time_now, set_time, times_to, sleep_for, pending_sleep}
+use Rattle.sys_procs.specs.Times.{time_now, set_time, times_to, sleep_for}
 use Rattle.sys_procs.specs.Fork.{fork_one}
-use Rattle.sys_procs.specs.Wait.{wait_child, pending_wait}
+use Rattle.sys_procs.specs.Wait.{wait_child}
 use Rattle.sys_procs.specs.Exit.{exit_status, end_proc}
 use Rattle.sys_procs.specs.Resume.{resume_proc}
 use Rattle.sys_procs.specs.Signals.{kill_to, signal_set}

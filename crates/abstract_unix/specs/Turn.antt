@@ -18,7 +18,7 @@ use Rattle.pick_rules.specs.Apply.{applied}
 use Rattle.pick_rules.specs.Effects.{Effect, Show}
 use Rattle.pick_rules.specs.Logged.{Logged, Stop, nothing_logged, logged, left_by}
 use Rattle.swap_sched.specs.Pass.{pass, over}
-use Rattle.sys_procs.specs.Process.{Process, with_state, register, image_of}
+use Rattle.sys_procs.specs.Process.{Process, with_state, image_of}
 use Rattle.abstract_unix.specs.declared.ending.Ending.{Ending}
 use Rattle.abstract_unix.specs.declared.ending.Ending.TheVariants as ending
 use Rattle.abstract_unix.specs.declared.ends.Ends.{Ends}

@@ -1,6 +1,6 @@
 //! The system calls that are built, in the order of their numbers: section II of the manual; `sysent` in Lions'
 //! Commentary, `sysent.c`.
-ghost use Rattle.std.specs.Prelude.{◌≡◌, ◌⊎◌, Some, None, IfOk, IfErr};
+ghost use Rattle.std.specs.Prelude.{◌≡◌, ◌<◌, ◌≤◌, ◌⊎◌, Some, None, IfOk, IfErr};
 ghost use Rattle.v6_base.specs.Trace.{Took};
 ghost use Rattle.fs_laws.specs.Rest.{SameRest};
 ghost use Rattle.sys_files.specs.Handed as parts;
@@ -92,8 +92,21 @@ pub struct Sysent {
 
 /// The entry of a number. What has no line in the table is no call, and takes no arguments.
 #[inline]
-#[tactic(auto, unfolding(crate::specs::Calls::sysent_of))]
 pub fn sysent_of(number: u8) -> Sysent
+    ensures { result ≡ sysent_of number }
+{
+    if number < 24 {
+        first_sysent_of(number)
+    } else {
+        later_sysent_of(number)
+    }
+}
+
+/// The entry of a number of the first half of the table.
+#[inline]
+#[tactic(auto, unfolding(crate::specs::Calls::sysent_of))]
+fn first_sysent_of(number: u8) -> Sysent
+    requires { number < 24 }
     ensures { result ≡ sysent_of number }
 {
     match number {
@@ -121,6 +134,18 @@ pub fn sysent_of(number: u8) -> Sysent
         21 => entry(3, SystemCall::Unknown),
         22 => entry(1, SystemCall::Unknown),
         23 => on_processes(0, ProcessCall::Setuid),
+        _ => entry(0, SystemCall::Unknown),
+    }
+}
+
+/// The entry of a number of the second half.
+#[inline]
+#[tactic(auto, unfolding(crate::specs::Calls::sysent_of))]
+fn later_sysent_of(number: u8) -> Sysent
+    requires { 24 ≤ number }
+    ensures { result ≡ sysent_of number }
+{
+    match number {
         24 => on_processes(0, ProcessCall::Getuid),
         25 => on_processes(0, ProcessCall::Stime),
         26 => entry(3, SystemCall::Unknown),

@@ -1,16 +1,19 @@
--- What a call on files shows is little: lines of the log that wake somebody, or bytes of the console. `wakeup` and
--- `ttyoutput` in Lions' Commentary, `slp.c` and `tty.c`.
-use Rattle.std.proofs.Common.{◌≡◌, ◌+◌, ◌-◌, ◌*◌, ◌%◌, ◌≤◌, ◌&&◌, ℕ, zero, suc, Bool, true, false, cond, List, [], ◌∷◌, ◌++◌, length, map, Option, Some, None, Result, Ok, Err, nat_le, ◌<◌, ◌||◌, replicate, refl, sym, ap, ◌∙◌, subst, arith, length-append}
+-- What a call on files shows is little: lines of the log that wake somebody or send a signal, or bytes of the console. `wakeup`,
+-- `psignal` and `ttyoutput` in Lions' Commentary, `slp.c`, `sig.c` and `tty.c`.
+use Rattle.std.proofs.Common.{◌≡◌, ◌⊎◌, inl, ◌+◌, ◌-◌, ◌*◌, ◌%◌, ◌≤◌, ◌&&◌, ℕ, zero, suc, Bool, true, false, cond, List, [], ◌∷◌, ◌++◌, length, map, Option, Some, None, Result, Ok, Err, nat_le, ◌<◌, ◌||◌, replicate, refl, sym, ap, ◌∙◌, subst, arith, length-append}
 use Rattle.std.specs.List.{All}
 use Rattle.std.proofs.lemmas.Bool.{lt-leb}
 use Rattle.std.proofs.lemmas.List.{length-replicate, append-nil, length-map}
-use Rattle.std.proofs.lemmas.List.Elements.{All-nil, All-cons}
+use Rattle.std.proofs.lemmas.List.Elements.{All-nil, All-cons, All-append, All-head, All-tail}
 use Rattle.v6_base.specs.Image.{Image}
 use Rattle.v6_base.specs.Access.{load_byte}
 use Rattle.v6_base.specs.declared.space.Trap.{Trap}
 use Rattle.v6_base.specs.declared.entry.Chan.{Chan}
 use Rattle.v6_base.specs.declared.entry.Entry.{Entry}
-use Rattle.v6_base.specs.declared.entry.Entry.TheVariants.{Wake}
+use Rattle.v6_base.specs.declared.entry.Chan.TheVariants.{RunIn, RunOut, Tout, Keys, Read}
+use Rattle.v6_base.specs.declared.entry.Chan.TheVariants as channel
+use Rattle.v6_base.specs.declared.entry.Entry.TheVariants.{Wake, Signal}
+use Rattle.sig_core.specs.declared.numbers.TheConstants.{SIGPIPE}
 use Rattle.v6_base.specs.Tape.{Recording, is_full, taken_on}
 use Rattle.v6_base.specs.Trace.{Item, Byte, Log, Took, sent, line_bytes, entries_of}
 use Rattle.v6_base.proofs.Took.{line_bytes-sent, line_bytes-append, entries_of-sent, entries_of-append}
@@ -21,34 +24,49 @@ use Rattle.tty_line.specs.Output.{escaped, in_capitals, shown_byte, shown_bytes,
 -- One call shows no more lines of the log, and no more bytes of the console: a write has at most 65,535 bytes, and each
 -- of these shows at most 8.
 abbrev pub most_entries : ℕ
-most_entries = 31
+most_entries = 45
 
 abbrev pub most_bytes : ℕ
 most_bytes = 524280
 
--- a line of the log that wakes somebody
-abbrev pub IsWake : Entry → Type 0
-IsWake entry = (chan : Chan) × (entry ≡ Wake chan)
+-- A channel on which a call on files wakes, or in a pipe sleeps: of keys, or of a pipe's inode of which this is so.
+abbrev pub IsOfFiles : (ℕ → Type 0) → Chan → Type 0
+IsOfFiles Named RunIn = ⊥
+IsOfFiles Named RunOut = ⊥
+IsOfFiles Named Tout = ⊥
+IsOfFiles Named Keys = Unit {0}
+IsOfFiles Named (channel.Wait slot) = ⊥
+IsOfFiles Named (Read ino) = Named ino
+IsOfFiles Named (channel.Write ino) = Named ino
+
+-- A line of a call on files of the process of a slot: somebody is woken, or this process has the signal of a pipe that nobody
+-- reads.
+abbrev pub IsLineOf : (ℕ → Type 0) → ℕ → Entry → Type 0
+IsLineOf Named slot entry = ((chan : Chan) × (entry ≡ Wake chan) × IsOfFiles Named chan) ⊎ (entry ≡ Signal slot SIGPIPE)
 
 -- no byte goes out on another line than that of the console
 abbrev pub IsOnConsole : Item → Type 0
 IsOnConsole (Byte line byte) = line ≡ 0
 IsOnConsole (Log entry) = Unit {0}
 
+-- the same of any inodes
+abbrev pub IsOfCall : ℕ → Entry → Type 0
+IsOfCall slot entry = IsLineOf (λ ino. Unit {0}) slot entry
+
 -- Items that a tape has room for. They are as well told by their bytes and their entries apart: the bytes come first.
-pub record Fits (items : List Item) : Type 0 where
+pub record Fits (slot : ℕ) (items : List Item) : Type 0 where
   pub few_entries : length (entries_of items) ≤ most_entries
   pub few_bytes : length (line_bytes 0 items) ≤ most_bytes
-  pub only_wakes : All IsWake (entries_of items)
+  pub only_lines : All (IsOfCall slot) (entries_of items)
   pub only_console : All IsOnConsole items
   pub in_order : items ≡ sent 0 (line_bytes 0 items) ++ map Log (entries_of items)
 
 -- nothing is shown
-pub fits_none : Fits []
-fits_none = record {
+pub fits_none : (slot : ℕ) → Fits slot []
+fits_none slot = record {
   few_entries = omega arith;
   few_bytes = omega arith;
-  only_wakes = All-nil IsWake;
+  only_lines = All-nil (IsOfCall slot);
   only_console = All-nil IsOnConsole;
   in_order = refl;
 }
@@ -58,17 +76,17 @@ sent_on_console : (bytes : List ℕ) → All IsOnConsole (sent 0 bytes)
 sent_on_console [] = All-nil IsOnConsole
 sent_on_console (byte ∷ bytes) = All-cons IsOnConsole (Byte 0 byte) (sent 0 bytes) refl (sent_on_console bytes)
 
-pub fits_bytes : (bytes : List ℕ) → length bytes ≤ most_bytes → Fits (sent 0 bytes)
-fits_bytes bytes few =
+pub fits_bytes : (slot : ℕ) (bytes : List ℕ) → length bytes ≤ most_bytes → Fits slot (sent 0 bytes)
+fits_bytes slot bytes few =
     let none : entries_of (sent 0 bytes) ≡ [] = entries_of-sent 0 bytes in
     let same : line_bytes 0 (sent 0 bytes) ≡ bytes = line_bytes-sent 0 bytes in
     let quiet : length (entries_of (sent 0 bytes)) ≡ 0 = ap length none in
     let long : length (line_bytes 0 (sent 0 bytes)) ≡ length bytes = ap length same in
-    let P : List Entry → Type 0 = All IsWake in
+    let P : List Entry → Type 0 = All (IsOfCall slot) in
     record {
       few_entries = omega (arith, quiet);
       few_bytes = omega (arith, long, few);
-      only_wakes = subst P (sym none) (All-nil IsWake);
+      only_lines = subst P (sym none) (All-nil (IsOfCall slot));
       only_console = sent_on_console bytes;
       in_order = sym (ap (λ l. sent 0 l ++ map Log (entries_of (sent 0 bytes))) same
           ∙ ap (λ l. sent 0 bytes ++ map Log l) none ∙ append-nil (sent 0 bytes));
@@ -78,60 +96,68 @@ fits_bytes bytes few =
 abbrev pub waking : Chan → Item
 waking chan = Log (Wake chan)
 
+abbrev pub WakesFiles : Chan → Type 0
+WakesFiles chan = IsOfFiles (λ ino. Unit {0}) chan
+
 -- items that wake somebody, and so many at most
 pub record AreWakes (most : ℕ) (items : List Item) : Type 0 where
   pub channels : List Chan
   pub are : items ≡ map waking channels
   pub few : length channels ≤ most
+  pub files : All WakesFiles channels
 
-wakes_entries : (channels : List Chan) → entries_of (map waking channels) ≡ map Wake channels
-wakes_entries [] = refl
-wakes_entries (chan ∷ channels) = ap (λ l. Wake chan ∷ l) (wakes_entries channels)
+-- lines of the log
+told_entries : (entries : List Entry) → entries_of (map Log entries) ≡ entries
+told_entries [] = refl
+told_entries (entry ∷ entries) = ap (λ l. entry ∷ l) (told_entries entries)
 
-wakes_bytes : (channels : List Chan) → line_bytes 0 (map waking channels) ≡ []
-wakes_bytes [] = refl
-wakes_bytes (chan ∷ channels) = wakes_bytes channels
+told_bytes : (entries : List Entry) → line_bytes 0 (map Log entries) ≡ []
+told_bytes [] = refl
+told_bytes (entry ∷ entries) = told_bytes entries
+
+told_on_console : (entries : List Entry) → All IsOnConsole (map Log entries)
+told_on_console [] = All-nil IsOnConsole
+told_on_console (entry ∷ entries) = All-cons IsOnConsole (Log entry) (map Log entries) tt (told_on_console entries)
+
+pub fits_lines : (slot : ℕ) (entries : List Entry) → length entries ≤ most_entries → All (IsOfCall slot) entries
+    → Fits slot (map Log entries)
+fits_lines slot entries few all =
+    let same = told_entries entries in
+    let none = told_bytes entries in
+    let long : length (entries_of (map Log entries)) ≡ length entries = ap length same in
+    let quiet : length (line_bytes 0 (map Log entries)) ≡ 0 = ap length none in
+    let P : List Entry → Type 0 = All (IsOfCall slot) in
+    record {
+      few_entries = omega (arith, long, few);
+      few_bytes = omega (arith, quiet);
+      only_lines = subst P (sym same) all;
+      only_console = told_on_console entries;
+      in_order = sym (ap (λ l. sent 0 l ++ map Log (entries_of (map Log entries))) none ∙ ap (map Log) same);
+    }
 
 wakes_again : (channels : List Chan) → map Log (map Wake channels) ≡ map waking channels
 wakes_again [] = refl
 wakes_again (chan ∷ channels) = ap (λ l. waking chan ∷ l) (wakes_again channels)
 
-wakes_all : (channels : List Chan) → All IsWake (map Wake channels)
-wakes_all [] = All-nil IsWake
-wakes_all (chan ∷ channels) = All-cons IsWake (Wake chan) (map Wake channels) (chan, refl) (wakes_all channels)
+wakes_all : (slot : ℕ) (channels : List Chan) → All WakesFiles channels → All (IsOfCall slot) (map Wake channels)
+wakes_all slot [] all = All-nil (IsOfCall slot)
+wakes_all slot (chan ∷ channels) all =
+    All-cons (IsOfCall slot) (Wake chan) (map Wake channels) (inl (chan, refl, All-head WakesFiles chan channels all))
+    (wakes_all slot channels (All-tail WakesFiles chan channels all))
 
-wakes_on_console : (channels : List Chan) → All IsOnConsole (map waking channels)
-wakes_on_console [] = All-nil IsOnConsole
-wakes_on_console (chan ∷ channels) =
-    All-cons IsOnConsole (waking chan) (map waking channels) tt (wakes_on_console channels)
-
-channels_fit : (channels : List Chan) → length channels ≤ most_entries → Fits (map waking channels)
-channels_fit channels few =
-    let entries : entries_of (map waking channels) ≡ map Wake channels = wakes_entries channels in
-    let none : line_bytes 0 (map waking channels) ≡ [] = wakes_bytes channels in
-    let long : length (entries_of (map waking channels)) ≡ length channels =
-    ap length entries ∙ length-map channels Wake in
-    let quiet : length (line_bytes 0 (map waking channels)) ≡ 0 = ap length none in
-    let P : List Entry → Type 0 = All IsWake in
-    record {
-      few_entries = omega (arith, long, few);
-      few_bytes = omega (arith, quiet);
-      only_wakes = subst P (sym entries) (wakes_all channels);
-      only_console = wakes_on_console channels;
-      in_order = sym (ap (λ l. sent 0 l ++ map Log (entries_of (map waking channels))) none
-          ∙ ap (map Log) entries ∙ wakes_again channels);
-    }
-
-pub fits_wakes : (most : ℕ) (items : List Item) → most ≤ most_entries → AreWakes most items → Fits items
-fits_wakes most items low wakes =
-    let few : length wakes.channels ≤ most_entries = (let f = wakes.few in omega (arith, f, low)) in
-    subst Fits (sym wakes.are) (channels_fit wakes.channels few)
+pub fits_wakes : (slot most : ℕ) (items : List Item) → most ≤ most_entries → AreWakes most items → Fits slot items
+fits_wakes slot most items low wakes =
+    let long = length-map wakes.channels Wake in
+    let few : length (map Wake wakes.channels) ≤ most_entries = (let f = wakes.few in omega (arith, f, low, long)) in
+    subst (Fits slot) (wakes_again wakes.channels ∙ sym wakes.are)
+    (fits_lines slot (map Wake wakes.channels) few (wakes_all slot wakes.channels wakes.files))
 
 pub none_wakes : AreWakes 0 []
-none_wakes = record { channels = []; are = refl; few = omega arith }
+none_wakes = record { channels = []; are = refl; few = omega arith; files = All-nil WakesFiles }
 
-pub one_wakes : (chan : Chan) → AreWakes 1 (waking chan ∷ [])
-one_wakes chan = record { channels = chan ∷ []; are = refl; few = omega arith }
+pub one_wakes : (chan : Chan) → WakesFiles chan → AreWakes 1 (waking chan ∷ [])
+one_wakes chan of =
+    record { channels = chan ∷ []; are = refl; few = omega arith; files = All-cons WakesFiles chan [] of (All-nil WakesFiles) }
 
 map_joined : (xs ys : List Chan) → map waking xs ++ map waking ys ≡ map waking (xs ++ ys)
 map_joined [] ys = refl
@@ -144,6 +170,7 @@ more_wakes m n xs ys first second = record {
       ∙ map_joined first.channels second.channels;
   few = let f = first.few in let s = second.few in let l = length-append first.channels second.channels in
       omega (arith, f, s, l);
+  files = All-append WakesFiles first.channels second.channels first.files second.files;
 }
 
 pub wakes_up_to : (m n : ℕ) (items : List Item) → m ≤ n → AreWakes m items → AreWakes n items
@@ -151,6 +178,7 @@ wakes_up_to m n items low wakes = record {
   channels = wakes.channels;
   are = wakes.are;
   few = let f = wakes.few in omega (arith, f, low);
+  files = wakes.files;
 }
 
 -- A byte that is written to the console shows at most 8.
@@ -202,12 +230,12 @@ few_readable image at (suc n) =
     front_few (load_byte image at) (readable image ((at + 1) % 65536) n) n (few_readable image ((at + 1) % 65536) n)
 
 -- What a write to the console shows.
-pub fits_shown : (line : Terminal) (image : Image) (at count : ℕ) → count ≤ 65535
-    → Fits (sent 0 (shows line (readable image at count)))
-fits_shown line image at count few =
+pub fits_shown : (slot : ℕ) (line : Terminal) (image : Image) (at count : ℕ) → count ≤ 65535
+    → Fits slot (sent 0 (shows line (readable image at count)))
+fits_shown slot line image at count few =
     let read = few_readable image at count in
     let shown = few_shown_of (flags line) line.column (readable image at count) in
-    fits_bytes (shows line (readable image at count)) (omega (arith, read, shown, few))
+    fits_bytes slot (shows line (readable image at count)) (omega (arith, read, shown, few))
 
 -- An empty tape with room for more than a call shows.
 pub record IsSpare (tape : Recording) : Type 0 where
@@ -232,10 +260,10 @@ part_of old part rest all new is none split =
     (same, omega (arith, long, whole))
 
 -- Such a tape is never filled by a call.
-pub never_filled : (old new : Recording) (items : List Item) → Fits items → IsSpare old
+pub never_filled : (slot : ℕ) (old new : Recording) (items : List Item) → Fits slot items → IsSpare old
     → new.entry_room ≡ old.entry_room → new.byte_room ≡ old.byte_room → Took (taken_on old) items (taken_on new)
     → HasAll new items
-never_filled old new items fits spare entry_room byte_room took =
+never_filled slot old new items fits spare entry_room byte_room took =
     let entries = part_of old.entries (entries_of took.part) (entries_of took.rest) (entries_of items) new.entries
     (took.holds.entries refl) spare.entries (ap entries_of took.split ∙ entries_of-append took.part took.rest) in
     let bytes = part_of old.bytes (line_bytes 0 took.part) (line_bytes 0 took.rest) (line_bytes 0 items) new.bytes

@@ -17,11 +17,13 @@ use Rattle.fs_tree.specs.Name.{name_at}
 use Rattle.fs_tree.specs.Finding.{Inodes, inodes_of, make_in, put_back}
 use Rattle.sys_files.specs.Handed.{Handed, node_at, user_of, with_inodes}
 use Rattle.sys_files.specs.Did.{Did, check, must, need, until_end, by_made}
-use Rattle.sys_files.specs.Sound.{owed, HasNoPipe, IsKept}
+use Rattle.sys_files.specs.Pipes.{ArePipes}
+use Rattle.sys_files.specs.Sound.{owed, IsKept}
 use Rattle.sys_files.specs.Opening.{can_open, opens}
 use Rattle.sys_files.specs.Making.{opens_again, makes_file, creat_file}
 use Rattle.sys_files.specs.Entering.{OneReferenceMore, did_with}
 use Rattle.sys_files.proofs.OwingLemmas.{IsKeptBut, kept_ends, once_more, referred_low}
+use Rattle.sys_files.proofs.StayingLemmas.{stays_there}
 use Rattle.sys_files.proofs.EnteringLemmas.{taken}
 use Rattle.sys_files.proofs.GivingLemmas.{OneReferenceLess, gives}
 use Rattle.sys_files.proofs.OpeningLemmas.{opens_kept}
@@ -37,7 +39,7 @@ truncated_count store ino node now = truncated_when (is_device node.mode) store 
 
 -- The opening itself keeps what a call keeps.
 pub opened_kept : (h new : Handed) (ino : ℕ) (kind : FileKind) → kind.pipe ≡ false → AreOpen h.files h.u.files
-    → HasNoPipe h.files → 0 < slice_index h.inodes.references ino
+    → ArePipes h.files h.pipes → 0 < slice_index h.inodes.references ino
     → new ≡ (opens h ino kind).state → IsKept h new
 opened_kept h new ino kind plain open_ pipes referred is =
     let begins : IsKeptBut h h [] =
@@ -46,8 +48,8 @@ opened_kept h new ino kind plain open_ pipes referred is =
       numbers = λ entry. refl;
       references = λ i. omega arith;
       count = refl;
-      no_pipe =
-          pipes;
+      pipes = pipes;
+      others = λ entry file is fewer. stays_there h.files entry file is;
     } in
     subst (λ (x : Handed). IsKept h x) (sym is)
     (kept_ends h (opens h ino kind).state (opens_kept h h [] ino kind plain referred begins))
@@ -87,7 +89,8 @@ kept_after h m new files u same count k =
       numbers = rw (files, u) at k.numbers;
       references = λ i. (let r = k.references i in let s = same i in let o = owes i in omega (arith, r, s, o));
       count = k.count ∙ count;
-      no_pipe = k.no_pipe;
+      pipes = k.pipes;
+      others = rw (files, u) at k.others;
     }
 
 -- a reference that is taken before a part and goes after it
@@ -108,7 +111,8 @@ module _ (old mid last : Handed) (a b c d : FileSystem) (ino : ℕ) (takes : One
         references = λ i. (let t = takes.references i in let r = k.references i in let l = less.references i in let o =
             owes i in omega (arith, t, r, l, o));
         count = less.count ∙ k.count ∙ takes.count;
-        no_pipe = k.no_pipe;
+        pipes = k.pipes;
+        others = rw (files, u) at k.others;
       }
 
   pub between_more : (i : ℕ) → slice_index a.references i ≤ slice_index d.references i

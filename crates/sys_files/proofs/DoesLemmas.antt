@@ -51,7 +51,7 @@ does_kept {old} {new} {result} {t} {row} is kept =
 
 -- a call that is refused before anything has changed
 pub does_refused : {h : Handed} {t : Taken} {e : Errno} {row : Did} → fails h e ≡ row → IsSound h → Does h h (Fail e) t t row
-does_refused {h} {t} {e} {row} is sound = does_as (sym is) (kept_same h h sound refl refl refl refl refl)
+does_refused {h} {t} {e} {row} is sound = does_as (sym is) (kept_same h h sound refl refl refl refl refl refl)
 
 -- a call of a name, by what its row keeps where the name can be found
 pub does_named : (fs : FileSystem) (h : Handed) (name : ℕ) {new : Handed} {result : Answer} {t : Taken} {row : Did} → h.inodes ≡ inodes_of fs
@@ -66,8 +66,9 @@ told_whole h (Err e) = refl
 
 -- a call that gives no value and changes no reference, by the part that does its work
 pub does_part : (f now : Files) (u : UArea) (row : Row) (image : Image) (r : Result (Unit {0}) Errno) {result : Answer} {t : Taken} {d : Did}
-    → IsSound (handed f u row image) → SameReferences f.tree.nodes now.tree.nodes → now.table ≡ f.table → d ≡ did_of (handed now u row image) r
+    → IsSound (handed f u row image) → SameReferences f.tree.nodes now.tree.nodes → now.table ≡ f.table → now.pipes ≡ f.pipes
+    → d ≡ did_of (handed now u row image) r
     → result ≡ (did_of (handed now u row image) r).answer → Does (handed f u row image) (handed now u row image) result t t d
-does_part f now u row image r {result} {t} {d} sound same table did answer =
+does_part f now u row image r {result} {t} {d} sound same table pipes did answer =
     does_as (did ∙ told_whole (handed now u row image) r ∙ ap (did_with (handed now u row image)) (sym answer))
-    (kept_references (handed f u row image) (handed now u row image) sound table refl refl same.references same.count)
+    (kept_references (handed f u row image) (handed now u row image) sound table pipes refl refl same.references same.count)

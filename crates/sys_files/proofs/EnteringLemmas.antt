@@ -219,6 +219,10 @@ module _ (fs new : FileSystem) (form : IsFileSystem fs) (mode uid gid time : ℕ
         blocks = blocks;
       }
 
+  -- Nobody referred to it.
+  pub new_fresh : (ino : ℕ) → MakesNode fs mode uid gid time ino new → slice_index fs.references ino ≡ 0
+  new_fresh ino made = free_unreferred fs form ino (makes_new ino made).none
+
   -- A directory stays one.
   pub new_keeps_entry : (ino dir offset : ℕ) → MakesNode fs mode uid gid time ino new → HasEntry fs dir offset
       → HasEntry new dir offset

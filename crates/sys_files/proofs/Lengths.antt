@@ -1,8 +1,7 @@
 -- Stores leave the sizes of an image, and so does what is read into it.
-use Rattle.std.proofs.Common.{◌+◌, ◌%◌, ◌==◌, ℕ, zero, suc, Bool, true, false, not, cond, List, [], ◌∷◌, length, min, Option, Some, None, Result, Ok, Err, if◌then◌else◌, refl, IfSome, IfOk}
+use Rattle.std.proofs.Common.{◌+◌, ◌%◌, ◌==◌, ℕ, zero, suc, Bool, true, false, not, cond, List, [], ◌∷◌, length, min, Option, Some, None, Result, Ok, Err, if◌then◌else◌, IfSome, IfOk}
 use Rattle.v6_base.specs.Image.{Image}
-use Rattle.v6_base.specs.Access.{store_byte, image_after}
-use Rattle.v6_base.specs.Copy.{then_store, store_bytes}
+use Rattle.v6_base.specs.Access.{store_byte}
 use Rattle.v6_base.specs.declared.space.Trap.{Trap}
 use Rattle.v6_base.proofs.Copies.{SameLengths, same_lengths, byte_lengths, bytes_lengths}
 use Rattle.fs_codec.specs.Modes.{is_device}
@@ -42,7 +41,7 @@ module _ {Memory : Type 0} (Holds : Memory → Type 0) (put : Memory → ℕ →
   begun_keeps true node room memory places here = here
   begun_keeps false node room memory places here = reading_keeps places (beginning node room memory) here
 
-  file_keeps : (node : Node) (room : ℕ) (memory : Memory) (at count time : ℕ) → Holds memory
+  pub file_keeps : (node : Node) (room : ℕ) (memory : Memory) (at count time : ℕ) → Holds memory
       → Holds (read_file put node room memory at count time).memory
   file_keeps node room memory at count time here =
       let begun : Node = if count == 0 then node else record node { actime = time } in

@@ -1,5 +1,8 @@
 pub mod KeptLemmas
 pub mod OwedLemmas
+pub mod PipeLemmas
+pub mod StayingLemmas
+pub mod ReleasedLemmas
 pub mod CheckLemmas
 pub mod AreaLemmas
 pub mod OwingLemmas
@@ -21,6 +24,7 @@ pub mod OffsetLemmas
 pub mod SeekLemmas
 pub mod NamesLemmas
 pub mod MakingLemmas
+pub mod PipingLemmas
 pub mod MovingLemmas
 pub mod ReadLemmas
 pub mod WriteLemmas
@@ -29,7 +33,18 @@ pub mod ModesLemmas
 pub mod CreatingLemmas
 pub mod Bounds
 pub mod Lengths
+pub mod PipedLemmas
+pub mod PipeKeptLemmas
 pub mod Walks
+pub mod PipeCounts
+pub mod StepWalks
+pub mod Counting
 pub mod Steady
 pub mod CoreSteady
 pub mod CoreLemmas
+pub mod PipeMovingLemmas
+pub mod PipeOpeningLemmas
+pub mod PipeMadeLemmas
+pub mod PartedWrites
+pub mod LoadedLemmas
+pub mod WritingLemmas

@@ -31,7 +31,8 @@ directory_moved old now ino taken k = record {
   references = λ i. let r = k.references i in let more = taken_more ino taken i in
       let other = taken_more now.u.dir taken i in omega (arith, r, more, other);
   count = k.count;
-  no_pipe = k.no_pipe;
+  pipes = k.pipes;
+  others = k.others;
 }
 
 entered : (old now : Handed) (ino : ℕ) (taken : List ℕ) → IsSound old → IsKeptBut old now (ino ∷ taken)
@@ -56,7 +57,7 @@ chdir_kept h name sound can =
 changed_kept : (old now : Handed) (ino : ℕ) (node : Node) (taken : List ℕ) → IsKeptBut old now taken
     → IsKeptBut old (with_changed now ino node) taken
 changed_kept old now ino node taken k =
-    kept_goes_on old now (with_changed now ino node) taken k refl refl refl refl refl
+    kept_goes_on old now (with_changed now ino node) taken k refl refl refl refl refl refl
 
 pub chmod_kept : (h : Handed) (name mode time : ℕ) → IsSound h → CanFind h name
     → IsKept h (chmod_to h name mode time).state

@@ -1,11 +1,11 @@
 -- The numbers of a process, and the entries that they name, when one of each changes.
-use Rattle.std.proofs.Common.{◌≡◌, ◌≢◌, ℕ, Bool, true, false, ◌+◌, ◌-◌, ◌<◌, ◌≤◌, ◌==◌, List, [], ◌∷◌, length, get_or, cond, eqb, suc, count_by, Option, Some, None, IsSome, is_some, slice_index, slice_set, refl, sym, ap, ◌∙◌, subst, inl, inr, arith}
+use Rattle.std.proofs.Common.{◌≡◌, ◌≢◌, ℕ, Bool, true, false, ◌+◌, ◌-◌, ◌<◌, ◌≤◌, ◌==◌, List, [], ◌∷◌, length, get_or, cond, eqb, suc, count_by, Option, None, IsSome, is_some, slice_index, slice_set, refl, sym, ap, ◌∙◌, subst, inl, inr, arith}
 use Rattle.std.proofs.lemmas.Bool.{eq-eqb, ne_eqb, cases_lt, cases_eq, false≢true}
 use Rattle.std.proofs.lemmas.List.{get_or_past, set_past, get_or-set_same, get_or-set_other}
 use Rattle.std.proofs.lemmas.List.Sums.{sum_by-cons}
 use Rattle.open_files.specs.declared.file.OpenFile.{OpenFile}
 use Rattle.open_files.specs.Files.{file_at, entry_of, times, AreOpen}
-use Rattle.sys_files.specs.Sound.{numbers_of, HasNoPipe}
+use Rattle.sys_files.specs.Sound.{numbers_of}
 use Rattle.sys_files.proofs.OwedLemmas.{count_changed, counted}
 
 -- A number that is not 0 is one of the list.
@@ -119,16 +119,6 @@ open_taken files mine fd entry o low is last all k used = elim (cases_eq k fd) [
         let own = one entry entry refl in
         let most = last none in
         absurd (omega (arith, least, all, own, most))
-
--- no pipe comes in
-pub pipes_set : (files : List (Option OpenFile)) (i : ℕ) (o : Option OpenFile) → HasNoPipe files → ((file : OpenFile) → o ≡ Some file → file.kind.pipe ≡ false) → HasNoPipe (slice_set files i o)
-pipes_set files i o all new entry file is = elim (cases_eq entry i) [
-  | inl same ↦ elim (cases_lt i (length files)) [
-    | inl low ↦ new file (sym (get_or-set_same files i o None low) ∙ (ap (file_at (slice_set files i o)) (sym same) ∙ is))
-    | inr past ↦ all entry file (ap (λ l. file_at l entry) (sym (set_past files i o past)) ∙ is)
-  ]
-  | inr other ↦ all entry file (sym (get_or-set_other files i entry o None other) ∙ is)
-]
 
 -- Nothing is counted where nothing passes.
 none_counted : {X : Type 0} (p : X → Bool) (xs : List X) (d : X) → ((k : ℕ) → k < length xs → p (get_or xs k d) ≡ false) → count_by p xs ≡ 0

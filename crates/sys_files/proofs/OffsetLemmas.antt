@@ -1,5 +1,5 @@
 -- An open file's next read or write begins elsewhere, and the files are as many and as often named as before.
-use Rattle.std.proofs.Common.{◌≡◌, ◌<◌, ◌-◌, ℕ, Bool, false, List, length, get_or, cond, count_by, Option, Some, None, unwrap_or, IsSome, is_some, slice_index, slice_set, refl, sym, ap, ◌∙◌, inl, inr, arith}
+use Rattle.std.proofs.Common.{◌≡◌, ◌<◌, ◌-◌, ℕ, Bool, List, length, get_or, cond, count_by, Option, Some, None, unwrap_or, IsSome, is_some, slice_index, slice_set, refl, sym, ap, ◌∙◌, inl, inr, arith}
 use Rattle.std.proofs.lemmas.Bool.{cases_lt, cases_eq}
 use Rattle.std.proofs.lemmas.List.{get_or-set_same, get_or-set_other, set_past}
 use Rattle.v6_base.specs.Image.{Image}
@@ -10,8 +10,10 @@ use Rattle.open_files.specs.Files.{file_at, changed, with_change, with_offset}
 use Rattle.sys_files.specs.declared.files.Files.{Files}
 use Rattle.sys_files.specs.Handed.{Handed, handed, no_file, file_of}
 use Rattle.sys_files.specs.Moving.{IsFileOf}
-use Rattle.sys_files.specs.Sound.{is_of, numbers_of, HasNoPipe, IsSound, IsKept}
+use Rattle.sys_files.specs.Sound.{is_of, numbers_of, IsSound, IsKept}
 use Rattle.sys_files.proofs.OwedLemmas.{count_changed, file_referred}
+use Rattle.sys_files.proofs.PipeLemmas.{pipes_with_change}
+use Rattle.sys_files.proofs.StayingLemmas.{stays_with_change}
 
 -- what does not depend on an offset is the same in each entry
 entry_same : {X : Type 0} (q : Option OpenFile → X) (files : List (Option OpenFile)) (entry n e : ℕ)
@@ -53,23 +55,15 @@ of_same : (ino n : ℕ) (o : Option OpenFile) → is_of ino (changed (with_offse
 of_same ino n None = refl
 of_same ino n (Some file) = refl
 
--- an entry whose file is an end of a pipe
-abbrev is_pipe : Option OpenFile → Bool
-is_pipe None = false
-is_pipe (Some file) = file.kind.pipe
-
-pipe_same : (n : ℕ) (o : Option OpenFile) → is_pipe (changed (with_offset n) o) ≡ is_pipe o
-pipe_same n None = refl
-pipe_same n (Some file) = refl
-
-plain_each : (files : List (Option OpenFile)) (e : ℕ) (o : Option OpenFile) → HasNoPipe files → file_at files e ≡ o → is_pipe o ≡ false
-plain_each files e None plain is = refl
-plain_each files e (Some file) plain is = plain e file is
-
 -- The file of an entry in use, whose inode is referred to.
 there : (files : List (Option OpenFile)) (entry : ℕ) (o : Option OpenFile) (file : OpenFile) → file_at files entry ≡ o → IsSome o → file ≡ unwrap_or o no_file → file_at files entry ≡ Some file
 there files entry None file at used is = absurd (cc)
 there files entry (Some x) file at used is = at ∙ ap Some (sym is)
+
+-- the file of an entry in use, by what stands there
+pub file_there : (h : Handed) (entry : ℕ) (file found : OpenFile) → file_at h.files entry ≡ Some file → found ≡ file_of h entry
+    → file ≡ found
+file_there h entry file found is of = sym (of ∙ ap (λ o. unwrap_or o no_file) is)
 
 pub referred_there : (h : Handed) (entry : ℕ) (file : OpenFile) → IsSound h → IsSome (file_at h.files entry) → file ≡ file_of h entry → 0 < slice_index h.inodes.references file.ino
 referred_there h entry file sound used is = file_referred h entry file sound (there h.files entry (file_at h.files entry) file refl used is)
@@ -82,13 +76,16 @@ is_file_of f u row image entry file sound used is = record {
 }
 
 -- Each open file may have moved on.
-pub kept_moved : (old new : Handed) (entry n : ℕ) → IsSound old → new.files ≡ with_change old.files entry (with_offset n) → new.u.files ≡ old.u.files
+pub kept_moved : (old new : Handed) (entry n : ℕ) → IsSound old → new.files ≡ with_change old.files entry (with_offset n)
+    → new.pipes ≡ old.pipes → new.u.files ≡ old.u.files
     → new.u.dir ≡ old.u.dir → new.inodes.references ≡ old.inodes.references → new.inodes.store.count ≡ old.inodes.store.count → IsKept old new
-kept_moved old new entry n sound files numbers dir references count = record {
+kept_moved old new entry n sound files pipes numbers dir references count = record {
   is_open = rw (files, numbers) (λ fd some. entry_same is_some old.files entry n (slice_index old.u.files fd - 1) (used_same n) ∙ sound.is_open fd some);
   numbers = λ e. rw (files, numbers, entry_same numbers_of old.files entry n e (numbers_same n)) refl;
   references = λ ino. rw (files, dir, references, count_same (is_of ino) old.files entry n (of_same ino n)) refl;
   count = count;
-  no_pipe = rw files (λ e file is.
-      sym (ap is_pipe is) ∙ entry_same is_pipe old.files entry n e (pipe_same n) ∙ plain_each old.files e (file_at old.files e) sound.no_pipe refl);
+  pipes = rw (files, pipes) (pipes_with_change old.files old.pipes entry (with_offset n) (λ file. refl)
+      (λ file. refl) sound.pipes);
+  others = rw files (λ e file is fewer.
+      stays_with_change old.files entry (with_offset n) (λ file. refl) (λ file. refl) e file is);
 }

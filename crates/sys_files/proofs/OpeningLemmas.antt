@@ -14,13 +14,18 @@ use Rattle.open_files.specs.declared.file.FileKind.{FileKind}
 use Rattle.open_files.specs.declared.file.Closed.{Closed}
 use Rattle.open_files.specs.declared.file.Closed.TheVariants.{Still, Last}
 use Rattle.open_files.specs.Files.{file_at, entry_of, free_number, free_entry, opened, with_fewer, closed, left, Adds, Drops}
+use Rattle.pipe_ends.specs.declared.ends.Pipe.{Pipe}
 use Rattle.sys_files.specs.Handed.{Handed, node_at, user_of, with_inodes}
 use Rattle.sys_files.specs.Did.{must, need, until_end, fails, returns}
+use Rattle.sys_files.specs.Pipes.{ArePipes}
+use Rattle.sys_files.specs.Piping.{with_end}
 use Rattle.sys_files.specs.Sound.{is_of, numbers_of, IsSound, IsKept}
 use Rattle.sys_files.specs.Opening.{opens_to_read, opens_to_write, last_failure, open_tests, can_open, with_opened, opens, opens_named, open_file}
 use Rattle.fs_tree.proofs.NamingLemmas.{found_more}
 use Rattle.sys_files.proofs.CheckLemmas.{check_quiet, must_hold, must_fail, need_there}
-use Rattle.sys_files.proofs.NumberLemmas.{given_times, numbers_change, open_given, pipes_set, set_here}
+use Rattle.sys_files.proofs.NumberLemmas.{given_times, numbers_change, open_given, set_here}
+use Rattle.sys_files.proofs.PipeLemmas.{pipes_opened}
+use Rattle.sys_files.proofs.StayingLemmas.{stays_then, stays_opened}
 use Rattle.sys_files.proofs.OwedLemmas.{count_changed}
 use Rattle.sys_files.proofs.OwingLemmas.{IsKeptBut, CanFind, kept_begins, kept_ends, kept_check, kept_finds, is_referred, referred_low, once_more}
 use Rattle.sys_files.proofs.DescriptorLemmas.{need_is}
@@ -77,10 +82,12 @@ undone files new last mine new_mine last_mine file fd (Ok told) once a d =
     )
 undone files new last mine new_mine last_mine file fd (Err e) once a d = let n = added_number files new mine new_mine file fd a in let none = d.1 in absurd (omega (arith, n, none))
 
--- A file that is opened is named once, and refers to its inode once.
-kept_opened : (old now : Handed) (taken : List ℕ) (ino fd entry : ℕ) (kind : FileKind) → kind.pipe ≡ false → ino < length now.inodes.references
-    → free_number now.u.files ≡ Some fd → free_entry now.files ≡ Some entry → IsKeptBut old now taken → IsKeptBut old (with_opened now ino kind fd entry) taken
-kept_opened old now taken ino fd entry kind plain low number free k =
+-- A file that is opened is named once, and refers to its inode once. These are the pipes that there are then.
+pub kept_end : (old now : Handed) (taken : List ℕ) (ino fd entry : ℕ) (kind : FileKind) (pipes : List Pipe)
+    → ArePipes (slice_set now.files entry (Some (opened ino kind))) pipes → ino < length now.inodes.references
+    → free_number now.u.files ≡ Some fd → free_entry now.files ≡ Some entry → IsKeptBut old now taken
+    → IsKeptBut old (record (with_end now ino kind fd entry) { pipes = pipes }) taken
+kept_end old now taken ino fd entry kind pipes are low number free k =
     let place = number_free now.u.files fd number in
     let room = entry_free now.files entry free in
     let own = given_times now.u.files fd entry entry place.0 place.1 in
@@ -100,7 +107,26 @@ kept_opened old now taken ino fd entry kind plain low number free k =
           let more = once_more now.inodes.references ino i low in
           omega (arith, before, change, was, more);
       count = k.count;
-      no_pipe = pipes_set now.files entry (Some (opened ino kind)) k.no_pipe (λ f same. subst (λ (x : OpenFile). x.kind.pipe ≡ false) (same_Some (opened ino kind) f same) plain);
+      pipes = are;
+      others = stays_then old.files now.files (slice_set now.files entry (Some (opened ino kind))) old.u.files k.others
+          (stays_opened now.files entry (Some (opened ino kind)) room.1);
+    }
+
+-- A file that is no pipe is opened.
+kept_opened : (old now : Handed) (taken : List ℕ) (ino fd entry : ℕ) (kind : FileKind) → kind.pipe ≡ false
+    → ino < length now.inodes.references
+    → free_number now.u.files ≡ Some fd → free_entry now.files ≡ Some entry → IsKeptBut old now taken
+    → IsKeptBut old (with_opened now ino kind fd entry) taken
+kept_opened old now taken ino fd entry kind plain low number free k =
+    let are = pipes_opened now.files now.pipes entry (opened ino kind) (entry_free now.files entry free).1 plain k.pipes in
+    let e = kept_end old now taken ino fd entry kind now.pipes are low number free k in
+    record {
+      is_open = e.is_open;
+      numbers = e.numbers;
+      references = e.references;
+      count = e.count;
+      pipes = e.pipes;
+      others = e.others;
     }
 
 -- What the opening itself keeps, while the call refers to other inodes too.

@@ -12,9 +12,11 @@ use Rattle.fs_tree.specs.Name.{name_at}
 use Rattle.fs_tree.specs.Finding.{Inodes, Finding, inodes_of, with_reference, put_in, find_in}
 use Rattle.sys_files.specs.Handed.{Handed, user_of, with_inodes, let_go}
 use Rattle.sys_files.specs.Did.{Did, check, then_named, until_end, finds}
-use Rattle.sys_files.specs.Sound.{owed, numbers_of, HasNoPipe, IsSound, IsKept}
+use Rattle.sys_files.specs.Pipes.{ArePipes}
+use Rattle.sys_files.specs.Sound.{owed, numbers_of, IsSound, IsKept}
 use Rattle.fs_tree.proofs.NamingLemmas.{found_more, found_none, found_referred}
 use Rattle.sys_files.proofs.OwedLemmas.{directory_referred}
+use Rattle.sys_files.proofs.StayingLemmas.{Stay, stays_there}
 
 -- how many of the references that a call has taken are to an inode
 abbrev pub taken_of : List ℕ → ℕ → ℕ
@@ -33,7 +35,8 @@ pub record IsKeptBut (old new : Handed) (taken : List ℕ) : Type 0 where
       → slice_index new.inodes.references ino + owed old ino
       ≡ slice_index old.inodes.references ino + owed new ino + taken_of taken ino
   pub count : new.inodes.store.count ≡ old.inodes.store.count
-  pub no_pipe : HasNoPipe new.files
+  pub pipes : ArePipes new.files new.pipes
+  pub others : Stay old.files old.u.files new.files
 
 -- What has been referred to once more is one of the numbers.
 taken_low : (r : List ℕ) (i : ℕ) → 0 < slice_index (slice_set r i (slice_index r i + 1)) i → i < length r
@@ -88,7 +91,8 @@ kept_begins h sound = record {
   numbers = λ entry. refl;
   references = λ ino. omega arith;
   count = refl;
-  no_pipe = sound.no_pipe;
+  pipes = sound.pipes;
+  others = λ entry file is few. stays_there h.files entry file is;
 }
 
 pub kept_ends : (old new : Handed) → IsKeptBut old new [] → IsKept old new
@@ -97,20 +101,22 @@ kept_ends old new k = record {
   numbers = k.numbers;
   references = λ ino. let r = k.references ino in omega (arith, r);
   count = k.count;
-  no_pipe = k.no_pipe;
+  pipes = k.pipes;
+  others = k.others;
 }
 
 -- Nothing changes that counts numbers and references.
 pub kept_goes_on : (old now new : Handed) (taken : List ℕ) → IsKeptBut old now taken → new.files ≡ now.files
-    → new.u.files ≡ now.u.files → new.u.dir ≡ now.u.dir
+    → new.pipes ≡ now.pipes → new.u.files ≡ now.u.files → new.u.dir ≡ now.u.dir
     → new.inodes.references ≡ now.inodes.references → new.inodes.store.count ≡ now.inodes.store.count → IsKeptBut old
     new taken
-kept_goes_on old now new taken k files numbers dir references count = record {
+kept_goes_on old now new taken k files pipes numbers dir references count = record {
   is_open = rw (files, numbers) k.is_open;
   numbers = λ entry. rw (files, numbers) (k.numbers entry);
   references = λ ino. rw (files, dir, references) (k.references ino);
   count = count ∙ k.count;
-  no_pipe = rw files k.no_pipe;
+  pipes = rw (files, pipes) k.pipes;
+  others = rw files k.others;
 }
 
 -- What a call has taken is referred to, and so is the current directory.
@@ -132,7 +138,8 @@ kept_takes old now ino taken low k = record {
   references = λ i. let r = k.references i in let at = once_more now.inodes.references ino i low in
       let more = taken_more ino taken i in omega (arith, r, at, more);
   count = k.count;
-  no_pipe = k.no_pipe;
+  pipes = k.pipes;
+  others = k.others;
 }
 
 -- The number of nodes stays where a reference goes.
@@ -163,7 +170,8 @@ kept_lets_go old now ino taken sound k = record {
       let more = taken_more ino taken i in omega (arith, r, at, more);
   count = put_count now.inodes.store ino (slice_index now.inodes.references ino)
       (node_numbered now.inodes.store ino) ∙ k.count;
-  no_pipe = k.no_pipe;
+  pipes = k.pipes;
+  others = k.others;
 }
 
 -- A test keeps what the call keeps that goes on after it.

@@ -1,12 +1,16 @@
 -- What a read comes to, by its tests, and what it keeps.
-use Rattle.std.proofs.Common.{◌≡◌, ◌+◌, ◌%◌, ◌^◌, ℕ, Bool, true, false, [], Option, Some, None, Result, Ok, Err, if◌then◌else◌, slice_index, refl, sym, ap, ◌∙◌, subst}
+use Rattle.std.proofs.Common.{◌≡◌, ◌+◌, ◌%◌, ◌^◌, ◌==◌, ℕ, Bool, true, false, cond, pos, [], ◌∷◌, replicate, is_some, Option, Some, None, Result, Ok, Err, if◌then◌else◌, slice_index, refl, sym, ap, ◌∙◌, subst}
+use Rattle.std.proofs.lemmas.Bool.{eq-eqb}
 use Rattle.v6_base.specs.Image.{Image}
 use Rattle.v6_base.specs.declared.answer.Answer.{Answer}
 use Rattle.v6_base.specs.declared.errno.Errno.{Errno}
-use Rattle.v6_base.specs.declared.errno.Errno.TheVariants.{EBADF}
+use Rattle.v6_base.specs.declared.answer.Answer.TheVariants.{Sleep}
+use Rattle.v6_base.specs.declared.entry.Chan.TheVariants.{Keys}
+use Rattle.v6_base.specs.declared.errno.Errno.TheVariants.{EBADF, EINTR}
 use Rattle.open_files.specs.declared.file.OpenFile.{OpenFile}
 use Rattle.fs_laws.specs.Pieces.{Moving}
 use Rattle.sys_files.specs.Handed.{Handed, r0, node_at, file_of, is_console}
+use Rattle.sig_core.specs.Signals.{due}
 use Rattle.sys_files.specs.Did.{Did, fails, check, must}
 use Rattle.sys_files.specs.Descriptors.{open_entry}
 use Rattle.u_area.specs.declared.area.UArea.{UArea}
@@ -14,12 +18,14 @@ use Rattle.tty_line.specs.declared.line.Took.{Took}
 use Rattle.tty_line.specs.declared.line.Took.TheVariants.{Done, Wait, Fault}
 use Rattle.tty_line.specs.Terminal.{Terminal}
 use Rattle.tty_line.specs.Reading.{Reading, reads}
-use Rattle.sys_files.specs.Moving.{gives_count, read_of, with_read, line_read, with_line_read, takes_line, reads_line, reads_from, read_file_of}
-use Rattle.sys_files.specs.Moving.{without_pending, resume_read}
+use Rattle.sys_files.specs.Moving.{gives_count, read_of, with_read, line_read, with_line_read, waits_for_keys, takes_line, reads_line, reads_from, read_file_of}
+use Rattle.sys_files.specs.Moving.{without_pending, resume_read, resumes}
+use Rattle.sys_files.specs.Piping.{reads_pipe, writes_pipe}
 use Rattle.sys_files.specs.Sound.{IsSound, IsKept}
 use Rattle.sys_files.specs.Entering.{did_with}
 use Rattle.sys_files.proofs.KeptLemmas.{kept_same}
 use Rattle.sys_files.proofs.OffsetLemmas.{kept_moved}
+use Rattle.sys_files.proofs.PipeKeptLemmas.{pipe_read_kept, pipe_write_kept}
 
 -- a count, or an error, leaves the parts as they are, and shows nothing
 pub gives_state : (h : Handed) (count : ℕ) (e : Option Errno) → (gives_count h count e).state ≡ h
@@ -54,8 +60,12 @@ read_as h entry at count now console =
     let m : Moving Image = read_of h entry at count now in
     if console then reads_line (with_read h entry m) entry at count else gives_count (with_read h entry m) m.done m.error
 
+abbrev read_any : Handed → ℕ → ℕ → ℕ → ℕ → Bool → Did
+read_any h entry at count now pipe = if pipe then reads_pipe h entry at count now else reads_from h entry at count now
+
 abbrev read_if : Handed → ℕ → ℕ → ℕ → ℕ → Bool → Did
-read_if h entry at count now reading = check h (must EBADF reading) (λ may. reads_from h entry at count now)
+read_if h entry at count now reading =
+    check h (must EBADF reading) (λ may. read_any h entry at count now (file_of h entry).kind.pipe)
 
 abbrev read_found : Handed → ℕ → ℕ → ℕ → Result ℕ Errno → Did
 read_found h at count now found = check h found (λ entry. read_if h entry at count now (file_of h entry).kind.reading)
@@ -77,19 +87,48 @@ pub read_not_open : (h : Handed) (at count now entry : ℕ) (file : OpenFile) �
 read_not_open h at count now entry file found is reading =
     ap (read_if h entry at count now) (sym reading ∙ ap (λ (x : OpenFile). x.kind.reading) is) ∙ ap (read_found h at count now) found
 
-pub read_done : (h : Handed) (at count now entry : ℕ) (file : OpenFile) → Ok entry ≡ open_entry h (r0 h) → file ≡ file_of h entry → file.kind.reading ≡ true
-    → reads_from h entry at count now ≡ read_file_of h at count now
-read_done h at count now entry file found is reading =
-    ap (read_if h entry at count now) (sym reading ∙ ap (λ (x : OpenFile). x.kind.reading) is) ∙ ap (read_found h at count now) found
+module _ (h : Handed) (at count now entry : ℕ) (file : OpenFile) (found : Ok entry ≡ open_entry h (r0 h))
+    (is : file ≡ file_of h entry)
+    (reading : file.kind.reading ≡ true) where
+  read_row : (pipe : Bool) → file.kind.pipe ≡ pipe → read_any h entry at count now pipe ≡ read_file_of h at count now
+  read_row pipe kind =
+      ap (read_any h entry at count now) (sym kind ∙ ap (λ (x : OpenFile). x.kind.pipe) is)
+      ∙ ap (read_if h entry at count now) (sym reading ∙ ap (λ (x : OpenFile). x.kind.reading) is) ∙ ap
+      (read_found h at count now) found
+
+  pub read_done : file.kind.pipe ≡ false → reads_from h entry at count now ≡ read_file_of h at count now
+  read_done plain = read_row false plain
+
+  pub read_piped : file.kind.pipe ≡ true → reads_pipe h entry at count now ≡ read_file_of h at count now
+  read_piped pipe = read_row true pipe
 
 abbrev read_place : Handed → ℕ → ℕ → ℕ → ℕ → ℕ
 read_place h entry at count now = ((file_of h entry).offset + (read_of h entry at count now).done) % 2 ^ 32
 
+-- A sleep leaves another call that goes on, unless a signal is due.
+kept_waits : (old h : Handed) (entry at count : ℕ) → IsKept old h
+    → IsKept old (record h { u = record h.u { pending = 1; call = entry ∷ at ∷ count ∷ 0 ∷ 0 ∷ 0 ∷ 0 ∷ 0 ∷ [] } })
+    → IsKept old (waits_for_keys h entry at count).state
+kept_waits old h entry at count same waits = by (is_some (due h.row h.u))
+  where
+    by : (b : Bool) → IsKept old (cond {A = Did} b (fails h EINTR) (record {
+      answer = Sleep (pos 10) Keys;
+      state = record h { u = record h.u { pending = 1; call = entry ∷ at ∷ count ∷ 0 ∷ 0 ∷ 0 ∷ 0 ∷ 0 ∷ [] } };
+      items = [];
+    })).state
+    by true = same
+    by false = waits
+
 kept_took : (h : Handed) (entry at count now : ℕ) (r : Reading) (took : Took) → IsSound h
     → IsKept h (takes_line (with_line_read (with_read h entry (read_of h entry at count now)) r) entry at count took).state
-kept_took h entry at count now r (Done n) sound = kept_moved h _ entry (read_place h entry at count now) sound refl refl refl refl refl
-kept_took h entry at count now r Wait sound = kept_moved h _ entry (read_place h entry at count now) sound refl refl refl refl refl
-kept_took h entry at count now r Fault sound = kept_moved h _ entry (read_place h entry at count now) sound refl refl refl refl refl
+kept_took h entry at count now r (Done n) sound =
+    kept_moved h _ entry (read_place h entry at count now) sound refl refl refl refl refl refl
+kept_took h entry at count now r Wait sound =
+    kept_waits h (with_line_read (with_read h entry (read_of h entry at count now)) r) entry at count
+    (kept_moved h _ entry (read_place h entry at count now) sound refl refl refl refl refl refl)
+    (kept_moved h _ entry (read_place h entry at count now) sound refl refl refl refl refl refl)
+kept_took h entry at count now r Fault sound =
+    kept_moved h _ entry (read_place h entry at count now) sound refl refl refl refl refl refl
 
 kept_as : (h : Handed) (entry at count now : ℕ) (console : Bool) → IsSound h → IsKept h (read_as h entry at count now console).state
 kept_as h entry at count now true sound =
@@ -98,15 +137,19 @@ kept_as h entry at count now true sound =
 kept_as h entry at count now false sound =
     let m : Moving Image = read_of h entry at count now in
     subst (IsKept h) (sym (gives_state (with_read h entry m) m.done m.error))
-    (kept_moved h (with_read h entry m) entry (read_place h entry at count now) sound refl refl refl refl refl)
+    (kept_moved h (with_read h entry m) entry (read_place h entry at count now) sound refl refl refl refl refl refl)
+
+kept_any : (h : Handed) (entry at count now : ℕ) (pipe : Bool) → IsSound h → IsKept h (read_any h entry at count now pipe).state
+kept_any h entry at count now true sound = pipe_read_kept h sound h.u.pending h.u.call entry at count now
+kept_any h entry at count now false sound = kept_as h entry at count now (is_console (node_at h (file_of h entry).ino)) sound
 
 kept_if : (h : Handed) (entry at count now : ℕ) (reading : Bool) → IsSound h → IsKept h (read_if h entry at count now reading).state
-kept_if h entry at count now true sound = kept_as h entry at count now (is_console (node_at h (file_of h entry).ino)) sound
-kept_if h entry at count now false sound = kept_same h h sound refl refl refl refl refl
+kept_if h entry at count now true sound = kept_any h entry at count now (file_of h entry).kind.pipe sound
+kept_if h entry at count now false sound = kept_same h h sound refl refl refl refl refl refl
 
 kept_found : (h : Handed) (at count now : ℕ) (found : Result ℕ Errno) → IsSound h → IsKept h (read_found h at count now found).state
 kept_found h at count now (Ok entry) sound = kept_if h entry at count now (file_of h entry).kind.reading sound
-kept_found h at count now (Err e) sound = kept_same h h sound refl refl refl refl refl
+kept_found h at count now (Err e) sound = kept_same h h sound refl refl refl refl refl refl
 
 pub read_kept : (h : Handed) (at count now : ℕ) → IsSound h → IsKept h (read_file_of h at count now).state
 read_kept h at count now sound = kept_found h at count now (open_entry h (r0 h)) sound
@@ -114,11 +157,58 @@ read_kept h at count now sound = kept_found h at count now (open_entry h (r0 h))
 -- A read that is taken up again keeps all that is counted.
 resumed_took : (h : Handed) (r : Reading) (entry at count : ℕ) (took : Took) → IsSound h
     → IsKept h (takes_line (with_line_read (without_pending h) r) entry at count took).state
-resumed_took h r entry at count (Done n) sound = kept_same h _ sound refl refl refl refl refl
-resumed_took h r entry at count Wait sound = kept_same h _ sound refl refl refl refl refl
-resumed_took h r entry at count Fault sound = kept_same h _ sound refl refl refl refl refl
+resumed_took h r entry at count (Done n) sound = kept_same h _ sound refl refl refl refl refl refl
+resumed_took h r entry at count Wait sound =
+    kept_waits h (with_line_read (without_pending h) r) entry at count (kept_same h _ sound refl refl refl refl refl refl)
+    (kept_same h _ sound refl refl refl refl refl refl)
+resumed_took h r entry at count Fault sound = kept_same h _ sound refl refl refl refl refl refl
 
-pub resume_kept : (h : Handed) → IsSound h → IsKept h (resume_read h).state
+resume_kept : (h : Handed) → IsSound h → IsKept h (resume_read h).state
 resume_kept h sound =
     let r : Reading = line_read (without_pending h) (slice_index h.u.call 1) (slice_index h.u.call 2) in
     resumed_took h r (slice_index h.u.call 0) (slice_index h.u.call 1) (slice_index h.u.call 2) r.took sound
+
+-- So does a call on a pipe, and one that a signal breaks.
+abbrev pub piped_on : Handed → ℕ → ℕ → Bool → Did
+piped_on h slot now reads =
+    let rest : Handed = without_pending h in
+    if reads then reads_pipe rest (slice_index h.u.call 0) (slice_index h.u.call 1) (slice_index h.u.call 2) now
+    else writes_pipe rest slot (slice_index h.u.call 0) (slice_index h.u.call 1) (slice_index h.u.call 2)
+    (slice_index h.u.call 3) now
+
+abbrev on_by : Handed → ℕ → ℕ → Bool → Bool → Did
+on_by h slot now console reads = if console then resume_read h else piped_on h slot now reads
+
+abbrev resumed_by : Handed → ℕ → ℕ → Bool → Bool → Bool → Did
+resumed_by h slot now broken console reads = if broken then fails (without_pending h) EINTR else on_by h slot now console reads
+
+kept_by : (h : Handed) (slot now : ℕ) (broken console reads : Bool) → IsSound h
+    → IsKept h (resumed_by h slot now broken console reads).state
+kept_by h slot now true console reads sound = kept_same h (without_pending h) sound refl refl refl refl refl refl
+kept_by h slot now false true reads sound = resume_kept h sound
+kept_by h slot now false false true sound = pipe_read_kept h sound 0 (replicate 8 0) _ _ _ now
+kept_by h slot now false false false sound = pipe_write_kept h sound 0 (replicate 8 0) slot _ _ _ _ now
+
+pub resumes_kept : (h : Handed) (slot now : ℕ) → IsSound h → IsKept h (resumes h slot now).state
+resumes_kept h slot now sound =
+    kept_by h slot now (is_some (due h.row (without_pending h).u)) (h.u.pending == 1) (h.u.pending == 3) sound
+
+-- What a call comes to that is taken up again, by its tests.
+pub resume_broken : (h : Handed) (slot now : ℕ) → is_some (due h.row (without_pending h).u) ≡ true
+    → fails (without_pending h) EINTR ≡ resumes h slot now
+resume_broken h slot now broken = sym (ap (λ b. resumed_by h slot now b (h.u.pending == 1) (h.u.pending == 3)) broken)
+
+module _ (h : Handed) (slot now : ℕ) (calm : is_some (due h.row (without_pending h).u) ≡ false) where
+  resumed_as : (console reads : Bool) → (h.u.pending == 1) ≡ console → (h.u.pending == 3) ≡ reads
+      → on_by h slot now console reads ≡ resumes h slot now
+  resumed_as console reads first third =
+      sym (ap (λ b. resumed_by h slot now b (h.u.pending == 1) (h.u.pending == 3)) calm ∙ ap
+      (λ b. on_by h slot now b (h.u.pending == 3)) first
+      ∙ ap (on_by h slot now console) third)
+
+  pub resume_console : h.u.pending ≡ 1 → resume_read h ≡ resumes h slot now
+  resume_console is = resumed_as true (h.u.pending == 3) (eq-eqb h.u.pending 1 is) refl
+
+  pub resume_piped : (reads : Bool) → (h.u.pending == 1) ≡ false → (h.u.pending == 3) ≡ reads
+      → piped_on h slot now reads ≡ resumes h slot now
+  resume_piped reads other is = resumed_as false reads other is

@@ -1,12 +1,11 @@
 -- What is shown of the bytes of a memory, one after another.
-use Rattle.std.proofs.Common.{◌≡◌, ◌<◌, ◌≤◌, Option, Some, None, ℕ, zero, suc, List, [], ◌∷◌, ◌++◌, ◌+◌, ◌-◌, ◌%◌, ◌==◌, false, length, Result, Ok, Err, refl, sym, ◌∙◌, ap, subst, arith}
+use Rattle.std.proofs.Common.{◌≡◌, ◌<◌, ◌≤◌, Option, Some, None, ℕ, zero, suc, List, [], ◌∷◌, ◌++◌, ◌+◌, ◌-◌, ◌%◌, ◌==◌, false, length, Result, Ok, Err, refl, sym, ◌∙◌, ap, arith}
 use Rattle.std.proofs.lemmas.Bool.{ne_eqb}
 use Rattle.v6_base.specs.Image.{Image}
 use Rattle.v6_base.specs.Access.{load_byte}
 use Rattle.v6_base.specs.Copy.{load_bytes, in_front}
 use Rattle.v6_base.proofs.Copies.{load_wraps}
 use Rattle.v6_base.specs.declared.space.Trap.{Trap}
-use Rattle.v6_base.specs.Trace.{Taken, Took, sent}
 use Rattle.fs_tree.specs.Name.{read_then, readable}
 use Rattle.tty_line.specs.Terminal.{Terminal, flags}
 use Rattle.tty_line.specs.Output.{column_after_all, shows, after_shown}

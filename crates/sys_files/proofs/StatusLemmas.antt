@@ -81,7 +81,7 @@ number_bytes_are ino b long fits here =
 -- what stat and fstat keep
 stored_same : (h : Handed) (o : Option Image) (taken : List ℕ) (old : Handed) → IsKeptBut old h taken
     → IsKeptBut old (with_stored h o).state taken
-stored_same h (Some image) taken old k = kept_goes_on old h _ taken k refl refl refl refl refl
+stored_same h (Some image) taken old k = kept_goes_on old h _ taken k refl refl refl refl refl refl
 stored_same h None taken old k = k
 
 pub stat_kept : (h : Handed) (name at : ℕ) → IsSound h → CanFind h name → IsKept h (stat_file h name at).state

@@ -1,10 +1,13 @@
--- What a call on files leaves as it is: who its process is, its registers, times and signals, and the sizes of its
--- image. `user.h` and `proc.h` in Lions' Commentary.
-use Rattle.std.proofs.Common.{◌≡◌, ◌+◌, ◌≤◌, ◌==◌, ◌++◌, ℕ, suc, Bool, true, false, cond, List, [], ◌∷◌, length, replicate, fold, slice_index, refl, arith}
+-- What a call on files leaves as it is: who its process is, its registers, times and handlers, and the sizes of its image.
+-- `user.h` and `proc.h` in Lions' Commentary.
+use Rattle.std.proofs.Common.{◌≡◌, ◌+◌, ◌*◌, ◌≤◌, ◌==◌, ◌++◌, ◌&&◌, ℕ, suc, Bool, true, false, not, cond, subst, List, [], ◌∷◌, length, replicate, fold, slice_index, refl, arith}
 use Rattle.std.specs.List.{range_with_len}
+use Rattle.std.proofs.lemmas.List.{append-nil}
 use Rattle.std.proofs.lemmas.List.FromFn.{length-range_with_len}
 use Rattle.v6_base.specs.Trace.{Log}
-use Rattle.v6_base.specs.declared.entry.Chan.TheVariants.{Keys}
+use Rattle.sig_core.specs.declared.numbers.TheConstants.{SIGPIPE, SIGKIL}
+use Rattle.sig_core.specs.Signals.{is_signal, posted}
+use Rattle.v6_base.specs.declared.entry.Chan.TheVariants.{Keys, Read, Write}
 use Rattle.v6_base.specs.declared.entry.Entry.TheVariants.{Wake}
 use Rattle.v6_base.proofs.Copies.{SameLengths, then_lengths, same_lengths}
 use Rattle.proc_tab.specs.declared.row.Row.{Row}
@@ -14,17 +17,18 @@ use Rattle.open_files.specs.declared.file.Closed.{Closed}
 use Rattle.open_files.specs.declared.file.Closed.TheVariants.{Still, Last}
 use Rattle.sys_files.specs.Handed.{Handed}
 use Rattle.sys_files.specs.Did.{Did}
-use Rattle.sys_files.specs.Descriptors.{is_closed_by, Closing, released, told_by, dropped, closes, then_closes, close_all}
-use Rattle.sys_files.specs.Moving.{resume_read}
-use Rattle.sys_files.proofs.Bounds.{Fits, fits_none, fits_shown, AreWakes, none_wakes, one_wakes, more_wakes, wakes_up_to, fits_wakes}
-use Rattle.sys_files.proofs.Walks.{Walks, walk_resume}
+use Rattle.sys_files.specs.Descriptors.{with_roused, pipe_roused, with_gone, is_closed_by, Closing, released, told_by, dropped, closes, then_closes, close_all}
+use Rattle.sys_files.specs.Moving.{resumes}
+use Rattle.sys_files.specs.Piping.{words_of}
+use Rattle.sys_files.proofs.Bounds.{Fits, fits_none, fits_lines, fits_shown, AreWakes, none_wakes, one_wakes, more_wakes, wakes_up_to, fits_wakes}
+use Rattle.sys_files.proofs.Walks.{Walks, PipesNamed, AwaitsPipe, IsNamedBy, walk_released, walk_resume}
 
--- What stays of a row of the table of processes. A process gets a terminal with the first one that it opens.
+-- What stays of a row of the table of processes. A process gets a terminal with the first one that it opens, and a signal where
+-- it writes to a pipe that nobody reads.
 pub record SameRow (old new : Row) : Type 0 where
   pub pid : new.pid ≡ old.pid
   pub ppid : new.ppid ≡ old.ppid
   pub uid : new.uid ≡ old.uid
-  pub sig : new.sig ≡ old.sig
 
 -- What stays of a per-process area: all but its open files, its directory and the call that goes on.
 pub record SameArea (old new : UArea) : Type 0 where
@@ -52,13 +56,13 @@ pub record Steady (old new : Handed) : Type 0 where
   pub marks : ◌≡◌ {A = List Bool} new.marks old.marks
 
 -- A call that shows little, and leaves as it is what has to stay.
-pub record Confined (old : Handed) (did : Did) : Type 0 where
-  pub fits : Fits did.items
+pub record Confined (slot : ℕ) (old : Handed) (did : Did) : Type 0 where
+  pub fits : Fits slot did.items
   pub steady : Steady old did.state
 
 -- All stays where nothing has changed.
 same_row : (row : Row) → SameRow row row
-same_row row = record { pid = refl; ppid = refl; uid = refl; sig = refl }
+same_row row = record { pid = refl; ppid = refl; uid = refl }
 
 same_area : (u : UArea) → SameArea u u
 same_area u = record {
@@ -111,10 +115,6 @@ area_changed old u files dir pending call s = record {
   handlers = s.handlers;
 }
 
-close_wakes : (last : Bool) → AreWakes 1 (cond last (Log (Wake Keys) ∷ []) [])
-close_wakes true = one_wakes Keys
-close_wakes false = wakes_up_to 0 1 [] (omega arith) none_wakes
-
 -- And with another call that goes on.
 steady_pending : (old h : Handed) (pending : ℕ) (call : List ℕ) → Steady old h
     → Steady old (record h { u = record h.u { pending = pending; call = call } })
@@ -125,22 +125,35 @@ steady_pending old h pending call s = record {
   marks = s.marks;
 }
 
+-- Another signal waits of a process.
+signal_stays : (old row : Row) → SameRow old row → SameRow old (posted row SIGPIPE)
+signal_stays old row s = by (is_signal SIGPIPE && not (row.sig == SIGKIL))
+  where
+    by : (b : Bool) → SameRow old (cond b (record row { sig = SIGPIPE }) row)
+    by true = record { pid = s.pid; ppid = s.ppid; uid = s.uid }
+    by false = s
+
 -- Each row of a call on files is confined, and a write is while its number of bytes is a word.
-pub confined_walks : (old : Handed) → Walks (Steady old) (Confined old) (λ count. count ≤ 65535)
-confined_walks old = record {
-  refused = λ h e s. record { fits = fits_none; steady = s };
-  done = λ h value s. record { fits = fits_none; steady = s };
+pub confined_walks : (old : Handed) (slot : ℕ)
+    → Walks (Steady old) (Confined slot old) (λ count. count ≤ 65535) (λ ino. Unit {0}) slot
+confined_walks old slot = record {
+  refused = λ h e s. record { fits = fits_none slot; steady = s };
+  done = λ h a b s. record { fits = fits_none slot; steady = s };
   lets_go = λ ino d c. record {
     fits = c.fits;
     steady = record { row = c.steady.row; area = c.steady.area; image = c.steady.image; marks = c.steady.marks };
   };
   waits = λ h entry at count s. record {
-    fits = fits_none;
+    fits = fits_none slot;
     steady = steady_pending old h 1 (entry ∷ at ∷ count ∷ 0 ∷ 0 ∷ 0 ∷ 0 ∷ 0 ∷ []) s;
   };
-  wakes = λ h a b last s. record { fits = fits_wakes 1 _ (omega arith) (close_wakes last); steady = s };
-  showing = λ line image at count d few c. record { fits = fits_shown line image at count few; steady = c.steady };
-  around = λ h inodes files console s. record { row = s.row; area = s.area; image = s.image; marks = s.marks };
+  waits_in_pipe = λ h chan pending entry at count left kind named awaits s. record {
+    fits = fits_none slot;
+    steady = steady_pending old h pending (words_of entry at count left) s;
+  };
+  tells = λ entries d few all quiet c. record { fits = fits_lines slot entries (omega (arith, few)) all; steady = c.steady };
+  showing = λ line image at count d few c. record { fits = fits_shown slot line image at count few; steady = c.steady };
+  around = λ h inodes files pipes console s. record { row = s.row; area = s.area; image = s.image; marks = s.marks };
   moved = λ h numbers dir s. record {
     row = s.row;
     area = area_changed old.u h.u numbers dir h.u.pending h.u.call s.area;
@@ -148,11 +161,12 @@ confined_walks old = record {
     marks = s.marks;
   };
   terminal = λ h tty s. record {
-    row = record { pid = s.row.pid; ppid = s.row.ppid; uid = s.row.uid; sig = s.row.sig };
+    row = record { pid = s.row.pid; ppid = s.row.ppid; uid = s.row.uid };
     area = s.area;
     image = s.image;
     marks = s.marks;
   };
+  signalled = λ h s. record { row = signal_stays old.row h.row s.row; area = s.area; image = s.image; marks = s.marks };
   stored = λ h m same s. record {
     row = s.row;
     area = s.area;
@@ -161,65 +175,94 @@ confined_walks old = record {
   };
 }
 
--- A read of the console goes on.
-pub resume_confined : (h : Handed) → Confined h (resume_read h)
-resume_confined h = walk_resume (confined_walks h) h (steady_pending h h 0 (replicate 8 0) (steady_same h))
+-- any inode may be that of a pipe
+pub any_named : (h : Handed) → PipesNamed (λ ino. Unit {0}) h
+any_named h = record { file = λ entry pipe. tt; pipe = λ entry pipe. tt }
 
--- A number lets its file go: so many times at most is somebody woken, who waits for keys.
+-- A call goes on in which a process slept.
+pub resume_confined : (h : Handed) (slot now : ℕ) → ((h.u.pending == 1) ≡ false → AwaitsPipe (λ ino. Unit {0}) h)
+    → Confined slot h (resumes h slot now)
+resume_confined h slot now waiting =
+    walk_resume (confined_walks h slot) h now waiting (steady_pending h h 0 (replicate 8 0) (steady_same h))
+
+-- A number lets its file go: so many times at most is somebody woken, who waits for a pipe or for keys.
 pub record ConfinedClosing (old : Handed) (most : ℕ) (c : Closing) : Type 0 where
   pub wakes : AreWakes most c.items
   pub steady : Steady old c.state
 
-released_confined : (old h : Handed) (told : Closed) → Steady old h → ConfinedClosing old 1 (released h told)
-released_confined old h (Still file) s = record { wakes = wakes_up_to 0 1 [] (omega arith) none_wakes; steady = s }
-released_confined old h (Last file) s = record {
-  wakes = close_wakes (is_closed_by h file);
-  steady = record { row = s.row; area = s.area; image = s.image; marks = s.marks };
-}
+close_wakes : (ino : ℕ) (pipe last : Bool)
+    → AreWakes 3 (cond pipe (Log (Wake (Write ino)) ∷ Log (Wake (Read ino)) ∷ []) [] ++ cond last (Log (Wake Keys) ∷ []) [])
+close_wakes ino pipe last = more_wakes 2 1 _ _ (pipe_wakes ino pipe) (key_wakes last)
+  where
+    pipe_wakes : (ino : ℕ) (pipe : Bool) → AreWakes 2 (cond pipe (Log (Wake (Write ino)) ∷ Log (Wake (Read ino)) ∷ []) [])
+    pipe_wakes ino true =
+        more_wakes 1 1 (Log (Wake (Write ino)) ∷ []) (Log (Wake (Read ino)) ∷ []) (one_wakes (Write ino) tt)
+        (one_wakes (Read ino) tt)
+    pipe_wakes ino false = wakes_up_to 0 2 [] (omega arith) none_wakes
 
-closes_confined : (old h : Handed) (fd : ℕ) → Steady old h → ConfinedClosing old 1 (closes h fd)
+    key_wakes : (last : Bool) → AreWakes 1 (cond last (Log (Wake Keys) ∷ []) [])
+    key_wakes true = one_wakes Keys tt
+    key_wakes false = wakes_up_to 0 1 [] (omega arith) none_wakes
+
+released_wakes : (h : Handed) (told : Closed) → AreWakes 3 (released h told).items
+released_wakes h (Still file) = subst (AreWakes 3) (append-nil (pipe_roused file)) (close_wakes file.ino file.kind.pipe false)
+released_wakes h (Last file) = close_wakes file.ino file.kind.pipe (is_closed_by (with_gone (with_roused h file) file) file)
+
+any_told : (told : Closed) → IsNamedBy (λ ino. Unit {0}) told
+any_told (Still file) = λ pipe. tt
+any_told (Last file) = λ pipe. tt
+
+closes_confined : (old h : Handed) (fd : ℕ) → Steady old h → ConfinedClosing old 3 (closes h fd)
 closes_confined old h fd s =
-    released_confined old (dropped h fd) (told_by h fd)
-    (record { row = s.row; area = area_changed old.u h.u (dropped h fd).u.files h.u.dir h.u.pending h.u.call s.area; image = s.image; marks = s.marks })
+    let begun : Steady old (dropped h fd) = record {
+      row = s.row;
+      area = area_changed old.u h.u (dropped h fd).u.files h.u.dir h.u.pending h.u.call s.area;
+      image = s.image;
+      marks = s.marks;
+    } in
+    record {
+      wakes = released_wakes (dropped h fd) (told_by h fd);
+      steady = (walk_released (confined_walks old 0) (dropped h fd) 0 0 (told_by h fd) (any_told (told_by h fd)) begun).steady;
+    }
 
 -- The numbers of a process let their files go, one after another.
 more_closing : (old : Handed) (n : ℕ) (c : Closing) (fd : ℕ) → ConfinedClosing old n c
-    → ConfinedClosing old (n + 1) (then_closes c fd)
+    → ConfinedClosing old (n + 3) (then_closes c fd)
 more_closing old n c fd k = by (slice_index c.state.u.files fd == 0) where
-  by : (none : Bool) → ConfinedClosing old (n + 1) (cond {A = Closing} none c
+  by : (none : Bool) → ConfinedClosing old (n + 3) (cond {A = Closing} none c
       (record { state = (closes c.state fd).state; items = c.items ++ (closes c.state fd).items }))
-  by true = record { wakes = wakes_up_to n (n + 1) c.items (omega arith) k.wakes; steady = k.steady }
+  by true = record { wakes = wakes_up_to n (n + 3) c.items (omega arith) k.wakes; steady = k.steady }
   by false = let next = closes_confined old c.state fd k.steady in record {
-    wakes = more_wakes n 1 c.items (closes c.state fd).items k.wakes next.wakes;
+    wakes = more_wakes n 3 c.items (closes c.state fd).items k.wakes next.wakes;
     steady = next.steady;
   }
 
 all_closing : (old : Handed) (n : ℕ) (c : Closing) (fds : List ℕ) → ConfinedClosing old n c
-    → ConfinedClosing old (n + length fds) (fold then_closes c fds)
-all_closing old n c [] k = record { wakes = wakes_up_to n (n + 0) c.items (omega arith) k.wakes; steady = k.steady }
+    → ConfinedClosing old (n + 3 * length fds) (fold then_closes c fds)
+all_closing old n c [] k = record { wakes = wakes_up_to n (n + 3 * 0) c.items (omega arith) k.wakes; steady = k.steady }
 all_closing old n c (fd ∷ fds) k =
     let first = more_closing old n c fd k in
-    let all = all_closing old (n + 1) (then_closes c fd) fds first in
+    let all = all_closing old (n + 3) (then_closes c fd) fds first in
     record {
-      wakes = wakes_up_to (n + 1 + length fds) (n + suc (length fds)) (fold then_closes c (fd ∷ fds)).items
+      wakes = wakes_up_to (n + 3 + 3 * length fds) (n + 3 * suc (length fds)) (fold then_closes c (fd ∷ fds)).items
           (omega arith) all.wakes;
       steady = all.steady;
     }
 
--- All numbers of a process let their files go: at most fifteen wake.
-pub close_all_confined : (h : Handed) → ConfinedClosing h 15 (close_all h)
+-- All numbers of a process let their files go: each wakes three times at most.
+pub close_all_confined : (h : Handed) → ConfinedClosing h 45 (close_all h)
 unfolding close_all
 close_all_confined h =
     let begun : Closing = record { state = h; items = [] } in
     let all = all_closing h 0 begun (range_with_len 0 15) (record { wakes = none_wakes; steady = steady_same h }) in
     let long = length-range_with_len 0 15 in
     record {
-      wakes = wakes_up_to (0 + length (range_with_len 0 15)) 15 _ (omega (arith, long)) all.wakes;
+      wakes = wakes_up_to (0 + 3 * length (range_with_len 0 15)) 45 _ (omega (arith, long)) all.wakes;
       steady = all.steady;
     }
 
-pub close_all_fits : (h : Handed) → Fits (close_all h).items
-close_all_fits h = fits_wakes 15 (close_all h).items (omega arith) (close_all_confined h).wakes
+pub close_all_fits : (slot : ℕ) (h : Handed) → Fits slot (close_all h).items
+close_all_fits slot h = fits_wakes slot 45 (close_all h).items (omega arith) (close_all_confined h).wakes
 
 pub close_all_steady : (h : Handed) → Steady h (close_all h).state
 close_all_steady h = (close_all_confined h).steady

@@ -13,9 +13,11 @@ use Rattle.sys_files.specs.Did.{Did, fails, returns, check, must}
 use Rattle.sys_files.specs.Descriptors.{open_entry}
 use Rattle.tty_line.specs.Output.{shows, after_shown}
 use Rattle.sys_files.specs.Moving.{with_moved, gives_count, write_of, shows_bytes, writes_to, write_file_of}
+use Rattle.sys_files.specs.Piping.{writes_pipe}
 use Rattle.sys_files.specs.Sound.{IsSound, IsKept}
 use Rattle.sys_files.proofs.KeptLemmas.{kept_same}
 use Rattle.sys_files.proofs.OffsetLemmas.{kept_moved}
+use Rattle.sys_files.proofs.PipeKeptLemmas.{pipe_write_kept}
 use Rattle.sys_files.proofs.ReadLemmas.{gives_state, gives_items}
 
 -- the parts after bytes were shown
@@ -39,11 +41,16 @@ write_as h entry at count now console =
     if console then shows_bytes (with_moved h entry m) count (readable h.image at count)
     else gives_count (with_moved h entry m) (if is_device (node_at h (file_of h entry).ino).mode then count else m.done) m.error
 
-abbrev write_if : Handed → ℕ → ℕ → ℕ → ℕ → Bool → Did
-write_if h entry at count now writing = check h (must EBADF writing) (λ may. writes_to h entry at count now)
+abbrev write_any : Handed → ℕ → ℕ → ℕ → ℕ → ℕ → Bool → Did
+write_any h slot entry at count now pipe =
+    if pipe then writes_pipe h slot entry at count count now else writes_to h entry at count now
 
-abbrev write_found : Handed → ℕ → ℕ → ℕ → Result ℕ Errno → Did
-write_found h at count now found = check h found (λ entry. write_if h entry at count now (file_of h entry).kind.writing)
+abbrev write_if : Handed → ℕ → ℕ → ℕ → ℕ → ℕ → Bool → Did
+write_if h slot entry at count now writing =
+    check h (must EBADF writing) (λ may. write_any h slot entry at count now (file_of h entry).kind.pipe)
+
+abbrev write_found : Handed → ℕ → ℕ → ℕ → ℕ → Result ℕ Errno → Did
+write_found h slot at count now found = check h found (λ entry. write_if h slot entry at count now (file_of h entry).kind.writing)
 
 pub write_shows : (h : Handed) (entry at count now : ℕ) (file : OpenFile) → file ≡ file_of h entry → true ≡ is_console (node_at h file.ino)
     → shows_bytes (with_moved h entry (write_of h entry at count now)) count (readable h.image at count) ≡ writes_to h entry at count now
@@ -73,18 +80,31 @@ took_given t h entry at count now file is console =
     (sym (ap (λ (d : Did). d.items) (write_gives h entry at count now file is console))
     ∙ gives_items (with_moved h entry m) (if is_device (node_at h (file_of h entry).ino).mode then count else m.done) m.error)
 
-pub write_refused : (h : Handed) (at count now : ℕ) (e : Errno) → Err e ≡ open_entry h (r0 h) → fails h e ≡ write_file_of h at count now
-write_refused h at count now e found = ap (write_found h at count now) found
+pub write_refused : (h : Handed) (slot at count now : ℕ) (e : Errno) → Err e ≡ open_entry h (r0 h)
+    → fails h e ≡ write_file_of h slot at count now
+write_refused h slot at count now e found = ap (write_found h slot at count now) found
 
-pub write_not_open : (h : Handed) (at count now entry : ℕ) (file : OpenFile) → Ok entry ≡ open_entry h (r0 h) → file ≡ file_of h entry → file.kind.writing ≡ false
-    → fails h EBADF ≡ write_file_of h at count now
-write_not_open h at count now entry file found is writing =
-    ap (write_if h entry at count now) (sym writing ∙ ap (λ (x : OpenFile). x.kind.writing) is) ∙ ap (write_found h at count now) found
+module _ (h : Handed) (slot at count now entry : ℕ) (file : OpenFile) (found : Ok entry ≡ open_entry h (r0 h))
+    (is : file ≡ file_of h entry) where
+  pub write_not_open : file.kind.writing ≡ false → fails h EBADF ≡ write_file_of h slot at count now
+  write_not_open writing =
+      ap (write_if h slot entry at count now) (sym writing ∙ ap (λ (x : OpenFile). x.kind.writing) is) ∙ ap
+      (write_found h slot at count now) found
 
-pub write_done : (h : Handed) (at count now entry : ℕ) (file : OpenFile) → Ok entry ≡ open_entry h (r0 h) → file ≡ file_of h entry → file.kind.writing ≡ true
-    → writes_to h entry at count now ≡ write_file_of h at count now
-write_done h at count now entry file found is writing =
-    ap (write_if h entry at count now) (sym writing ∙ ap (λ (x : OpenFile). x.kind.writing) is) ∙ ap (write_found h at count now) found
+  write_row : (pipe : Bool) → file.kind.writing ≡ true → file.kind.pipe ≡ pipe
+      → write_any h slot entry at count now pipe ≡ write_file_of h slot at count now
+  write_row pipe writing kind =
+      ap (write_any h slot entry at count now) (sym kind ∙ ap (λ (x : OpenFile). x.kind.pipe) is)
+      ∙ ap (write_if h slot entry at count now) (sym writing ∙ ap (λ (x : OpenFile). x.kind.writing) is) ∙ ap
+      (write_found h slot at count now) found
+
+  pub write_done : file.kind.writing ≡ true → file.kind.pipe ≡ false
+      → writes_to h entry at count now ≡ write_file_of h slot at count now
+  write_done writing plain = write_row false writing plain
+
+  pub write_piped : file.kind.writing ≡ true → file.kind.pipe ≡ true
+      → writes_pipe h slot entry at count count now ≡ write_file_of h slot at count now
+  write_piped writing pipe = write_row true writing pipe
 
 abbrev write_place : Handed → ℕ → ℕ → ℕ → ℕ → ℕ
 write_place h entry at count now = ((file_of h entry).offset + (write_of h entry at count now).done) % 2 ^ 32
@@ -93,19 +113,27 @@ kept_as : (h : Handed) (entry at count now : ℕ) (console : Bool) → IsSound h
 kept_as h entry at count now true sound =
     let after : Handed = with_moved h entry (write_of h entry at count now) in
     subst (IsKept h) (sym (shows_state after count (readable h.image at count)))
-    (kept_moved h (with_shown after (readable h.image at count)) entry (write_place h entry at count now) sound refl refl refl refl refl)
+    (kept_moved h (with_shown after (readable h.image at count)) entry
+    (write_place h entry at count now) sound refl refl refl refl refl refl)
 kept_as h entry at count now false sound =
     let m : Moving (Unit {0}) = write_of h entry at count now in
     subst (IsKept h) (sym (gives_state (with_moved h entry m) (if is_device (node_at h (file_of h entry).ino).mode then count else m.done) m.error))
-    (kept_moved h (with_moved h entry m) entry (write_place h entry at count now) sound refl refl refl refl refl)
+    (kept_moved h (with_moved h entry m) entry (write_place h entry at count now) sound refl refl refl refl refl refl)
 
-kept_if : (h : Handed) (entry at count now : ℕ) (writing : Bool) → IsSound h → IsKept h (write_if h entry at count now writing).state
-kept_if h entry at count now true sound = kept_as h entry at count now (is_console (node_at h (file_of h entry).ino)) sound
-kept_if h entry at count now false sound = kept_same h h sound refl refl refl refl refl
+kept_any : (h : Handed) (slot entry at count now : ℕ) (pipe : Bool) → IsSound h
+    → IsKept h (write_any h slot entry at count now pipe).state
+kept_any h slot entry at count now true sound = pipe_write_kept h sound h.u.pending h.u.call slot entry at count count now
+kept_any h slot entry at count now false sound = kept_as h entry at count now (is_console (node_at h (file_of h entry).ino)) sound
 
-kept_found : (h : Handed) (at count now : ℕ) (found : Result ℕ Errno) → IsSound h → IsKept h (write_found h at count now found).state
-kept_found h at count now (Ok entry) sound = kept_if h entry at count now (file_of h entry).kind.writing sound
-kept_found h at count now (Err e) sound = kept_same h h sound refl refl refl refl refl
+kept_if : (h : Handed) (slot entry at count now : ℕ) (writing : Bool) → IsSound h
+    → IsKept h (write_if h slot entry at count now writing).state
+kept_if h slot entry at count now true sound = kept_any h slot entry at count now (file_of h entry).kind.pipe sound
+kept_if h slot entry at count now false sound = kept_same h h sound refl refl refl refl refl refl
 
-pub write_kept : (h : Handed) (at count now : ℕ) → IsSound h → IsKept h (write_file_of h at count now).state
-write_kept h at count now sound = kept_found h at count now (open_entry h (r0 h)) sound
+kept_found : (h : Handed) (slot at count now : ℕ) (found : Result ℕ Errno) → IsSound h
+    → IsKept h (write_found h slot at count now found).state
+kept_found h slot at count now (Ok entry) sound = kept_if h slot entry at count now (file_of h entry).kind.writing sound
+kept_found h slot at count now (Err e) sound = kept_same h h sound refl refl refl refl refl refl
+
+pub write_kept : (h : Handed) (slot at count now : ℕ) → IsSound h → IsKept h (write_file_of h slot at count now).state
+write_kept h slot at count now sound = kept_found h slot at count now (open_entry h (r0 h)) sound

@@ -1,5 +1,5 @@
 -- Pipes are made, read and written: pipe(II), read(II), write(II); Lions' Commentary, `pipe.c`.
-use Rattle.std.specs.Prelude.{ℕ, Bool, true, false, not, pos, ◌+◌, ◌-◌, ◌%◌, ◌&&◌, if◌then◌else◌, List, [], ◌∷◌, ◌++◌, Some, slice_set}
+use Rattle.std.specs.Prelude.{ℕ, true, false, not, pos, ◌+◌, ◌-◌, ◌%◌, ◌&&◌, if◌then◌else◌, List, [], ◌∷◌, ◌++◌, Some, slice_set}
 use Rattle.v6_base.specs.Trace.{Item, Log}
 use Rattle.v6_base.specs.declared.answer.Answer.TheVariants.{Ret, Fail, Sleep}
 use Rattle.v6_base.specs.declared.entry.Chan.{Chan}
@@ -114,7 +114,7 @@ abbrev pub reads_pipe : Handed → ℕ → ℕ → ℕ → ℕ → Did
 reads_pipe h entry at count now =
     let r : PipeRead = pipe_read h entry at count now in
     after (woken_by_read (pipe_at h entry) r.pipe)
-        (ends_read (with_pipe_read h r) (pipe_at h entry).ino entry at count r.answer)
+    (ends_read (with_pipe_read h r) (pipe_at h entry).ino entry at count r.answer)
 
 -- Nobody can read any more: the process has a signal, and the call is refused.
 abbrev pub breaks : Handed → ℕ → Did
@@ -144,4 +144,4 @@ abbrev pub writes_pipe : Handed → ℕ → ℕ → ℕ → ℕ → ℕ → ℕ 
 writes_pipe h slot entry at count left now =
     let w : PipeWrite = pipe_write h entry at count left now in
     after (woken_by_write (pipe_at h entry) w.pipe)
-        (ends_write (with_pipe_write h w) slot (pipe_at h entry).ino entry at count w.answer)
+    (ends_write (with_pipe_write h w) slot (pipe_at h entry).ino entry at count w.answer)

@@ -1,20 +1,27 @@
 //! The image of a process that a signal ends goes to the file `core`: core(V) of the manual; `core` in Lions' Commentary,
 //! `sig.c`.
-ghost use Rattle.std.specs.Prelude.{◌≡◌, ◌<◌, ◌≤◌, ◌*◌, ℕ, List, Some, slice_index, length};
-ghost use Rattle.v6_base.specs.Image.{text_alone};
+ghost use Rattle.std.specs.Prelude.{◌≡◌, ◌<◌, ◌≤◌, ◌*◌, ◌+◌, ◌-◌, ◌%◌, ℕ, List, Some, slice_index, length};
+ghost use Rattle.v6_base.specs.Image.{text_alone, data_base};
 ghost use Rattle.v6_base.specs.Copy.{load_bytes};
+ghost use Rattle.v6_base.specs.declared.errno.Errno.TheVariants.{EACCES};
 ghost use Rattle.proc_tab.specs.declared.row.Row.{Row};
 ghost use Rattle.u_area.specs.Area.{area_bytes};
+ghost use Rattle.fs_codec.specs.Store.{Node, node_numbered};
+ghost use Rattle.fs_laws.specs.Pieces.{write_file};
+ghost use Rattle.fs_nodes.specs.Copy.{get_from};
 ghost use Rattle.fs_nodes.specs.FileSystem.{SameRest};
 ghost use Rattle.fs_tree.specs.Finding.{inodes_of};
 ghost use Rattle.fs_tree.specs.Name.{name_at};
-ghost use Rattle.fs_tree.specs.Entries.{answer_to};
+ghost use Rattle.fs_tree.specs.Entries.{answer_to, WritesEntry};
 ghost use Rattle.sys_files.specs.Handed.{Handed, handed, node_in, with_inodes};
+ghost use Rattle.sys_files.specs.Did.{must};
 ghost use Rattle.sys_files.specs.Sound.{IsSound, IsKept};
 ghost use Rattle.sys_files.specs.Entering.{HasEntry, SameReferences, did_of};
 ghost use Rattle.sys_files.specs.Making.{entry_written, enters_new};
-ghost use Rattle.sys_files.specs.Core.{core_name, is_plain, writes_parts, writes_over, writes_new, writes_named, core_file, is_written};
+ghost use Rattle.sys_files.specs.Core.{core_name, is_plain, writes_parts, writes_over, writes_new, writes_named};
+ghost use Rattle.sys_files.specs.Core.{core_file, is_written};
 
+use crate::creating::truncate;
 use crate::entering::{Room, enter_new, find_to_make, make_inode};
 use crate::files::Files;
 use crate::inodes::{inode_of, let_go, see};
@@ -30,6 +37,9 @@ const MODE: u16 = 0o666;
 
 /// The bytes of a click.
 const CLICK: u32 = 64;
+
+/// The bytes of a segment.
+const SEGMENT: u32 = 8192;
 
 /// The bytes of all segments.
 const SEGMENTS: u32 = 65536;
@@ -75,6 +85,28 @@ fn write_area(nodes: &mut Nodes, ino: u16, u: &UArea, now: u32) -> Result<(), Er
     outcome_of(nodes.write_kernel(ino, 0, &bytes, now))
 }
 
+/// Writes bytes of a memory, fewer than 65,536 from an address on, into a file, from a place on.
+fn write_part<S: Space>(
+    nodes: &mut Nodes,
+    ino: u16,
+    offset: u32,
+    space: &S,
+    at: u16,
+    count: u16,
+    now: u32,
+) -> Result<(), Errno>
+    requires referenced { 0 < slice_index nodes.old.references ino }
+    ensures written { (node : Node) → node_numbered nodes.old.store ino ≡ Some node → WritesEntry nodes.old.store ino
+        (write_file (get_from (S.image space.now) at) node nodes.old.store.room (tt {0}) offset count now)
+        nodes.new.store result }
+    ensures references { nodes.new.references ≡ nodes.old.references }
+    ensures there { node_numbered nodes.old.store ino ≡ Some (node_in nodes.old.store ino) }
+    ensures kept { SameReferences nodes.old nodes.new }
+{
+    see(nodes);
+    outcome_of(nodes.write_at(ino, offset, space, at, count, now))
+}
+
 /// Writes bytes of a memory, so many from an address on, into a file, from a place on. A write takes fewer than 65,536 bytes, so
 /// they go in two, which meet at a block's end.
 fn write_bytes<S: Space>(
@@ -88,16 +120,85 @@ fn write_bytes<S: Space>(
 ) -> Result<(), Errno>
     requires referenced { 0 < slice_index nodes.old.references ino }
     requires few { count ≤ SEGMENTS }
+    requires near { offset ≤ 2 * SEGMENTS }
     ensures written { (bytes : List ℕ) → load_bytes (S.image space.now) at count ≡ Some bytes
         → (result ≡ (entry_written (inodes_of nodes.old) ino offset bytes now).answer)
         × (inodes_of nodes.new ≡ (entry_written (inodes_of nodes.old) ino offset bytes now).inodes) }
     ensures kept { SameReferences nodes.old nodes.new }
 {
     let first = count.min(HALF - offset % BLOCK);
-    outcome_of(nodes.write_at(ino, offset, space, at, first as u16, now))?;
+    write_part(nodes, ino, offset, space, at, first as u16, now)?;
     let second = count - first;
     let rest = at.wrapping_add(first as u16);
-    outcome_of(nodes.write_at(ino, offset + first, space, rest, second as u16, now))
+    write_part(nodes, ino, offset + first, space, rest, second as u16, now)
+}
+
+/// The address at which the data begin.
+fn data_at(u: &UArea) -> u16
+    ensures { result ≡ data_base (CLICK * u.now.text_size) % SEGMENTS }
+{
+    let base = (u32::from(u.text_size) + 127) / 128 * SEGMENT;
+    (base % SEGMENTS) as u16
+}
+
+/// The address at which the stack begins.
+fn stack_at(u: &UArea) -> u16
+    requires { CLICK * u.now.stack_size ≤ SEGMENTS }
+    ensures { result ≡ (SEGMENTS - CLICK * u.now.stack_size) % SEGMENTS }
+{
+    let top = SEGMENTS - CLICK * u32::from(u.stack_size);
+    (top % SEGMENTS) as u16
+}
+
+/// Writes the data behind the per-process area.
+fn write_data<S: Space>(
+    nodes: &mut Nodes,
+    ino: u16,
+    u: &UArea,
+    space: &S,
+    now: u32,
+) -> Result<(), Errno>
+    requires referenced { 0 < slice_index nodes.old.references ino }
+    requires text { length (S.image space.now).text ≡ CLICK * u.now.text_size }
+    requires data { length (S.image space.now).data ≡ CLICK * u.now.data_size }
+    ensures answer { result ≡ (entry_written (inodes_of nodes.old) ino AREA_SIZE (S.image space.now).data now).answer }
+    ensures inodes { inodes_of nodes.new
+        ≡ (entry_written (inodes_of nodes.old) ino AREA_SIZE (S.image space.now).data now).inodes }
+    ensures kept { SameReferences nodes.old nodes.new }
+{
+    let data = CLICK * u32::from(u.data_size);
+    write_bytes(nodes, ino, AREA_SIZE as u32, space, data_at(u), data, now)
+}
+
+/// Writes the stack behind the data.
+fn write_stack<S: Space>(
+    nodes: &mut Nodes,
+    ino: u16,
+    u: &UArea,
+    space: &S,
+    now: u32,
+) -> Result<(), Errno>
+    requires referenced { 0 < slice_index nodes.old.references ino }
+    requires data { length (S.image space.now).data ≡ CLICK * u.now.data_size }
+    requires stack { length (S.image space.now).stack ≡ CLICK * u.now.stack_size }
+    ensures answer { result ≡ (entry_written (inodes_of nodes.old) ino (AREA_SIZE + length (S.image space.now).data)
+        (S.image space.now).stack now).answer }
+    ensures inodes { inodes_of nodes.new
+        ≡ (entry_written (inodes_of nodes.old) ino (AREA_SIZE + length (S.image space.now).data)
+        (S.image space.now).stack now).inodes }
+    ensures kept { SameReferences nodes.old nodes.new }
+{
+    let data = CLICK * u32::from(u.data_size);
+    let stack = CLICK * u32::from(u.stack_size);
+    write_bytes(
+        nodes,
+        ino,
+        AREA_SIZE as u32 + data,
+        space,
+        stack_at(u),
+        stack,
+        now,
+    )
 }
 
 /// Writes the per-process area, the data and the stack into a file: each where what stands before it was written whole.
@@ -109,28 +210,31 @@ fn write_parts<S: Space>(
     now: u32,
 ) -> Result<(), Errno>
     requires referenced { 0 < slice_index nodes.old.references ino }
+    requires text { length (S.image space.now).text ≡ CLICK * u.now.text_size }
     requires data { length (S.image space.now).data ≡ CLICK * u.now.data_size }
     requires stack { length (S.image space.now).stack ≡ CLICK * u.now.stack_size }
-    requires text { length (S.image space.now).text ≡ CLICK * u.now.text_size }
     ensures did { (h : Handed) → h.inodes ≡ inodes_of nodes.old → h.u ≡ u.now → h.image ≡ S.image space.now
         → writes_parts now h ino ≡ did_of (with_inodes h (inodes_of nodes.new)) result }
     ensures kept { SameReferences nodes.old nodes.new }
 {
     write_area(nodes, ino, u, now)?;
-    let data = CLICK * u32::from(u.data_size);
-    let stack = CLICK * u32::from(u.stack_size);
-    let base = (u32::from(u.text_size) + 127) / 128 * 8192;
-    let top = SEGMENTS - stack;
-    write_bytes(nodes, ino, AREA_SIZE as u32, space, base as u16, data, now)?;
-    write_bytes(nodes, ino, AREA_SIZE as u32 + data, space, top as u16, stack, now)
+    write_data(nodes, ino, u, space, now)?;
+    write_stack(nodes, ino, u, space, now)
 }
 
-/// Whether an inode is a plain file's.
-fn is_plain_at(nodes: &Nodes, ino: u16) -> bool
+/// Whether the file of an inode is plain.
+///
+/// # Errors
+///
+/// `EACCES`: it isn't.
+fn test_plain(nodes: &Nodes, ino: u16) -> Result<(), Errno>
     requires { 0 < slice_index nodes.now.references ino }
-    ensures { result ≡ is_plain (node_in nodes.now.store ino).mode }
+    ensures { result ≡ must EACCES (is_plain (node_in nodes.now.store ino).mode) }
 {
-    file_type(inode_of(nodes, ino).mode) == 0
+    if file_type(inode_of(nodes, ino).mode) != 0 {
+        return Err(Errno::EACCES);
+    }
+    Ok(())
 }
 
 /// Writes over a file that is there, which gives its blocks back first.
@@ -155,11 +259,9 @@ fn write_over<S: Space>(
     ensures table { f.new.table ≡ f.old.table }
 {
     see(&f.tree.nodes);
-    if !is_plain_at(&f.tree.nodes, ino) {
-        return Err(Errno::EACCES);
-    }
+    test_plain(&f.tree.nodes, ino)?;
     f.tree.access(ino, user_of(u), Want::Write)?;
-    f.tree.nodes.truncate(ino, now);
+    truncate(&mut f.tree.nodes, ino, now);
     write_parts(&mut f.tree.nodes, ino, u, space, now)
 }
 
@@ -247,7 +349,8 @@ pub fn write_core<S: Space>(f: &mut Files, u: &UArea, space: &S, now: u32) -> bo
     ensures whole { (row : Row) → result ≡ is_written (core_file (handed f.old u.now row (S.image space.now)) now).answer }
     ensures state { (row : Row) → handed f.new u.now row (S.image space.now)
         ≡ (core_file (handed f.old u.now row (S.image space.now)) now).state }
-    ensures kept { (row : Row) → IsKept (handed f.old u.now row (S.image space.now)) (handed f.new u.now row (S.image space.now)) }
+    ensures kept { (row : Row)
+        → IsKept (handed f.old u.now row (S.image space.now)) (handed f.new u.now row (S.image space.now)) }
     ensures blocks { SameRest f.old.tree.nodes.blocks f.new.tree.nodes.blocks }
 {
     u.uid == u.ruid && write_named(f, u, space, now).is_ok()

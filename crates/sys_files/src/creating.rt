@@ -53,7 +53,7 @@ fn test_file(nodes: &Nodes, ino: u16) -> Result<(), Errno>
 }
 
 /// Gives all blocks of a file back.
-fn truncate(nodes: &mut Nodes, ino: u16, now: u32)
+pub(crate) fn truncate(nodes: &mut Nodes, ino: u16, now: u32)
     requires referenced { 0 < slice_index nodes.old.references ino }
     ensures inodes { inodes_of nodes.new ≡ truncated_in (inodes_of nodes.old) ino now }
     ensures kept { SameReferences nodes.old nodes.new }

@@ -89,7 +89,7 @@ pub fn dup_file<S: Space, T: Trace>(
 }
 
 /// Sees that the table has a hundred entries.
-fn see_entries(table: &OpenTable)
+pub(crate) fn see_entries(table: &OpenTable)
     ensures { length table.now ≡ 100 }
 {
     let _ = table.in_use(0);
@@ -150,6 +150,7 @@ fn rouse_pipe<T: Trace>(f: &mut Files, file: OpenFile, trace: &mut T)
     requires there { file.kind.pipe ≡ true → place_of f.old.pipes file.ino < length f.old.pipes }
     ensures state { (u : UArea) (row : Row) (image : Image)
         → handed f.new u row image ≡ with_roused (handed f.old u row image) file }
+    ensures kept { file.kind.pipe ≡ true → place_of f.new.pipes file.ino < length f.new.pipes }
     ensures tree { f.new.tree ≡ f.old.tree }
     ensures table { f.new.table ≡ f.old.table }
     ensures items { Took (T.taken trace.old) (pipe_roused file) (T.taken trace.new) }

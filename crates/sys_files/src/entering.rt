@@ -73,6 +73,7 @@ pub(crate) fn find_room<S: Space>(
     ensures same { IfOk result (λ room. f.new.tree.nodes.store ≡ f.old.tree.nodes.store) }
     ensures none { IfErr result (λ e. SameReferences f.old.tree.nodes f.new.tree.nodes) }
     ensures table { f.new.table ≡ f.old.table }
+    ensures pipes { f.new.pipes ≡ f.old.pipes }
 {
     match find_to_make(&mut f.tree, u, space, name)? {
         Made::Found(ino) => {
@@ -111,6 +112,7 @@ pub(crate) fn make_inode(nodes: &mut Nodes, mode: u16, user: User, now: u32) -> 
     ensures answer { result ≡ (new_in (inodes_of nodes.old) mode user now).answer }
     ensures inodes { inodes_of nodes.new ≡ (new_in (inodes_of nodes.old) mode user now).inodes }
     ensures found { IfOk result (λ ino. OneReferenceMore nodes.old ino nodes.new) }
+    ensures fresh { IfOk result (λ ino. slice_index nodes.old.references ino ≡ 0) }
     ensures entries { (dir offset : ℕ) → HasEntry nodes.old dir offset → HasEntry nodes.new dir offset }
     ensures none { IfErr result (λ e. SameReferences nodes.old nodes.new) }
 {
@@ -151,6 +153,7 @@ pub(crate) fn enter_new(
         ≡ check (handed f.new u.now row image) result (λ done. next (handed f.new u.now row image) ino) }
     ensures kept { SameReferences f.old.tree.nodes f.new.tree.nodes }
     ensures table { f.new.table ≡ f.old.table }
+    ensures pipes { f.new.pipes ≡ f.old.pipes }
 {
     enter(&mut f.tree, room.dir, room.offset, room.name, ino, now)?;
     set_links(&mut f.tree.nodes, ino, 1, now);

@@ -50,6 +50,7 @@ fn enter_again(f: &mut Files, u: &UArea, room: Room, ino: u16, now: u32) -> Resu
         ≡ did_of (handed f.new u.now row image) result }
     ensures kept { SameReferences f.old.tree.nodes f.new.tree.nodes }
     ensures table { f.new.table ≡ f.old.table }
+    ensures pipes { f.new.pipes ≡ f.old.pipes }
 {
     enter(&mut f.tree, room.dir, room.offset, room.name, ino, now)?;
     let nlink = links_of(&f.tree.nodes, ino);
@@ -73,6 +74,7 @@ fn link_to<S: Space>(
         ≡ did_of (handed f.new u.now row (S.image space.now)) result }
     ensures kept { SameReferences f.old.tree.nodes f.new.tree.nodes }
     ensures table { f.new.table ≡ f.old.table }
+    ensures pipes { f.new.pipes ≡ f.old.pipes }
 {
     if links_of(&f.tree.nodes, ino) >= MOST_LINKS {
         return Err(Errno::EMLINK);
@@ -101,6 +103,7 @@ fn link<S: Space>(
         ≡ did_of (handed f.new u.now row (S.image space.now)) result }
     ensures kept { SameReferences f.old.tree.nodes f.new.tree.nodes }
     ensures table { f.new.table ≡ f.old.table }
+    ensures pipes { f.new.pipes ≡ f.old.pipes }
 {
     let ino = find_name(&mut f.tree, u, space, name)?;
     let result = link_to(f, u, space, ino, new, now);
@@ -152,6 +155,7 @@ fn remove_entry(
         ≡ did_of (handed f.new u.now row image) result }
     ensures kept { SameReferences f.old.tree.nodes f.new.tree.nodes }
     ensures table { f.new.table ≡ f.old.table }
+    ensures pipes { f.new.pipes ≡ f.old.pipes }
 {
     if !may_link(f, u, ino) {
         return Err(Errno::EPERM);
@@ -170,6 +174,7 @@ fn unlink<S: Space>(f: &mut Files, u: &UArea, space: &S, name: u16, now: u32) ->
         ≡ did_of (handed f.new u.now row (S.image space.now)) result }
     ensures kept { SameReferences f.old.tree.nodes f.new.tree.nodes }
     ensures table { f.new.table ≡ f.old.table }
+    ensures pipes { f.new.pipes ≡ f.old.pipes }
 {
     let (dir, offset, ino) = find_to_remove(&mut f.tree, u, space, name)?;
     let result = remove_entry(f, u, dir, offset, ino, now);

@@ -58,6 +58,7 @@ fn enter_any(
         (λ h ino. is_done (with_device h ino device)) ≡ did_of (handed f.new u.now row image) result }
     ensures kept { SameReferences f.old.tree.nodes f.new.tree.nodes }
     ensures table { f.new.table ≡ f.old.table }
+    ensures pipes { f.new.pipes ≡ f.old.pipes }
 {
     enter_new(f, u, room, ino, now)?;
     set_device(&mut f.tree.nodes, ino, device);
@@ -79,6 +80,7 @@ fn make_any(
         ≡ did_of (handed f.new u.now row image) result }
     ensures kept { SameReferences f.old.tree.nodes f.new.tree.nodes }
     ensures table { f.new.table ≡ f.old.table }
+    ensures pipes { f.new.pipes ≡ f.old.pipes }
 {
     let ino = make_inode(&mut f.tree.nodes, mode & !ILARG, user_of(u), now)?;
     let result = enter_any(f, u, room, ino, device, now);
@@ -102,6 +104,7 @@ fn mknod<S: Space>(
         ≡ did_of (handed f.new u.now row (S.image space.now)) result }
     ensures kept { SameReferences f.old.tree.nodes f.new.tree.nodes }
     ensures table { f.new.table ≡ f.old.table }
+    ensures pipes { f.new.pipes ≡ f.old.pipes }
 {
     if u.uid != 0 {
         return Err(Errno::EPERM);

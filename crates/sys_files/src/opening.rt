@@ -135,6 +135,7 @@ fn add_number(f: &mut Files, u: &mut UArea, ino: u16, kind: FileKind) -> Result<
         → opens (handed f.old u.old row image) ino kind ≡ fails (handed f.old u.old row image) e)) }
     ensures tree { f.new.tree ≡ f.old.tree }
     ensures line { f.new.line ≡ f.old.line }
+    ensures pipes { f.new.pipes ≡ f.old.pipes }
 {
     let fd = f.table.add(&mut u.files, ino, kind)?;
     if can_open(&f.tree.nodes, ino) {

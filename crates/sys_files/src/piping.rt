@@ -1,21 +1,21 @@
 //! Pipes are made, read and written: `pipe.c` in Lions' Commentary.
-ghost use Rattle.std.specs.Prelude.{◌≡◌, ◌<◌, ◌≤◌, ◌+◌, ℕ, true, IsSome, MatchResult, Some, slice_index, slice_set};
+ghost use Rattle.std.specs.Prelude.{◌≡◌, ◌<◌, ◌≤◌, ◌+◌, ℕ, true, IfOk, IsSome, MatchResult, Some, length, slice_index, slice_set};
 ghost use Rattle.v6_base.specs.Image.{Image};
 ghost use Rattle.v6_base.specs.Trace.{Took};
 ghost use Rattle.proc_tab.specs.declared.row.Row.{Row};
 ghost use Rattle.u_area.specs.declared.area.UArea.{UArea};
 ghost use Rattle.fs_nodes.specs.FileSystem.{SameRest};
 ghost use Rattle.open_files.specs.declared.file.OpenFile.{OpenFile};
-ghost use Rattle.open_files.specs.Files.{file_at, opened, AreOpen};
+ghost use Rattle.open_files.specs.Files.{file_at, free_entry, opened, AreOpen};
 ghost use Rattle.sys_files.specs.Handed.{Handed, handed, with_number};
 ghost use Rattle.sys_files.specs.Did.{fails};
-ghost use Rattle.sys_files.specs.Pipes.{ArePipes};
-ghost use Rattle.sys_files.specs.Piping.{words_of, waits_in_pipe, ends_read, ends_write, breaks, woken_by_read, woken_by_write, reads_pipe, writes_pipe, reading_end, writing_end, has_opened, opens_ends, pipe_new};
+ghost use Rattle.sys_files.specs.Pipes.{ArePipes, place_of};
+ghost use Rattle.sys_files.specs.Piping.{words_of, waits_in_pipe, pipe_at, ends_read, ends_write, breaks, woken_by_read, woken_by_write, reads_pipe, writes_pipe, reading_end, writing_end, has_opened, opens_ends, pipe_new};
 ghost use Rattle.sys_files.specs.Sound.{IsSound, IsKept};
 ghost use Rattle.sys_files.specs.Does.{Does};
 ghost use Rattle.sys_files.specs.Entering.{did_with};
 
-use crate::descriptors::file_of;
+use crate::descriptors::see_entries;
 use crate::entering::make_inode;
 use crate::files::Files;
 use crate::inodes::{let_go, refer_again};
@@ -78,6 +78,7 @@ fn add_ends(f: &mut Files, u: &mut UArea, ino: u16) -> Result<(u8, u8), Errno>
         ≡ has_opened (handed f.old u.old row image) ino fds.0 entry fds.1 next))
         (λ e. (f.new.table ≡ f.old.table) × (u.new ≡ u.old) × ((row : Row) (image : Image)
         → opens_ends (handed f.old u.old row image) ino ≡ fails (handed f.old u.old row image) e)) }
+    ensures room { IfOk result (λ fds. (entry : ℕ) × (free_entry f.old.table ≡ Some entry)) }
     ensures tree { f.new.tree ≡ f.old.tree }
     ensures line { f.new.line ≡ f.old.line }
     ensures pipes { f.new.pipes ≡ f.old.pipes }
@@ -103,6 +104,7 @@ fn open_ends(f: &mut Files, u: &mut UArea, ino: u16) -> Answer
     ensures referenced { 0 < slice_index f.new.tree.nodes.references ino }
     ensures blocks { f.new.tree.nodes.blocks ≡ f.old.tree.nodes.blocks }
 {
+    see_entries(&f.table);
     match add_ends(f, u, ino) {
         Ok((reading, writing)) => {
             refer_again(&mut f.tree.nodes, ino);
@@ -224,6 +226,19 @@ fn end_read(u: &mut UArea, row: &Row, ino: u16, transfer: Transfer, piped: Piped
     }
 }
 
+/// The pipe of an end that is open in an entry.
+fn pipe_at(f: &Files, entry: u16) -> Pipe
+    requires used { IsSome (file_at f.now.table entry) }
+    requires pipe { (file : OpenFile) → file_at f.now.table entry ≡ Some file → file.kind.pipe ≡ true }
+    requires pipes { ArePipes f.now.table f.now.pipes }
+    ensures pipe { (u : UArea) (row : Row) (image : Image) → result ≡ pipe_at (handed f.now u row image) entry }
+    ensures there { place_of f.now.pipes result.ino < length f.now.pipes }
+    ensures file { (file : OpenFile) → file_at f.now.table entry ≡ Some file → result.ino ≡ file.ino }
+{
+    see_entries(&f.table);
+    f.pipes.get(f.table.file(entry as u8).ino)
+}
+
 /// Reads from a pipe, or waits until there are bytes.
 pub(crate) fn read_pipe<S: Space, T: Trace>(
     f: &mut Files,
@@ -249,8 +264,7 @@ pub(crate) fn read_pipe<S: Space, T: Trace>(
     ensures memory { S.rest space.new ≡ S.rest space.old }
     ensures blocks { SameRest f.old.tree.nodes.blocks f.new.tree.nodes.blocks }
 {
-    let ino = file_of(f, transfer.entry as u8).ino;
-    let old = f.pipes.get(ino);
+    let old = pipe_at(f, transfer.entry);
     let mut pipe = old;
     let piped = pipe_ends::read(
         &mut f.tree.nodes,
@@ -262,7 +276,7 @@ pub(crate) fn read_pipe<S: Space, T: Trace>(
     );
     f.pipes.set(pipe);
     wake_writers(old, pipe, trace);
-    end_read(u, row, ino, transfer, piped)
+    end_read(u, row, old.ino, transfer, piped)
 }
 
 /// The process writes to a pipe which nobody reads: it has a signal, and the call is refused.
@@ -335,8 +349,7 @@ pub(crate) fn write_pipe<S: Space, T: Trace>(
     ensures frame { T.leads_to trace.old trace.new }
     ensures blocks { SameRest f.old.tree.nodes.blocks f.new.tree.nodes.blocks }
 {
-    let ino = file_of(f, transfer.entry as u8).ino;
-    let old = f.pipes.get(ino);
+    let old = pipe_at(f, transfer.entry);
     let mut pipe = old;
     let from = transfer.at.wrapping_add(transfer.count - transfer.left);
     let piped = pipe_ends::write(
@@ -349,5 +362,5 @@ pub(crate) fn write_pipe<S: Space, T: Trace>(
     );
     f.pipes.set(pipe);
     wake_readers(old, pipe, trace);
-    end_write(u, row, slot, ino, transfer, piped, trace)
+    end_write(u, row, slot, old.ino, transfer, piped, trace)
 }

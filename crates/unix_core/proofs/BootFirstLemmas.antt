@@ -37,7 +37,7 @@ use Rattle.abstract_unix.specs.References.{is_text_of}
 use Rattle.abstract_unix.specs.Runs.{first_process, first_unix, system_with}
 use Rattle.unix_core.specs.Parts.{unix_of, system_at, first_held, IsGood, IsNew, IsKernel}
 use Rattle.abstract_unix.specs.Whole.{Told, told_of, told_in, names, stands, all_names, all_stand, refer, Owes}
-use Rattle.unix_core.proofs.GoingLemmas.{going_none}
+use Rattle.abstract_unix.proofs.GoingOnLemmas.{none_goes_on}
 
 abbrev no_files : List (Option OpenFile)
 no_files = replicate 100 None
@@ -277,7 +277,7 @@ module _ (fs : FileSystem) (core : ℕ) (referred : (ino : ℕ) → slice_index 
           piped = no_pipes;
           fifteen = first_fifteen;
         }))));
-    pending = going_none (unix_of w) first_slots processes_are nobody_waits;
+    pending = none_goes_on (unix_of w) (λ s p is. nobody_waits s p (ap (λ (l : List (Option Process)). get_or l s None) (sym processes_are) ∙ is));
     marks = marks ∙ sym (ap marks_of texts_are ∙ marks_none);
     running = λ s runs above. absurd (let zero_ : Some 0 ≡ Some s = sym (ap (λ (t : Table). t.running) slots) ∙ runs in
         let same : 0 ≡ s = cc zero_ in omega (arith, same, above));

@@ -1,10 +1,8 @@
 -- A tick of the clock: what it leaves of the table of slots, of the board, and of the Unix.
-use Rattle.std.proofs.Common.{◌≡◌, ◌+◌, ◌-◌, ◌%◌, ◌^◌, ◌==◌, ◌||◌, ◌&&◌, cond, ℕ, Bool, true, false, List, [], ◌∷◌, min, int_lt, pos, fold, Option, None, refl, sym, ap, ◌∙◌, subst}
+use Rattle.std.proofs.Common.{◌≡◌, ◌+◌, ◌-◌, ◌%◌, ◌^◌, ◌==◌, ◌||◌, ◌&&◌, cond, ℕ, Bool, true, false, List, [], ◌∷◌, min, int_lt, pos, fold, None, refl, sym, ap, ◌∙◌}
 use Rattle.std.proofs.lemmas.List.{length-set}
-use Rattle.v6_base.specs.Trace.{Item, Log, Took, Taken}
-use Rattle.v6_base.proofs.Took.{took_then}
 use Rattle.v6_base.specs.declared.entry.Chan.{Chan}
-use Rattle.v6_base.specs.declared.entry.Chan.TheVariants.{RunIn, Tout}
+use Rattle.v6_base.specs.declared.entry.Chan.TheVariants.{RunIn}
 use Rattle.pick_rules.specs.declared.row.Mode.{Mode}
 use Rattle.pick_rules.specs.declared.row.Mode.TheVariants.{User, Kernel, Idle}
 use Rattle.pick_rules.specs.declared.row.Second.{Second}
@@ -13,31 +11,23 @@ use Rattle.pick_rules.specs.declared.row.Stat.TheVariants.{Ready}
 use Rattle.pick_rules.specs.declared.row.TableRow.{TableRow}
 use Rattle.pick_rules.specs.declared.table.Table.{Table}
 use Rattle.pick_rules.specs.Search.{slots}
-use Rattle.pick_rules.specs.Table.{row_at, with_row, is_empty, is_on, IsTable}
+use Rattle.pick_rules.specs.Table.{row_at, with_row, is_empty, is_on}
 use Rattle.pick_rules.specs.Priority.{user_pri, setpri}
 use Rattle.pick_rules.specs.Sleepers.{made_ready, sleeps_on, process_0_woken, runin_told}
 use Rattle.pick_rules.specs.Clock.{charged_slot, charged, aged, second, ticked, tick, told}
 use Rattle.pick_rules.specs.Apply.{applied}
-use Rattle.pick_rules.specs.Effects.{Show}
-use Rattle.pick_rules.specs.Logged.{Logged, logged}
 use Rattle.pick_rules.proofs.Laws.{set_each, timed, tick_kept}
 use Rattle.image_keep.specs.Kept.{Kept}
 use Rattle.sys_procs.specs.World.{clock_of}
 use Rattle.sys_procs.specs.Agree.{kind_of_stat, board_of}
-use Rattle.sys_procs.proofs.Agreement.{IsLike, AreLike, agree_like, tables_same}
+use Rattle.sys_procs.proofs.Agreement.{IsLike, AreLike}
 use Rattle.swap_sched.proofs.Boards.{untimed}
 use Rattle.sys_procs.proofs.Tables.{untimed_setpri}
-use Rattle.unix_core.specs.declared.world.World.{World}
-use Rattle.abstract_unix.specs.Unix.{Unix, System}
-use Rattle.unix_core.specs.Passing.{trapped, called_table}
-use Rattle.abstract_unix.specs.Turn.{settled_after, settled}
+use Rattle.abstract_unix.specs.Unix.{Unix}
+use Rattle.unix_core.specs.Passing.{trapped}
 use Rattle.abstract_unix.specs.Outside as outside
-use Rattle.abstract_unix.specs.Outside.{mode_of, tick_entry, clock_after, wakes, tick_of}
-use Rattle.unix_core.specs.Parts.{unix_of, board_in, system_at, IsGood}
+use Rattle.abstract_unix.specs.Outside.{tick_entry, clock_after}
 use Rattle.unix_core.proofs.BoardLemmas.{untimed_runin}
-use Rattle.unix_core.proofs.LoggedLemmas.{after_items, logged_shown, logged_after}
-use Rattle.unix_core.proofs.TableLemmas.{RunsImage, with_table, good_table}
-use Rattle.unix_core.proofs.EventLemmas.{settles_next, settles_items, called_agree, called_image, called_clock, wakes_stop}
 
 either : {A B : Type 0} (f : A → B) (b : Bool) (x y : A) → f (cond b x y) ≡ cond b (f x) (f y)
 either f true x y = refl
@@ -222,68 +212,3 @@ second_due t told_ due is ends within = by (t.ticks == 59) is
     by : (b : Bool) → told_ ≡ cond b (Yes ((t.now + 1) % 2 ^ 32 == t.tout)) No → due ≡ (b && ((t.now + 1) % 2 ^ 32 == t.tout))
     by true e = ends ((t.now + 1) % 2 ^ 32 == t.tout) e
     by false e = within e
-
--- A tick has come.
-module _ (w : World) (mode : Mode) (mode_is : mode ≡ mode_of (system_at w)) (w' : World) (was : IsGood w') (unix : unix_of w' ≡ outside.charged (unix_of w) mode w.procs.table.running)
-    (table : w'.procs.table ≡ w.procs.table) (board : board_in w' ≡ board_in w)
-    (t : Table) (t_is : t ≡ tick mode w'.procs.table) (good : IsTable t) (called : Bool) (called_is : called ≡ outside.is_due (clock_of w'.procs.table))
-    (u : Table) (u_is : u ≡ called_table called Tout t) (fine : IsTable u)
-    (woken : board_of u w'.procs.images ≡ (logged {W = Unix} (board_of t w'.procs.images) (wakes called Tout)).board) where
-  pub tick_good : IsGood (with_table w' u)
-  tick_good =
-      let v = w'.procs.rows in
-      let k : Kept = w'.procs.images in
-      let old : Table = w'.procs.table in
-      let like : AreLike old t = subst (AreLike old) (sym t_is) (tick_like old mode old (tables_same old old refl)) in
-      let runs : RunsImage t k = λ s e above. was.running s (sym (tick_running mode old) ∙ (ap (λ (x : Table). x.running) (sym t_is) ∙ e)) above in
-      good_table w' u (called_agree v k t u called Tout u_is fine (agree_like v old t k was.agree good like)) (called_image k t u called Tout u_is runs) was
-
-  abbrev m : System
-  m = system_at w
-
-  abbrev l : Logged Unix
-  l = logged m.board (Show (Log (tick_entry (mode_of m))) ∷ wakes (outside.is_due m.unix.clock) Tout)
-
-  -- the log after the line of the tick
-  abbrev rest : Logged Unix
-  rest = logged (applied (board_in w) (tick_entry mode)) (wakes called Tout)
-
-  l_is : l ≡ after_items (Log (tick_entry mode) ∷ []) rest
-  l_is =
-      let due : called ≡ outside.is_due m.unix.clock =
-      called_is ∙ ap (λ x. outside.is_due (clock_of x)) table in
-      let one : List Item = Log (tick_entry mode) ∷ [] in
-      ap (λ md. logged m.board (Show (Log (tick_entry md)) ∷ wakes (outside.is_due m.unix.clock) Tout)) (sym mode_is)
-      ∙ ap (λ b. logged m.board (Show (Log (tick_entry mode)) ∷ wakes b Tout)) (sym due)
-      ∙ logged_after (board_in w) one (wakes called Tout)
-      ∙ ap (λ b. after_items one (logged b (wakes called Tout))) (ap (λ (x : Logged Unix). x.board) (logged_shown (board_in w) one))
-
-  tick_stop : l.stop ≡ None
-  tick_stop = ap (λ (x : Logged Unix). x.stop) l_is ∙ wakes_stop (applied (board_in w) (tick_entry mode)) called Tout
-
-  board_then : board_of t w'.procs.images ≡ applied (board_in w) (tick_entry mode)
-  board_then =
-      ap (λ x. board_of x w'.procs.images) t_is ∙ board_ticked mode w'.procs.table w'.procs.images ∙ ap (λ b. applied b (tick_entry mode)) board
-
-  tick_is : system_at (with_table w' u) ≡ record { unix = outside.ticked m; board = l.board }
-  tick_is =
-      let clock : clock_of u ≡ clock_after (clock_of w.procs.table) =
-      ap clock_of u_is ∙ called_clock t called Tout ∙ ap clock_of t_is ∙ tick_clock mode w'.procs.table ∙ ap (λ x. clock_after (clock_of x)) table in
-      let running : Option ℕ = w.procs.table.running in
-      let after : unix_of (with_table w' u) ≡ outside.ticked m =
-      (λ i. record (unix i) { clock = clock i })
-      ∙ ap (λ md. record (outside.charged m.unix md running) { clock = clock_after m.unix.clock }) mode_is in
-      let log : board_of u w'.procs.images ≡ l.board =
-      woken ∙ ap (λ b. (logged {W = Unix} b (wakes called Tout)).board) board_then ∙ ap (λ (x : Logged Unix). x.board) (sym l_is) in
-      λ i. record { unix = after i; board = log i }
-
-  pub tick_next : (now : System) → now ≡ record (system_at (with_table w' u)) { board = (settled (board_in (with_table w' u))).board } → now ≡ (settled_after (tick_of m)).next
-  tick_next now final = settles_next (system_at (with_table w' u)) now (outside.ticked m) l tick_stop tick_is final
-
-  pub tick_items : (n : System) → m ≡ n → (a b c d : Taken) → Took a (Log (tick_entry mode) ∷ []) b → Took b (logged {W = Unix} (board_of t w'.procs.images) (wakes called Tout)).items c
-      → Took c (settled (board_in (with_table w' u))).items d → Took a (settled_after (tick_of n)).items d
-  tick_items n equal a b c d one two three =
-      let shown : Took b rest.items c = subst (λ x. Took b (logged {W = Unix} x (wakes called Tout)).items c) board_then two in
-      subst (λ (s : System). Took a (settled_after (tick_of s)).items d) equal
-      (settles_items (system_at (with_table w' u)) (system_at (with_table w' u)) (outside.ticked m) l tick_stop tick_is a c d
-      (took_then a b c (Log (tick_entry mode) ∷ []) rest.items l.items one shown (ap (λ (x : Logged Unix). x.items) (sym l_is))) three)

@@ -1,5 +1,5 @@
 -- How the parts of a kernel are the Unix and the board: the world of files and processes.
-use Rattle.std.specs.Prelude.{◌≡◌, ◌<◌, ℕ, min, Bool, true, false, List, map, Option, Some, None}
+use Rattle.std.specs.Prelude.{◌≡◌, ◌<◌, ℕ, min, Bool, true, false, if◌then◌else◌, List, map, Option, Some, None}
 use Rattle.pdp_step.specs.declared.outcome.Outcome.{Outcome}
 use Rattle.pdp_step.specs.Machine.{Machine}
 use Rattle.pdp_step.specs.Instruction.{instr}
@@ -28,7 +28,8 @@ use Rattle.abstract_unix.specs.Unix.{Unix, System, Phase, New, Started, Stopped,
 use Rattle.abstract_unix.specs.Endings.{phase_after}
 use Rattle.abstract_unix.specs.Init.{init_data}
 use Rattle.abstract_unix.specs.Whole.{Owed, CanGoOn}
-use Rattle.abstract_unix.specs.Steps.{Steps}
+use Rattle.abstract_unix.specs.Steps.{Steps, returns}
+use Rattle.abstract_unix.specs.Outside.{delivers_to}
 use Rattle.unix_core.specs.Passing.{HaveSlots, shown_by, all_woken}
 use Rattle.unix_core.specs.Memory.{kept_in}
 use Rattle.abstract_unix.specs.Turn.{Turn, machine_of, with_machine, is_user, end_effects, ending_of, settled_after, slot_of}
@@ -73,6 +74,10 @@ turn_end w s e = settled_after (record {
   is_idle = false;
   ending = ending_of e;
 })
+
+-- where a tick is as a trap, the signal that is due to the process that runs is delivered
+abbrev pub delivers_where : Bool → Unix → Option ℕ → Steps
+delivers_where as_trap u running = if as_trap then delivers_to u running else returns u
 
 -- the first image of process 1
 abbrev pub first_held : Held

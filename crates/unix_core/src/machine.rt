@@ -1,17 +1,18 @@
 //! The parts of a kernel, and what each event does to them.
-ghost use Rattle.std.specs.Prelude.{◌≡◌, ◌≢◌, ◌<◌, ℕ, Bool, true, false, None, Some};
+ghost use Rattle.std.specs.Prelude.{◌≡◌, ◌≢◌, ◌<◌, ℕ, Bool, true, false, None, Some, map};
 ghost use Rattle.v6_base.specs.Trace.{Took};
 ghost use Rattle.fs_laws.specs.Rest.{SameRest};
 ghost use Rattle.pdp_step.specs.Instruction.{instr};
 ghost use Rattle.pick_rules.specs.Choice.{chosen, settle};
+ghost use Rattle.pick_rules.specs.Effects.{Show};
 ghost use Rattle.pick_rules.specs.Logged.{logged};
 ghost use Rattle.image_keep.specs.Running.{IsFixed};
 ghost use Rattle.abstract_unix.specs.declared.ends.Ends.TheVariants.{AtEnd};
 ghost use Rattle.abstract_unix.specs.Unix.{Unix, System, Started, process_of};
 ghost use Rattle.abstract_unix.specs.Endings.{is_early};
 ghost use Rattle.abstract_unix.specs.Turn.{turned, ticked_by, turned_by, ending_of, turn, turn_of, settled, settled_after, pass_of};
-ghost use Rattle.abstract_unix.specs.Outside.{calls, charged, mode_of, tick_entry, timed_area, is_user_mode, delivers_to, tick_of, typed_of};
-ghost use Rattle.unix_core.specs.Parts.{unix_of, board_in, system_at, turn_at, turn_end, phase_of, machine_in, with_machine_in, is_over, IsGood, IsReady, IsUser, IsCovered, IsKernel, HasCome, HasStepped, Takes};
+ghost use Rattle.abstract_unix.specs.Outside.{calls, charged, mode_of, tick_entry, timed_area, is_user_mode, tick_of, with_key, key_lines, typed_of};
+ghost use Rattle.unix_core.specs.Parts.{unix_of, board_in, system_at, turn_at, turn_end, phase_of, machine_in, with_machine_in, is_over, IsGood, IsReady, IsUser, IsCovered, IsKernel, HasCome, HasStepped, Takes, delivers_where};
 
 use crate::delivery::{deliver_after, deliver_due};
 use crate::files::see_procs;
@@ -227,9 +228,9 @@ impl Machine {
         requires resting { self.old.stage ≡ Stage.Resting }
         ensures come { HasCome (board_in self.old.world)
             (turn (system_at self.old.world) s) result self.new.world }
-        ensures good { IsGood self.new.world }
+        ensures good { is_over result ≡ false → IsGood self.new.world }
         ensures covered { is_over result ≡ true → IsCovered self.new.world }
-        ensures runs { result ≢ Ending.Ended → self.new.world.procs.table.running ≡ Some s }
+        ensures runs { is_over result ≡ false → result ≢ Ending.Ended → self.new.world.procs.table.running ≡ Some s }
         ensures rest { SameRest self.old.world.files.tree.nodes.blocks self.new.world.files.tree.nodes.blocks }
         ensures items { Took (T.taken trace.old) (logged (board_in self.old.world)
             (turn (system_at self.old.world) s).effects).items (T.taken trace.new) }
@@ -270,7 +271,12 @@ impl Machine {
     /// Takes what an instruction comes to, where that isn't the next one, with the signal that is due then, and settles. It stands
     /// out of line, beside the loop over slots.
     #[inline(never)]
-    pub(crate) fn after_step<T: Trace>(&mut self, s: Slot, outcome: Outcome, trace: &mut T) -> Turned
+    pub(crate) fn after_step<T: Trace>(
+        &mut self,
+        s: Slot,
+        outcome: Outcome,
+        trace: &mut T,
+    ) -> Turned
         requires { IsUser s self.old.world }
         ensures answer { (m : System) → HasStepped m self.old.world s outcome
             → result ≡ turned (settled_after (turn_of m s (turn m s))) }
@@ -349,21 +355,23 @@ impl Machine {
         self.world.procs.images.set_area(s, &u);
     }
 
-    /// Delivers the signal that is due to the process that runs, in a tick.
-    fn deliver<T: Trace>(&mut self, trace: &mut T) -> Ending
-        requires { IsGood self.old.world }
+    /// Delivers the signal that is due to the process that runs, where a tick is as a trap.
+    fn deliver<T: Trace>(&mut self, as_trap: bool, trace: &mut T) -> Ending
+        requires good { IsGood self.old.world }
+        requires user { as_trap ≡ true → is_user_mode (mode_of (system_at self.old.world)) ≡ true }
         ensures come { HasCome (board_in self.old.world)
-            (delivers_to (unix_of self.old.world) self.old.world.procs.table.running) result self.new.world }
+            (delivers_where as_trap (unix_of self.old.world) self.old.world.procs.table.running) result self.new.world }
         ensures good { is_over result ≡ false → IsGood self.new.world }
         ensures covered { is_over result ≡ true → IsCovered self.new.world }
         ensures stage { self.new.stage ≡ self.old.stage }
         ensures items { Took (T.taken trace.old) (logged (board_in self.old.world)
-            (delivers_to (unix_of self.old.world) self.old.world.procs.table.running).effects).items (T.taken trace.new) }
+            (delivers_where as_trap (unix_of self.old.world) self.old.world.procs.table.running).effects).items
+            (T.taken trace.new) }
         ensures frame { T.leads_to trace.old trace.new }
         ensures rest { SameRest self.old.world.files.tree.nodes.blocks self.new.world.files.tree.nodes.blocks }
     {
         match self.world.procs.table.running {
-            Some(s) if s != 0 => deliver_due(&mut self.world, s, trace),
+            Some(s) if as_trap => deliver_due(&mut self.world, s, trace),
             _ => Ending::Trapped,
         }
     }
@@ -393,14 +401,32 @@ impl Machine {
             Chan::Tout,
             trace,
         );
-        if is_as_trap(mode, second) {
-            if let Ending::Panic(kind) = self.deliver(trace) {
+        match self.deliver(is_as_trap(mode, second), trace) {
+            Ending::Panic(kind) => {
                 self.stage = Stage::Stopped;
-                return Err(kind);
+                Err(kind)
+            }
+            _ => {
+                self.settle(trace);
+                Ok(())
             }
         }
-        self.settle(trace);
-        Ok(())
+    }
+
+    /// Sends the signal that a key makes, if it makes one, to all that have the console.
+    fn send_key<T: Trace>(&mut self, keyed: Keyed, trace: &mut T)
+        requires { IsGood self.old.world }
+        ensures good { IsGood self.new.world }
+        ensures unix { unix_of self.new.world ≡ with_key keyed (unix_of self.old.world) }
+        ensures board { board_in self.new.world
+            ≡ (logged {W = Unix} (board_in self.old.world) (map Show (key_lines keyed (unix_of self.old.world)))).board }
+        ensures items { Took (T.taken trace.old) (key_lines keyed (unix_of self.old.world)) (T.taken trace.new) }
+        ensures frame { T.leads_to trace.old trace.new }
+        ensures files { self.new.world.files ≡ self.old.world.files }
+    {
+        if let Keyed::Signal(sig) = keyed {
+            signal_console(&mut self.world.procs, sig, trace);
+        }
     }
 
     /// Takes a byte that is typed at the console, and sends the signal that it makes.
@@ -414,9 +440,7 @@ impl Machine {
         ensures frame { T.leads_to trace.old trace.new }
     {
         let keyed = self.world.files.line.typed(byte, trace);
-        if let Keyed::Signal(sig) = keyed {
-            signal_console(&mut self.world.procs, sig, trace);
-        }
+        self.send_key(keyed, trace);
         wake(&mut self.world.procs.table, calls(keyed), Chan::Keys, trace);
         self.settle(trace);
     }

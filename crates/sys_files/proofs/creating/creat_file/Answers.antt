@@ -13,7 +13,7 @@ returns-in-Err-clause-does g c =
     let h : Handed = handed c.args.f.now c.args.u.now c.args.row.now (g.S.Space.image c.args.space.now) in
     does_as (creat_refused h _ (slice_index c.args.args 0) (slice_index c.args.args 1) c.args.now
     (λ i. record h { inodes = c.find_to_make.ensures.inodes i; marks = c.find_to_make.ensures.marks i }) c.in-Err.e c.in-Err.ensures.answer)
-    (kept_references h _ c.requires.sound refl refl refl c.in-Err.ensures.none.references c.in-Err.ensures.none.count)
+    (kept_references h _ c.requires.sound refl refl refl refl c.in-Err.ensures.none.references c.in-Err.ensures.none.count)
 
 pub returns-in-Found-clause-does : goal.returns-in-Found-clause-does
 returns-in-Found-clause-does g c =

@@ -1,9 +1,14 @@
-use Rattle.std.proofs.Common.{slice_index, sym, ◌∙◌}
+use Rattle.std.proofs.Common.{◌≡◌, ℕ, Some, slice_index, sym, ap, ◌∙◌, subst}
 use Rattle.v6_base.specs.Image.{Image}
+use Rattle.open_files.specs.declared.file.OpenFile.{OpenFile}
+use Rattle.open_files.specs.Files.{file_at}
+use Rattle.sys_files.specs.declared.piping.Transfer.{Transfer}
 use Rattle.sys_files.specs.Handed.{Handed, handed}
-use Rattle.sys_files.proofs.DoesLemmas.{does_refused, does_kept}
-use Rattle.sys_files.proofs.OffsetLemmas.{is_file_of}
-use Rattle.sys_files.proofs.ReadLemmas.{read_refused, read_not_open, read_done, read_kept}
+use Rattle.sys_files.specs.Piping.{reads_pipe}
+use Rattle.sys_files.proofs.DoesLemmas.{does_refused, does_kept, does_by}
+use Rattle.sys_files.proofs.OffsetLemmas.{is_file_of, file_there}
+use Rattle.sys_files.proofs.ReadLemmas.{read_refused, read_not_open, read_done, read_piped, read_kept}
+use Rattle.sys_files.proofs.OwedLemmas.{file_referred}
 use Rattle.sys_files.proofs.moving.read_file.Goals as goal
 
 pub returns-in-Err-clause-does : goal.returns-in-Err-clause-does
@@ -33,5 +38,32 @@ returns-clause-does g c =
     let image : Image = g.S.Space.image c.args.space.now in
     let h : Handed = handed c.args.f.now c.args.u.now c.args.row.now image in
     does_kept (sym (read_done h (slice_index c.args.args 0) (slice_index c.args.args 1) c.args.now c.in-Ok.entry c.file_of-file.result
-    (c.in-Ok.ensures.entry c.args.row.now image) (c.file_of-file.ensures c.args.u.now c.args.row.now image) c.if-not-file.false)
-    ∙ c.read_from.ensures.did c.args.row.now) (read_kept h (slice_index c.args.args 0) (slice_index c.args.args 1) c.args.now c.requires.sound)
+    (c.in-Ok.ensures.entry c.args.row.now image)
+    (c.file_of-file.ensures c.args.u.now c.args.row.now image) c.if-not-file.false c.if-file.false)
+    ∙ c.read_from.ensures.did) (read_kept h (slice_index c.args.args 0) (slice_index c.args.args 1) c.args.now c.requires.sound)
+
+pub read_pipe-requires-clause-pipe : goal.read_pipe-requires-clause-pipe
+read_pipe-requires-clause-pipe g c file is =
+    let image : Image = g.S.Space.image c.args.space.now in
+    let h : Handed = handed c.args.f.now c.args.u.now c.args.row.now image in
+    let P : ℕ → Type 0 = λ entry. file_at h.files entry ≡ Some file in
+    ap (λ (x : OpenFile). x.kind.pipe) (file_there h c.in-Ok.entry file c.file_of-file.result
+    (subst P (ap (λ t. t.entry) c.transfer_of-transfer.ensures) is)
+    (c.file_of-file.ensures c.args.u.now c.args.row.now image)) ∙ c.if-file.true
+
+pub read_pipe-requires-clause-referred : goal.read_pipe-requires-clause-referred
+read_pipe-requires-clause-referred g c file is =
+    let image : Image = g.S.Space.image c.args.space.now in
+    let h : Handed = handed c.args.f.now c.args.u.now c.args.row.now image in
+    file_referred h _ file c.requires.sound is
+
+pub returns-then-file-clause-does : goal.returns-then-file-clause-does
+returns-then-file-clause-does g c =
+    let image : Image = g.S.Space.image c.args.space.now in
+    let h : Handed = handed c.args.f.now c.args.u.now c.args.row.now image in
+    let row = read_piped h (slice_index c.args.args 0) (slice_index c.args.args 1) c.args.now c.in-Ok.entry c.file_of-file.result
+    (c.in-Ok.ensures.entry c.args.row.now image)
+    (c.file_of-file.ensures c.args.u.now c.args.row.now image) c.if-not-file.false c.if-file.true in
+    does_by _ (ap (λ (t : Transfer). reads_pipe h t.entry t.at t.count c.args.now) c.transfer_of-transfer.ensures ∙ row)
+    c.read_pipe.ensures.answer c.read_pipe.ensures.state c.read_pipe.ensures.items
+    (read_kept h (slice_index c.args.args 0) (slice_index c.args.args 1) c.args.now c.requires.sound)

@@ -1,13 +1,9 @@
-use Rattle.std.proofs.Common.{◌∷◌, [], sym, ap, ◌∙◌}
-use Rattle.u_area.specs.declared.area.UArea.{UArea}
-use Rattle.sys_files.specs.Moving.{waits_for_keys}
-use Rattle.sys_files.specs.Entering.{did_with}
-use Rattle.sys_files.proofs.MovingLemmas.{pending_changed}
+use Rattle.std.proofs.Common.{◌∷◌, [], is_some, sym, ap, ◌∙◌}
+use Rattle.sys_files.proofs.MovingLemmas.{pending_changed, keys_by}
 use Rattle.sys_files.proofs.moving.wait_for_keys.Goals as goal
 
 pub returns : goal.returns
-returns c h is =
-    let waits = waits_for_keys h c.args.entry c.args.at c.args.count in
-    ap (λ (u : UArea). waits_for_keys (record h { u = u }) c.args.entry c.args.at c.args.count) is
-    ∙ ap (λ (u : UArea). did_with (record h { u = u }) waits.answer)
+returns c h area own =
+    keys_by h c.args.u.now _ c.args.row.now c.args.entry c.args.at c.args.count area own
+    (ap is_some (sym c.due.ensures) ∙ sym c.is_some.ensures ∙ c.if-is_some.false)
     (sym (pending_changed c.args.u.now 1 (c.args.entry ∷ c.args.at ∷ c.args.count ∷ 0 ∷ 0 ∷ 0 ∷ 0 ∷ 0 ∷ []) _))

@@ -11,16 +11,16 @@ use Rattle.unix_core.proofs.kernel.Kernel.new.Goals as goal
 pub returns-clause-system : goal.returns-clause-system
 returns-clause-system c =
     let w : World = record {
-      files = record { tree = c.new-tree.result; table = c.new.result; line = c.new-2.result };
+      files = record { tree = c.new-tree.result; table = c.new.result; line = c.new-2.result; pipes = c.new-3.result };
       procs = c.make_first.new.procs;
       tape = c.args.tape;
       core = c.args.core;
     } in
     let made = c.make_first.ensures in
     first_system c.args.nodes c.args.core c.requires.referred
-    w c.new-tree.ensures.nodes c.new-tree.ensures.none c.new.ensures c.new-2.ensures (ap (λ (p : Procs). p.rows) made ∙ c.new-3.ensures)
-    (ap (λ (p : Procs). p.table) made ∙ c.new-4.ensures.table ∙ ap first_table c.requires.time)
-    (subst (λ (p : Procs). IsTable p.table) (sym made) c.new-4.ensures.good)
+    w c.new-tree.ensures.nodes c.new-tree.ensures.none c.new.ensures c.new-3.ensures c.new-2.ensures (ap (λ (p : Procs). p.rows) made ∙ c.new-4.ensures)
+    (ap (λ (p : Procs). p.table) made ∙ c.new-5.ensures.table ∙ ap first_table c.requires.time)
+    (subst (λ (p : Procs). IsTable p.table) (sym made) c.new-5.ensures.good)
     (ap (λ (p : Procs). p.images) made ∙ ap (λ (k : Kept). with_keeping k 1 (Alive first_held)) c.requires.images) (ap (λ (p : Procs). p.switches) made)
     (ap (λ t. t.entry_room) c.requires.tape) (ap (λ t. t.byte_room) c.requires.tape) refl
 
@@ -30,15 +30,15 @@ returns-clause-blocks c = ap (λ (f : FileSystem). f.blocks) c.new-tree.ensures.
 pub invariant_of-result : goal.invariant_of-result
 invariant_of-result c =
     let w : World = record {
-      files = record { tree = c.new-tree.result; table = c.new.result; line = c.new-2.result };
+      files = record { tree = c.new-tree.result; table = c.new.result; line = c.new-2.result; pipes = c.new-3.result };
       procs = c.make_first.new.procs;
       tape = c.args.tape;
       core = c.args.core;
     } in
     let made = c.make_first.ensures in
     first_kernel c.args.nodes c.args.core c.requires.referred
-    w c.new-tree.ensures.nodes c.new-tree.ensures.none c.new.ensures c.new-2.ensures (ap (λ (p : Procs). p.rows) made ∙ c.new-3.ensures)
-    (ap (λ (p : Procs). p.table) made ∙ c.new-4.ensures.table ∙ ap first_table c.requires.time)
-    (subst (λ (p : Procs). IsTable p.table) (sym made) c.new-4.ensures.good)
+    w c.new-tree.ensures.nodes c.new-tree.ensures.none c.new.ensures c.new-3.ensures c.new-2.ensures (ap (λ (p : Procs). p.rows) made ∙ c.new-4.ensures)
+    (ap (λ (p : Procs). p.table) made ∙ c.new-5.ensures.table ∙ ap first_table c.requires.time)
+    (subst (λ (p : Procs). IsTable p.table) (sym made) c.new-5.ensures.good)
     (ap (λ (p : Procs). p.images) made ∙ ap (λ (k : Kept). with_keeping k 1 (Alive first_held)) c.requires.images) (ap (λ (p : Procs). p.switches) made)
     (ap (λ t. t.entry_room) c.requires.tape) (ap (λ t. t.byte_room) c.requires.tape) refl

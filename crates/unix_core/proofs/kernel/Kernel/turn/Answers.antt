@@ -1,8 +1,7 @@
-use Rattle.std.proofs.Common.{◌≡◌, ◌∙◌, slice_index, ap, sym, subst}
+use Rattle.std.proofs.Common.{◌≡◌, ◌∙◌, ap, sym, subst}
 use Rattle.v6_base.specs.Trace.{Took}
 use Rattle.v6_base.proofs.Took.{took_nothing}
 use Rattle.fs_laws.specs.Rest.{SameRest}
-use Rattle.u_area.specs.declared.area.UArea.{UArea}
 use Rattle.unix_core.specs.declared.world.World.{World}
 use Rattle.unix_core.specs.declared.machine.Stage.{Stage}
 use Rattle.abstract_unix.specs.Unix.{System}
@@ -10,8 +9,7 @@ use Rattle.unix_core.specs.State.{KernelState}
 use Rattle.abstract_unix.specs.Endings.{phase_after}
 use Rattle.abstract_unix.specs.Turn.{Turn, turned}
 use Rattle.abstract_unix.specs.Runs.{Slot, event_of}
-use Rattle.unix_core.specs.Parts.{turned_at, system_at, phase_of, HasStepped, IsKernel, IsPaused, IsRunning}
-use Rattle.unix_core.proofs.AreaLemmas.{own_area}
+use Rattle.unix_core.specs.Parts.{system_at, phase_of, HasStepped, IsKernel, IsPaused, IsRunning}
 use Rattle.unix_core.proofs.MachineLemmas.{runs_kernel}
 use Rattle.unix_core.proofs.TurnSteps.{has_stepped, stepped_user, user_slot, quiet_system, plain_answer, plain_goes, plain_next, plain_items}
 use Rattle.abstract_unix.specs.Private.{OthersUndisturbed}
@@ -19,10 +17,6 @@ use Rattle.unix_core.proofs.PrivateLemmas.{slot_private}
 use Rattle.unix_core.proofs.StayingLemmas.{turned_stays}
 use Rattle.unix_core.proofs.IdleLemmas.{idle_nobody}
 use Rattle.unix_core.proofs.kernel.Kernel.turn.Goals as goal
-
-pub area_at-requires : goal.area_at-requires
-area_at-requires g c =
-    (c.self.invariant.running c.in-Running.fixed c.in-Running.is).fixed
 
 pub execute-requires : goal.execute-requires
 execute-requires g c =
@@ -93,9 +87,6 @@ returns-in-Next-clause-items g c =
     took_nothing _ _ (ap (λ (x : System). (event_of Slot x).items) (sym same)
     ∙ plain_items (system_at w) f.slot run.user.ready.user then_ next (quiet_system w f.slot run.user))
 
-pub pc-at-requires : goal.pc-at-requires
-pc-at-requires g c = (c.self.invariant.resting c.in-Resting.is).good
-
 pub returns-in-Next-clause-phase : goal.returns-in-Next-clause-phase
 returns-in-Next-clause-phase g c =
     let w : World = c.self.inside.machine.world in
@@ -122,9 +113,7 @@ returns-in_default g c =
     let was : System = c.args.self.now.system in
     let takes = after.ensures.takes (system_at w) done in
     let next = takes.system ∙ ap (λ (t : Turn). t.next) slot in
-    let answer = c.turned_at.ensures
-    ∙ ap (λ (u : UArea). turned_at (slice_index u.r 7) after.result) (c.area_at.ensures ∙ own_area w f.slot run.user.ready)
-    ∙ after.ensures.answer (system_at w) done ∙ ap turned slot in
+    let answer = after.ensures.answer (system_at w) done ∙ ap turned slot in
     record {
       answer = answer;
       phase = takes.phase ∙ ap (λ (t : Turn). phase_after t.ending) slot;
@@ -147,7 +136,7 @@ returns-in-Resting g c =
     ap (λ (x : KernelState). event_of Slot x.system) c.self.view_is in
     let was : System = c.args.self.now.system in
     let next = other.ensures.takes.system ∙ ap (λ (t : Turn). t.next) same in
-    let answer = c.turned_at-in-Resting.ensures ∙ ap (λ n. turned_at n other.result) c.pc-at.ensures ∙ other.ensures.answer ∙ ap turned same in
+    let answer = other.ensures.answer ∙ ap turned same in
     record {
       answer = answer;
       phase = other.ensures.takes.phase ∙ ap (λ (t : Turn). phase_after t.ending) same;

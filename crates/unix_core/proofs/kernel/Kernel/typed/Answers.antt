@@ -11,7 +11,7 @@ use Rattle.unix_core.proofs.StayingLemmas.{typed_stays}
 use Rattle.unix_core.proofs.kernel.Kernel.typed.Goals as goal
 
 pub typed-requires-clause-started : goal.typed-requires-clause-started
-typed-requires-clause-started g c = ap (λ (v : KernelState). v.phase) c.self.view_is ∙ c.requires.started
+typed-requires-clause-started g c = ap (λ (v : KernelState). v.phase) c.self.view_is ∙ c.requires
 
 pub returns-clause-phase : goal.returns-clause-phase
 returns-clause-phase g c = c.typed.ensures.takes.phase

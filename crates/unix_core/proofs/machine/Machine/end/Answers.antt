@@ -6,40 +6,42 @@ use Rattle.unix_core.proofs.EndLemmas.{not_over, ended_good, ended_takes, ended_
 use Rattle.unix_core.proofs.machine.Machine.end.Goals as goal
 
 pub end_turn-requires-clause-table : goal.end_turn-requires-clause-table
-end_turn-requires-clause-table g c = (c.requires.good (not_over c.args.ending 0 (c.in-Ran.ensures.goes refl 0))).agree.table
+end_turn-requires-clause-table g c = (c.requires.good (not_over c.args.ending (c.in-Ran.ensures.goes refl))).agree.table
 
 pub settle-requires : goal.settle-requires
 settle-requires g c =
     let w : World = c.args.self.now.world in
-    let on = not_over c.args.ending 0 (c.in-Ran.ensures.goes refl 0) in
+    let on = not_over c.args.ending (c.in-Ran.ensures.goes refl) in
     ended_good w (c.requires.good on) c.args.s c.requires.user c.requires.slot c.args.ending (c.requires.runs on) c.end_turn.new.table c.end_turn.ensures.table c.end_turn.ensures.good
 
 pub returns-in-Ran-clause-answer : goal.returns-in-Ran-clause-answer
-returns-in-Ran-clause-answer g c pc = c.in-Ran.ensures.went pc ∙ end_answer c.args.self.now.world c.args.s pc c.args.ending
+returns-in-Ran-clause-answer g c = c.in-Ran.ensures.answer ∙ end_answer c.args.self.now.world c.args.s c.args.ending
 
 pub returns-in-Ran-clause-takes : goal.returns-in-Ran-clause-takes
-returns-in-Ran-clause-takes g c pc =
+returns-in-Ran-clause-takes g c =
     let w : World = c.args.self.now.world in
-    let on = not_over c.args.ending pc (c.in-Ran.ensures.goes refl pc) in
+    let goes = c.in-Ran.ensures.goes refl in
+    let on = not_over c.args.ending goes in
     ended_takes w (c.requires.good on) c.args.s c.requires.user c.requires.slot c.args.ending (c.requires.runs on) c.end_turn.new.table c.end_turn.ensures.table c.end_turn.ensures.good
-    pc (c.in-Ran.ensures.goes refl pc) _ _ c.settle.ensures.kernel c.settle.ensures.started (c.end_turn.ensures.board w.procs.images) c.settle.ensures.system
+    goes _ _ c.settle.ensures.kernel c.settle.ensures.started (c.end_turn.ensures.board w.procs.images) c.settle.ensures.system
 
 pub returns-in-Ran-clause-items : goal.returns-in-Ran-clause-items
-returns-in-Ran-clause-items g c pc =
+returns-in-Ran-clause-items g c =
     let w : World = c.args.self.now.world in
-    let on = not_over c.args.ending pc (c.in-Ran.ensures.goes refl pc) in
+    let goes = c.in-Ran.ensures.goes refl in
+    let on = not_over c.args.ending goes in
     ended_items w (c.requires.good on) c.args.s c.requires.user c.requires.slot c.args.ending (c.requires.runs on) c.end_turn.new.table c.end_turn.ensures.table c.end_turn.ensures.good
-    pc (c.in-Ran.ensures.goes refl pc) _ _ _ (c.end_turn.ensures.board w.procs.images) (c.end_turn.ensures.items (board_in w)) c.settle.ensures.items
+    goes _ _ _ (c.end_turn.ensures.board w.procs.images) (c.end_turn.ensures.items (board_in w)) c.settle.ensures.items
 
 pub returns-in_default-clause-answer : goal.returns-in_default-clause-answer
-returns-in_default-clause-answer g c pc = c.went_by.ensures.went pc ∙ end_answer c.args.self.now.world c.args.s pc c.args.ending
+returns-in_default-clause-answer g c = c.turned.ensures.answer ∙ end_answer c.args.self.now.world c.args.s c.args.ending
 
 pub returns-in_default-clause-takes : goal.returns-in_default-clause-takes
-returns-in_default-clause-takes g c pc =
+returns-in_default-clause-takes g c =
     let m = c.args.self.now in
-    stopped_takes m.world c.args.s pc c.args.ending (c.went_by.ensures.stops c.in_default.not-Ran pc) c.requires.covered
+    stopped_takes m.world c.args.s c.args.ending (c.turned.ensures.stops c.in_default.not-Ran) c.requires.covered
 
 pub returns-in_default-clause-items : goal.returns-in_default-clause-items
-returns-in_default-clause-items g c pc =
+returns-in_default-clause-items g c =
     let m = c.args.self.now in
-    took_nothing _ _ (stopped_items m.world c.args.s pc c.args.ending (c.went_by.ensures.stops c.in_default.not-Ran pc))
+    took_nothing _ _ (stopped_items m.world c.args.s c.args.ending (c.turned.ensures.stops c.in_default.not-Ran))

@@ -1,9 +1,8 @@
 use Rattle.std.proofs.Common.{◌<◌, ◌∙◌, rules, ap, sym, subst}
 use Rattle.v6_base.specs.Trace.{Took}
-use Rattle.sys_procs.specs.Process.{register}
-use Rattle.abstract_unix.specs.Unix.{System, process_of}
+use Rattle.abstract_unix.specs.Unix.{System}
 use Rattle.abstract_unix.specs.Turn.{Turn, turn, turned}
-use Rattle.unix_core.specs.Parts.{system_at, pc_by, pc_at, turn_end, Takes}
+use Rattle.unix_core.specs.Parts.{system_at, Takes}
 use Rattle.unix_core.proofs.PutLemmas.{good_alive}
 use Rattle.unix_core.proofs.TurnLemmas.{turn_is, turn_takes, turn_items}
 use Rattle.unix_core.proofs.TurnSteps.{user_slot}
@@ -17,35 +16,30 @@ end-requires-clause-slot g c =
 
 pub returns-in-Some-clause-answer : goal.returns-in-Some-clause-answer
 returns-in-Some-clause-answer g c =
-    let n = c.args.self.now in
     let s = c.in-Some.s in
     let above : 0 < s = search rules in
-    let m : System = system_at n.world in
-    c.end.ensures.answer (pc_at n.world)
-    ∙ ap (λ o. turned (turn_end c.go_on-ending.new.self.world s (pc_by m.unix o) c.go_on-ending.result)) c.in-Some.is
+    let m : System = system_at c.args.self.now.world in
+    c.end.ensures.answer
     ∙ ap turned (sym (turn_is m s (turn m s) c.go_on-ending.result c.go_on-ending.new.self.world c.go_on-ending.ensures.come))
     ∙ ap turned (sym (user_slot m s c.in-Some.is above))
 
 pub returns-in-Some-clause-takes : goal.returns-in-Some-clause-takes
 returns-in-Some-clause-takes g c =
-    let n = c.args.self.now in
     let s = c.in-Some.s in
     let above : 0 < s = search rules in
-    let m : System = system_at n.world in
+    let m : System = system_at c.args.self.now.world in
     let new = c.end.new.self in
     subst (λ (t : Turn). Takes t new.stage new.world) (sym (user_slot m s c.in-Some.is above))
-    (turn_takes m s (turn m s) c.go_on-ending.result c.go_on-ending.new.self.world c.go_on-ending.ensures.come _ _
-    (c.end.ensures.takes (register (process_of m.unix s) 7)))
+    (turn_takes m s (turn m s) c.go_on-ending.result c.go_on-ending.new.self.world c.go_on-ending.ensures.come _ _ c.end.ensures.takes)
 
 pub returns-in-Some-clause-items : goal.returns-in-Some-clause-items
 returns-in-Some-clause-items g c =
-    let n = c.args.self.now in
     let s = c.in-Some.s in
     let above : 0 < s = search rules in
-    let m : System = system_at n.world in
+    let m : System = system_at c.args.self.now.world in
     subst (λ (t : Turn). Took (g.T.Trace.taken c.args.trace.now) t.items (g.T.Trace.taken c.end.new.trace)) (sym (user_slot m s c.in-Some.is above))
     (turn_items m s (turn m s) c.go_on-ending.result c.go_on-ending.new.self.world c.go_on-ending.ensures.come _ _ _
-    c.go_on-ending.ensures.items (c.end.ensures.items (register (process_of m.unix s) 7)))
+    c.go_on-ending.ensures.items c.end.ensures.items)
 
 pub returns-in-Some-clause-frame : goal.returns-in-Some-clause-frame
 returns-in-Some-clause-frame g c = g.met.T.Trace.goes_on _ _ _ c.go_on-ending.ensures.frame c.end.ensures.frame

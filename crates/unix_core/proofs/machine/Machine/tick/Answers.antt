@@ -1,9 +1,16 @@
-use Rattle.std.proofs.Common.{◌∷◌, [], refl, subst}
+use Rattle.std.proofs.Common.{◌≡◌, ◌∷◌, [], false, rules, sym, ap, subst}
 use Rattle.v6_base.specs.Trace.{Took, Log}
 use Rattle.v6_base.specs.declared.entry.Entry.{Entry}
+use Rattle.fs_laws.specs.Rest.{SameRest}
 use Rattle.unix_core.specs.declared.world.World.{World}
+use Rattle.abstract_unix.specs.Unix.{System}
+use Rattle.unix_core.specs.Parts.{system_at, is_over}
 use Rattle.unix_core.proofs.BootKernelLemmas.{kernel_good}
-use Rattle.unix_core.proofs.TickLemmas.{second_due, tick_good, tick_next, tick_items}
+use Rattle.unix_core.proofs.GoodLemmas.{runs_low}
+use Rattle.unix_core.proofs.TableLemmas.{with_table}
+use Rattle.unix_core.proofs.TickLemmas.{second_due}
+use Rattle.unix_core.proofs.DeliveredLemmas.{second_trap, not_stopped, ticked_takes, ticked_items, ticked_goes, panic_takes, panic_items, panic_answer}
+use Rattle.unix_core.proofs.TickedLemmas.{HasTicked, tick_good, first_items, has_ticked}
 use Rattle.unix_core.proofs.machine.Machine.tick.Goals as goal
 
 pub tick_ageing-second-requires : goal.tick_ageing-second-requires
@@ -15,8 +22,8 @@ mode-mode-requires g c = kernel_good c.args.self.now.stage c.args.self.now.world
 pub charge-requires : goal.charge-requires
 charge-requires g c = kernel_good c.args.self.now.stage c.args.self.now.world c.requires.started c.requires.kernel
 
-pub settle-requires : goal.settle-requires
-settle-requires g c =
+pub deliver-requires-clause-good : goal.deliver-requires-clause-good
+deliver-requires-clause-good g c =
     let w : World = c.args.self.now.world in
     let n = c.charge.new.self in
     let second = c.tick_ageing-second in
@@ -24,30 +31,88 @@ settle-requires g c =
     c.charge.ensures.unix c.charge.ensures.table c.charge.ensures.board second.new.self second.ensures.table second.ensures.good
     c.is_due.result (second_due n.world.procs.table second.result c.is_due.result second.ensures.told c.is_due.ensures.second c.is_due.ensures.within)
     c.wake.new.table c.wake.ensures.table c.wake.ensures.good (c.wake.ensures.board n.world.procs.images)
+    (λ s. runs_low w s (kernel_good c.args.self.now.stage w c.requires.started c.requires.kernel).agree)
 
-pub returns-clause-takes : goal.returns-clause-takes
-returns-clause-takes g c =
-    let w : World = c.args.self.now.world in
-    let n = c.charge.new.self in
-    let second = c.tick_ageing-second in record {
-      kernel = c.settle.ensures.kernel;
-      system = tick_next w c.mode-mode.result c.mode-mode.ensures n.world c.charge.ensures.good
-          c.charge.ensures.unix c.charge.ensures.table c.charge.ensures.board second.new.self second.ensures.table second.ensures.good
-          c.is_due.result (second_due n.world.procs.table second.result c.is_due.result second.ensures.told c.is_due.ensures.second c.is_due.ensures.within)
-          c.wake.new.table c.wake.ensures.table c.wake.ensures.good (c.wake.ensures.board n.world.procs.images)
-          _ c.settle.ensures.system;
-      phase = c.settle.ensures.started;
-    }
-
-pub returns-clause-items : goal.returns-clause-items
-returns-clause-items g c =
+pub deliver-requires-clause-user : goal.deliver-requires-clause-user
+deliver-requires-clause-user g c =
     let w : World = c.args.self.now.world in
     let n = c.charge.new.self in
     let second = c.tick_ageing-second in
-    tick_items w c.mode-mode.result c.mode-mode.ensures n.world c.charge.ensures.good
+    let ticked : HasTicked w (with_table n.world c.wake.new.table) c.is_as_trap.result =
+    has_ticked w c.mode-mode.result c.mode-mode.ensures n.world c.charge.ensures.good
     c.charge.ensures.unix c.charge.ensures.table c.charge.ensures.board second.new.self second.ensures.table second.ensures.good
     c.is_due.result (second_due n.world.procs.table second.result c.is_due.result second.ensures.told c.is_due.ensures.second c.is_due.ensures.within)
     c.wake.new.table c.wake.ensures.table c.wake.ensures.good (c.wake.ensures.board n.world.procs.images)
-    _ refl _ (g.T.Trace.taken c.entry.new.self) _ _
+    (λ s. runs_low w s (kernel_good c.args.self.now.stage w c.requires.started c.requires.kernel).agree)
+    c.is_as_trap.result (second_trap c.mode-mode.result n.world.procs.table second.result c.is_as_trap.result second.ensures.told
+    c.is_as_trap.ensures.second c.is_as_trap.ensures.within) in
+    ticked.user
+
+pub returns-in-Panic : goal.returns-in-Panic
+returns-in-Panic g c =
+    let w : World = c.args.self.now.world in
+    let n = c.charge.new.self in
+    let second = c.tick_ageing-second in
+    let ticked : HasTicked w (with_table n.world c.wake.new.table) c.is_as_trap.result =
+    has_ticked w c.mode-mode.result c.mode-mode.ensures n.world c.charge.ensures.good
+    c.charge.ensures.unix c.charge.ensures.table c.charge.ensures.board second.new.self second.ensures.table second.ensures.good
+    c.is_due.result (second_due n.world.procs.table second.result c.is_due.result second.ensures.told c.is_due.ensures.second c.is_due.ensures.within)
+    c.wake.new.table c.wake.ensures.table c.wake.ensures.good (c.wake.ensures.board n.world.procs.images)
+    (λ s. runs_low w s (kernel_good c.args.self.now.stage w c.requires.started c.requires.kernel).agree)
+    c.is_as_trap.result (second_trap c.mode-mode.result n.world.procs.table second.result c.is_as_trap.result second.ensures.told
+    c.is_as_trap.ensures.second c.is_as_trap.ensures.within) in
+    let shown = first_items w c.mode-mode.result c.mode-mode.ensures n.world c.charge.ensures.good
+    c.charge.ensures.unix c.charge.ensures.table c.charge.ensures.board second.new.self second.ensures.table second.ensures.good
+    c.is_due.result (second_due n.world.procs.table second.result c.is_due.result second.ensures.told c.is_due.ensures.second c.is_due.ensures.within)
+    c.wake.new.table c.wake.ensures.table c.wake.ensures.good (c.wake.ensures.board n.world.procs.images)
+    (λ s. runs_low w s (kernel_good c.args.self.now.stage w c.requires.started c.requires.kernel).agree)
+    (g.T.Trace.taken c.args.trace.now) (g.T.Trace.taken c.entry.new.self) (g.T.Trace.taken c.wake.new.trace)
     (subst (λ (e : Entry). Took (g.T.Trace.taken c.args.trace.now) (Log e ∷ []) (g.T.Trace.taken c.entry.new.self)) c.tick_entry.ensures c.entry.ensures.took)
-    (c.wake.ensures.items _) c.settle.ensures.items
+    (c.wake.ensures.items _) in
+    let last = c.deliver.new.self.world in
+    let come = ticked.comes c.deliver.result last c.deliver.ensures.come in
+    let m : System = system_at w in
+    let kind = c.in-Panic.kind in
+    record {
+      answer = panic_answer m ticked.stop c.deliver.result last come kind c.in-Panic.is;
+      takes = panic_takes m ticked.stop c.deliver.result last come kind c.in-Panic.is (c.deliver.ensures.covered (ap is_over c.in-Panic.is));
+      rest = subst (λ b. SameRest b last.files.tree.nodes.blocks) c.charge.ensures.blocks c.deliver.ensures.rest;
+      items = panic_items m ticked.stop c.deliver.result last come kind c.in-Panic.is _ _ _ shown (ticked.shows _ _ c.deliver.ensures.items);
+      frame = g.met.T.Trace.goes_on _ _ _ c.entry.ensures.frame (g.met.T.Trace.goes_on _ _ _ c.wake.ensures.frame c.deliver.ensures.frame);
+    }
+
+pub returns-in_default : goal.returns-in_default
+returns-in_default g c =
+    let w : World = c.args.self.now.world in
+    let n = c.charge.new.self in
+    let second = c.tick_ageing-second in
+    let ticked : HasTicked w (with_table n.world c.wake.new.table) c.is_as_trap.result =
+    has_ticked w c.mode-mode.result c.mode-mode.ensures n.world c.charge.ensures.good
+    c.charge.ensures.unix c.charge.ensures.table c.charge.ensures.board second.new.self second.ensures.table second.ensures.good
+    c.is_due.result (second_due n.world.procs.table second.result c.is_due.result second.ensures.told c.is_due.ensures.second c.is_due.ensures.within)
+    c.wake.new.table c.wake.ensures.table c.wake.ensures.good (c.wake.ensures.board n.world.procs.images)
+    (λ s. runs_low w s (kernel_good c.args.self.now.stage w c.requires.started c.requires.kernel).agree)
+    c.is_as_trap.result (second_trap c.mode-mode.result n.world.procs.table second.result c.is_as_trap.result second.ensures.told
+    c.is_as_trap.ensures.second c.is_as_trap.ensures.within) in
+    let shown = first_items w c.mode-mode.result c.mode-mode.ensures n.world c.charge.ensures.good
+    c.charge.ensures.unix c.charge.ensures.table c.charge.ensures.board second.new.self second.ensures.table second.ensures.good
+    c.is_due.result (second_due n.world.procs.table second.result c.is_due.result second.ensures.told c.is_due.ensures.second c.is_due.ensures.within)
+    c.wake.new.table c.wake.ensures.table c.wake.ensures.good (c.wake.ensures.board n.world.procs.images)
+    (λ s. runs_low w s (kernel_good c.args.self.now.stage w c.requires.started c.requires.kernel).agree)
+    (g.T.Trace.taken c.args.trace.now) (g.T.Trace.taken c.entry.new.self) (g.T.Trace.taken c.wake.new.trace)
+    (subst (λ (e : Entry). Took (g.T.Trace.taken c.args.trace.now) (Log e ∷ []) (g.T.Trace.taken c.entry.new.self)) c.tick_entry.ensures c.entry.ensures.took)
+    (c.wake.ensures.items _) in
+    let last = c.deliver.new.self.world in
+    let come = ticked.comes c.deliver.result last c.deliver.ensures.come in
+    let m : System = system_at w in
+    let on : is_over c.deliver.result ≡ false = search rules in
+    let goes = not_stopped m ticked.stop c.deliver.result last come on in
+    record {
+      answer = ticked_goes m ticked.stop c.deliver.result last come goes;
+      takes = ticked_takes m ticked.stop c.deliver.result last come goes _ _ c.settle.ensures.kernel c.settle.ensures.started c.settle.ensures.system;
+      rest = subst (λ b. SameRest b c.settle.new.self.world.files.tree.nodes.blocks) c.charge.ensures.blocks
+          (subst (λ b. SameRest n.world.files.tree.nodes.blocks b) (sym c.settle.ensures.blocks) c.deliver.ensures.rest);
+      items = ticked_items m ticked.stop c.deliver.result last come goes _ _ _ _ shown (ticked.shows _ _ c.deliver.ensures.items) c.settle.ensures.items;
+      frame = g.met.T.Trace.goes_on _ _ _ c.entry.ensures.frame
+          (g.met.T.Trace.goes_on _ _ _ c.wake.ensures.frame (g.met.T.Trace.goes_on _ _ _ c.deliver.ensures.frame c.settle.ensures.frame));
+    }

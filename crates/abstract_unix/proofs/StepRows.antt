@@ -1,0 +1,32 @@
+-- One walk over the rows of the calls on files, step by step.
+use Rattle.std.proofs.Common.{ℕ, List, slice_index}
+use Rattle.sys_files.specs.Handed.{Handed}
+use Rattle.sys_files.specs.Did.{Did}
+use Rattle.sys_files.proofs.StepWalks.{StepWalks, walk_read, walk_write, walk_open, walk_close, walk_creat, walk_link, walk_unlink, walk_chdir, walk_mknod, walk_chmod, walk_chown, walk_stat, walk_stat_open, walk_seek, walk_stty, walk_gtty, walk_sync, walk_dup, walk_pipe}
+use Rattle.abstract_unix.specs.declared.calls.FileCall.{FileCall}
+use Rattle.abstract_unix.specs.declared.calls.FileCall.TheVariants as file
+use Rattle.abstract_unix.specs.Calls.{file_row}
+
+-- A fact that the words of the rows keep holds of what each row comes to.
+pub step_row : {P : Handed → Type 0} {Q : Did → Type 0} {Few Known : ℕ → Type 0} {slot : ℕ} → StepWalks P Q Few Known slot
+    → (call : FileCall) (h : Handed) (args : List ℕ) (now : ℕ)
+    → Few (slice_index args 1) → P h → Q (file_row call h slot args now)
+step_row k file.Read h a now few p = walk_read k h (slice_index a 0) (slice_index a 1) now p
+step_row k file.Write h a now few p = walk_write k h (slice_index a 0) (slice_index a 1) now few p
+step_row k file.Open h a now few p = walk_open k h (slice_index a 0) (slice_index a 1) p
+step_row k file.Close h a now few p = walk_close k h p
+step_row k file.Creat h a now few p = walk_creat k h (slice_index a 0) (slice_index a 1) now p
+step_row k file.Link h a now few p = walk_link k h (slice_index a 0) (slice_index a 1) now p
+step_row k file.Unlink h a now few p = walk_unlink k h (slice_index a 0) now p
+step_row k file.Chdir h a now few p = walk_chdir k h (slice_index a 0) p
+step_row k file.Mknod h a now few p = walk_mknod k h (slice_index a 0) (slice_index a 1) (slice_index a 2) now p
+step_row k file.Chmod h a now few p = walk_chmod k h (slice_index a 0) (slice_index a 1) now p
+step_row k file.Chown h a now few p = walk_chown k h (slice_index a 0) (slice_index a 1) now p
+step_row k file.Stat h a now few p = walk_stat k h (slice_index a 0) (slice_index a 1) p
+step_row k file.Seek h a now few p = walk_seek k h (slice_index a 0) (slice_index a 1) p
+step_row k file.Fstat h a now few p = walk_stat_open k h (slice_index a 0) p
+step_row k file.Stty h a now few p = walk_stty k h (slice_index a 0) p
+step_row k file.Gtty h a now few p = walk_gtty k h (slice_index a 0) p
+step_row k file.Sync h a now few p = walk_sync k h now p
+step_row k file.Dup h a now few p = walk_dup k h p
+step_row k file.Pipe h a now few p = walk_pipe k h now p

@@ -1,0 +1,166 @@
+-- Bytes of a memory that are written into a file, in one write or in two.
+use Rattle.std.proofs.Common.{◌≡◌, ◌⊎◌, ◌+◌, ◌-◌, ◌%◌, ◌<◌, ◌≤◌, ◌==◌, ◌||◌, ℕ, Bool, true, false, not, List, length, min, Option, Some, None, IsSome, unwrap_or, Result, Ok, Err, inl, inr, refl, sym, ap, ◌∙◌, subst, arith}
+use Rattle.std.proofs.lemmas.Bool.{cases_lt, cases_eq, eq-eqb, ne_eqb}
+use Rattle.std.proofs.lemmas.List.{get_or_past, get_or-set_same, set-set}
+use Rattle.v6_base.specs.Image.{Image}
+use Rattle.v6_base.specs.Copy.{load_bytes}
+use Rattle.v6_base.specs.declared.errno.Errno.{Errno}
+use Rattle.v6_base.proofs.Copies.{load_wraps}
+use Rattle.fs_codec.specs.Store.{Node, Store, node_numbered}
+use Rattle.fs_laws.specs.Numbers.{with_node}
+use Rattle.fs_laws.specs.Pieces.{Moving, write_file}
+use Rattle.fs_laws.proofs.RestLemmas.{rest_then}
+use Rattle.fs_nodes.specs.Copy.{get_from, get_kernel}
+use Rattle.fs_nodes.specs.FileSystem.{FileSystem}
+use Rattle.fs_tree.specs.Entries.{written, answer_to, WritesEntry}
+use Rattle.fs_tree.specs.Finding.{inodes_of}
+use Rattle.sys_files.specs.Handed.{node_in, no_node}
+use Rattle.sys_files.specs.Making.{entry_written}
+use Rattle.sys_files.specs.Entering.{SameReferences}
+use Rattle.sys_files.proofs.PartedWrites.{Alike, unless_ended, file_keeps, two_files}
+use Rattle.sys_files.proofs.LoadedLemmas.{loaded_long, loaded_part}
+
+-- Two parts of a call, one after the other, keep references and numbers.
+pub same_then : (a b c : FileSystem) → SameReferences a b → SameReferences b c → SameReferences a c
+same_then a b c first second = record {
+  references = λ i. second.references i ∙ first.references i;
+  count = second.count ∙ first.count;
+  blocks = rest_then a.blocks b.blocks c.blocks first.blocks second.blocks;
+}
+
+-- a node that is there
+pub node_there : (store : Store) (ino : ℕ) → IsSome (node_numbered store ino) → node_numbered store ino ≡ Some (node_in store ino)
+node_there store ino some = by (node_numbered store ino) some
+  where
+    by : (o : Option Node) → IsSome o → o ≡ Some (unwrap_or o no_node)
+    by (Some node) some = refl
+    by None some = absurd (cc)
+
+-- a number of a store that has a node
+numbered_low : (store : Store) (ino : ℕ) (node : Node) → node_numbered store ino ≡ Some node → ino < length store.nodes
+numbered_low store ino node is = elim (cases_lt ino (length store.nodes)) [
+  | inl low ↦ low
+  | inr past ↦ (let none : node_numbered store ino ≡ None = get_or_past store.nodes ino None past in absurd (cc))
+]
+
+-- Where the number of free blocks falls twice, it differs in the end if it ever did.
+mark_twice : (mark : Bool) (r s t : ℕ) → s ≤ r → t ≤ s → (mark || not (s == r)) || not (t == s) ≡ mark || not (t == r)
+mark_twice mark r s t less least = by mark (cases_eq s r) (cases_eq t s)
+  where
+    by : (mark : Bool) → (s ≡ r) ⊎ (s ≡ r → ⊥) → (t ≡ s) ⊎ (t ≡ s → ⊥)
+        → (mark || not (s == r)) || not (t == s) ≡ mark || not (t == r)
+    by true a b = refl
+    by false (inl same) b = ap (λ x. not (x == r) || not (t == x)) same ∙ ap (λ b. not b || not (t == r)) (eq-eqb r r refl)
+    by false (inr other) (inl same) = ap (λ b. not b || not (t == s)) (ne_eqb s r other)
+        ∙ sym (ap not (ne_eqb t r (λ e. other (omega (arith, e, same)))))
+    by false (inr other) (inr different) =
+        ap (λ b. not b || not (t == s)) (ne_eqb s r other)
+        ∙ sym (ap not (ne_eqb t r (λ e. other (omega (arith, e, less, least)))))
+
+-- A node is set twice, and the free blocks do not become more.
+node_twice : (store : Store) (ino : ℕ) (a b : Node) (r s : ℕ) → r ≤ store.room → s ≤ r
+    → with_node (with_node store ino a r) ino b s ≡ with_node store ino b s
+node_twice store ino a b r s less least =
+    ap (λ nodes. record (with_node (with_node store ino a r) ino b s) { nodes = nodes })
+    (set-set store.nodes ino (Some a) (Some b))
+    ∙ ap (λ mark. record (with_node store ino b s) { mark = mark }) (mark_twice store.mark store.room r s less least)
+
+-- what one write leaves that is alike to another
+alike_leaves : (store : Store) (ino : ℕ) (m x : Moving (Unit {0})) (last : Store) (r : Result (Unit {0}) Errno) → Alike m x
+    → WritesEntry store ino x last r
+    → WritesEntry store ino m last r
+alike_leaves store ino m x last r same w = record {
+  store = w.store ∙ ap (λ n. with_node store ino n x.room) (sym same.node)
+      ∙ ap (λ k. with_node store ino m.node k) (sym same.room);
+  told = w.told ∙ ap answer_to (sym same.error);
+}
+
+-- what a write of bytes of the kernel's own leaves, as the answer and the inodes
+pub entry_is : (old new : FileSystem) (ino offset : ℕ) (bytes : List ℕ) (now : ℕ) (r : Result (Unit {0}) Errno)
+    → WritesEntry old.store ino (written old.store (node_in old.store ino) offset bytes now) new.store r
+    → new.references ≡ old.references
+    → (r ≡ (entry_written (inodes_of old) ino offset bytes now).answer)
+    × (inodes_of new ≡ (entry_written (inodes_of old) ino offset bytes now).inodes)
+entry_is old new ino offset bytes now r w references = (w.told, λ i. record { store = w.store i; references = references i })
+
+refused_by : (o : Option Errno) (e : Errno) → Err e ≡ answer_to o → o ≡ Some e
+refused_by None e is = absurd (cc)
+refused_by (Some x) e is = by is
+  where
+    by : Err e ≡ answer_to (Some x) → Some x ≡ Some e
+    by is = cc
+
+done_by : (o : Option Errno) (u : Unit {0}) → Ok u ≡ answer_to o → o ≡ None
+done_by None u is = refl
+done_by (Some x) u is = absurd (cc)
+
+-- Bytes of a memory are written, in two writes that meet at a block's end.
+module _ (store middle last : Store) (ino : ℕ) (image : Image) (at rest offset count k now : ℕ) (bytes : List ℕ)
+    (loaded : load_bytes image at count ≡ Some bytes) (cut : k ≡ min count (32768 - offset % 512))
+    (onward : rest ≡ (at + k) % 65536)
+    (there : node_numbered store ino ≡ Some (node_in store ino))
+  where
+    abbrev n : ℕ
+    n = count - k
+
+    sum : count ≡ k + (count - k)
+    sum = omega (arith, cut)
+
+    border : ((offset + k) % 512 ≡ 0) ⊎ (count - k ≡ 0)
+    border = elim (cases_lt k count) [
+      | inl more ↦ inl (omega (arith, cut, more))
+      | inr none ↦ inr (omega (arith, none))
+    ]
+
+    both : k ≡ 0 → count - k ≡ 0
+    both none = omega (arith, cut, none)
+
+    parts : load_bytes image at (k + (count - k)) ≡ Some bytes
+    parts = ap (load_bytes image at) (sym sum) ∙ loaded
+
+    abbrev first : Moving (Unit {0})
+    first = write_file (get_from image at) (node_in store ino) store.room (tt {0}) offset k now
+
+    abbrev second : Moving (Unit {0})
+    second = write_file (get_from image rest) first.node first.room (tt {0}) (offset + k) n now
+
+    abbrev whole : Moving (Unit {0})
+    whole = written store (node_in store ino) offset bytes now
+
+    is_two : Alike whole (unless_ended first.error second first)
+    is_two =
+        subst (λ c. Alike (write_file (get_kernel bytes) (node_in store ino) store.room (tt {0}) offset c now)
+        (unless_ended first.error second first))
+        (sym (loaded_long image at (k + n) bytes parts))
+        (two_files offset k n (get_kernel bytes) (get_from image at) (get_from image rest) border
+        (λ v j few. sym (loaded_part image at (k + n) v j bytes parts (omega (arith, few))))
+        (λ v j few. sym (load_wraps image (rest + v) (at + (k + v)) j (omega (arith, onward)) ∙ loaded_part image at (k + n)
+        (k + v) j bytes parts (omega (arith, few))))
+        (node_in store ino) store.room now both)
+
+    -- The first is refused.
+    pub first_refused : (e : Errno) → WritesEntry store ino first middle (Err e) → WritesEntry store ino whole middle (Err e)
+    first_refused e w =
+        alike_leaves store ino whole first middle (Err e)
+        (subst (λ o. Alike whole (unless_ended o second first)) (refused_by first.error e w.told) is_two) w
+
+    -- The second finds what the first left.
+    pub second_written : (u : Unit {0}) (r : Result (Unit {0}) Errno) → WritesEntry store ino first middle (Ok u)
+        → ((node : Node) → node_numbered middle ino ≡ Some node
+        → WritesEntry middle ino (write_file (get_from image rest) node middle.room (tt {0}) (offset + k) n now) last r)
+        → WritesEntry store ino whole last r
+    second_written u r w each =
+        let low : ino < length store.nodes = numbered_low store ino (node_in store ino) there in
+        let found : node_numbered middle ino ≡ Some first.node =
+        ap (λ (s : Store). node_numbered s ino) w.store ∙ get_or-set_same store.nodes ino (Some first.node) None low in
+        let wrote : WritesEntry (with_node store ino first.node first.room) ino second last r =
+        subst (λ (s : Store). WritesEntry s ino
+        (write_file (get_from image rest) first.node s.room (tt {0}) (offset + k) n now) last r) w.store
+        (each first.node found) in
+        let twice : last ≡ with_node store ino second.node second.room =
+        wrote.store ∙ node_twice store ino first.node second.node first.room second.room
+        (file_keeps (get_from image at) (node_in store ino) store.room offset k now)
+        (file_keeps (get_from image rest) first.node first.room (offset + k) n now) in
+        alike_leaves store ino whole second last r
+        (subst (λ o. Alike whole (unless_ended o second first)) (done_by first.error u w.told) is_two)
+        (record { store = twice; told = wrote.told })

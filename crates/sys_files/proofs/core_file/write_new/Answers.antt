@@ -1,0 +1,20 @@
+use Rattle.sys_files.specs.Handed.{handed}
+use Rattle.sys_files.specs.Core.{writes_parts}
+use Rattle.sys_files.proofs.GivingLemmas.{takes_keeps_gives}
+use Rattle.sys_files.proofs.MakingLemmas.{made_told}
+use Rattle.sys_files.proofs.core_file.write_new.Goals as goal
+
+pub returns-clause-did : goal.returns-clause-did
+returns-clause-did g c = λ row.
+    let image = g.S.Space.image c.args.space.now in
+    made_told (handed c.args.f.now c.args.u.now row image) c.args.room.dir c.args.room.offset c.args.room.name
+    0o666 c.args.now (writes_parts c.args.now) c.user_of.result c.user_of.ensures
+    c.in_ok-ino.ino _ _ (handed c.enter_core-result.new.f c.args.u.now row image) c.enter_core-result.result
+    c.in_ok-ino.ensures.answer c.make_inode.ensures.inodes
+    (c.enter_core-result.ensures.did row) c.let_go.ensures.inodes
+
+pub returns-clause-kept : goal.returns-clause-kept
+returns-clause-kept g c =
+    takes_keeps_gives c.args.f.now.tree.nodes c.make_inode.new.nodes c.enter_core-result.new.f.tree.nodes
+    c.let_go.new.nodes c.in_ok-ino.ino c.in_ok-ino.ensures.found c.enter_core-result.ensures.kept
+    c.let_go.ensures.inodes c.let_go.ensures.rest
