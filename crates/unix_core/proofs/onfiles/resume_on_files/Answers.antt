@@ -44,8 +44,8 @@ module _ (w : World) (s : ℕ) (ready : IsReady w s) (pending : is_on_files (are
       let end = its_pends (in_pipe (given w s).u.pending (pends_on w s ready pending) other) in
       record {
         awaits = record {
-          pipe = ap (λ o. (unwrap_or o no_file).kind.pipe) end.there ∙ end.pipe;
-          named = end.named;
+          pipe = ap (λ o. (unwrap_or o no_file).kind.pipe) end.end.there ∙ end.end.pipe;
+          named = end.end.named;
           few = end.left;
         };
         named = tt;
