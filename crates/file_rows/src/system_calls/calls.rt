@@ -12,8 +12,8 @@ use crate::system_calls::world::{DATA_END, World};
 use proc_tab::Row;
 use sys_files::{
     Files, chdir_to, chmod_to, chown_to, close_all, close_file, creat_file, dup_file, gtty_get,
-    link_file, mknod_at, open_file, pipe_new, read_file, seek_to, stat_file, stat_open, stty_set, sync_all,
-    unlink_file, write_file,
+    link_file, mknod_at, open_file, pipe_new, read_file, seek_to, stat_file, stat_open, stty_set,
+    sync_all, unlink_file, write_file,
 };
 use u_area::UArea;
 use v6_base::{Answer, Chan, Errno, Space, Tape, Whole};
