@@ -1,5 +1,5 @@
 -- The bytes of a file up to its end, which a touch keeps and a write at the end makes more.
-use Rattle.std.proofs.Common.{◌≡◌, ◌+◌, ◌-◌, ◌*◌, ◌≤◌, ◌==◌, ℕ, Bool, true, false, cond, List, [], ◌∷◌, ◌++◌, length, length-append, take, drop, replicate, max, refl, sym, ap, ◌∙◌, arith, append_assoc}
+use Rattle.std.proofs.Common.{◌≡◌, ◌+◌, ◌-◌, ◌*◌, ◌≤◌, ◌==◌, ℕ, zero, suc, Bool, true, false, cond, List, [], ◌∷◌, ◌++◌, length, length-append, take, drop, replicate, max, refl, sym, ap, ◌∙◌, arith, append_assoc}
 use Rattle.std.proofs.Common.{slice_range, length-drop}
 use Rattle.std.proofs.Math.Seq.{take-append_seam, take-append-add}
 use Rattle.std.proofs.lemmas.List.{append-nil, take-append-le, drop-append-le, take-append-drop, length-take-le}
@@ -96,3 +96,11 @@ piece_contents node from end order low whole =
     ap (λ l. take (end - from) (drop from l)) (sym (take-append-drop node.size node.body))
     ∙ ap (take (end - from)) (drop-append-le from front rest (omega (arith, long, order, low)))
     ∙ take-append-le (end - from) (drop from front) rest (omega (arith, long, left, order, low))
+
+pub drop_twice : (a b : ℕ) (xs : List ℕ) → drop b (drop a xs) ≡ drop (a + b) xs
+drop_twice zero b xs = let e : zero + b ≡ b = omega arith in ap (λ j. drop j xs) (sym e)
+drop_twice (suc a) zero [] = let e : suc a + zero ≡ suc a = omega arith in ap (λ j. drop {A = ℕ} j []) (sym e)
+drop_twice (suc a) (suc b) [] = let e : suc a + suc b ≡ suc (a + suc b) = omega arith in ap (λ j. drop {A = ℕ} j []) (sym e)
+drop_twice (suc a) b (x ∷ xs) =
+    let e : suc a + b ≡ suc (a + b) = omega arith in
+    drop_twice a b xs ∙ ap (λ j. drop j (x ∷ xs)) (sym e)

@@ -16,7 +16,7 @@ use Rattle.fs_laws.specs.Pieces.{Moving, pieces, piece_end, reading, stopped, re
 use Rattle.fs_laws.proofs.PieceLemmas.{touched_device, further, read_end, read_stop, read_fault, read_more}
 use Rattle.fs_nodes.specs.Copy.{put_into}
 use Rattle.pipe_ends.specs.Queue.{contents}
-use Rattle.pipe_ends.proofs.Contents.{IsLonger, same_file, touched_longer, longer_whole, longer_contents, piece_contents}
+use Rattle.pipe_ends.proofs.Contents.{IsLonger, same_file, touched_longer, longer_whole, longer_contents, piece_contents, drop_twice}
 
 -- bytes stored one after the other
 then_joins : (r : Result Image Trap) (f g : Image → Option Image) (middle : Image) (end : Option Image)
@@ -105,12 +105,7 @@ Later at from end m =
 
 -- the bytes of a piece and those behind it
 parts : (from n k : ℕ) (l : List ℕ) → take n (drop from l) ++ take k (drop (from + n) l) ≡ take (n + k) (drop from l)
-parts from n k l = ap (λ x. take n (drop from l) ++ take k x) (sym (drops from n l)) ∙ sym (take-add n k (drop from l)) where
-  drops : (a b : ℕ) (xs : List ℕ) → drop b (drop a xs) ≡ drop (a + b) xs
-  drops zero b xs = let e : zero + b ≡ b = omega arith in ap (λ j. drop j xs) (sym e)
-  drops (suc a) zero [] = let e : suc a + zero ≡ suc a = omega arith in ap (λ j. drop {A = ℕ} j []) (sym e)
-  drops (suc a) (suc b) [] = let e : suc a + suc b ≡ suc (a + suc b) = omega arith in ap (λ j. drop {A = ℕ} j []) (sym e)
-  drops (suc a) b (x ∷ xs) = let e : suc a + b ≡ suc (a + b) = omega arith in drops a b xs ∙ ap (λ j. drop j (x ∷ xs)) (sym e)
+parts from n k l = ap (λ x. take n (drop from l) ++ take k x) (sym (drop_twice from n l)) ∙ sym (take-add n k (drop from l))
 
 next_takes : (at from end : ℕ) (m : Moving Image) (memory : Image) (r : Moving Image) → from < end → end ≤ m.node.size
     → m.node.size ≤ length m.node.body → put_into at m.memory m.done (piece_in from end m) ≡ Some memory
