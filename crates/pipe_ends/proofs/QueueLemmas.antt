@@ -1,11 +1,10 @@
 -- A pipe is a queue, through its reads and its writes.
-use Rattle.std.proofs.Common.{◌≡◌, ◌+◌, ◌-◌, ◌%◌, ◌^◌, ◌<◌, ◌≤◌, ◌==◌, inl, inr, ℕ, zero, suc, Bool, true, false, cond, List, [], ◌++◌, length, min, take, drop, unwrap_or, Option, Some, None, refl, sym, ap, ◌∙◌, subst, arith, append_assoc, length-drop}
+use Rattle.std.proofs.Common.{◌≡◌, ◌≢◌, ◌+◌, ◌-◌, ◌%◌, ◌^◌, ◌<◌, ◌≤◌, inl, inr, ℕ, zero, suc, Bool, true, false, cond, List, [], ◌++◌, length, take, drop, unwrap_or, Option, Some, None, refl, sym, ap, ◌∙◌, subst, arith, append_assoc, length-drop}
 use Rattle.std.specs.Prelude.{nat_lt}
 use Rattle.std.proofs.lemmas.Bool.{cases_eq, cases_lt}
-use Rattle.std.proofs.lemmas.Bool.Decides.{eqb_tells}
 use Rattle.std.proofs.lemmas.List.{append-nil, drop_all, drop-append-le, length-take-le, get_or-set_same, get_or_past}
 use Rattle.v6_base.specs.Image.{Image}
-use Rattle.v6_base.specs.Copy.{load_bytes, store_bytes}
+use Rattle.v6_base.specs.Copy.{store_bytes}
 use Rattle.v6_base.specs.declared.errno.Errno.{Errno}
 use Rattle.v6_base.proofs.Copies.{load_wraps}
 use Rattle.fs_codec.specs.Modes.{is_device}
@@ -18,12 +17,12 @@ use Rattle.pipe_ends.specs.declared.ends.Piped.TheVariants.{Done, Wait, Broken, 
 use Rattle.pipe_ends.specs.declared.ends.TheConstants.{PIPSIZ}
 use Rattle.pipe_ends.specs.Pipes.{pipe_file, begun_again}
 use Rattle.pipe_ends.specs.Queue.{contents, queue, IsQueue, GoesToEnd, ComesFromFront}
-use Rattle.pipe_ends.specs.Reads.{PipeRead, at_front, rewound, told_of_nothing, ends_with, read_of, reads_some, reads}
-use Rattle.pipe_ends.specs.Writes.{WriteCall, Writing, PipeWrite, size_in, fitting, append_of, appended, ends_as, waits, unless_error, rounds, write_call, writes}
+use Rattle.pipe_ends.specs.Reads.{PipeRead, at_front, rewound, told_of_nothing, ends_with, read_of, reads_some}
+use Rattle.pipe_ends.specs.Writes.{WriteCall, Writing, PipeWrite, size_in, fitting, append_of, appended, ends_as, unless_error, rounds, write_call, writes}
 use Rattle.pipe_ends.proofs.Contents.{drop_twice}
-use Rattle.pipe_ends.proofs.QueueReads.{Takes, file_takes}
-use Rattle.pipe_ends.proofs.QueueWrites.{Puts, bytes_long, loads_join, file_puts}
-use Rattle.pipe_ends.proofs.RoundLemmas.{done_in, broken_in, waits_in, appends_at, less_left, after_tests}
+use Rattle.pipe_ends.proofs.QueueReads.{file_takes}
+use Rattle.pipe_ends.proofs.QueueWrites.{Puts, loads_join, file_puts}
+use Rattle.pipe_ends.proofs.RoundLemmas.{done_in, broken_in, waits_in, appends_at, less_left, after_tests, broken_says}
 
 unwrapped : (o : Option Node) (d node : Node) → o ≡ Some node → unwrap_or o d ≡ node
 unwrapped o d node is = ap (λ x. unwrap_or x d) is
@@ -72,6 +71,7 @@ puts_nothing w image q answer is ino offset done halts =
       few = omega arith;
       done = λ n says. sym (done n says);
       waits = λ left says. let same = halts left says in omega (arith, same);
+      broken = λ says. refl;
       bytes = [];
       loaded = refl;
       behind = ap (λ n. drop n (contents (pipe_file w.store q))) offset
@@ -123,6 +123,7 @@ puts_error c w e is =
       few = omega (arith, few);
       done = λ n says. absurd (cc);
       waits = λ left says. absurd (cc);
+      broken = λ says. absurd (cc);
       bytes = puts.bytes;
       loaded = puts.loaded;
       behind = appended_behind c w is;
@@ -130,10 +131,10 @@ puts_error c w e is =
     }
 
 -- an append has none, and the tests come once more
-puts_on : (c : WriteCall) (w : Writing) (r : PipeWrite) → IsQueue w.store w.pipe → (append_of c w).error ≡ None
+puts_on : (c : WriteCall) (w : Writing) (r : PipeWrite) → IsQueue w.store w.pipe → (append_of c w).error ≡ None → r.answer ≢ Broken
     → GoesToEnd (appended w (append_of c w)).store (appended w (append_of c w)).pipe c.image ((w.at + fitting w) % 65536)
     (w.left - fitting w) r → GoesToEnd w.store w.pipe c.image w.at w.left r
-puts_on c w r is none rest =
+puts_on c w r is none whole rest =
     let puts = append_puts c w is in
     let all = puts.all none in
     let few = rest.few in
@@ -143,6 +144,7 @@ puts_on c w r is none rest =
       few = omega (arith, all, few);
       done = λ n says. let d = rest.done n says in omega (arith, d, all);
       waits = λ left says. let l = rest.waits left says in omega (arith, l, all);
+      broken = λ says. absurd (whole says);
       bytes = puts.bytes ++ rest.bytes;
       loaded = loads_join c.image w.at puts.put rest.put puts.bytes rest.bytes puts.loaded
           (load_wraps c.image (w.at + puts.put) ((w.at + fitting w) % 65536) rest.put wrapped ∙ rest.loaded);
@@ -152,13 +154,15 @@ puts_on c w r is none rest =
     }
 
 after_puts : (f : ℕ) (c : WriteCall) (w : Writing) (o : Option Errno) → (append_of c w).error ≡ o → IsQueue w.store w.pipe
+    → 2 ≤ c.ends
     → GoesToEnd (appended w (append_of c w)).store (appended w (append_of c w)).pipe c.image ((w.at + fitting w) % 65536)
     (w.left - fitting w) (rounds f c (appended w (append_of c w)))
     → GoesToEnd w.store w.pipe c.image w.at w.left (after_tests f c w)
-after_puts f c w None says is rest =
+after_puts f c w None says is both rest =
     subst (λ o. GoesToEnd w.store w.pipe c.image w.at w.left (unless_error (appended w (append_of c w)) o (rounds f c (appended w (append_of c w)))))
-    (sym says) (puts_on c w (rounds f c (appended w (append_of c w))) is says rest)
-after_puts f c w (Some e) says is rest =
+    (sym says) (puts_on c w (rounds f c (appended w (append_of c w))) is says
+    (λ b. let less = broken_says c (appended w (append_of c w)) f b in absurd (omega (arith, both, less))) rest)
+after_puts f c w (Some e) says is both rest =
     subst (λ o. GoesToEnd w.store w.pipe c.image w.at w.left (unless_error (appended w (append_of c w)) o (rounds f c (appended w (append_of c w)))))
     (sym says) (puts_error c w e is)
 
@@ -179,7 +183,7 @@ rounds_put (suc f) c w enough is = elim (cases_eq w.left 0) [
         | inr both ↦ elim (cases_lt (size_in w) PIPSIZ) [
           | inl room ↦
               subst (GoesToEnd w.store w.pipe c.image w.at w.left) (sym (appends_at f c w some both room))
-              (after_puts f c w (append_of c w).error refl is
+              (after_puts f c w (append_of c w).error refl is both
               (rounds_put f c (appended w (append_of c w)) (less_left w f some room enough) (appended_stays c w is)))
           | inr above ↦
               subst (GoesToEnd w.store w.pipe c.image w.at w.left) (sym (waits_in f c w some both above))

@@ -161,7 +161,7 @@ by_rounds c P all few full error (suc f) w = elim (cases_eq w.left 0) [
 ]
 
 -- Broken says that bytes were left and an end was gone.
-broken_says : (c : WriteCall) (w : Writing) (f : ℕ) → (rounds f c w).answer ≡ Broken → c.ends < 2
+pub broken_says : (c : WriteCall) (w : Writing) (f : ℕ) → (rounds f c w).answer ≡ Broken → c.ends < 2
 broken_says c w f =
     by_rounds c (λ r. r.answer ≡ Broken → c.ends < 2) (λ v is. absurd (cc)) (λ v few is. few)
     (λ v some both full is. absurd (cc)) (λ v e is. absurd (cc)) f w

@@ -5,7 +5,7 @@ use Rattle.v6_base.specs.Copy.{load_bytes, store_bytes}
 use Rattle.fs_codec.specs.Modes.{is_device}
 use Rattle.fs_codec.specs.Store.{Node, Store, node_numbered}
 use Rattle.pipe_ends.specs.declared.ends.Pipe.{Pipe}
-use Rattle.pipe_ends.specs.declared.ends.Piped.TheVariants.{Done, Wait}
+use Rattle.pipe_ends.specs.declared.ends.Piped.TheVariants.{Done, Wait, Broken}
 use Rattle.pipe_ends.specs.declared.ends.TheConstants.{PIPSIZ}
 use Rattle.pipe_ends.specs.Pipes.{pipe_file}
 use Rattle.pipe_ends.specs.Reads.{PipeRead}
@@ -29,12 +29,13 @@ pub record IsQueue (store : Store) (p : Pipe) : Type 0 where
   pub read : p.offset ≤ (pipe_file store p).size
 
 -- What a write puts goes to the end: the first bytes of what it is to write, as they stand in the memory that they come from.
--- These are all where it is done, and all but those that are left where it waits.
+-- These are all where it is done, all but those that are left where it waits, and none where the pipe is broken.
 pub record GoesToEnd (store : Store) (p : Pipe) (image : Image) (at count : ℕ) (w : PipeWrite) : Type 0 where
   pub put : ℕ
   pub few : put ≤ count
   pub done : (n : ℕ) → w.answer ≡ Done n → put ≡ count
   pub waits : (left : ℕ) → w.answer ≡ Wait left → put + left ≡ count
+  pub broken : w.answer ≡ Broken → put ≡ 0
   pub bytes : List ℕ
   pub loaded : load_bytes image at put ≡ Some bytes
   pub behind : queue w.store w.pipe ≡ queue store p ++ bytes
