@@ -1,5 +1,5 @@
 -- A pipe is a queue, through its reads and its writes.
-use Rattle.std.proofs.Common.{◌≡◌, ◌≢◌, ◌+◌, ◌-◌, ◌%◌, ◌^◌, ◌<◌, ◌≤◌, inl, inr, ℕ, zero, suc, Bool, true, false, cond, List, [], ◌++◌, length, take, drop, unwrap_or, Option, Some, None, refl, sym, ap, ◌∙◌, subst, arith, append_assoc, length-drop}
+use Rattle.std.proofs.Common.{◌≡◌, ◌≢◌, ◌+◌, ◌%◌, ◌^◌, ◌<◌, ◌≤◌, inl, inr, ℕ, zero, suc, Bool, true, false, cond, List, [], ◌++◌, length, take, drop, unwrap_or, Option, Some, None, refl, sym, ap, ◌∙◌, subst, arith, append_assoc, length-drop}
 use Rattle.std.specs.Prelude.{nat_lt}
 use Rattle.std.proofs.lemmas.Bool.{cases_eq, cases_lt}
 use Rattle.std.proofs.lemmas.List.{append-nil, drop_all, drop-append-le, length-take-le, get_or-set_same, get_or_past}
@@ -59,12 +59,22 @@ queue_stays store p q new room is same plain whole small read =
       read = subst (λ (n : Node). q.offset ≤ n.size) file read;
     }
 
+-- what is left of a write goes to the end
+abbrev Goes : WriteCall → Writing → PipeWrite → Type 0
+Goes c w = GoesToEnd w.store w.pipe c.image w.at w.left
+
+-- how far a write has come behind an append
+abbrev behind : WriteCall → Writing → Writing
+behind c w = appended w (append_of c w)
+
 -- a write of which none is put
-puts_nothing : (w : Writing) (image : Image) (q : Pipe) (answer : Piped) → IsQueue w.store w.pipe → q.ino ≡ w.pipe.ino
-    → q.offset ≡ w.pipe.offset → ((n : ℕ) → answer ≡ Done n → w.left ≡ 0) → ((left : ℕ) → answer ≡ Wait left → left ≡ w.left)
-    → GoesToEnd w.store w.pipe image w.at w.left (record { store = w.store; pipe = q; answer = answer })
-puts_nothing w image q answer is ino offset done halts =
-    let file : pipe_file w.store w.pipe ≡ pipe_file w.store q = sym (file_is w.store q (pipe_file w.store w.pipe) (ap (node_numbered w.store) ino ∙ is.there)) in
+puts_nothing : (c : WriteCall) (w : Writing) (q : Pipe) (answer : Piped) → IsQueue w.store w.pipe → q.ino ≡ w.pipe.ino
+    → q.offset ≡ w.pipe.offset → ((n : ℕ) → answer ≡ Done n → w.left ≡ 0)
+    → ((left : ℕ) → answer ≡ Wait left → left ≡ w.left)
+    → Goes c w (record { store = w.store; pipe = q; answer = answer })
+puts_nothing c w q answer is ino offset done halts =
+    let file : pipe_file w.store w.pipe ≡ pipe_file w.store q =
+        sym (file_is w.store q (pipe_file w.store w.pipe) (ap (node_numbered w.store) ino ∙ is.there)) in
     let read = is.read in
     record {
       put = 0;
@@ -91,30 +101,30 @@ append_puts : (c : WriteCall) (w : Writing) → IsQueue w.store w.pipe
 append_puts c w is = file_puts c.image w.at (fitting w) c.time w.store.room (pipe_file w.store w.pipe) is.plain is.whole
 
 appended_stays : (c : WriteCall) (w : Writing) → IsQueue w.store w.pipe
-    → IsQueue (appended w (append_of c w)).store (appended w (append_of c w)).pipe
+    → IsQueue (behind c w).store (behind c w).pipe
 appended_stays c w is =
     let puts = append_puts c w is in
     let few = puts.few in
     let size = puts.size in
     let small = is.small in
     let read = is.read in
-    queue_stays w.store w.pipe (appended w (append_of c w)).pipe (append_of c w).node (append_of c w).room is refl
+    queue_stays w.store w.pipe (behind c w).pipe (append_of c w).node (append_of c w).room is refl
     (puts.device ∙ is.plain) puts.whole (omega (arith, few, size, small)) (omega (arith, size, read))
 
 appended_behind : (c : WriteCall) (w : Writing) (is : IsQueue w.store w.pipe)
-    → queue (appended w (append_of c w)).store (appended w (append_of c w)).pipe ≡ queue w.store w.pipe ++ (append_puts c w is).bytes
+    → queue (behind c w).store (behind c w).pipe ≡ queue w.store w.pipe ++ (append_puts c w is).bytes
 appended_behind c w is =
     let puts = append_puts c w is in
     let read = is.read in
     let old : List ℕ = contents (pipe_file w.store w.pipe) in
     let long : length old ≡ size_in w = length-take-le (size_in w) (pipe_file w.store w.pipe).body is.whole in
     ap (λ (f : Node). drop w.pipe.offset (contents f))
-    (now_file w.store w.pipe (appended w (append_of c w)).pipe (append_of c w).node (append_of c w).room is refl)
+    (now_file w.store w.pipe (behind c w).pipe (append_of c w).node (append_of c w).room is refl)
     ∙ ap (drop w.pipe.offset) puts.behind ∙ drop-append-le w.pipe.offset old puts.bytes (omega (arith, long, read))
 
 -- an append has an error, which ends the write
 puts_error : (c : WriteCall) (w : Writing) (e : Errno) → IsQueue w.store w.pipe
-    → GoesToEnd w.store w.pipe c.image w.at w.left (ends_as (appended w (append_of c w)) (Error e))
+    → Goes c w (ends_as (behind c w) (Error e))
 puts_error c w e is =
     let puts = append_puts c w is in
     let few = puts.few in
@@ -131,9 +141,9 @@ puts_error c w e is =
     }
 
 -- an append has none, and the tests come once more
-puts_on : (c : WriteCall) (w : Writing) (r : PipeWrite) → IsQueue w.store w.pipe → (append_of c w).error ≡ None → r.answer ≢ Broken
-    → GoesToEnd (appended w (append_of c w)).store (appended w (append_of c w)).pipe c.image ((w.at + fitting w) % 65536)
-    (w.left - fitting w) r → GoesToEnd w.store w.pipe c.image w.at w.left r
+puts_on : (c : WriteCall) (w : Writing) (r : PipeWrite) → IsQueue w.store w.pipe → (append_of c w).error ≡ None
+    → r.answer ≢ Broken
+    → Goes c (behind c w) r → Goes c w r
 puts_on c w r is none whole rest =
     let puts = append_puts c w is in
     let all = puts.all none in
@@ -155,39 +165,38 @@ puts_on c w r is none whole rest =
 
 after_puts : (f : ℕ) (c : WriteCall) (w : Writing) (o : Option Errno) → (append_of c w).error ≡ o → IsQueue w.store w.pipe
     → 2 ≤ c.ends
-    → GoesToEnd (appended w (append_of c w)).store (appended w (append_of c w)).pipe c.image ((w.at + fitting w) % 65536)
-    (w.left - fitting w) (rounds f c (appended w (append_of c w)))
-    → GoesToEnd w.store w.pipe c.image w.at w.left (after_tests f c w)
+    → Goes c (behind c w) (rounds f c (behind c w))
+    → Goes c w (after_tests f c w)
 after_puts f c w None says is both rest =
-    subst (λ o. GoesToEnd w.store w.pipe c.image w.at w.left (unless_error (appended w (append_of c w)) o (rounds f c (appended w (append_of c w)))))
-    (sym says) (puts_on c w (rounds f c (appended w (append_of c w))) is says
-    (λ b. let less = broken_says c (appended w (append_of c w)) f b in absurd (omega (arith, both, less))) rest)
+    subst (λ o. Goes c w (unless_error (behind c w) o (rounds f c (behind c w))))
+    (sym says) (puts_on c w (rounds f c (behind c w)) is says
+    (λ b. let less = broken_says c (behind c w) f b in absurd (omega (arith, both, less))) rest)
 after_puts f c w (Some e) says is both rest =
-    subst (λ o. GoesToEnd w.store w.pipe c.image w.at w.left (unless_error (appended w (append_of c w)) o (rounds f c (appended w (append_of c w)))))
+    subst (λ o. Goes c w (unless_error (behind c w) o (rounds f c (behind c w))))
     (sym says) (puts_error c w e is)
 
 -- What the rounds of a write put.
 rounds_put : (f : ℕ) (c : WriteCall) (w : Writing) → w.left < f → IsQueue w.store w.pipe
-    → GoesToEnd w.store w.pipe c.image w.at w.left (rounds f c w)
+    → Goes c w (rounds f c w)
 rounds_put zero c w enough is = absurd (omega (arith, enough))
 rounds_put (suc f) c w enough is = elim (cases_eq w.left 0) [
   | inl none ↦
-      subst (GoesToEnd w.store w.pipe c.image w.at w.left) (sym (done_in f c w none))
-      (puts_nothing w c.image w.pipe (Done c.count) is refl refl (λ n says. none) (λ left says. absurd (cc)))
+      subst (Goes c w) (sym (done_in f c w none))
+      (puts_nothing c w w.pipe (Done c.count) is refl refl (λ n says. none) (λ left says. absurd (cc)))
   | inr more ↦
       let some : 0 < w.left = omega (arith, more) in
       elim (cases_lt c.ends 2) [
         | inl less ↦
-            subst (GoesToEnd w.store w.pipe c.image w.at w.left) (sym (broken_in f c w some less))
-            (puts_nothing w c.image w.pipe Broken is refl refl (λ n says. absurd (cc)) (λ left says. absurd (cc)))
+            subst (Goes c w) (sym (broken_in f c w some less))
+            (puts_nothing c w w.pipe Broken is refl refl (λ n says. absurd (cc)) (λ left says. absurd (cc)))
         | inr both ↦ elim (cases_lt (size_in w) PIPSIZ) [
           | inl room ↦
-              subst (GoesToEnd w.store w.pipe c.image w.at w.left) (sym (appends_at f c w some both room))
+              subst (Goes c w) (sym (appends_at f c w some both room))
               (after_puts f c w (append_of c w).error refl is both
-              (rounds_put f c (appended w (append_of c w)) (less_left w f some room enough) (appended_stays c w is)))
+              (rounds_put f c (behind c w) (less_left w f some room enough) (appended_stays c w is)))
           | inr above ↦
-              subst (GoesToEnd w.store w.pipe c.image w.at w.left) (sym (waits_in f c w some both above))
-              (puts_nothing w c.image (record w.pipe { writer_waits = true }) (Wait w.left) is refl refl (λ n says. absurd (cc))
+              subst (Goes c w) (sym (waits_in f c w some both above))
+              (puts_nothing c w (record w.pipe { writer_waits = true }) (Wait w.left) is refl refl (λ n says. absurd (cc))
               (λ left says. let same : w.left ≡ left = cc in sym same))
         ]
       ]
@@ -281,20 +290,21 @@ takes_some store p image at count time is =
     }
 
 -- the same of a call whose parts are those of what it comes to
-pub same_write : (store : Store) (p : Pipe) (image : Image) (at count : ℕ) (w : PipeWrite) (new : Store) (q : Pipe) (answer : Piped)
-    → new ≡ w.store → q ≡ w.pipe → answer ≡ w.answer → GoesToEnd store p image at count w
+pub same_write : (store : Store) (p : Pipe) (image : Image) (at count : ℕ) (w : PipeWrite) (new : Store) (q : Pipe)
+    (answer : Piped) → new ≡ w.store → q ≡ w.pipe → answer ≡ w.answer → GoesToEnd store p image at count w
     → GoesToEnd store p image at count (record { store = new; pipe = q; answer = answer })
 same_write store p image at count w new q answer stores pipes answers goes =
-    subst (λ (a : Piped). GoesToEnd store p image at count (record { store = new; pipe = q; answer = a })) (sym answers)
-    (subst (λ (x : Pipe). GoesToEnd store p image at count (record { store = new; pipe = x; answer = w.answer })) (sym pipes)
-    (subst (λ (s : Store). GoesToEnd store p image at count (record { store = s; pipe = w.pipe; answer = w.answer })) (sym stores) goes))
+    let P : Store → Pipe → Piped → Type 0 =
+        λ s x a. GoesToEnd store p image at count (record { store = s; pipe = x; answer = a }) in
+    subst (P new q) (sym answers) (subst (λ x. P new x w.answer) (sym pipes) (subst (λ s. P s w.pipe w.answer) (sym stores) goes))
 
 pub same_read : (store : Store) (p : Pipe) (image : Image) (at count : ℕ) (r : PipeRead) (new : Store) (memory : Image) (q : Pipe)
     (answer : Piped) → new ≡ r.store → memory ≡ r.image → q ≡ r.pipe → answer ≡ r.answer
     → ComesFromFront store p image at count r
     → ComesFromFront store p image at count (record { store = new; image = memory; pipe = q; answer = answer })
 same_read store p image at count r new memory q answer stores images pipes answers comes =
-    subst (λ (a : Piped). ComesFromFront store p image at count (record { store = new; image = memory; pipe = q; answer = a })) (sym answers)
-    (subst (λ (x : Pipe). ComesFromFront store p image at count (record { store = new; image = memory; pipe = x; answer = r.answer })) (sym pipes)
-    (subst (λ (i : Image). ComesFromFront store p image at count (record { store = new; image = i; pipe = r.pipe; answer = r.answer })) (sym images)
-    (subst (λ (s : Store). ComesFromFront store p image at count (record { store = s; image = r.image; pipe = r.pipe; answer = r.answer })) (sym stores) comes)))
+    let P : Store → Image → Pipe → Piped → Type 0 =
+        λ s i x a. ComesFromFront store p image at count (record { store = s; image = i; pipe = x; answer = a }) in
+    subst (P new memory q) (sym answers)
+    (subst (λ x. P new memory x r.answer) (sym pipes)
+    (subst (λ i. P new i r.pipe r.answer) (sym images) (subst (λ s. P s r.image r.pipe r.answer) (sym stores) comes)))

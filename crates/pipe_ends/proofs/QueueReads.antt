@@ -128,8 +128,9 @@ next_takes at from end m memory r low there whole some later =
     let left = length-drop from (contents m.node) in
     let count : length first ≡ n = length-take-le n (drop from (contents m.node)) (omega (arith, long, left, there, low)) in
     let address : at + m.done + length first ≡ at + (m.done + n) = omega (arith, count) in
-    let behind : store_bytes memory (at + m.done + length first) (take later.taken (drop (from + n) (contents m.node))) ≡ Some r.memory =
-        ap (λ a. store_bytes memory a (take later.taken (drop (from + n) (contents m.node)))) address
+    let rest : List ℕ = take later.taken (drop (from + n) (contents m.node)) in
+    let behind : store_bytes memory (at + m.done + length first) rest ≡ Some r.memory =
+        ap (λ a. store_bytes memory a rest) address
         ∙ ap (λ l. store_bytes memory (at + (m.done + n)) (take later.taken (drop (from + n) l))) (sym same)
         ∙ ap (λ j. store_bytes memory (at + (m.done + n)) (take later.taken (drop j (contents node)))) (sym place)
         ∙ later.stored in
@@ -139,7 +140,7 @@ next_takes at from end m memory r low there whole some later =
       all = λ is. let a = later.all is in omega (arith, a, low);
       done = omega (arith, done);
       stored = ap (store_bytes m.memory (at + m.done)) (sym (parts from n later.taken (contents m.node)))
-          ∙ stores_join m.memory memory (Some r.memory) (at + m.done) first (take later.taken (drop (from + n) (contents m.node)))
+          ∙ stores_join m.memory memory (Some r.memory) (at + m.done) first rest
           (ap (store_bytes m.memory (at + m.done)) (sym piece) ∙ some) behind;
       same = later.same ∙ same;
       size = later.size ∙ size;
@@ -155,7 +156,8 @@ put_takes at from end m None none low inside whole there later =
     to_read at from end m _ (read_fault (put_into at) from end m low there none) (stopped_takes at from end m EFAULT whole)
 put_takes at from end m (Some memory) some low inside whole there later =
     to_read at from end m _ (read_more (put_into at) from end m memory low there some)
-    (next_takes at from end m memory (been_read at (piece_end from end) end (next from end m memory)) low inside whole some (later memory))
+    (next_takes at from end m memory (been_read at (piece_end from end) end (next from end m memory)) low inside whole some
+    (later memory))
 
 touch_takes : (at from end : ℕ) (m : Moving Image) (t : Bool) → (touching m.node m.room (from / 512)).is_done ≡ t
     → from < end → end ≤ m.node.size → m.node.size ≤ length m.node.body → Later at from end m
@@ -198,7 +200,8 @@ file_takes image at from count time room node plain whole =
     let end : ℕ = min node.size (from + count) in
     let m : Moving Image = beginning begun room image in
     let r : Moving Image = been_read at from end m in
-    let now = reading_takes at (end - from) from end m (omega arith) (omega (arith, size)) (longer_whole node begun longer whole) in
+    let now = reading_takes at (end - from) from end m (omega arith) (omega (arith, size))
+        (longer_whole node begun longer whole) in
     let same = longer_contents node begun longer whole in
     let is : read_file (put_into at) node room image from count time ≡ r = ap (λ t. cond t m r) plain in
     subst (Takes at from (end - from) node image 0) (sym is) (record {

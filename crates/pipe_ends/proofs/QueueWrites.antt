@@ -101,7 +101,8 @@ puts_more image at n k old there new bytes error more whole device is rest =
       bytes = bytes ++ rest.bytes;
       loaded = loads_join image at k rest.put bytes rest.bytes is rest.loaded;
       behind = rest.behind ∙ ap (λ l. l ++ rest.bytes) (ended_contents there old.size bytes same w)
-          ∙ ap (λ l. l ++ bytes ++ rest.bytes) (longer_contents old there more whole) ∙ append_assoc (contents old) bytes rest.bytes;
+          ∙ ap (λ l. l ++ bytes ++ rest.bytes) (longer_contents old there more whole)
+          ∙ append_assoc (contents old) bytes rest.bytes;
       size = omega (arith, size, same, long);
       whole = rest.whole;
       device = rest.device ∙ device;
@@ -119,8 +120,8 @@ abbrev next : ℕ → ℕ → Moving (Unit {0}) → List ℕ → Moving (Unit {0
 next from end m bytes =
     written (touching m.node m.room (from / 512)) from bytes m.memory (m.done + (piece_end from end - from))
 
-to_wrote : (image : Image) (at from end : ℕ) (m r : Moving (Unit {0})) → wrote image at from end m ≡ r → PutsBy image at from end m r
-    → PutsBy image at from end m (wrote image at from end m)
+to_wrote : (image : Image) (at from end : ℕ) (m r : Moving (Unit {0})) → wrote image at from end m ≡ r
+    → PutsBy image at from end m r → PutsBy image at from end m (wrote image at from end m)
 to_wrote image at from end m r is = subst (PutsBy image at from end m) (sym is)
 
 -- no room for the block, or no memory where the bytes are to come from
@@ -149,7 +150,8 @@ next_puts image at from end m bytes r low is whole some later =
 abbrev Later : Image → ℕ → ℕ → ℕ → Moving (Unit {0}) → Type 0
 Later image at from end m =
     (bytes : List ℕ) → load_bytes image (at + m.done) (piece_end from end - from) ≡ Some bytes
-    → PutsBy image at (piece_end from end) end (next from end m bytes) (wrote image at (piece_end from end) end (next from end m bytes))
+    → PutsBy image at (piece_end from end) end (next from end m bytes)
+    (wrote image at (piece_end from end) end (next from end m bytes))
 
 get_puts : (image : Image) (at from end : ℕ) (m : Moving (Unit {0})) (o : Option (List ℕ))
     → get_from image at m.done (piece_end from end - from) ≡ o → from < end → piece_end from end ≤ size_limit m.node
@@ -223,11 +225,13 @@ stamped : (t : Bool) (node : Node) (time : ℕ) → IsLonger node (cond t node (
 stamped true node time = same_file node
 stamped false node time = record { tail = []; body = sym (append-nil node.body); size = refl }
 
-stamped_mode : (t : Bool) (node : Node) (time : ℕ) → (cond t node (record node { actime = time; modtime = time })).mode ≡ node.mode
+stamped_mode : (t : Bool) (node : Node) (time : ℕ)
+    → (cond t node (record node { actime = time; modtime = time })).mode ≡ node.mode
 stamped_mode true node time = refl
 stamped_mode false node time = refl
 
-pub file_puts : (image : Image) (at count time room : ℕ) (node : Node) → is_device node.mode ≡ false → node.size ≤ length node.body
+pub file_puts : (image : Image) (at count time room : ℕ) (node : Node) → is_device node.mode ≡ false
+    → node.size ≤ length node.body
     → Puts image at count node (write_file (get_from image at) node room (tt {0}) node.size count time).node
     (write_file (get_from image at) node room (tt {0}) node.size count time).error
 file_puts image at count time room node plain whole =
@@ -238,7 +242,8 @@ file_puts image at count time room node plain whole =
     let r : Moving (Unit {0}) = wrote image at node.size (node.size + count) m in
     let here : at + 0 ≡ at = omega arith in
     let all : node.size + count - node.size ≡ count = omega arith in
-    let puts = writing_puts image at count node.size (node.size + count) m (omega arith) (sym size) (longer_whole node begun longer whole) in
+    let puts = writing_puts image at count node.size (node.size + count) m (omega arith) (sym size)
+        (longer_whole node begun longer whole) in
     let now : Puts image at count begun r.node r.error =
         subst (λ j. Puts image at j begun r.node r.error) all
         (subst (λ a. Puts image a (node.size + count - node.size) begun r.node r.error) here puts) in

@@ -33,5 +33,5 @@ pub returns-clause-queue : goal.returns-clause-queue
 returns-clause-queue g c = λ is.
     let e = c.repeat_tests.ensures in
     same_write _ _ _ _ _ _ _ _ _ e.store e.pipe e.answer
-    (writes_queue c.args.n.now.store (ends_of c.args.n.now.references c.args.p.now) c.args.p.now (g.S.Space.image c.args.space.now)
-    c.args.at c.args.count c.args.time is)
+    (writes_queue _ (ends_of c.args.n.now.references c.args.p.now) _ (g.S.Space.image c.args.space.now) c.args.at c.args.count
+    c.args.time is)
