@@ -62,7 +62,8 @@ kept_ready old new ready kept = record {
 -- The same references, by another name.
 pub same : (files : List (Option OpenFile)) (pipes : List Pipe) (numbers : List ℕ) (dir : ℕ) (old new : List ℕ) → new ≡ old
     → IsReady files pipes numbers dir old → IsReady files pipes numbers dir new
-same files pipes numbers dir old new e ready = let P : List ℕ → Type 0 = λ r. IsReady files pipes numbers dir r in subst P (sym e) ready
+same files pipes numbers dir old new e ready =
+    let P : List ℕ → Type 0 = λ r. IsReady files pipes numbers dir r in subst P (sym e) ready
 
 zeros : (n i : ℕ) → slice_index (replicate n 0) i ≡ 0
 zeros zero i = refl

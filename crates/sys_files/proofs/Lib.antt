@@ -40,6 +40,7 @@ pub mod PipeCounts
 pub mod StepWalks
 pub mod Counting
 pub mod Steady
+pub mod CoreSteady
 pub mod CoreLemmas
 pub mod PipeMovingLemmas
 pub mod PipeOpeningLemmas

@@ -173,7 +173,7 @@ module _ (w1 now : World) (s : ℕ) (ready : IsReady w1 s) (status : ℕ) (agree
       (ap (λ (v : its.World). v.switches) (ends_state w1 s ready status) ∙ same_switches w1 s ready status (its_text w1 s ready status)) table
 
   module _ (form : IsFileSystem w1.files.tree.nodes)
-      (closed : (entry : ℕ) → times (process_of (unix_of w1) s).u.files entry ≡ 0) where
+      (closed : (entry : ℕ) → times (process_of (unix_of w1) s).u.files entry ≡ 0) (free : (process_of (unix_of w1) s).u.pending ≡ 0) where
     owed : Owed now.files.tree.nodes.references (unix_of now)
     owed =
         let P : its.World → List (Option OpenFile) → List Pipe → Type 0 =
@@ -189,7 +189,7 @@ module _ (w1 now : World) (s : ℕ) (ready : IsReady w1 s) (status : ℕ) (agree
     waits : CanGoOn (unix_of now)
     waits =
         subst CanGoOn (sym ended_unix)
-        (world_goes_on (unix_of w1) (ends w1 s ready status).state ready.good.pending (end_waited (handed w1.procs w1.files.tree.nodes) s status))
+        (world_goes_on (unix_of w1) (ends w1 s ready status).state ready.good.pending (end_waited (handed w1.procs w1.files.tree.nodes) s free status))
 
     pub ended_good : IsMarked now.procs now.files.tree.marks → IsGood now
     ended_good marks = good_then w1 now rests clicks ready.good agree (λ r is up. absurd (

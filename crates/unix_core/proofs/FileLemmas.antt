@@ -11,7 +11,8 @@ use Rattle.pick_rules.specs.Apply.{applied}
 use Rattle.pick_rules.specs.Effects.{Show, came}
 use Rattle.pick_rules.specs.Logged.{Logged, logged, log_one, board_after}
 use Rattle.image_keep.specs.Kept.{Kept}
-use Rattle.sys_files.proofs.Bounds.{IsShown, Fits}
+use Rattle.sig_core.specs.declared.numbers.TheConstants.{SIGPIPE}
+use Rattle.sys_files.proofs.Bounds.{IsOfCall, Fits}
 use Rattle.sys_procs.specs.Agree.{board_of}
 use Rattle.sys_procs.proofs.Signalled.{board_signalled}
 use Rattle.sys_procs.proofs.Tables.{board_woken}
@@ -33,15 +34,15 @@ bytes_after [] b items = refl
 bytes_after (byte ∷ bytes) b items = bytes_after bytes b items
 
 -- lines that wake sleepers, or that send the process of a slot a signal
-woken_one : (t : Table) (k : Kept) (slot : ℕ) (e : Entry) → IsShown slot e → applied (board_of t k) e ≡ board_of (woken_by t e) k
+woken_one : (t : Table) (k : Kept) (slot : ℕ) (e : Entry) → IsOfCall slot e → applied (board_of t k) e ≡ board_of (woken_by t e) k
 woken_one t k slot e shown = elim shown [
   | inl wakes ↦
       ap (applied (board_of t k)) wakes.1 ∙ sym (board_woken t k wakes.0) ∙ ap (λ x. board_of (woken_by t x) k) (sym wakes.1)
   | inr sends ↦
-      ap (applied (board_of t k)) sends.1 ∙ sym (board_signalled t k slot sends.0) ∙ ap (λ x. board_of (woken_by t x) k) (sym sends.1)
+      ap (applied (board_of t k)) sends ∙ sym (board_signalled t k slot SIGPIPE) ∙ ap (λ x. board_of (woken_by t x) k) (sym sends)
 ]
 
-woken_all : (entries : List Entry) (t : Table) (k : Kept) (slot : ℕ) → All (IsShown slot) entries
+woken_all : (entries : List Entry) (t : Table) (k : Kept) (slot : ℕ) → All (IsOfCall slot) entries
     → fold board_after (board_of t k) (map Log entries) ≡ board_of (all_woken t entries) k
 woken_all [] t k slot shown = refl
 woken_all (e ∷ entries) t k slot shown =
@@ -55,15 +56,15 @@ shown_woken slot items fits t k =
     shown_after items [] (board_of t k)
     ∙ ap (fold board_after (board_of t k)) fits.in_order
     ∙ bytes_after (line_bytes 0 items) (board_of t k) (map Log (entries_of items))
-    ∙ woken_all (entries_of items) t k slot fits.only_shown
+    ∙ woken_all (entries_of items) t k slot fits.only_lines
 
 -- Such lines name a slot of a process.
-pub shown_slots : (slot : ℕ) (entries : List Entry) → 0 < slot → slot < 50 → All (IsShown slot) entries → HaveSlots entries
+pub shown_slots : (slot : ℕ) (entries : List Entry) → 0 < slot → slot < 50 → All (IsOfCall slot) entries → HaveSlots entries
 shown_slots slot entries above low shown i r sig is = elim (cases_lt i (length entries)) [
   | inl within ↦ elim (shown i Idle within) [
     | inl wakes ↦ absurd (let never = sym wakes.1 ∙ is in cc never)
     | inr sends ↦
-        let same : slot ≡ r = (let one = sym sends.1 ∙ is in cc one) in
+        let same : slot ≡ r = (let one = sym sends ∙ is in cc one) in
         subst (λ x. (0 < x) × (x < 50)) same (above, low)
   ]
   | inr past ↦ absurd (let never = sym (get_or_past entries i Idle past) ∙ is in cc never)

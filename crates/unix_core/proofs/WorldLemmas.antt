@@ -180,6 +180,6 @@ module _ (w w' : World) (s : ℕ) (ready : IsReady w s) (u : UArea) (row : Row) 
     core = after.core;
     texts = after.texts.texts;
     shown = (λ i. sent 0 (all.bytes i) ++ map Log (all.entries i)) ∙ sym fits.in_order;
-    slots = subst HaveSlots (sym all.entries) (shown_slots s (entries_of items) ready.user (runs_low w s ready.good.agree ready.runs) fits.only_shown);
+    slots = subst HaveSlots (sym all.entries) (shown_slots s (entries_of items) ready.user (runs_low w s ready.good.agree ready.runs) fits.only_lines);
     wakes = λ t k. shown_woken s items fits t k ∙ ap (λ l. board_of (all_woken t l) k) (sym all.entries);
   }

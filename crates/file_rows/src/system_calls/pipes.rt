@@ -1,4 +1,4 @@
-//! Pipes that are made, read, written and closed by a process: pipe(II), read(II), write(II), close(II); Lions' Commentary, `pipe.c`.
+//! Pipes that a process makes, reads, writes and closes: pipe(II), read(II), write(II), close(II); Lions' Commentary, `pipe.c`.
 use crate::system_calls::calls::Call::{
     Close, CloseAll, Creat, Dup, Fstat, Gtty, Open, Pipe, Read, Seek, Stty, Write,
 };
@@ -18,10 +18,10 @@ const T: u32 = 0x0005_0006;
 /// Nothing waits.
 const NOTHING: [u16; 8] = [0; 8];
 
-/// The inode of a pipe that is empty: 16 is the first that is drawn.
+/// The pipe is empty: 16 is the first inode that is drawn.
 const EMPTY: Look = Inode(16, 0o100000, [0, 0, 0], 0);
 
-/// Who waits for bytes of it, and who waits for room.
+/// Who waits for its bytes is woken, or who waits for room.
 const READERS: Entry = Entry::Wake(Chan::Read(16));
 
 const WRITERS: Entry = Entry::Wake(Chan::Write(16));
@@ -510,7 +510,7 @@ const USED: [Scene; 9] = [
             Has(Logged(&[WRITERS, READERS])),
             Has(File(2, 16, 0, 1)),
             Has(Refs(16, 2)),
-            // The close took the mark, and the read waits again.
+            // The close took the mark: the write wakes nobody once more.
             Does(Write(2, 0, 3), Gives(3)),
             Has(Logged(&[])),
             GoesOn(Gives(3)),

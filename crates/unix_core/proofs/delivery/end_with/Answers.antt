@@ -11,7 +11,11 @@ use Rattle.unix_core.specs.declared.world.World.{World}
 use Rattle.abstract_unix.specs.declared.ending.Ending.TheVariants.{Panic}
 use Rattle.open_files.specs.Files.{times}
 use Rattle.abstract_unix.specs.Unix.{Unix, process_of}
-use Rattle.abstract_unix.specs.Calls.{closes_all, with_handed}
+use Rattle.abstract_unix.specs.Calls.{closes_all, handed_of, with_handed}
+use Rattle.sys_files.specs.Handed.{Handed}
+use Rattle.sys_procs.specs.Process.{Process}
+use Rattle.abstract_unix.proofs.NeverWaiting.{close_pending}
+use Rattle.unix_core.proofs.AreaLemmas.{none_pending, own_put}
 use Rattle.unix_core.specs.Parts.{unix_of, board_in, IsReady, IsReadyToShow}
 use Rattle.unix_core.specs.Passing.{all_woken}
 use Rattle.abstract_unix.specs.Whole.{told_of}
@@ -35,6 +39,16 @@ module _ (w new : World) (s : ℕ) (t : Table) (shown : IsReadyToShow w new s (c
 
   closed_board : board_in (with_table new t) ≡ (logged {W = Unix} (board_in w) (map Show (closes_all (unix_of w) s).items)).board
   closed_board = passed_board w new s (closes_all (unix_of w) s).state (closes_all (unix_of w) s).items shown state t is
+
+  -- it goes on with no call
+  closed_free : IsReady w s → (process_of (unix_of w) s).u.pending ≡ 0 → (process_of (unix_of (with_table new t)) s).u.pending ≡ 0
+  closed_free ready none =
+      let h : Handed = (closes_all (unix_of w) s).state in
+      let p : Process = process_of (unix_of w) s in
+      ap (λ (x : Unix). (process_of x s).u.pending) closed_unix
+      ∙ ap (λ (x : Process). x.u.pending)
+      (own_put (unix_of w) s p (record p { u = h.u; row = h.row; «data» = h.image.data; stack = h.image.stack }) (slot_is w s ready))
+      ∙ close_pending (handed_of (unix_of w) p) ∙ none
 
 -- how an end is answered
 ended_goes : (o : Option (Stop its.World)) (r : Result (Unit {0}) PanicKind) → r ≡ ended_by o → r ≡ Ok tt → o ≡ None
@@ -114,7 +128,8 @@ returns-in-Ok-clause-good g c goes =
     let rests : Rests w1 now = record { pipes = refl; line = refl; tape = refl; core = refl } in
     let closed = closed_then w w1 s c.requires.ready ready (closed_unix w new s t shown state is) in
     let none = ended_goes _ _ e.does.answer c.in-Ok.is in
-    ended_good w1 now s ready n e.agree none (end_state w1 s ready n _ none e.does.left.state) e.does.left.shown refl rests c.see_nodes.ensures closed e.marks
+    ended_good w1 now s ready n e.agree none (end_state w1 s ready n _ none e.does.left.state) e.does.left.shown refl rests c.see_nodes.ensures closed
+    (closed_free w new s t shown state is c.requires.ready (none_pending (process_of (unix_of w) s) c.requires.user)) e.marks
 
 pub returns-in-Ok-clause-items : goal.returns-in-Ok-clause-items
 returns-in-Ok-clause-items g c =

@@ -1,14 +1,17 @@
-use Rattle.std.proofs.Common.{rules, ◌≡◌, ◌∙◌, ℕ, true, refl, sym, ap, subst}
+use Rattle.std.proofs.Common.{rules, ◌≡◌, ◌∙◌, ◌==◌, ◌||◌, ℕ, Bool, true, false, inl, inr, refl, sym, ap, subst}
+use Rattle.std.specs.Prelude.{unwrap_or}
+use Rattle.std.proofs.lemmas.Bool.{eqb-true}
 use Rattle.u_area.specs.declared.area.UArea.{UArea}
 use Rattle.image_keep.specs.Kept.{Kept, area_of, image_of, with_area}
-use Rattle.sys_files.specs.Handed.{Handed, handed}
+use Rattle.sys_files.specs.Handed.{Handed, handed, no_file}
+use Rattle.sys_files.proofs.Walks.{AwaitsPipe}
 use Rattle.sys_files.specs.Moving.{resumes}
 use Rattle.sys_files.specs.Sound.{CanGoOn}
-use Rattle.sys_files.proofs.Steady.{resume_confined}
+use Rattle.sys_files.proofs.Steady.{Confined, resume_confined}
 use Rattle.unix_core.specs.declared.world.World.{World}
 use Rattle.abstract_unix.specs.Unix.{process_of}
 use Rattle.abstract_unix.specs.Calls.{is_on_files}
-use Rattle.abstract_unix.proofs.PendingRows.{resume_pends}
+use Rattle.abstract_unix.proofs.PendingRows.{InPipe, Pends, resume_pends}
 use Rattle.abstract_unix.proofs.GoingOnLemmas.{handed_goes_on, handed_pends}
 use Rattle.unix_core.specs.Parts.{unix_of, IsReady}
 use Rattle.unix_core.proofs.AreaLemmas.{own_area}
@@ -21,6 +24,35 @@ use Rattle.unix_core.proofs.onfiles.resume_on_files.Goals as goal
 -- what is pending, of the process
 pends_on : (w : World) (s : ℕ) → IsReady w s → is_on_files (area_of w.procs.images s).pending ≡ true → is_on_files (process_of (unix_of w) s).u.pending ≡ true
 pends_on w s ready is = ap (λ (u : UArea). is_on_files u.pending) (sym (own_area w s ready)) ∙ is
+
+-- What goes on and is no read of the console waits in a pipe.
+in_pipe : (n : ℕ) → is_on_files n ≡ true → (n == 1) ≡ false → InPipe n
+in_pipe n on other = by (n == 1) (n == 3) (n == 4) other refl refl on
+  where
+    by : (a b c : Bool) → a ≡ false → (n == 3) ≡ b → (n == 4) ≡ c → (a || b || c) ≡ true → InPipe n
+    by true b c e f g is = absurd (cc e)
+    by false true c e f g is = inl (eqb-true n 3 f)
+    by false false true e f g is = inr (eqb-true n 4 g)
+    by false false false e f g is = absurd (cc is)
+
+module _ (w : World) (s : ℕ) (ready : IsReady w s) (pending : is_on_files (area_of w.procs.images s).pending ≡ true) where
+  its_pends : Pends (given w s)
+  its_pends = handed_pends (unix_of w) s ready.good.pending (slot_is w s ready) (is_living w s ready)
+
+  awaits : ((given w s).u.pending == 1) ≡ false → AwaitsPipe (λ ino. Unit {0}) (given w s)
+  awaits other =
+      let end = its_pends (in_pipe (given w s).u.pending (pends_on w s ready pending) other) in
+      record {
+        awaits = record {
+          pipe = ap (λ o. (unwrap_or o no_file).kind.pipe) end.end.there ∙ end.end.pipe;
+          named = end.end.named;
+          few = end.left;
+        };
+        named = tt;
+      }
+
+  confined : Confined s (given w s) (resumes (given w s) s w.procs.table.now)
+  confined = resume_confined (given w s) s w.procs.table.now awaits
 
 pub area-u-requires : goal.area-u-requires
 area-u-requires c = c.requires.ready.good.running c.args.s c.requires.ready.runs c.requires.ready.user
@@ -53,7 +85,7 @@ set_area-requires c =
     c.space-space.ensures.images c.space-space.ensures.slot in
     let back = lent_back w.procs.images c.space-space.result.images.now now c.args.s c.space-space.result.slot c.resume_file-answer.new.space.slot _ _
     c.space-space.ensures.images c.space-space.ensures.slot c.resume_file-answer.ensures.memory in
-    let put = area_put w c.args.s lent (λ h. resumes h c.args.s w.procs.table.now) (resume_confined (given w c.args.s) c.args.s w.procs.table.now).steady
+    let put = area_put w c.args.s lent (λ h. resumes h c.args.s w.procs.table.now) (confined w c.args.s c.requires.ready c.requires.pending).steady
     c.resume_file-answer.new.f c.resume_file-answer.new.u c.resume_file-answer.new.row _ c.resume_file-answer.ensures.does.state now back in
     record { image = put.0; sizes = put.1 }
 
@@ -62,7 +94,7 @@ set_row-requires-clause-pid c =
     let w : World = c.args.world.now in
     let lent = lends w c.args.s _ _ c.requires.ready c.see_nodes.ensures c.area-u.ensures.sizes c.area-u.ensures.holds c.area-u.ensures.u c.row.ensures
     c.space-space.ensures.images c.space-space.ensures.slot in
-    (row_put w c.args.s lent (λ h. resumes h c.args.s w.procs.table.now) (resume_confined (given w c.args.s) c.args.s w.procs.table.now).steady
+    (row_put w c.args.s lent (λ h. resumes h c.args.s w.procs.table.now) (confined w c.args.s c.requires.ready c.requires.pending).steady
     c.resume_file-answer.new.f c.resume_file-answer.new.u c.resume_file-answer.new.row _ c.resume_file-answer.ensures.does.state).pid
 
 pub set_row-requires-clause-ppid : goal.set_row-requires-clause-ppid
@@ -70,7 +102,7 @@ set_row-requires-clause-ppid c =
     let w : World = c.args.world.now in
     let lent = lends w c.args.s _ _ c.requires.ready c.see_nodes.ensures c.area-u.ensures.sizes c.area-u.ensures.holds c.area-u.ensures.u c.row.ensures
     c.space-space.ensures.images c.space-space.ensures.slot in
-    (row_put w c.args.s lent (λ h. resumes h c.args.s w.procs.table.now) (resume_confined (given w c.args.s) c.args.s w.procs.table.now).steady
+    (row_put w c.args.s lent (λ h. resumes h c.args.s w.procs.table.now) (confined w c.args.s c.requires.ready c.requires.pending).steady
     c.resume_file-answer.new.f c.resume_file-answer.new.u c.resume_file-answer.new.row _ c.resume_file-answer.ensures.does.state).ppid
 
 pub returns : goal.returns
@@ -81,7 +113,7 @@ returns c =
     c.space-space.ensures.images c.space-space.ensures.slot in
     let back = lent_back w.procs.images c.space-space.result.images.now now c.args.s c.space-space.result.slot c.resume_file-answer.new.space.slot _ _
     c.space-space.ensures.images c.space-space.ensures.slot c.resume_file-answer.ensures.memory in
-    let done = call_done w c.args.s lent (λ h. resumes h c.args.s w.procs.table.now) (resume_confined (given w c.args.s) c.args.s w.procs.table.now)
+    let done = call_done w c.args.s lent (λ h. resumes h c.args.s w.procs.table.now) (confined w c.args.s c.requires.ready c.requires.pending)
     (resume_pends (given w c.args.s) c.args.s w.procs.table.now (pends_on w c.args.s c.requires.ready c.requires.pending)
     (handed_pends (unix_of w) c.args.s c.requires.ready.good.pending (slot_is w c.args.s c.requires.ready) (is_living w c.args.s c.requires.ready)))
     c.clear.new.self c.resume_file-answer.new.trace c.resume_file-answer.new.f c.resume_file-answer.new.u c.resume_file-answer.new.row _ c.resume_file-answer.ensures.does

@@ -36,7 +36,7 @@ waits : (w : World) (call : ProcessCall) (s : ℕ) (args : List ℕ) → IsReady
     → CanGoOn (with_world (unix_of w) (row w call s args).state)
 waits w call s args ready user =
     world_goes_on (unix_of w) (row w call s args).state ready.good.pending
-    (row_waited call (given w) s args (none_pending (process_of (unix_of w) s) user))
+    (row_waited (given w) s (none_pending (process_of (unix_of w) s) user) call args)
 
 pub do_process_call-requires-clause-calls : goal.do_process_call-requires-clause-calls
 do_process_call-requires-clause-calls g c = ready_calls c.args.world.now c.args.s c.requires.ready c.see_table.ensures c.see_kept.ensures
