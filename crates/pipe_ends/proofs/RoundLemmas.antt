@@ -36,14 +36,14 @@ after_tests more c w =
 some_left : (w : Writing) → 0 < w.left → (w.left == 0) ≡ false
 some_left w some = ne_eqb w.left 0 (λ e. omega (arith, some, e))
 
-done_in : (f : ℕ) (c : WriteCall) (w : Writing) → w.left ≡ 0 → rounds (suc f) c w ≡ ends_as w (Done c.count)
+pub done_in : (f : ℕ) (c : WriteCall) (w : Writing) → w.left ≡ 0 → rounds (suc f) c w ≡ ends_as w (Done c.count)
 done_in f c w none = at_first (w.left == 0) _ _ (eq-eqb w.left 0 none)
 
-broken_in : (f : ℕ) (c : WriteCall) (w : Writing) → 0 < w.left → c.ends < 2 → rounds (suc f) c w ≡ ends_as w Broken
+pub broken_in : (f : ℕ) (c : WriteCall) (w : Writing) → 0 < w.left → c.ends < 2 → rounds (suc f) c w ≡ ends_as w Broken
 broken_in f c w some few =
     past (w.left == 0) _ _ (some_left w some) ∙ at_first (nat_lt c.ends 2) _ _ (lt-ltb c.ends 2 few)
 
-waits_in : (f : ℕ) (c : WriteCall) (w : Writing) → 0 < w.left → 2 ≤ c.ends → PIPSIZ ≤ size_in w → rounds (suc f) c w ≡ waits w
+pub waits_in : (f : ℕ) (c : WriteCall) (w : Writing) → 0 < w.left → 2 ≤ c.ends → PIPSIZ ≤ size_in w → rounds (suc f) c w ≡ waits w
 waits_in f c w some both full =
     past (w.left == 0) _ _ (some_left w some) ∙ past (nat_lt c.ends 2) _ _ (le-ltb c.ends 2 both)
     ∙ at_first (nat_le PIPSIZ (size_in w)) _ _ (le-leb PIPSIZ (size_in w) full)
@@ -61,7 +61,7 @@ waits_at : (f : ℕ) (c : WriteCall) (w : Writing) → 0 < w.left → 2 ≤ c.en
 waits_at zero c w some both full more = absurd (omega (arith, more))
 waits_at (suc f) c w some both full more = waits_in f c w some both full
 
-appends_at : (f : ℕ) (c : WriteCall) (w : Writing) → 0 < w.left → 2 ≤ c.ends → size_in w < PIPSIZ
+pub appends_at : (f : ℕ) (c : WriteCall) (w : Writing) → 0 < w.left → 2 ≤ c.ends → size_in w < PIPSIZ
     → rounds (suc f) c w ≡ after_tests f c w
 appends_at f c w some both room =
     past (w.left == 0) _ _ (some_left w some) ∙ past (nat_lt c.ends 2) _ _ (le-ltb c.ends 2 both)
@@ -82,7 +82,7 @@ pub comes_waits : (c : WriteCall) (w : Writing) (all : PipeWrite) → ComesTo c 
 comes_waits c w all k some both full = sym k.same ∙ waits_at k.fuel c w some both full k.enough
 
 -- what is appended is a byte at least
-less_left : (w : Writing) (f : ℕ) → 0 < w.left → size_in w < PIPSIZ → w.left < suc f → w.left - fitting w < f
+pub less_left : (w : Writing) (f : ℕ) → 0 < w.left → size_in w < PIPSIZ → w.left < suc f → w.left - fitting w < f
 less_left w f some room more = omega (arith, some, room, more)
 
 -- an append has an error
@@ -161,7 +161,7 @@ by_rounds c P all few full error (suc f) w = elim (cases_eq w.left 0) [
 ]
 
 -- Broken says that bytes were left and an end was gone.
-broken_says : (c : WriteCall) (w : Writing) (f : ℕ) → (rounds f c w).answer ≡ Broken → c.ends < 2
+pub broken_says : (c : WriteCall) (w : Writing) (f : ℕ) → (rounds f c w).answer ≡ Broken → c.ends < 2
 broken_says c w f =
     by_rounds c (λ r. r.answer ≡ Broken → c.ends < 2) (λ v is. absurd (cc)) (λ v few is. few)
     (λ v some both full is. absurd (cc)) (λ v e is. absurd (cc)) f w

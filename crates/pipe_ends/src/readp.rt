@@ -2,6 +2,7 @@
 ghost use Rattle.std.specs.Prelude.{◌≡◌, ◌↔◌, ◌<◌, ◌≤◌};
 ghost use Rattle.fs_nodes.specs.FileSystem.{SameRest};
 ghost use Rattle.pipe_ends.specs.Pipes.{pipe_file, ends_of, begun_again};
+ghost use Rattle.pipe_ends.specs.Queue.{IsQueue, ComesFromFront};
 ghost use Rattle.pipe_ends.specs.Reads.{at_front, told_of_nothing, read_of, reads_some, reads};
 ghost use Rattle.pipe_ends.specs.declared.ends.Piped.{Piped};
 
@@ -98,6 +99,8 @@ pub fn read<S: Space>(
         ≡ (reads n.old.store (ends_of n.old.references p.old) p.old (S.image space.old) at count time).answer }
     ensures waits { (result ≡ Piped.Wait count)
         ↔ ((2 ≤ ends_of n.old.references p.old) × (p.old.offset ≡ (pipe_file n.old.store p.old).size)) }
+    ensures queue { IsQueue n.old.store p.old → ComesFromFront n.old.store p.old (S.image space.old) at count
+        (record { store = n.new.store; image = S.image space.new; pipe = p.new; answer = result }) }
     ensures memory { S.rest space.new ≡ S.rest space.old }
     ensures references { n.new.references ≡ n.old.references }
     ensures rest { SameRest n.old.blocks n.new.blocks }

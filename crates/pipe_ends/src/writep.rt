@@ -2,6 +2,7 @@
 ghost use Rattle.std.specs.Prelude.{◌≡◌, ◌↔◌, ◌<◌, ◌≤◌, ℕ, true};
 ghost use Rattle.fs_nodes.specs.FileSystem.{SameRest};
 ghost use Rattle.pipe_ends.specs.Pipes.{pipe_file, ends_of};
+ghost use Rattle.pipe_ends.specs.Queue.{IsQueue, GoesToEnd};
 ghost use Rattle.pipe_ends.specs.Writes.{WriteCall, Writing, fitting, append_of, appended, writes};
 ghost use Rattle.pipe_ends.specs.declared.ends.Piped.{Piped};
 ghost use Rattle.pipe_ends.specs.declared.ends.TheConstants.{PIPSIZ};
@@ -97,6 +98,8 @@ pub fn write<S: Space>(
     ensures broken { (result ≡ Piped.Broken) ↔ ((0 < count) × (ends_of n.old.references p.old < 2)) }
     ensures waits { (left : ℕ) → result ≡ Piped.Wait left → (0 < left) × (2 ≤ ends_of n.old.references p.old)
         × (PIPSIZ ≤ (pipe_file n.new.store p.new).size) × (p.new.writer_waits ≡ true) }
+    ensures queue { IsQueue n.old.store p.old → GoesToEnd n.old.store p.old (S.image space.now) at count
+        (record { store = n.new.store; pipe = p.new; answer = result }) }
     ensures references { n.new.references ≡ n.old.references }
     ensures rest { SameRest n.old.blocks n.new.blocks }
 {

@@ -1,5 +1,5 @@
 -- The file `core` changes the store alone: of its process all stays, and the marks of the texts.
-use Rattle.std.proofs.Common.{◌≡◌, ◌+◌, ◌==◌, ℕ, Bool, true, false, cond, List, length, Result, Ok, Err}
+use Rattle.std.proofs.Common.{◌+◌, ◌==◌, ℕ, Bool, true, false, cond, List, length, Result, Ok, Err}
 use Rattle.v6_base.specs.declared.errno.Errno.{Errno}
 use Rattle.v6_base.specs.declared.errno.Errno.TheVariants.{EPERM, EACCES}
 use Rattle.fs_codec.specs.Bytes.{entry_bytes}

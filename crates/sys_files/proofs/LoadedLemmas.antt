@@ -34,13 +34,6 @@ begins_by image at n bytes (Err trap) o first later is = absurd (cc)
 begins : (image : Image) (at n : ℕ) (bytes : List ℕ) → load_bytes image at (suc n) ≡ Some bytes → Begins image at n bytes
 begins image at n bytes is = begins_by image at n bytes (load_byte image (at % 65536)) (load_bytes image (at + 1) n) refl refl is
 
--- Bytes that are loaded are as many as were asked for.
-pub loaded_long : (image : Image) (at n : ℕ) (bytes : List ℕ) → load_bytes image at n ≡ Some bytes → length bytes ≡ n
-loaded_long image at zero bytes is = let none : bytes ≡ [] = cc in ap length none
-loaded_long image at (suc n) bytes is =
-    let b = begins image at n bytes is in
-    ap length b.all ∙ ap suc (loaded_long image (at + 1) n b.rest b.later)
-
 -- the first of them
 loaded_first : (image : Image) (at n k : ℕ) (bytes : List ℕ) → load_bytes image at n ≡ Some bytes → k ≤ n
     → load_bytes image at k ≡ Some (take k bytes)

@@ -18,7 +18,8 @@ use Rattle.sys_files.specs.Handed.{node_in, no_node}
 use Rattle.sys_files.specs.Making.{entry_written}
 use Rattle.sys_files.specs.Entering.{SameReferences}
 use Rattle.sys_files.proofs.PartedWrites.{Alike, unless_ended, file_keeps, two_files}
-use Rattle.sys_files.proofs.LoadedLemmas.{loaded_long, loaded_part}
+use Rattle.pipe_ends.proofs.QueueWrites.{bytes_long}
+use Rattle.sys_files.proofs.LoadedLemmas.{loaded_part}
 
 -- Two parts of a call, one after the other, keep references and numbers.
 pub same_then : (a b c : FileSystem) → SameReferences a b → SameReferences b c → SameReferences a c
@@ -131,7 +132,7 @@ module _ (store middle last : Store) (ino : ℕ) (image : Image) (at rest offset
     is_two =
         subst (λ c. Alike (write_file (get_kernel bytes) (node_in store ino) store.room (tt {0}) offset c now)
         (unless_ended first.error second first))
-        (sym (loaded_long image at (k + n) bytes parts))
+        (sym (bytes_long image at (k + n) bytes parts))
         (two_files offset k n (get_kernel bytes) (get_from image at) (get_from image rest) border
         (λ v j few. sym (loaded_part image at (k + n) v j bytes parts (omega (arith, few))))
         (λ v j few. sym (load_wraps image (rest + v) (at + (k + v)) j (omega (arith, onward)) ∙ loaded_part image at (k + n)

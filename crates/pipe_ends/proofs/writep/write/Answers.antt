@@ -7,6 +7,7 @@ use Rattle.pipe_ends.specs.Pipes.{pipe_file, ends_of}
 use Rattle.pipe_ends.specs.Writes.{PipeWrite, writes}
 use Rattle.pipe_ends.specs.declared.ends.Piped.{Piped}
 use Rattle.pipe_ends.specs.declared.ends.Piped.TheVariants.{Broken}
+use Rattle.pipe_ends.proofs.QueueLemmas.{writes_queue, same_write}
 use Rattle.pipe_ends.proofs.RoundLemmas.{broken_where, waits_where}
 use Rattle.pipe_ends.proofs.writep.write.Goals as goal
 
@@ -27,3 +28,10 @@ returns-clause-waits g c = λ left is.
     let of_pipe : Pipe → Type 0 = λ p. Q w.store p in
     let full = waits_where c.args.n.now.store ends c.args.p.now image c.args.at c.args.count c.args.time left (sym e.answer ∙ is) in
     subst of_store (sym e.store) (subst of_pipe (sym e.pipe) (full.some, full.both, full.full, full.marked))
+
+pub returns-clause-queue : goal.returns-clause-queue
+returns-clause-queue g c = λ is.
+    let e = c.repeat_tests.ensures in
+    same_write _ _ _ _ _ _ _ _ _ e.store e.pipe e.answer
+    (writes_queue _ (ends_of c.args.n.now.references c.args.p.now) _ (g.S.Space.image c.args.space.now) c.args.at c.args.count
+    c.args.time is)
