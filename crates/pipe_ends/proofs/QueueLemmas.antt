@@ -74,7 +74,7 @@ puts_nothing : (c : WriteCall) (w : Writing) (q : Pipe) (answer : Piped) → IsQ
     → Goes c w (record { store = w.store; pipe = q; answer = answer })
 puts_nothing c w q answer is ino offset done halts =
     let file : pipe_file w.store w.pipe ≡ pipe_file w.store q =
-        sym (file_is w.store q (pipe_file w.store w.pipe) (ap (node_numbered w.store) ino ∙ is.there)) in
+    sym (file_is w.store q (pipe_file w.store w.pipe) (ap (node_numbered w.store) ino ∙ is.there)) in
     let read = is.read in
     record {
       put = 0;
@@ -295,7 +295,7 @@ pub same_write : (store : Store) (p : Pipe) (image : Image) (at count : ℕ) (w 
     → GoesToEnd store p image at count (record { store = new; pipe = q; answer = answer })
 same_write store p image at count w new q answer stores pipes answers goes =
     let P : Store → Pipe → Piped → Type 0 =
-        λ s x a. GoesToEnd store p image at count (record { store = s; pipe = x; answer = a }) in
+    λ s x a. GoesToEnd store p image at count (record { store = s; pipe = x; answer = a }) in
     subst (P new q) (sym answers) (subst (λ x. P new x w.answer) (sym pipes) (subst (λ s. P s w.pipe w.answer) (sym stores) goes))
 
 pub same_read : (store : Store) (p : Pipe) (image : Image) (at count : ℕ) (r : PipeRead) (new : Store) (memory : Image) (q : Pipe)
@@ -304,7 +304,7 @@ pub same_read : (store : Store) (p : Pipe) (image : Image) (at count : ℕ) (r :
     → ComesFromFront store p image at count (record { store = new; image = memory; pipe = q; answer = answer })
 same_read store p image at count r new memory q answer stores images pipes answers comes =
     let P : Store → Image → Pipe → Piped → Type 0 =
-        λ s i x a. ComesFromFront store p image at count (record { store = s; image = i; pipe = x; answer = a }) in
+    λ s i x a. ComesFromFront store p image at count (record { store = s; image = i; pipe = x; answer = a }) in
     subst (P new memory q) (sym answers)
     (subst (λ x. P new memory x r.answer) (sym pipes)
     (subst (λ i. P new i r.pipe r.answer) (sym images) (subst (λ s. P s r.image r.pipe r.answer) (sym stores) comes)))
