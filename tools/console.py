@@ -2,12 +2,13 @@
 """A person types at the terminal of a machine that runs a disk: see docs/tools/console.md."""
 import argparse
 import os
+import signal
 import sys
 import tempfile
 from dataclasses import dataclass
 
 sys.path.insert(0, os.path.dirname(os.path.abspath(__file__)))
-from dialogue import (END_OF_FILE, HEADER, INTERRUPT, MANY, OVER, RETURN, RUNS, SLEEPS, WAITS, Dialogue, DialogueError,
+from dialogue import (END_OF_FILE, HEADER, INTERRUPT, MANY, OVER, QUIT, RETURN, RUNS, SLEEPS, WAITS, Dialogue, DialogueError,
                       Machine, Refused, keys, shown)
 from files import place_of, read_bytes, replace, same_file, told
 from processes import Processes, programs_of
@@ -47,6 +48,14 @@ class Order:
     number: int = None
 
 
+class Quit(KeyboardInterrupt):
+    """A person has pressed the key that quits, control-\\."""
+
+
+def quit_key(*_):
+    raise Quit
+
+
 class Keyboard:
     """What a person types, line by line, or a file in their place."""
 
@@ -70,6 +79,8 @@ class Keyboard:
         """The next line; None at the end."""
         try:
             self.fill()
+        except Quit:
+            return Typed(keys(bytes([QUIT])))
         except KeyboardInterrupt:
             return Typed(keys(bytes([INTERRUPT])))
         if not self.waiting:
@@ -311,6 +322,7 @@ def run(options, folder):
 
 def main(words):
     options = options_of(words)
+    signal.signal(signal.SIGQUIT, quit_key)
     try:
         with tempfile.TemporaryDirectory() as folder:
             return run(options, folder)

@@ -6,6 +6,7 @@ import pty
 import re
 import select
 import shutil
+import signal
 import struct
 import subprocess
 import sys
@@ -460,6 +461,13 @@ class Terminals(Case):
         self.until(b"% ")
         os.write(self.ours, b"abc\4")
         self.assertEqual(self.until(b"ABC% "), b"abcABC% ")
+
+    def test_keys_that_make_signals(self):
+        """The first program of this disk ends by the key that quits. A shell ignores both."""
+        self.until(b"% ")
+        self.console.send_signal(signal.SIGQUIT)
+        self.until(b"the run is over")
+        self.assertEqual(self.console.wait(LONG), 0)
 
     def test_echo_and_prompt(self):
         self.until(b"% ")
