@@ -150,13 +150,22 @@ class Tracer:
         self.waiting.pop(slot, None)
         if turn.kind() == "exit":
             self.names.pop(slot, None)
-            return who + call.told()
+            return who + self.ends(turn, call)
         if call is None:
-            grown = turn.made("size")
-            return who + (f"a larger stack: the image has {grown[2]} clicks" if grown else "a fault")
+            grown, sent = turn.made("size"), turn.made("signal")
+            fault = f"a fault, which is signal {sent[2]}" if sent else "a fault"
+            return who + (f"a larger stack: the image has {grown[2]} clicks" if grown and not sent else fault)
         if call.name == "exec" and turn.made("image"):
             self.names[slot] = name_of(old)
         return f"{who}{call.told()} = {answer(call, new)}{self.waited(turn, call)}{shared(turn)}"
+
+    def ends(self, turn, call):
+        """What is told where a process ends: it has called exit(II), or it ends by the signal that was sent to it last."""
+        if call and call.name == "exit":
+            return call.told()
+        sent = [line for line in self.run.lines[: turn.line] if line.startswith(f"signal {turn.place()} ")]
+        by = f"ends by signal {sent[-1].split(' ')[2]}" if sent else "ends"
+        return f"{call.told()}, and {by}" if call else by
 
     def sleeps(self, turn, call, who):
         slot, what = turn.place(), channel(turn.words[3], turn.words[1])

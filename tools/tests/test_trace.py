@@ -200,6 +200,16 @@ class Traces(Case):
             ["11", "[1]", "a larger stack: the image has 90 clicks"], ["13", "[1]", "break(010000) = done"], ["14", "[1]", "exit(2)"]])
 
     @unittest.skipUnless(HAS_MEMORY, "v6 has no command memory yet")
+    def test_signals(self):
+        """A fault whose routine goes on, a call after it, and a fault by which the process ends."""
+        source = self.put("signals.s", b"\tsys\tsignal; 5; 1f\n\t3\n\tsys\tgetpid\n\ttst\t1\n1:\t2\n")
+        status, out, error = self.trace("--v6", V6, self.disk(source), "1200", self.put("script", b"run 20\n"))
+        self.assertEqual((status, error), (0, ""))
+        self.assertEqual([line.replace(" /etc/init]", "]").split(None, 2) for line in out.splitlines()[1:]], [
+            ["2", "[1]", "signal(5, 016) = 0"], ["3", "[1]", "a fault, which is signal 5"], ["5", "[1]", "getpid() = 1"],
+            ["6", "[1]", "ends by signal 10"]])
+
+    @unittest.skipUnless(HAS_MEMORY, "v6 has no command memory yet")
     def test_a_shell(self):
         """An exec that is refused and one that isn't, files, a wait, and what isn't there."""
         script = self.put("typed", b"run 10000\ntype cat nosuch /usr/sys/ken/slp.c\nrun 10000\n")
