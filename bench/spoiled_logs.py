@@ -5,7 +5,7 @@
     bench/spoiled_logs.py write COMMAND COUNT [FIRST] FOLDER
 
 COMMAND is a built v6. It runs COUNT random programs of bench/processes.py, by turns those of the words `small execs`,
-`full` and `small`, seeds from FIRST on (0 where it isn't given). Each log must be lawful. Then it is spoiled in six ways,
+`full`, `small`, `signals` and `pipes`, seeds from FIRST on (0 where it isn't given). Each log must be lawful. Then it is spoiled in six ways,
 always the same for a seed: a line is left out, comes twice or changes places with the next; a number is one more or less; a
 slot is another; a word is another line's. Two judges name the first line that is at fault: the auditor of the reference,
 and the definition in crates/pick_rules/specs as it stands, which bench/definition.py evaluates. It can't come before the
@@ -25,9 +25,9 @@ import tempfile
 
 from definition import Auditor
 from file_calls import by_command
-from processes import Case, ExecCase, FullCase, in_small_core
+from processes import Case, ExecCase, FullCase, PipeCase, SignalCase, in_small_core
 
-KINDS = (in_small_core(ExecCase), FullCase, in_small_core(Case))
+KINDS = (in_small_core(ExecCase), FullCase, in_small_core(Case), SignalCase, PipeCase)
 MOST_LINES = 1500  # of a log, of which the rest is left out
 WORDS = {
     "go": ("trap", "bare", "reap"), "trap": ("go", "bare"), "bare": ("trap", "reap"), "reap": ("trap",), "u": ("k", "i"),
