@@ -282,7 +282,7 @@ class Definitions:
 
 # the lines of a log
 
-NUMBER = re.compile(r"0|-?[1-9][0-9]*")
+NUMBER, NATURAL = re.compile(r"0|-?[1-9][0-9]*"), re.compile(r"0|[1-9][0-9]*")
 CHANNELS = {"runin": "RunIn", "runout": "RunOut", "tout": "Tout", "keys": "Keys", "wait": "Wait", "read": "Read", "write": "Write"}
 FORMS = {
     "boot N N": "Boot", "go N": "Go", "idle": "Idle", "trap N": "Trap", "tick u": "TickUser", "tick k": "TickKernel",
@@ -300,7 +300,7 @@ def word_of(word):
     head, dot, number = word.partition(".")
     if NUMBER.fullmatch(word):
         return "-N" if word.startswith("-") else "N", int(word)
-    if head in CHANNELS and (head in ("wait", "read", "write")) == bool(dot) and (not dot or NUMBER.fullmatch(number)):
+    if head in CHANNELS and (head in ("wait", "read", "write")) == bool(dot) and (not dot or NATURAL.fullmatch(number)):
         return "W", (CHANNELS[head], *([int(number)] if dot else []))
     return word, None
 
