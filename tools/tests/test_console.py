@@ -6,12 +6,12 @@ import pty
 import re
 import select
 import shutil
-import signal
 import struct
 import subprocess
 import sys
 import time
 import unittest
+import unittest.mock
 
 from common import DISK_BYTES, TOOLS, TOP, V6, Case, read, tool, v6, write
 
@@ -281,6 +281,14 @@ class Sessions(Case):
         self.assertEqual(read(script), self.script("run 10000\nbyte 177\nrun 10000\ntype cat\nrun 10000\nbyte 177\nrun 10000\n"
                                                    "type echo b\nrun 10000\n"))
 
+    def test_keys_that_make_signals(self):
+        """What a person presses to interrupt or to quit, while the console reads, goes to the machine."""
+        for pressed, line in ((KeyboardInterrupt, b"byte 177"), (console.Quit, b"byte 034")):
+            file = unittest.mock.Mock(isatty=lambda: True, read1=unittest.mock.Mock(side_effect=pressed))
+            self.assertEqual(console.Keyboard(file).read().lines, [line])
+        with self.assertRaises(console.Quit):
+            console.quit_key()
+
     def test_names_of_programs(self):
         """Programs of 100 and 200 bytes have images of 16, 20 and two or four clicks; a text of 0410 is no part of one."""
         for name, words in (("one", (0o407, 60, 20, 20)), ("two", (0o407, 200, 0, 0)), ("three", (0o407, 0, 0, 193)),
@@ -461,13 +469,6 @@ class Terminals(Case):
         self.until(b"% ")
         os.write(self.ours, b"abc\4")
         self.assertEqual(self.until(b"ABC% "), b"abcABC% ")
-
-    def test_keys_that_make_signals(self):
-        """The first program of this disk ends by the key that quits. A shell ignores both."""
-        self.until(b"% ")
-        self.console.send_signal(signal.SIGQUIT)
-        self.until(b"the run is over")
-        self.assertEqual(self.console.wait(LONG), 0)
 
     def test_echo_and_prompt(self):
         self.until(b"% ")
