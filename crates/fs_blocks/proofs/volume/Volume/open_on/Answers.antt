@@ -28,7 +28,7 @@ step c =
     let v = volume_opened (cached_blocks c.args.cache) (opened c.read_super-head.result) c.requires c.see_fields.ensures (ap (λ (h : SuperBlock). h.i_size) is) (ap (λ (h : SuperBlock). h.f_size) is)
     (ap (λ (h : SuperBlock). h.nfree) is) (ap (λ (h : SuperBlock). h.free) is) (ap (λ (h : SuperBlock). h.ninode) is) in
     let k = kept_opened (cached_blocks c.args.cache) c.read_super-head.result v.1 c.requires v.0 is in
-    subst (Opens (cached_blocks c.args.cache) (read c)) (sym c.block.follows.holds-at-none) (v.0, k, k.stored refl)
+    subst (Opens (cached_blocks c.args.cache) (read c)) (sym (ap cached_blocks c.block.follows.holds-at-none ∙ c.block.ensures.blocks)) (v.0, k, k.stored refl)
 
 alike : (c : After-see_fields) → ReadsAlike (block_at (cached_blocks c.args.cache)) (disk_with (cached_blocks c.block.follows.lender-at-none) (opened c.read_super-head.result))
 unfolding Opens read
