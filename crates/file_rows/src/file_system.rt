@@ -3,6 +3,7 @@
 //! pages; none is an answer that this program gave.
 mod area;
 mod blocks;
+mod buffers;
 mod cache;
 mod calls;
 mod codec;
