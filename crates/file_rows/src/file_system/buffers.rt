@@ -18,33 +18,83 @@ type Row = (&'static [Step], &'static [u8], &'static [u8]);
 
 static ROWS: [Row; 13] = [
     // fifteen have room, and none is written
-    (&[Change(0, 15, b'a')], b"...............", b"aaaaaaaaaaaaaaa"),
-    // of sixteen that are changed, one after the other, the first is written and no other
-    (&[Change(0, 16, b'a')], b"a...............", b"aaaaaaaaaaaaaaaa"),
-    // and a sync writes them all
-    (&[Change(0, 16, b'a'), Sync], b"aaaaaaaaaaaaaaaa", b"aaaaaaaaaaaaaaaa"),
-    // a block that is only read takes a buffer too
-    (&[Change(0, 15, b'a'), Read(15, 16)], b"a...............", b"aaaaaaaaaaaaaaa."),
-    (&[Read(0, 15), Change(15, 16, b'a')], b"................", b"...............a"),
-    // a block that is read again, or changed again, is the one that was used last
-    (&[Change(0, 15, b'a'), Read(0, 1), Change(15, 16, b'a')], b".a..............", b"aaaaaaaaaaaaaaaa"),
     (
-        &[Change(0, 15, b'a'), Change(0, 1, b'b'), Change(15, 16, b'a')],
+        &[Change(0, 15, b'a')],
+        b"...............",
+        b"aaaaaaaaaaaaaaa",
+    ),
+    // of sixteen that are changed, one after the other, the first is written and no other
+    (
+        &[Change(0, 16, b'a')],
+        b"a...............",
+        b"aaaaaaaaaaaaaaaa",
+    ),
+    // and a sync writes them all
+    (
+        &[Change(0, 16, b'a'), Sync],
+        b"aaaaaaaaaaaaaaaa",
+        b"aaaaaaaaaaaaaaaa",
+    ),
+    // a block that is only read takes a buffer too
+    (
+        &[Change(0, 15, b'a'), Read(15, 16)],
+        b"a...............",
+        b"aaaaaaaaaaaaaaa.",
+    ),
+    (
+        &[Read(0, 15), Change(15, 16, b'a')],
+        b"................",
+        b"...............a",
+    ),
+    // a block that is read again, or changed again, is the one that was used last
+    (
+        &[Change(0, 15, b'a'), Read(0, 1), Change(15, 16, b'a')],
+        b".a..............",
+        b"aaaaaaaaaaaaaaaa",
+    ),
+    (
+        &[
+            Change(0, 15, b'a'),
+            Change(0, 1, b'b'),
+            Change(15, 16, b'a'),
+        ],
         b".a..............",
         b"baaaaaaaaaaaaaaa",
     ),
     // so those go first that are left out
     (
-        &[Change(0, 15, b'a'), Read(5, 10), Read(2, 3), Change(15, 21, b'a')],
+        &[
+            Change(0, 15, b'a'),
+            Read(5, 10),
+            Read(2, 3),
+            Change(15, 21, b'a'),
+        ],
         b"aa.aa.....aa.........",
         b"aaaaaaaaaaaaaaaaaaaaa",
     ),
     // all are read again in their order, which is then the same
-    (&[Change(0, 15, b'a'), Read(0, 15), Read(15, 17)], b"aa...............", b"aaaaaaaaaaaaaaa.."),
+    (
+        &[Change(0, 15, b'a'), Read(0, 15), Read(15, 17)],
+        b"aa...............",
+        b"aaaaaaaaaaaaaaa..",
+    ),
     // the block in front is read twice
-    (&[Change(0, 15, b'a'), Read(14, 15), Read(14, 15), Read(15, 16)], b"a...............", b"aaaaaaaaaaaaaaa."),
+    (
+        &[
+            Change(0, 15, b'a'),
+            Read(14, 15),
+            Read(14, 15),
+            Read(15, 16),
+        ],
+        b"a...............",
+        b"aaaaaaaaaaaaaaa.",
+    ),
     // a block that has gone comes back as it was, and another goes
-    (&[Change(0, 16, b'a'), Read(0, 1)], b"aa..............", b"aaaaaaaaaaaaaaaa"),
+    (
+        &[Change(0, 16, b'a'), Read(0, 1)],
+        b"aa..............",
+        b"aaaaaaaaaaaaaaaa",
+    ),
     // a block that changes after a sync is written when fifteen others have been used since, and not before
     (
         &[Change(0, 15, b'a'), Sync, Change(3, 4, b'b'), Read(15, 29)],

@@ -367,12 +367,12 @@ fn answers(volume: &mut Volume, node: &mut DiskNode, touches: &[(u32, Result<u16
 }
 
 /// Whether these words stand in these blocks.
-fn stand(volume: &Volume, blocks: &[(u16, u16, u16)]) -> bool {
+fn stand(volume: &mut Volume, blocks: &[(u16, u16, u16)]) -> bool {
     for (block, place, word) in blocks {
         if *block >= 20 || *place > 255 {
             return false;
         }
-        if word_at(volume.on_disk(*block), 2 * *place as usize) != *word {
+        if word_at(volume.block(*block), 2 * *place as usize) != *word {
             return false;
         }
     }
@@ -404,7 +404,7 @@ fn holds(alloc: Global, row: &Row) -> Result<bool, AllocError> {
     Ok(
         answers(&mut file.volume, &mut file.node, row.touches)
             && file.node == wanted(row)
-            && stand(&file.volume, row.blocks)
+            && stand(&mut file.volume, row.blocks)
             && are_free(&mut file.volume, row.free),
     )
 }
