@@ -31,4 +31,3 @@ pub mod TouchPathLemmas
 pub mod ImageLemmas
 pub mod AgainLemmas
 pub mod PlacedLemmas
-pub mod PlacedStore

@@ -7,6 +7,9 @@ use Rattle.buf_cache.specs.Blocks.{patched}
 use Rattle.fs_codec.specs.Fields.{Inode, inode_of}
 use Rattle.fs_codec.specs.Bytes.{inode_bytes}
 use Rattle.fs_codec.specs.Disk.{Disk, inode, inode_count}
+use Rattle.fs_laws.specs.Chain.{IsSound}
+use Rattle.fs_laws.proofs.AgreeLemmas.{Agree}
+use Rattle.fs_laws.proofs.ChangeLemmas.{place_is, place_no_data}
 use Rattle.fs_laws.proofs.StoreLemmas.{patched_long, inode_written, other_inode}
 use Rattle.fs_laws.specs.Placed.{Late, IsLate, placed, with_inodes, inode_among}
 use Rattle.fs_laws.proofs.AgainLemmas.{inode_again, bytes_long}
@@ -188,3 +191,15 @@ remove_none lates k i d low is once =
     let r = sum_by-remove (λ (l : Late). one (l.number == i)) lates k d low in
     let there : one ((get_or lates k d).number == i) ≡ 1 = elim (eqb_tells (get_or lates k d).number i) [ inl g ↦ ap one g.0 | inr g ↦ absurd (g.1 is) ] in
     omega (arith, r, there, once)
+
+all_late : (P Q : Late → Type 0) → ((l : Late) → P l → Q l) → (lates : List Late) → AllByRecursion P lates → AllByRecursion Q lates
+all_late P Q weaker [] all = tt
+all_late P Q weaker (l ∷ ls) all = (weaker l all.0, all_late P Q weaker ls all.1)
+
+-- Data blocks, the super-block and the boot block are those of the disk.
+pub with_agrees : (disk : Disk) (lates : List Late) → IsSound disk → AllByRecursion (IsLate disk) lates → Agree disk (with_inodes disk lates)
+with_agrees disk lates sound all = record {
+  super = with_kept disk lates 1 (all_late (IsLate disk) (λ (l : Late). block_of l.number ≢ 1) (λ l h e. (let low = h.low in omega (arith, low, e))) lates all);
+  zone = λ b inside. with_kept disk lates b (all_late (IsLate disk) (λ (l : Late). block_of l.number ≢ b)
+      (λ l h e. place_no_data disk (block_of l.number) b (place_is disk l.number sound h.low h.high) inside (sym e)) lates all);
+}
