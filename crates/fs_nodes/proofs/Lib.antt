@@ -22,3 +22,7 @@ pub mod NumbersBack
 pub mod NumbersMake
 pub mod NumbersPut
 pub mod NumbersOpened
+pub mod NumbersLate
+pub mod NewLate
+pub mod ClearLate
+pub mod ReleaseLemmas
