@@ -1,13 +1,13 @@
 -- Entries that come into the table, are written into their blocks, and go: the file system stays what it was.
-use Rattle.std.proofs.Common.{◌≡◌, ◌≢◌, ◌+◌, ◌/◌, ◌<◌, ◌≤◌, ◌==◌, inl, inr, ℕ, suc, Bool, true, false, cond, List, [], ◌∷◌, ◌++◌, length, length-set, set, slice_set, get_or, get_or-set_same, get_or-set_other, take, drop, ◌⊎◌, refl, sym, ap, ◌∙◌, subst, arith}
+use Rattle.std.proofs.Common.{◌≡◌, ◌≢◌, ◌+◌, ◌/◌, ◌<◌, ◌≤◌, ◌==◌, inl, inr, ℕ, suc, Bool, true, false, cond, List, [], ◌∷◌, ◌++◌, length, length-set, set, slice_set, slice_index, get_or, get_or-set_same, get_or-set_other, take, drop, ◌⊎◌, refl, sym, ap, ◌∙◌, subst, arith}
 use Rattle.std.proofs.lemmas.Bool.Decides.{eqb_tells}
 use Rattle.std.proofs.lemmas.List.{length-map, map-append, set-get_or, get_or_default, take-map, drop-map}
 use Rattle.std.proofs.lemmas.List.Elements.{recursion_from_All, All-map, All-set, All-weaker, All-push, All-take, All-drop, All-append}
 use Rattle.std.proofs.lemmas.List.Sums.{sum_by-set, sum_by-remove}
-use Rattle.std.specs.List.{All, AllByRecursion, remove}
+use Rattle.std.specs.List.{All, AllByRecursion, remove, refill}
 use Rattle.buf_cache.specs.Blocks.{block_at, IsDisk}
 use Rattle.fs_codec.specs.Bytes.{super_bytes}
-use Rattle.fs_codec.specs.Fields.{super_of, fields_of}
+use Rattle.fs_codec.specs.Fields.{Inode, super_of, fields_of}
 use Rattle.fs_codec.specs.Disk.{Disk, is_data, inode, inode_count}
 use Rattle.fs_codec.specs.Stands.{store_of}
 use Rattle.fs_laws.specs.Chain.{SameZone}
@@ -21,12 +21,15 @@ use Rattle.fs_laws.proofs.PlacedLemmas.{lates_with, among_at, among_none, among_
 use Rattle.fs_blocks.specs.State.{State, Mounted, disk, IsVolume}
 use Rattle.fs_blocks.proofs.SuperLemmas.{other_block}
 use Rattle.fs_nodes.specs.declared.table.Referenced.{Referenced}
-use Rattle.fs_nodes.specs.FileSystem.{FileSystem, store_now, IsFileSystem}
+use Rattle.fs_nodes.specs.FileSystem.{FileSystem, SameFiles, store_now}
 use Rattle.fs_nodes.specs.Inodes.{WritesInode}
-use Rattle.fs_nodes.specs.Table.{late_of, lates_of, blocks_with, seen, entries_of, files_of, once_more, clean, Stays, IsEntry, IsTable, IsNodes, IsHeld}
+use Rattle.fs_nodes.specs.Table.{references_in, IsUsed, late_of, lates_of, blocks_with, seen, entries_of, files_of, once_more, clean, Stays, IsEntry, IsTable, IsNodes, IsHeld}
 use Rattle.fs_nodes.proofs.TableLemmas.{one}
 use Rattle.fs_nodes.proofs.NodesLemmas.{new_nodes}
 use Rattle.fs_nodes.proofs.SaveLemmas.{one_entry}
+use Rattle.fs_nodes.proofs.InodeLemmas.{addresses_long}
+use Rattle.fs_nodes.proofs.PeekLemmas.{none_inode}
+use Rattle.fs_nodes.proofs.TakeLemmas.{refilled, some_entry, again, new_nodes_with, new_system}
 use Rattle.fs_nodes.proofs.SeenLemmas.{IsOver, seen_disk, inode_seen, agree_seen, sizes_seen}
 use Rattle.fs_nodes.proofs.HeldLemmas.{over, count_lates, late_at, lates_set}
 
@@ -298,3 +301,54 @@ held_removed s es k d h low sizes written =
       long = all_removed (λ (r : Referenced). length r.node.addr ≡ 8) es k h.long;
       same = all_removed (λ (r : Referenced). r.is_changed ≡ false → fields_of r.node ≡ inode (disk s) r.ino) es k h.same;
     }, store_stays s s es (remove es k) o o' h.nodes.whole x refl)
+
+-- What is so where one more refers to an inode, and nothing else has changed.
+pub record Takes (s t : State) (es : List Referenced) (i : ℕ) (es' : List Referenced) : Type 0 where
+  pub held : IsHeld t es'
+  pub store : store_now (seen t es') ≡ store_now (seen s es)
+  pub references : references_in (inode_count (disk t)) es' ≡ slice_set (references_in (inode_count (disk s)) es) i (slice_index (references_in (inode_count (disk s)) es) i + 1)
+  pub blocks : t.blocks ≡ s.blocks
+
+-- The table has it.
+pub taken_again : (s : State) (es now new : List Referenced) (i k : ℕ) → IsHeld s es → slice_index (references_in (inode_count (disk s)) es) i < 65535 → now ≡ es → k < length es → ((e : Referenced) → (get_or es k e).ino ≡ i)
+    → ((e : Referenced) → new ≡ slice_set now k (once_more (get_or now k e))) → Takes s s es i (refill (length es) es new)
+taken_again s es now new i k h few same low here is =
+    let d = some_entry es k low in
+    let P : List Referenced → Type 0 = λ l. (e : Referenced) → new ≡ slice_set l k (once_more (get_or l k e)) in
+    let set = subst P same is in
+    let a = again (seen s es) es es new i k h.nodes few refl low here set in
+    let t = held_again s es (refill (length es) es new) k d h low
+    (refilled es new (ap length (set d) ∙ length-set es k (once_more (get_or es k d))) ∙ set d) a.nodes in
+    record { held = t.0; store = ap store_now t.1; references = ap (λ (f : FileSystem). f.references) a.system; blocks = refl }
+
+-- It comes into the table from its block.
+taken_one : (s : State) (es : List Referenced) (e : Referenced) → IsHeld s es → SameZone (block_at s.blocks) (disk s) → entries_of es e.ino ≡ 0 → IsUsed (seen s es) e.ino → fields_of e.node ≡ inode (disk s) e.ino → e.references ≡ 1
+    → Takes s s es e.ino (es ++ e ∷ [])
+taken_one s es e h sizes none used same one_ =
+    let same' : fields_of e.node ≡ inode (disk (seen s es)) e.ino = same ∙ sym (none_inode s es e.ino h used.low none) in
+    let entry : IsEntry (disk (seen s es)) e = record {
+      low = used.low;
+      high = used.high;
+      some = omega (arith, one_);
+      few = omega (arith, one_);
+      used = λ z. used.used (sym (ap (λ (x : Inode). x.mode) same') ∙ z);
+      same = same';
+    } in
+    let t = held_push s es e h sizes (new_nodes_with (seen s es) es e h.nodes none entry) used.low used.high (ap (λ (n : Inode). length n.addr) same ∙ addresses_long (disk s) e.ino) same in
+    record { held = t.0; store = t.1; references = ap (λ (f : FileSystem). f.references) (new_system (seen s es) es e h.nodes none entry one_); blocks = refl }
+
+pub taken_first : (s t : State) (es new : List Referenced) (e : Referenced) → IsHeld s es → SameZone (block_at t.blocks) (disk t) → entries_of es e.ino ≡ 0 → IsUsed (seen s es) e.ino → fields_of e.node ≡ inode (disk s) e.ino → e.references ≡ 1
+    → t ≡ s → new ≡ es ++ e ∷ [] → Takes s t es e.ino new
+taken_first s t es new e h sizes none used same one_ back is =
+    let P : State → Type 0 = λ u. SameZone (block_at u.blocks) (disk u) in
+    let Q : State → List Referenced → Type 0 = λ u l. Takes s u es e.ino l in
+    subst (λ u. Q u new) (sym back) (subst (λ l. Q s l) (sym is) (taken_one s es e h (subst P back sizes) none used same one_))
+
+-- The file system is that which has another reference to it.
+pub taken_files : (old new : Mounted) (es now : List Referenced) (fs : FileSystem) (i : ℕ) → Takes old.state new.state es i now → files_of old es ≡ fs
+    → SameFiles (record fs { references = slice_set fs.references i (slice_index fs.references i + 1) }) (files_of new now)
+taken_files old new es now fs i t view = record {
+  store = t.store ∙ ap (λ (f : FileSystem). f.store) view;
+  references = t.references ∙ ap (λ (f : FileSystem). slice_set f.references i (slice_index f.references i + 1)) view;
+  blocks = t.blocks ∙ ap (λ (f : FileSystem). f.blocks) view;
+}
