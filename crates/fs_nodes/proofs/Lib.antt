@@ -21,7 +21,6 @@ pub mod NumbersLemmas
 pub mod NumbersBack
 pub mod NumbersMake
 pub mod NumbersPut
-pub mod NumbersOpened
 pub mod NumbersLate
 pub mod NewLate
 pub mod ClearLate

@@ -1,16 +1,15 @@
 -- Free numbers and their list, where inodes are in memory.
-use Rattle.std.proofs.Common.{◌≡◌, ◌≢◌, ◌+◌, ◌*◌, ◌/◌, ◌%◌, slice_range, ◌≤◌, ◌<◌, ◌&&◌, ◌==◌, ℕ, true, false, List, length, take, nat_le, get_or, refl, sym, ap, ◌∙◌, subst, arith}
+use Rattle.std.proofs.Common.{◌≡◌, ◌≢◌, ◌+◌, ◌*◌, ◌/◌, ◌%◌, slice_range, ◌≤◌, ◌<◌, ◌&&◌, ◌==◌, ℕ, false, List, length, take, nat_le, get_or, sym, ap, ◌∙◌, arith}
 use Rattle.std.proofs.lemmas.Bool.{ne_eqb}
 use Rattle.std.specs.Option.{is_none}
 use Rattle.buf_cache.specs.Blocks.{block_at, IsDisk}
-use Rattle.fs_codec.specs.Fields.{Inode, inode_of, fields_of}
-use Rattle.fs_codec.specs.Disk.{inode, inode_count}
-use Rattle.fs_codec.specs.Store.{Store, node_numbered}
+use Rattle.fs_codec.specs.Fields.{Inode, inode_of}
+use Rattle.fs_codec.specs.Disk.{inode}
+use Rattle.fs_codec.specs.Store.{node_numbered}
 use Rattle.fs_codec.specs.declared.super_block.SuperBlock.{SuperBlock}
 use Rattle.fs_laws.specs.Chain.{free, SameZone}
 use Rattle.fs_laws.specs.Numbers.{is_free_number}
 use Rattle.fs_laws.proofs.AgreeLemmas.{agree_free}
-use Rattle.fs_laws.specs.Placed.{Late}
 use Rattle.fs_blocks.specs.State.{State, disk, IsVolume, SameButSpare}
 use Rattle.fs_blocks.proofs.SuperLemmas.{head_is, other_block}
 use Rattle.fs_nodes.specs.declared.table.Referenced.{Referenced}
@@ -22,7 +21,7 @@ use Rattle.fs_nodes.proofs.NumbersLemmas.{free_mode, spare_set, spare_whole, wit
 use Rattle.fs_nodes.proofs.NumbersMake.{drawn_nodes}
 use Rattle.fs_nodes.proofs.PeekLemmas.{number_seen, some_inode}
 use Rattle.fs_nodes.proofs.TakeLemmas.{some_entry}
-use Rattle.fs_nodes.proofs.SeenLemmas.{IsOver, agree_seen, volume_seen}
+use Rattle.fs_nodes.proofs.SeenLemmas.{agree_seen, volume_seen}
 use Rattle.fs_nodes.proofs.HeldLemmas.{over, over_moved}
 
 -- An inode of the table is not free.

@@ -132,6 +132,7 @@ fn set_list(volume: &mut Volume, table: &[Referenced], list: &[u16])
     volume.set_spare(list);
     see(volume);
     see_sizes(volume);
+    // the contract alone speaks of the table
     let _ = table;
 }
 
@@ -232,6 +233,7 @@ fn clear_inode(volume: &mut Volume, table: &[Referenced], ino: u16, mut node: Di
     node.mode = 0;
     write_inode(volume, ino, &node);
     see(volume);
+    // the contract alone speaks of the table
     let _ = table;
 }
 
