@@ -21,4 +21,7 @@ pub mod NumbersLemmas
 pub mod NumbersBack
 pub mod NumbersMake
 pub mod NumbersPut
-pub mod NumbersOpened
+pub mod NumbersLate
+pub mod NewLate
+pub mod ClearLate
+pub mod ReleaseLemmas

@@ -1,20 +1,18 @@
 //! Numbers of inodes are drawn and given back: `ialloc` and `ifree` in Lions' Commentary, `alloc.c`.
-ghost use Rattle.std.specs.Prelude.{◌≡◌, ◌≢◌, true, ◌-◌, ◌<◌, ◌≤◌, ◌==◌, ◌&&◌, not, min, [], length, take, drop, reverse, slice_index, slice_index_or, slice_set, if◌then◌else◌, MatchOption, MatchResult, IfSome, Some, None};
+ghost use Rattle.std.specs.Prelude.{◌≡◌, ◌≢◌, true, ◌+◌, ◌-◌, ◌*◌, ◌<◌, ◌≤◌, ◌==◌, ◌&&◌, not, min, List, [], length, take, drop, reverse, slice_index, MatchOption, MatchResult, IfSome, Some, None};
 ghost use Rattle.fs_codec.specs.Fields.{fields_of};
 ghost use Rattle.fs_codec.specs.Disk.{inode, inode_count};
-ghost use Rattle.fs_codec.specs.Store.{Node, node_numbered};
+ghost use Rattle.fs_codec.specs.Store.{Node};
 ghost use Rattle.fs_codec.specs.Stands.{node_of};
-ghost use Rattle.fs_laws.specs.Numbers.{is_free_number, drawn, refill, draw, with_draw, without_node, without_reference};
+ghost use Rattle.fs_laws.specs.Numbers.{is_free_number, drawn, refill, draw, with_draw, without_node};
 ghost use Rattle.fs_blocks.specs.State.{disk};
 ghost use Rattle.fs_nodes.specs.FileSystem.{store_now, SameRest};
 ghost use Rattle.fs_nodes.specs.Table.{entries_of, files_of, seen, IsHeld};
-ghost use Rattle.fs_nodes.specs.declared.table.Referenced.{Referenced};
-ghost use Rattle.fs_nodes.specs.Numbers.{refers_to, once_less, drawn_list, drawn_from, emptied, pushed, ChangesList, ChangesInode, Clears, MakesNode, MakesNone};
+ghost use Rattle.fs_nodes.specs.Numbers.{refers_to, drawn_list, drawn_from, emptied, pushed, ChangesList, ChangesInode, Clears, MakesNode, MakesNone};
 
 use crate::inodes::{read_inode, see, write_inode};
 use crate::nodes::{Nodes, see_sizes};
-use crate::release::release;
-use crate::table::{Referenced, find, place};
+use crate::table::{Referenced, find};
 use arrayvec::ArrayVec;
 use fs_blocks::Volume;
 use fs_codec::{BLOCK_INODES, DiskNode, IALLOC, LIST_SIZE};
@@ -44,7 +42,7 @@ fn is_free_there(volume: &mut Volume, ino: u16) -> bool
 }
 
 /// Whether a number is that of an inode that is not used. One in memory is.
-pub(crate) fn is_free(volume: &mut Volume, table: &[Referenced], ino: u16) -> bool
+fn is_free(volume: &mut Volume, table: &[Referenced], ino: u16) -> bool
     requires { IsHeld volume.old.state table.now }
     ensures same { volume.new.state ≡ volume.old.state }
     ensures free { result ≡ is_free_number (store_now (seen volume.old.state table.now)) ino }
@@ -134,6 +132,7 @@ fn set_list(volume: &mut Volume, table: &[Referenced], list: &[u16])
     volume.set_spare(list);
     see(volume);
     see_sizes(volume);
+    // the contract alone speaks of the table
     let _ = table;
 }
 
@@ -234,6 +233,7 @@ fn clear_inode(volume: &mut Volume, table: &[Referenced], ino: u16, mut node: Di
     node.mode = 0;
     write_inode(volume, ino, &node);
     see(volume);
+    // the contract alone speaks of the table
     let _ = table;
 }
 
@@ -299,46 +299,6 @@ fn make_node(
     Ok(ino)
 }
 
-/// Refers once less to an inode of the table that is referred to more than once.
-fn refer_less(table: &mut [Referenced], k: usize)
-    requires place { k < length table.old }
-    requires many { (entry : Referenced) → 1 < (slice_index_or table.old k entry).references }
-    ensures { (entry : Referenced) → table.new ≡ slice_set table.old k (once_less (slice_index_or table.old k entry)) }
-{
-    table[k].references -= 1;
-}
-
-/// Refers once less to an inode of a volume, and frees it where that was the last reference to one without links.
-fn put_inode(volume: &mut Volume, table: &mut ArrayVec<Referenced, 100>, ino: u16)
-    requires held { IsHeld volume.old.state table.old.items }
-    requires referenced { 0 < slice_index (files_of volume.old table.old.items).references ino }
-    ensures held { IsHeld volume.new.state table.new.items }
-    ensures references { (files_of volume.new table.new.items).references
-        ≡ slice_set (files_of volume.old table.old.items).references ino
-        (slice_index (files_of volume.old table.old.items).references ino - 1) }
-    ensures store { (node : Node) → node_numbered (store_now (seen volume.old.state table.old.items)) ino ≡ Some node
-        → store_now (seen volume.new.state table.new.items)
-        ≡ (if slice_index (files_of volume.old table.old.items).references ino == 1
-        then without_reference (store_now (seen volume.old.state table.old.items)) ino node
-        else store_now (seen volume.old.state table.old.items)) }
-    ensures rest { SameRest volume.old.state.blocks volume.new.state.blocks }
-{
-    let k = place(table, ino);
-    let entry = table[k];
-    if entry.references > 1 {
-        refer_less(table, k);
-        return;
-    }
-    release(volume, table, k);
-    if entry.node.nlink > 0 {
-        return;
-    }
-    if ino == 1 {
-        return;
-    }
-    free_inode(volume, table, ino, entry.node);
-}
-
 impl Nodes {
     /// Makes a new inode, to which the caller refers, with no link, no bytes and both times set: `ialloc` in Lions'
     /// Commentary, `alloc.c`. Its number is drawn from the list of the super-block, and IALLOC is added to its mode.
@@ -352,20 +312,5 @@ impl Nodes {
         ensures rest { SameRest self.old.blocks self.new.blocks }
     {
         make_node(&mut self.volume, &mut self.table, mode, uid, gid, time)
-    }
-
-    /// Gives a reference to an inode back. Where it was the last one, and no directory entry names the inode, the inode is
-    /// freed with all its blocks; inode 1 never is. `iput` in Lions' Commentary, `iget.c`. The time is the present one.
-    pub fn put(&mut self, ino: u16, time: u32)
-        requires referenced { 0 < slice_index self.old.references ino }
-        ensures references { self.new.references
-            ≡ slice_set self.old.references ino (slice_index self.old.references ino - 1) }
-        ensures store { (node : Node) → node_numbered self.old.store ino ≡ Some node → self.new.store
-            ≡ (if slice_index self.old.references ino == 1
-            then without_reference self.old.store ino node else self.old.store) }
-        ensures rest { SameRest self.old.blocks self.new.blocks }
-    {
-        let _ = time;
-        put_inode(&mut self.volume, &mut self.table, ino);
     }
 }
