@@ -25,6 +25,9 @@ pub record Agree (old new : Disk) : Type 0 where
 pub agree_zone : (old new : Disk) → Agree old new → SameZone old new
 agree_zone old new a = record { i_size = ap (λ l. (super_of l).i_size) a.super; f_size = ap (λ l. (super_of l).f_size) a.super }
 
+pub agree_back : (old new : Disk) → Agree old new → Agree new old
+agree_back old new a = record { super = sym a.super; zone = λ b inside. sym (a.zone b (sym (same_data old new (agree_zone old new a) b) ∙ inside)) }
+
 pub agree_free : (old new : Disk) → Agree old new → IsSound old → (free new ≡ free old) × IsSound new
 agree_free old new a s =
     free_kept old new s (agree_zone old new a) (ap (λ l. super_fault DISK_BLOCKS (super_of l)) a.super ∙ s.super)
@@ -52,6 +55,55 @@ agree_apart old new node a s apart =
           omega (arith, o, x, y);
     }
 
+pub agree_held : (old new : Disk) (node : Inode) → Agree old new → ((k : ℕ) → k ≢ 0 → 1 ≤ count_by (nat_eq k) (held_blocks old node) → is_data old k ≡ true) → held_blocks new node ≡ held_blocks old node
+agree_held old new node a inside = held_kept old new node (same_data old new (agree_zone old new a)) (each_in (Kept old new) (held_blocks old node) (λ k comes some. a.zone k (inside k some comes)))
+
+-- Two disks that agree, and on which each inode is the same, stand for the same store.
+pub record SameInodes (old new : Disk) : Type 0 where
+  pub agree : Agree old new
+  pub inodes : (j : ℕ) → 1 ≤ j → j ≤ inode_count old → inode new j ≡ inode old j
+
+same_held : (old new : Disk) (j : ℕ) → IsWhole old → SameInodes old new → 1 ≤ j → j ≤ inode_count old → held_by new j ≡ held_by old j
+same_held old new j w s low high = ap (held_blocks new) (s.inodes j low high) ∙ agree_held old new (inode old j) s.agree (file_apart old j w low high).inside
+
+same_node : (old new : Disk) (j : ℕ) → IsWhole old → SameInodes old new → 1 ≤ j → j ≤ inode_count old → node_of new (inode new j) ≡ node_of old (inode old j)
+same_node old new j w s low high = ap (node_of new) (s.inodes j low high) ∙ agree_node old new (inode old j) s.agree (file_apart old j w low high).inside
+
+some_inode : (n : ℕ) → n ≢ 0 → 1 ≤ 16 * n
+some_inode zero some = absurd (some refl)
+some_inode (suc n) some = omega arith
+
+pub same_whole : (old new : Disk) → IsWhole old → SameInodes old new → IsWhole new
+same_whole old new w s =
+    let zone = agree_zone old new s.agree in
+    let f = agree_free old new s.agree w.sound in
+    let h : held new ≡ held old =
+    ap (λ n. flat_map (held_by new) (range_with_len 1 n)) (same_inodes old new zone)
+    ∙ same_flat (held_by old) (held_by new) 1 (inode_count old) (λ j l h. same_held old new j w s l (omega (arith, h))) in
+    record {
+      sound = f.1;
+      inside = λ k some comes. same_data old new zone k ∙ w.inside k some (let P : List ℕ → Type 0 = λ l. 1 ≤ count_by (nat_eq k) l in subst P h comes);
+      once = λ k some. let o = w.once k some in
+          let x : count_by (nat_eq k) (free new) ≡ count_by (nat_eq k) (free old) = ap (count_by (nat_eq k)) f.0 in
+          let y : count_by (nat_eq k) (held new) ≡ count_by (nat_eq k) (held old) = ap (count_by (nat_eq k)) h in
+          omega (arith, o, x, y);
+      root = ap (λ (n : Inode). is_directory n.mode) (s.inodes 1 (omega arith) (some_inode (head old).i_size (good_head (head old) w.sound.super).nodes)) ∙ w.root;
+    }
+
+pub same_store : (old new : Disk) → IsWhole old → SameInodes old new → store_of new ≡ store_of old
+unfolding store_of
+same_store old new w s i =
+    let zone = agree_zone old new s.agree in
+    record {
+      nodes = None ∷ (ap (λ n. map (λ j. node_of new (inode new j)) (range_with_len 1 n)) (same_inodes old new zone)
+          ∙ same_map (λ j. node_of old (inode old j)) (λ j. node_of new (inode new j)) 1 (inode_count old) (λ j l h. same_node old new j w s l (omega (arith, h)))) i;
+      count = same_inodes old new zone i;
+      room = length ((agree_free old new s.agree w.sound).0 i);
+      spare = take (super_of (s.agree.super i)).ninode (super_of (s.agree.super i)).inode;
+      stamp = (super_of (s.agree.super i)).time;
+      mark = false;
+    }
+
 -- The blocks of the file system are the same: all that stands on a disk is.
 pub record SameFiles (old new : Disk) : Type 0 where
   pub blocks : (k : ℕ) → k < (head old).f_size → new k ≡ old k
@@ -66,51 +118,11 @@ files_inode old new j w same low high =
     let zone = (good_head (head old) w.sound.super).zone in
     ap (λ l. inode_of (slice_range l (32 * ((j + 31) % 16)) (32 * ((j + 31) % 16) + 32))) (same.blocks ((j + 31) / 16) (omega (arith, low, high, zone)))
 
-files_held : (old new : Disk) (j : ℕ) → IsWhole old → SameFiles old new → 1 ≤ j → j ≤ inode_count old → held_by new j ≡ held_by old j
-files_held old new j w same low high =
-    let a = files_agree old new w same in
-    ap (held_blocks new) (files_inode old new j w same low high)
-    ∙ held_kept old new (inode old j) (same_data old new (agree_zone old new a)) (each_in (Kept old new) (held_by old j) (λ k comes some. a.zone k ((file_apart old j w low high).inside k some comes)))
-
-files_node : (old new : Disk) (j : ℕ) → IsWhole old → SameFiles old new → 1 ≤ j → j ≤ inode_count old → node_of new (inode new j) ≡ node_of old (inode old j)
-files_node old new j w same low high =
-    ap (node_of new) (files_inode old new j w same low high) ∙ agree_node old new (inode old j) (files_agree old new w same) (file_apart old j w low high).inside
-
-files_all_held : (old new : Disk) → IsWhole old → SameFiles old new → held new ≡ held old
-files_all_held old new w same =
-    ap (λ n. flat_map (held_by new) (range_with_len 1 n)) (same_inodes old new (agree_zone old new (files_agree old new w same)))
-    ∙ same_flat (held_by old) (held_by new) 1 (inode_count old) (λ j l h. files_held old new j w same l (omega (arith, h)))
+files_same : (old new : Disk) → IsWhole old → SameFiles old new → SameInodes old new
+files_same old new w same = record { agree = files_agree old new w same; inodes = λ j low high. files_inode old new j w same low high }
 
 pub files_whole : (old new : Disk) → IsWhole old → SameFiles old new → IsWhole new
-files_whole old new w same =
-    let a = files_agree old new w same in
-    let f = agree_free old new a w.sound in
-    let h : held new ≡ held old = files_all_held old new w same in
-    let nodes = (good_head (head old) w.sound.super).nodes in
-    record {
-      sound = f.1;
-      inside = λ k some comes. same_data old new (agree_zone old new a) k ∙ w.inside k some (let P : List ℕ → Type 0 = λ l. 1 ≤ count_by (nat_eq k) l in subst P h comes);
-      once = λ k some. let o = w.once k some in
-          let x : count_by (nat_eq k) (free new) ≡ count_by (nat_eq k) (free old) = ap (count_by (nat_eq k)) f.0 in
-          let y : count_by (nat_eq k) (held new) ≡ count_by (nat_eq k) (held old) = ap (count_by (nat_eq k)) h in
-          omega (arith, o, x, y);
-      root = ap (λ (n : Inode). is_directory n.mode) (files_inode old new 1 w same (omega arith) (first_inode (head old).i_size nodes)) ∙ w.root;
-    } where
-      first_inode : (n : ℕ) → n ≢ 0 → 1 ≤ 16 * n
-      first_inode zero some = absurd (some refl)
-      first_inode (suc n) some = omega arith
+files_whole old new w same = same_whole old new w (files_same old new w same)
 
 pub files_store : (old new : Disk) → IsWhole old → SameFiles old new → store_of new ≡ store_of old
-unfolding store_of
-files_store old new w same i =
-    let a = files_agree old new w same in
-    let zone = agree_zone old new a in
-    record {
-      nodes = None ∷ (ap (λ n. map (λ j. node_of new (inode new j)) (range_with_len 1 n)) (same_inodes old new zone)
-          ∙ same_map (λ j. node_of old (inode old j)) (λ j. node_of new (inode new j)) 1 (inode_count old) (λ j l h. files_node old new j w same l (omega (arith, h)))) i;
-      count = same_inodes old new zone i;
-      room = length ((agree_free old new a w.sound).0 i);
-      spare = take (super_of (a.super i)).ninode (super_of (a.super i)).inode;
-      stamp = (super_of (a.super i)).time;
-      mark = false;
-    }
+files_store old new w same = same_store old new w (files_same old new w same)

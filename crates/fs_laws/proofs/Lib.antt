@@ -29,3 +29,5 @@ pub mod TouchBodyLemmas
 pub mod TouchNodeLemmas
 pub mod TouchPathLemmas
 pub mod ImageLemmas
+pub mod AgainLemmas
+pub mod PlacedLemmas

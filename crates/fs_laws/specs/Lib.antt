@@ -11,3 +11,4 @@ pub mod Block
 pub mod Sync
 pub mod Rest
 pub mod Shown
+pub mod Placed

@@ -103,7 +103,7 @@ not_entry es i k d none low is =
     let here : one ((get_or es k d).ino == i) ≡ 1 = elim (eqb_tells (get_or es k d).ino i) [ inl h ↦ ap one h.0 | inr h ↦ absurd (h.1 is) ] in
     omega (arith, part, here, none)
 
-others_table : (old new : Disk) (es : List Referenced) (i : ℕ) → IsTable old es → ChangesFile old new i → entries_of es i ≡ 0 → IsTable new es
+pub others_table : (old new : Disk) (es : List Referenced) (i : ℕ) → IsTable old es → ChangesFile old new i → entries_of es i ≡ 0 → IsTable new es
 others_table old new es i t change none = record {
   each = λ k d low. other_entry old new i (get_or es k d) change (not_entry es i k d none low) (t.each k d low);
   once = t.once;

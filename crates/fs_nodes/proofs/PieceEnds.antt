@@ -1,5 +1,5 @@
 -- What a read or a write of a file leaves, with its times and its inode.
-use Rattle.std.proofs.Common.{◌≡◌, ◌≢◌, ◌+◌, ◌*◌, ◌≤◌, ◌==◌, ◌&&◌, ◌||◌, ℕ, Bool, true, false, not, cond, List, [], length, slice_set, slice_index, min, nat_eq, Option, Some, None, refl, sym, ap, ◌∙◌, subst, arith}
+use Rattle.std.proofs.Common.{◌≡◌, ◌≢◌, ◌+◌, ◌≤◌, ◌==◌, ◌&&◌, ◌||◌, ℕ, Bool, true, false, not, cond, List, [], length, slice_set, slice_index, min, nat_eq, Option, Some, None, refl, sym, ap, ◌∙◌, subst, arith}
 use Rattle.std.specs.List.{count_by}
 use Rattle.fs_codec.specs.Fields.{Inode}
 use Rattle.fs_codec.specs.Modes.{file_type, is_device, is_directory, holds_blocks}
@@ -7,7 +7,6 @@ use Rattle.fs_codec.specs.Disk.{Disk, inode, inode_count, head}
 use Rattle.fs_codec.specs.Held.{addresses, held_blocks}
 use Rattle.fs_codec.specs.Store.{Node, node_numbered}
 use Rattle.fs_codec.specs.Stands.{held_of, body_of, node_of}
-use Rattle.fs_codec.specs.declared.super_block.SuperBlock.{SuperBlock}
 use Rattle.v6_base.specs.declared.errno.Errno.{Errno}
 use Rattle.fs_laws.specs.Chain.{free}
 use Rattle.fs_laws.specs.Whole.{IsApart, IsWhole}
@@ -15,18 +14,19 @@ use Rattle.fs_laws.specs.Pieces.{pieces, Moving, reading, writing, beginning, re
 use Rattle.fs_laws.proofs.FileLemmas.{file_apart}
 use Rattle.fs_laws.proofs.ShownLemmas.{node_shown, node_some}
 use Rattle.fs_laws.proofs.TouchNodeLemmas.{holds_when}
-use Rattle.fs_blocks.specs.State.{State, disk, Fits}
+use Rattle.fs_blocks.specs.State.{State, disk}
 use Rattle.fs_blocks.specs.Touch.{MovesBlocks}
-use Rattle.fs_blocks.proofs.SuperLemmas.{head_is}
 use Rattle.fs_blocks.proofs.VolumeLemmas.{same_refl}
 use Rattle.fs_nodes.specs.declared.table.Referenced.{Referenced}
 use Rattle.fs_nodes.specs.FileSystem.{FileSystem, store_now}
 use Rattle.fs_nodes.specs.Inodes.{Carries}
-use Rattle.fs_nodes.specs.Table.{file_system, IsNodes, IsUsed, HasInode}
-use Rattle.fs_nodes.specs.Moves.{file_of, moving, Comes, Grew, Dated, Ends, Moves, Carried}
+use Rattle.fs_nodes.specs.Table.{file_system, seen, IsNodes, IsHeld, IsUsed, HasInode}
+use Rattle.fs_nodes.specs.Moves.{file_of, moving, Comes, Grew, Dated, Ends, Moves, Carried, CarriesLate}
+use Rattle.fs_nodes.proofs.HeldLemmas.{over_after}
 use Rattle.fs_nodes.proofs.BackLemmas.{held_is, carries_moved}
 use Rattle.fs_nodes.proofs.NodesLemmas.{node_at, room_is, mark_is, same_mark, root_kept}
 use Rattle.fs_nodes.proofs.PieceSteps.{same_names, same_body}
+use Rattle.fs_nodes.proofs.SeenMoves.{ends_seen}
 
 -- an inode with other times
 pub dated : (disk : Disk) (x y : Inode) (actime modtime : ℕ) → y ≡ record x { actime = actime; modtime = modtime } → Dated x y × (file_of disk y ≡ record (file_of disk x) { actime = actime; modtime = modtime })
@@ -129,13 +129,6 @@ moves_store old new fin i x next m bytes moved refusal e is =
       error = c.error;
     }
 
--- a number of an inode is within a super-block's count
-pub within_head : (s : State) (i : ℕ) → Fits s.head → i ≤ inode_count (disk s) → i ≤ 16 * s.head.i_size
-within_head s i fits low = let h : (head (disk s)).i_size ≡ s.head.i_size = ap (λ (x : SuperBlock). x.i_size) (head_is s.blocks s.head fits) in omega (arith, h, low)
-
-pub within_disk : (s : State) (i : ℕ) → Fits s.head → i ≤ 16 * s.head.i_size → i ≤ inode_count (disk s)
-within_disk s i fits low = let h : (head (disk s)).i_size ≡ s.head.i_size = ap (λ (x : SuperBlock). x.i_size) (head_is s.blocks s.head fits) in omega (arith, h, low)
-
 -- times that are set where there is something
 one_time : (t : Bool) (f : Node) (time : ℕ) → cond t f (record f { actime = time }) ≡ record f { actime = cond t f.actime time; modtime = f.modtime }
 one_time true f time = refl
@@ -216,15 +209,15 @@ pub apart_of : (s : State) (es : List Referenced) (i : ℕ) (x : Inode) → IsNo
 apart_of s es i x n u same file =
     holds_apart s i x n.whole u.low u.high same (holds_when x.mode (λ e. u.used (sym (ap (λ (z : Inode). z.mode) same) ∙ e)) file)
 
--- What a call that moves bytes leaves, once its inode is written.
-pub carried_of : {Memory : Type 0} (v w fin : State) (es es' : List Referenced) (i : ℕ) (x next : Inode) (m : Moving Memory) (bytes : Memory) (moved : ℕ) (refusal : Option Errno) → IsNodes v es → HasInode v es i x → Ends v x w next m bytes moved refusal
-    → ((old : State) → IsNodes old es → Carries old (inode (disk old) i) w next → next.mode ≢ 0 → (i ≡ 1 → is_directory next.mode ≡ true) → Carried old w fin es es' i next) → Carried v w fin es es' i next
-carried_of v w fin es es' i x next m bytes moved refusal n h e carried =
+-- What a call that moves bytes leaves, once its inode is in the table.
+pub carried_of : {Memory : Type 0} (v w : State) (es es' : List Referenced) (i : ℕ) (x next : Inode) (m : Moving Memory) (bytes : Memory) (moved : ℕ) (refusal : Option Errno) → IsHeld v es → HasInode (seen v es) es i x → Ends v x w next m bytes moved refusal
+    → ((old : State) → IsHeld old es → Carries old (inode (disk (seen old es)) i) w next → next.mode ≢ 0 → (i ≡ 1 → is_directory next.mode ≡ true) → CarriesLate old w es es' i next) → CarriesLate v w es es' i next
+carried_of v w es es' i x next m bytes moved refusal h has e carried =
     let P : Inode → Type 0 = λ y. Carries v y w next in
-    carried v n (subst P h.same e.carries) e.used (root_kept v i next.mode n.whole (e.type ∙ ap (λ (y : Inode). file_type y.mode) h.same))
+    carried v h (subst P has.same e.carries) e.used (root_kept (seen v es) i next.mode h.nodes.whole (e.type ∙ ap (λ (y : Inode). file_type y.mode) has.same))
 
 -- What a call has come to, in terms of a file system.
-pub called : {Memory : Type 0} (v w fin : State) (es after : List Referenced) (fs : FileSystem) (i : ℕ) (x next : Inode) (run : Node → ℕ → Moving Memory) (bytes : Memory) (moved : ℕ) (refusal : Option Errno) (node : Node)
+called : {Memory : Type 0} (v w fin : State) (es after : List Referenced) (fs : FileSystem) (i : ℕ) (x next : Inode) (run : Node → ℕ → Moving Memory) (bytes : Memory) (moved : ℕ) (refusal : Option Errno) (node : Node)
     → file_system v es ≡ fs → HasInode v es i x → Ends v x w next (run (file_of (disk v) x) (length (free (disk v)))) bytes moved refusal → Carried v w fin es after i next
     → node_numbered fs.store i ≡ Some node → Moves fs.store i (store_now fin) (run node fs.store.room) bytes moved refusal
 called {Memory} v w fin es after fs i x next run bytes moved refusal node view h e c =
@@ -235,3 +228,11 @@ called {Memory} v w fin es after fs i x next run bytes moved refusal node view h
     let Q : Node → Type 0 = λ n. Moves (store_now v) i (store_now fin) (run n (length (free (disk v)))) bytes moved refusal in
     let R : ℕ → Type 0 = λ r. Moves (store_now v) i (store_now fin) (run node r) bytes moved refusal in
     subst R (sym (room_is v)) (subst Q (sym is) m))
+
+-- The same, where the inode is in the table.
+pub called_late : {Memory : Type 0} (v w : State) (es after : List Referenced) (fs : FileSystem) (i : ℕ) (x next : Inode) (run : Node → ℕ → Moving Memory) (bytes : Memory) (moved : ℕ) (refusal : Option Errno) (node : Node)
+    → file_system (seen v es) es ≡ fs → IsHeld v es → HasInode (seen v es) es i x → Ends v x w next (run (file_of (disk v) x) (length (free (disk v)))) bytes moved refusal → CarriesLate v w es after i next
+    → node_numbered fs.store i ≡ Some node → Moves fs.store i (store_now (seen w after)) (run node fs.store.room) bytes moved refusal
+called_late v w es after fs i x next run bytes moved refusal node view h has e c =
+    called (seen v es) (seen w es) (seen w after) es after fs i x next run bytes moved refusal node view has
+    (ends_seen v w es i x next run bytes moved refusal h (over_after v w es after h c.held e.carries.head) has.used.low has.used.high (sym has.same) e) c.carried

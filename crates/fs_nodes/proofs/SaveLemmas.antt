@@ -21,7 +21,6 @@ use Rattle.fs_nodes.specs.Moves.{Carried}
 use Rattle.fs_nodes.specs.Table.{share, references_to, references_in, entries_of, with_inode, IsEntry, IsTable, IsNodes}
 use Rattle.fs_nodes.proofs.TableLemmas.{one}
 use Rattle.fs_nodes.proofs.BackLemmas.{written}
-use Rattle.fs_nodes.proofs.TakeLemmas.{refilled, some_entry}
 
 one_at : (e : Referenced) (i : ℕ) → e.ino ≡ i → one (e.ino == i) ≡ 1
 one_at e i is = elim (eqb_tells e.ino i) [ inl h ↦ ap one h.0 | inr h ↦ absurd (h.1 is) ]
@@ -93,7 +92,7 @@ references_saved count count' es k d next same low ino refs =
     ∙ (λ j. map (λ i. same_sum (share i) es k d next low (λ l. cond (ino l == i) (refs l) 0) j) (range_with_len 0 (count + 1)))
 
 -- A call changes a file's blocks and then writes its inode, in its block and in the table.
-saved : (old new fin : State) (es : List Referenced) (k : ℕ) (d : Referenced) (i : ℕ) (next : DiskNode) → IsNodes old es → k < length es → (get_or es k d).ino ≡ i
+pub saved : (old new fin : State) (es : List Referenced) (k : ℕ) (d : Referenced) (i : ℕ) (next : DiskNode) → IsNodes old es → k < length es → (get_or es k d).ino ≡ i
     → Carries old (fields_of (get_or es k d).node) new (fields_of next) → WritesInode new i (fields_of next) fin → next.mode ≢ 0 → (i ≡ 1 → is_directory next.mode ≡ true)
     → Carried old new fin es (set es k (with_inode (get_or es k d) next)) i (fields_of next)
 saved old new fin es k d i next n low ino c w used root =
@@ -108,7 +107,7 @@ saved old new fin es k d i next n low ino c w used root =
         whole = w'.whole;
         fits = w'.fits;
         sizes = w'.sizes;
-        table = table_saved (disk old) (disk fin) es k d (record (get_or es k d) { node = next }) n.table low change refl (record {
+        table = table_saved (disk old) (disk fin) es k d (with_inode (get_or es k d) next) n.table low change refl (record {
           low = is.low;
           high = omega (arith, count, high');
           some = is.some;
@@ -117,26 +116,7 @@ saved old new fin es k d i next n low ino c w used root =
           same = sym (ap (inode (disk fin)) ino ∙ w.here);
         });
       };
-      references = references_saved (inode_count (disk old)) (inode_count (disk fin)) es k d (record (get_or es k d) { node = next }) count low refl refl;
+      references = references_saved (inode_count (disk old)) (inode_count (disk fin)) es k d (with_inode (get_or es k d) next) count low refl refl;
       store = w'.store;
       rest = w'.rest;
     }
-
--- The same, where the table is a slice in which the inode has been found.
-saved_at : (old new fin : State) (es now : List Referenced) (k i : ℕ) (next : DiskNode) → IsNodes old es → k < length es → ((e : Referenced) → (get_or es k e).ino ≡ i) → Carries old (inode (disk old) i) new (fields_of next)
-    → WritesInode new i (fields_of next) fin → next.mode ≢ 0 → (i ≡ 1 → is_directory next.mode ≡ true) → ((e : Referenced) → now ≡ slice_set es k (with_inode (get_or es k e) next)) → Carried old new fin es (refill (length es) es now) i (fields_of next)
-saved_at old new fin es now k i next n low ino c w used root is =
-    let entry = n.table.each k (some_entry es k low) low in
-    let same : inode (disk old) i ≡ fields_of (get_or es k (some_entry es k low)).node = ap (inode (disk old)) (sym (ino (some_entry es k low))) ∙ sym entry.same in
-    let c' : Carries old (fields_of (get_or es k (some_entry es k low)).node) new (fields_of next) = (let P : Inode → Type 0 = λ x. Carries old x new (fields_of next) in subst P same c) in
-    let to : refill (length es) es now ≡ slice_set es k (with_inode (get_or es k (some_entry es k low)) next) =
-    refilled es now (ap length (is (some_entry es k low)) ∙ length-set es k (with_inode (get_or es k (some_entry es k low)) next)) ∙ is (some_entry es k low) in
-    let P : List Referenced → Type 0 = λ l. Carried old new fin es l i (fields_of next) in
-    subst P (sym to) (saved old new fin es k (some_entry es k low) i next n low (ino (some_entry es k low)) c' w used root)
-
-pub saved_after : (old new fin : State) (es held now : List Referenced) (k i : ℕ) (next : DiskNode) → held ≡ es → k < length held → ((e : Referenced) → (get_or held k e).ino ≡ i) → WritesInode new i (fields_of next) fin
-    → ((e : Referenced) → now ≡ slice_set held k (with_inode (get_or held k e) next))
-    → IsNodes old es → Carries old (inode (disk old) i) new (fields_of next) → next.mode ≢ 0 → (i ≡ 1 → is_directory next.mode ≡ true) → Carried old new fin es (refill (length es) es now) i (fields_of next)
-saved_after old new fin es held now k i next same low ino w is n c used root =
-    let P : List Referenced → Type 0 = λ l. k < length l → ((e : Referenced) → (get_or l k e).ino ≡ i) → ((e : Referenced) → now ≡ slice_set l k (with_inode (get_or l k e) next)) → Carried old new fin es (refill (length es) es now) i (fields_of next) in
-    subst P (sym same) (λ low ino is. saved_at old new fin es now k i next n low ino c w used root is) low ino is

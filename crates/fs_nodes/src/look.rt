@@ -11,17 +11,11 @@ ghost use Rattle.fs_laws.specs.Whole.{IsApart};
 ghost use Rattle.fs_blocks.specs.State.{disk};
 ghost use Rattle.fs_nodes.specs.FileSystem.{file_byte, near_byte, SameFiles};
 
-use crate::inodes::{read_inode, see};
+use crate::inodes::{see, see_addresses};
 use crate::nodes::Nodes;
+use crate::table::peek_inode;
 use fs_blocks::Volume;
 use fs_codec::{DiskNode, holds_blocks};
-
-/// Sees that there are eight addresses.
-fn see_addresses(addr: &[u16; 8])
-    ensures { length addr.now ≡ 8 }
-{
-    let _first = addr[0];
-}
 
 /// A block, or zeros for the number 0.
 fn block_or_zeros(volume: &mut Volume, b: u16) -> [u8; 512]
@@ -112,7 +106,7 @@ impl Nodes {
             → (k : ℕ) → k < 16 → slice_index buf.new k ≡ file_byte node.size node.body (offset + k) }
         ensures same { SameFiles self.old self.new }
     {
-        let node = read_inode(&mut self.volume, ino);
+        let node = peek_inode(&mut self.volume, &self.table, ino);
         look_at(&mut self.volume, &node, offset, buf);
     }
 }

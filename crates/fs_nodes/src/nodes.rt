@@ -9,8 +9,8 @@ ghost use Rattle.fs_blocks.specs.State.{disk, IsVolume};
 ghost use Rattle.fs_codec.specs.Store.{node_numbered};
 ghost use Rattle.fs_nodes.specs.FileSystem.{store_now, referenced, ShowsNode, SameFiles, IsFileSystem};
 
-use crate::inodes::{read_inode, read_used, see};
-use crate::table::{Referenced, find, place, refer_again};
+use crate::inodes::{read_inode, see};
+use crate::table::{Referenced, find, peek_used, place, refer_again};
 use arrayvec::ArrayVec;
 use fs_blocks::Volume;
 use fs_codec::DiskNode;
@@ -26,13 +26,13 @@ pub struct Nodes {
 
 impl Model for Nodes {
     ghost use Rattle.fs_nodes.specs.FileSystem.{FileSystem};
-    ghost use Rattle.fs_nodes.specs.Table.{files_of, IsNodes};
+    ghost use Rattle.fs_nodes.specs.Table.{files_of, IsHeld};
 
     ghost Value = { FileSystem };
 
     ghost view = { λ n. files_of n.volume n.table.items };
 
-    ghost invariant = { λ n. IsNodes n.volume.state n.table.items };
+    ghost invariant = { λ n. IsHeld n.volume.state n.table.items };
 }
 
 /// Sees that the super-block on the disk has the sizes that the one in memory has.
@@ -52,6 +52,7 @@ impl Nodes {
         ensures blocks { result.blocks ≡ volume.state.blocks }
         ensures stored { result.stored ≡ volume.stored }
     {
+        see(&volume);
         see_sizes(&volume);
         Nodes {
             volume,
@@ -95,10 +96,12 @@ impl Nodes {
             return Err(Errno::ENFILE);
         }
         let node = read_inode(&mut self.volume, ino);
+        see_sizes(&self.volume);
         self.table.push(Referenced {
             ino,
             references: 1,
             node,
+            is_changed: false,
         });
         Ok(())
     }
@@ -117,7 +120,7 @@ impl Nodes {
             (λ inode. ShowsNode (node_numbered self.old.store ino) inode) }
         ensures same { SameFiles self.old self.new }
     {
-        read_used(&mut self.volume, ino)
+        peek_used(&mut self.volume, &self.table, ino)
     }
 
     /// The bytes of block `n` on the disk. `update_all` writes a block there that has changed, and others may before.

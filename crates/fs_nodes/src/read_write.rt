@@ -164,7 +164,7 @@ impl Nodes {
     {
         let mut node = inode_of(&self.volume, &self.table, ino);
         let moved = read_file(&mut self.volume, &mut node, offset, space, at, count, time);
-        carry_inode(&mut self.volume, &mut self.table, ino, &node);
+        carry_inode(&self.volume, &mut self.table, ino, &node);
         moved
     }
 
@@ -183,7 +183,7 @@ impl Nodes {
     {
         let mut node = inode_of(&self.volume, &self.table, ino);
         let moved = read_file_kernel(&mut self.volume, &mut node, offset, buf, time);
-        carry_inode(&mut self.volume, &mut self.table, ino, &node);
+        carry_inode(&self.volume, &mut self.table, ino, &node);
         moved
     }
 
@@ -211,7 +211,7 @@ impl Nodes {
     {
         let mut node = inode_of(&self.volume, &self.table, ino);
         let moved = write_file(&mut self.volume, &mut node, offset, space, at, count, time);
-        carry_inode(&mut self.volume, &mut self.table, ino, &node);
+        carry_inode(&self.volume, &mut self.table, ino, &node);
         moved
     }
 
@@ -230,7 +230,7 @@ impl Nodes {
     {
         let mut node = inode_of(&self.volume, &self.table, ino);
         let moved = write_file_kernel(&mut self.volume, &mut node, offset, buf, time);
-        carry_inode(&mut self.volume, &mut self.table, ino, &node);
+        carry_inode(&self.volume, &mut self.table, ino, &node);
         moved
     }
 }
