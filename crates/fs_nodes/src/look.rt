@@ -1,5 +1,5 @@
 //! A look at a file's bytes, which takes no block and sets no time.
-ghost use Rattle.std.specs.Prelude.{◌≡◌, ◌≢◌, ◌+◌, ◌<◌, ℕ, true, Some, IsSome, replicate, length, slice_index};
+ghost use Rattle.std.specs.Prelude.{◌≡◌, ◌≢◌, ◌+◌, ◌*◌, ◌<◌, ℕ, true, Some, IsSome, replicate, length, slice_index};
 ghost use Rattle.buf_cache.specs.Blocks.{block_at};
 ghost use Rattle.fs_codec.specs.declared.layout.TheConstants.{DISK_BLOCKS};
 ghost use Rattle.fs_codec.specs.Fields.{fields_of};
@@ -108,5 +108,18 @@ impl Nodes {
     {
         let node = peek_inode(&mut self.volume, &self.table, ino);
         look_at(&mut self.volume, &node, offset, buf);
+    }
+
+    /// The bytes of block `n` of a file, with zeros for a block that it does not have. Those of the last block that lie behind
+    /// the file's size are given too. Nothing need refer to the inode.
+    pub fn look_block(&mut self, ino: u16, n: u16) -> [u8; 512]
+        requires node { IsSome (node_numbered self.old.store ino) }
+        ensures bytes { (node : Node) → node_numbered self.old.store ino ≡ Some node
+            → (k : ℕ) → k < 512 → slice_index result k ≡ slice_index node.body (512 * n + k) }
+        ensures same { SameFiles self.old self.new }
+    {
+        let node = peek_inode(&mut self.volume, &self.table, ino);
+        see_addresses(&node.addr);
+        data_block(&mut self.volume, &node, n)
     }
 }

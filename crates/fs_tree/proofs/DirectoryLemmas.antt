@@ -1,16 +1,17 @@
 -- Entries of a directory, one after another.
-use Rattle.std.proofs.Common.{◌≡◌, ◌+◌, ◌-◌, ◌*◌, ◌<◌, ◌==◌, ◌&&◌, ℕ, zero, suc, Bool, true, false, not, cond, List, map, length, slice_index, Option, Some, None, is_some, refl, sym, ap, ◌∙◌, arith}
+use Rattle.std.proofs.Common.{◌≡◌, ◌≢◌, ◌+◌, ◌-◌, ◌*◌, ◌/◌, ◌%◌, ◌<◌, ◌≤◌, ◌==◌, ◌&&◌, ℕ, zero, suc, Bool, true, false, not, cond, List, map, length, slice_index, slice_range, take, drop, length-drop, length-take-le, Option, Some, None, is_some, refl, sym, ap, ◌∙◌, subst, arith}
 use Rattle.std.specs.Str.{bytes_eq}
 use Rattle.std.specs.Option.{unwrap_or}
 use Rattle.std.specs.List.{range_with_len}
-use Rattle.std.proofs.lemmas.List.{ext_get_or}
+use Rattle.std.proofs.lemmas.Bool.{lt-ltb}
+use Rattle.std.proofs.lemmas.List.{ext_get_or, get_or-take, get_or-drop}
 use Rattle.std.proofs.lemmas.List.FromFn.{length-map-range_with_len, get_or-map-range_with_len}
 use Rattle.fs_codec.specs.Fields.{entry_of}
 use Rattle.fs_codec.specs.Store.{Node}
 use Rattle.fs_codec.specs.declared.entry.DirEntry.{DirEntry}
 use Rattle.fs_nodes.specs.FileSystem.{file_byte}
 use Rattle.fs_tree.specs.declared.directory.Looked.TheVariants.{Entry, Room}
-use Rattle.fs_tree.specs.Directory.{entry_at, entry_count, first_below, is_empty, is_named, entry_or_room, looked}
+use Rattle.fs_tree.specs.Directory.{entry_at, entry_count, first_below, is_empty, is_named, entry_or_room, looked, HasBlock}
 
 -- bytes by their places
 pub same_bytes : (bytes : List ℕ) (f : ℕ → ℕ) → length bytes ≡ 16 → ((k : ℕ) → k < 16 → slice_index bytes k ≡ f k) → bytes ≡ map f (range_with_len 0 16)
@@ -22,6 +23,26 @@ pub entry_is : (node : Node) (place : ℕ) (bytes : List ℕ) (entry : DirEntry)
     → ((k : ℕ) → k < 16 → slice_index bytes k ≡ file_byte node.size node.body (16 * place + k)) → entry ≡ entry_at node place
 unfolding entry_at
 entry_is node place bytes entry is long each = is ∙ ap entry_of (same_bytes bytes (λ k. file_byte node.size node.body (16 * place + k)) long each)
+
+-- An entry is made of the sixteen bytes of its place in the block where it stands.
+pub entry_at_place : (node : Node) (place : ℕ) (block : List ℕ) (entry : DirEntry) → HasBlock node (place / 32) block → length block ≡ 512 → 16 * place + 16 ≤ node.size
+    → entry ≡ entry_of (slice_range block (16 * (place % 32)) (16 * (place % 32) + 16)) → entry ≡ entry_at node place
+entry_at_place node place block entry has long within is =
+    let sixteen : 16 * (place % 32) + 16 - 16 * (place % 32) ≡ 16 = omega arith in
+    let part : slice_range block (16 * (place % 32)) (16 * (place % 32) + 16) ≡ take 16 (drop (16 * (place % 32)) block) = ap (λ n. take n (drop (16 * (place % 32)) block)) sixteen in
+    let left : 16 ≤ length (drop (16 * (place % 32)) block) = (let d = length-drop (16 * (place % 32)) block in omega (arith, d, long)) in
+    entry_is node place (take 16 (drop (16 * (place % 32)) block)) entry (is ∙ ap entry_of part) (length-take-le 16 (drop (16 * (place % 32)) block) left)
+    (λ k low.
+    let there : 512 * (place / 32) + (16 * (place % 32) + k) ≡ 16 * place + k = omega arith in
+    get_or-take 16 (drop (16 * (place % 32)) block) k 0 low ∙ get_or-drop (16 * (place % 32)) block k 0
+    ∙ has.bytes (16 * (place % 32) + k) (omega (arith, low)) ∙ ap (slice_index node.body) there
+    ∙ sym (ap (λ t. cond t (slice_index node.body (16 * place + k)) 0) (lt-ltb (16 * place + k) node.size (omega (arith, low, within)))))
+
+-- the block of the next place, where it isn't the first of its block
+pub same_block : (node : Node) (place : ℕ) (block : List ℕ) → HasBlock node (place / 32) block → (place + 1) % 32 ≢ 0 → HasBlock node ((place + 1) / 32) block
+same_block node place block has more =
+    let P : ℕ → Type 0 = λ n. HasBlock node n block in
+    subst P (omega (arith, more)) has
 
 -- one number more
 below_more : (test : ℕ → Bool) (n : ℕ) → first_below test (n + 1) ≡ cond (is_some (first_below test n)) (first_below test n) (cond (test n) (Some n) None)

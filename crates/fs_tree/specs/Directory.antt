@@ -1,8 +1,9 @@
 -- A directory is a file of entries of 16 bytes: directory(V), and namei in Lions' Commentary, `nami.c`.
-use Rattle.std.specs.Prelude.{ℕ, zero, suc, Bool, not, ◌+◌, ◌*◌, ◌/◌, ◌%◌, ◌==◌, ◌&&◌, if◌then◌else◌, List, map, Option, Some, None, is_some, unwrap_or, bytes_eq}
+use Rattle.std.specs.Prelude.{◌≡◌, ℕ, zero, suc, Bool, not, ◌+◌, ◌*◌, ◌/◌, ◌%◌, ◌<◌, ◌==◌, ◌&&◌, if◌then◌else◌, List, map, slice_index, Option, Some, None, is_some, unwrap_or, bytes_eq}
 use Rattle.std.specs.List.{range_with_len}
 use Rattle.fs_codec.specs.Fields.{entry_of}
 use Rattle.fs_codec.specs.Store.{Node}
+use Rattle.fs_codec.specs.declared.layout.TheConstants.{BLOCK_SIZE}
 use Rattle.fs_codec.specs.declared.entry.DirEntry.{DirEntry}
 use Rattle.fs_nodes.specs.FileSystem.{file_byte}
 use Rattle.fs_tree.specs.declared.directory.Looked.{Looked}
@@ -11,6 +12,10 @@ use Rattle.fs_tree.specs.declared.directory.Looked.TheVariants.{Entry, Room}
 -- the entry at a place; blocks that the file does not have read as zeros
 unfoldable pub entry_at : Node → ℕ → DirEntry
 entry_at node i = entry_of (map (λ k. file_byte node.size node.body (16 * i + k)) (range_with_len 0 16))
+
+-- These are the bytes of block n of a directory.
+pub record HasBlock (node : Node) (n : ℕ) (block : List ℕ) : Type 0 where
+  pub bytes : (k : ℕ) → k < BLOCK_SIZE → slice_index block k ≡ slice_index node.body (BLOCK_SIZE * n + k)
 
 -- how many entries a search looks at
 abbrev pub entry_count : ℕ → ℕ
