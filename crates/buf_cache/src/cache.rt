@@ -66,8 +66,8 @@ fn to_front(heads: &mut [Head], place: usize)
     requires { place < length heads.old }
     ensures { (head : Head) → heads.new ≡ slice_index_or heads.old place head ∷ remove heads.old place }
 {
-    if place > 0 {
-        heads[..place + 1].rotate_right(1);
+    for k in (0..place).rev() {
+        heads.swap(k, k + 1);
     }
 }
 

@@ -16,7 +16,7 @@ enum Step {
 /// when they are read.
 type Row = (&'static [Step], &'static [u8], &'static [u8]);
 
-static ROWS: [Row; 13] = [
+static ROWS: [Row; 14] = [
     // fifteen have room, and none is written
     (
         &[Change(0, 15, b'a')],
@@ -32,6 +32,12 @@ static ROWS: [Row; 13] = [
     // and a sync writes them all
     (
         &[Change(0, 16, b'a'), Sync],
+        b"aaaaaaaaaaaaaaaa",
+        b"aaaaaaaaaaaaaaaa",
+    ),
+    // also where all sixteen are read before
+    (
+        &[Change(0, 16, b'a'), Read(0, 16), Sync],
         b"aaaaaaaaaaaaaaaa",
         b"aaaaaaaaaaaaaaaa",
     ),
