@@ -47,3 +47,4 @@ pub mod Lent
 pub mod Vacant
 pub mod Registers
 pub mod SharedFacts
+pub mod Depositing
