@@ -1,5 +1,5 @@
 -- Whose byte stands at a place: the row that has it is found, and where none has it, it is nobody's.
-use Rattle.std.proofs.Common.{◌≡◌, ◌∙◌, ℕ, ◌+◌, ◌-◌, ◌*◌, ◌<◌, ◌≤◌, ◌⊎◌, inl, inr, Bool, true, false, cond, List, length, get_or, Option, Some, None, refl, sym, ap, subst, arith}
+use Rattle.std.proofs.Common.{◌≡◌, ◌∙◌, ℕ, ◌+◌, ◌-◌, ◌*◌, ◌<◌, ◌≤◌, ◌⊎◌, inl, inr, Bool, true, false, cond, List, length, get_or, Some, None, refl, sym, ap, subst, arith}
 use Rattle.std.specs.List.{position, position_or_len}
 use Rattle.std.proofs.lemmas.Grind.{common_steps}
 use Rattle.std.proofs.lemmas.Bool.{false≢true, cases_lt, lt-ltb, le-ltb}
@@ -11,18 +11,17 @@ use Rattle.v6_base.specs.declared.named.Named.{Named}
 use Rattle.v6_base.specs.declared.named.Named.TheVariants.{InText, InData, InStack}
 use Rattle.v6_base.specs.declared.named.Named.TheVariants as named_is
 use Rattle.v6_base.specs.Image.{Image}
-use Rattle.v6_base.specs.Words.{IsWithin, IsStorable}
-use Rattle.core_mem.specs.Bytes.{part}
+use Rattle.v6_base.specs.Words.{IsWithin}
 use Rattle.core_mem.proofs.Parts.{length-part}
 use Rattle.image_keep.specs.declared.row.State.{State}
 use Rattle.image_keep.specs.declared.row.State.TheVariants as state
 use Rattle.image_keep.specs.declared.row.Row.{Row}
 use Rattle.image_keep.specs.Kept.{Kept, Held, HasImage, keeping, place_in, image_in, image_of, is_alive}
-use Rattle.image_keep.specs.Memory.{Stock, no_row, row_at, place_at, clicks_in, text_for, kept_of, IsIn, IsSound}
+use Rattle.image_keep.specs.Memory.{Stock, no_row, row_at, place_at, clicks_in, kept_of, IsIn, IsSound}
 use Rattle.image_keep.specs.Counts.{IsCounted}
-use Rattle.image_keep.specs.Deposits.{memory_size, is_out, first_byte, bytes_before, StandsAt, IsByteOf, IsNobodys}
+use Rattle.image_keep.specs.Deposits.{memory_size, is_out, first_byte, StandsAt, IsByteOf, IsNobodys}
 use Rattle.image_keep.specs.ByteOf.{line_place, byte_from, byte_by, byte_of, is_some_byte, has_byte}
-use Rattle.image_keep.proofs.Frames.{image_alive, alive_image}
+use Rattle.image_keep.proofs.Frames.{alive_image}
 use Rattle.image_keep.proofs.Places.{slot_at}
 use Rattle.image_keep.proofs.Moves.{fits_in}
 use Rattle.image_keep.proofs.Own.{own_means}
@@ -143,11 +142,11 @@ module _ (v : Stock) (k : Kept) (s : ℕ) (swap : Bool) (at p : ℕ) (view : kep
   some_of has d e (InData i) found_byte dl el st (OfNone b off) =
       let f = line_of_side v.core at p (1024 + i) has.0.place swap is st.side st.there in
       let w = st.within in
-      absurd (elim off [ | inl l ↦ omega (arith, f, l) | inr l ↦ omega (arith, f, l, dl, w) ])
+      absurd (elim off [ inl l ↦ omega (arith, f, l) | inr l ↦ omega (arith, f, l, dl, w) ])
   some_of has d e (InStack i) found_byte dl el st (OfNone b off) =
       let f = line_of_side v.core at p (1024 + length has.0.image.data + i) has.0.place swap is st.side st.there in
       let w = st.within in
-      absurd (elim off [ | inl l ↦ omega (arith, f, l) | inr l ↦ omega (arith, f, l, dl, el, w) ])
+      absurd (elim off [ inl l ↦ omega (arith, f, l) | inr l ↦ omega (arith, f, l, dl, el, w) ])
   some_of has d e named_is.Nothing found_byte dl el st (OfNone b off) = absurd st.kind
 
   pub no_row_has : position (has_byte v.core p) v.rows ≡ None → (byte : Named) → IsByteOf k swap at s byte → ⊥
@@ -157,7 +156,7 @@ module _ (v : Stock) (k : Kept) (s : ℕ) (swap : Bool) (at p : ℕ) (view : kep
       let m = imaged v k s view h c has in
       let fails : has_byte v.core p r ≡ false = none_passes (has_byte v.core p) v.rows no_row none s m.facts_are.low in
       let some = some_of has (64 * r.data_size) (64 * r.stack_size) byte (byte_of v.core r p) (sym m.data_long) (sym m.stack_long) of.2
-          (subst (Standing (place_at v.core has.0.place + 1024) (64 * r.data_size) (64 * r.stack_size) p) (sym (row_is has)) (standing (place_at v.core has.0.place + 1024) (64 * r.data_size) (64 * r.stack_size) p)) in
+      (subst (Standing (place_at v.core has.0.place + 1024) (64 * r.data_size) (64 * r.stack_size) p) (sym (row_is has)) (standing (place_at v.core has.0.place + 1024) (64 * r.data_size) (64 * r.stack_size) p)) in
       false≢true (sym fails ∙ some)
 
 -- what nobody has

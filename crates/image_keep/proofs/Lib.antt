@@ -48,3 +48,4 @@ pub mod Vacant
 pub mod Registers
 pub mod SharedFacts
 pub mod Depositing
+pub mod Deposited

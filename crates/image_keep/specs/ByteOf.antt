@@ -17,7 +17,7 @@ abbrev pub byte_from : ℕ → ℕ → ℕ → ℕ → Named
 byte_from start d k at =
     if nat_lt at start then named_is.Nothing
     else (if nat_lt at (start + d) then InData (at - start)
-      else (if nat_lt at (start + d + k) then InStack (at - (start + d)) else named_is.Nothing))
+    else (if nat_lt at (start + d + k) then InStack (at - (start + d)) else named_is.Nothing))
 
 abbrev pub byte_by : ℕ → State → ℕ → ℕ → ℕ → Named
 byte_by core state.Nothing d k at = named_is.Nothing

@@ -1,6 +1,6 @@
 -- Whose byte stands at a place of core or of the swap area, and what becomes of what is kept when another byte is put there. Byte 0 of
 -- click c is byte 64 * (c - 1) of core, byte 0 of block b is byte 512 * (b - 4000) of the swap area.
-use Rattle.std.specs.Prelude.{◌≡◌, ℕ, ◌+◌, ◌-◌, ◌*◌, Bool, true, false, if◌then◌else◌, length}
+use Rattle.std.specs.Prelude.{◌≡◌, ℕ, ◌+◌, ◌-◌, ◌*◌, Bool, true, false, if◌then◌else◌, List, length, slice_index}
 use Rattle.v6_base.specs.declared.entry.Place.{Place}
 use Rattle.v6_base.specs.declared.entry.Place.TheVariants.{Core, Swap}
 use Rattle.v6_base.specs.declared.named.Named.{Named}
@@ -10,6 +10,7 @@ use Rattle.v6_base.specs.Image.{Image}
 use Rattle.v6_base.specs.Access.{with_byte, image_after}
 use Rattle.v6_base.specs.Words.{IsWithin, IsStorable}
 use Rattle.image_keep.specs.Kept.{Kept, Held, Has, image_of, with_image}
+use Rattle.image_keep.specs.Holds.{CoreHolds, SwapHolds}
 
 -- how many bytes core has, and how many the swap area
 abbrev pub memory_size : Kept → Bool → ℕ
@@ -54,3 +55,8 @@ with_byte_of k s byte b = with_image k s (image_after (image_of k s) (with_byte 
 -- The byte that stands there, of a process, is another one, and nothing else.
 abbrev pub IsPut : Kept → Bool → ℕ → ℕ → Kept → Type 0
 IsPut old swap at b new = (s : ℕ) × (byte : Named) × IsByteOf old swap at s byte × (new ≡ with_byte_of old s byte b)
+
+-- Core, or with `swap` the swap area, has this byte at a place: each list of bytes has it there that holds what is kept.
+abbrev pub HasByte : Kept → Bool → ℕ → ℕ → Type 0
+HasByte k false at b = (core : List ℕ) → CoreHolds core k → slice_index core at ≡ b
+HasByte k true at b = (area : List ℕ) → SwapHolds area k → slice_index area at ≡ b

@@ -3,7 +3,7 @@ ghost use Rattle.std.specs.Prelude.{◌≡◌, ◌+◌, ◌<◌, true, false};
 ghost use Rattle.std.specs.List.{position};
 ghost use Rattle.image_keep.specs.Memory.{place_at};
 ghost use Rattle.image_keep.specs.ByteOf.{line_place, byte_from, byte_of, is_some_byte, has_byte};
-ghost use Rattle.image_keep.specs.Deposits.{memory_size, IsNobodys, IsPut};
+ghost use Rattle.image_keep.specs.Deposits.{memory_size, IsNobodys, IsPut, HasByte};
 
 use crate::images::Images;
 use crate::parts::row_of;
@@ -92,6 +92,7 @@ impl Images {
     pub fn deposit(&mut self, swap: bool, at: u32, b: u8) -> bool
         requires inside { at < memory_size self.old swap }
         ensures put { result ≡ true → IsPut self.old swap at b self.new }
+        ensures there { result ≡ true → HasByte self.new swap at b }
         ensures nobodys { result ≡ false → IsNobodys self.old swap at }
         ensures same { result ≡ false → self.new ≡ self.old }
     {
