@@ -42,7 +42,7 @@ pub alive_image : (k : Kept) (s : ℕ) → is_alive (keeping k s) ≡ true → H
 alive_image k s is = alive_by (keeping k s) is
 
 -- a slot's image is another one
-slot_imaged : (k : Kept) (s : ℕ) (m : Image) → keeping (with_image k s m) s ≡ imaged m (keeping k s)
+pub slot_imaged : (k : Kept) (s : ℕ) (m : Image) → keeping (with_image k s m) s ≡ imaged m (keeping k s)
 unfolding with_image
 slot_imaged k s m = elim (cases_lt s (length k.slots)) [
   | inl low ↦ keeping_same k s (imaged m (keeping k s)) low

@@ -47,3 +47,5 @@ pub mod Lent
 pub mod Vacant
 pub mod Registers
 pub mod SharedFacts
+pub mod Depositing
+pub mod Deposited

@@ -43,7 +43,7 @@ there_within k s x (named_is.InData i) a h = let l = a.data_len in omega (arith,
 there_within k s x (named_is.InStack i) a h = let l = a.stack_start in omega (arith, l, h)
 there_within k s x named_is.Nothing a h = tt
 
-part_byte : (xs : List ℕ) (q n i : ℕ) → i < n → slice_index (part xs q n) i ≡ slice_index xs (q + i)
+pub part_byte : (xs : List ℕ) (q n i : ℕ) → i < n → slice_index (part xs q n) i ≡ slice_index xs (q + i)
 unfolding part
 part_byte xs q n i low = get_or-take n (drop q xs) i 0 low ∙ get_or-drop q xs i 0
 

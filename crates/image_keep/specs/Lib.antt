@@ -19,3 +19,5 @@ pub mod Starts
 pub mod Running
 pub mod Holds
 pub mod Leaves
+pub mod Deposits
+pub mod ByteOf

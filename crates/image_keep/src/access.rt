@@ -178,7 +178,7 @@ impl Images {
 
     /// Writes a byte that is named.
     #[inline(always)]
-    fn put_byte(&mut self, s: usize, starts: &Starts, at: Named, value: u8)
+    pub(crate) fn put_byte(&mut self, s: usize, starts: &Starts, at: Named, value: u8)
         requires starts { AreStarts self.old s starts.now }
         requires within { IsWithin (image_of self.old s) at }
         requires storable { IsStorable at }

@@ -7,6 +7,7 @@
 mod access;
 mod areas;
 mod bytes;
+mod deposit;
 mod finding;
 mod fork;
 mod growth;

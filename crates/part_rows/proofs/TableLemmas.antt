@@ -1,11 +1,13 @@
 -- What is known of each slot stays what the slots have.
-use Rattle.std.proofs.Common.{◌≡◌, ◌<◌, ℕ, zero, suc, List, length, get_or, set, replicate, Option, Some, None, refl, sym, ap, subst, ◌∙◌}
+use Rattle.std.proofs.Common.{◌≡◌, ◌<◌, ℕ, zero, suc, Bool, true, false, List, length, get_or, set, replicate, Option, Some, None, refl, sym, ap, subst, ◌∙◌}
 use Rattle.std.proofs.lemmas.List.{map-set, get_or-map, length-map}
 use Rattle.v6_base.specs.declared.entry.Place.{Place}
 use Rattle.v6_base.specs.Image.{Image}
+use Rattle.v6_base.specs.Access.{with_byte, image_after}
 use Rattle.u_area.specs.declared.area.UArea.{UArea}
 use Rattle.image_keep.specs.Kept.{Held, Keeping, Nothing, Alive, Grave, Kept, keeping, with_keeping, imaged, described, with_image, with_area, image_of, area_of, text_of, no_users, HasImage, HasGrave}
 use Rattle.image_keep.specs.Lent.{left_of}
+use Rattle.image_keep.specs.Deposits.{with_byte_of, IsPut}
 use Rattle.image_keep.specs.Places.{with_image_at, with_grave_at}
 use Rattle.image_keep.specs.Moves.{with_image_moved, forked_at}
 use Rattle.image_keep.proofs.Frames.{after, keeping_back}
@@ -152,4 +154,18 @@ pub plain_loan : (k w : Kept) (s : ℕ) → k.users ≡ no_users → left_of w s
 unfolding with_image
 plain_loan k w s plain same = ap (λ v. v.users) (after k w s same) ∙ plain
 
-pub ruleset ties = (has_image, has_nothing, has_grave, no_text, none_text, tied_put, tied_area, tied_loan, tied_moved, tied_not_moved, tied_expanded, tied_forked, tied_not_forked, tied_grave, tied_no_grave, plain_put, plain_moved, plain_forked, plain_grave, plain_area, plain_loan)
+-- a byte has been put into an image, or nothing has changed
+pub tied_deposit : (kinds : List Kind) (k w : Kept) (swap : Bool) (at b : ℕ) (r : Bool) → kinds ≡ kinds_of k → (r ≡ true → IsPut k swap at b w) → (r ≡ false → w ≡ k) → kinds ≡ kinds_of w
+unfolding with_image with_byte_of
+tied_deposit kinds k w swap at b true tied put same =
+    let p = put refl in
+    let m : Image = image_after (image_of k p.0) (with_byte (image_of k p.0) p.1 b) in
+    tied ∙ (sym (kept_kind k p.0 (imaged m (keeping k p.0)) (imaged_kind m (keeping k p.0))) ∙ ap kinds_of (sym p.3))
+tied_deposit kinds k w swap at b false tied put same = tied ∙ ap kinds_of (sym (same refl))
+
+pub plain_deposit : (k w : Kept) (swap : Bool) (at b : ℕ) (r : Bool) → k.users ≡ no_users → (r ≡ true → IsPut k swap at b w) → (r ≡ false → w ≡ k) → w.users ≡ no_users
+unfolding with_image with_byte_of
+plain_deposit k w swap at b true plain put same = ap (λ v. v.users) (put refl).3 ∙ plain
+plain_deposit k w swap at b false plain put same = ap (λ v. v.users) (same refl) ∙ plain
+
+pub ruleset ties = (tied_deposit, plain_deposit, has_image, has_nothing, has_grave, no_text, none_text, tied_put, tied_area, tied_loan, tied_moved, tied_not_moved, tied_expanded, tied_forked, tied_not_forked, tied_grave, tied_no_grave, plain_put, plain_moved, plain_forked, plain_grave, plain_area, plain_loan)

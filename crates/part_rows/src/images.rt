@@ -6,6 +6,7 @@ mod addresses;
 mod bytes;
 mod clicks;
 mod copies;
+mod deposits;
 mod growth;
 mod headers;
 mod maps;

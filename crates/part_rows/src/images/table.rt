@@ -205,4 +205,27 @@ impl Table {
         let mut space = self.images.space(s);
         Some(space.copy_out(at, &bytes))
     }
+
+    /// Puts a byte to a place of core, or of the swap area, where there is such a place, and says whether it is put.
+    pub fn deposit(&mut self, swap: bool, at: u32, byte: u8) -> Option<bool> {
+        let all = if swap {
+            self.images.swap().len()
+        } else {
+            self.images.core().len()
+        };
+        if at as usize >= all {
+            return None;
+        }
+        Some(self.images.deposit(swap, at, byte))
+    }
+
+    /// The byte at a place of core, or of the swap area.
+    pub fn byte(&self, swap: bool, at: u32) -> Option<u8> {
+        let bytes = if swap {
+            self.images.swap()
+        } else {
+            self.images.core()
+        };
+        bytes.get(at as usize).copied()
+    }
 }
