@@ -1,5 +1,5 @@
 -- A process has been told of a signal, and goes on with its routine, where it has one.
-use Rattle.std.proofs.Common.{◌≡◌, ◌∙◌, ◌+◌, ◌%◌, ◌/◌, ◌==◌, ℕ, Bool, true, false, cond, if◌then◌else◌, List, set, slice_index, Option, Some, refl, sym, ap, subst}
+use Rattle.std.proofs.Common.{◌≡◌, ◌∙◌, ◌+◌, ◌%◌, ◌/◌, ◌==◌, ℕ, Bool, true, false, if◌then◌else◌, List, slice_index, Option, Some, refl, sym, ap, subst}
 use Rattle.std.specs.Prelude.{Result, Ok, Err}
 use Rattle.std.proofs.lemmas.Bool.{eq-eqb}
 use Rattle.std.proofs.lemmas.List.{set-set}
@@ -28,7 +28,8 @@ use Rattle.unix_core.proofs.AreaLemmas.{own_area, area_unix, area_board, area_re
 use Rattle.unix_core.proofs.PutLemmas.{IsLikeArea, with_images}
 use Rattle.unix_core.proofs.LoanLemmas.{area_back, area_alone}
 use Rattle.unix_core.proofs.LoanBack.{sizes_kept}
-use Rattle.unix_core.proofs.TurnSteps.{with_memory, memory_unix, memory_board, memory_process, memory_ready}
+use Rattle.unix_core.proofs.TurnSteps.{memory_ready}
+use Rattle.unix_core.proofs.MemoryPut.{with_memory, memory_unix, memory_board, memory_process}
 
 -- A word that is stored, or refused, leaves the sizes of an image.
 word_lengths : (m : Image) (v x : ℕ) → SameLengths m (image_after m (store_word m v x))
@@ -99,7 +100,7 @@ module _ (w : World) (s : ℕ) (ready : IsReady w s) (holds : kept.IsKept w.proc
   d = delivery p.u sig (one.image_of (unix_of w).texts p)
 
   abbrev mem : World
-  mem = with_memory w s ready d.image
+  mem = with_memory w s (ready_alive w s ready) d.image
 
   mem_ready : IsReady mem s
   mem_ready = memory_ready w s ready d.image
@@ -112,7 +113,7 @@ module _ (w : World) (s : ℕ) (ready : IsReady w s) (holds : kept.IsKept w.proc
 
   like : IsLikeArea d.area (process_of (unix_of mem) s).u
   like =
-      subst (λ (x : Process). IsLikeArea d.area x.u) (sym (memory_process w s ready d.image))
+      subst (λ (x : Process). IsLikeArea d.area x.u) (sym (memory_process w s (ready_alive w s ready) d.image))
       (delivered_area p.u sig (one.image_of (unix_of w).texts p))
 
   pub told_ready : IsReady told s
@@ -124,11 +125,11 @@ module _ (w : World) (s : ℕ) (ready : IsReady w s) (holds : kept.IsKept w.proc
       let q : Process = record p { «data» = d.image.data; stack = d.image.stack } in
       ap (λ x. unix_of (with_images w x)) its
       ∙ area_unix mem s mem_ready d.area
-      ∙ (λ i. with_process (memory_unix w s ready d.image i) s (record (memory_process w s ready d.image i) { u = d.area }))
+      ∙ (λ i. with_process (memory_unix w s (ready_alive w s ready) d.image i) s (record (memory_process w s (ready_alive w s ready) d.image i) { u = d.area }))
       ∙ ap (λ l. record (unix_of w) { processes = l }) (set-set ps s (Some q) (Some (record q { u = d.area })))
 
   pub told_board : board_in told ≡ board_in w
-  told_board = ap (λ x. board_in (with_images w x)) its ∙ area_board mem s mem_ready d.area ∙ memory_board w s ready d.image
+  told_board = ap (λ x. board_in (with_images w x)) its ∙ area_board mem s mem_ready d.area ∙ memory_board w s (ready_alive w s ready) d.image
 
   -- without a routine nothing has changed
   pub told_none : handler_of (area_of w.procs.images s) sig ≡ 0 → k ≡ w.procs.images

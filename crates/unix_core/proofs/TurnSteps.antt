@@ -1,6 +1,6 @@
 -- An instruction of the process that runs: its memory is another one, what belongs together still does, and the process has
 -- stepped.
-use Rattle.std.proofs.Common.{◌≡◌, ◌<◌, ◌∙◌, ◌==◌, if◌then◌else◌, ℕ, zero, suc, false, List, [], map, min, Option, Some, None, refl, sym, ap, subst, arith}
+use Rattle.std.proofs.Common.{◌≡◌, ◌<◌, ◌∙◌, ◌==◌, if◌then◌else◌, ℕ, zero, suc, false, List, [], Option, Some, None, refl, sym, ap, subst, arith}
 use Rattle.std.proofs.lemmas.List.{set-set}
 use Rattle.v6_base.specs.Image.{Image}
 use Rattle.u_area.specs.declared.area.UArea.{UArea}
@@ -9,15 +9,11 @@ use Rattle.pdp_step.specs.declared.outcome.Outcome.TheVariants as came
 use Rattle.pdp_step.specs.Machine.{Machine}
 use Rattle.pdp_step.specs.Instruction.{instr}
 use Rattle.pick_rules.specs.Choice.{settle}
-use Rattle.image_keep.specs.Kept.{Kept, IsKept, area_of, with_image}
+use Rattle.image_keep.specs.Kept.{IsKept, area_of}
 use Rattle.image_keep.specs.Running.{with_state}
-use Rattle.image_keep.proofs.Frames.{with_image_texts}
 use Rattle.sys_procs.specs.declared.procs.Procs.{Procs}
 use Rattle.sys_procs.specs.Process.{Process}
-use Rattle.sys_procs.specs.TextTable.{marks_of}
-use Rattle.sys_procs.specs.World.{text_in}
-use Rattle.sys_procs.specs.Agree.{text_place}
-use Rattle.sys_procs.proofs.Alive.{is_here, put_here}
+use Rattle.sys_procs.proofs.Alive.{put_here}
 use Rattle.sys_procs.proofs.MemoryLemmas.{image_here}
 use Rattle.abstract_unix.specs.declared.turned.Turned.TheVariants.{Ran}
 use Rattle.unix_core.specs.declared.world.World.{World}
@@ -28,75 +24,17 @@ use Rattle.abstract_unix.specs.Calls.{resumed}
 use Rattle.abstract_unix.specs.Delivery.{ends_turn}
 use Rattle.abstract_unix.specs.Turn.{Turn, machine_of, with_machine, is_user, comes_to, instruction, begins_turn, turn, turn_of, slot_by, slot_of, settled_as, settled_after, turned}
 use Rattle.abstract_unix.specs.Runs.{Slot, event_of}
-use Rattle.unix_core.specs.Parts.{unix_of, board_in, system_at, machine_in, with_machine_in, IsReady, IsUser, HasStepped}
-use Rattle.abstract_unix.specs.Whole.{told_in, Owes, CanGoOn}
-use Rattle.abstract_unix.proofs.Owing.{told_change, some_within}
-use Rattle.unix_core.proofs.GoingLemmas.{going_put}
-use Rattle.unix_core.proofs.GoodLemmas.{runs_same}
-use Rattle.sys_procs.specs.Handed.{AreProcs}
+use Rattle.unix_core.specs.Parts.{unix_of, system_at, machine_in, with_machine_in, IsReady, IsUser, HasStepped}
+use Rattle.abstract_unix.proofs.Owing.{some_within}
 use Rattle.unix_core.proofs.WorldLemmas.{ready_alive, slot_is}
-use Rattle.unix_core.proofs.LoanLemmas.{image_now, image_other, image_core}
-use Rattle.unix_core.proofs.PutLemmas.{IsLikeArea, with_images, slot_put, agree_put}
+use Rattle.unix_core.proofs.PutLemmas.{IsLikeArea}
+use Rattle.unix_core.proofs.MemoryPut.{with_memory, memory_unix, memory_board, memory_process, memory_good}
 use Rattle.unix_core.proofs.BoardLemmas.{settle_same}
 use Rattle.unix_core.proofs.AreaLemmas.{own_area, with_its_area, area_unix, area_board, area_ready}
 
--- The memory of the process is another one.
-module _ (w : World) (s : ℕ) (ready : IsReady w s) (image : Image) where
-  abbrev pub with_memory : World
-  with_memory = with_images w (with_image w.procs.images s image)
-
-  abbrev p : Process
-  p = process_of (unix_of w) s
-
-  abbrev q : Process
-  q = record p { «data» = image.data; stack = image.stack }
-
-  pub memory_unix : unix_of with_memory ≡ with_process (unix_of w) s q
-  memory_unix =
-      let k : Kept = w.procs.images in
-      let here = is_here w.procs s (ready_alive w s ready) in
-      let changed = slot_put w s (ready_alive w s ready) w.procs.rows (with_image k s image) (λ m. m.row) (λ held. record held { image = image }) (λ held own. refl) (λ held. refl)
-      (λ m is. is) (λ r other. refl) (image_now k s image) (image_other k s image) (with_image_texts k s image) q
-      (ap (λ (x : Process). record x { «data» = image.data; stack = image.stack }) (sym here.process_is)) in
-      λ i. record (unix_of w) {
-        processes = changed i;
-        texts = map text_in ((with_image_texts k s image).texts i);
-        limit = min (image_core k s image i) 2048;
-      }
-
-  pub memory_board : board_in with_memory ≡ board_in w
-  memory_board = λ i. record (board_in w) { texts = map text_place ((with_image_texts w.procs.images s image).texts i); core = image_core w.procs.images s image i }
-
-  pub memory_process : process_of (unix_of with_memory) s ≡ q
-  memory_process =
-      let ps : List (Option Process) = (unix_of w).processes in
-      ap (λ (x : Unix). process_of x s) memory_unix ∙ put_here ps s q (some_within ps s p (slot_is w s ready))
-
-  memory_agree : AreProcs with_memory.procs
-  memory_agree =
-      let k : Kept = w.procs.images in
-      agree_put w s (ready_alive w s ready) w.procs.rows (with_image k s image) (λ m. m.row) (λ held. record held { image = image }) (λ held own. refl) (λ held. refl)
-      (λ m is. is) (λ r other. refl) (image_now k s image) (image_other k s image) (with_image_texts k s image)
-
-  pub memory_ready : IsReady with_memory s
-  memory_ready = record {
-    good = record {
-      agree = memory_agree;
-      running = runs_same w with_memory ready.good memory_agree refl;
-      owed =
-          let refs : List ℕ = w.files.tree.nodes.references in
-          subst (λ texts. Owes refs w.files.table w.files.pipes texts (told_in (unix_of with_memory).processes)) (ap (λ texts. map text_in texts) (sym (with_image_texts w.procs.images s image).texts))
-          (subst (Owes refs w.files.table w.files.pipes (unix_of w).texts)
-          (sym (ap (λ (x : Unix). told_in x.processes) memory_unix ∙ told_change (unix_of w).processes s p q (slot_is w s ready) refl)) ready.good.owed);
-      pending = subst CanGoOn (sym memory_unix)
-          (going_put (unix_of w) s p q (slot_is w s ready) (record { pending = refl; call = refl; files = refl; lives = refl }) ready.good.pending);
-      marks = ready.good.marks ∙ ap (λ texts. marks_of (map text_in texts)) (sym (with_image_texts w.procs.images s image).texts);
-      rooms = ready.good.rooms;
-      core = ready.good.core ∙ sym (image_core w.procs.images s image);
-    };
-    runs = ready.runs;
-    user = ready.user;
-  }
+-- The memory of the process that runs is another one.
+pub memory_ready : (w : World) (s : ℕ) (ready : IsReady w s) (image : Image) → IsReady (with_memory w s (ready_alive w s ready) image) s
+memory_ready w s ready image = record { good = memory_good w s (ready_alive w s ready) image ready.good; runs = ready.runs; user = ready.user }
 
 -- what an instruction works on
 machine_is : (w : World) (s : ℕ) → IsReady w s → IsKept w.procs.images → machine_of (unix_of w).texts (process_of (unix_of w) s) ≡ machine_in w.procs.images s
@@ -114,7 +52,7 @@ module _ (w : World) (s : ℕ) (user : IsUser s w) (holds : IsKept w.procs.image
   m = (instr (machine_in w.procs.images s)).machine
 
   abbrev with_image_then : World
-  with_image_then = with_memory w s user.ready m.image
+  with_image_then = with_memory w s (ready_alive w s user.ready) m.image
 
   abbrev area : UArea
   area = with_state (area_of w.procs.images s) m.r m.cc
@@ -126,7 +64,7 @@ module _ (w : World) (s : ℕ) (user : IsUser s w) (holds : IsKept w.procs.image
   ready_then = memory_ready w s user.ready m.image
 
   area_like : IsLikeArea area (process_of (unix_of with_image_then) s).u
-  area_like = subst (λ (p : Process). IsLikeArea area p.u) (sym (memory_process w s user.ready m.image))
+  area_like = subst (λ (p : Process). IsLikeArea area p.u) (sym (memory_process w s (ready_alive w s user.ready) m.image))
       (subst (λ (u : UArea). IsLikeArea area u) (own_area w s user.ready) (record { clicks = refl; files = refl; dir = refl; pending = refl; call = refl }))
 
   abbrev now : World
@@ -137,7 +75,7 @@ module _ (w : World) (s : ℕ) (user : IsUser s w) (holds : IsKept w.procs.image
       let ps : List (Option Process) = (unix_of w).processes in
       let q : Process = record old { «data» = m.image.data; stack = m.image.stack } in
       area_unix with_image_then s ready_then area
-      ∙ (λ i. with_process (memory_unix w s user.ready m.image i) s (record (memory_process w s user.ready m.image i) { u = area }))
+      ∙ (λ i. with_process (memory_unix w s (ready_alive w s user.ready) m.image i) s (record (memory_process w s (ready_alive w s user.ready) m.image i) { u = area }))
       ∙ ap (λ l. record (unix_of w) { processes = l }) (set-set ps s (Some q) (Some stored))
 
   stored_is : stored ≡ with_machine old m
@@ -166,7 +104,7 @@ module _ (w : World) (s : ℕ) (user : IsUser s w) (holds : IsKept w.procs.image
         user = user.user;
         outcome = outcome ∙ ap (λ x. (instr x).outcome) its;
         unix = unix_then ∙ ap (with_process (unix_of w) s) stored_is ∙ ap (λ x. with_process (unix_of w) s (with_machine old (instr x).machine)) its;
-        board = area_board with_image_then s ready_then area ∙ memory_board w s user.ready m.image;
+        board = area_board with_image_then s ready_then area ∙ memory_board w s (ready_alive w s user.ready) m.image;
       })
 
 -- the slot of a process that isn't the swapper

@@ -3,3 +3,4 @@ pub mod Parts
 pub mod Passing
 pub mod Memory
 pub mod State
+pub mod Deposits

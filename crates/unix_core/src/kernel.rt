@@ -1,5 +1,5 @@
 //! The kernel, which takes one event a call.
-ghost use Rattle.std.specs.Prelude.{◌≡◌, ◌≢◌, ◌⊎◌, ◌==◌, ◌<◌, ◌≤◌, ℕ, [], slice_index, if◌then◌else◌};
+ghost use Rattle.std.specs.Prelude.{◌≡◌, ◌≢◌, ◌⊎◌, ◌==◌, ◌<◌, ◌≤◌, ℕ, [], slice_index, if◌then◌else◌, true, false};
 ghost use Rattle.v6_base.specs.Trace.{Took};
 ghost use Rattle.fs_codec.specs.Disk.{head};
 ghost use Rattle.fs_codec.specs.Stands.{StandsFor};
@@ -7,7 +7,9 @@ ghost use Rattle.fs_codec.specs.declared.layout.TheConstants.{SWAP_START};
 ghost use Rattle.buf_cache.specs.Blocks.{block_at, IsDisk};
 ghost use Rattle.fs_laws.specs.Rest.{SameRest};
 ghost use Rattle.image_keep.specs.Kept.{Alive, first_kept, with_keeping};
+ghost use Rattle.image_keep.specs.Deposits.{memory_size, HasByte, IsNobodys};
 ghost use Rattle.unix_core.specs.Parts.{first_held};
+ghost use Rattle.unix_core.specs.Deposits.{IsPutIn};
 ghost use Rattle.abstract_unix.specs.declared.ends.Ends.TheVariants.{AtEnd};
 ghost use Rattle.abstract_unix.specs.Turn.{turned, ticked_by, NobodyCanRun};
 ghost use Rattle.abstract_unix.specs.Private.{AllUndisturbed, TickUndisturbed, OthersUndisturbed};
@@ -222,6 +224,27 @@ impl Kernel {
         ensures blocks { self.new.blocks ≡ self.old.blocks }
     {
         self.machine.world.procs.switches = w;
+    }
+
+    /// Puts a byte to a place of core, or with `swap` to one of the swap area: true exactly where it is a byte of the data or of
+    /// the stack of a process, in which it is another one from now on. Else nothing changes. `at` counts bytes as `core` and
+    /// `swap` do. It shows that processes run on these bytes, and on no copy of them; no command makes such a call.
+    pub fn deposit(&mut self, swap: bool, at: u32, b: u8) -> bool
+        requires phase { self.old.phase ≡ Started }
+        requires inside { at < memory_size self.old.kept swap }
+        ensures phase { self.new.phase ≡ Started }
+        ensures next { result ≡ true → IsPutIn self.old.system swap at b self.new.system }
+        ensures there { result ≡ true → HasByte self.new.kept swap at b }
+        ensures nobodys { result ≡ false → IsNobodys (kept_in self.old.system) swap at }
+        ensures same { result ≡ false → self.new ≡ self.old }
+        ensures told { self.new.kept ≡ kept_in self.new.system }
+        ensures blocks { self.new.blocks ≡ self.old.blocks }
+        ensures stored { self.new.stored ≡ self.old.stored }
+    {
+        see_procs(&self.machine.world.procs);
+        let is_put = self.machine.world.procs.images.deposit(swap, at, b);
+        see_procs(&self.machine.world.procs);
+        is_put
     }
 
     /// Ends a run: writes to the disk what has changed, and the super-block with the time where that has. A file system that

@@ -83,10 +83,10 @@ impl Kernel {
         self.machine.world.procs.images.place(s)
     }
 
-    /// Block `n` of the disk, as a run that has been finished leaves it: from block 4000 on what the swap area holds then.
-    pub fn final_block(&self, n: u16) -> [u8; 512]
-        requires finished { self.now.phase ≡ Finished }
-        requires block { n < DISK_BLOCKS }
+    /// What the disk holds of block `n` at this moment: below block 4000 what has been written to it so far, from block 4000 on
+    /// what the swap area holds.
+    pub fn disk_block(&self, n: u16) -> [u8; 512]
+        requires { n < DISK_BLOCKS }
         ensures below { n < SWAP_START → result ≡ block_at self.now.stored n }
         ensures swapped { SWAP_START ≤ n
             → (swap : List ℕ) × SwapHolds swap self.now.kept × (result ≡ part swap (512 * (n - SWAP_START)) 512) }
@@ -96,5 +96,16 @@ impl Kernel {
         } else {
             swap_block(self.swap(), usize::from(n - SWAP_START))
         }
+    }
+
+    /// Block `n` of the disk, as a run that has been finished leaves it: from block 4000 on what the swap area holds then.
+    pub fn final_block(&self, n: u16) -> [u8; 512]
+        requires finished { self.now.phase ≡ Finished }
+        requires block { n < DISK_BLOCKS }
+        ensures below { n < SWAP_START → result ≡ block_at self.now.stored n }
+        ensures swapped { SWAP_START ≤ n
+            → (swap : List ℕ) × SwapHolds swap self.now.kept × (result ≡ part swap (512 * (n - SWAP_START)) 512) }
+    {
+        self.disk_block(n)
     }
 }
