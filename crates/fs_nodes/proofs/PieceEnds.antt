@@ -1,5 +1,5 @@
 -- What a read or a write of a file leaves, with its times and its inode.
-use Rattle.std.proofs.Common.{◌≡◌, ◌≢◌, ◌+◌, ◌*◌, ◌≤◌, ◌==◌, ◌&&◌, ◌||◌, ℕ, Bool, true, false, not, cond, List, [], length, slice_set, slice_index, min, nat_eq, Option, Some, None, refl, sym, ap, ◌∙◌, subst, arith}
+use Rattle.std.proofs.Common.{◌≡◌, ◌≢◌, ◌+◌, ◌≤◌, ◌==◌, ◌&&◌, ◌||◌, ℕ, Bool, true, false, not, cond, List, [], length, slice_set, slice_index, min, nat_eq, Option, Some, None, refl, sym, ap, ◌∙◌, subst, arith}
 use Rattle.std.specs.List.{count_by}
 use Rattle.fs_codec.specs.Fields.{Inode}
 use Rattle.fs_codec.specs.Modes.{file_type, is_device, is_directory, holds_blocks}
@@ -7,7 +7,6 @@ use Rattle.fs_codec.specs.Disk.{Disk, inode, inode_count, head}
 use Rattle.fs_codec.specs.Held.{addresses, held_blocks}
 use Rattle.fs_codec.specs.Store.{Node, node_numbered}
 use Rattle.fs_codec.specs.Stands.{held_of, body_of, node_of}
-use Rattle.fs_codec.specs.declared.super_block.SuperBlock.{SuperBlock}
 use Rattle.v6_base.specs.declared.errno.Errno.{Errno}
 use Rattle.fs_laws.specs.Chain.{free}
 use Rattle.fs_laws.specs.Whole.{IsApart, IsWhole}
@@ -15,9 +14,8 @@ use Rattle.fs_laws.specs.Pieces.{pieces, Moving, reading, writing, beginning, re
 use Rattle.fs_laws.proofs.FileLemmas.{file_apart}
 use Rattle.fs_laws.proofs.ShownLemmas.{node_shown, node_some}
 use Rattle.fs_laws.proofs.TouchNodeLemmas.{holds_when}
-use Rattle.fs_blocks.specs.State.{State, disk, Fits}
+use Rattle.fs_blocks.specs.State.{State, disk}
 use Rattle.fs_blocks.specs.Touch.{MovesBlocks}
-use Rattle.fs_blocks.proofs.SuperLemmas.{head_is}
 use Rattle.fs_blocks.proofs.VolumeLemmas.{same_refl}
 use Rattle.fs_nodes.specs.declared.table.Referenced.{Referenced}
 use Rattle.fs_nodes.specs.FileSystem.{FileSystem, store_now}
@@ -130,13 +128,6 @@ moves_store old new fin i x next m bytes moved refusal e is =
       done = c.done;
       error = c.error;
     }
-
--- a number of an inode is within a super-block's count
-pub within_head : (s : State) (i : ℕ) → Fits s.head → i ≤ inode_count (disk s) → i ≤ 16 * s.head.i_size
-within_head s i fits low = let h : (head (disk s)).i_size ≡ s.head.i_size = ap (λ (x : SuperBlock). x.i_size) (head_is s.blocks s.head fits) in omega (arith, h, low)
-
-pub within_disk : (s : State) (i : ℕ) → Fits s.head → i ≤ 16 * s.head.i_size → i ≤ inode_count (disk s)
-within_disk s i fits low = let h : (head (disk s)).i_size ≡ s.head.i_size = ap (λ (x : SuperBlock). x.i_size) (head_is s.blocks s.head fits) in omega (arith, h, low)
 
 -- times that are set where there is something
 one_time : (t : Bool) (f : Node) (time : ℕ) → cond t f (record f { actime = time }) ≡ record f { actime = cond t f.actime time; modtime = f.modtime }
