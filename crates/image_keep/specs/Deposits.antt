@@ -1,5 +1,5 @@
--- Whose byte stands at a place of core or of the swap area, and what becomes of what is kept when another byte is put there. Byte 0 of
--- click c is byte 64 * (c - 1) of core, byte 0 of block b is byte 512 * (b - 4000) of the swap area.
+-- Whose byte stands at a place of core or of the swap area, and what becomes of what is kept when another byte is put there.
+-- Byte 0 of click c is byte 64 * (c - 1) of core, byte 0 of block b is byte 512 * (b - 4000) of the swap area.
 use Rattle.std.specs.Prelude.{◌≡◌, ℕ, ◌+◌, ◌-◌, ◌*◌, Bool, true, false, if◌then◌else◌, List, length, slice_index}
 use Rattle.v6_base.specs.declared.entry.Place.{Place}
 use Rattle.v6_base.specs.declared.entry.Place.TheVariants.{Core, Swap}
@@ -25,8 +25,8 @@ abbrev pub first_byte : Place → ℕ
 first_byte (Core click) = 64 * (click - 1)
 first_byte (Swap block) = 512 * (block - 4000)
 
--- An image stands there with its u area of 1,024 bytes, then its data, then its stack: how many bytes stand before one of the data or
--- of the stack.
+-- An image stands there with its u area of 1,024 bytes, then its data, then its stack: how many bytes stand before one of the
+-- data or of the stack.
 abbrev pub bytes_before : Image → Named → ℕ
 bytes_before m (InText i) = 0
 bytes_before m (InData i) = 1024 + i

@@ -1,5 +1,5 @@
--- What becomes of a system when a byte is put where it stands in core or in the swap area: that byte of one process's data or stack is
--- another one.
+-- What becomes of a system when a byte is put where it stands in core or in the swap area: that byte of one process's data or
+-- stack is another one.
 use Rattle.std.specs.Prelude.{◌≡◌, ℕ, Bool, slice_set}
 use Rattle.v6_base.specs.declared.named.Named.{Named}
 use Rattle.v6_base.specs.declared.named.Named.TheVariants.{InText, InData, InStack, Nothing}

@@ -226,9 +226,9 @@ impl Kernel {
         self.machine.world.procs.switches = w;
     }
 
-    /// Puts a byte to a place of core, or with `swap` to one of the swap area: true exactly where it is a byte of the data or of
-    /// the stack of a process, in which it is another one from now on. Else nothing changes. `at` counts bytes as `core` and
-    /// `swap` do. It shows that processes run on these bytes, and on no copy of them; no command makes such a call.
+    /// Puts a byte to a place of core, or with `swap` to one of the swap area: true exactly where it is a byte of the data or
+    /// of the stack of a process, in which it is another one from now on. Else nothing changes. `at` counts bytes as `core`
+    /// and `swap` do. It shows that processes run on these bytes, and on no copy of them; no command makes such a call.
     pub fn deposit(&mut self, swap: bool, at: u32, b: u8) -> bool
         requires phase { self.old.phase ≡ Started }
         requires inside { at < memory_size self.old.kept swap }

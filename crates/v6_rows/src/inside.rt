@@ -1,0 +1,123 @@
+//! A kernel that is looked into between two turns: docs/manual/memory.md.
+ghost use Rattle.std.specs.Prelude.{◌≡◌, true, IfOk, IfSome};
+ghost use Rattle.abstract_unix.specs.Unix.{New, Started};
+
+use make_image::build;
+use run_fixtures::{Piece, put};
+use std::alloc::{AllocError, Global};
+use std::test::Fail;
+use unix_core::{Kernel, Turned};
+use v6_base::{Entry, Tape};
+
+/// `/etc/init` of a made disk, as a program that makes `/d` and writes the 512 bytes from address 0 on to it, forty times:
+/// `creat`, `mov $50,r2`, then `clr r0`, `write`, `dec r2` and `bne` back to `clr`; and then it branches to itself. Behind its
+/// 28 bytes of text it has 512 of bss.
+const FORTY: [Piece<'static>; 1] = [(
+    33_792,
+    b"\x07\x01\x1c\0\0\0\0\x02\0\0\0\0\0\0\0\0\
+\x08\x89\x18\0\xb6\x01\xc2\x15\x28\0\0\x0a\x04\x89\0\0\0\x02\xc2\x0a\xfa\x02\xff\x01/d\0\0",
+)];
+
+/// The word at its address 0.
+const FIRST_WORD: &[u8] = b"\x08\x89";
+
+/// The kernel of a made disk with these pieces, before its start.
+fn kernel_of(alloc: Global, pieces: &[Piece<'_>]) -> Result<Option<Kernel>, AllocError>
+    ensures { IfOk result (λ some. IfSome some (λ kernel. kernel.phase ≡ New)) }
+{
+    let mut image = build(alloc, 0)?;
+    put(&mut image, pieces);
+    match Kernel::boot(alloc, &image, 1200) {
+        Ok(kernel) => Ok(Some(kernel)),
+        Err(_) => Ok(None),
+    }
+}
+
+/// Takes so many slots: false where one comes to a panic.
+fn runs(kernel: &mut Kernel, count: u32, tape: &mut Tape) -> bool
+    requires { kernel.old.phase ≡ Started }
+    ensures { result ≡ true → kernel.new.phase ≡ Started }
+{
+    'slots: for _ in 0..count {
+        match kernel.turn(tape) {
+            Turned::Ran | Turned::Idle => {}
+            Turned::Panic(_) => return false,
+        }
+    }
+    true
+}
+
+/// Puts a byte to a place of core.
+fn deposit(kernel: &mut Kernel, at: u32, b: u8) -> bool
+    requires { kernel.old.phase ≡ Started }
+    ensures { kernel.new.phase ≡ Started }
+{
+    if at as usize >= kernel.core().len() {
+        return false;
+    }
+    kernel.deposit(false, at, b)
+}
+
+/// The first byte of core.
+fn first_byte(kernel: &Kernel) -> Option<u8> {
+    if kernel.core().is_empty() {
+        return None;
+    }
+    Some(kernel.core_byte(0))
+}
+
+/// How many blocks of files the disk has that begin with that word.
+fn written(kernel: &Kernel) -> u16 {
+    let mut count: u16 = 0;
+    for n in 62..4000 {
+        if kernel.disk_block(n).starts_with(FIRST_WORD) {
+            count = count.saturating_add(1);
+        }
+    }
+    count
+}
+
+/// After the start byte 0 of core is one of the u area, and takes none. Byte 1037 is the second one of the name with which
+/// process 1 begins, which is then `/xtc/init`. There is no such file: its first turn is an exec that fails, with error 2 in
+/// R0, the first word of the u area.
+fn executes_what_was_put(alloc: Global) -> Result<bool, AllocError> {
+    let mut tape = Tape::new(alloc, 64, 64)?;
+    let Some(mut kernel) = kernel_of(alloc, &[])? else {
+        return Ok(false);
+    };
+    kernel.start(&mut tape);
+    tape.clear();
+    let refused = !deposit(&mut kernel, 0, 1);
+    let put = deposit(&mut kernel, 1037, 120);
+    let ran = kernel.turn(&mut tape) == Turned::Ran;
+    let logged = tape.entries() == [Entry::Trap(1), Entry::Go(1)].as_slice();
+    Ok(refused && put && ran && logged && first_byte(&kernel) == Some(2))
+}
+
+/// Of the forty blocks that are written there are some on the disk before the run is finished, and some not, as fifteen
+/// buffers keep the latest; after it all are.
+fn writes_late(alloc: Global) -> Result<bool, AllocError> {
+    let mut tape = Tape::new(alloc, 64, 64)?;
+    let Some(mut kernel) = kernel_of(alloc, &FORTY)? else {
+        return Ok(false);
+    };
+    kernel.start(&mut tape);
+    if !runs(&mut kernel, 300, &mut tape) {
+        return Ok(false);
+    }
+    let before = written(&kernel);
+    kernel.finish();
+    Ok(25 <= before && before <= 39 && written(&kernel) == 40)
+}
+
+#[test]
+fn a_byte_that_is_put_into_core_is_the_process_s(rt: HostRuntime) -> Result<(), Fail> {
+    assert!(rt; executes_what_was_put(rt.alloc())?);
+    Ok(())
+}
+
+#[test]
+fn buffers_keep_the_latest_blocks_from_the_disk(rt: HostRuntime) -> Result<(), Fail> {
+    assert!(rt; writes_late(rt.alloc())?);
+    Ok(())
+}
