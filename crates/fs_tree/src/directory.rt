@@ -47,7 +47,7 @@ fn entry(nodes: &mut Nodes, dir: u16, block: &mut [u8; 512], place: u16) -> DirE
     ensures same { SameFiles nodes.old nodes.new }
 {
     if place % BLOCK_ENTRIES == 0 {
-        *block = nodes.look_block(dir, place / BLOCK_ENTRIES);
+        nodes.look_block(dir, place / BLOCK_ENTRIES, block);
     }
     entry_in(block, place % BLOCK_ENTRIES)
 }
@@ -56,7 +56,8 @@ fn entry(nodes: &mut Nodes, dir: u16, block: &mut [u8; 512], place: u16) -> DirE
 fn is_named(entry: &DirEntry, name: &[u8; 14]) -> bool
     ensures { result ≡ (not (entry.now.ino == 0) && bytes_eq entry.now.name name.now) }
 {
-    entry.ino != 0 && entry.name == *name
+    // most names differ in their first byte
+    entry.ino != 0 && entry.name[0] == name[0] && entry.name == *name
 }
 
 /// The first empty place, where those before one are known.
