@@ -121,7 +121,7 @@ among_none [] i o none = refl
 among_none (late ∷ lates) i o none = elim (eqb_tells late.number i) [
   | inl h ↦ (let c : lates_with (late ∷ lates) i ≡ 1 + lates_with lates i = lates_cons late lates i ∙ ap (λ t. one t + lates_with lates i) h.0 in absurd (omega (arith, c, none)))
   | inr h ↦ (let c : lates_with (late ∷ lates) i ≡ 0 + lates_with lates i = lates_cons late lates i ∙ ap (λ t. one t + lates_with lates i) h.0 in
-  among_behind late lates i o h.0 ∙ among_none lates i o (omega (arith, c, none)))
+      among_behind late lates i o h.0 ∙ among_none lates i o (omega (arith, c, none)))
 ]
 
 -- The only one of a number.

@@ -55,7 +55,6 @@ late_at es k d low = get_or-map late_of es k d (late_of d) low
 -- an entry with another inode
 pub puts_set : (s : State) (es : List Referenced) (k i : ℕ) (d : Referenced) (next : DiskNode) → k < length es → (get_or es k d).ino ≡ i → ((j : ℕ) → entries_of es j ≤ 1) → PutsInode s es i (fields_of next) (set es k (with_inode (get_or es k d) next))
 puts_set s es k i d next low ino once =
-
     let long = length-map es late_of in
     let low' : k < length (lates_of es) = omega (arith, long, low) in
     let long' = length-set (lates_of es) k (late_of (with_inode (get_or es k d) next)) in
@@ -124,7 +123,6 @@ saved_late old new es k d i next h form volume zone low ino c long used root =
     let first : inode (disk (seen old es)) i ≡ fields_of (get_or es k d).node = ap (inode (disk (seen old es))) (sym ino) ∙ sym is.same in
     let count : inode_count (disk new) ≡ inode_count (disk old) = ap (λ n. 16 * n) zone.i_size in
     let o = over old es h in
-
     let o' : IsOver new es = record {
       form = form;
       volume = volume;
