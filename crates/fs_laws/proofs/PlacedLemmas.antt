@@ -1,12 +1,12 @@
 -- What a disk with inodes in their places has.
-use Rattle.std.proofs.Common.{◌≡◌, ◌≢◌, ◌+◌, ◌*◌, ◌/◌, ◌%◌, ◌<◌, ◌≤◌, ◌==◌, inl, inr, ℕ, zero, suc, Bool, true, false, cond, List, [], ◌∷◌, ◌++◌, length, set, get_or, refl, sym, ap, ◌∙◌, subst, arith}
+use Rattle.std.proofs.Common.{◌≡◌, ◌≢◌, ◌+◌, ◌*◌, ◌/◌, ◌%◌, ◌<◌, ◌≤◌, ◌==◌, inl, inr, ℕ, zero, suc, Bool, true, false, cond, List, [], ◌∷◌, ◌++◌, length, set, get_or, refl, sym, ap, ◌∙◌, arith}
 use Rattle.std.proofs.lemmas.Bool.Decides.{eqb_tells}
 use Rattle.std.specs.List.{AllByRecursion, remove, count_by}
 use Rattle.std.proofs.lemmas.List.Sums.{sum_by-cons, sum_by-remove, get_or-le-sum_by}
 use Rattle.buf_cache.specs.Blocks.{patched}
-use Rattle.fs_codec.specs.Fields.{Inode, inode_of}
+use Rattle.fs_codec.specs.Fields.{Inode}
 use Rattle.fs_codec.specs.Bytes.{inode_bytes}
-use Rattle.fs_codec.specs.Disk.{Disk, inode, inode_count}
+use Rattle.fs_codec.specs.Disk.{Disk, inode}
 use Rattle.fs_laws.specs.Chain.{IsSound}
 use Rattle.fs_laws.proofs.AgreeLemmas.{Agree}
 use Rattle.fs_laws.proofs.ChangeLemmas.{place_is, place_no_data}
