@@ -55,19 +55,17 @@ static ROWS: [&[Step]; 12] = [
         Does(Put(2), 0),
         Has(1056, b"\xa4\x81\x08"),
     ],
-    // It writes all.
+    // It writes each that has changed, also behind one that has not.
     &[
         Does(Take(2), 0),
         Does(Take(1), 0),
         Does(Take(3), 0),
         Does(Owner(3, 9, 8), 0),
-        Does(Owner(1, 7, 6), 0),
         Does(Owner(2, 5, 4), 0),
-        Has(1024, b"\xed\xc1\x02\x00\x00"),
         Has(1056, b"\xa4\x81\x01\x02\x03"),
         Has(1088, b"\x80\x81\x01\x02\x03"),
         Does(Update, 0),
-        Has(1024, b"\xed\xc1\x02\x07\x06"),
+        Has(1024, b"\xed\xc1\x02\x00\x00"),
         Has(1056, b"\xa4\x81\x01\x05\x04"),
         Has(1088, b"\x80\x81\x01\x09\x08"),
     ],
