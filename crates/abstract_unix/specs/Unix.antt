@@ -32,7 +32,7 @@ pub record System : Type 0 where
 pub data Phase : Type 0 where
   New : Phase  -- it hasn't been started
   Started : Phase
-  Stopped : Phase  -- it has come to what isn't built, and takes no event any more
+  Stopped : Phase  -- it has come to a panic, and takes no event any more
   Finished : Phase  -- all that has changed is on the disk
 
 abbrev pub process_at : Unix → ℕ → Option Process

@@ -167,7 +167,8 @@ impl Kernel {
         match &self.machine.stage {
             Stage::Running(fixed) => {
                 match execute(&mut self.machine.world.procs, fixed) {
-                    Outcome::Next => Turned::Ran,
+                    // left at once: joined with the other answers it is looked at anew each time
+                    Outcome::Next => return Turned::Ran,
                     outcome => {
                         let s = fixed.slot;
                         self.machine.after_step(s, outcome, trace)
