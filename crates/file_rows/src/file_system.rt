@@ -10,6 +10,7 @@ mod disks;
 mod entries;
 pub(crate) mod files;
 pub(crate) mod fixtures;
+mod late;
 mod mixed;
 mod name_limits;
 mod names;

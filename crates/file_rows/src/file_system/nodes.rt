@@ -1,6 +1,6 @@
 //! Inodes that are referred to, and calls that set their fields, by hand from iget, iput, itrunc and update of Lions'
-//! Commentary and from file system(V): what a call sets stands in the inode's 32 bytes at once, and what it changes of
-//! the super-block at the next update.
+//! Commentary and from file system(V): what a call sets stands in the inode's 32 bytes, and what it changes of the
+//! super-block in that, at the next update.
 use crate::file_system::calls::{Call, answer};
 use crate::file_system::fixtures::{Piece, TWENTY_BLOCKS, put};
 use crate::file_system::opened::{open, stands, takes};
@@ -30,57 +30,61 @@ static DISK: [Piece<'static>; 10] = [
     (3072, b"abcdefgh"),
 ];
 
-/// Calls at the time 0x01020304, and the bytes that then stand at a place of the disk.
+/// Calls at the time 0x01020304, and the bytes that then stand at a place of the disk. An update writes the inodes.
 type Row = (&'static [Call], usize, &'static [u8]);
 
 static CALLS: [Row; 15] = [
     // The mode, and the time of the change behind that of the access.
     (
-        &[Take(2), Mode(2, 0o104755)],
+        &[Take(2), Mode(2, 0o104755), Update],
         1056,
         b"\xed\x89\x01\x02\x03\x00\xdc\x05",
     ),
     (
-        &[Take(2), Mode(2, 0o100644)],
+        &[Take(2), Mode(2, 0o100644), Update],
         1080,
         b"\x00\x00\x01\x00\x02\x01\x04\x03",
     ),
     (
-        &[Take(2), Owner(2, 5, 6)],
+        &[Take(2), Owner(2, 5, 6), Update],
         1056,
         b"\xa4\x81\x01\x05\x06\x00\xdc\x05",
     ),
     (
-        &[Take(2), Owner(2, 2, 3)],
+        &[Take(2), Owner(2, 2, 3), Update],
         1080,
         b"\x00\x00\x01\x00\x02\x01\x04\x03",
     ),
-    (&[Take(2), Links(2, 200)], 1056, b"\xa4\x81\xc8\x02\x03"),
-    (&[Take(2), Links(2, 1)], 1084, b"\x02\x01\x04\x03"),
+    (
+        &[Take(2), Links(2, 200), Update],
+        1056,
+        b"\xa4\x81\xc8\x02\x03",
+    ),
+    (&[Take(2), Links(2, 1), Update], 1084, b"\x02\x01\x04\x03"),
     // A device, of which no time is set, nor of a pipe.
     (
-        &[Take(3), Device(3, 0x0902)],
+        &[Take(3), Device(3, 0x0902), Update],
         1088,
         b"\xb6\xa1\x01\x00\x00\x00\x20\x00\x02\x09\x00\x00",
     ),
     (
-        &[Take(3), Device(3, 0x0902)],
+        &[Take(3), Device(3, 0x0902), Update],
         1112,
         b"\x00\x00\x00\x00\x00\x00\x00\x00",
     ),
     (
-        &[Take(2), Empty(2)],
+        &[Take(2), Empty(2), Update],
         1056,
         b"\xa4\x81\x01\x02\x03\x00\x00\x00\x03\x00\x00\x00\x05\x00",
     ),
     (
-        &[Take(2), Empty(2)],
+        &[Take(2), Empty(2), Update],
         1080,
         b"\x00\x00\x01\x00\x00\x00\x02\x00",
     ),
     // A file gives its blocks back: 5 goes first, 3 last. The super-block is written by the update alone.
     (
-        &[Take(2), Truncate(2)],
+        &[Take(2), Truncate(2), Update],
         1056,
         b"\xa4\x81\x01\x02\x03\x00\x00\x00\x00\x00\x00\x00\x00\x00",
     ),
@@ -96,13 +100,13 @@ static CALLS: [Row; 15] = [
     ),
     // A device stays as it is.
     (
-        &[Take(3), Truncate(3)],
+        &[Take(3), Truncate(3), Update],
         1088,
         b"\xb6\xa1\x01\x00\x00\x00\x20\x00\x01\x08",
     ),
     // Of one that is freed the mode is 0, and its number stays.
     (
-        &[Take(3), Links(3, 0), Put(3)],
+        &[Take(3), Links(3, 0), Put(3), Update],
         1088,
         b"\x00\x00\x00\x00\x00\x00\x20\x00\x01\x08",
     ),
