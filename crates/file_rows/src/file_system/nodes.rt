@@ -30,7 +30,7 @@ static DISK: [Piece<'static>; 10] = [
     (3072, b"abcdefgh"),
 ];
 
-/// Calls at the time 0x01020304, and the bytes that then stand at a place of the disk. An update writes the inodes.
+/// Calls at the time 0x01020304, and the bytes that then stand at a place of the disk.
 type Row = (&'static [Call], usize, &'static [u8]);
 
 static CALLS: [Row; 16] = [
