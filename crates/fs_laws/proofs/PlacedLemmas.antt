@@ -1,12 +1,12 @@
 -- What a disk with inodes in their places has.
-use Rattle.std.proofs.Common.{◌≡◌, ◌≢◌, ◌+◌, ◌*◌, ◌/◌, ◌%◌, ◌<◌, ◌≤◌, ◌==◌, inl, inr, ℕ, zero, suc, Bool, true, false, cond, List, [], ◌∷◌, ◌++◌, length, set, get_or, refl, sym, ap, ◌∙◌, subst, arith}
+use Rattle.std.proofs.Common.{◌≡◌, ◌≢◌, ◌+◌, ◌*◌, ◌/◌, ◌%◌, ◌<◌, ◌≤◌, ◌==◌, inl, inr, ℕ, zero, suc, Bool, true, false, cond, List, [], ◌∷◌, ◌++◌, length, set, get_or, refl, sym, ap, ◌∙◌, arith}
 use Rattle.std.proofs.lemmas.Bool.Decides.{eqb_tells}
 use Rattle.std.specs.List.{AllByRecursion, remove, count_by}
 use Rattle.std.proofs.lemmas.List.Sums.{sum_by-cons, sum_by-remove, get_or-le-sum_by}
 use Rattle.buf_cache.specs.Blocks.{patched}
-use Rattle.fs_codec.specs.Fields.{Inode, inode_of}
+use Rattle.fs_codec.specs.Fields.{Inode}
 use Rattle.fs_codec.specs.Bytes.{inode_bytes}
-use Rattle.fs_codec.specs.Disk.{Disk, inode, inode_count}
+use Rattle.fs_codec.specs.Disk.{Disk, inode}
 use Rattle.fs_laws.specs.Chain.{IsSound}
 use Rattle.fs_laws.proofs.AgreeLemmas.{Agree}
 use Rattle.fs_laws.proofs.ChangeLemmas.{place_is, place_no_data}
@@ -121,7 +121,7 @@ among_none [] i o none = refl
 among_none (late ∷ lates) i o none = elim (eqb_tells late.number i) [
   | inl h ↦ (let c : lates_with (late ∷ lates) i ≡ 1 + lates_with lates i = lates_cons late lates i ∙ ap (λ t. one t + lates_with lates i) h.0 in absurd (omega (arith, c, none)))
   | inr h ↦ (let c : lates_with (late ∷ lates) i ≡ 0 + lates_with lates i = lates_cons late lates i ∙ ap (λ t. one t + lates_with lates i) h.0 in
-  among_behind late lates i o h.0 ∙ among_none lates i o (omega (arith, c, none)))
+      among_behind late lates i o h.0 ∙ among_none lates i o (omega (arith, c, none)))
 ]
 
 -- The only one of a number.

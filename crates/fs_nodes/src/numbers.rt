@@ -41,23 +41,18 @@ fn is_free_there(volume: &mut Volume, ino: u16) -> bool
     read_inode(volume, ino).mode == 0
 }
 
-/// Whether a number is that of an inode that is not used. One in memory is.
+/// Whether a number is that of an inode that is not used. One in memory is, so nothing refers to a free one.
 fn is_free(volume: &mut Volume, table: &[Referenced], ino: u16) -> bool
     requires { IsHeld volume.old.state table.now }
     ensures same { volume.new.state ≡ volume.old.state }
     ensures free { result ≡ is_free_number (store_now (seen volume.old.state table.now)) ino }
+    ensures spare { result
+        ≡ (is_free_number (store_now (seen volume.old.state table.now)) ino && not (refers_to table.now ino)) }
 {
     match find(table, ino) {
         Some(_) => false,
         None => is_free_there(volume, ino),
     }
-}
-
-/// Whether an inode of this number is in memory.
-fn is_referenced(table: &[Referenced], ino: u16) -> bool
-    ensures { result ≡ refers_to table.now ino }
-{
-    table.iter().any(|r| r.ino == ino)
 }
 
 /// The place of the last free number of a list.
@@ -87,16 +82,6 @@ fn last_number(volume: &Volume) -> u16
     if count > 65535 { 65535 } else { count as u16 }
 }
 
-/// Whether a number is free and nothing refers to it.
-fn is_spare(volume: &mut Volume, table: &[Referenced], ino: u16) -> bool
-    requires { IsHeld volume.old.state table.now }
-    ensures same { volume.new.state ≡ volume.old.state }
-    ensures spare { result
-        ≡ (is_free_number (store_now (seen volume.old.state table.now)) ino && not (refers_to table.now ino)) }
-{
-    is_free(volume, table, ino) && !is_referenced(table, ino)
-}
-
 /// The first hundred free numbers to which nothing refers.
 fn refill(volume: &mut Volume, table: &[Referenced]) -> ArrayVec<u16, 100>
     requires { IsHeld volume.old.state table.now }
@@ -108,7 +93,7 @@ fn refill(volume: &mut Volume, table: &[Referenced]) -> ArrayVec<u16, 100>
         if found.is_full() {
             return found;
         }
-        if is_spare(volume, table, below + 1) {
+        if is_free(volume, table, below + 1) {
             found.push(below + 1);
         }
     }
