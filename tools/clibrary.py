@@ -2,11 +2,14 @@
 import os
 import re
 
+from pdp11 import CALLS as NUMBERS
+
 FOLDER = os.path.join(os.path.dirname(os.path.abspath(__file__)), "c")
 NAME = re.compile(r"[A-Za-z_.~][\w.~]*")
 
-# A call of section II: how many words of arguments go to registers, r0 first, how many stand in the program behind the call,
-# and what is given back: the word in r0, 0, a long in r0 and r1, or what r0 has where nothing can be refused.
+# A call of section II: how many words of arguments go to registers, r0 first, how many stand in `indir.call` behind the call,
+# and what is given back: the word in r0, 0, a long in r0 and r1, or what r0 has where nothing can be refused. `indir.call` is
+# one place for all, so that lib/signal.s can keep it while a function is called for a signal.
 CALLS = {"read": (1, 2, "word"), "write": (1, 2, "word"), "open": (0, 2, "word"), "close": (1, 0, "zero"),
          "creat": (0, 2, "word"), "link": (0, 2, "zero"), "unlink": (0, 1, "zero"), "chdir": (0, 1, "zero"),
          "time": (0, 0, "long"), "mknod": (0, 3, "zero"), "chmod": (0, 2, "zero"), "chown": (0, 2, "zero"),
@@ -14,7 +17,8 @@ CALLS = {"read": (1, 2, "word"), "write": (1, 2, "word"), "open": (0, 2, "word")
          "getuid": (0, 0, "sure"), "stime": (2, 0, "zero"), "fstat": (1, 1, "zero"), "stty": (1, 1, "zero"),
          "gtty": (1, 1, "zero"), "nice": (1, 0, "sure"), "sleep": (1, 0, "sure"), "sync": (0, 0, "sure"),
          "csw": (0, 0, "sure"), "dup": (1, 0, "word"), "times": (0, 1, "zero"), "setgid": (1, 0, "zero"),
-         "getgid": (0, 0, "sure")}
+         "getgid": (0, 0, "sure"), "kill": (1, 1, "zero")}
+SYS = 0o104400
 
 
 def routine(name):
@@ -22,14 +26,12 @@ def routine(name):
     registers, words, result = CALLS[name]
     lines = [f"\t.globl\t_{name}", f"_{name}:"]
     lines += [f"\tmov\t{2 + 2 * at:o}(sp),r{at}" for at in range(registers)]
-    lines += [f"\tmov\t{2 + 2 * (registers + at):o}(sp),{name}.call+{2 + 2 * at}" for at in range(words)]
-    lines.append(f"\tsys\tindir; {name}.call" if words else f"\tsys\t{name}")
+    lines += [f"\tmov\t{2 + 2 * (registers + at):o}(sp),indir.call+{2 + 2 * at}" for at in range(words)]
+    lines += [f"\tmov\t${SYS + NUMBERS[name]:o},indir.call", "\tsys\tindir; indir.call"] if words else [f"\tsys\t{name}"]
     if result in ("word", "zero"):
         lines.append("\tjes\tcerror")
     lines += ["\tclr\tr0"] if result == "zero" else []
     lines.append("\trts\tpc")
-    if words:
-        lines += ["\t.data", f"{name}.call:\tsys\t{name}" + "; 0" * words, "\t.text"]
     return "\n".join(lines) + "\n"
 
 

@@ -4,6 +4,6 @@ set -eu
 cd "$(dirname "$0")/../.."
 here=examples/c
 out=${1:-$here/bin}
-for name in forth grep sort wc; do
+for name in forth grep sort tell wc; do
     tools/cc.py -o "$out/$name" $here/src/$name.c
 done

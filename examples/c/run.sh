@@ -15,3 +15,4 @@ run wc text
 run grep -n '^the.*[dx]$' text
 run sort -rn text
 run forth <$here/squares
+run tell

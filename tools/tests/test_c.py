@@ -79,6 +79,18 @@ class WithoutCompiler(Program):
         program = self.assembled(MAIN + "\tmov\t$9.,-(sp)\n\tjsr\tpc,_close\n\ttst\t(sp)+\n\tadd\t_errno,r0\n\trts\tpc\n")
         self.assertEqual(self.run_it(program), (8, "", ""))
 
+    def test_a_signal(self):
+        """A function for a signal has its number; it makes calls, and registers, errno and the words of a call stay."""
+        kept = [("r0", 1), ("r1", 2), ("r2", 3), ("r3", 4), ("r4", 5), ("r5", 6), ("_errno", 7)]
+        kept += [(f"indir.call+{2 * at}", 8 + at) for at in range(4)]
+        source = (MAIN + "\tmov\tr2,-(sp)\n\tmov\tr5,-(sp)\n\tmov\t$f,-(sp)\n\tmov\t$6,-(sp)\n\tjsr\tpc,_signal\n"
+                  + "\tcmp\t(sp)+,(sp)+\n" + "".join(f"\tmov\t${value:o},{name}\n" for name, value in kept) + "\tiot\n"
+                  + "".join(f"\tcmp\t{name},${value:o}\n\tbne\t1f\n" for name, value in kept)
+                  + "\tmov\tnumber,r0\n1:\tmov\t(sp)+,r5\n\tmov\t(sp)+,r2\n\trts\tpc\n"
+                  "f:\tmov\t2(sp),number\n\tmov\t$9.,-(sp)\n\tmov\t$99.,-(sp)\n\tjsr\tpc,_kill\n\tcmp\t(sp)+,(sp)+\n"
+                  "\tcmp\t_errno,$3\n\tbeq\t1f\n\tclr\tnumber\n1:\tclr\tr0\n\tclr\tr1\n\trts\tpc\n\t.bss\nnumber:\t.=.+2\n")
+        self.assertEqual(self.run_it(self.assembled(source)), (6, "", ""))
+
     def test_longs(self):
         """The product, the quotients and the remainders of longs, and those of words without a sign, are the rules' of C."""
         edges, rows = [0, 1, 2, 3, 10, 0x7FFF, 0x8000, 0xFFFF, 0x10000, 0x7FFFFFFF, 0x80000000, 0xFFFFFFFF], []
@@ -140,6 +152,11 @@ class Examples(Program):
         self.assertEqual(self.example("forth", typed=typed)[:2],
                          (0, "3 -3  ok\n42  ok\n1 2 3 4 5  ok\nnone?\ndivision by zero?\n3 2 1  ok\n8  ok\n"))
 
+    def test_tell(self):
+        """A child tells of each signal but the one that ends it."""
+        told = "".join(f"the child tells of signal {number}\n" for number in (2, 3, 2, 14))
+        self.assertEqual(self.example("tell"), (0, f"the child is there\n{told}it ended by signal 9\n", ""))
+
     def test_at_the_shell(self):
         """Put on the shell's disk, they run there as its own commands do, also with 1200 clicks of core."""
         image = self.put("image", read(os.path.join(TOP, "examples", "shell", "image")))
@@ -159,13 +176,13 @@ class Examples(Program):
         page = read(os.path.join(EXAMPLE, "README.md")).decode()
         self.assertEqual((done.returncode, done.stderr), (0, ""))
         self.assertIn(f"```\n{done.stdout}```\n", page)
-        for name in ("forth", "grep", "sort", "wc"):
+        for name in ("forth", "grep", "sort", "tell", "wc"):
             self.assertRegex(page, rf"\| `{name}.*\| {os.path.getsize(os.path.join(EXAMPLE, 'bin', name)):,} \|\n")
 
     @wants_compiler
     def test_built(self):
         """The programs that are kept are what the compiler makes of their sources."""
-        for name in ("forth", "grep", "sort", "wc"):
+        for name in ("forth", "grep", "sort", "tell", "wc"):
             self.assertEqual(self.call(cc.main, "-o", self.path(name), os.path.join(EXAMPLE, "src", name + ".c")), (0, "", ""))
             self.assertEqual(read(self.path(name)), read(os.path.join(EXAMPLE, "bin", name)), name)
 
@@ -259,10 +276,29 @@ class Compiled(Program):
                   'printf("%d\\n", setuid(0));',
                   "6 0 0 3 c 1 0 0 2 6 644 0 0 3 600 0 -1 2\n0 0 -1 2 0 0 0 20000 0 0 0 70000 0 10 0\n3 1400\n2 -1\n")
 
+    def test_signals(self):
+        """signal gives what was done before; a call that a signal breaks, a kill of nobody, and a pipe that nobody reads."""
+        self.prints('#include <errno.h>\n#include <signal.h>\n#include <stdio.h>\n#include <unix.h>\nstatic int got, number;\n'
+                    "static void one(int n) { got = n; number = errno; close(99); }\nstatic void two(int n) { got = -n; }\n"
+                    "static int is(void (*was)(int)) {\n"
+                    "return was == SIG_DFL ? 0 : was == SIG_IGN ? 1 : was == one ? 2 : was == two ? 3 : 4; }\n"
+                    "int main(void)\n{\nint ends[2], child, parent = getpid(); char bytes[4];\n"
+                    'printf("%d", is(signal(14, one))); printf("%d", is(signal(14, two))); printf("%d", is(signal(14, SIG_IGN)));\n'
+                    'printf("%d", is(signal(14, one))); printf("%d", is(signal(14, SIG_DFL))); printf("%d\\n", is(signal(14, one)));\n'
+                    'errno = 0; printf("%d ", signal(9, one) == SIG_ERR); printf("%d ", errno);\n'
+                    'printf("%d ", signal(20, one) == SIG_ERR); printf("%d ", kill(99, 1)); printf("%d\\n", errno); fflush(stdout);\n'
+                    'if (!fork()) { kill(parent, 14); exit(0); }\nerrno = 7;\n'
+                    'while (wait(0) >= 0 || errno == EINTR) ;\n'
+                    'printf("%d %d %d ", got, number, errno); printf("%d\\n", is(signal(14, SIG_DFL)));\n'
+                    'printf("%d ", pipe(ends)); printf("%d ", write(ends[1], "abc", 3)); printf("%d %c ", read(ends[0], bytes, 4), *bytes);\n'
+                    'printf("%d ", seek(ends[0], 0, 0)); printf("%d ", errno); close(ends[0]); signal(SIGPIPE, two);\n'
+                    'printf("%d ", write(ends[1], "abc", 3)); printf("%d %d\\n", errno, got);\nreturn 0;\n}\n',
+                    "023120\n1 22 1 -1 3\n14 7 10 0\n0 3 3 a -1 29 -1 32 -13\n")
+
     def test_headers(self):
         """All headers together, and the sizes of their types."""
         names = sorted(os.listdir(os.path.join(TOOLS, "c", "include")))
-        self.assertEqual(len(names), 11)
+        self.assertEqual(len(names), 12)
         source = "".join(f"#include <{name}>\n#include <{name}>\n" for name in names)
         self.prints(source + "bool more(int n) { return n; }\nstruct two { char c; long l; };\n"
                     'int main(void) { printf("%d %d %d %d %d %d %d %u\\n", more(256), sizeof(int8_t), sizeof(uint16_t), '

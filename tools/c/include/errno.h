@@ -4,6 +4,8 @@
 extern int errno;
 #define EPERM 1
 #define ENOENT 2
+#define ESRCH 3
+#define EINTR 4
 #define ENXIO 6
 #define E2BIG 7
 #define ENOEXEC 8
@@ -25,4 +27,5 @@ extern int errno;
 #define ENOSPC 28
 #define ESPIPE 29
 #define EMLINK 31
+#define EPIPE 32
 #endif

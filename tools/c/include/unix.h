@@ -1,5 +1,6 @@
 #ifndef _UNIX
 #define _UNIX
+#include <signal.h>
 /* The calls of section II. What can be refused gives -1 then, and sets errno. */
 struct stat {			/* of stat(II) */
 	int dev, inode;
@@ -43,6 +44,7 @@ void sleep(int seconds);
 void sync(void);
 int csw(void);
 int dup(int file);
+int pipe(int *ends);		/* the first is for reading, the second for writing */
 int times(void *buffer);
 void exit(int status);
 #endif

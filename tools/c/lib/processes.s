@@ -1,5 +1,5 @@
-/ fork(II), wait(II) and exec(II).
-	.globl	_fork, _wait, _execv, _execl
+/ fork(II), wait(II), exec(II) and pipe(II).
+	.globl	_fork, _wait, _execv, _execl, _pipe
 _fork:
 	sys	fork
 	br	1f			/ the child comes here, with its parent's number
@@ -27,9 +27,18 @@ _execl:
 _execv:
 	mov	4(sp),r0
 1:
-	mov	r0,exec.call+4
-	mov	2(sp),exec.call+2
-	sys	indir; exec.call
+	mov	r0,indir.call+4
+	mov	2(sp),indir.call+2
+	mov	$104413,indir.call	/ sys exec
+	sys	indir; indir.call
 	jmp	cerror
-	.data
-exec.call:	sys	exec; 0; 0
+
+/ pipe(ends): the first is for reading, the second for writing.
+_pipe:
+	sys	pipe
+	jes	cerror
+	mov	r0,*2(sp)
+	mov	2(sp),r0
+	mov	r1,2(r0)
+	clr	r0
+	rts	pc

@@ -18,14 +18,17 @@ _sbrk:
 	mov	r1,r0
 	rts	pc
 1:
-	mov	r0,break.call+2
-	sys	indir; break.call
+	mov	r0,indir.call+2
+	mov	r0,-(sp)
+	mov	$104421,indir.call	/ sys break
+	sys	indir; indir.call
 	bes	2f
 	mov	old,r1
-	mov	break.call+2,old
-	clc
+	mov	(sp)+,old		/ C stays as it is, clear
+	rts	pc
 2:
+	tst	(sp)+
+	sec
 	rts	pc
 	.data
-break.call:	sys	break; 0
 old:	_end

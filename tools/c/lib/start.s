@@ -1,5 +1,5 @@
 / How a program in C begins: exec(II) leaves the number of the arguments at the stack pointer, and their addresses after it.
-	.globl	start, _exit, cerror, _errno, __flush
+	.globl	start, _exit, cerror, _errno, __flush, indir.call
 start:
 	mov	sp,r0
 	mov	(r0),-(sp)
@@ -28,3 +28,4 @@ cerror:
 	.bss
 _errno:	.=.+2
 __flush:	.=.+2				/ what writes the files out
+indir.call:	.=.+10			/ a call with arguments, for `sys indir`
