@@ -98,7 +98,7 @@ class Small:
 
     def words(self):
         """Takes words of programs away, so that nothing is done in their place."""
-        own = [at for at in self.case.places if self.word(at) != NOP and at != HEADER]
+        own = [at for at in self.case.places if self.word(at) != NOP and not HEADER <= at < HEADER + 16]
         kept = set(without(own, lambda some: self.fails(self.case.with_(image=self.with_nops(set(own) - set(some))))))
         self.case = self.case.with_(image=self.with_nops(set(own) - kept))
 
@@ -110,6 +110,12 @@ class Small:
         for at in places:
             image[at : at + 2] = struct.pack("<H", NOP)
         return bytes(image)
+
+    def header(self):
+        """Gives the program of the plain disk a header without more than its size."""
+        image, size = self.case.image, int.from_bytes(self.case.image[INODE_7 + 6 : INODE_7 + 8], "little")
+        if image[HEADER : HEADER + 2] == b"\7\1" and size >= 16:
+            self.take(self.case.with_(image=put(image, HEADER, struct.pack("<8H", 0o407, size - 16, 0, 0, 0, 0, 0, 0))))
 
     def jumps(self):
         """Puts a jump and zeros where a program of the plain disk has many words that do nothing."""
@@ -146,8 +152,8 @@ class Small:
             self.take(self.case.with_(host=Host(kinds, host.same, host.limit)))
 
     def smallest(self):
-        steps = (self.plain_disk, self.lines, self.slots, self.core, self.host, self.words, self.jumps, self.end, self.disk, self.words,
-                 self.end, self.lines, self.slots)
+        steps = (self.plain_disk, self.lines, self.slots, self.core, self.host, self.words, self.header, self.jumps, self.end,
+                 self.disk, self.words, self.jumps, self.end, self.lines, self.slots)
         for step in steps:
             step()
         return self.case
