@@ -355,6 +355,8 @@ def command_case(program, case, counts):
     counts["commands"] += 1
     ran, _ = program.over(case)
     yield from ended(ran.status, ran.report)
+    if any("\udc80" <= letter <= "\udcff" for word in words for letter in word):
+        words = ["a word that is no text"]
     match words:
         case ["run", image, core, "script", "term", "log", "final"] if number(core) is not None:
             yield from run_or_missing(program, case, image, core, ran)

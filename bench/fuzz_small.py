@@ -11,7 +11,7 @@ from processes import without
 from spoil import Disk, put
 
 NOP, JUMP = 0o240, 0o137
-SECONDS, TRIES = 300, 2000  # after which no more is tried
+SECONDS, TRIES = 600, 3000  # after which no more is tried
 MOST_BLOCKS = 8  # of a program on the plain disk
 ROOT = 1
 SEEN_IN_ROWS = ("ended", "status", "terminal", "log", "final room", "final count")
