@@ -134,7 +134,7 @@ def hostile_program(rng, seed):
         image = Tree(random.Random(f"tree {seed}")).image(program, random.Random(f"disk {seed}"))
     if rng.random() < 0.15:
         image = spoil.spoiled_disk(rng, image, mild=True)
-    return Case(seed, "", image, str(rng.choice(CORES)), some_lines(rng))
+    return Case(seed, "", image, str(rng.choice(CORES if rng.random() < 0.5 else CORES[4:])), some_lines(rng))
 
 
 def script(rng, seed):

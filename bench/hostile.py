@@ -6,16 +6,15 @@ import struct
 
 from random_program import TRAP, Words
 
-SIGNAL, FORK, EXIT = 48, 2, 1
+SIGNAL, SLEEP, KILL, FORK, EXIT = 48, 35, 37, 2, 1
 BYTES = 496  # of a program in one block, with its header
 # the arguments of each call
 ARGUMENTS = {3: 2, 4: 2, 5: 2, 8: 2, 9: 2, 10: 1, 11: 2, 12: 1, 14: 3, 15: 2, 16: 2, 17: 1, 18: 2, 19: 2, 21: 3, 22: 1, 26: 3,
              28: 1, 30: 1, 31: 1, 32: 1, 37: 1, 43: 1, 44: 4, 48: 2}
-OFTEN = (2, 3, 4, 5, 6, 8, 9, 10, 11, 12, 14, 15, 17, 18, 19, 28, 31, 35, 37, 41, 42, 43, 48)
+OFTEN = (2, 2, 3, 4, 5, 6, 8, 9, 10, 11, 12, 14, 15, 17, 18, 19, 28, 31, 35, 37, 41, 42, 42, 43, 48)
 NAMES = ("/dev/tty8", "/etc/init", "/u", "/", "a", "/u/a", "core", "..", "/dev/null", "/u/bcdefghijklmnop", "")
 NUMBERS = (0, 1, 2, 3, 4, 14, 15, 16, 127, 128, 255, 256, 0o777, 0o7777, 0o40755, 0o77777, 0o100000, 0o177776, 0o177777)
 CLOSE_TO = (-2, -1, 0, 1, 2)
-PASS_OVER = "pass over"
 # instructions with a place for a source and a destination, for a destination, and with none
 TWO = (0o010000, 0o110000, 0o020000, 0o030000, 0o040000, 0o050000, 0o060000, 0o160000, 0o120000, 0o150000)
 ONE = (0o005000, 0o105000, 0o005100, 0o005200, 0o105200, 0o005300, 0o005400, 0o005500, 0o005600, 0o005700, 0o006000, 0o006100,
@@ -58,7 +57,7 @@ class Hostile:
         for name in self.names:
             w.label("=" + name)
             w.data(name.encode() + b"\0")
-        caught = [sig for sig in (12, 11, 10, 4, 13, 2, 5) if rng.random() < 0.8]
+        caught = [sig for sig in (12, 11, 10, 4, 13, 2, 5, 6, 7) if rng.random() < 0.9]
         for sig in caught:
             w.label(f"handler {sig}")
             w.put(0o010046, TRAP | SIGNAL, sig, f"handler {sig}", 0o012600)      # MOV R0,-(SP); signal; MOV (SP)+,R0
@@ -67,7 +66,8 @@ class Hostile:
             w.put(0o000002)                                          # RTI
         w.label("start")
         for sig in caught:
-            w.put(TRAP | SIGNAL, sig, f"handler {sig}" if rng.random() < 0.9 else 1)
+            is_ignored = rng.random() < (0.01 if sig in (10, 11) else 0.1)       # those two come again where they are ignored
+            w.put(TRAP | SIGNAL, sig, 1 if is_ignored else f"handler {sig}")
 
     def sets_register(self):
         self.w.put(0o012700 | self.rng.choice((0, 0, 0, 1, 2, 3, 4, 5, 6, 6)), self.value())     # MOV #value,Rn
@@ -76,7 +76,9 @@ class Hostile:
         number = self.rng.choice(OFTEN) if self.rng.random() < 0.7 else self.rng.randrange(64)
         if number == EXIT and self.rng.random() < 0.9:
             return
-        if self.rng.random() < 0.7:
+        if number in (SLEEP, KILL) and self.rng.random() < 0.8:
+            self.w.put(0o012700, self.rng.choice((0, 0, 1, 2, 3, 0o177777)))     # a short sleep, or one of the first processes
+        elif self.rng.random() < 0.7:
             self.w.put(0o012700, self.value())                       # MOV #value,R0
         self.w.put(TRAP | number, *(self.value() for _ in range(ARGUMENTS.get(number, 0))))
         if number == FORK:
@@ -131,7 +133,7 @@ class Hostile:
                             (self.call, self.instruction, self.instruction), (self.instruction,),
                             (self.instruction, self.random_word), (self.random_word,)))
         self.fills(*kinds)
-        self.w.put(*rng.choice(((0o000777,), (TRAP | EXIT,), (0o000137, "start"))))
+        self.w.put(*rng.choice(((0o000777,), (TRAP | EXIT,), (0o000137, "start"), (0o000137, "start"))))
         return self.w.bytes(), self.bss
 
 
