@@ -16,21 +16,22 @@ Each case comes from its number, the seed, and from nothing else. The kinds are
              ports, files with a limit of bytes
     command  words of commands, good and bad
 
-Without `--seed` cases are tried for so many hours (1), or `--count` of them, from `--first` on (by the clock where it isn't given). The program runs with limits of time
-and memory; every thousandth seed runs under valgrind too. Compared with the reference are the status, the report, the bytes of the terminal, the log line by line, what
-the final disk stands for, the bytes of the swap area, and for each third seed all that `memory` leaves. A refused command must
-leave its files as they were, and a failed one fronts of what it would have written. Of a run that the reference can't follow,
-as one of very many slots, all that comes before its first slot is judged.
+Without `--seed` cases are tried for so many hours (1), or `--count` of them, from `--first` on (by the clock where it isn't
+given). The program runs with limits of time and memory; every thousandth seed runs under valgrind too. Compared with the
+reference are the status, the report, the bytes of the terminal, the log line by line, what the final disk stands for, the bytes
+of the swap area, and for each third seed all that `memory` leaves. A refused command must leave its files as they were, and a
+failed one fronts of what it would have written. Of a run that the reference can't follow, as one of very many slots, all that
+comes before its first slot is judged.
 
-A case that fails is made small: bytes of the disk, lines and slots of the script, words of the program and files of the host are
-taken away as long as it fails. What is left is kept in FOLDER (fuzz.kept) as a row file, rows/fuzz/seed_N, with what the
+A case that fails is made small: bytes of the disk, lines and slots of the script, words of the program and files of the host
+are taken away as long as it fails. What is left is kept in FOLDER (fuzz.kept) as a row file, rows/fuzz/seed_N, with what the
 reference comes to; docs/rows.md has its language. `--seed` does this for one seed. The exit status is 1 where a case failed.
 
 `--check` tries COUNT spoiled images on `v6 check`, and as many spoiled scripts on `v6 run`, and judges the first fault that is
 named, and the counts of what is accepted.
 
-The reference is the Python module `abstract_unix`; the environment variable ABSTRACT_UNIX names the folder in which it is. It needs
-Linux, and valgrind for what runs under it.
+The reference is the Python module `abstract_unix`; the environment variable ABSTRACT_UNIX names the folder in which it is. Of
+its calls and lines of scripts those of a later kernel are left out. It needs Linux, and valgrind for what runs under it.
 """
 import argparse
 import collections
@@ -64,6 +65,14 @@ def tell(case, found):
         said(f"{what}: {line[:600]}")
 
 
+def sizes(case):
+    return f"{len(case.image)} bytes of disk, {len(case.lines)} lines of the script"
+
+
+def listed(failed):
+    return f"{len(failed)} failed" + (f": {failed}" if failed else "")
+
+
 # what is kept
 
 
@@ -92,7 +101,7 @@ def make_small(case, found, program, folder):
         return
     least = small.smallest()
     found = differences(program, least, collections.Counter(), small.valgrind)
-    said(f"seed {case.seed}: made small in {small.tries} tries: {len(least.lines)} lines of the script, {len(least.image)} bytes of disk")
+    said(f"seed {case.seed}: made small in {small.tries} tries: {sizes(least)}")
     keep(least, found, program, folder)
 
 
@@ -119,7 +128,7 @@ def fuzz(options, program):
             said(f"{seed - first} cases, {len(failed)} failed, up to seed {seed - 1}")
     for name, value in sorted(counts.items()):
         said(f"{value:9}  {name}")
-    said(f"{seed - first} cases, seeds {first} to {seed - 1}, {len(failed)} failed" + (f": {failed}" if failed else ""))
+    said(f"{seed - first} cases, seeds {first} to {seed - 1}, {listed(failed)}")
     return bool(failed)
 
 
@@ -127,7 +136,7 @@ def one(options, program):
     """The case of one seed; whether it failed."""
     case = case_of(options.seed, options.kind)
     said(f"seed {case.seed}, {case.kind}{' of ' + case.sort if case.sort else ''}: v6 {' '.join(case.words())[:200]}")
-    said(f"{len(case.image)} bytes of disk, {len(case.lines)} lines of the script" + (f"; {case.host.said()}" if case.host else ""))
+    said(sizes(case))
     found = differences(program, case, collections.Counter(), options.seed % UNDER_VALGRIND == 0)
     if not found:
         said("it doesn't fail")
@@ -176,7 +185,7 @@ def check(options, program):
                 keep(case.with_(command=words, image=case.image if what == "image" else read(HI)), found, program, options.keep)
     for name, value in sorted(counts.items()):
         said(f"{value:9}  {name}")
-    said(f"{options.check} images and {options.check} scripts, seeds from {first} on, {len(failed)} failed" + (f": {failed}" if failed else ""))
+    said(f"{options.check} images and {options.check} scripts, seeds from {first} on, {listed(failed)}")
     return bool(failed)
 
 

@@ -147,7 +147,8 @@ def script(rng, seed):
         lines = spoil.spoiled_script(rng, base)
     else:
         line = rng.choice((b"tick", b"run 0", b"", b"; long", b"byte 015", b"switch 000001"))
-        lines = [line] * min(rng.choice((5000, 20000, 1048576 // (len(line) + 1) + rng.randrange(2))), 20000 if line else 1048577)
+        count = rng.choice((5000, 20000, 1048576 // (len(line) + 1) + rng.randrange(2)))
+        lines = [line] * min(count, 20000 if line else 1048577)
     return case.with_(lines=lines, last_end=rng.choice((b"\n", b"\n", b"", b"\r\n")))
 
 
@@ -164,7 +165,8 @@ def command(rng, seed):
     commands = (("check", "image"), ("make", str(rng.randrange(200)), "final"), ("demo", str(rng.randrange(3))), RUN, MEMORY,
                 ("make", "CORE", "final"))
     chosen = list(rng.choice(commands))
-    cores = ("63", "64", "3968", "3969", "0064", "000001200", "0000001200", "1200 ", "", "-1", "+64", "12x", "999999999", "1e3", "64\n")
+    cores = ("63", "64", "3968", "3969", "0064", "000001200", "0000001200", "1200 ", "", "-1", "+64", "12x", "999999999",
+             "1e3", "64\n")
     kind = rng.random()
     if kind < 0.3:
         odd = ("", "run", "check", "image", "RUN", "run8", "--help", "x" * 5000, "\udcff", "audit")
@@ -185,7 +187,8 @@ def odd(rng, seed):
     return case.with_(image=image)
 
 
-MAKERS = {"disk": disk, "words": words, "hostile": hostile_program, "script": script, "host": host, "command": command, "odd": odd}
+MAKERS = {"disk": disk, "words": words, "hostile": hostile_program, "script": script, "host": host, "command": command,
+          "odd": odd}
 
 
 def case_of(seed, kind=None):

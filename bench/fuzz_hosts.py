@@ -1,7 +1,7 @@
 """Hosts that fail: what stands under a name in place of a plain file, and what a command may come to then.
 
-A host is what stands under each name, the port that shares another's file, and a limit for the bytes of a file. Of a run over it
-several answers may be right: a fault shows where bytes are given out, 4,096 at a time.
+A host is what stands under each name, the port that shares another's file, and a limit for the bytes of a file. Of a run over
+it several answers may be right: a fault shows where bytes are given out, 4,096 at a time.
 """
 import os
 import stat
@@ -192,8 +192,8 @@ def input_bytes(host, name, data):
 
 
 def write_faults(host, outputs):
-    """The ports of which one may be at fault, by the bytes that a whole run writes to each, and whether a fault must come. The ports
-    stand in the order in which they are opened."""
+    """The ports of which one may be at fault, by the bytes that a whole run writes to each, and whether a fault must come. The
+    ports stand in the order in which they are opened."""
     for name in outputs:
         if host.kinds.get(name) in FAULT:
             return [name], True

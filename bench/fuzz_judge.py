@@ -12,7 +12,7 @@ import sys
 import tempfile
 
 from file_calls import DISK_BYTES, SWAP_AT, first_difference, line_difference, node_differences
-from fuzz_hosts import SENTINEL, Host, Stand, input_bytes, write_faults
+from fuzz_hosts import FAULT, SENTINEL, Host, Stand, input_bytes, write_faults
 
 USAGE = (b"usage: v6 run IMAGE CORE SCRIPT TERM LOG FINAL, memory IMAGE CORE SCRIPT FINAL, check IMAGE, make N FINAL, demo N\n")
 PANICS = {"swap": b"panic: out of swap space\n", "zombie": b"panic: out of swap\n", "text": b"panic: out of text\n"}
@@ -138,8 +138,9 @@ class Program:
             os.close(reading)
         more = {"user": NOBODY, "group": NOBODY, "extra_groups": []} if os.geteuid() == 0 and host.kinds else {}
         try:
-            done = subprocess.run([*under, *self.command, *words], cwd=folder, stdout=out, stderr=subprocess.PIPE, timeout=10 * SECONDS,
-                                  preexec_fn=None if under else limits(host.limit), stdin=subprocess.DEVNULL, **more)
+            done = subprocess.run([*under, *self.command, *words], cwd=folder, stdin=subprocess.DEVNULL, stdout=out,
+                                  stderr=subprocess.PIPE, timeout=10 * SECONDS,
+                                  preexec_fn=None if under else limits(host.limit), **more)
         except subprocess.TimeoutExpired:
             return "no end", b""
         finally:
@@ -159,8 +160,7 @@ class Program:
             finally:
                 stand.end()
             files = {name: stand.bytes(name) for name in OUTPUTS}
-            hurt = [name for name in OUTPUTS if host.kinds.get(name) in ("missing", "folder", "locked", "below a file", "round")
-                    and not stand.is_there_still(name)]
+            hurt = [name for name in OUTPUTS if host.kinds.get(name) in FAULT and not stand.is_there_still(name)]
             return Ran(status, report, files), hurt
 
 
@@ -250,8 +250,8 @@ def memory_differences(program, case, want):
 
 
 def by_itself(program, case):
-    """What can be said of a run that the reference doesn't follow: a command that comes to its outputs, of which one can't be opened,
-    says so; and everything before that is judged."""
+    """What can be said of a run that the reference doesn't follow: a command that comes to its outputs, of which one can't be
+    opened, says so; and everything before that is judged."""
     came, _ = refused(case.image, number(case.core), case.script())
     host = Host({"term": "missing"})
     ran, _ = program.over(case, host)
@@ -338,9 +338,9 @@ def fault_differences(case, ran, plain, outputs):
         return
     for name in outputs:
         data, whole = ran.files[name], plain.files[name] or b""
-        if host.kinds.get(name) in ("full", "null", "missing", "folder", "locked", "below a file", "round"):
+        if host.kinds.get(name) in {"full", "null", *FAULT}:
             continue
-        is_later = must and may[0] in outputs[: outputs.index(name)] and host.kinds.get(may[0]) not in ("full", "closed pipe", None)
+        is_later = must and host.kinds.get(may[0]) in FAULT and may[0] in outputs[: outputs.index(name)]
         if is_later and data != {"there": SENTINEL, "pipe": b"", "closed pipe": b""}.get(host.kinds.get(name)):
             yield f"written: {name} is another, where {may[0]} could not be opened"
         elif not is_later and (data is None or not whole.startswith(data)):

@@ -37,7 +37,7 @@ def texts(data):
 
 
 def code(words, at):
-    """Lines of a program, each instruction with its source; the words of a call's arguments stand with it, and many zeros in a line."""
+    """Lines of a program, each instruction with its source; a call's arguments stand with it, and many zeros in one line."""
     lines = list(disassembler.lines(words, at))
     while lines:
         zeros = len(list(itertools.takewhile(lambda line: list(line[2]) == [0], lines[:IN_LINE])))
@@ -106,7 +106,8 @@ def wanted_lines(case, found):
     lines += [f"report {want.report.decode().rstrip()}"] if want.report else []
     if want.run is None or case.command[0] != "run":
         return lines
-    lines += ["term", *texts(bytes(want.run.u.lines[0].shown)), "log", *texts("".join(f"{line}\n" for line in want.run.log).encode())]
+    log = "".join(f"{line}\n" for line in want.run.log).encode()
+    lines += ["term", *texts(bytes(want.run.u.lines[0].shown)), "log", *texts(log)]
     store = want.run.u.stores[0]
     left = [line for name in found for line in left_lines(store, re.match(r"final inode (\d+), ", name))]
     return [*lines, *(["left", *dict.fromkeys(left)] if left else []), f"check ok {len(store.nodes)} nodes {store.room} free"]

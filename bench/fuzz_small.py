@@ -79,7 +79,9 @@ class Small:
         base = read(HI)
         image = self.case.image
         if len(image) != len(base):
-            self.take(self.case.with_(image=image[: len(base)].ljust(len(base), b"\0"))) or self.take(self.case.with_(image=cut(image)))
+            for other in (image[: len(base)].ljust(len(base), b"\0"), cut(image)):
+                if self.take(self.case.with_(image=other)):
+                    break
         for size in (512, 32, 2):
             image = self.case.image
             plain = base[: len(image)].ljust(len(image), b"\0")
@@ -130,6 +132,22 @@ class Small:
                 self.take(self.case.with_(image=put(self.case.image, places[start], words)))
             start = end + 1
 
+    def squeeze(self):
+        """Takes words out of the plain disk's program, so that those behind them come up."""
+        words = self.program_words()
+        kept = without(words, lambda some: bool(some) and self.fails(self.case.with_(image=self.with_words(some))))
+        if kept != words:
+            self.case = self.case.with_(image=self.with_words(kept), places=[])
+            self.case.places = program_places(self.case.image)
+
+    def program_words(self):
+        is_plain = self.case.image[HEADER : HEADER + 2] == b"\7\1"
+        return [self.word(at) for at in program_places(self.case.image)[8:]] if is_plain else []
+
+    def with_words(self, words):
+        """The plain disk with other words in its program."""
+        return shorter(put(self.case.image, HEADER + 16, struct.pack(f"<{len(words)}H", *words)), 16 + 2 * len(words))
+
     def end(self):
         """Makes the program of the plain disk shorter, from its end on."""
         image = self.case.image
@@ -152,8 +170,8 @@ class Small:
             self.take(self.case.with_(host=Host(kinds, host.same, host.limit)))
 
     def smallest(self):
-        steps = (self.plain_disk, self.lines, self.slots, self.core, self.host, self.words, self.header, self.jumps, self.end,
-                 self.disk, self.words, self.jumps, self.end, self.lines, self.slots)
+        steps = (self.plain_disk, self.lines, self.slots, self.core, self.host, self.words, self.header, self.jumps,
+                 self.squeeze, self.end, self.disk, self.words, self.squeeze, self.end, self.lines, self.slots)
         for step in steps:
             step()
         return self.case
@@ -190,13 +208,16 @@ def init_bytes(image):
     if not number or number >= 1000:
         return None
     blocks, size = blocks_of(disk, number)
-    return b"".join(disk.bytes_at(512 * block, 512) if block else bytes(512) for block in blocks)[:size] if size <= 4096 else None
+    if size > 512 * MOST_BLOCKS:
+        return None
+    return b"".join(disk.bytes_at(512 * block, 512) if block else bytes(512) for block in blocks)[:size]
 
 
 def plain_disk(program, room):
     """The disk of the example with a program of at most eight blocks in the place of its own, and some free blocks."""
     count = -(-len(program) // 512)
-    image = put(read(HI), INODE_7 + 6, struct.pack("<9H", len(program), *(66 + n if n < count else 0 for n in range(MOST_BLOCKS))))
+    addresses = [66 + n if n < count else 0 for n in range(MOST_BLOCKS)]
+    image = put(read(HI), INODE_7 + 6, struct.pack("<9H", len(program), *addresses))
     image = put(image, HEADER, program.ljust(512 * count, b"\0"))
     first = 66 + count
     return put(image, 516, struct.pack(f"<{room + 1}H", room, *range(first + room - 1, first - 1, -1))) if room else image
@@ -209,8 +230,9 @@ def program_places(image):
 
 
 def shorter(image, size):
-    """The plain disk whose program has this size, all of it text."""
+    """The plain disk whose program has this size, all of it text; what was behind that is zeros."""
+    old = int.from_bytes(image[INODE_7 + 6 : INODE_7 + 8], "little")
     image = put(image, INODE_7 + 6, struct.pack("<H", size))
     image = put(image, HEADER + 2, struct.pack("<2H", size - 16, 0))
-    old = int.from_bytes(image[INODE_7 + 6 : INODE_7 + 8], "little")
-    return put(image, HEADER + size, bytes(max(min(len(image) - HEADER, MOST_BLOCKS * 512) - max(size, old), 0)))
+    end = min(HEADER + min(old, MOST_BLOCKS * 512), len(image))
+    return put(image, HEADER + size, bytes(end - HEADER - size)) if end > HEADER + size else image

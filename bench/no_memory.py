@@ -3,12 +3,12 @@
 
     bench/no_memory.py [COMMAND]
 
-COMMAND is a built v6 (bin/v6). It needs cc and a program that is linked dynamically: a small library stands before malloc, calloc and
-realloc, counts their calls, and refuses the one of a number, or all from that number on. For each command of v6 all numbers
-are tried, both ways, over files that are there before and over names where nothing is. The answer must be status 8 and the
-line `no memory`, or no line where the words themselves found none; and no file may have changed or come to be, so that
-nothing was run. Then the same commands run in address spaces of many sizes, where the system itself refuses memory: each is
-done, with the files of a run in ample memory, or there is no memory as before.
+COMMAND is a built v6 (bin/v6). It needs cc and a program that is linked dynamically: a small library stands before malloc,
+calloc and realloc, counts their calls, and refuses the one of a number, or all from that number on. For each command of v6 all
+numbers are tried, both ways, over files that are there before and over names where nothing is. The answer must be status 8 and
+the line `no memory`, or no line where the words themselves found none; and no file may have changed or come to be. Then the
+same commands run in address spaces of many sizes, where the system itself refuses memory: each is done, with the files of a
+run in ample memory, or there is no memory as before.
 
 The exit status is 1 where anything else was answered.
 """
@@ -146,7 +146,8 @@ class Tries:
             for last in (number, 1 << 40):
                 for are_there in (False, True):
                     came, _ = self.refusing(words, number, last, are_there)
-                    self.judge(f"{name}, refused {number}{'' if last == number else ' and later'}", came, are_there, number <= of_words)
+                    what = f"{name}, refused {number}{'' if last == number else ' and later'}"
+                    self.judge(what, came, are_there, number <= of_words)
         print(f"{name}: {count} pieces of memory, of which {min(of_words, count)} are of the words", flush=True)
 
     def in_spaces(self, name, words):

@@ -14,7 +14,8 @@ INODE_FIELDS = {"mode": (0, 2), "links": (2, 1), "owner": (3, 1), "group": (4, 1
                 **{f"address {n}": (8 + 2 * n, 2) for n in range(8)}, "accessed": (24, 4), "changed": (28, 4)}
 # what doesn't make a disk one that is refused
 MILD_FIELDS = ("mode", "links", "owner", "group", "size", "low size", "accessed", "changed")
-MODES = (0o100644, 0o100755, 0o107777, 0o104755, 0o101755, 0o100000, 1, 0o40755, 0o140755, 0o140000, 0o120666, 0o160666, 0o110755)
+MODES = (0o100644, 0o100755, 0o107777, 0o104755, 0o101755, 0o100000, 1, 0o40755, 0o140755, 0o140000, 0o120666, 0o160666,
+         0o110755)
 SIZES = (0, 1, 15, 16, 17, 48, 49, 511, 512, 513, 4095, 4096, 4097, 65519, 65520, 65535)
 RECORD = {"links": (0, 1, 2, 126, 127, 128, 255), "size": (0, 0, 1, 255)}
 
@@ -133,7 +134,8 @@ class Disk:
             values = (0, 1, 16 * self.isize, 16 * self.isize + 1, 65535, self.rng.choice(numbers))
             self.put_word(place, self.rng.choice(values))
         if self.odd(0.5):
-            names = (b"", b".", b"..", b"a", b"init", b"core", b"a/b", b"\xff" * 14, self.bytes_at(place + 2, 14), self.rng.randbytes(14))
+            names = (b"", b".", b"..", b"a", b"init", b"core", b"a/b", b"\xff" * 14, self.bytes_at(place + 2, 14),
+                     self.rng.randbytes(14))
             self.put(place + 2, self.rng.choice(names).ljust(14, b"\0"))
 
     def table_entry(self):

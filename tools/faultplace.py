@@ -7,8 +7,9 @@ SUPER = 512  # where the super-block begins
 FREE, SPARES = SUPER + 4, SUPER + 206  # its lists of free blocks and of free inodes: a count, and the numbers
 ADDRESSES = 8  # where an inode has its addresses
 KINDS = (
-    (r"too long", "too_long"), (r"bad super-block", "bad_super_block"), (r"file system of (\d+) blocks leaves no swap", "no_swap"),
-    (r"free count in block (\d+)", "free_count"), (r"free block (\d+) outside", "free_outside"),
+    (r"too long", "too_long"), (r"bad super-block", "bad_super_block"),
+    (r"file system of (\d+) blocks leaves no swap", "no_swap"), (r"free count in block (\d+)", "free_count"),
+    (r"free block (\d+) outside", "free_outside"),
     (r"inode (\d+) has block (\d+) outside", "inode_outside"), (r"block (\d+) twice", "twice"), (r"no root", "no_root"))
 
 
@@ -40,8 +41,8 @@ class FaultPlace:
         if not isize:
             yield f"the blocks of inodes, {at_byte(SUPER)}, are 0"
         elif isize + 2 > fsize:
-            yield (f"the blocks of inodes, {at_byte(SUPER)}, are {isize}, and the file system, {at_byte(SUPER + 2)}, ends with block "
-                   f"{fsize - 1}")
+            yield (f"the blocks of inodes, {at_byte(SUPER)}, are {isize}, and the file system, {at_byte(SUPER + 2)}, ends with "
+                   f"block {fsize - 1}")
         for what, number, at in (("blocks", count, FREE), ("inodes", spares, SPARES)):
             if number > GROUP:
                 yield f"the count of free {what}, {at_byte(at)}, is {number}, and at most {GROUP}"

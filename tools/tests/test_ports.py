@@ -41,7 +41,8 @@ class Ports(Case):
         """The status of a command, and its report."""
         command = shlex.split(v6 or V6)
         command[0] = os.path.abspath(command[0]) if os.sep in command[0] else command[0]
-        done = subprocess.run([*command, *words], cwd=self.folder, stderr=subprocess.PIPE, **{"stdout": subprocess.PIPE, **more})
+        more = {"stdout": subprocess.PIPE, **more}
+        done = subprocess.run([*command, *words], cwd=self.folder, stderr=subprocess.PIPE, **more)
         self.assertEqual(done.stderr, b"")
         return done.returncode, None if done.stdout is None else done.stdout.decode()
 
@@ -68,7 +69,8 @@ class Ports(Case):
         self.untouched(*OUTPUTS)
 
     def write_fault(self, command, place, path, **more):
-        """A file that can't be opened for writing: what is opened before it has been emptied, what comes behind it is as it was."""
+        """A file that can't be opened for writing: what is opened before it has been emptied, what comes behind it is as it
+        was."""
         self.assertEqual(self.v6(self.named(command, place, path), **more), (WRITE_FAULT, f"write fault: {place.lower()}\n"))
         for name in OUTPUTS:
             is_before = name in command and command.index(name) < command.index(place)
