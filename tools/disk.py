@@ -8,6 +8,7 @@ import tempfile
 
 sys.path.insert(0, os.path.dirname(os.path.abspath(__file__)))
 from archives import FORMS, Member
+from faultplace import FaultPlace
 from files import STREAMS, guarded, place_of, put_out, read_bytes, replace, same_file, uninterrupted
 from program import V6, ProgramError, add_version, call
 from repair import Repair, grow
@@ -458,12 +459,18 @@ def grow_disk(options):
 
 
 def check_disk(options):
-    """Tells all faults; the status is 1 where there is any."""
+    """Tells all faults, and where the one lies for which v6 refuses the disk; the status is 1 where there is any."""
     image = read_bytes(options.disk, MOST)
-    lines = Survey(image).report()
+    survey = Survey(image)
+    lines = survey.report()
     for text in lines:
         print(f"{options.disk}: {text}")
-    return int(bool(lines))
+    status, said = call(options.v6, "check", "/dev/stdin", data=image)
+    if status:
+        print(f"{options.disk}: v6 refuses it: {said}")
+        for text in FaultPlace(survey).lines(said.removeprefix("image: ")):
+            print(f"{options.disk}: {text}")
+    return int(bool(lines or status))
 
 
 def repair_disk(options):

@@ -12,8 +12,8 @@ from survey import Survey
 from volume import Volume
 
 
-class Damaged(Disks):
-    """Disks with faults; what `check` tells is by hand."""
+class Hurt(Disks):
+    """A disk with faults."""
 
     def hurt(self, *changes):
         """A disk of three files of two blocks, with words changed: its data begin at block 3 with the root's, and the files
@@ -30,6 +30,10 @@ class Damaged(Disks):
 
     def address(self, inode, n):
         return 1024 + 32 * (inode - 1) + 8 + 2 * n
+
+
+class Damaged(Hurt):
+    """Disks with faults; what `check` tells is by hand."""
 
     def test_good(self):
         self.told(self.hurt())
@@ -50,7 +54,9 @@ class Damaged(Disks):
     def test_all_faults(self):
         bad = self.hurt((self.address(2, 1), 21), (self.address(3, 0), 8), (512 + 6 + 2, 4), (1024 + 32 * 3 + 2, 7))
         self.told(bad, "/a: block 21 outside", "block 4 twice: /a and the free list", "block 8 twice: /b and /c",
-                  "/c: 7 links, and 1 entries", "3 blocks are neither free nor of a file, from 5 on")
+                  "/c: 7 links, and 1 entries", "3 blocks are neither free nor of a file, from 5 on",
+                  "v6 refuses it: image: inode 2 has block 21 outside",
+                  "21 is address 1 of inode 2, at byte 1066 in block 2: /a", "data blocks are 3 to 19")
 
     def test_names(self):
         root = 3 * 512
@@ -90,7 +96,8 @@ class Damaged(Disks):
     def test_no_root(self):
         bad = self.hurt((1024, 0o100644))
         self.told(bad, "no root", *(f"inode {n} has no name: a file of {size} bytes" for n,
-                                    size in ((2, 1024), (3, 1024), (4, 1024))))
+                                    size in ((2, 1024), (3, 1024), (4, 1024))),
+                  "v6 refuses it: image: no root", "inode 1, at byte 1024 in block 2, has mode 100644, and is no directory")
         self.assertEqual(self.disk("repair", bad, self.path("good"))[0], 0)
         self.assertEqual(self.done("cat", self.path("good"), "/lost/4"), "c" * 1024)
 
@@ -106,7 +113,9 @@ class Damaged(Disks):
         self.done("get", pack, "/", self.path("back"))
         self.assertEqual(len(self.done("list", pack).splitlines()), 2)
         self.refused(f"{pack}: image: file system of 4872 blocks leaves no swap", "put", pack, pack, "/b")
-        self.told(pack, "file system of 4872 blocks leaves no swap")
+        self.told(pack, "file system of 4872 blocks leaves no swap",
+                  "v6 refuses it: image: file system of 4872 blocks leaves no swap",
+                  "the file system's end, at byte 514 in block 1, is 4872, and at most 4000")
         self.done("repair", pack, self.path("good"))
         self.assertEqual(self.done("cat", self.path("good"), "/a"), "1" * 600)
 
@@ -124,10 +133,85 @@ class Damaged(Disks):
             self.done("list", "--damaged", bad)
             survey = Survey(bytes(data))
             faults = survey.lines or survey.outside or survey.twice or "no root" in survey.report()
-            self.assertEqual((bool(faults), self.disk("check", bad)[0] >= bool(faults)), (v6("check", bad)[0] != 0, True))
+            checked, told = self.disk("check", bad)[:2]
+            self.assertEqual((bool(faults), checked >= bool(faults)), (v6("check", bad)[0] != 0, True))
+            if faults:
+                named = f"{bad}: v6 refuses it: {v6('check', bad)[1]}"
+                self.assertRegex(told.partition(named)[2], f"^{bad}: .* (at byte|from byte) ")
             status, _, error = self.disk("repair", "--replace", bad, good)
             self.assertEqual((status, error), (0, ""), count)
             self.told(good)
+
+
+class Places(Hurt):
+    """Where the fault lies that `v6 check` names: by hand, from the layout of docs/manual/disk-image.md."""
+
+    def where(self, bad, fault, *lines):
+        """The last lines that are told, behind the fault."""
+        self.assertEqual(v6("check", bad)[1], f"image: {fault}\n")
+        told = self.disk("check", bad)[1].partition("v6 refuses it: ")[2]
+        self.assertEqual(told, f"image: {fault}\n" + "".join(f"{bad}: {line}\n" for line in lines))
+
+    def test_too_long(self):
+        bad = self.put("bad", read(self.hurt()).ljust(2494465, b"\0"))
+        self.where(bad, "too long", "what stands from byte 2494464 on is more than a disk has")
+
+    def test_super_block(self):
+        self.where(self.hurt((512, 0)), "bad super-block", "the blocks of inodes, at byte 512 in block 1, are 0")
+        self.where(self.hurt((512, 19)), "bad super-block",
+                   "the blocks of inodes, at byte 512 in block 1, are 19, and the file system, at byte 514 in block 1, "
+                   "ends with block 19")
+        self.where(self.hurt((516, 101), (718, 300)), "bad super-block",
+                   "the count of free blocks, at byte 516 in block 1, is 101, and at most 100",
+                   "the count of free inodes, at byte 718 in block 1, is 300, and at most 100")
+        self.where(self.hurt((514, 4001)), "file system of 4001 blocks leaves no swap",
+                   "the file system's end, at byte 514 in block 1, is 4001, and at most 4000")
+
+    def test_free_list(self):
+        """Ten blocks are free, 10 to 19; the lowest is the last number of the group, and comes first. Where block 15 is all of
+        the group, the next one begins in it."""
+        good = read(self.hurt())
+        count = struct.unpack("<H", good[516:518])[0]
+        numbers = struct.unpack(f"<{count}H", good[518 : 518 + 2 * count])
+        self.assertEqual(numbers, (0, *range(19, 9, -1)))
+        self.where(self.hurt((518 + 2 * 5, 2)), "free block 2 outside",
+                   "2 is number 5 of 11 of the free list, at byte 528 in block 1", "data blocks are 3 to 19")
+        one = (516, 1), (518, 15)
+        self.where(self.hurt(*one, (15 * 512, 101)), "free count in block 15",
+                   "the count at byte 7680 in block 15 is 101, and at most 100",
+                   "15 is number 0 of 1 of the free list, at byte 518 in block 1")
+        self.where(self.hurt(*one, (15 * 512, 2), (15 * 512 + 4, 20)), "free block 20 outside",
+                   "20 is number 1 of 2 of the free list, at byte 7684 in block 15", "data blocks are 3 to 19")
+        self.where(self.hurt(*one, (self.address(4, 1), 15), (15 * 512, 101)), "free count in block 15",
+                   "the count at byte 7680 in block 15 is 101, and at most 100",
+                   "15 is number 0 of 1 of the free list, at byte 518 in block 1",
+                   "15 is address 1 of inode 4, at byte 1130 in block 2: /c")
+
+    def test_inodes(self):
+        self.where(self.hurt((self.address(3, 0), 8)), "block 8 twice",
+                   "8 is address 0 of inode 3, at byte 1096 in block 2: /b",
+                   "8 is address 0 of inode 4, at byte 1128 in block 2: /c")
+        self.where(self.hurt((self.address(3, 0), 12)), "block 12 twice",
+                   "12 is address 0 of inode 3, at byte 1096 in block 2: /b",
+                   "12 is number 8 of 11 of the free list, at byte 534 in block 1")
+        root = 3 * 512
+        self.where(self.hurt((self.address(3, 1), 65535), (root + 3 * 16, 0)), "inode 3 has block 65535 outside",
+                   "65535 is address 1 of inode 3, at byte 1098 in block 2: inode 3, which has no name",
+                   "data blocks are 3 to 19")
+
+    def test_indirect_blocks(self):
+        """/a is made a large file: its first address, and its eighth, become those of blocks that name others."""
+        large = (1024 + 32, 0o110644), (self.address(2, 1), 0)
+        self.where(self.hurt(*large, (4 * 512, 5), (4 * 512 + 2 * 7, 20)), "inode 2 has block 20 outside",
+                   "20 is entry 7 of the indirect block 4 of inode 2, at byte 2062 in block 4: /a",
+                   "data blocks are 3 to 19")
+        double = *large, (self.address(2, 0), 0), (self.address(2, 7), 4), *((4 * 512 + 2 * n, 0) for n in range(256))
+        tables = (4 * 512, 5), *((5 * 512 + 2 * n, 0) for n in range(256))
+        self.where(self.hurt(*double, *tables, (5 * 512 + 2, 1)), "inode 2 has block 1 outside",
+                   "1 is entry 1 of the indirect block 5 of inode 2, at byte 2562 in block 5: /a", "data blocks are 3 to 19")
+        self.where(self.hurt(*double, (4 * 512 + 6, 1)), "inode 2 has block 1 outside",
+                   "1 is entry 3 of the double indirect block 4 of inode 2, at byte 2054 in block 4: /a",
+                   "data blocks are 3 to 19")
 
 
 if __name__ == "__main__":

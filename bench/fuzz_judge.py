@@ -1,0 +1,427 @@
+"""Judges a case of the fuzzer: what the built program comes to, beside what the reference comes to."""
+import collections
+import functools
+import json
+import os
+import re
+import resource
+import shutil
+import signal
+import subprocess
+import sys
+import tempfile
+
+from file_calls import DISK_BYTES, SWAP_AT, first_difference, line_difference, node_differences
+from fuzz_hosts import FAULT, SENTINEL, Host, Stand, input_bytes, write_faults
+
+USAGE = (b"usage: v6 run IMAGE CORE SCRIPT TERM LOG FINAL, memory IMAGE CORE SCRIPT FINAL, check IMAGE, make N FINAL, demo N\n")
+PANICS = {"swap": b"panic: out of swap space\n", "zombie": b"panic: out of swap\n", "text": b"panic: out of text\n"}
+OUTPUTS = ("term", "log", "final")
+DONE, USAGE_STATUS, READ_FAULT, WRITE_FAULT, CORE_SIZE, SCRIPT_FAULT, IMAGE_FAULT, PANIC = range(8)
+MOST_SLOTS = 20_000  # that the reference follows
+MOST_EVENTS = 30_000
+SECONDS, BYTES, FILE_BYTES = 60, 2**28, 2**28  # of processor time, of memory, of a file, that the program may take
+REFERENCE_SECONDS = 60
+NOBODY = 65534
+VALGRIND = ("valgrind", "-q", "--error-exitcode=99")
+LATER_CALLS = (21, 22)  # mount and umount
+LATER_LINES = re.compile(rb"(?m)^(disk|pace|line|hangup)(?= )")  # of scripts, which the reference has and v6 hasn't
+
+Outcome = collections.namedtuple("Outcome", "status report run")
+Ran = collections.namedtuple("Ran", "status report files")
+
+
+class TooSlow(Exception):
+    """The reference can't follow."""
+
+
+# the reference
+
+
+@functools.cache
+def modules():
+    """The modules of the reference, which is of a later kernel: the calls that this one hasn't are taken away."""
+    sys.path.insert(0, os.environ["ABSTRACT_UNIX"])
+    from abstract_unix import disk, generate, runs, script, unix
+    for number in LATER_CALLS:
+        unix.CALLS.pop(number, None)
+    return disk, generate, runs, script
+
+
+def too_slow(*_):
+    raise TooSlow
+
+
+def in_time(body):
+    """What a body comes to, where it takes no longer than the reference may."""
+    before = signal.signal(signal.SIGALRM, too_slow)
+    signal.setitimer(signal.ITIMER_REAL, REFERENCE_SECONDS)
+    try:
+        return body()
+    finally:
+        signal.setitimer(signal.ITIMER_REAL, 0)
+        signal.signal(signal.SIGALRM, before)
+
+
+def events_of(script):
+    """The events of a script, or the line of its fault. A line of a later kernel is none."""
+    reader = modules()[3]
+    try:
+        return reader.read(LATER_LINES.sub(lambda found: b"X" * len(found[0]), script)), None
+    except reader.BadScript as fault:
+        return None, fault.text.encode() + b"\n"
+
+
+def slots_of(events):
+    return sum(event[1] for event in events if event[0] == "run")
+
+
+def refused(image, core, script):
+    """The status and the report of what is refused, or the events of the script."""
+    if not 64 <= core <= 3968:
+        return Outcome(CORE_SIZE, b"core size\n", None), None
+    if image is None:
+        return Outcome(READ_FAULT, b"read fault: image\n", None), None
+    fault = modules()[0].check(image)
+    if fault:
+        return Outcome(IMAGE_FAULT, fault.encode() + b"\n", None), None
+    if script is None:
+        return Outcome(READ_FAULT, b"read fault: script\n", None), None
+    events, fault = events_of(script)
+    return (Outcome(SCRIPT_FAULT, fault, None) if fault else None), events
+
+
+def reference_run(image, core, script):
+    """What a run comes to by the reference."""
+    came, events = refused(image, core, script)
+    if came:
+        return came
+    if slots_of(events) > MOST_SLOTS or len(events) > MOST_EVENTS:
+        raise TooSlow
+    run = in_time(lambda: modules()[2].Run(image, core, events))
+    return Outcome(PANIC if run.panic else DONE, PANICS.get(run.panic, b""), run)
+
+
+def number(word):
+    return int(word) if re.fullmatch("[0-9]{1,9}", word) else None
+
+
+# the program
+
+
+def limits(case_limit):
+    """What the program may take, set where it starts."""
+    def set_all():
+        resource.setrlimit(resource.RLIMIT_CPU, (SECONDS, SECONDS))
+        resource.setrlimit(resource.RLIMIT_AS, (BYTES, BYTES))
+        resource.setrlimit(resource.RLIMIT_CORE, (0, 0))
+        most = FILE_BYTES if case_limit is None else case_limit
+        resource.setrlimit(resource.RLIMIT_FSIZE, (most, most))
+        signal.signal(signal.SIGXFSZ, signal.SIG_IGN)
+    return set_all
+
+
+class Program:
+    """The built program, called in a folder."""
+
+    def __init__(self, command):
+        self.command = [os.path.abspath(command[0]) if os.sep in command[0] else command[0], *command[1:]]
+
+    def call(self, words, folder, host=Host(), under=()):
+        """A status, or what ended the program, and its report."""
+        out = subprocess.PIPE
+        kind = host.kinds.get("report")
+        if kind == "full":
+            out = os.open("/dev/full", os.O_WRONLY)
+        elif kind:
+            reading, out = os.pipe()
+            os.close(reading)
+        more = {"user": NOBODY, "group": NOBODY, "extra_groups": []} if os.geteuid() == 0 and host.kinds else {}
+        try:
+            done = subprocess.run([*under, *self.command, *words], cwd=folder, stdin=subprocess.DEVNULL, stdout=out,
+                                  stderr=subprocess.PIPE, timeout=10 * SECONDS,
+                                  preexec_fn=None if under else limits(host.limit), **more)
+        except subprocess.TimeoutExpired:
+            return "no end", b""
+        finally:
+            if kind:
+                os.close(out)
+        said = done.stderr[:300] if done.stderr else b""
+        report = (done.stdout or b"") + (b"stderr: " + said if said else b"")
+        return done.returncode, report
+
+    def over(self, case, host=Host(), under=(), words=None):
+        """What the program comes to over the files of a case."""
+        with tempfile.TemporaryDirectory() as folder:
+            os.chmod(folder, 0o777)
+            stand = Stand(host, folder, {"image": case.image, "script": case.script()})
+            try:
+                status, report = self.call(words or case.words(), folder, host, under)
+            finally:
+                stand.end()
+            files = {name: stand.bytes(name) for name in OUTPUTS}
+            hurt = [name for name in OUTPUTS if host.kinds.get(name) in FAULT and not stand.is_there_still(name)]
+            return Ran(status, report, files), hurt
+
+
+# differences
+
+
+def ended(status, report):
+    """What is wrong with the way in which the program ended, whatever its answer."""
+    if status == "no end" or status < 0 or status > 8:
+        yield f"ended: status {status}, {report[:300]!r}"
+    elif report.count(b"\n") > 1 or report and not report.endswith(b"\n"):
+        yield f"ended: a report that is no line: {report[:300]!r}"
+
+
+def answered(ran, status, report):
+    if (ran.status, ran.report) != (status, report):
+        yield f"status: {ran.status} {ran.report[:200]!r}, and by the reference {status} {report[:200]!r}"
+
+
+def nothing_written(ran):
+    for name, data in ran.files.items():
+        if data is not None:
+            yield f"written: {len(data)} bytes of {name}, where the command is refused"
+
+
+def store_differences(image, want, final):
+    """How a final disk differs from the store that the reference comes to. The order of the free inodes counts."""
+    disk = modules()[0]
+    whole = image.ljust(DISK_BYTES, b"\0")
+    if len(final) != DISK_BYTES:
+        yield f"final: {len(final)} bytes"
+        return
+    fault = disk.check(final)
+    if fault:
+        yield f"final: a fault: {fault}"
+        return
+    fsize = int.from_bytes(whole[514:516], "little")
+    if final[512 * fsize : SWAP_AT] != whole[512 * fsize : SWAP_AT] or final[:516] != whole[:516]:
+        yield "final: its boot block, or what is behind the file system, has changed"
+    got, want = (json.loads(json.dumps(store.dump())) for store in (disk.store_of(final), want))
+    for key in ("count", "room", "spare", "stamp"):
+        if want[key] != got[key]:
+            yield f"final {key}: {str(got[key])[:300]}, and by the reference {str(want[key])[:300]}"
+    for ino in sorted(want["nodes"].keys() | got["nodes"].keys(), key=int):
+        yield from (f"final {said}" for said in node_differences(ino, want["nodes"].get(ino), got["nodes"].get(ino)))
+
+
+def masked(what, got, want, mask):
+    wrong = [at for at, is_said in enumerate(mask) if is_said and got[at : at + 1] != want[at : at + 1]]
+    if wrong:
+        yield f"{what}: {len(wrong)} bytes are others, the first at {wrong[0]}"
+
+
+def run_differences(case, ran, want):
+    """How what a run leaves differs from what the reference comes to."""
+    yield from answered(ran, want.status, want.report)
+    if want.run is None:
+        yield from nothing_written(ran)
+        return
+    term, log, final = (ran.files[name] for name in OUTPUTS)
+    shown, text = bytes(want.run.u.lines[0].shown), "".join(line + "\n" for line in want.run.log).encode()
+    if term != shown:
+        yield "terminal: " + first_difference(shown, term or b"")
+    if log != text:
+        yield "log: " + line_difference(text, log or b"")
+    yield from store_differences(case.image, want.run.u.stores[0], final or b"")
+    _, _, swap, mask = want.run.memory()
+    yield from masked("swap", (final or b"")[SWAP_AT:], swap, mask)
+
+
+def memory_differences(program, case, want):
+    """The same of the bytes that `memory` leaves."""
+    words = ["memory", "image", case.core, "script", "final"]
+    ran, _ = program.over(case, words=words)
+    yield from ended(ran.status, ran.report)
+    yield from answered(ran, want.status, want.report)
+    if want.run is None:
+        yield from nothing_written(ran)
+    elif want.status == DONE:
+        core, core_mask, swap, swap_mask = want.run.memory()
+        got = ran.files["final"] or b""
+        if len(got) != len(core) + len(swap):
+            yield f"memory: {len(got)} bytes"
+        yield from masked("memory", got, core + swap, core_mask + swap_mask)
+    elif ran.files["final"] != b"":
+        yield f"memory: {len(ran.files['final'] or b'')} bytes after a panic"
+
+
+def by_itself(program, case):
+    """What can be said of a run that the reference doesn't follow: a command that comes to its outputs, of which one can't be
+    opened, says so; and everything before that is judged."""
+    came, _ = refused(case.image, number(case.core), case.script())
+    host = Host({"term": "missing"})
+    ran, _ = program.over(case, host)
+    yield from ended(ran.status, ran.report)
+    want = came or Outcome(WRITE_FAULT, b"write fault: term\n", None)
+    yield from answered(ran, want.status, want.report)
+    yield from nothing_written(ran)
+
+
+# whole cases
+
+
+def run_case(program, case, counts):
+    """A run whose files are plain."""
+    try:
+        want = reference_run(case.image, number(case.core), case.script())
+    except TooSlow:
+        counts["not followed by the reference"] += 1
+        yield from by_itself(program, case)
+        return
+    ran, _ = program.over(case)
+    yield from ended(ran.status, ran.report)
+    yield from run_differences(case, ran, want)
+    counts[f"status {want.status}"] += 1
+    counts["lines of logs"] += len(want.run.log) if want.run else 0
+    if case.seed % 3 == 0:
+        counts["memories compared"] += 1
+        yield from memory_differences(program, case, want)
+
+
+def contents(case):
+    """What a host's image and script hold."""
+    files = {"image": case.image, "script": case.script()}
+    one, other = case.host.same or ("", "")
+    if one in files and other in files:
+        files[other] = files[one]
+    return {name: input_bytes(case.host, name, data) for name, data in files.items()}
+
+
+def plain_outputs(program, case, files):
+    """What a command writes over plain files with these bytes."""
+    plain = case.with_(image=files["image"], lines=[files["script"]], last_end=b"", host=None)
+    return program.over(plain)[0]
+
+
+def host_case(program, case, counts):
+    """A run over a host that fails."""
+    host, files = case.host, contents(case)
+    outputs = [name for name in OUTPUTS if name in case.command]
+    came, events = refused(files["image"], number(case.core), files["script"])
+    ran, hurt = program.over(case, host)
+    counts["host: " + (", ".join(sorted(set(host.kinds.values()))) or ("same" if host.same else "limit"))] += 1
+    yield from ended(ran.status, ran.report)
+    yield from (f"hurt: what stood under {name} is gone" for name in hurt)
+    if came:
+        yield from answered(ran, came.status, came.report if "report" not in host.kinds else b"")
+        yield from untouched(case, ran, outputs)
+        return
+    if slots_of(events) > 100 * MOST_SLOTS:
+        return
+    plain = plain_outputs(program, case, files)
+    yield from ended(plain.status, plain.report)
+    yield from fault_differences(case, ran, plain, outputs)
+
+
+def untouched(case, ran, outputs):
+    """Where a command is refused, nothing that is written has changed."""
+    for name in outputs:
+        kind, data = case.host.kinds.get(name), ran.files[name]
+        wanted = {"there": SENTINEL, "locked": SENTINEL, "pipe": b"", "closed pipe": b""}.get(kind)
+        if name not in case.host.same and data != wanted:
+            yield f"written: {name} is another, where the command is refused"
+
+
+def fault_differences(case, ran, plain, outputs):
+    """A fault of the right port, and fronts of what a run over plain files writes."""
+    host = case.host
+    may, must = write_faults(host, {name: plain.files[name] or b"" for name in outputs})
+    answers = [] if must else [(plain.status, plain.report if "report" not in host.kinds else b"")]
+    answers += [(WRITE_FAULT, f"write fault: {name}\n".encode()) for name in may]
+    if (ran.status, ran.report) not in answers:
+        yield f"status: {ran.status} {ran.report[:200]!r}, and one of {answers} is right"
+    if host.same and set(host.same) <= set(outputs):
+        return
+    for name in outputs:
+        data, whole = ran.files[name], plain.files[name] or b""
+        if host.kinds.get(name) in {"full", "null", *FAULT}:
+            continue
+        is_later = must and host.kinds.get(may[0]) in FAULT and may[0] in outputs[: outputs.index(name)]
+        if is_later and data != {"there": SENTINEL, "pipe": b"", "closed pipe": b""}.get(host.kinds.get(name)):
+            yield f"written: {name} is another, where {may[0]} could not be opened"
+        elif not is_later and (data is None or not whole.startswith(data)):
+            yield f"front: {name} holds no front of what it would"
+        elif not is_later and ran.status != WRITE_FAULT and host.kinds.get(name) != "closed pipe" and data != whole:
+            yield f"whole: {name} has {len(data)} bytes of {len(whole)}"
+
+
+def command_case(program, case, counts):
+    """Words of a command: what they ask for, and else how it is used."""
+    words = case.words()
+    counts["commands"] += 1
+    ran, _ = program.over(case)
+    yield from ended(ran.status, ran.report)
+    if any("\udc80" <= letter <= "\udcff" for word in words for letter in word):
+        words = ["a word that is no text"]
+    match words:
+        case ["run", image, core, "script", "term", "log", "final"] if number(core) is not None:
+            yield from run_or_missing(program, case, image, core, ran)
+        case ["memory", image, core, "script", "final"] if number(core) is not None:
+            want = reference_run(case.image, int(core), case.script()) if image == "image" else None
+            want = want or refused(None, int(core), b"")[0]
+            yield from answered(ran, want.status, want.report)
+        case ["check", image]:
+            yield from answered(ran, *check_answer(case.image if image == "image" else None))
+        case ["make", n, "final"] if number(n) is not None:
+            yield from answered(ran, DONE, b"")
+            if int(n) < 10**6 and ran.files["final"] != bytes(modules()[1].build(int(n))):
+                yield "make: another disk than the reference's"
+        case ["demo", n] if number(n) is not None:
+            if not re.fullmatch(rb"demo %d: 60000 slots, 25 shown, \d+ nodes, \d+ free\n" % int(n), ran.report):
+                yield f"demo: {ran.report!r}"
+        case ["run", _, core, _, _, _, _] | ["memory", _, core, _, _] if number(core) is not None:
+            if ran.status not in (READ_FAULT, WRITE_FAULT, CORE_SIZE):
+                yield f"status: {ran.status} {ran.report!r} with odd names"
+        case ["make", n, _] if number(n) is not None:
+            if ran.status not in (DONE, WRITE_FAULT):
+                yield f"status: {ran.status} {ran.report!r} with an odd name"
+        case _:
+            yield from answered(ran, USAGE_STATUS, USAGE)
+            yield from nothing_written(ran)
+
+
+def run_or_missing(_, case, image, core, ran):
+    if image != "image":
+        want = refused(None, int(core), b"")[0]
+        yield from answered(ran, want.status, want.report)
+        yield from nothing_written(ran)
+    else:
+        yield from run_differences(case, ran, reference_run(case.image, int(core), case.script()))
+
+
+def check_answer(image):
+    """What `check` answers by the reference, of an image or of no file."""
+    if image is None:
+        return READ_FAULT, b"read fault: image\n"
+    disk = modules()[0]
+    fault = disk.check(image)
+    return (IMAGE_FAULT, fault.encode() + b"\n") if fault else (DONE, b"ok %d nodes %d free\n" % disk.tally(image))
+
+
+def under_valgrind(program, case):
+    """Whether valgrind has something to say, and whether the program comes to the same under it."""
+    if not shutil.which(VALGRIND[0]):
+        return
+    ran, other = program.over(case)[0], program.over(case, under=VALGRIND)[0]
+    if ran != other:
+        yield f"valgrind: status {other.status} {other.report[:300]!r}, or other files"
+
+
+def differences(program, case, counts, valgrind=False):
+    """All that is wrong with a case, a line each."""
+    judge = host_case if case.host else command_case if case.kind == "command" else run_case
+    try:
+        found = list(judge(program, case, counts))
+    except TooSlow:
+        counts["not followed by the reference"] += 1
+        return []
+    except Exception as error:  # a reference that stops is a finding too
+        found = [f"reference: it stopped: {error!r}"]
+    if valgrind and not case.host:
+        counts["runs under valgrind"] += 1
+        found += under_valgrind(program, case)
+    return found
