@@ -97,11 +97,6 @@ inode_is disk (late ∷ lates) i all blocks low =
           ∙ inode_is disk lates i all.1 blocks.1 low ∙ sym (among_behind late lates i (inode disk i) h.0)
     ]
 
--- Where the disks have the same block, so have they with these inodes.
-pub block_same : (old new : Disk) (lates : List Late) (k : ℕ) → new k ≡ old k → with_inodes new lates k ≡ with_inodes old lates k
-unfolding with_inodes
-block_same old new lates k same = ap (placed lates k) same
-
 pub with_kept : (disk : Disk) (lates : List Late) (n : ℕ) → AllByRecursion (λ (l : Late). block_of l.number ≢ n) lates → with_inodes disk lates n ≡ disk n
 unfolding with_inodes
 with_kept disk lates n all = block_kept lates n (disk n) all
@@ -177,14 +172,6 @@ among_remove (late ∷ lates) zero j d o low other =
     let test : (late.number == j) ≡ false = elim (eqb_tells late.number j) [ inl h ↦ absurd (other (sym h.1)) | inr h ↦ h.0 ] in
     sym (among_behind late lates j o test)
 among_remove (late ∷ lates) (suc k) j d o low other = ap (λ n. cond (late.number == j) late.inode n) (among_remove lates k j d o (omega (arith, low)) other)
-
-pub placed_remove : (lates : List Late) (k n : ℕ) (d : Late) (bytes : List ℕ) → k < length lates → n ≢ block_of (get_or lates k d).number → placed (remove lates k) n bytes ≡ placed lates n bytes
-placed_remove [] k n d bytes low other = absurd (omega (arith, low))
-placed_remove (late ∷ lates) zero n d bytes low other =
-    let test : (block_of late.number == n) ≡ false = elim (eqb_tells (block_of late.number) n) [ inl h ↦ absurd (other (sym h.1)) | inr h ↦ h.0 ] in
-    sym (other_placed late lates n bytes test)
-placed_remove (late ∷ lates) (suc k) n d bytes low other =
-    ap (λ b. cond (block_of late.number == n) (patched (place_in late.number) (inode_bytes late.inode) b) b) (placed_remove lates k n d bytes (omega (arith, low)) other)
 
 pub remove_none : (lates : List Late) (k i : ℕ) (d : Late) → k < length lates → (get_or lates k d).number ≡ i → lates_with lates i ≤ 1 → lates_with (remove lates k) i ≡ 0
 remove_none lates k i d low is once =

@@ -1,6 +1,6 @@
 //! Inodes that are referred to, and calls that set their fields, by hand from iget, iput, itrunc and update of Lions'
-//! Commentary and from file system(V): what a call sets stands in the inode's 32 bytes, and what it changes of the
-//! super-block in that, at the next update.
+//! Commentary and from file system(V): what a call sets stands in the inode's 32 bytes on the disk after the next update,
+//! and what it changes of the super-block too.
 use crate::file_system::calls::{Call, answer};
 use crate::file_system::fixtures::{Piece, TWENTY_BLOCKS, put};
 use crate::file_system::opened::{open, stands, takes};
@@ -30,10 +30,16 @@ static DISK: [Piece<'static>; 10] = [
     (3072, b"abcdefgh"),
 ];
 
-/// Calls at the time 0x01020304, and the bytes that then stand at a place of the disk. An update writes the inodes.
+/// Calls at the time 0x01020304, and the bytes that then stand at a place of the disk.
 type Row = (&'static [Call], usize, &'static [u8]);
 
-static CALLS: [Row; 15] = [
+static CALLS: [Row; 16] = [
+    // What a call sets is on the disk after an update, and not before.
+    (
+        &[Take(2), Mode(2, 0o104755)],
+        1056,
+        b"\xa4\x81\x01\x02\x03\x00\xdc\x05",
+    ),
     // The mode, and the time of the change behind that of the access.
     (
         &[Take(2), Mode(2, 0o104755), Update],
