@@ -193,8 +193,8 @@ def tell(row, found):
 # the command line
 
 
-def chosen(words):
-    every = names()
+def chosen(words, data):
+    every = names(data)
     found = [name for name in every if any(fnmatch.fnmatch(name, word) or fnmatch.fnmatch(name, "*/" + word) for word in words)]
     for word in words:
         if not any(fnmatch.fnmatch(name, word) or fnmatch.fnmatch(name, "*/" + word) for name in every):
@@ -207,18 +207,19 @@ def main(words):
     parser.add_argument("names", metavar="NAME", nargs="*", help="a row, or a pattern as 'calls/*'; none: the list of all")
     parser.add_argument("-q", "--quiet", action="store_true", help="tell only whether each row came out as it says")
     parser.add_argument("--v6", metavar="COMMAND", default=V6, help="the program that runs them (bin/v6)")
+    parser.add_argument("--data", metavar="FOLDER", default=DATA, help="another folder that has rows/FAMILY/NAME")
     add_version(parser)
     options = parser.parse_args(words)
     failed = 0
     try:
         if not options.names:
-            for name in names():
-                print(f"{name}: {Row(name).remarks[0]}")
+            for name in names(options.data):
+                print(f"{name}: {Row(name, options.data).remarks[0]}")
             return 0
         with tempfile.TemporaryDirectory() as folder:
             runner = Runner(options.v6, folder)
-            for name in chosen(options.names):
-                row = Row(name)
+            for name in chosen(options.names, options.data):
+                row = Row(name, options.data)
                 image, came = runner.run(row)
                 found = differences(row, image, came)
                 failed += bool(found)

@@ -143,6 +143,14 @@ class Command(Case):
                      "      42  010037 000014           ; mov r0,*$14", '    "run 60\\n"', '    "\\r\\n"', "ok calls/wait_a_child_is_told_of_once"):
             self.assertIn(line, out.split("\n"))
 
+    def test_another_folder(self):
+        os.makedirs(self.path("rows/fuzz"))
+        self.put("rows/fuzz/seed_1", b'# one\n# docs/manual/commands.md\nscript\n    run 20\nterm\n    "HI\\r\\n"\n')
+        self.put("rows/fuzz/seed_2", b"# two\n# docs/manual/commands.md\ncore 63\nstatus 4\nreport core size\n")
+        self.assertEqual(self.call(row_main, "--data", self.folder), (0, "fuzz/seed_1: one\nfuzz/seed_2: two\n", ""))
+        wanted = 0, "ok fuzz/seed_1\nok fuzz/seed_2\n", ""
+        self.assertEqual(self.call(row_main, "--data", self.folder, "-q", "fuzz/*"), wanted)
+
     def test_all_are_listed(self):
         status, out, _ = self.call(row_main)
         self.assertEqual((status, out.count("\n")), (0, len(rowfile.names())))
