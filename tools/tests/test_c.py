@@ -295,6 +295,25 @@ class Compiled(Program):
                     'printf("%d ", write(ends[1], "abc", 3)); printf("%d %d\\n", errno, got);\nreturn 0;\n}\n',
                     "023120\n1 22 1 -1 3\n14 7 10 0\n0 3 3 a -1 29 -1 32 -13\n")
 
+    def test_signals_anywhere(self):
+        """With a clock signals come between any two instructions; calls that a function for them makes spoil none of the program."""
+        self.made("#include <errno.h>\n#include <signal.h>\n#include <stdio.h>\n#include <unix.h>\nint ends[2], other, caught;\n"
+                  "void again(int n) {\nint modes[3];\ncaught++; signal(14, again); write(other, \"yz\", 2); gtty(1, modes);\n"
+                  "close(77); write(ends[1], \"x\", 1); }\n"
+                  "int main(void)\n{\nint one, at, bad = 0, parent = getpid(), child; struct stat s; char byte;\n"
+                  'pipe(ends); one = creat("one", 0644); other = creat("other", 0644); signal(14, again);\n'
+                  "if (!(child = fork())) for (;;) { kill(parent, 14); read(ends[0], &byte, 1); }\n"
+                  'for (at = 1; at < 50; at++) {\nwhile (write(one, "abc", 3) != 3) bad += errno != EINTR;\n'
+                  'bad += stat("one", &s) != 0 || s.size_low != 3 * at; bad += signal(13, SIG_IGN) == SIG_ERR;\n}\n'
+                  'kill(child, 9); while (wait(0) < 0) ; stat("other", &s);\n'
+                  'printf("%d %d %d\\n", bad, caught > 100, s.size_low == 2 * caught); return 0;\n}\n')
+        image = self.put("image", read(os.path.join(TOP, "examples", "shell", "image")))
+        self.assertEqual(self.call(disk_main, "--v6", V6, "put", image, self.path("it"), "/bin"), (0, "", ""))
+        for clock in (2, 3):
+            script = self.put("script", f"run 9000\nclock {clock}\ntype it\nrun 400000\n".encode())
+            self.assertEqual(v6("run", image, "3968", script, *map(self.path, ("term", "log", "final")))[0], 0)
+            self.assertEqual(read(self.path("term")), b"# IT\r\n0 1 1\r\n# ")
+
     def test_headers(self):
         """All headers together, and the sizes of their types."""
         names = sorted(os.listdir(os.path.join(TOOLS, "c", "include")))
