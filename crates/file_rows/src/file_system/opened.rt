@@ -138,7 +138,7 @@ pub fn disk_has(nodes: &Nodes, words: &[Word]) -> bool {
     true
 }
 
-/// The first blocks of a disk, as the last sync has left them.
+/// The first blocks of a disk, as they are on it.
 pub fn written(alloc: Global, nodes: &Nodes, blocks: u16) -> Result<Vec<u8>, AllocError>
     requires { blocks ≤ DISK_BLOCKS }
 {
