@@ -21,11 +21,13 @@ DONE, USAGE_STATUS, READ_FAULT, WRITE_FAULT, CORE_SIZE, SCRIPT_FAULT, IMAGE_FAUL
 MOST_SLOTS = 20_000  # that the reference follows
 MOST_EVENTS = 30_000
 SECONDS, BYTES, FILE_BYTES = 60, 2**28, 2**28  # of processor time, of memory, of a file, that the program may take
-REFERENCE_SECONDS = 60
+REFERENCE_SECONDS = 60  # of processor time
 NOBODY = 65534
 VALGRIND = ("valgrind", "-q", "--error-exitcode=99")
 LATER_CALLS = (21, 22)  # mount and umount
 LATER_LINES = re.compile(rb"(?m)^(disk|pace|line|hangup)(?= )")  # of scripts, which the reference has and v6 hasn't
+
+ALL_BITS = bytes([0, 255] + [0] * 254)
 
 Outcome = collections.namedtuple("Outcome", "status report run")
 Ran = collections.namedtuple("Ran", "status report files")
@@ -45,6 +47,7 @@ def modules():
     from abstract_unix import disk, generate, runs, script, unix
     for number in LATER_CALLS:
         unix.CALLS.pop(number, None)
+    runs.Run.disk_sleepers = lambda run: False  # that takes a line of scripts which is left out; to ask costs time in each slot
     return disk, generate, runs, script
 
 
@@ -54,13 +57,13 @@ def too_slow(*_):
 
 def in_time(body):
     """What a body comes to, where it takes no longer than the reference may."""
-    before = signal.signal(signal.SIGALRM, too_slow)
-    signal.setitimer(signal.ITIMER_REAL, REFERENCE_SECONDS)
+    before = signal.signal(signal.SIGPROF, too_slow)
+    signal.setitimer(signal.ITIMER_PROF, REFERENCE_SECONDS)
     try:
         return body()
     finally:
-        signal.setitimer(signal.ITIMER_REAL, 0)
-        signal.signal(signal.SIGALRM, before)
+        signal.setitimer(signal.ITIMER_PROF, 0)
+        signal.signal(signal.SIGPROF, before)
 
 
 def events_of(script):
@@ -136,7 +139,8 @@ class Program:
         elif kind:
             reading, out = os.pipe()
             os.close(reading)
-        more = {"user": NOBODY, "group": NOBODY, "extra_groups": []} if os.geteuid() == 0 and host.kinds else {}
+        is_other = os.geteuid() == 0 and "locked" in host.kinds.values()  # to user 0 nothing is locked
+        more = {"user": NOBODY, "group": NOBODY, "extra_groups": []} if is_other else {}
         try:
             done = subprocess.run([*under, *self.command, *words], cwd=folder, stdin=subprocess.DEVNULL, stdout=out,
                                   stderr=subprocess.PIPE, timeout=10 * SECONDS,
@@ -209,8 +213,11 @@ def store_differences(image, want, final):
 
 
 def masked(what, got, want, mask):
-    wrong = [at for at, is_said in enumerate(mask) if is_said and got[at : at + 1] != want[at : at + 1]]
-    if wrong:
+    """Whether bytes differ where the mask is 1."""
+    got = got[: len(mask)].ljust(len(mask), b"\0")
+    bits = int.from_bytes(bytes(mask).translate(ALL_BITS), "little")
+    if (int.from_bytes(got, "little") ^ int.from_bytes(want, "little")) & bits:
+        wrong = [at for at, is_said in enumerate(mask) if is_said and got[at] != want[at]]
         yield f"{what}: {len(wrong)} bytes are others, the first at {wrong[0]}"
 
 

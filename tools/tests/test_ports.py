@@ -1,8 +1,10 @@
 """Real files that fail, in each place where a command names one: the named fault, and what was there before is there still."""
 import errno
 import os
+import resource
 import shlex
 import shutil
+import signal
 import subprocess
 import threading
 import unittest
@@ -216,6 +218,18 @@ class Ports(Case):
             self.assertEqual(self.v6(self.named(command, place, "pipe")), (WRITE_FAULT, "write fault: final\n"))
             thread.join()
             os.remove(self.path("pipe"))
+
+    def test_limit(self):
+        """A file that may not have more bytes holds as many as it may; the signal that tells of it is ignored here."""
+        def limited():
+            resource.setrlimit(resource.RLIMIT_FSIZE, (10000, 10000))
+            signal.signal(signal.SIGXFSZ, signal.SIG_IGN)
+
+        for command, place in self.places(("FINAL",)):
+            self.v6(command)
+            whole = read(self.path(place))
+            self.assertEqual(self.v6(command, preexec_fn=limited), (WRITE_FAULT, "write fault: final\n"))
+            self.assertEqual(read(self.path(place)), whole[:10000])
 
     def test_one_file_is_read_twice(self):
         for command in (RUN, MEMORY):
