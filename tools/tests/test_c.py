@@ -278,28 +278,27 @@ class Compiled(Program):
 
     def test_signals(self):
         """signal gives what was done before; a call that a signal breaks, a kill of nobody, and a pipe that nobody reads."""
-        self.prints('#include <errno.h>\n#include <signal.h>\n#include <stdio.h>\n#include <unix.h>\nstatic int got, number;\n'
-                    "static void one(int n) { got = n; number = errno; close(99); }\nstatic void two(int n) { got = -n; }\n"
-                    "static int is(void (*was)(int)) {\n"
-                    "return was == SIG_DFL ? 0 : was == SIG_IGN ? 1 : was == one ? 2 : was == two ? 3 : 4; }\n"
-                    "int main(void)\n{\nint ends[2], child, parent = getpid(); char bytes[4];\n"
-                    'printf("%d", is(signal(14, one))); printf("%d", is(signal(14, two))); printf("%d", is(signal(14, SIG_IGN)));\n'
-                    'printf("%d", is(signal(14, one))); printf("%d", is(signal(14, SIG_DFL))); printf("%d\\n", is(signal(14, one)));\n'
-                    'errno = 0; printf("%d ", signal(9, one) == SIG_ERR); printf("%d ", errno);\n'
-                    'printf("%d ", signal(20, one) == SIG_ERR); printf("%d ", kill(99, 1)); printf("%d\\n", errno); fflush(stdout);\n'
-                    'if (!fork()) { kill(parent, 14); exit(0); }\nerrno = 7;\n'
-                    'while (wait(0) >= 0 || errno == EINTR) ;\n'
-                    'printf("%d %d %d ", got, number, errno); printf("%d\\n", is(signal(14, SIG_DFL)));\n'
-                    'printf("%d ", pipe(ends)); printf("%d ", write(ends[1], "abc", 3)); printf("%d %c ", read(ends[0], bytes, 4), *bytes);\n'
-                    'printf("%d ", seek(ends[0], 0, 0)); printf("%d ", errno); close(ends[0]); signal(SIGPIPE, two);\n'
-                    'printf("%d ", write(ends[1], "abc", 3)); printf("%d %d\\n", errno, got);\nreturn 0;\n}\n',
-                    "023120\n1 22 1 -1 3\n14 7 10 0\n0 3 3 a -1 29 -1 32 -13\n")
+        self.prints('#include <errno.h>\n#include <signal.h>\n#include <stdio.h>\n#include <unix.h>\nint got, number;\n'
+                    'void one(int n) { got = n; number = errno; close(99); }\nvoid two(int n) { got = -n; }\n'
+                    'void say(int n) { printf("%d ", n); }\n'
+                    "void set(void (*action)(int)) {\nvoid (*was)(int) = signal(14, action);\n"
+                    "say(was == SIG_DFL ? 0 : was == SIG_IGN ? 1 : was == one ? 2 : was == two ? 3 : 4); }\n"
+                    "int main(void)\n{\nint ends[2], parent = getpid(); char bytes[4];\n"
+                    "set(one); set(two); set(SIG_IGN); set(one); set(SIG_DFL); set(one);\n"
+                    "errno = 0; say(signal(9, one) == SIG_ERR); say(errno); say(signal(20, one) == SIG_ERR);\n"
+                    "say(kill(99, 1)); say(errno); putchar(10); fflush(stdout);\n"
+                    "if (!fork()) { kill(parent, 14); exit(0); }\nerrno = 7; while (wait(0) >= 0 || errno == EINTR) ;\n"
+                    "say(got); say(number); say(errno); set(SIG_DFL); putchar(10);\n"
+                    'say(pipe(ends)); say(write(ends[1], "abc", 3)); say(read(ends[0], bytes, 4)); say(bytes[2]);\n'
+                    "say(seek(ends[0], 0, 0)); say(errno); close(ends[0]); signal(SIGPIPE, two);\n"
+                    'say(write(ends[1], "abc", 3)); say(errno); say(got); putchar(10); return 0;\n}\n',
+                    "0 2 3 1 2 0 1 22 1 -1 3 \n14 7 10 0 \n0 3 3 99 -1 29 -1 32 -13 \n")
 
     def test_signals_anywhere(self):
-        """With a clock signals come between any two instructions; calls that a function for them makes spoil none of the program."""
-        self.made("#include <errno.h>\n#include <signal.h>\n#include <stdio.h>\n#include <unix.h>\nint ends[2], other, caught;\n"
-                  "void again(int n) {\nint modes[3];\ncaught++; signal(14, again); write(other, \"yz\", 2); gtty(1, modes);\n"
-                  "close(77); write(ends[1], \"x\", 1); }\n"
+        """With a clock signals come between any two instructions, and the calls of a function for them spoil no other call."""
+        self.made("#include <errno.h>\n#include <signal.h>\n#include <stdio.h>\n#include <unix.h>\n"
+                  "int ends[2], other, caught;\nvoid again(int n) {\nint modes[3];\n"
+                  "caught++; signal(14, again); write(other, \"yz\", 2); gtty(1, modes); close(77); write(ends[1], \"x\", 1); }\n"
                   "int main(void)\n{\nint one, at, bad = 0, parent = getpid(), child; struct stat s; char byte;\n"
                   'pipe(ends); one = creat("one", 0644); other = creat("other", 0644); signal(14, again);\n'
                   "if (!(child = fork())) for (;;) { kill(parent, 14); read(ends[0], &byte, 1); }\n"
