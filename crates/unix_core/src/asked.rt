@@ -19,17 +19,24 @@ const LAST_CALL: u16 = 0o104477;
 /// A number that is no call's.
 const NO_CALL: u8 = 63;
 
-/// A word of a process's memory. One that can't be read is all ones.
+/// A word of a memory. One that can't be read is all ones.
+fn word_in<S: Space>(space: &S, at: u16) -> u16
+    ensures { result ≡ word_at (S.image space.now) at }
+{
+    match space.load_word(at) {
+        Ok(word) => word,
+        Err(_) => ONES,
+    }
+}
+
+/// A word of a process's memory.
 fn word_at(images: &mut Images, s: Slot, at: u16) -> u16
     requires { HasImage images.old s }
     ensures word { (held : Held) → Has images.old s held → result ≡ word_at held.image at }
     ensures same { images.new ≡ images.old }
 {
     let space = images.space(s);
-    match space.load_word(at) {
-        Ok(word) => word,
-        Err(_) => ONES,
-    }
+    word_in(&space, at)
 }
 
 /// The words that a call may take as its arguments, from an address on.
@@ -38,11 +45,12 @@ fn arguments_at(images: &mut Images, s: Slot, at: u16) -> [u16; 4]
     ensures words { (held : Held) → Has images.old s held → result ≡ arguments_at held.image at }
     ensures same { images.new ≡ images.old }
 {
+    let space = images.space(s);
     [
-        word_at(images, s, at),
-        word_at(images, s, at.wrapping_add(2)),
-        word_at(images, s, at.wrapping_add(4)),
-        word_at(images, s, at.wrapping_add(6)),
+        word_in(&space, at),
+        word_in(&space, at.wrapping_add(2)),
+        word_in(&space, at.wrapping_add(4)),
+        word_in(&space, at.wrapping_add(6)),
     ]
 }
 
