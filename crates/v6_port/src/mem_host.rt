@@ -1,14 +1,14 @@
 // Files in memory.
-ghost use Rattle.std.specs.Prelude.{◌≡◌, ◌+◌, ◌-◌, ◌<◌, ◌^◌, ◌==◌, ◌++◌, ◌∷◌, [], ℕ, min, length, slice_index_or, None, OnOk, OnErr, string_bytes};
+ghost use Rattle.std.specs.Prelude.{◌≡◌, ◌+◌, ◌-◌, ◌<◌, ◌^◌, ◌==◌, ◌++◌, ◌∷◌, [], ℕ, min, length, slice_index_or, None, Some, OnOk, OnErr, string_bytes};
 ghost use Rattle.std.specs.List.{list_any};
 ghost use Rattle.std.specs.Option.{ForSome, option_map};
-ghost use Rattle.v6_port.specs.Calls.{is_expected};
+ghost use Rattle.v6_port.specs.Calls.{is_expected, at_most};
 
 use crate::counts::{fault, miss, set_closed, set_open};
 use crate::files::{NamedFile, Reading, find, rest_of};
 use crate::host::{Failed, Host, InPort, OutPort};
 use crate::kept::{INPUTS, Kept, OUTPUTS, PORTS};
-use crate::rooms::Room;
+use crate::rooms::{Room, at_most};
 use std::alloc::{AllocError, Global};
 
 /// A host over files in memory, for trying a command without the system. It tells all its bytes.
@@ -25,6 +25,8 @@ pub struct MemHost {
     ports: [Kept; PORTS],
     fails: Vec<u32>,
     calls: u32,
+    chunk: Option<u32>,
+    ghost positive: { ForSome chunk (λ n. 0 < n) },
     ghost read_from: { (k : ℕ) → ForSome (slice_index_or readings k None) (λ reading. reading.file < length files.items) },
 }
 
@@ -52,6 +54,7 @@ impl MemHost {
             ports: [Kept::NOTHING; PORTS],
             fails: Vec::new(alloc),
             calls: 0,
+            chunk: None,
         }
     }
 
@@ -85,6 +88,15 @@ impl MemHost {
     {
         self.fails.push(call)?;
         Ok(())
+    }
+
+    /// Lets each read give and each write take at most so many bytes, from now on.
+    pub fn chunk(&mut self, n: u32)
+        requires { 0 < n }
+        ensures chunk { memory self.new ≡ record (memory self.old) { chunk = Some n } }
+        ensures idle { IsIdle (memory self.old).outside → IsIdle (memory self.new).outside }
+    {
+        self.chunk = Some(n);
     }
 
     /// Makes `name` the one that the port expects, and takes room for so many bytes more. What was written
@@ -165,7 +177,7 @@ impl Host for MemHost {
         requires { IsOpen (memory self.old).outside (In port) }
         ensures reads { Reads port (memory self.old).outside buf.new result (memory self.new).outside }
         ensures fails { is_err result ≡ is_due (memory self.old) }
-        ensures count { IfOk result (λ n. n ≡ min (length buf.new) (length (left (memory self.old) port))) }
+        ensures count { IfOk result (λ n. n ≡ at_most (memory self.old).chunk (min (length buf.new) (length (left (memory self.old) port)))) }
         ensures counts { IsOneCall (memory self.old) (memory self.new) }
     {
         let number = port.number();
@@ -177,7 +189,7 @@ impl Host for MemHost {
             return Ok(0);
         };
         let rest = rest_of(&self.files, reading);
-        let count = rest.len().min(buf.len());
+        let count = at_most(self.chunk, rest.len().min(buf.len()));
         buf[..count].copy_from_slice(&rest[..count]);
         self.readings[number] = Some(Reading {
             file: reading.file,
@@ -208,7 +220,7 @@ impl Host for MemHost {
         requires { IsOpen (memory self.old).outside (Out port) }
         ensures writes { Writes port (memory self.old).outside piece.now result (memory self.new).outside }
         ensures fails { is_err result ≡ fails_write (memory self.old) port piece.now }
-        ensures count { IfOk result (λ n. n ≡ min (length piece.now) ((memory self.old).room port)) }
+        ensures count { IfOk result (λ n. n ≡ at_most (memory self.old).chunk (min (length piece.now) ((memory self.old).room port))) }
         ensures counts { IsOneCall (memory self.old) (memory self.new) }
     {
         let number = port.number();
@@ -221,7 +233,7 @@ impl Host for MemHost {
         if is_full && !is_empty {
             return fault(&mut self.ports, number);
         }
-        Ok(self.rooms[place].append(piece))
+        Ok(self.rooms[place].append(piece, self.chunk))
     }
 
     fn finish(&mut self, port: OutPort) -> Result<(), Failed>

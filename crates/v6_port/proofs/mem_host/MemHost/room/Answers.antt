@@ -8,4 +8,4 @@ returns-clause-ok c =
     let in_names : c.place-2.result < length c.args.self.now.names = search rules in
     let freed : c.grow.new.self.free ≡ c.index-self-place.result.free + c.args.bytes = search rules in
     let kept : c.grow.new.self.bytes.items ≡ c.index-self-place.result.bytes.items = search rules in
-    takes_room _ _ _ _ _ _ _ _ _ _ _ _ _ _ _ c.place.ensures.place c.place-2.ensures.place in_rooms in_names c.index-self-place.is c.in_ok-name.ensures.ok freed kept
+    takes_room _ _ _ _ _ _ _ _ _ _ _ _ _ _ _ _ c.place.ensures.place c.place-2.ensures.place in_rooms in_names c.index-self-place.is c.in_ok-name.ensures.ok freed kept
