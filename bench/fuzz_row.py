@@ -23,7 +23,8 @@ MOST_BYTES = 100_000  # of a disk that differ, in a row file
 def quoted(data):
     """A text of a section: itself with a new line where it can be so, or in quotes."""
     text = data[:-1]
-    if data.endswith(b"\n") and re.fullmatch(rb"[a-z;]([ -~]*[!-~])?", text) and not re.match(rb"booted|\.\.", text):
+    is_plain = re.fullmatch(rb"[a-z;]([ -~]*[!-~])?", text) and not re.match(rb"booted|\.\.", text)
+    if data.endswith(b"\n") and is_plain and b", " not in text:  # which would part what is repeated
         return text.decode("ascii")
     return '"' + plain(data).replace("\n", "\\n") + '"'
 
