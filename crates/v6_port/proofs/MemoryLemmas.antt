@@ -6,6 +6,7 @@ use Rattle.std.specs.Option.{option_map, ForSome}
 use Rattle.std.specs.Cmp.Lexicographic.{pointwise, same_text, other_text}
 use Rattle.std.proofs.lemmas.List.{get_or-map, get_or_append_left, map-append, get_or-set_other, get_or-set_same, map-set, length-map, length-append, length-take}
 use Rattle.std.proofs.Math.Seq.{map-set_same}
+use Rattle.std.proofs.Math.Path.{fun_ext}
 use Rattle.std.proofs.lemmas.Bool.Decides.{nat_tests}
 use Rattle.v6_port.specs.declared.host.OutPort.{OutPort}
 use Rattle.v6_port.specs.declared.host.OutPort.TheVariants as out_port
@@ -15,8 +16,8 @@ use Rattle.v6_port.specs.declared.files.Reading.{Reading}
 use Rattle.v6_port.specs.declared.rooms.Room.{Room}
 use Rattle.v6_port.specs.Outside.{Environment, Port, In, Out, same, place, in_number, out_number, port_number}
 use Rattle.v6_port.specs.Kept.{kept_at, state_of, outside_of}
-use Rattle.v6_port.specs.Files.{is_named, first_of, given_by, left_in, memory_bytes}
-use Rattle.v6_port.specs.Memory.{memory_of, AddsFile, TakesRoom}
+use Rattle.v6_port.specs.Files.{is_named, first_of, given_by, left_in, memory_bytes, AreEmpty}
+use Rattle.v6_port.specs.Memory.{Memory, memory_of, AddsFile, TakesRoom}
 use Rattle.v6_port.specs.Calls.{Writes}
 
 -- texts that are tested for being equal
@@ -50,11 +51,11 @@ left_in-append files file (Some r) within = ap (drop r.at)
     (rw map-append (get_or_append_left (map (λ (f : NamedFile). f.bytes.items) files) _ [] r.file (rw length-map (within r refl))))
 
 pub adds : (files later : List NamedFile) (names : List (Option (String Global))) (readings : List (Option Reading)) (rooms : List Room) (ports : List Kept)
-    (fails : List ℕ) (calls : ℕ) (file : NamedFile) (name bytes : List ℕ)
+    (fails : List ℕ) (calls : ℕ) (chunk : Option ℕ) (file : NamedFile) (name bytes : List ℕ)
     → later ≡ files ++ file ∷ [] → string_bytes file.name ≡ name → file.bytes.items ≡ bytes
     → ((k : ℕ) → ForSome (slice_index_or readings k None) (λ r. r.file < length files))
-    → AddsFile name bytes (memory_of files names readings rooms ports fails calls) (memory_of later names readings rooms ports fails calls)
-adds files later names readings rooms ports fails calls file name bytes is named holds within = rw is (record {
+    → AddsFile name bytes (memory_of files names readings rooms ports fails calls chunk) (memory_of later names readings rooms ports fails calls chunk)
+adds files later names readings rooms ports fails calls chunk file name bytes is named holds within = rw is (record {
   gives = given_by-append files file name ∙ rw (named, same_bytes name, holds) refl;
   others = λ other differs. given_by-append files file other ∙ rw (named, other_bytes name other differs) refl;
   tells = refl;
@@ -63,17 +64,20 @@ adds files later names readings rooms ports fails calls file name bytes is named
   fails = refl;
   calls = refl;
   room = refl;
+  chunk = refl;
 }) where
   bytes_more : (q : Port) → memory_bytes (files ++ file ∷ []) readings rooms q ≡ memory_bytes files readings rooms q
   bytes_more (In p) = left_in-append files file _ (within (in_number p))
   bytes_more (Out p) = refl
 
 -- A port's place among those for writing is its own.
-out_number-place : (p : OutPort) → out_number p ≡ place p + 3
+out_number-place : (p : OutPort) → out_number p ≡ place p + 4
 out_number-place out_port.Term = refl
 out_number-place out_port.Log = refl
 out_number-place out_port.Final = refl
 out_number-place out_port.Report = refl
+out_number-place out_port.Second = refl
+out_number-place (out_port.Line l) = omega arith
 
 place-other : (p r : OutPort) → same (Out p) (Out r) ≡ false → place r ≢ place p
 place-other p r other e =
@@ -95,12 +99,12 @@ module _ {B : Type 0} (f : Room → B) (d : B) (rooms : List Room) (room : Room)
   read_room i j is below read = rw (← is) (get_or-map f rooms i room d below ∙ ap f (sym read))
 
 pub takes_room : (p : OutPort) (name : List ℕ) (more : ℕ) (files : List NamedFile) (names : List (Option (String Global))) (readings : List (Option Reading)) (rooms : List Room) (ports : List Kept)
-    (fails : List ℕ) (calls : ℕ) (text : String Global) (room larger : Room) (i j : ℕ)
+    (fails : List ℕ) (calls : ℕ) (chunk : Option ℕ) (text : String Global) (room larger : Room) (i j : ℕ)
     → i ≡ place p → j ≡ place p → i < length rooms → j < length names → room ≡ get_or rooms i room
     → string_bytes text ≡ name → larger.free ≡ room.free + more → larger.bytes.items ≡ room.bytes.items
-    → TakesRoom p name more (memory_of files names readings rooms ports fails calls)
-    (memory_of files (slice_set names j (Some text)) readings (slice_set rooms i larger) ports fails calls)
-takes_room p name more files names readings rooms ports fails calls text room larger i j i_is j_is in_rooms in_names read named freed kept = record {
+    → TakesRoom p name more (memory_of files names readings rooms ports fails calls chunk)
+    (memory_of files (slice_set names j (Some text)) readings (slice_set rooms i larger) ports fails calls chunk)
+takes_room p name more files names readings rooms ports fails calls chunk text room larger i j i_is j_is in_rooms in_names read named freed kept = record {
   expects = rw j_is (ap (option_map string_bytes) (get_or-set_same names (place p) (Some text) None (subst (λ (n : ℕ). n < length names) j_is in_names)) ∙ ap Some named);
   room = set_room-same (λ (r : Room). r.free) 0 rooms larger i (place p) i_is in_rooms ∙ freed
       ∙ ap (λ (n : ℕ). n + more) (sym (read_room (λ (r : Room). r.free) 0 rooms room i (place p) i_is in_rooms read));
@@ -113,6 +117,7 @@ takes_room p name more files names readings rooms ports fails calls text room la
   ports = λ q. ap (λ (bytes : List ℕ). state_of (kept_at ports (port_number q)) q bytes) (bytes_same q);
   fails = refl;
   calls = refl;
+  chunk = refl;
 } where
   bytes_kept : (n : ℕ) → slice_index_or (map (λ (r : Room). r.bytes.items) (slice_set rooms i larger)) n [] ≡ slice_index_or (map (λ (r : Room). r.bytes.items) rooms) n []
   bytes_kept n = ap (λ (xs : List (List ℕ)). slice_index_or xs n []) (map-set_same (λ (r : Room). r.bytes.items) rooms i larger room (kept ∙ ap (λ (r : Room). r.bytes.items) read))
@@ -120,6 +125,36 @@ takes_room p name more files names readings rooms ports fails calls text room la
   bytes_same : (q : Port) → memory_bytes files readings (slice_set rooms i larger) q ≡ memory_bytes files readings rooms q
   bytes_same (In r) = refl
   bytes_same (Out r) = bytes_kept (place r)
+
+-- Nothing is seen of a room that holds and takes as much as the one in whose place it stands.
+pub room_kept : (files : List NamedFile) (names : List (Option (String Global))) (readings : List (Option Reading)) (rooms : List Room) (ports : List Kept)
+    (fails : List ℕ) (calls : ℕ) (chunk : Option ℕ) (room other : Room) (i : ℕ)
+    → room ≡ get_or rooms i room → other.free ≡ room.free → other.bytes.items ≡ room.bytes.items
+    → memory_of files names readings (slice_set rooms i other) ports fails calls chunk ≡ memory_of files names readings rooms ports fails calls chunk
+room_kept files names readings rooms ports fails calls chunk room other i read freed kept =
+    ap (λ bytes. with_seen bytes (λ p. slice_index_or (map (λ (r : Room). r.free) (slice_set rooms i other)) (place p) 0)) (fun_ext bytes_same)
+    ∙ ap (with_seen (memory_bytes files readings rooms)) (fun_ext free_same) where
+  with_seen : (Port → List ℕ) → (OutPort → ℕ) → Memory
+  with_seen bytes free = record {
+    outside = outside_of (record { tells = true; given = given_by files; expects = λ p. option_map string_bytes (slice_index_or names (place p) None) }) bytes ports;
+    fails = fails;
+    calls = calls;
+    room = free;
+    chunk = chunk;
+  }
+
+  bytes_kept : map (λ (r : Room). r.bytes.items) (slice_set rooms i other) ≡ map (λ (r : Room). r.bytes.items) rooms
+  bytes_kept = map-set_same (λ (r : Room). r.bytes.items) rooms i other room (kept ∙ ap (λ (r : Room). r.bytes.items) read)
+
+  free_kept : map (λ (r : Room). r.free) (slice_set rooms i other) ≡ map (λ (r : Room). r.free) rooms
+  free_kept = map-set_same (λ (r : Room). r.free) rooms i other room (freed ∙ ap (λ (r : Room). r.free) read)
+
+  bytes_same : (q : Port) → memory_bytes files readings (slice_set rooms i other) q ≡ memory_bytes files readings rooms q
+  bytes_same (In p) = refl
+  bytes_same (Out p) = ap (λ (xs : List (List ℕ)). slice_index_or xs (place p) []) bytes_kept
+
+  free_same : (p : OutPort) → slice_index_or (map (λ (r : Room). r.free) (slice_set rooms i other)) (place p) 0 ≡ slice_index_or (map (λ (r : Room). r.free) rooms) (place p) 0
+  free_same p = ap (λ (xs : List ℕ). slice_index_or xs (place p) 0) free_kept
 
 -- a write into a room
 module _ (p : OutPort) (piece : List ℕ) (files : List NamedFile) (readings : List (Option Reading)) (rooms : List Room) (ports : List Kept)
@@ -165,3 +200,23 @@ pub same_read : (rooms : List Room) (i : ℕ) (a b : Room) → i < length rooms 
 same_read [] i a b below a_is b_is = absurd (omega arith)
 same_read (room ∷ rooms) zero a b below a_is b_is = a_is ∙ sym b_is
 same_read (room ∷ rooms) (suc i) a b below a_is b_is = same_read rooms i a b (omega arith) a_is b_is
+
+-- A room that is empty before others that are.
+pub and_empty : (room : Room) (rooms : List Room) → room.bytes.items ≡ [] → room.free ≡ 0 → AreEmpty rooms → AreEmpty (room ∷ rooms)
+and_empty room rooms no_bytes no_room others = record { bytes = bytes_at_place; free = free_at_place } where
+  bytes_at_place : (n : ℕ) → slice_index_or (map (λ (r : Room). r.bytes.items) (room ∷ rooms)) n [] ≡ []
+  bytes_at_place zero = no_bytes
+  bytes_at_place (suc n) = others.bytes n
+
+  free_at_place : (n : ℕ) → slice_index_or (map (λ (r : Room). r.free) (room ∷ rooms)) n 0 ≡ 0
+  free_at_place zero = no_room
+  free_at_place (suc n) = others.free n
+
+pub none_empty : AreEmpty []
+none_empty = record { bytes = λ n. refl; free = λ n. refl }
+
+-- a host in memory to which nothing was added
+pub no_bytes : (rooms : List Room) (readings : List (Option Reading)) → AreEmpty rooms → ((n : ℕ) → slice_index_or readings n None ≡ None)
+    → (q : Port) → memory_bytes [] readings rooms q ≡ []
+no_bytes rooms readings empty unread (In p) = rw unread refl
+no_bytes rooms readings empty unread (Out p) = empty.bytes (place p)

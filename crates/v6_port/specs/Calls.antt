@@ -1,6 +1,6 @@
 -- What each call of a host does, one record a call.
 -- The rules are those of docs/manual/ports.md, "The five calls".
-use Rattle.std.specs.Prelude.{◌≡◌, ℕ, ◌<◌, ◌≤◌, Bool, true, false, List, [], ◌++◌, length, take, Option, Some, None, is_some, Result, MatchResult, nat_eq}
+use Rattle.std.specs.Prelude.{◌≡◌, ℕ, ◌<◌, ◌≤◌, min, Bool, true, false, List, [], ◌++◌, length, take, Option, Some, None, is_some, Result, MatchResult, nat_eq}
 use Rattle.std.specs.Cmp.Lexicographic.{pointwise}
 use Rattle.v6_port.specs.declared.host.InPort.{InPort}
 use Rattle.v6_port.specs.declared.host.OutPort.{OutPort}
@@ -13,6 +13,11 @@ is_given bytes = is_some bytes
 abbrev pub is_expected : Option (List ℕ) → List ℕ → Bool
 is_expected None name = false
 is_expected (Some expected) name = pointwise nat_eq expected name
+
+-- of so many bytes those that go in one call, where the most that go is limited
+abbrev pub at_most : Option ℕ → ℕ → ℕ
+at_most None n = n
+at_most (Some most) n = min n most
 
 -- A call has failed at this port: its faults rose, and no more is open, read or written than before.
 pub record HasFailed (q : Port) (old new : Outside) : Type 0 where

@@ -17,16 +17,18 @@ use Rattle.v6_port.specs.Kept.{outside_of}
 use Rattle.v6_port.specs.Files.{given_by, memory_bytes}
 
 -- The outside; the numbers of the calls that are to fail; how many calls of the trait there were, 2^32 - 1
--- standing for more; and how many bytes more each port takes.
+-- standing for more; how many bytes more each port takes; and the most that one read gives and one write takes,
+-- where that is limited.
 pub record Memory : Type 0 where
   pub outside : Outside
   pub fails : List ℕ
   pub calls : ℕ
   pub room : OutPort → ℕ
+  pub chunk : Option ℕ
 
 -- the same by what the host keeps
-abbrev pub memory_of : List NamedFile → List (Option (String Global)) → List (Option Reading) → List Room → List Kept → List ℕ → ℕ → Memory
-memory_of files names readings rooms ports fails calls = record {
+abbrev pub memory_of : List NamedFile → List (Option (String Global)) → List (Option Reading) → List Room → List Kept → List ℕ → ℕ → Option ℕ → Memory
+memory_of files names readings rooms ports fails calls chunk = record {
   outside = outside_of (record {
     tells = true;
     given = given_by files;
@@ -35,10 +37,11 @@ memory_of files names readings rooms ports fails calls = record {
   fails = fails;
   calls = calls;
   room = λ p. slice_index_or (map (λ room. room.free) rooms) (place p) 0;
+  chunk = chunk;
 }
 
 abbrev pub memory : MemHost → Memory
-memory host = memory_of host.files.items host.names host.readings host.rooms host.ports host.fails.items host.calls
+memory host = memory_of host.files.items host.names host.readings host.rooms host.ports host.fails.items host.calls host.chunk
 
 abbrev pub written : Memory → OutPort → List ℕ
 written m p = (m.outside.port (Out p)).bytes
@@ -54,6 +57,7 @@ pub record IsEmpty (m : Memory) : Type 0 where
   pub fails : m.fails ≡ []
   pub calls : m.calls ≡ 0
   pub room : (p : OutPort) → m.room p ≡ 0
+  pub chunk : m.chunk ≡ None
 
 -- A file was added, and nothing else has changed.
 pub record AddsFile (name bytes : List ℕ) (old new : Memory) : Type 0 where
@@ -65,6 +69,7 @@ pub record AddsFile (name bytes : List ℕ) (old new : Memory) : Type 0 where
   pub fails : new.fails ≡ old.fails
   pub calls : new.calls ≡ old.calls
   pub room : new.room ≡ old.room
+  pub chunk : new.chunk ≡ old.chunk
 
 -- A port was given its name, and room for so many bytes more, and nothing else has changed.
 pub record TakesRoom (p : OutPort) (name : List ℕ) (more : ℕ) (old new : Memory) : Type 0 where
@@ -76,6 +81,7 @@ pub record TakesRoom (p : OutPort) (name : List ℕ) (more : ℕ) (old new : Mem
   pub ports : (q : Port) → new.outside.port q ≡ old.outside.port q
   pub fails : new.fails ≡ old.fails
   pub calls : new.calls ≡ old.calls
+  pub chunk : new.chunk ≡ old.chunk
 
 -- the number of the call that comes next, from 1
 abbrev pub next_call : Memory → ℕ
@@ -99,4 +105,5 @@ fails_write m p piece = is_due m || (nat_lt 0 (length piece) && m.room p == 0)
 pub record IsOneCall (old new : Memory) : Type 0 where
   pub calls : new.calls ≡ next_call old
   pub fails : new.fails ≡ old.fails
+  pub chunk : new.chunk ≡ old.chunk
   pub room : (p : OutPort) → new.room p + length (written new p) ≡ old.room p + length (written old p)

@@ -1,5 +1,5 @@
-use Rattle.std.proofs.Common.{◌≡◌, ◌+◌, ◌<◌, length, rules}
-use Rattle.v6_port.proofs.MemoryLemmas.{takes_room}
+use Rattle.std.proofs.Common.{◌≡◌, ◌+◌, ◌<◌, length, Err, rules}
+use Rattle.v6_port.proofs.MemoryLemmas.{takes_room, room_kept}
 use Rattle.v6_port.proofs.mem_host.MemHost.room.Goals as goal
 
 pub returns-clause-ok : goal.returns-clause-ok
@@ -8,4 +8,10 @@ returns-clause-ok c =
     let in_names : c.place-2.result < length c.args.self.now.names = search rules in
     let freed : c.grow.new.self.free ≡ c.index-self-place.result.free + c.args.bytes = search rules in
     let kept : c.grow.new.self.bytes.items ≡ c.index-self-place.result.bytes.items = search rules in
-    takes_room _ _ _ _ _ _ _ _ _ _ _ _ _ _ _ c.place.ensures.place c.place-2.ensures.place in_rooms in_names c.index-self-place.is c.in_ok-name.ensures.ok freed kept
+    takes_room _ _ _ _ _ _ _ _ _ _ _ _ _ _ _ _ c.place.ensures.place c.place-2.ensures.place in_rooms in_names c.index-self-place.is c.in_ok-name.ensures.ok freed kept
+
+pub returns-in_err-grow-clause-err : goal.returns-in_err-grow-clause-err
+returns-in_err-grow-clause-err c =
+    let freed : c.grow.new.self.free ≡ c.index-self-place.result.free = search rules in
+    let kept : c.grow.new.self.bytes.items ≡ c.index-self-place.result.bytes.items = search rules in
+    λ _. room_kept _ _ _ _ _ _ _ _ _ _ _ c.index-self-place.is freed kept

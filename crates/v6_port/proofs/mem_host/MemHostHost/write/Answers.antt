@@ -8,8 +8,7 @@ pub returns-clause-writes : goal.returns-clause-writes
 returns-clause-writes c =
     let below : c.place-place.result < length c.args.self.now.rooms = search rules in
     let appended : c.append.new.self.bytes.items ≡ c.index-self-place-2.result.bytes.items ++ take c.append.result c.args.piece.now = search rules in
-    let count : c.append.result ≡ min (length c.args.piece.now) c.index-self-place-2.result.free = search rules in
-    let part : c.append.result ≤ length c.args.piece.now = omega arith in
+    let part : c.append.result ≤ length c.args.piece.now = c.append.ensures.part in
     let reads : c.index-self-place-2.result ≡ c.index-self-place.result = same_read c.args.self.now.rooms _ _ _ below c.index-self-place-2.is c.index-self-place.is in
     let free : c.index-self-place-2.result.free ≡ c.index-self-place.result.free = ap (λ (r : Room). r.free) reads in
     let some : 0 < length c.args.piece.now → 0 < c.append.result = λ not_empty. elim c.else-is_full.branch [
@@ -22,11 +21,11 @@ pub returns-clause-counts : goal.returns-clause-counts
 returns-clause-counts c =
     let below : c.place-place.result < length c.args.self.now.rooms = search rules in
     let appended : c.append.new.self.bytes.items ≡ c.index-self-place-2.result.bytes.items ++ take c.append.result c.args.piece.now = search rules in
-    let count : c.append.result ≡ min (length c.args.piece.now) c.index-self-place-2.result.free = search rules in
-    let part : c.append.result ≤ length c.args.piece.now = omega arith in
+    let part : c.append.result ≤ length c.args.piece.now = c.append.ensures.part in
     let used : c.append.new.self.free + c.append.result ≡ c.index-self-place-2.result.free = search rules in
     record {
       calls = search rules;
       fails = search rules;
+      chunk = search rules;
       room = room_used _ _ c.args.self.now.files.items c.args.self.now.readings _ c.args.self.now.ports _ _ _ _ c.place-place.ensures.place below c.index-self-place-2.is appended part used;
     }
