@@ -1,13 +1,14 @@
 -- What the changes of a host in memory show outside.
-use Rattle.std.proofs.Common.{◌≡◌, ◌≢◌, ℕ, zero, suc, ◌+◌, ◌<◌, ◌≤◌, true, false, List, [], ◌∷◌, ◌++◌, map, length, drop, take, Ok, get_or, slice_index_or, slice_set, Option, Some, None, nat_eq, arith, ap, subst, refl, sym, ◌∙◌}
+use Rattle.std.proofs.Common.{◌≡◌, ◌≢◌, ℕ, zero, suc, ◌+◌, ◌<◌, ◌≤◌, true, false, List, [], ◌∷◌, ◌++◌, map, length, drop, take, Ok, get_or, slice_index_or, slice_set, Option, Some, None, nat_eq, arith, le_of_eq, ap, subst, refl, sym, ◌∙◌}
 use Rattle.std.specs.Prelude.{if◌then◌else◌, string_bytes, String}
 use Rattle.std.specs.declared.alloc.Global.{Global}
 use Rattle.std.specs.Option.{option_map, ForSome}
 use Rattle.std.specs.Cmp.Lexicographic.{pointwise, same_text, other_text}
-use Rattle.std.proofs.lemmas.List.{get_or-map, get_or_append_left, map-append, get_or-set_other, get_or-set_same, map-set, length-map, length-append, length-take}
+use Rattle.std.proofs.lemmas.List.{get_or-map, get_or_append_left, map-append, get_or-set_other, get_or-set_same, map-set, length-map, length-append, length-take, take-append-drop, take-append-le, take_all, drop-drop}
 use Rattle.std.proofs.Math.Seq.{map-set_same}
 use Rattle.std.proofs.Math.Path.{fun_ext}
 use Rattle.std.proofs.lemmas.Bool.Decides.{nat_tests}
+use Rattle.v6_port.specs.declared.host.InPort.{InPort}
 use Rattle.v6_port.specs.declared.host.OutPort.{OutPort}
 use Rattle.v6_port.specs.declared.host.OutPort.TheVariants as out_port
 use Rattle.v6_port.specs.declared.kept.Kept.{Kept}
@@ -194,6 +195,44 @@ module _ (p : OutPort) (piece : List ℕ) (files : List NamedFile) (readings : L
       here_adds_up : Adds_up_at (place p)
       here_adds_up = rw (bytes_appended, set_room-same (λ (r : Room). r.free) 0 rooms fuller i (place p) is below, read_room (λ (r : Room). r.free) 0 rooms room i (place p) is below read)
           (omega (arith, length-append {A = ℕ}, length-take {A = ℕ}))
+
+-- a read: `copied` are the first bytes of the rest, which stand now in the front of the buffer
+module _ (p : InPort) (files : List NamedFile) (readings : List (Option Reading)) (rooms : List Room) (ports : List Kept)
+    (reading : Reading) (rest copied more : List ℕ) (i n : ℕ) (is : i ≡ in_number p) (below : i < length readings)
+    (found : slice_index_or readings i None ≡ Some reading) (rest_is : rest ≡ drop reading.at (bytes_at files reading.file)) where
+  abbrev moved : Option Reading
+  moved = Some (record { file = reading.file; at = reading.at + n })
+
+  left_before : memory_bytes files readings rooms (In p) ≡ rest
+  left_before = ap (λ (k : ℕ). left_in files (slice_index_or readings k None)) (sym is) ∙ ap (left_in files) found ∙ sym rest_is
+
+  left_after : memory_bytes files (slice_set readings i moved) rooms (In p) ≡ drop n rest
+  left_after = ap (λ (k : ℕ). left_in files (slice_index_or (slice_set readings i moved) k None)) (sym is)
+      ∙ ap (left_in files) (get_or-set_same readings i moved None below)
+      ∙ sym (drop-drop n reading.at (bytes_at files reading.file)) ∙ ap (drop n) (sym rest_is)
+
+  left_other : (q : Port) → same (In p) q ≡ false → memory_bytes files (slice_set readings i moved) rooms q ≡ memory_bytes files readings rooms q
+  left_other (In r) other = let apart : in_number r ≢ i = λ e. grind (arith, nat_tests) in
+      ap (left_in files) (get_or-set_other readings i (in_number r) moved None apart)
+  left_other (Out r) other = refl
+
+  pub reads : (fixed : Environment) → copied ≡ take n rest → length copied ≡ n → (0 < length (copied ++ more) → 0 < length rest → 0 < n)
+      → Reads p (outside_of fixed (memory_bytes files readings rooms) ports) (copied ++ more) (Ok n) (outside_of fixed (memory_bytes files (slice_set readings i moved) rooms) ports)
+  reads fixed given long some = record {
+    only = record { fixed = refl; others = λ q other. ap (λ (bytes : List ℕ). state_of (kept_at ports (port_number q)) q bytes) (left_other q other) };
+    outcome = (
+      omega (arith, length-append {A = ℕ}),
+      refl,
+      (λ told. left_before ∙ sym (take-append-drop n rest) ∙ ap (λ (l : List ℕ). l ++ drop n rest) (sym front) ∙ ap (λ (l : List ℕ). take n (copied ++ more) ++ l) (sym left_after)),
+      (λ told none wanted. left_before ∙ none_left rest some none wanted),
+    );
+  } where
+    front : take n (copied ++ more) ≡ take n rest
+    front = take-append-le n copied more (le_of_eq (sym long)) ∙ take_all n copied (le_of_eq long) ∙ given
+
+    none_left : (l : List ℕ) → (0 < length (copied ++ more) → 0 < length l → 0 < n) → n ≡ 0 → 0 < length (copied ++ more) → l ≡ []
+    none_left [] some none wanted = refl
+    none_left (x ∷ l) some none wanted = absurd (let at_least_one : 0 < n = some wanted (omega arith) in omega arith)
 
 -- two reads of one element
 pub same_read : (rooms : List Room) (i : ℕ) (a b : Room) → i < length rooms → a ≡ get_or rooms i a → b ≡ get_or rooms i b → a ≡ b

@@ -1,16 +1,19 @@
 //! What each file holds where a call of the host fails: docs/manual/commands.md.
+ghost use Rattle.v6_port.specs.Outside.{IsIdle};
+ghost use Rattle.v6_port.specs.Memory.{memory};
+
 use crate::final_disk::GRAVE;
 use crate::log::shown_on;
 use fs_codec::{BLOCK_SIZE, DISK_BYTES};
 use run_fixtures::{HI_BYTES, RUN, end_over, hi_image, host_with, is_front};
 use std::alloc::{AllocError, Global};
 use std::test::Fail;
-use v6_port::{InPort, OutPort};
+use v6_port::{InPort, MemHost, OutPort};
 use v6_run::Status;
 
 /// A call of the run of `examples/hi` that fails, the status, how much of what the run shows has been written, and how many
 /// blocks of the disk.
-type Fault = (u32, Status, usize, usize);
+pub(crate) type Fault = (u32, Status, usize, usize);
 
 /// The image is opened by call 1, read by nine calls of 4,096 bytes at most, and once more to its end; the script is opened by
 /// call 12, and read by two. Then come the three openings.
@@ -60,23 +63,35 @@ fn report_of(status: Status) -> &'static [u8] {
     }
 }
 
-fn leaves_fronts(alloc: Global, row: &Fault) -> Result<bool, AllocError> {
+/// Whether a run of `examples/hi` over this host, whose disk at its end this is, leaves what the row tells.
+pub(crate) fn leaves(
+    alloc: Global,
+    host: &mut MemHost,
+    disk: &[u8],
+    row: &Fault,
+) -> Result<bool, AllocError>
+    requires { IsIdle (memory host.old).outside }
+{
     let (call, wanted, count, blocks) = *row;
-    let image = hi_image(alloc, HI_BYTES, &[])?;
-    let mut host = host_with(alloc, &image, b"run 20\n")?;
     host.fail(call)?;
-    let status = end_over(alloc, RUN, &mut host)?;
+    let status = end_over(alloc, RUN, host)?;
     let term = shown_on(alloc, OutPort::Term, count)?;
     let log = shown_on(alloc, OutPort::Log, count)?;
-    let disk = hi_image(alloc, DISK_BYTES, GRAVE)?;
     let written = blocks.min(4_872) * BLOCK_SIZE;
     Ok(
         status == wanted
             && host.bytes(OutPort::Term) == term.as_slice()
             && host.bytes(OutPort::Log) == log.as_slice()
-            && is_front(host.bytes(OutPort::Final), &disk, written)
+            && is_front(host.bytes(OutPort::Final), disk, written)
             && host.bytes(OutPort::Report) == report_of(wanted),
     )
+}
+
+fn leaves_fronts(alloc: Global, row: &Fault) -> Result<bool, AllocError> {
+    let image = hi_image(alloc, HI_BYTES, &[])?;
+    let disk = hi_image(alloc, DISK_BYTES, GRAVE)?;
+    let mut host = host_with(alloc, &image, b"run 20\n")?;
+    leaves(alloc, &mut host, &disk, row)
 }
 
 #[test]

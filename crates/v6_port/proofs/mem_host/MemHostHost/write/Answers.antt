@@ -1,4 +1,4 @@
-use Rattle.std.proofs.Common.{◌≡◌, ◌+◌, ◌<◌, ◌≤◌, ◌++◌, length, take, min, ap, rules, arith}
+use Rattle.std.proofs.Common.{◌≡◌, ◌+◌, ◌<◌, ◌≤◌, ◌++◌, length, take, ap, rules}
 use Rattle.v6_port.specs.declared.rooms.Room.{Room}
 use Rattle.v6_port.proofs.MemoryLemmas.{writes, room_used, same_read}
 use Rattle.v6_port.proofs.mem_host.MemHostHost.write.Goals as goal
