@@ -1,6 +1,6 @@
 -- What the changes of a host in memory show outside.
-use Rattle.std.proofs.Common.{◌≡◌, ◌≢◌, ℕ, zero, suc, ◌+◌, ◌<◌, ◌≤◌, true, false, List, [], ◌∷◌, ◌++◌, map, length, drop, take, Ok, get_or, slice_index_or, slice_set, Option, Some, None, nat_eq, arith, le_of_eq, ap, subst, refl, sym, ◌∙◌}
-use Rattle.std.specs.Prelude.{if◌then◌else◌, string_bytes, String}
+use Rattle.std.proofs.Common.{◌≡◌, ◌≢◌, ℕ, zero, suc, ◌+◌, ◌<◌, ◌≤◌, true, false, List, [], ◌∷◌, ◌++◌, map, length, drop, take, Ok, Err, Result, get_or, slice_index_or, slice_set, Option, Some, None, nat_eq, arith, le_of_eq, ap, subst, refl, sym, ◌∙◌}
+use Rattle.std.specs.Prelude.{if◌then◌else◌, string_bytes, String, OnErr}
 use Rattle.std.specs.declared.alloc.Global.{Global}
 use Rattle.std.specs.Option.{option_map, ForSome}
 use Rattle.std.specs.Cmp.Lexicographic.{pointwise, same_text, other_text}
@@ -17,9 +17,9 @@ use Rattle.v6_port.specs.declared.files.Reading.{Reading}
 use Rattle.v6_port.specs.declared.rooms.Room.{Room}
 use Rattle.v6_port.specs.Outside.{Environment, Port, In, Out, same, place, in_number, out_number, port_number}
 use Rattle.v6_port.specs.Kept.{kept_at, state_of, outside_of}
-use Rattle.v6_port.specs.Files.{is_named, first_of, given_by, left_in, memory_bytes, AreEmpty}
+use Rattle.v6_port.specs.Files.{is_named, first_of, given_by, bytes_at, left_in, memory_bytes, AreEmpty}
 use Rattle.v6_port.specs.Memory.{Memory, memory_of, AddsFile, TakesRoom}
-use Rattle.v6_port.specs.Calls.{Writes}
+use Rattle.v6_port.specs.Calls.{Reads, Writes}
 
 -- texts that are tested for being equal
 same_bytes : (bytes : List ℕ) → pointwise nat_eq bytes bytes ≡ true
@@ -135,27 +135,32 @@ pub room_kept : (files : List NamedFile) (names : List (Option (String Global)))
 room_kept files names readings rooms ports fails calls chunk room other i read freed kept =
     ap (λ bytes. with_seen bytes (λ p. slice_index_or (map (λ (r : Room). r.free) (slice_set rooms i other)) (place p) 0)) (fun_ext bytes_same)
     ∙ ap (with_seen (memory_bytes files readings rooms)) (fun_ext free_same) where
-  with_seen : (Port → List ℕ) → (OutPort → ℕ) → Memory
-  with_seen bytes free = record {
-    outside = outside_of (record { tells = true; given = given_by files; expects = λ p. option_map string_bytes (slice_index_or names (place p) None) }) bytes ports;
-    fails = fails;
-    calls = calls;
-    room = free;
-    chunk = chunk;
-  }
+      with_seen : (Port → List ℕ) → (OutPort → ℕ) → Memory
+      with_seen bytes free = record {
+        outside = outside_of (record { tells = true; given = given_by files; expects = λ p. option_map string_bytes (slice_index_or names (place p) None) }) bytes ports;
+        fails = fails;
+        calls = calls;
+        room = free;
+        chunk = chunk;
+      }
 
-  bytes_kept : map (λ (r : Room). r.bytes.items) (slice_set rooms i other) ≡ map (λ (r : Room). r.bytes.items) rooms
-  bytes_kept = map-set_same (λ (r : Room). r.bytes.items) rooms i other room (kept ∙ ap (λ (r : Room). r.bytes.items) read)
+      bytes_kept : map (λ (r : Room). r.bytes.items) (slice_set rooms i other) ≡ map (λ (r : Room). r.bytes.items) rooms
+      bytes_kept = map-set_same (λ (r : Room). r.bytes.items) rooms i other room (kept ∙ ap (λ (r : Room). r.bytes.items) read)
 
-  free_kept : map (λ (r : Room). r.free) (slice_set rooms i other) ≡ map (λ (r : Room). r.free) rooms
-  free_kept = map-set_same (λ (r : Room). r.free) rooms i other room (freed ∙ ap (λ (r : Room). r.free) read)
+      free_kept : map (λ (r : Room). r.free) (slice_set rooms i other) ≡ map (λ (r : Room). r.free) rooms
+      free_kept = map-set_same (λ (r : Room). r.free) rooms i other room (freed ∙ ap (λ (r : Room). r.free) read)
 
-  bytes_same : (q : Port) → memory_bytes files readings (slice_set rooms i other) q ≡ memory_bytes files readings rooms q
-  bytes_same (In p) = refl
-  bytes_same (Out p) = ap (λ (xs : List (List ℕ)). slice_index_or xs (place p) []) bytes_kept
+      bytes_same : (q : Port) → memory_bytes files readings (slice_set rooms i other) q ≡ memory_bytes files readings rooms q
+      bytes_same (In p) = refl
+      bytes_same (Out p) = ap (λ (xs : List (List ℕ)). slice_index_or xs (place p) []) bytes_kept
 
-  free_same : (p : OutPort) → slice_index_or (map (λ (r : Room). r.free) (slice_set rooms i other)) (place p) 0 ≡ slice_index_or (map (λ (r : Room). r.free) rooms) (place p) 0
-  free_same p = ap (λ (xs : List ℕ). slice_index_or xs (place p) 0) free_kept
+      free_same : (p : OutPort) → slice_index_or (map (λ (r : Room). r.free) (slice_set rooms i other)) (place p) 0 ≡ slice_index_or (map (λ (r : Room). r.free) rooms) (place p) 0
+      free_same p = ap (λ (xs : List ℕ). slice_index_or xs (place p) 0) free_kept
+
+-- what holds whatever the answer is, where it is an error
+pub on_error : {T E : Type 0} (r : Result T E) (P : Type 0) → P → OnErr r P
+on_error (Ok x) P holds = tt
+on_error (Err e) P holds = holds
 
 -- a write into a room
 module _ (p : OutPort) (piece : List ℕ) (files : List NamedFile) (readings : List (Option Reading)) (rooms : List Room) (ports : List Kept)

@@ -45,19 +45,7 @@ impl MemHost {
             alloc,
             files: Vec::new(alloc),
             names: [
-                None,
-                None,
-                None,
-                None,
-                None,
-                None,
-                None,
-                None,
-                None,
-                None,
-                None,
-                None,
-                None,
+                None, None, None, None, None, None, None, None, None, None, None, None, None,
             ],
             readings: [None; INPUTS],
             rooms: no_rooms(alloc),
@@ -210,7 +198,8 @@ impl Host for MemHost {
         requires { IsOpen (memory self.old).outside (In port) }
         ensures reads { Reads port (memory self.old).outside buf.new result (memory self.new).outside }
         ensures fails { is_err result ≡ is_due (memory self.old) }
-        ensures count { IfOk result (λ n. n ≡ at_most (memory self.old).chunk (min (length buf.new) (length (left (memory self.old) port)))) }
+        ensures count { IfOk result (λ n. n ≡ at_most (memory self.old).chunk
+            (min (length buf.new) (length (left (memory self.old) port)))) }
         ensures counts { IsOneCall (memory self.old) (memory self.new) }
     {
         let number = port.number();
@@ -255,7 +244,8 @@ impl Host for MemHost {
         requires there { IsThere port }
         ensures writes { Writes port (memory self.old).outside piece.now result (memory self.new).outside }
         ensures fails { is_err result ≡ fails_write (memory self.old) port piece.now }
-        ensures count { IfOk result (λ n. n ≡ at_most (memory self.old).chunk (min (length piece.now) ((memory self.old).room port))) }
+        ensures count { IfOk result (λ n. n ≡ at_most (memory self.old).chunk
+            (min (length piece.now) ((memory self.old).room port))) }
         ensures counts { IsOneCall (memory self.old) (memory self.new) }
     {
         let number = port.number();
