@@ -1,5 +1,7 @@
 -- What several calls of a host do to the ports, one after another.
-use Rattle.std.proofs.Common.{◌≡◌, ◌+◌, ℕ, arith, zero, suc, Bool, true, refl, sym, ◌∙◌, ap, subst, eqb-true}
+use Rattle.std.proofs.Common.{◌≡◌, ◌+◌, ◌<◌, ℕ, arith, zero, suc, Bool, true, false, refl, sym, ◌∙◌, ap, subst, eqb-true}
+use Rattle.std.specs.Prelude.{◌==◌}
+use Rattle.std.proofs.lemmas.Bool.Decides.{nat_tests}
 use Rattle.v6_port.specs.declared.host.InPort.TheVariants as in_port
 use Rattle.v6_port.specs.declared.host.OutPort.TheVariants as out_port
 use Rattle.v6_port.specs.Outside.{Port, In, Out, port_number, same, PortState, Environment, Outside, Tells, Rose, OnlyAt}
@@ -37,6 +39,10 @@ port_at-number (Out (out_port.Line l)) = ap port_at (line_number l)
 
 pub same_is : (p q : Port) → same p q ≡ true → p ≡ q
 same_is p q is = sym (port_at-number p) ∙ ap port_at (eqb-true (port_number p) (port_number q) is) ∙ port_at-number q
+
+-- a line is none of the other ports
+pub not_line : (n l : ℕ) → n < 9 → (n == 9 + l) ≡ false
+not_line n l below = grind (arith, nat_tests)
 
 pub still_tells : (mine : Port → Bool) (a b : Outside) → OnlyAt mine a b → Tells a → Tells b
 still_tells mine a b only told = ap (λ (f : Environment). f.tells) only.fixed ∙ told
