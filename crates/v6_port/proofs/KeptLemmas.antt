@@ -1,13 +1,14 @@
 -- What a change of what is kept shows outside.
-use Rattle.std.proofs.Common.{◌≡◌, ◌≢◌, ◌<◌, ℕ, Bool, true, false, List, [], ◌≤◌, length, Result, Ok, Err, rules, arith, ap, subst, refl, sym, ◌∙◌}
+use Rattle.std.proofs.Common.{◌≡◌, ◌≢◌, ◌<◌, ℕ, zero, suc, Bool, true, false, List, [], ◌≤◌, length, Result, Ok, Err, rules, arith, replicate, slice_index_or, ap, subst, refl, sym, ◌∙◌}
+use Rattle.std.proofs.lemmas.Bool.Decides.{nat_tests}
 use Rattle.v6_port.specs.declared.kept.Kept.{Kept}
 use Rattle.v6_port.specs.declared.host.InPort.{InPort}
 use Rattle.v6_port.specs.declared.host.OutPort.{OutPort}
 use Rattle.v6_port.specs.declared.host.OutPort.TheVariants as out_port
 use Rattle.v6_port.specs.declared.host.Failed.{Failed}
-use Rattle.v6_port.specs.Outside.{Port, In, Out, same, in_number, out_number, port_number, is_report, Environment, OnlyAt}
+use Rattle.v6_port.specs.Outside.{Port, In, Out, same, in_number, out_number, port_number, is_report, Environment, OnlyAt, IsNew, IsIdle}
 use Rattle.v6_port.specs.Calls.{HasFailed, FailedPlainly, FailedToOpen, OpensRead, OpensWrite, Reads, Writes, Finishes}
-use Rattle.v6_port.specs.Kept.{silent, untold, kept_at, state_of, outside_of, KeptBut, Faults, Turns}
+use Rattle.v6_port.specs.Kept.{nothing_kept, silent, untold, kept_at, state_of, outside_of, KeptBut, Faults, Turns}
 
 -- nothing else is seen to change
 pub only_at : (q : Port) (fixed : Environment) (bytes later : Port → List ℕ) (old new : List Kept) (n : ℕ) → n ≡ port_number q
@@ -105,6 +106,8 @@ not_report out_port.Term other = refl
 not_report out_port.Log other = refl
 not_report out_port.Final other = refl
 not_report out_port.Report other = absurd (other refl)
+not_report out_port.Second other = refl
+not_report (out_port.Line l) other = grind (arith, nat_tests)
 
 pub finishes : (old new : List Kept) (n : ℕ) → Turns n false old new
     → (p : OutPort) → n ≡ out_number p → p ≢ out_port.Report → Finishes p (silent old) (Ok tt) (silent new)
@@ -128,4 +131,26 @@ module _ (ports : List Kept) (bytes : List ℕ) (n : ℕ) (within : n ≤ length
   writes p some = record {
     only = record { fixed = refl; others = λ q other. refl };
     outcome = (within, some, refl, λ told. absurd (cc));
+  }
+
+-- nothing is kept yet
+pub repeated : {A : Type 0} (m n : ℕ) (x : A) → slice_index_or (replicate m x) n x ≡ x
+repeated zero n x = refl
+repeated (suc m) zero x = refl
+repeated (suc m) (suc n) x = repeated m n x
+
+module _ (fixed : Environment) (bytes : Port → List ℕ) (ports : List Kept) (nothing : (n : ℕ) → kept_at ports n ≡ nothing_kept) where
+  pub is_new : ((q : Port) → bytes q ≡ []) → IsNew (outside_of fixed bytes ports)
+  is_new empty = record {
+    is_open = λ q. rw nothing refl;
+    faults = λ q. rw nothing refl;
+    missing = λ q. rw nothing refl;
+    bytes = empty;
+  }
+
+  pub is_idle : IsIdle (outside_of fixed bytes ports)
+  is_idle = record {
+    closed = λ p other. rw (nothing, other) refl;
+    faults = λ q. rw nothing (omega arith);
+    missing = λ q. rw nothing (omega arith);
   }

@@ -1,11 +1,12 @@
 -- What the changes of a host in memory show outside.
-use Rattle.std.proofs.Common.{◌≡◌, ◌≢◌, ℕ, zero, suc, ◌+◌, ◌<◌, ◌≤◌, true, false, List, [], ◌∷◌, ◌++◌, map, length, drop, take, Ok, get_or, slice_index_or, slice_set, Option, Some, None, nat_eq, arith, le_of_eq, ap, subst, refl, sym, ◌∙◌}
-use Rattle.std.specs.Prelude.{if◌then◌else◌, string_bytes, String}
+use Rattle.std.proofs.Common.{◌≡◌, ◌≢◌, ℕ, zero, suc, ◌+◌, ◌<◌, ◌≤◌, true, false, List, [], ◌∷◌, ◌++◌, map, length, drop, take, Ok, Err, Result, get_or, slice_index_or, slice_set, Option, Some, None, nat_eq, arith, le_of_eq, ap, subst, refl, sym, ◌∙◌}
+use Rattle.std.specs.Prelude.{if◌then◌else◌, string_bytes, String, OnErr}
 use Rattle.std.specs.declared.alloc.Global.{Global}
 use Rattle.std.specs.Option.{option_map, ForSome}
 use Rattle.std.specs.Cmp.Lexicographic.{pointwise, same_text, other_text}
 use Rattle.std.proofs.lemmas.List.{get_or-map, get_or_append_left, map-append, get_or-set_other, get_or-set_same, map-set, length-map, length-append, length-take, take-append-drop, take-append-le, take_all, drop-drop}
 use Rattle.std.proofs.Math.Seq.{map-set_same}
+use Rattle.std.proofs.Math.Path.{fun_ext}
 use Rattle.std.proofs.lemmas.Bool.Decides.{nat_tests}
 use Rattle.v6_port.specs.declared.host.InPort.{InPort}
 use Rattle.v6_port.specs.declared.host.OutPort.{OutPort}
@@ -16,8 +17,8 @@ use Rattle.v6_port.specs.declared.files.Reading.{Reading}
 use Rattle.v6_port.specs.declared.rooms.Room.{Room}
 use Rattle.v6_port.specs.Outside.{Environment, Port, In, Out, same, place, in_number, out_number, port_number}
 use Rattle.v6_port.specs.Kept.{kept_at, state_of, outside_of}
-use Rattle.v6_port.specs.Files.{is_named, first_of, given_by, bytes_at, left_in, memory_bytes}
-use Rattle.v6_port.specs.Memory.{memory_of, AddsFile, TakesRoom}
+use Rattle.v6_port.specs.Files.{is_named, first_of, given_by, bytes_at, left_in, memory_bytes, AreEmpty}
+use Rattle.v6_port.specs.Memory.{Memory, memory_of, AddsFile, TakesRoom}
 use Rattle.v6_port.specs.Calls.{Reads, Writes}
 
 -- texts that are tested for being equal
@@ -71,11 +72,13 @@ adds files later names readings rooms ports fails calls chunk file name bytes is
   bytes_more (Out p) = refl
 
 -- A port's place among those for writing is its own.
-out_number-place : (p : OutPort) → out_number p ≡ place p + 3
+out_number-place : (p : OutPort) → out_number p ≡ place p + 4
 out_number-place out_port.Term = refl
 out_number-place out_port.Log = refl
 out_number-place out_port.Final = refl
 out_number-place out_port.Report = refl
+out_number-place out_port.Second = refl
+out_number-place (out_port.Line l) = omega arith
 
 place-other : (p r : OutPort) → same (Out p) (Out r) ≡ false → place r ≢ place p
 place-other p r other e =
@@ -123,6 +126,41 @@ takes_room p name more files names readings rooms ports fails calls chunk text r
   bytes_same : (q : Port) → memory_bytes files readings (slice_set rooms i larger) q ≡ memory_bytes files readings rooms q
   bytes_same (In r) = refl
   bytes_same (Out r) = bytes_kept (place r)
+
+-- Nothing is seen of a room that holds and takes as much as the one in whose place it stands.
+pub room_kept : (files : List NamedFile) (names : List (Option (String Global))) (readings : List (Option Reading)) (rooms : List Room) (ports : List Kept)
+    (fails : List ℕ) (calls : ℕ) (chunk : Option ℕ) (room other : Room) (i : ℕ)
+    → room ≡ get_or rooms i room → other.free ≡ room.free → other.bytes.items ≡ room.bytes.items
+    → memory_of files names readings (slice_set rooms i other) ports fails calls chunk ≡ memory_of files names readings rooms ports fails calls chunk
+room_kept files names readings rooms ports fails calls chunk room other i read freed kept =
+    ap (λ bytes. with_seen bytes (λ p. slice_index_or (map (λ (r : Room). r.free) (slice_set rooms i other)) (place p) 0)) (fun_ext bytes_same)
+    ∙ ap (with_seen (memory_bytes files readings rooms)) (fun_ext free_same) where
+      with_seen : (Port → List ℕ) → (OutPort → ℕ) → Memory
+      with_seen bytes free = record {
+        outside = outside_of (record { tells = true; given = given_by files; expects = λ p. option_map string_bytes (slice_index_or names (place p) None) }) bytes ports;
+        fails = fails;
+        calls = calls;
+        room = free;
+        chunk = chunk;
+      }
+
+      bytes_kept : map (λ (r : Room). r.bytes.items) (slice_set rooms i other) ≡ map (λ (r : Room). r.bytes.items) rooms
+      bytes_kept = map-set_same (λ (r : Room). r.bytes.items) rooms i other room (kept ∙ ap (λ (r : Room). r.bytes.items) read)
+
+      free_kept : map (λ (r : Room). r.free) (slice_set rooms i other) ≡ map (λ (r : Room). r.free) rooms
+      free_kept = map-set_same (λ (r : Room). r.free) rooms i other room (freed ∙ ap (λ (r : Room). r.free) read)
+
+      bytes_same : (q : Port) → memory_bytes files readings (slice_set rooms i other) q ≡ memory_bytes files readings rooms q
+      bytes_same (In p) = refl
+      bytes_same (Out p) = ap (λ (xs : List (List ℕ)). slice_index_or xs (place p) []) bytes_kept
+
+      free_same : (p : OutPort) → slice_index_or (map (λ (r : Room). r.free) (slice_set rooms i other)) (place p) 0 ≡ slice_index_or (map (λ (r : Room). r.free) rooms) (place p) 0
+      free_same p = ap (λ (xs : List ℕ). slice_index_or xs (place p) 0) free_kept
+
+-- what holds whatever the answer is, where it is an error
+pub on_error : {T E : Type 0} (r : Result T E) (P : Type 0) → P → OnErr r P
+on_error (Ok x) P holds = tt
+on_error (Err e) P holds = holds
 
 -- a write into a room
 module _ (p : OutPort) (piece : List ℕ) (files : List NamedFile) (readings : List (Option Reading)) (rooms : List Room) (ports : List Kept)
@@ -206,3 +244,23 @@ pub same_read : (rooms : List Room) (i : ℕ) (a b : Room) → i < length rooms 
 same_read [] i a b below a_is b_is = absurd (omega arith)
 same_read (room ∷ rooms) zero a b below a_is b_is = a_is ∙ sym b_is
 same_read (room ∷ rooms) (suc i) a b below a_is b_is = same_read rooms i a b (omega arith) a_is b_is
+
+-- A room that is empty before others that are.
+pub and_empty : (room : Room) (rooms : List Room) → room.bytes.items ≡ [] → room.free ≡ 0 → AreEmpty rooms → AreEmpty (room ∷ rooms)
+and_empty room rooms no_bytes no_room others = record { bytes = bytes_at_place; free = free_at_place } where
+  bytes_at_place : (n : ℕ) → slice_index_or (map (λ (r : Room). r.bytes.items) (room ∷ rooms)) n [] ≡ []
+  bytes_at_place zero = no_bytes
+  bytes_at_place (suc n) = others.bytes n
+
+  free_at_place : (n : ℕ) → slice_index_or (map (λ (r : Room). r.free) (room ∷ rooms)) n 0 ≡ 0
+  free_at_place zero = no_room
+  free_at_place (suc n) = others.free n
+
+pub none_empty : AreEmpty []
+none_empty = record { bytes = λ n. refl; free = λ n. refl }
+
+-- a host in memory to which nothing was added
+pub no_bytes : (rooms : List Room) (readings : List (Option Reading)) → AreEmpty rooms → ((n : ℕ) → slice_index_or readings n None ≡ None)
+    → (q : Port) → memory_bytes [] readings rooms q ≡ []
+no_bytes rooms readings empty unread (In p) = rw unread refl
+no_bytes rooms readings empty unread (Out p) = empty.bytes (place p)

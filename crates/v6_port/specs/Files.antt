@@ -1,5 +1,5 @@
 -- The files and rooms that a host in memory keeps, and what is seen of them.
-use Rattle.std.specs.Prelude.{ℕ, Bool, List, [], ◌∷◌, map, drop, slice_index_or, Option, Some, None, if◌then◌else◌, nat_eq, string_bytes}
+use Rattle.std.specs.Prelude.{◌≡◌, ℕ, Bool, List, [], ◌∷◌, map, drop, slice_index_or, Option, Some, None, if◌then◌else◌, nat_eq, string_bytes}
 use Rattle.std.specs.Cmp.Lexicographic.{pointwise}
 use Rattle.v6_port.specs.declared.files.NamedFile.{NamedFile}
 use Rattle.v6_port.specs.declared.files.Reading.{Reading}
@@ -30,3 +30,8 @@ left_in files (Some reading) = drop reading.at (bytes_at files reading.file)
 abbrev pub memory_bytes : List NamedFile → List (Option Reading) → List Room → Port → List ℕ
 memory_bytes files readings rooms (In p) = left_in files (slice_index_or readings (in_number p) None)
 memory_bytes files readings rooms (Out p) = slice_index_or (map (λ room. room.bytes.items) rooms) (place p) []
+
+-- rooms in which nothing was written, and that take nothing
+pub record AreEmpty (rooms : List Room) : Type 0 where
+  pub bytes : (n : ℕ) → slice_index_or (map (λ room. room.bytes.items) rooms) n [] ≡ []
+  pub free : (n : ℕ) → slice_index_or (map (λ room. room.free) rooms) n 0 ≡ 0

@@ -1,4 +1,4 @@
--- What each of our hosts keeps of its seven ports, by their numbers, and what is seen by it.
+-- What each of our hosts keeps of its ports, by their numbers, and what is seen by it.
 use Rattle.std.specs.Prelude.{◌≡◌, ℕ, Bool, true, false, ◌||◌, ◌==◌, List, [], None, slice_index_or, refl}
 use Rattle.v6_port.specs.declared.kept.Kept.{Kept}
 use Rattle.v6_port.specs.declared.host.OutPort.TheVariants.{Report}

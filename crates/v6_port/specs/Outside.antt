@@ -1,6 +1,6 @@
--- What a program sees of the outside: seven ports, the state of each, and what stays for good.
+-- What a program sees of the outside: the ports, the state of each, and what stays for good.
 -- The rules are those of docs/manual/ports.md, "Ports and what is seen of them".
-use Rattle.std.specs.Prelude.{◌≡◌, ◌≢◌, ℕ, ◌-◌, ◌^◌, ◌<◌, ◌≤◌, Bool, true, false, ◌==◌, List, [], Option}
+use Rattle.std.specs.Prelude.{◌≡◌, ◌≢◌, ℕ, ◌+◌, ◌-◌, ◌^◌, ◌<◌, ◌≤◌, Bool, true, false, ◌==◌, List, [], Option}
 use Rattle.v6_port.specs.declared.host.InPort.{InPort}
 use Rattle.v6_port.specs.declared.host.InPort.TheVariants as in_port
 use Rattle.v6_port.specs.declared.host.OutPort.{OutPort}
@@ -15,12 +15,15 @@ abbrev pub in_number : InPort → ℕ
 in_number in_port.Image = 0
 in_number in_port.Script = 1
 in_number in_port.Log = 2
+in_number in_port.Second = 3
 
 abbrev pub out_number : OutPort → ℕ
-out_number out_port.Term = 3
-out_number out_port.Log = 4
-out_number out_port.Final = 5
-out_number out_port.Report = 6
+out_number out_port.Term = 4
+out_number out_port.Log = 5
+out_number out_port.Final = 6
+out_number out_port.Report = 7
+out_number out_port.Second = 8
+out_number (out_port.Line l) = 9 + l
 
 -- a port's place among those for writing
 abbrev pub place : OutPort → ℕ
@@ -28,6 +31,17 @@ place out_port.Term = 0
 place out_port.Log = 1
 place out_port.Final = 2
 place out_port.Report = 3
+place out_port.Second = 4
+place (out_port.Line l) = 5 + l
+
+-- The condition of each call on a port for writing: beside the console, which is line 0, a terminal has the lines 1 to 7.
+abbrev pub IsThere : OutPort → Type 0
+IsThere out_port.Term = Unit {0}
+IsThere out_port.Log = Unit {0}
+IsThere out_port.Final = Unit {0}
+IsThere out_port.Report = Unit {0}
+IsThere out_port.Second = Unit {0}
+IsThere (out_port.Line l) = (1 ≤ l) × (l ≤ 7)
 
 abbrev pub port_number : Port → ℕ
 port_number (In p) = in_number p

@@ -1,6 +1,6 @@
 // Real files. This is the edge: what the system gives and takes is trusted, and nothing here tells it.
 ghost use Rattle.std.specs.Prelude.{◌≡◌, ◌≤◌, length, None, IfOk, OnOk};
-ghost use Rattle.v6_port.specs.Outside.{IsNew, IsIdle};
+ghost use Rattle.v6_port.specs.Outside.{IsNew, IsIdle, IsThere};
 
 use crate::buffered_writer::BufferedWriter;
 use crate::counts::{fault, set_closed, set_open};
@@ -32,8 +32,10 @@ impl<R: Files + Print + Drop> FileHost<R> {
     {
         FileHost {
             rt,
-            inputs: [None, None, None],
-            outputs: [None, None, None, None],
+            inputs: [None, None, None, None],
+            outputs: [
+                None, None, None, None, None, None, None, None, None, None, None, None, None,
+            ],
             ports: [Kept::NOTHING; PORTS],
         }
     }
@@ -56,6 +58,7 @@ fn put<R: Files + Print>(
     port: OutPort,
     piece: &[u8],
 ) -> io::Result<usize>
+    requires { IsThere port }
     ensures { IfOk result (λ n. n ≤ length piece.now) }
 {
     if let OutPort::Report = port {

@@ -1,25 +1,30 @@
 // The trait that stands for the outside, and its ports.
 ghost use Rattle.std.specs.Prelude.{◌≡◌, ◌≢◌, false};
-ghost use Rattle.v6_port.specs.Outside.{Outside, In, Out, IsOpen};
+ghost use Rattle.v6_port.specs.Outside.{Outside, In, Out, IsOpen, IsThere};
 ghost use Rattle.v6_port.specs.declared.host.OutPort.TheVariants.{Report};
 ghost use Rattle.v6_port.specs.Calls.{OpensRead, Reads, OpensWrite, Writes, Finishes};
 
-/// What a command reads: the image of a disk, the script of what happens when, and a log.
+/// What a command reads: the image of a disk, the script of what happens when, a log, and the image of a second disk.
+/// No command opens Second yet.
 #[derive(Clone, Copy, Debug, PartialEq, Eq)]
 pub enum InPort {
     Image,
     Script,
     Log,
+    Second,
 }
 
-/// What a command writes: the bytes of the terminal, the log, the final image of the disk, and the
-/// report on how the command ended. Report is always open.
+/// What a command writes: the bytes of the terminal, the log, the final image of the disk, the report on how the command
+/// ended, the final image of a second disk, and the bytes of the terminal's lines 1 to 7, which stand beside its line 0. Report
+/// is always open. No command opens Second or a line yet.
 #[derive(Clone, Copy, Debug, PartialEq, Eq)]
 pub enum OutPort {
     Term,
     Log,
     Final,
     Report,
+    Second,
+    Line(u8),
 }
 
 /// The answer of a call that could not be done. The port's count of faults has risen then.
@@ -58,7 +63,8 @@ pub trait Host {
     ///
     /// The port doesn't expect that name, which raises its count of missing names too, or it could not be opened.
     fn open_write(&mut self, port: OutPort, name: &str) -> Result<(), Failed>
-        requires { ((outside self.old).port (Out port)).is_open ≡ false }
+        requires closed { ((outside self.old).port (Out port)).is_open ≡ false }
+        requires there { IsThere port }
         ensures { OpensWrite port name.now (outside self.old) result (outside self.new) };
 
     /// Writes the first bytes of `piece` after what was written, and says how many: at least one, unless
@@ -68,7 +74,8 @@ pub trait Host {
     ///
     /// None of the bytes could be written.
     fn write(&mut self, port: OutPort, piece: &[u8]) -> Result<usize, Failed>
-        requires { IsOpen (outside self.old) (Out port) }
+        requires is_open { IsOpen (outside self.old) (Out port) }
+        requires there { IsThere port }
         ensures { Writes port (outside self.old) piece.now result (outside self.new) };
 
     /// Closes a port that was opened for writing.
@@ -79,6 +86,7 @@ pub trait Host {
     fn finish(&mut self, port: OutPort) -> Result<(), Failed>
         requires is_open { IsOpen (outside self.old) (Out port) }
         requires not_report { port ≢ OutPort.Report }
+        requires there { IsThere port }
         ensures { Finishes port (outside self.old) result (outside self.new) };
 
     /// Report is always open.

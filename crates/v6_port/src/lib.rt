@@ -1,6 +1,6 @@
 //! The outside of the kernel: the files that a command reads and writes, behind one trait.
 //!
-//! A [`Host`] has three ports to read from and four to write to. Whatever runs over a host is proved
+//! A [`Host`] has four ports to read from and twelve to write to. Whatever runs over a host is proved
 //! against what the trait says of it, and so holds over real files and over files in memory alike.
 #![tactic(auto)]
 

@@ -1,8 +1,9 @@
 // Files in memory.
-ghost use Rattle.std.specs.Prelude.{◌≡◌, ◌+◌, ◌-◌, ◌<◌, ◌^◌, ◌==◌, ◌++◌, ◌∷◌, [], ℕ, min, length, slice_index_or, None, Some, OnOk, OnErr, string_bytes};
+ghost use Rattle.std.specs.Prelude.{◌≡◌, ◌+◌, ◌-◌, ◌<◌, ◌^◌, ◌==◌, ◌++◌, ◌∷◌, [], ℕ, min, length, slice_index_or, None, OnOk, OnErr, Some, string_bytes};
 ghost use Rattle.std.specs.List.{list_any};
 ghost use Rattle.std.specs.Option.{ForSome, option_map};
 ghost use Rattle.v6_port.specs.Calls.{is_expected, at_most};
+ghost use Rattle.v6_port.specs.Files.{AreEmpty};
 
 use crate::counts::{fault, miss, set_closed, set_open};
 use crate::files::{NamedFile, Reading, find, rest_of};
@@ -31,7 +32,7 @@ pub struct MemHost {
 }
 
 impl MemHost {
-    ghost use Rattle.v6_port.specs.Outside.{Out, IsNew, IsIdle};
+    ghost use Rattle.v6_port.specs.Outside.{Out, IsNew, IsIdle, IsThere};
     ghost use Rattle.v6_port.specs.Memory.{memory, written, IsEmpty, AddsFile, TakesRoom};
 
     /// A host with no files, no room, and no call that is to fail.
@@ -43,14 +44,11 @@ impl MemHost {
         MemHost {
             alloc,
             files: Vec::new(alloc),
-            names: [None, None, None, None],
-            readings: [None; INPUTS],
-            rooms: [
-                Room::new(alloc),
-                Room::new(alloc),
-                Room::new(alloc),
-                Room::new(alloc),
+            names: [
+                None, None, None, None, None, None, None, None, None, None, None, None, None,
             ],
+            readings: [None; INPUTS],
+            rooms: no_rooms(alloc),
             ports: [Kept::NOTHING; PORTS],
             fails: Vec::new(alloc),
             calls: 0,
@@ -106,6 +104,7 @@ impl MemHost {
     ///
     /// There is no memory for them. The host is as before then.
     pub fn room(&mut self, port: OutPort, name: &str, bytes: usize) -> Result<(), AllocError>
+        requires { IsThere port }
         ensures ok { OnOk result (TakesRoom port name.now bytes (memory self.old) (memory self.new)) }
         ensures err { OnErr result (memory self.new ≡ memory self.old) }
         ensures idle { IsIdle (memory self.old).outside → IsIdle (memory self.new).outside }
@@ -118,10 +117,32 @@ impl MemHost {
 
     /// All that was written to the port since the host was made.
     pub fn bytes(&self, port: OutPort) -> &[u8]
+        requires { IsThere port }
         ensures { result.now ≡ written (memory self.now) port }
     {
         self.rooms[port.place()].bytes.as_slice()
     }
+}
+
+// For each port a room that takes nothing yet.
+fn no_rooms(alloc: Global) -> [Room; OUTPUTS]
+    ensures { AreEmpty result }
+{
+    [
+        Room::new(alloc),
+        Room::new(alloc),
+        Room::new(alloc),
+        Room::new(alloc),
+        Room::new(alloc),
+        Room::new(alloc),
+        Room::new(alloc),
+        Room::new(alloc),
+        Room::new(alloc),
+        Room::new(alloc),
+        Room::new(alloc),
+        Room::new(alloc),
+        Room::new(alloc),
+    ]
 }
 
 // Counts a call, and says whether it is one of those that are to fail.
@@ -146,7 +167,7 @@ fn is_name(expected: &Option<String>, name: &str) -> bool
 impl Host for MemHost {
     ghost use Rattle.std.specs.Prelude.{◌≡◌, ◌≢◌, is_err, IfOk, length, min, false};
     ghost use Rattle.v6_port.specs.declared.host.OutPort.TheVariants.{Report};
-    ghost use Rattle.v6_port.specs.Outside.{In, Out, IsOpen};
+    ghost use Rattle.v6_port.specs.Outside.{In, Out, IsOpen, IsThere};
     ghost use Rattle.v6_port.specs.Calls.{OpensRead, Reads, OpensWrite, Writes, Finishes};
     ghost use Rattle.v6_port.specs.Kept.{outside_of-report};
     ghost use Rattle.v6_port.specs.Memory.{memory, left, is_due, fails_open_read, fails_open_write, fails_write, IsOneCall};
@@ -177,7 +198,8 @@ impl Host for MemHost {
         requires { IsOpen (memory self.old).outside (In port) }
         ensures reads { Reads port (memory self.old).outside buf.new result (memory self.new).outside }
         ensures fails { is_err result ≡ is_due (memory self.old) }
-        ensures count { IfOk result (λ n. n ≡ at_most (memory self.old).chunk (min (length buf.new) (length (left (memory self.old) port)))) }
+        ensures count { IfOk result (λ n. n ≡ at_most (memory self.old).chunk
+            (min (length buf.new) (length (left (memory self.old) port)))) }
         ensures counts { IsOneCall (memory self.old) (memory self.new) }
     {
         let number = port.number();
@@ -199,7 +221,8 @@ impl Host for MemHost {
     }
 
     fn open_write(&mut self, port: OutPort, name: &str) -> Result<(), Failed>
-        requires { ((memory self.old).outside.port (Out port)).is_open ≡ false }
+        requires closed { ((memory self.old).outside.port (Out port)).is_open ≡ false }
+        requires there { IsThere port }
         ensures opens { OpensWrite port name.now (memory self.old).outside result (memory self.new).outside }
         ensures fails { is_err result ≡ fails_open_write (memory self.old) port name.now }
         ensures counts { IsOneCall (memory self.old) (memory self.new) }
@@ -217,10 +240,12 @@ impl Host for MemHost {
     }
 
     fn write(&mut self, port: OutPort, piece: &[u8]) -> Result<usize, Failed>
-        requires { IsOpen (memory self.old).outside (Out port) }
+        requires is_open { IsOpen (memory self.old).outside (Out port) }
+        requires there { IsThere port }
         ensures writes { Writes port (memory self.old).outside piece.now result (memory self.new).outside }
         ensures fails { is_err result ≡ fails_write (memory self.old) port piece.now }
-        ensures count { IfOk result (λ n. n ≡ at_most (memory self.old).chunk (min (length piece.now) ((memory self.old).room port))) }
+        ensures count { IfOk result (λ n. n ≡ at_most (memory self.old).chunk
+            (min (length piece.now) ((memory self.old).room port))) }
         ensures counts { IsOneCall (memory self.old) (memory self.new) }
     {
         let number = port.number();
@@ -239,6 +264,7 @@ impl Host for MemHost {
     fn finish(&mut self, port: OutPort) -> Result<(), Failed>
         requires is_open { IsOpen (memory self.old).outside (Out port) }
         requires not_report { port ≢ Report }
+        requires there { IsThere port }
         ensures finishes { Finishes port (memory self.old).outside result (memory self.new).outside }
         ensures fails { is_err result ≡ is_due (memory self.old) }
         ensures counts { IsOneCall (memory self.old) (memory self.new) }

@@ -1,6 +1,7 @@
 -- What a command answers before it has written anything.
-use Rattle.std.proofs.Common.{◌≡◌, ℕ, true, false, ◌||◌, Option, Some, None, List, [], take, refl, sym, ◌∙◌, ap, subst, IsSomeAnd}
+use Rattle.std.proofs.Common.{◌≡◌, ℕ, true, false, ◌||◌, Option, Some, None, List, [], take, refl, sym, ◌∙◌, ap, subst, IsSomeAnd, lit<}
 use Rattle.std.proofs.lemmas.List.{append-nil}
+use Rattle.v6_port.proofs.CauseLemmas.{not_line}
 use Rattle.v6_port.specs.declared.host.InPort.TheVariants as in_port
 use Rattle.v6_port.specs.declared.host.OutPort.{OutPort}
 use Rattle.v6_port.specs.declared.host.OutPort.TheVariants as out_port
@@ -10,7 +11,7 @@ use Rattle.fs_codec.specs.Faults.{image_fault}
 use Rattle.fs_codec.specs.declared.fault.ImageFault as fault
 use Rattle.v6_run.specs.declared.image.TheConstants.{IMAGE_LIMIT}
 use Rattle.v6_run.specs.declared.status.Status.{Status}
-use Rattle.v6_run.specs.declared.status.Status.TheVariants.{Done, ReadFault, WriteFault, Panic, ImageFault, NoMemory}
+use Rattle.v6_run.specs.declared.status.Status.TheVariants.{Done, ReadFault, Panic, ImageFault, NoMemory}
 use Rattle.v6_run.specs.declared.files.ReadError.TheVariants as reading
 use Rattle.v6_run.specs.declared.image.ImageError.{ImageError}
 use Rattle.v6_run.specs.declared.image.ImageError.TheVariants as image
@@ -73,6 +74,8 @@ no_output old new only out_port.Term = only.others (Out out_port.Term) refl
 no_output old new only out_port.Log = only.others (Out out_port.Log) refl
 no_output old new only out_port.Final = only.others (Out out_port.Final) refl
 no_output old new only out_port.Report = only.others (Out out_port.Report) refl
+no_output old new only out_port.Second = only.others (Out out_port.Second) refl
+no_output old new only (out_port.Line l) = only.others (Out (out_port.Line l)) (not_line 0 l (lit< tt))
 
 -- the image of a command could not be read, or has a fault
 module _ (command : Command) (name : List ℕ) (rest : List ℕ → MaybeCompletion) (old new : Outside)

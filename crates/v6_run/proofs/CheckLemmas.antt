@@ -1,6 +1,7 @@
 -- What `check` answers.
-use Rattle.std.proofs.Common.{◌≡◌, ℕ, true, false, Option, Some, None, List, take, refl, sym, ◌∙◌, ap, subst, IsSomeAnd, is_some, count_by}
+use Rattle.std.proofs.Common.{◌≡◌, ℕ, true, false, Option, Some, None, List, take, refl, sym, ◌∙◌, ap, subst, IsSomeAnd, is_some, count_by, lit<}
 use Rattle.std.specs.Option.{option_map}
+use Rattle.v6_port.proofs.CauseLemmas.{not_line}
 use Rattle.v6_port.specs.declared.host.InPort.TheVariants as in_port
 use Rattle.v6_port.specs.declared.host.OutPort.{OutPort}
 use Rattle.v6_port.specs.declared.host.OutPort.TheVariants as out_port
@@ -41,6 +42,8 @@ module _ (name : List ℕ) (old new : Outside) (only : OnlyAt (same (In in_port.
       closed out_port.Log is = cc
       closed out_port.Final is = cc
       closed out_port.Report is = cc
+      closed out_port.Second is = cc
+      closed (out_port.Line l) is = not_so _ (sym (not_line 0 l (lit< tt)) ∙ is)
 
 pub line_given : (n nodes free : ℕ) (given : Option (List ℕ)) (image : List ℕ) → option_map (take n) given ≡ Some image
     → nodes ≡ count_by is_some (store_of (disk_of image)).nodes → free ≡ (store_of (disk_of image)).room → IsSomeAnd given (λ bytes. store_line (store_of (disk_of (take n bytes))) ≡ ok_line nodes free)

@@ -1,5 +1,5 @@
 -- What any words are answered, with the report.
-use Rattle.std.proofs.Common.{◌≡◌, ◌≢◌, ℕ, Bool, true, false, if◌then◌else◌, Option, Some, None, is_some, IsSome, MatchOption, List, ◌++◌, refl, sym, ◌∙◌, ap, subst, Result, Ok, Err, IfOk, IsOkAnd, ◌⊎◌, inl, inr, ⊎_elim}
+use Rattle.std.proofs.Common.{◌≡◌, ◌≢◌, ℕ, Bool, true, false, if◌then◌else◌, Option, Some, None, is_some, IsSome, MatchOption, List, ◌++◌, refl, sym, ◌∙◌, ap, subst, Result, Ok, Err, IfOk, IsOkAnd, ◌⊎◌, inl, inr, ⊎_elim, lit<}
 use Rattle.std.specs.Option.{option_map}
 use Rattle.v6_port.specs.declared.host.InPort.{InPort}
 use Rattle.v6_port.specs.declared.host.InPort.TheVariants as in_port
@@ -23,14 +23,14 @@ use Rattle.v6_run.specs.declared.error.CommandError.TheVariants as error
 use Rattle.v6_run.specs.declared.report.Found.{Found}
 use Rattle.v6_run.specs.Words.{Outputs, ToDisk, ToMemory, Command, Run, Check, Make, Demo}
 use Rattle.v6_run.specs.Outputs.{is_output}
-use Rattle.v6_run.specs.Status.{fault_port, is_decided, has_written}
+use Rattle.v6_run.specs.Status.{fault_port, is_decided, has_written, is_closed}
 use Rattle.v6_run.specs.Errors.{read_status, image_status, command_status, end_of}
 use Rattle.v6_run.specs.Fronts.{HoldsFront, HoldsSome, HoldsFrontOfSome}
 use Rattle.v6_run.specs.Report.{report, status_line, report_line, told_line, answer_line}
 use Rattle.v6_run.specs.Causes.{IsCaused, IsFaultOf, IsFaultless, HasCause, MissesUnknown}
 use Rattle.v6_run.specs.Headline.{MaybeCompletion, Unknown, Known, IsKnownAnd, has_core_size, refused_by, words_completion, IsComplete, IsPartial, is_named, is_touched, reports_done, may_end, words_may_end, is_known}
 use Rattle.v6_run.specs.Answers.{Answers, AnswersWords, Reports}
-use Rattle.v6_port.proofs.CauseLemmas.{same_is, still_tells, only_then}
+use Rattle.v6_port.proofs.CauseLemmas.{same_is, still_tells, only_then, not_line}
 use Rattle.v6_run.proofs.CauseLemmas.{by_test, only_within, left_false, right_false}
 use Rattle.v6_run.proofs.FrontLemmas.{front_of_all}
 use Rattle.v6_run.proofs.AnswerLemmas.{not_so, no_file}
@@ -55,6 +55,8 @@ named_report o out_port.Term named = refl
 named_report o out_port.Log named = refl
 named_report o out_port.Final named = refl
 named_report o out_port.Report named = not_so _ (sym (unwritten_report o) ∙ named)
+named_report o out_port.Second named = refl
+named_report o (out_port.Line l) named = not_line 7 l (lit< tt)
 
 pub none_open : (o : Outputs) (a : Outside) → IsIdle a → (p : OutPort) → is_output o (Out p) ≡ true → (a.port (Out p)).is_open ≡ false
 none_open o a idle p named = idle.closed p (named_report o p named)
@@ -294,6 +296,16 @@ module _ (command : Option Command) (answer : Result (Option Found) CommandError
       at_kept : status ≡ end_of command_status answer → Came command answer old middle → middle.port (Out p) ≡ old.port (Out p)
       at_kept kept (Refused s is answered unopened) = ap (λ (o : Outside). o.port (Out p)) unopened
       at_kept kept (Good c is good all) = all.none (sym (ap has_written kept) ∙ before) p
+
+  pub all_closed : IsIdle old → is_closed status ≡ true → (p : OutPort) → is_report (Out p) ≡ false → (new.port (Out p)).is_open ≡ false
+  all_closed idle closed p other = ap (λ (state : PortState). state.is_open) (reports.only.others (Out p) other)
+      ∙ ends _ (λ kept _. at_kept kept came) (λ _ lost _. absurd (let no : false ≡ true = sym (ap is_closed lost) ∙ closed in cc))
+    where
+      at_kept : status ≡ end_of command_status answer → Came command answer old middle → (middle.port (Out p)).is_open ≡ false
+      at_kept kept (Refused s is answered unopened) = ap (λ (o : Outside). (o.port (Out p)).is_open) unopened ∙ idle.closed p other
+      at_kept kept (Good c is good all) = by_test (is_named c (Out p)) _
+          (λ named. all.closed (sym (ap is_closed kept) ∙ closed) p named)
+          (λ unnamed_port. ap (λ (state : PortState). state.is_open) (all.only.others (Out p) unnamed_port) ∙ idle.closed p other)
 
   -- the causes
   cause_before : Came command answer old middle → IsCaused (is_known command old.fixed) (end_of command_status answer) old middle

@@ -1,5 +1,5 @@
 -- What `demo` answers, exit by exit.
-use Rattle.std.proofs.Common.{◌≡◌, ◌<◌, ◌^◌, MatchOption, ℕ, true, Option, Some, None, is_some, if◌then◌else◌, List, [], ◌∷◌, length, Result, Ok, Err, IfOk, MatchResult, refl, sym, ◌∙◌, ap, subst, arith}
+use Rattle.std.proofs.Common.{◌≡◌, MatchOption, ℕ, true, Option, Some, None, is_some, if◌then◌else◌, List, [], ◌∷◌, Result, Ok, Err, IfOk, MatchResult, refl, sym, ◌∙◌, ap, subst}
 use Rattle.v6_port.specs.declared.host.OutPort.TheVariants as out_port
 use Rattle.v6_port.specs.Outside.{Out, Outside}
 use Rattle.v6_port.specs.Causes.{Calm, FaultAt}

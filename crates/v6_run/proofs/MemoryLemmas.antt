@@ -1,5 +1,5 @@
 -- What has been written by `memory`, step by step.
-use Rattle.std.proofs.Common.{◌≡◌, ℕ, Bool, true, false, not, List, [], ◌++◌, refl, sym, ◌∙◌, ap, subst}
+use Rattle.std.proofs.Common.{◌≡◌, ℕ, Bool, true, false, List, ◌++◌, refl, sym, ◌∙◌, ap, subst, lit<}
 use Rattle.v6_port.specs.declared.host.OutPort.{OutPort}
 use Rattle.v6_port.specs.declared.host.OutPort.TheVariants as out_port
 use Rattle.v6_port.specs.Outside.{Out, same, PortState, Outside, Tells, OnlyAt}
@@ -13,9 +13,8 @@ use Rattle.unix_core.specs.Memory.{kept_in}
 use Rattle.v6_run.specs.declared.outputs.Output.TheVariants.{Final}
 use Rattle.v6_run.specs.Ports.{final_of}
 use Rattle.v6_run.specs.Fronts.{HoldsFront, HoldsSome, HoldsFrontOfSome}
-use Rattle.v6_run.specs.Final.{IsMemory}
 use Rattle.v6_run.specs.Outputs.{memory_writes, core_writes, EndsRun, StopsRun}
-use Rattle.v6_port.proofs.CauseLemmas.{still_tells, calm_then, fault_then}
+use Rattle.v6_port.proofs.CauseLemmas.{still_tells, calm_then, fault_then, not_line}
 use Rattle.v6_run.proofs.OutputLemmas.{nothing_of, all_of, empty_of, fault_any}
 
 -- Finishing changes nothing of what core and the swap area keep.
@@ -38,6 +37,8 @@ module _ (run : Course) (a b : Outside) (opens : OnlyAt (same (Out out_port.Fina
     at out_port.Log = nothing_of _ _ _ (others_same out_port.Log refl)
     at out_port.Final = nothing_of _ _ _ opened
     at out_port.Report = nothing_of _ _ _ (others_same out_port.Report refl)
+    at out_port.Second = nothing_of _ _ _ (others_same out_port.Second refl)
+    at (out_port.Line l) = nothing_of _ _ _ (others_same (out_port.Line l) (not_line 6 l (lit< tt)))
 
   -- the run has ended, and what it leaves is written
   module _ (ended : Ends) (last : ended ≡ run.ending) (text : List ℕ) (leaves : memory_writes ended run.system text) (c : Outside) (writes : OnlyAt (same (Out out_port.Final)) b c) where
@@ -58,6 +59,8 @@ module _ (run : Course) (a b : Outside) (opens : OnlyAt (same (Out out_port.Fina
       at told out_port.Log = nothing_of _ _ _ (others_then out_port.Log refl)
       at told out_port.Final = record { text = text; fits = λ _. is_memory; front = subst (λ l. HoldsFront l text (final_of c).bytes) opened (front (tells_b told)) }
       at told out_port.Report = nothing_of _ _ _ (others_then out_port.Report refl)
+      at told out_port.Second = nothing_of _ _ _ (others_then out_port.Second refl)
+      at told (out_port.Line l) = nothing_of _ _ _ (others_then (out_port.Line l) (not_line 6 l (lit< tt)))
 
     module _ (whole : Tells b → (final_of c).bytes ≡ (final_of b).bytes ++ text) (d : Outside) (finishes : OnlyAt (same (Out out_port.Final)) c d) (finished : (final_of d).bytes ≡ (final_of c).bytes) where
       others_last : (p : OutPort) → same (Out out_port.Final) (Out p) ≡ false → (d.port (Out p)).bytes ≡ (a.port (Out p)).bytes
@@ -68,6 +71,8 @@ module _ (run : Course) (a b : Outside) (opens : OnlyAt (same (Out out_port.Fina
       all_written told out_port.Log = empty_of _ _ _ refl (others_last out_port.Log refl)
       all_written told out_port.Final = record { text = text; fits = is_memory; holds = finished ∙ whole (tells_b told) ∙ ap (λ l. l ++ text) opened }
       all_written told out_port.Report = empty_of _ _ _ refl (others_last out_port.Report refl)
+      all_written told out_port.Second = empty_of _ _ _ refl (others_last out_port.Second refl)
+      all_written told (out_port.Line l) = empty_of _ _ _ refl (others_last (out_port.Line l) (not_line 6 l (lit< tt)))
 
       pub memory_unfinished : (known : Bool) → Calm a b → Calm b c → FaultAt (Out out_port.Final) true c d → StopsRun (same (Out out_port.Final)) (core_writes run) Final known a d
       memory_unfinished known calm calm_too fault = record {
@@ -88,3 +93,5 @@ module _ (run : Course) (a b : Outside) (opens : OnlyAt (same (Out out_port.Fina
         shut out_port.Log out = absurd (let no : false ≡ true = out in cc)
         shut out_port.Final out = closed
         shut out_port.Report out = absurd (let no : false ≡ true = out in cc)
+        shut out_port.Second out = absurd (let no : false ≡ true = out in cc)
+        shut (out_port.Line l) out = absurd (let no : false ≡ true = sym (not_line 6 l (lit< tt)) ∙ out in cc)

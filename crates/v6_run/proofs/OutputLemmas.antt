@@ -1,5 +1,5 @@
 -- What has been written to the files of a run, step by step.
-use Rattle.std.proofs.Common.{◌≡◌, ◌≢◌, ◌<◌, ◌≤◌, ◌⊎◌, inl, inr, ℕ, Bool, true, false, not, None, Result, Ok, Err, is_err, OnOk, MatchResult, List, [], ◌++◌, slice_index_or, refl, sym, ◌∙◌, ap, subst}
+use Rattle.std.proofs.Common.{◌≡◌, ◌<◌, ◌≤◌, ◌⊎◌, inl, inr, ℕ, Bool, true, false, Result, Ok, Err, is_err, OnOk, MatchResult, List, [], ◌++◌, refl, sym, ◌∙◌, ap, subst, lit<}
 use Rattle.std.proofs.lemmas.List.{append-nil}
 use Rattle.v6_base.specs.Trace.{line_bytes, text_of}
 use Rattle.v6_port.specs.declared.host.OutPort.{OutPort}
@@ -15,7 +15,6 @@ use Rattle.fs_laws.proofs.RestLemmas.{rest_then}
 use Rattle.abstract_unix.specs.declared.ends.Ends.{Ends}
 use Rattle.abstract_unix.specs.declared.ends.Ends.TheVariants as ends
 use Rattle.abstract_unix.specs.declared.ends.Ends.TheVariants.{AtEnd}
-use Rattle.image_keep.specs.Kept.{Keeping, Nothing, Kept}
 use Rattle.image_keep.specs.Holds.{SwapHolds}
 use Rattle.abstract_unix.specs.Unix.{System, Phase, Started, Stopped}
 use Rattle.abstract_unix.specs.Endings.{phase_after}
@@ -30,7 +29,7 @@ use Rattle.v6_run.specs.Fronts.{HoldsFront, HoldsSome, HoldsFrontOfSome}
 use Rattle.v6_run.specs.Final.{IsFinal, disk_text}
 use Rattle.v6_run.specs.Words.{Outputs, ToDisk, ToMemory}
 use Rattle.v6_run.specs.Outputs.{port_of, is_shown, is_disk_output, is_output, disk_writes, run_writes, EndsRun, StopsRun}
-use Rattle.v6_port.proofs.CauseLemmas.{still_tells, calm_then, fault_then}
+use Rattle.v6_port.proofs.CauseLemmas.{still_tells, calm_then, fault_then, not_line}
 use Rattle.v6_run.proofs.FrontLemmas.{front_of_nothing, front_of_all}
 use Rattle.v6_run.proofs.FinalLemmas.{final_is, final_same}
 
@@ -52,6 +51,10 @@ disk_output : (output : Output) → is_disk_output (Out (port_of output)) ≡ tr
 disk_output Term = refl
 disk_output Log = refl
 disk_output Final = refl
+
+-- a line shows nothing of a run
+unshown_line : (l : ℕ) → is_shown (Out (out_port.Line l)) ≡ false
+unshown_line l = rw (not_line 4 l (lit< tt), not_line 5 l (lit< tt)) refl
 
 pub stopped_opening : (first : Disk) (run : Course) (output : Output) (known : Bool) (a b : Outside) → ((p : OutPort) → (b.port (Out p)).bytes ≡ (a.port (Out p)).bytes)
     → FaultAt (Out (port_of output)) known a b → StopsRun is_disk_output (disk_writes first run) output known a b
@@ -81,6 +84,8 @@ module _ (first : Disk) (run : Course) (a b c : Outside) (opens : OnlyAt is_disk
     at told out_port.Log = record { text = text_of (shown_by run); fits = λ _. refl; front = subst (λ l. HoldsFront l (text_of (shown_by run)) (log_of c).bytes) (opened out_port.Log) (fronts (tells_b told)).log }
     at told out_port.Final = nothing_of _ _ _ (unplayed out_port.Final refl)
     at told out_port.Report = nothing_of _ _ _ (unplayed out_port.Report refl)
+    at told out_port.Second = nothing_of _ _ _ (unplayed out_port.Second refl)
+    at told (out_port.Line l) = nothing_of _ _ _ (unplayed (out_port.Line l) (unshown_line l))
 
   module _ (shown : Tells b → HasShown (shown_by run) b c) where
     term_shown : Tells a → (term c).bytes ≡ (term a).bytes ++ line_bytes 0 (shown_by run)
@@ -103,6 +108,12 @@ module _ (first : Disk) (run : Course) (a b c : Outside) (opens : OnlyAt is_disk
       report_written : HoldsSome (disk_writes first run out_port.Report) (a.port (Out out_port.Report)).bytes (d.port (Out out_port.Report)).bytes
       report_written = empty_of _ _ _ refl (unwritten_by out_port.Report refl ∙ unplayed out_port.Report refl)
 
+      second_written : HoldsSome (disk_writes first run out_port.Second) (a.port (Out out_port.Second)).bytes (d.port (Out out_port.Second)).bytes
+      second_written = empty_of _ _ _ refl (unwritten_by out_port.Second refl ∙ unplayed out_port.Second refl)
+
+      line_written : (l : ℕ) → HoldsSome (disk_writes first run (out_port.Line l)) (a.port (Out (out_port.Line l))).bytes (d.port (Out (out_port.Line l))).bytes
+      line_written l = empty_of _ _ _ refl (unwritten_by (out_port.Line l) (not_line 6 l (lit< tt)) ∙ unplayed (out_port.Line l) (unshown_line l))
+
       pub stopped_writing : (known : Bool) → (Tells c → HoldsFront (final_of c).bytes text (final_of d).bytes) → Calm a b → Calm b c → FaultAt (Out out_port.Final) true c d
           → StopsRun is_disk_output (disk_writes first run) Final known a d
       stopped_writing known front calm calm_too fault = record {
@@ -115,6 +126,8 @@ module _ (first : Disk) (run : Course) (a b c : Outside) (opens : OnlyAt is_disk
         at told out_port.Log = all_of _ _ _ (log_written told)
         at told out_port.Final = record { text = text; fits = λ _. fits; front = subst (λ l. HoldsFront l text (final_of d).bytes) (unplayed out_port.Final refl) (front (tells_c told)) }
         at told out_port.Report = all_of _ _ _ report_written
+        at told out_port.Second = all_of _ _ _ second_written
+        at told (out_port.Line l) = all_of _ _ _ (line_written l)
 
       module _ (whole : Tells c → (final_of d).bytes ≡ (final_of c).bytes ++ text) (e : Outside) (finishes : (p : OutPort) → (e.port (Out p)).bytes ≡ (d.port (Out p)).bytes) where
         written_d : Tells a → (p : OutPort) → HoldsSome (disk_writes first run p) (a.port (Out p)).bytes (d.port (Out p)).bytes
@@ -122,6 +135,8 @@ module _ (first : Disk) (run : Course) (a b c : Outside) (opens : OnlyAt is_disk
         written_d told out_port.Log = log_written told
         written_d told out_port.Final = record { text = text; fits = fits; holds = whole (tells_c told) ∙ ap (λ l. l ++ text) (unplayed out_port.Final refl) }
         written_d told out_port.Report = report_written
+        written_d told out_port.Second = second_written
+        written_d told (out_port.Line l) = line_written l
 
         written_e : Tells a → (p : OutPort) → HoldsSome (disk_writes first run p) (a.port (Out p)).bytes (e.port (Out p)).bytes
         written_e told p = subst (HoldsSome (disk_writes first run p) (a.port (Out p)).bytes) (sym (finishes p)) (written_d told p)
@@ -177,6 +192,8 @@ module _ (d e : Disk) (same_disk : (n : ℕ) → n < DISK_BLOCKS → e n ≡ d n
   writes_over (ToDisk files) run out_port.Log text fits = fits
   writes_over (ToDisk files) run out_port.Final text fits = final_same d e (finished run.system) text same_disk fits
   writes_over (ToDisk files) run out_port.Report text fits = fits
+  writes_over (ToDisk files) run out_port.Second text fits = fits
+  writes_over (ToDisk files) run (out_port.Line l) text fits = fits
   writes_over (ToMemory final) run p text fits = fits
 
   pub ends_over : (outputs : Outputs) (run : Course) (ending : Ends) (old new : Outside) → EndsRun (is_output outputs) (run_writes outputs e run) run ending old new

@@ -1,5 +1,5 @@
 -- What `run` answers, exit by exit.
-use Rattle.std.proofs.Common.{◌≡◌, ℕ, Bool, true, false, Option, Some, None, List, take, refl, sym, Ok, Err, ◌∙◌, ap, subst, is_some, if◌then◌else◌, ◌||◌}
+use Rattle.std.proofs.Common.{◌≡◌, ℕ, Bool, true, false, Option, Some, None, List, take, refl, sym, Ok, Err, ◌∙◌, ap, subst, is_some, if◌then◌else◌, ◌||◌, lit<}
 use Rattle.std.specs.Option.{option_map}
 use Rattle.v6_port.specs.declared.host.InPort.TheVariants as in_port
 use Rattle.v6_port.specs.declared.host.OutPort.{OutPort}
@@ -41,7 +41,7 @@ use Rattle.v6_run.specs.Steps.{StopsReading, StopsImage, RefusesScript}
 use Rattle.v6_run.specs.Headline.{Known, IsKnownAnd, ends_with, course_completion, lines_completion, bytes_completion, script_completion, fault_completion, image_completion, command_completion, IsComplete, IsPartial, status_at, is_named, may_end, run_knows, outputs_know, is_known}
 use Rattle.v6_run.specs.Answers.{Answers, HasFiles}
 use Rattle.v6_run.proofs.ImageLemmas.{fault_given}
-use Rattle.v6_port.proofs.CauseLemmas.{still_tells, only_then, calm_then, fault_then}
+use Rattle.v6_port.proofs.CauseLemmas.{still_tells, only_then, calm_then, fault_then, not_line}
 use Rattle.v6_run.proofs.CauseLemmas.{fault_known, only_within, names_image, names_script, names_outputs}
 use Rattle.v6_run.proofs.AnswerLemmas.{not_so, unwritten, complete_unwritten, image_stops}
 
@@ -57,6 +57,8 @@ both_read old middle new first second out_port.Term = second.others (Out out_por
 both_read old middle new first second out_port.Log = second.others (Out out_port.Log) refl ∙ first.others (Out out_port.Log) refl
 both_read old middle new first second out_port.Final = second.others (Out out_port.Final) refl ∙ first.others (Out out_port.Final) refl
 both_read old middle new first second out_port.Report = second.others (Out out_port.Report) refl ∙ first.others (Out out_port.Report) refl
+both_read old middle new first second out_port.Second = second.others (Out out_port.Second) refl ∙ first.others (Out out_port.Second) refl
+both_read old middle new first second (out_port.Line l) = second.others (Out (out_port.Line l)) (not_line 1 l (lit< tt)) ∙ first.others (Out (out_port.Line l)) (not_line 0 l (lit< tt))
 
 only_read : (words : RunWords) (old middle new : Outside) → OnlyAt (same (In in_port.Image)) old middle → OnlyAt (same (In in_port.Script)) middle new → OnlyAt (is_named (Run words)) old new
 only_read words old middle new first second = only_then _ _ _ _ (only_within _ _ _ _ (names_image words) first) (only_within _ _ _ _ (names_script words) second)
@@ -106,6 +108,9 @@ named_output words out_port.Term named = named
 named_output words out_port.Log named = named
 named_output words out_port.Final named = named
 named_output words out_port.Report named = named
+named_output words out_port.Second named = named
+named_output words (out_port.Line l) named =
+    let same_output : is_named (Run words) (Out (out_port.Line l)) ≡ is_output words.outputs (Out (out_port.Line l)) = rw (not_line 0 l (lit< tt), not_line 1 l (lit< tt)) refl in sym same_output ∙ named
 
 may_stop : (words : RunWords) (output : Output) → is_output words.outputs (Out (port_of output)) ≡ true → may_end (Run words) (WriteFault (port_of output)) ≡ true
 may_stop words file.Term named = ap (λ b. b || false) named

@@ -207,16 +207,21 @@ outputs_know (ToDisk files) fixed out_port.Term = is_expected (fixed.expects out
 outputs_know (ToDisk files) fixed out_port.Log = is_expected (fixed.expects out_port.Log) files.log
 outputs_know (ToDisk files) fixed out_port.Final = is_expected (fixed.expects out_port.Final) files.final_disk
 outputs_know (ToDisk files) fixed out_port.Report = true
+outputs_know (ToDisk files) fixed out_port.Second = true
+outputs_know (ToDisk files) fixed (out_port.Line l) = true
 outputs_know (ToMemory final) fixed out_port.Term = true
 outputs_know (ToMemory final) fixed out_port.Log = true
 outputs_know (ToMemory final) fixed out_port.Final = is_expected (fixed.expects out_port.Final) final
 outputs_know (ToMemory final) fixed out_port.Report = true
+outputs_know (ToMemory final) fixed out_port.Second = true
+outputs_know (ToMemory final) fixed (out_port.Line l) = true
 
 -- whether the name that the words give for a port is given, or expected there
 abbrev pub run_knows : RunWords → Environment → Port → Bool
 run_knows words fixed (In in_port.Image) = is_given (fixed.given words.image)
 run_knows words fixed (In in_port.Script) = is_given (fixed.given words.script)
 run_knows words fixed (In in_port.Log) = true
+run_knows words fixed (In in_port.Second) = true
 run_knows words fixed (Out p) = outputs_know words.outputs fixed p
 
 abbrev pub is_known : Option Command → Environment → Port → Bool

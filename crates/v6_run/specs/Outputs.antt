@@ -1,6 +1,6 @@
 -- The files that a run writes, by docs/manual/commands.md: of `run` what the terminal shows, the log, and the disk at the end;
 -- of `memory` core and the swap area at the end.
-use Rattle.std.specs.Prelude.{◌≡◌, ℕ, Bool, true, false, not, List, [], ◌||◌}
+use Rattle.std.specs.Prelude.{◌≡◌, ℕ, Bool, true, false, List, [], ◌||◌}
 use Rattle.v6_base.specs.Trace.{line_bytes, text_of}
 use Rattle.v6_port.specs.declared.host.OutPort.{OutPort}
 use Rattle.v6_port.specs.declared.host.OutPort.TheVariants as out_port
@@ -44,6 +44,8 @@ disk_writes first c out_port.Term = exactly (line_bytes 0 (shown_by c))
 disk_writes first c out_port.Log = exactly (text_of (shown_by c))
 disk_writes first c out_port.Final = IsFinal first (finished c.system)
 disk_writes first c out_port.Report = exactly []
+disk_writes first c out_port.Second = exactly []
+disk_writes first c (out_port.Line l) = exactly []
 
 -- `memory` writes nothing of what is shown
 abbrev pub core_writes : Course → OutPort → List ℕ → Type 0
@@ -51,6 +53,8 @@ core_writes c out_port.Term = exactly []
 core_writes c out_port.Log = exactly []
 core_writes c out_port.Final = memory_writes c.ending c.system
 core_writes c out_port.Report = exactly []
+core_writes c out_port.Second = exactly []
+core_writes c (out_port.Line l) = exactly []
 
 abbrev pub run_writes : Outputs → Disk → Course → OutPort → List ℕ → Type 0
 run_writes (ToDisk files) first c p = disk_writes first c p

@@ -29,12 +29,15 @@ abbrev pub in_name : InPort → List ℕ
 in_name in_port.Image = codes "image"
 in_name in_port.Script = codes "script"
 in_name in_port.Log = codes "log"
+in_name in_port.Second = codes "second"
 
 abbrev pub out_name : OutPort → List ℕ
 out_name out_port.Term = codes "term"
 out_name out_port.Log = codes "log"
 out_name out_port.Final = codes "final"
 out_name out_port.Report = codes "report"
+out_name out_port.Second = codes "second"
+out_name (out_port.Line l) = codes "line" ++ decimal l
 
 abbrev pub script_line : ScriptFault → List ℕ
 script_line script.TooLong = line_of (codes "script: too long")

@@ -1,7 +1,7 @@
 //! Whole files of a host.
 ghost use Rattle.std.specs.Prelude.{◌≡◌, ◌≢◌, ◌<◌, ◌≤◌, ◌^◌, ◌++◌, length, take, true, false, Some, IfOk, IfErr, OnOk, MatchResult};
 ghost use Rattle.std.specs.Option.{option_map};
-ghost use Rattle.v6_port.specs.Outside.{In, Out, IsOpen, OnlyAt, Tells, same};
+ghost use Rattle.v6_port.specs.Outside.{In, Out, IsOpen, IsThere, OnlyAt, Tells, same};
 ghost use Rattle.v6_port.specs.Causes.{Calm, FaultAt};
 ghost use Rattle.v6_port.specs.Calls.{is_given, is_expected};
 ghost use Rattle.v6_run.specs.Steps.{StopsReading};
@@ -77,7 +77,8 @@ pub(crate) fn read_file<H: Host>(
 
 /// Writes all of a text, or says how many of its bytes were written before a write failed.
 pub(crate) fn write_text<H: Host>(host: &mut H, port: OutPort, text: &[u8]) -> Result<(), usize>
-    requires { IsOpen (H.outside host.old) (Out port) }
+    requires is_open { IsOpen (H.outside host.old) (Out port) }
+    requires there { IsThere port }
     ensures only { OnlyAt (same (Out port)) (H.outside host.old) (H.outside host.new) }
     ensures is_open { IsOpen (H.outside host.new) (Out port) }
     ensures whole { OnOk result (Tells (H.outside host.old)
@@ -100,7 +101,8 @@ pub(crate) fn write_text<H: Host>(host: &mut H, port: OutPort, text: &[u8]) -> R
 
 /// Writes all of a text.
 pub(crate) fn write_all<H: Host>(host: &mut H, port: OutPort, text: &[u8]) -> Result<(), Failed>
-    requires { IsOpen (H.outside host.old) (Out port) }
+    requires is_open { IsOpen (H.outside host.old) (Out port) }
+    requires there { IsThere port }
     ensures only { OnlyAt (same (Out port)) (H.outside host.old) (H.outside host.new) }
     ensures is_open { IsOpen (H.outside host.new) (Out port) }
     ensures whole { OnOk result (Tells (H.outside host.old)
@@ -125,6 +127,7 @@ pub(crate) fn write_file<H: Host>(
 ) -> Result<(), Failed>
     requires closed { ((H.outside host.old).port (Out port)).is_open ≡ false }
     requires not_report { port ≢ OutPort.Report }
+    requires there { IsThere port }
     ensures only { OnlyAt (same (Out port)) (H.outside host.old) (H.outside host.new) }
     ensures whole { OnOk result (Tells (H.outside host.old)
         → ((H.outside host.new).port (Out port)).bytes ≡ ((H.outside host.old).port (Out port)).bytes ++ text.now) }

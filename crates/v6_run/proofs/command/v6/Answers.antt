@@ -84,6 +84,17 @@ returns-clause-none g c =
     let found = subst (λ l. IfOk answer (λ t. option_map reports_done (command_in l) ≡ Some (is_some t))) c.as_slice.ensures.value c.answer-answer.ensures.found in
     command.none_written (command_in items) answer c.report.result old middle new answers c.report.ensures found
 
+pub returns-clause-closed : goal.returns-clause-closed
+returns-clause-closed g c =
+    let items = c.args.words.now.items in
+    let old = g.H.Host.outside c.args.host.now in
+    let middle = g.H.Host.outside c.answer-answer.new.host in
+    let new = g.H.Host.outside c.report.new.host in
+    let answer = c.answer-answer.result in
+    let answers = subst (λ l. AnswersWords (command_in l) (end_of command_status answer) old middle) c.as_slice.ensures.value c.answer-answer.ensures.answers in
+    let found = subst (λ l. IfOk answer (λ t. option_map reports_done (command_in l) ≡ Some (is_some t))) c.as_slice.ensures.value c.answer-answer.ensures.found in
+    command.all_closed (command_in items) answer c.report.result old middle new answers c.report.ensures found c.requires
+
 pub returns-clause-cause : goal.returns-clause-cause
 returns-clause-cause g c =
     let items = c.args.words.now.items in

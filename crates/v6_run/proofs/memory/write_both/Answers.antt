@@ -1,5 +1,5 @@
-use Rattle.std.proofs.Common.{◌∙◌, ap, ◌≡◌, ◌++◌, Ok, Err, Result, OnOk, MatchResult, List, ℕ}
-use Rattle.v6_port.specs.Outside.{Environment, Tells}
+use Rattle.std.proofs.Common.{◌∙◌, ap}
+use Rattle.v6_port.specs.Outside.{Environment}
 use Rattle.v6_run.proofs.FrontLemmas.{front_of_first, front_of_both, whole_of_both, whole_on}
 use Rattle.v6_run.proofs.memory.write_both.Goals as goal
 

@@ -1,5 +1,4 @@
-use Rattle.std.proofs.Common.{◌∙◌, subst, ap}
-use Rattle.image_keep.specs.Kept.{Kept}
+use Rattle.std.proofs.Common.{◌∙◌, subst}
 use Rattle.image_keep.specs.Holds.{MemoryHolds}
 use Rattle.v6_run.proofs.MemoryLemmas.{kept_finished, memory_held}
 use Rattle.v6_run.proofs.memory.write_memory.Goals as goal

@@ -1,4 +1,4 @@
-use Rattle.std.proofs.Common.{◌≡◌, ◌≤◌, ◌∙◌, sym, ap, subst, Option, None, Some, Ok}
+use Rattle.std.proofs.Common.{◌≡◌, ◌≤◌, ◌∙◌, sym, ap, subst, Some, Ok}
 use Rattle.v6_port.specs.Outside.{PortState}
 use Rattle.fs_codec.specs.Disk.{disk_of, head}
 use Rattle.fs_codec.specs.declared.layout.TheConstants.{SWAP_START}

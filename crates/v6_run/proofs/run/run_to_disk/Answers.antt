@@ -1,4 +1,3 @@
-use Rattle.std.proofs.Common.{◌∙◌}
 use Rattle.abstract_unix.specs.Runs.{started, course}
 use Rattle.v6_run.specs.Events.{events_of}
 use Rattle.v6_run.proofs.ResultLemmas.{match_passed}

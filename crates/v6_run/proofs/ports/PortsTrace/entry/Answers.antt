@@ -13,7 +13,7 @@ returns-then-is_silent-clause-whole g c =
     line_appended (g.H.Host.outside c.args.self.now.host.now) c.args.self.now.kept _ (sym c.is_silent.ensures ∙ c.if-is_silent.true)
 
 pub write_text-requires : goal.write_text-requires
-write_text-requires g c = c.args.self.now.log_is_open (sym c.is_silent.ensures ∙ c.if-is_silent.false)
+write_text-requires g c = record { is_open = c.args.self.now.log_is_open (sym c.is_silent.ensures ∙ c.if-is_silent.false); there = tt }
 
 pub returns-in-Err-clause-took : goal.returns-in-Err-clause-took
 returns-in-Err-clause-took g c =

@@ -19,7 +19,7 @@ returns-then-is_silent-clause-whole g c =
     subst (λ k. Appends (taken_by o c.args.self.now.kept) (Byte 0 byte) (taken_by o k)) (sym c.keep.ensures) (byte_appended o byte c.args.self.now.kept silent)
 
 pub write-requires : goal.write-requires
-write-requires g c = c.args.self.now.term_is_open (sym c.is_silent.ensures ∙ c.if-is_silent.false)
+write-requires g c = record { is_open = c.args.self.now.term_is_open (sym c.is_silent.ensures ∙ c.if-is_silent.false); there = tt }
 
 pub returns-then-is_err-clause-took : goal.returns-then-is_err-clause-took
 returns-then-is_err-clause-took g c =
