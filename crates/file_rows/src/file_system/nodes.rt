@@ -30,7 +30,7 @@ static DISK: [Piece<'static>; 10] = [
     (3072, b"abcdefgh"),
 ];
 
-/// Calls at the time 0x01020304, and the bytes that then stand at a place of the disk.
+/// Calls at the time 0x01020304, and the bytes that then stand at a place of the disk. An update writes the inodes.
 type Row = (&'static [Call], usize, &'static [u8]);
 
 static CALLS: [Row; 16] = [
@@ -131,6 +131,22 @@ static LOOKS: [(u16, u32, [u8; 16]); 8] = [
     (2, 1498, *b"\0\x09\0\0\0\0\0\0\0\0\0\0\0\0\0\0"),
 ];
 
+/// A byte of a block of a file: the inode, the block, the byte's place there, and what it is.
+static BLOCKS: [(u16, u16, usize, u8); 9] = [
+    // What lies behind the file in its last block is shown too.
+    (4, 0, 3, b'd'),
+    (4, 0, 4, b'e'),
+    // Block 3, the hole, block 5, and a block that isn't there.
+    (2, 0, 511, 7),
+    (2, 1, 0, 0),
+    (2, 2, 0, 8),
+    (2, 2, 475, 9),
+    (2, 2, 476, 10),
+    (2, 65535, 511, 0),
+    // A device has none.
+    (3, 0, 0, 0),
+];
+
 /// A disk with these pieces.
 fn image_with(pieces: &[Piece<'_>]) -> [u8; TWENTY_BLOCKS] {
     let mut image = [0; TWENTY_BLOCKS];
@@ -172,6 +188,27 @@ fn looks(alloc: Global, row: &(u16, u32, [u8; 16])) -> Result<bool, AllocError> 
 fn a_look_shows_sixteen_bytes(rt: HostRuntime) {
     for (k, row) in LOOKS.iter().enumerate() {
         assert!(rt; looks(rt.alloc(), row).expect(&rt, "memory"), "row {k}");
+    }
+}
+
+fn looks_at_block(alloc: Global, row: &(u16, u16, usize, u8)) -> Result<bool, AllocError> {
+    let Some(mut nodes) = open(alloc, &image_with(&DISK))? else {
+        return Ok(false);
+    };
+    let mut buf = [1; 512];
+    if nodes.peek(row.0).is_some() {
+        nodes.look_block(row.0, row.1, &mut buf);
+    }
+    Ok(buf.get(row.2) == Some(&row.3))
+}
+
+#[test]
+fn a_look_shows_a_block(rt: HostRuntime) {
+    for (k, row) in BLOCKS.iter().enumerate() {
+        assert!(rt;
+            looks_at_block(rt.alloc(), row).expect(&rt, "memory"),
+            "row {k}"
+        );
     }
 }
 
