@@ -20,8 +20,6 @@ mod final_disk;
 #[cfg(test)]
 mod generated;
 #[cfg(test)]
-mod inside;
-#[cfg(test)]
 mod log;
 #[cfg(test)]
 mod ports;

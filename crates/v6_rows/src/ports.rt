@@ -1,4 +1,6 @@
 //! Files in memory and files of the system behind the ports: docs/manual/ports.md.
+ghost use Rattle.std.specs.Prelude.{◌≤◌};
+
 use std::alloc::Global;
 use std::fs;
 use std::test::Fail;
@@ -55,6 +57,41 @@ fn port_takes_its_own_name_alone(alloc: Global) -> Result<bool, Fail> {
     Ok(host.open_write(OutPort::Term, "log").is_err())
 }
 
+/// At most two bytes go in one call.
+fn reads_are_short(alloc: Global) -> Result<bool, Fail> {
+    let mut host = MemHost::new(alloc);
+    host.add("image", b"abc")?;
+    host.chunk(2);
+    host.open_read(InPort::Image, "image")?;
+    let mut piece = [0u8; 4];
+    let count = host.read(InPort::Image, &mut piece)?;
+    Ok(count == 2 && piece == *b"ab\0\0")
+}
+
+/// The same.
+fn writes_are_short(alloc: Global) -> Result<bool, Fail> {
+    let mut host = MemHost::new(alloc);
+    host.room(OutPort::Term, "term", 4)?;
+    host.chunk(2);
+    host.open_write(OutPort::Term, "term")?;
+    let count = host.write(OutPort::Term, b"abc")?;
+    Ok(count == 2 && host.bytes(OutPort::Term) == b"ab".as_slice())
+}
+
+/// A line beside the console has a port like others.
+fn line_takes_its_bytes(alloc: Global, line: u8) -> Result<bool, Fail>
+    requires least { 1 ≤ line }
+    requires most { line ≤ 7 }
+{
+    let mut host = MemHost::new(alloc);
+    host.room(OutPort::Line(line), "line", 4)?;
+    host.open_write(OutPort::Line(line), "line")?;
+    let count = host.write(OutPort::Line(line), b"ab")?;
+    let is_written = host.bytes(OutPort::Line(line)) == b"ab".as_slice();
+    let is_second = host.bytes(OutPort::Second).is_empty();
+    Ok(count == 2 && is_written && is_second && host.bytes(OutPort::Term).is_empty())
+}
+
 /// Two ports are open at once.
 fn ports_have_their_own_bytes(alloc: Global) -> Result<bool, Fail> {
     let mut host = MemHost::new(alloc);
@@ -76,6 +113,10 @@ fn files_in_memory_obey_the_manual(rt: HostRuntime) -> Result<(), Fail> {
     assert!(rt; later_file_of_a_name_is_read(rt.alloc())?);
     assert!(rt; port_takes_its_own_name_alone(rt.alloc())?);
     assert!(rt; ports_have_their_own_bytes(rt.alloc())?);
+    assert!(rt; reads_are_short(rt.alloc())?);
+    assert!(rt; writes_are_short(rt.alloc())?);
+    assert!(rt; line_takes_its_bytes(rt.alloc(), 1)?);
+    assert!(rt; line_takes_its_bytes(rt.alloc(), 7)?);
     Ok(())
 }
 
