@@ -109,27 +109,34 @@ def make_small(case, found, program, folder):
 
 
 def fuzz(options, program):
-    """Tries case after case; whether one failed."""
+    """Tries case after case, until an interrupt at the latest; whether one failed."""
     first = options.first if options.first is not None else int(time.time()) * 1000
     until = time.monotonic() + 3600 * options.hours
     counts, failed, seed = collections.Counter(), [], first
     said(f"seeds from {first} on, by {shlex.join(program.command)}")
-    while seed < first + options.count if options.count is not None else time.monotonic() < until:
-        case = case_of(seed, options.kind)
-        found = differences(program, case, counts, seed % UNDER_VALGRIND == 0)
-        counts[f"kind {case.kind}"] += 1
-        if found:
-            failed.append(seed)
-            tell(case, found)
-            if len(failed) <= MOST_SMALL:
-                make_small(case, found, program, options.keep)
-        seed += 1
-        if (seed - first) % 500 == 0:
-            said(f"{seed - first} cases, {len(failed)} failed, up to seed {seed - 1}")
+    try:
+        while seed < first + options.count if options.count is not None else time.monotonic() < until:
+            attempt(case_of(seed, options.kind), program, counts, failed, options.keep)
+            seed += 1
+            if (seed - first) % 500 == 0:
+                said(f"{seed - first} cases, {len(failed)} failed, up to seed {seed - 1}")
+    except KeyboardInterrupt:
+        said("interrupted")
     for name, value in sorted(counts.items()):
         said(f"{value:9}  {name}")
     said(f"{seed - first} cases, seeds {first} to {seed - 1}, {listed(failed)}")
     return bool(failed)
+
+
+def attempt(case, program, counts, failed, folder):
+    """Judges a case; one that fails is told, and the first of them are made small."""
+    found = differences(program, case, counts, case.seed % UNDER_VALGRIND == 0)
+    counts[f"kind {case.kind}"] += 1
+    if found:
+        failed.append(case.seed)
+        tell(case, found)
+        if len(failed) <= MOST_SMALL:
+            make_small(case, found, program, folder)
 
 
 def one(options, program):
