@@ -20,6 +20,8 @@ mod final_disk;
 #[cfg(test)]
 mod generated;
 #[cfg(test)]
+mod inside;
+#[cfg(test)]
 mod log;
 #[cfg(test)]
 mod ports;
