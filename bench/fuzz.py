@@ -35,6 +35,7 @@ its calls and lines of scripts those of a later kernel are left out. It needs Li
 """
 import argparse
 import collections
+import functools
 import os
 import random
 import shlex
@@ -45,12 +46,13 @@ import time
 import fuzz_row
 import spoil
 from fuzz_cases import HI, KINDS, TOP, Case, case_of, of_bench, read
-from fuzz_judge import Host, Program, answered, by_itself, check_answer, differences, ended
+from fuzz_judge import Program, answered, by_itself, check_answer, differences, ended, events_of
 from fuzz_small import Small
 from row import Runner
 from row import differences as row_differences
 
 UNDER_VALGRIND = 1000  # one seed in so many
+OF_ONE = 20  # spoiled images and scripts that are made of one
 MOST_SMALL = 20  # failing cases that are made small; more are told, and their seeds can be tried again
 
 
@@ -156,10 +158,16 @@ def one(options, program):
 # images and scripts alone
 
 
+@functools.lru_cache(2)
+def unspoiled(number):
+    """A case of another bench, of which many spoiled ones are made."""
+    return of_bench(random.Random(f"unspoiled {number}"), number)
+
+
 def check_case(seed):
     """A spoiled image, and a spoiled script."""
     rng = random.Random(f"check {seed}")
-    case = of_bench(rng, seed)
+    case = unspoiled(seed // OF_ONE)
     image = read(HI) if rng.random() < 0.05 else case.image
     for _ in range(rng.choice((1, 1, 1, 2))):
         image = spoil.spoiled_disk(rng, image, mild=rng.random() < 0.1)
@@ -167,7 +175,7 @@ def check_case(seed):
     lines = spoil.spoiled_script(rng, lines, most=rng.choice((1, 1, 2, 5)))
     if rng.random() < 0.01:
         lines += [b"; " + b"x" * 252] * (4112 + rng.randrange(3))
-    return case.with_(kind="disk", image=image, lines=lines, last_end=rng.choice((b"\n", b"", b"\r\n")))
+    return case.with_(seed=seed, kind="disk", image=image, lines=lines, last_end=rng.choice((b"\n", b"", b"\r\n")))
 
 
 def check_differences(program, case):
@@ -179,21 +187,32 @@ def check_differences(program, case):
 
 
 def check(options, program):
-    counts, failed = collections.Counter(), []
-    first = options.first or 0
-    for seed in range(first, first + options.check):
-        case = check_case(seed)
-        image, script, report = check_differences(program, case)
-        counts["image: " + " ".join(word for word in report.decode().split() if not word.isdigit())] += 1
-        for what, found, words in (("image", image, ("check", "image")), ("script", script, Case(0, "").command)):
-            if found:
-                failed.append(seed)
-                tell(case, found)
-                keep(case.with_(command=words, image=case.image if what == "image" else read(HI)), found, program, options.keep)
+    """Tries image after image, and script after script; whether one failed."""
+    counts, failed, seed = collections.Counter(), [], options.first or 0
+    first = seed
+    try:
+        while seed < first + options.check:
+            check_both(check_case(seed), program, counts, failed, options.keep)
+            seed += 1
+            if (seed - first) % 500 == 0:
+                said(f"{seed - first} images and as many scripts, {len(failed)} failed, up to seed {seed - 1}")
+    except KeyboardInterrupt:
+        said("interrupted")
     for name, value in sorted(counts.items()):
         said(f"{value:9}  {name}")
-    said(f"{options.check} images and {options.check} scripts, seeds from {first} on, {listed(failed)}")
+    said(f"{seed - first} images and as many scripts, seeds {first} to {seed - 1}, {listed(failed)}")
     return bool(failed)
+
+
+def check_both(case, program, counts, failed, folder):
+    image, script, report = check_differences(program, case)
+    counts["image: " + " ".join(word for word in report.decode().split() if not word.isdigit())] += 1
+    counts["script: " + ("a fault" if events_of(case.script())[1] else "good")] += 1
+    for what, found, words in (("image", image, ("check", "image")), ("script", script, Case(0, "").command)):
+        if found:
+            failed.append(case.seed)
+            tell(case, found)
+            keep(case.with_(command=words, image=case.image if what == "image" else read(HI)), found, program, folder)
 
 
 def main(words):

@@ -128,9 +128,9 @@ class Ports(Case):
         try:
             self.v6(CHECK, **more)
         except OSError as error:
-            if error.errno != errno.EPERM:
+            if error.errno not in (errno.EPERM, errno.EACCES):
                 raise
-            self.skipTest("this user may not become another")
+            self.skipTest("this user may not become another, or the other doesn't reach the program")
         return more
 
     def test_no_permission(self):
