@@ -49,3 +49,8 @@ pub mod Registers
 pub mod SharedFacts
 pub mod Depositing
 pub mod Deposited
+pub mod StandingParts
+pub mod StandingState
+pub mod NearParts
+pub mod Landing
+pub mod StandsThere

@@ -38,7 +38,7 @@ front_of_area u eight =
     ap (λ k. bytes_of u.r ++ laid k (drop 1 (fields u))) long
     ∙ sym (append_assoc (bytes_of u.r) (bytes_of (status_word u ∷ [])) (laid 18 (drop 2 (fields u))))
 
-state_long : (r : List ℕ) (cc : ℕ) → length r ≡ 8 → length (state_bytes r cc) ≡ 18
+pub state_long : (r : List ℕ) (cc : ℕ) → length r ≡ 8 → length (state_bytes r cc) ≡ 18
 unfolding state_bytes bytes_of
 state_long r cc eight =
     let n = length-bytes_of r in

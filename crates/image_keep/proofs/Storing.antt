@@ -56,7 +56,7 @@ range_write v s place i bytes h is low high =
     }
 
 -- the image after a write that leaves its u area
-image_put : (v : Stock) (s : ℕ) (place : Place) (new kept_data kept_stack : List ℕ) → IsSound v → OwnWrite v s place new → part new (place_at v.core place) 1024 ≡ part v.line (place_at v.core place) 1024
+pub image_put : (v : Stock) (s : ℕ) (place : Place) (new kept_data kept_stack : List ℕ) → IsSound v → OwnWrite v s place new → part new (place_at v.core place) 1024 ≡ part v.line (place_at v.core place) 1024
     → part new (place_at v.core place + 1024) (64 * (row_at v.rows s).data_size) ≡ kept_data → part new (place_at v.core place + 1024 + 64 * (row_at v.rows s).data_size) (64 * (row_at v.rows s).stack_size) ≡ kept_stack
     → kept_of (with_line v new) ≡ with_image (kept_of v) s (record (image_of (kept_of v) s) { «data» = kept_data; stack = kept_stack })
 unfolding with_image image_by

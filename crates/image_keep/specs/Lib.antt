@@ -16,6 +16,8 @@ pub mod Told
 pub mod Inside
 pub mod SharedTexts
 pub mod Starts
+pub mod Standing
+pub mod Near
 pub mod Running
 pub mod Holds
 pub mod Leaves

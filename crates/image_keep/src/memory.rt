@@ -92,7 +92,7 @@ fn read_out(all: &[u8], at: usize, n: usize, out: &mut [u8])
 
 /// The word of two neighbours.
 #[inline(always)]
-fn word_in(all: &[u8], at: usize) -> u16
+pub(crate) fn word_in(all: &[u8], at: usize) -> u16
     requires { at + 2 ≤ length all.now }
     ensures { result ≡ slice_index all.now at + 256 * slice_index all.now (at + 1) }
 {

@@ -38,7 +38,7 @@ mode_small DecrementDeferred = omega arith
 mode_small Index = omega arith
 mode_small IndexDeferred = omega arith
 
-reg_back : (r : Reg) → reg_of (reg_code r) ≡ r
+pub reg_back : (r : Reg) → reg_of (reg_code r) ≡ r
 unfolding reg_of
 reg_back R0 = refl
 reg_back R1 = refl
@@ -49,7 +49,7 @@ reg_back R5 = refl
 reg_back Sp = refl
 reg_back Pc = refl
 
-reg_small : (r : Reg) → reg_code r ≤ 7
+pub reg_small : (r : Reg) → reg_code r ≤ 7
 reg_small R0 = omega arith
 reg_small R1 = omega arith
 reg_small R2 = omega arith
@@ -59,14 +59,14 @@ reg_small R5 = omega arith
 reg_small Sp = omega arith
 reg_small Pc = omega arith
 
-code_small : (d : Operand) → code d < 0o100
+pub code_small : (d : Operand) → code d < 0o100
 code_small d =
     let m = mode_small d.mode in
     let r = reg_small d.reg in
     omega arith
 
 -- the operand of a number that ends in its code
-operand_back : (d : Operand) (n k : ℕ) → n ≡ 0o100 * k + code d → operand_of n ≡ d
+pub operand_back : (d : Operand) (n k : ℕ) → n ≡ 0o100 * k + code d → operand_of n ≡ d
 unfolding operand_of
 operand_back d n k is =
     let a = mode_small d.mode in

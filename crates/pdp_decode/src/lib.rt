@@ -3,8 +3,15 @@
 //! PDP-11/40 Processor Handbook, chapter 3 (addressing modes) and chapter 4 (instruction set).
 #![tactic(auto)]
 
+mod addressing;
+mod choices;
+mod dispatch;
+mod handler;
 mod instr;
 mod reading;
 
+pub use addressing::Addressing;
+pub use dispatch::Dispatch;
+pub use handler::Handler;
 pub use instr::{Condition, Flags, Instr, Mode, Operand, Reg, SoftTrap, Width};
 pub use reading::decode;

@@ -2,3 +2,9 @@ pub mod Shifts
 pub mod Ends
 pub mod Forms
 pub mod Signs
+pub mod Banks
+pub mod Reached
+pub mod RowEnds
+pub mod PcRows
+pub mod AnyMode
+pub mod TableRows

@@ -11,10 +11,13 @@ use Rattle.pdp_decode.specs.declared.instr.Mode.TheVariants.{Register, Deferred,
 use Rattle.pdp_decode.specs.declared.instr.Reg.{Reg}
 use Rattle.pdp_decode.specs.declared.instr.Reg.TheVariants.{R0, R1, R2, R3, R4, R5, Sp, Pc}
 use Rattle.pdp_decode.specs.declared.instr.Operand.{Operand}
-use Rattle.pdp_step.specs.declared.operands.Location.{Location}
-use Rattle.pdp_step.specs.declared.operands.Location.TheVariants.{InRegister, InMemory}
 use Rattle.pdp_step.specs.Registers.{plus, minus}
 use Rattle.pdp_step.specs.Machine.{Machine, reg_in, with_reg, passed}
+
+-- where an operand is
+pub data Location : Type 0 where
+  InRegister : Reg → Location
+  InMemory : ℕ → Location
 
 -- what stops an instruction before anything has changed; a segmentation fault names the value that R6 has reached
 pub data Stop : Type 0 where

@@ -1,0 +1,92 @@
+-- Registers and condition codes are written one by one where they stand: the bytes are then those of the u area with them.
+use Rattle.std.proofs.Common.{◌≡◌, ℕ, zero, suc, ◌+◌, ◌-◌, ◌*◌, ◌/◌, ◌%◌, ◌<◌, ◌≤◌, ◌⊎◌, inl, inr, List, [], ◌∷◌, ◌++◌, length, slice_set, set, refl, sym, ap, ◌∙◌, arith}
+use Rattle.std.proofs.lemmas.List.{set-append_right, length-set}
+use Rattle.fs_codec.specs.Bytes.{bytes_of}
+use Rattle.fs_codec.proofs.BytesLemmas.{length-bytes_of}
+use Rattle.v6_base.specs.Words.{word_set}
+use Rattle.core_mem.specs.Bytes.{part}
+use Rattle.u_area.specs.declared.area.UArea.{UArea}
+use Rattle.image_keep.specs.declared.standing.Standing.{Standing}
+use Rattle.image_keep.specs.Running.{with_state, state_bytes}
+use Rattle.image_keep.specs.Standing.{standing_image, StandsIn}
+use Rattle.image_keep.proofs.StandingParts.{apart_by, part_set, part_word, part_apart, word_apart}
+use Rattle.image_keep.proofs.Registers.{state_is}
+
+-- a word of the bytes of words
+bytes_set : (r t : List ℕ) (n w : ℕ) → n < length r → word_set (bytes_of r ++ t) (2 * n) w ≡ bytes_of (set r n w) ++ t
+unfolding bytes_of
+bytes_set [] t n w h = absurd (omega arith)
+bytes_set (x ∷ r) t zero w h = refl
+bytes_set (x ∷ r) t (suc n) w h =
+    let e : 2 * suc n ≡ suc (suc (2 * n)) = omega arith in
+    let d : 2 * suc n + 1 ≡ suc (suc (2 * n + 1)) = omega arith in
+    let all : List ℕ = x % 256 ∷ x / 256 ∷ (bytes_of r ++ t) in
+    ap (λ (k : ℕ). set (set all k (w % 256)) (2 * suc n + 1) (w / 256)) e
+    ∙ ap (λ (k : ℕ). set (set all (suc (suc (2 * n))) (w % 256)) k (w / 256)) d
+    ∙ ap (λ (l : List ℕ). x % 256 ∷ x / 256 ∷ l) (bytes_set r t n w (omega arith))
+
+stated_register : (core : List ℕ) (at n w : ℕ) (r : List ℕ) (cc : ℕ) → length r ≡ 8 → n < 8 → at + 18 ≤ length core → part core at 18 ≡ state_bytes r cc → part (word_set core (at + 2 * n) w) at 18 ≡ state_bytes (set r n w) cc
+unfolding state_bytes
+stated_register core at n w r cc eight low room is =
+    part_word core at 18 (2 * n) w (omega (arith, low)) room
+    ∙ ap (λ (l : List ℕ). word_set l (2 * n) w) is
+    ∙ bytes_set r (bytes_of ((61440 + cc) ∷ [])) n w (omega (arith, eight, low))
+
+stated_codes : (core : List ℕ) (at cc old : ℕ) (r : List ℕ) → length r ≡ 8 → cc < 16 → old < 16 → at + 18 ≤ length core → part core at 18 ≡ state_bytes r old → part (set core (at + 16) cc) at 18 ≡ state_bytes r cc
+unfolding state_bytes bytes_of
+stated_codes core at cc old r eight low was room is =
+    let n = length-bytes_of r in
+    let long : length (bytes_of r) ≡ 16 = omega (arith, n, eight) in
+    let first : (61440 + cc) % 256 ≡ cc = omega (arith, low) in
+    let second : (61440 + cc) / 256 ≡ (61440 + old) / 256 = omega (arith, low, was) in
+    part_set core at 18 16 cc (omega arith) room
+    ∙ ap (λ (l : List ℕ). set l 16 cc) is
+    ∙ set-append_right (bytes_of r) (bytes_of ((61440 + old) ∷ [])) 16 16 cc long (omega arith)
+    ∙ ap (λ (l : List ℕ). bytes_of r ++ l) (sym (λ i. first i ∷ second i ∷ []))
+
+area_in : (size : ℕ) (f : Standing) → StandsIn size f → f.area + 18 ≤ size
+area_in size f s = let a = s.area in let e = s.end in let i = s.stack_in in let b = s.stack_below in omega (arith, a, e, i, b)
+
+pub state_low : (size : ℕ) (f : Standing) (k : ℕ) → StandsIn size f → k < 18 → f.area + k < size
+state_low size f k s low = let a = area_in size f s in omega (arith, a, low)
+
+-- what stands elsewhere
+pub register_rest : (core new : List ℕ) (f : Standing) (n w k m : ℕ) → n < 8 → new ≡ word_set core (f.area + 2 * n) w → (k + m ≤ f.area) ⊎ (f.area + 18 ≤ k) → part new k m ≡ part core k m
+register_rest core new f n w k m low is off = ap (λ c. part c k m) is ∙ word_apart core k m (f.area + 2 * n) w (by off)
+  where
+    by : (k + m ≤ f.area) ⊎ (f.area + 18 ≤ k) → (f.area + 2 * n + 2 ≤ k) ⊎ (k + m ≤ f.area + 2 * n)
+    by (inl h) = inr (omega (arith, h))
+    by (inr h) = inl (omega (arith, h, low))
+
+pub codes_rest : (core new : List ℕ) (f : Standing) (cc k m : ℕ) → new ≡ set core (f.area + 16) cc → (k + m ≤ f.area) ⊎ (f.area + 18 ≤ k) → part new k m ≡ part core k m
+codes_rest core new f cc k m is off = ap (λ c. part c k m) is ∙ part_apart core k m (f.area + 16) cc (by off)
+  where
+    by : (k + m ≤ f.area) ⊎ (f.area + 18 ≤ k) → (f.area + 16 < k) ⊎ (k + m ≤ f.area + 16)
+    by (inl h) = inr (omega (arith, h))
+    by (inr h) = inl (omega (arith, h))
+
+-- the image stands elsewhere
+pub image_same : (core new : List ℕ) (f : Standing) → StandsIn (length core) f → ((k m : ℕ) → (k + m ≤ f.area) ⊎ (f.area + 18 ≤ k) → part new k m ≡ part core k m) → standing_image new f ≡ standing_image core f
+unfolding standing_image
+image_same core new f s rest =
+    let a = s.area in let e = s.end in
+    let t = rest f.text f.text_len (by (apart_by (length core) f s)) in
+    let d = rest f.data f.data_len (inr (omega (arith, a))) in
+    let k = rest f.data_end (65536 - f.stack_start) (inr (omega (arith, a, e))) in
+    rw (t, d, k)
+  where
+    by : (f.text + f.text_len ≤ f.area) ⊎ (f.data_end + 65536 ≤ f.text + f.stack_start) → (f.text + f.text_len ≤ f.area) ⊎ (f.area + 18 ≤ f.text)
+    by (inl h) = inl h
+    by (inr h) = inr (let a = s.area in let e = s.end in let b = s.stack_below in omega (arith, h, a, e, b))
+
+-- the u area with one register or with other codes
+pub area_register : (u : UArea) (n w : ℕ) → record u { r = slice_set u.r n w } ≡ with_state u (slice_set u.r n w) u.cc
+area_register u n w = state_is u (slice_set u.r n w) u.cc u.codes
+
+pub register_stated : (core new : List ℕ) (f : Standing) (u : UArea) (n w : ℕ) → StandsIn (length core) f → length u.r ≡ 8 → n < 8 → part core f.area 18 ≡ state_bytes u.r u.cc → new ≡ word_set core (f.area + 2 * n) w → part new f.area 18 ≡ state_bytes (slice_set u.r n w) u.cc
+register_stated core new f u n w s eight low is new_is = ap (λ c. part c f.area 18) new_is ∙ stated_register core f.area n w u.r u.cc eight low (area_in (length core) f s) is
+
+pub codes_stated : (core new : List ℕ) (f : Standing) (u : UArea) (cc : ℕ) → StandsIn (length core) f → length u.r ≡ 8 → cc < 16 → part core f.area 18 ≡ state_bytes u.r u.cc → new ≡ set core (f.area + 16) cc → part new f.area 18 ≡ state_bytes u.r cc
+codes_stated core new f u cc s eight low is new_is = ap (λ c. part c f.area 18) new_is ∙ stated_codes core f.area cc u.cc u.r eight low u.codes (area_in (length core) f s) is
+
+pub ruleset registers = (state_low, area_register, register_stated, codes_stated, state_is, length-set)

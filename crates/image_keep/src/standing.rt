@@ -1,0 +1,240 @@
+//! A process where it stands in core: what an instruction reads and writes of it, in place.
+ghost use Rattle.std.specs.Prelude.{◌≡◌, ℕ, ◌+◌, ◌*◌, ◌%◌, ◌<◌, ◌≤◌, ◌⊎◌, IfSome, Ok, false, length, slice_index, slice_set};
+ghost use Rattle.v6_base.specs.Access.{load_byte, load_word, store_byte, store_word};
+ghost use Rattle.v6_base.specs.Words.{word_set};
+ghost use Rattle.core_mem.specs.Bytes.{part};
+ghost use Rattle.image_keep.specs.Running.{state_bytes, with_state};
+ghost use Rattle.image_keep.specs.Standing.{Follows, standing_image, StandsIn, IsPlace, IsWordPlace, address};
+
+use crate::memory::word_in;
+use crate::starts::Starts;
+use u_area::{AREA_SIZE, PS, UArea};
+
+/// Where the parts of a process stand in core, in bytes from its beginning: the u area, the text, the data with the stack
+/// behind them; and the addresses at which the data and the stack begin.
+#[derive(Clone, Copy, Debug, PartialEq, Eq)]
+pub(crate) struct Standing {
+    pub area: usize,
+    pub text: usize,
+    pub text_len: usize,
+    /// The program: the text, or the data where there is none.
+    pub code: usize,
+    pub code_len: usize,
+    pub base: usize,
+    pub data: usize,
+    pub data_len: usize,
+    pub data_end: usize,
+    pub stack_start: usize,
+    /// What is added to an address of the stack, modulo 2 to the 64th.
+    pub stack: usize,
+    /// 1, the bit of an odd address: the compiler doesn't know it, and so reads a word as a word.
+    pub odd: usize,
+}
+
+/// Puts a word to two neighbours.
+#[inline(always)]
+fn put_word(core: &mut [u8], at: usize, value: u16)
+    requires { at + 2 ≤ length core.old }
+    ensures word { core.new ≡ word_set core.old at value }
+    ensures size { length core.new ≡ length core.old }
+{
+    core[at] = (value % 256) as u8;
+    core[at + 1] = (value / 256) as u8;
+}
+
+/// Whether an address is odd.
+#[inline(always)]
+fn is_odd(f: &Standing, at: usize) -> bool
+    requires { f.now.odd ≡ 1 }
+    ensures { result ≡ false → at % 2 ≡ 0 }
+{
+    at & f.odd != 0
+}
+
+impl Standing {
+    /// Where a process stands whose parts start there.
+    pub fn of(starts: &Starts) -> Standing
+        requires { 1024 ≤ starts.now.image }
+        ensures { Follows result starts.now }
+    {
+        let data_end = starts.image + starts.data_len;
+        let is_bare = starts.text_len == 0;
+        Standing {
+            area: starts.image - AREA_SIZE,
+            text: starts.text,
+            text_len: starts.text_len,
+            code: if is_bare { starts.image } else { starts.text },
+            code_len: if is_bare { starts.data_len } else { starts.text_len },
+            base: starts.base,
+            data: starts.image,
+            data_len: starts.data_len,
+            data_end,
+            stack_start: starts.stack_start,
+            stack: data_end.wrapping_sub(starts.stack_start),
+            odd: 1,
+        }
+    }
+
+    /// The place of the byte at an address, where that is one of the data or of the stack.
+    #[inline(always)]
+    fn place(&self, v: usize) -> Option<usize>
+        requires stands { (n : ℕ) × StandsIn n self.now }
+        requires address { v < 65536 }
+        ensures place { IfSome result (λ place. IsPlace self.now place) }
+        ensures address { IfSome result (λ place. address self.now place ≡ v) }
+    {
+        let i = v.wrapping_sub(self.base);
+        if i < self.data_len {
+            return Some(self.data + i);
+        }
+        if v >= self.stack_start {
+            return Some(self.stack.wrapping_add(v));
+        }
+        None
+    }
+
+    /// The place of the word at an address, where it is even.
+    #[inline(always)]
+    pub fn place_of_word(&self, at: u16) -> Option<usize>
+        requires { (n : ℕ) × StandsIn n self.now }
+        ensures place { IfSome result (λ place. IsWordPlace self.now place) }
+        ensures address { IfSome result (λ place. address self.now place ≡ at) }
+    {
+        let v = usize::from(at);
+        if is_odd(self, v) {
+            return None;
+        }
+        self.place(v)
+    }
+
+    /// The place of the byte at an address.
+    #[inline(always)]
+    pub fn place_of_byte(&self, at: u16) -> Option<usize>
+        requires { (n : ℕ) × StandsIn n self.now }
+        ensures place { IfSome result (λ place. IsPlace self.now place) }
+        ensures address { IfSome result (λ place. address self.now place ≡ at) }
+    {
+        self.place(usize::from(at))
+    }
+}
+
+/// The word of the program at an address, where it is even and within.
+#[inline(always)]
+#[tactic(auto, using(crate::proofs::StandingParts::programs))]
+pub(crate) fn program_word(core: &[u8], f: &Standing, pc: usize) -> Option<u16>
+    requires { StandsIn (length core.now) f.now }
+    ensures word { IfSome result (λ word. load_word (standing_image core.now f.now) pc ≡ Ok word) }
+    ensures low { IfSome result (λ _. pc < 65536) }
+{
+    if pc % 2 == 1 || pc >= f.code_len {
+        return None;
+    }
+    Some(word_in(core, f.code + pc))
+}
+
+/// The byte of the program at an address, where it is within.
+#[inline(always)]
+#[tactic(auto, using(crate::proofs::StandingParts::programs))]
+pub(crate) fn program_byte(core: &[u8], f: &Standing, pc: usize) -> Option<u8>
+    requires { StandsIn (length core.now) f.now }
+    ensures byte { IfSome result (λ byte. load_byte (standing_image core.now f.now) pc ≡ Ok byte) }
+    ensures low { IfSome result (λ _. pc < 65536) }
+{
+    if pc >= f.code_len {
+        return None;
+    }
+    Some(core[f.code + pc])
+}
+
+/// The word at a place.
+#[inline(always)]
+#[tactic(auto, using(crate::proofs::StandingParts::loads))]
+pub(crate) fn load_word(core: &[u8], f: &Standing, place: usize) -> u16
+    requires stands { StandsIn (length core.now) f.now }
+    requires place { IsWordPlace f.now place }
+    ensures { load_word (standing_image core.now f.now) (address f.now place) ≡ Ok result }
+{
+    word_in(core, place)
+}
+
+/// The byte at a place.
+#[inline(always)]
+#[tactic(auto, using(crate::proofs::StandingParts::loads))]
+pub(crate) fn load_byte(core: &[u8], f: &Standing, place: usize) -> u8
+    requires stands { StandsIn (length core.now) f.now }
+    requires place { IsPlace f.now place }
+    ensures { load_byte (standing_image core.now f.now) (address f.now place) ≡ Ok result }
+{
+    core[place]
+}
+
+/// Puts a word to a place: that word of the image, and nothing else.
+#[inline(always)]
+#[tactic(auto, using(crate::proofs::StandingParts::stores))]
+pub(crate) fn store_word(core: &mut [u8], f: &Standing, place: usize, value: u16)
+    requires stands { StandsIn (length core.old) f.now }
+    requires place { IsWordPlace f.now place }
+    ensures image { store_word (standing_image core.old f.now) (address f.now place) value ≡ Ok (standing_image core.new f.now) }
+    ensures rest { (k m : ℕ) → (k + m ≤ f.now.data) ⊎ (f.now.data_end + 65536 ≤ k + f.now.stack_start) → part core.new k m ≡ part core.old k m }
+    ensures size { length core.new ≡ length core.old }
+{
+    put_word(core, place, value);
+}
+
+/// Puts a byte to a place, likewise.
+#[inline(always)]
+#[tactic(auto, using(crate::proofs::StandingParts::stores))]
+pub(crate) fn store_byte(core: &mut [u8], f: &Standing, place: usize, value: u8)
+    requires stands { StandsIn (length core.old) f.now }
+    requires place { IsPlace f.now place }
+    ensures image { store_byte (standing_image core.old f.now) (address f.now place) value ≡ Ok (standing_image core.new f.now) }
+    ensures rest { (k m : ℕ) → (k + m ≤ f.now.data) ⊎ (f.now.data_end + 65536 ≤ k + f.now.stack_start) → part core.new k m ≡ part core.old k m }
+    ensures size { length core.new ≡ length core.old }
+{
+    core[place] = value;
+}
+
+/// What a register of a process holds.
+#[inline(always)]
+pub(crate) fn reg(area: &UArea, n: usize) -> u16
+    requires { n < 8 }
+    ensures { result ≡ slice_index area.now.r n }
+{
+    area.r[n]
+}
+
+/// Gives a register of a process a value, in the bytes of its u area and in the decoded one.
+#[inline(always)]
+#[tactic(auto, using(crate::proofs::StandingState::registers))]
+pub(crate) fn set_reg(core: &mut [u8], area: &mut UArea, f: &Standing, n: usize, value: u16)
+    requires stands { StandsIn (length core.old) f.now }
+    requires number { n < 8 }
+    requires eight { length area.old.r ≡ 8 }
+    requires stated { part core.old f.now.area 18 ≡ state_bytes area.old.r area.old.cc }
+    ensures area { area.new ≡ with_state area.old (slice_set area.old.r n value) area.old.cc }
+    ensures stated { part core.new f.now.area 18 ≡ state_bytes area.new.r area.new.cc }
+    ensures image { standing_image core.new f.now ≡ standing_image core.old f.now }
+    ensures rest { (k m : ℕ) → (k + m ≤ f.now.area) ⊎ (f.now.area + 18 ≤ k) → part core.new k m ≡ part core.old k m }
+    ensures size { length core.new ≡ length core.old }
+{
+    put_word(core, f.area + 2 * n, value);
+    area.r[n] = value;
+}
+
+/// Gives a process condition codes, likewise.
+#[inline(always)]
+#[tactic(auto, using(crate::proofs::StandingState::registers))]
+pub(crate) fn set_cc(core: &mut [u8], area: &mut UArea, f: &Standing, cc: u8)
+    requires stands { StandsIn (length core.old) f.now }
+    requires codes { cc < 16 }
+    requires eight { length area.old.r ≡ 8 }
+    requires stated { part core.old f.now.area 18 ≡ state_bytes area.old.r area.old.cc }
+    ensures area { area.new ≡ with_state area.old area.old.r cc }
+    ensures stated { part core.new f.now.area 18 ≡ state_bytes area.new.r area.new.cc }
+    ensures image { standing_image core.new f.now ≡ standing_image core.old f.now }
+    ensures rest { (k m : ℕ) → (k + m ≤ f.now.area) ⊎ (f.now.area + 18 ≤ k) → part core.new k m ≡ part core.old k m }
+    ensures size { length core.new ≡ length core.old }
+{
+    core[f.area + PS] = cc;
+    area.cc = cc;
+}

@@ -1,0 +1,434 @@
+//! The choice of a handler by the ways to an instruction's operands.
+ghost use Rattle.std.specs.Prelude.{ℕ, ◌≡◌, ◌/◌, ◌%◌};
+ghost use Rattle.pdp_decode.specs.Decode.{reg_of};
+ghost use Rattle.pdp_decode.specs.declared.instr.Width.{Width};
+ghost use Rattle.pdp_decode.specs.declared.instr.Instr.{Instr};
+ghost use Rattle.pdp_decode.specs.Handlers.{IsDouble, IsSingle, IsExtended, IsBranch, Handles};
+
+use crate::addressing::Addressing::{
+    self, Absolute, Autodecrement, Autoincrement, Deferred, Immediate, Indexed, Register, Relative,
+};
+use crate::addressing::is_pc;
+use crate::handler::Handler;
+use crate::instr::{Condition, Reg, Width};
+
+pub(crate) fn mov(width: Width, source: Addressing, dest: Addressing) -> Handler
+    ensures { (n : ℕ) → IsDouble n width (Instr.Mov width) source dest → Handles result n }
+{
+    match (width, source, dest) {
+        (Width::Word, Register, Register) => Handler::MovRR,
+        (Width::Word, Immediate, Register) => Handler::MovIR,
+        (Width::Word, Absolute, Register) => Handler::MovAR,
+        (Width::Word, Indexed, Register) => Handler::MovXR,
+        (Width::Word, Deferred, Register) => Handler::MovDR,
+        (Width::Word, Autoincrement, Register) => Handler::MovPR,
+        (Width::Word, Relative, Register) => Handler::MovLR,
+        (Width::Word, Register, Absolute) => Handler::MovRA,
+        (Width::Word, Register, Indexed) => Handler::MovRX,
+        (Width::Word, Register, Deferred) => Handler::MovRD,
+        (Width::Word, Register, Autoincrement) => Handler::MovRP,
+        (Width::Word, Register, Autodecrement) => Handler::MovRM,
+        (Width::Word, Register, Relative) => Handler::MovRL,
+        (Width::Word, Immediate, Absolute) => Handler::MovIA,
+        (Width::Word, Immediate, Indexed) => Handler::MovIX,
+        (Width::Word, Immediate, Autodecrement) => Handler::MovIM,
+        (Width::Word, Absolute, Autodecrement) => Handler::MovAM,
+        (Width::Word, Indexed, Indexed) => Handler::MovXX,
+        (Width::Word, Indexed, Autodecrement) => Handler::MovXM,
+        (Width::Word, Autoincrement, Autoincrement) => Handler::MovPP,
+        (Width::Byte, Register, Register) => Handler::MovbRR,
+        (Width::Byte, Absolute, Register) => Handler::MovbAR,
+        (Width::Byte, Indexed, Register) => Handler::MovbXR,
+        (Width::Byte, Deferred, Register) => Handler::MovbDR,
+        (Width::Byte, Autoincrement, Register) => Handler::MovbPR,
+        (Width::Byte, Register, Absolute) => Handler::MovbRA,
+        (Width::Byte, Register, Indexed) => Handler::MovbRX,
+        (Width::Byte, Register, Deferred) => Handler::MovbRD,
+        (Width::Byte, Register, Autoincrement) => Handler::MovbRP,
+        (Width::Byte, Register, Autodecrement) => Handler::MovbRM,
+        (Width::Byte, Immediate, Indexed) => Handler::MovbIX,
+        (Width::Byte, Autoincrement, Autoincrement) => Handler::MovbPP,
+        _ => Handler::Other,
+    }
+}
+
+pub(crate) fn cmp(width: Width, source: Addressing, dest: Addressing) -> Handler
+    ensures { (n : ℕ) → IsDouble n width (Instr.Cmp width) source dest → Handles result n }
+{
+    match (width, source, dest) {
+        (Width::Word, Register, Register) => Handler::CmpRR,
+        (Width::Word, Immediate, Register) => Handler::CmpIR,
+        (Width::Word, Absolute, Register) => Handler::CmpAR,
+        (Width::Word, Indexed, Register) => Handler::CmpXR,
+        (Width::Word, Deferred, Register) => Handler::CmpDR,
+        (Width::Word, Autoincrement, Register) => Handler::CmpPR,
+        (Width::Word, Relative, Register) => Handler::CmpLR,
+        (Width::Word, Register, Absolute) => Handler::CmpRA,
+        (Width::Word, Register, Indexed) => Handler::CmpRX,
+        (Width::Word, Register, Deferred) => Handler::CmpRD,
+        (Width::Word, Absolute, Immediate) => Handler::CmpAI,
+        (Width::Word, Indexed, Immediate) => Handler::CmpXI,
+        (Width::Byte, Register, Register) => Handler::CmpbRR,
+        (Width::Byte, Immediate, Register) => Handler::CmpbIR,
+        (Width::Byte, Indexed, Register) => Handler::CmpbXR,
+        (Width::Byte, Deferred, Register) => Handler::CmpbDR,
+        (Width::Byte, Autoincrement, Register) => Handler::CmpbPR,
+        (Width::Byte, Register, Deferred) => Handler::CmpbRD,
+        (Width::Byte, Autoincrement, Immediate) => Handler::CmpbPI,
+        (Width::Byte, Autoincrement, Autoincrement) => Handler::CmpbPP,
+        _ => Handler::Other,
+    }
+}
+
+pub(crate) fn bit(width: Width, source: Addressing, dest: Addressing) -> Handler
+    ensures { (n : ℕ) → IsDouble n width (Instr.Bit width) source dest → Handles result n }
+{
+    match (width, source, dest) {
+        (Width::Word, Register, Register) => Handler::BitRR,
+        (Width::Word, Immediate, Register) => Handler::BitIR,
+        (Width::Word, Absolute, Register) => Handler::BitAR,
+        (Width::Word, Indexed, Register) => Handler::BitXR,
+        (Width::Byte, Register, Register) => Handler::BitbRR,
+        (Width::Byte, Immediate, Register) => Handler::BitbIR,
+        _ => Handler::Other,
+    }
+}
+
+pub(crate) fn bic(width: Width, source: Addressing, dest: Addressing) -> Handler
+    ensures { (n : ℕ) → IsDouble n width (Instr.Bic width) source dest → Handles result n }
+{
+    match (width, source, dest) {
+        (Width::Word, Register, Register) => Handler::BicRR,
+        (Width::Word, Immediate, Register) => Handler::BicIR,
+        (Width::Word, Absolute, Register) => Handler::BicAR,
+        (Width::Word, Indexed, Register) => Handler::BicXR,
+        (Width::Word, Register, Absolute) => Handler::BicRA,
+        (Width::Word, Register, Indexed) => Handler::BicRX,
+        (Width::Word, Immediate, Indexed) => Handler::BicIX,
+        (Width::Byte, Register, Register) => Handler::BicbRR,
+        (Width::Byte, Immediate, Register) => Handler::BicbIR,
+        _ => Handler::Other,
+    }
+}
+
+pub(crate) fn bis(width: Width, source: Addressing, dest: Addressing) -> Handler
+    ensures { (n : ℕ) → IsDouble n width (Instr.Bis width) source dest → Handles result n }
+{
+    match (width, source, dest) {
+        (Width::Word, Register, Register) => Handler::BisRR,
+        (Width::Word, Immediate, Register) => Handler::BisIR,
+        (Width::Word, Absolute, Register) => Handler::BisAR,
+        (Width::Word, Indexed, Register) => Handler::BisXR,
+        (Width::Word, Register, Absolute) => Handler::BisRA,
+        (Width::Word, Register, Indexed) => Handler::BisRX,
+        (Width::Word, Immediate, Indexed) => Handler::BisIX,
+        (Width::Byte, Register, Register) => Handler::BisbRR,
+        (Width::Byte, Immediate, Register) => Handler::BisbIR,
+        (Width::Byte, Deferred, Register) => Handler::BisbDR,
+        (Width::Byte, Autoincrement, Register) => Handler::BisbPR,
+        (Width::Byte, Register, Deferred) => Handler::BisbRD,
+        (Width::Byte, Register, Autoincrement) => Handler::BisbRP,
+        _ => Handler::Other,
+    }
+}
+
+pub(crate) fn add(source: Addressing, dest: Addressing) -> Handler
+    ensures { (n : ℕ) → IsDouble n Width.Word Instr.Add source dest → Handles result n }
+{
+    match (source, dest) {
+        (Register, Register) => Handler::AddRR,
+        (Immediate, Register) => Handler::AddIR,
+        (Absolute, Register) => Handler::AddAR,
+        (Indexed, Register) => Handler::AddXR,
+        (Deferred, Register) => Handler::AddDR,
+        (Autoincrement, Register) => Handler::AddPR,
+        (Relative, Register) => Handler::AddLR,
+        (Register, Absolute) => Handler::AddRA,
+        (Register, Indexed) => Handler::AddRX,
+        (Register, Deferred) => Handler::AddRD,
+        (Register, Autoincrement) => Handler::AddRP,
+        (Immediate, Absolute) => Handler::AddIA,
+        (Immediate, Indexed) => Handler::AddIX,
+        _ => Handler::Other,
+    }
+}
+
+pub(crate) fn sub(source: Addressing, dest: Addressing) -> Handler
+    ensures { (n : ℕ) → IsDouble n Width.Word Instr.Sub source dest → Handles result n }
+{
+    match (source, dest) {
+        (Register, Register) => Handler::SubRR,
+        (Immediate, Register) => Handler::SubIR,
+        (Absolute, Register) => Handler::SubAR,
+        (Indexed, Register) => Handler::SubXR,
+        (Deferred, Register) => Handler::SubDR,
+        (Autoincrement, Register) => Handler::SubPR,
+        (Relative, Register) => Handler::SubLR,
+        (Register, Absolute) => Handler::SubRA,
+        (Register, Indexed) => Handler::SubRX,
+        (Immediate, Indexed) => Handler::SubIX,
+        _ => Handler::Other,
+    }
+}
+
+pub(crate) fn clr(width: Width, dest: Addressing) -> Handler
+    ensures { (n : ℕ) → IsSingle n width (Instr.Clr width) dest → Handles result n }
+{
+    match (width, dest) {
+        (Width::Word, Register) => Handler::ClrR,
+        (Width::Word, Absolute) => Handler::ClrA,
+        (Width::Word, Indexed) => Handler::ClrX,
+        (Width::Word, Autodecrement) => Handler::ClrM,
+        (Width::Word, Deferred) => Handler::ClrD,
+        (Width::Word, Autoincrement) => Handler::ClrP,
+        (Width::Word, Relative) => Handler::ClrL,
+        (Width::Byte, Register) => Handler::ClrbR,
+        _ => Handler::Other,
+    }
+}
+
+pub(crate) fn com(width: Width, dest: Addressing) -> Handler
+    ensures { (n : ℕ) → IsSingle n width (Instr.Com width) dest → Handles result n }
+{
+    match (width, dest) {
+        (Width::Word, Register) => Handler::ComR,
+        (Width::Byte, Register) => Handler::CombR,
+        _ => Handler::Other,
+    }
+}
+
+pub(crate) fn inc(width: Width, dest: Addressing) -> Handler
+    ensures { (n : ℕ) → IsSingle n width (Instr.Inc width) dest → Handles result n }
+{
+    match (width, dest) {
+        (Width::Word, Register) => Handler::IncR,
+        (Width::Word, Absolute) => Handler::IncA,
+        (Width::Word, Indexed) => Handler::IncX,
+        (Width::Word, Deferred) => Handler::IncD,
+        (Width::Word, Autoincrement) => Handler::IncP,
+        (Width::Word, Relative) => Handler::IncL,
+        (Width::Byte, Register) => Handler::IncbR,
+        _ => Handler::Other,
+    }
+}
+
+pub(crate) fn dec(width: Width, dest: Addressing) -> Handler
+    ensures { (n : ℕ) → IsSingle n width (Instr.Dec width) dest → Handles result n }
+{
+    match (width, dest) {
+        (Width::Word, Register) => Handler::DecR,
+        (Width::Word, Absolute) => Handler::DecA,
+        (Width::Word, Indexed) => Handler::DecX,
+        (Width::Word, Deferred) => Handler::DecD,
+        (Width::Word, Autoincrement) => Handler::DecP,
+        (Width::Word, Relative) => Handler::DecL,
+        (Width::Byte, Register) => Handler::DecbR,
+        _ => Handler::Other,
+    }
+}
+
+pub(crate) fn neg(width: Width, dest: Addressing) -> Handler
+    ensures { (n : ℕ) → IsSingle n width (Instr.Neg width) dest → Handles result n }
+{
+    match (width, dest) {
+        (Width::Word, Register) => Handler::NegR,
+        (Width::Byte, Register) => Handler::NegbR,
+        _ => Handler::Other,
+    }
+}
+
+pub(crate) fn adc(width: Width, dest: Addressing) -> Handler
+    ensures { (n : ℕ) → IsSingle n width (Instr.Adc width) dest → Handles result n }
+{
+    match (width, dest) {
+        (Width::Word, Register) => Handler::AdcR,
+        (Width::Byte, Register) => Handler::AdcbR,
+        _ => Handler::Other,
+    }
+}
+
+pub(crate) fn sbc(width: Width, dest: Addressing) -> Handler
+    ensures { (n : ℕ) → IsSingle n width (Instr.Sbc width) dest → Handles result n }
+{
+    match (width, dest) {
+        (Width::Word, Register) => Handler::SbcR,
+        (Width::Byte, Register) => Handler::SbcbR,
+        _ => Handler::Other,
+    }
+}
+
+pub(crate) fn tst(width: Width, dest: Addressing) -> Handler
+    ensures { (n : ℕ) → IsSingle n width (Instr.Tst width) dest → Handles result n }
+{
+    match (width, dest) {
+        (Width::Word, Register) => Handler::TstR,
+        (Width::Word, Absolute) => Handler::TstA,
+        (Width::Word, Indexed) => Handler::TstX,
+        (Width::Word, Autoincrement) => Handler::TstP,
+        (Width::Word, Relative) => Handler::TstL,
+        (Width::Word, Deferred) => Handler::TstD,
+        (Width::Word, Autodecrement) => Handler::TstM,
+        (Width::Byte, Register) => Handler::TstbR,
+        _ => Handler::Other,
+    }
+}
+
+pub(crate) fn ror(width: Width, dest: Addressing) -> Handler
+    ensures { (n : ℕ) → IsSingle n width (Instr.Ror width) dest → Handles result n }
+{
+    match (width, dest) {
+        (Width::Word, Register) => Handler::RorR,
+        (Width::Byte, Register) => Handler::RorbR,
+        _ => Handler::Other,
+    }
+}
+
+pub(crate) fn rol(width: Width, dest: Addressing) -> Handler
+    ensures { (n : ℕ) → IsSingle n width (Instr.Rol width) dest → Handles result n }
+{
+    match (width, dest) {
+        (Width::Word, Register) => Handler::RolR,
+        (Width::Byte, Register) => Handler::RolbR,
+        _ => Handler::Other,
+    }
+}
+
+pub(crate) fn asr(width: Width, dest: Addressing) -> Handler
+    ensures { (n : ℕ) → IsSingle n width (Instr.Asr width) dest → Handles result n }
+{
+    match (width, dest) {
+        (Width::Word, Register) => Handler::AsrR,
+        (Width::Byte, Register) => Handler::AsrbR,
+        _ => Handler::Other,
+    }
+}
+
+pub(crate) fn asl(width: Width, dest: Addressing) -> Handler
+    ensures { (n : ℕ) → IsSingle n width (Instr.Asl width) dest → Handles result n }
+{
+    match (width, dest) {
+        (Width::Word, Register) => Handler::AslR,
+        (Width::Byte, Register) => Handler::AslbR,
+        _ => Handler::Other,
+    }
+}
+
+pub(crate) fn swab(dest: Addressing) -> Handler
+    ensures { (n : ℕ) → IsSingle n Width.Word Instr.Swab dest → Handles result n }
+{
+    match dest {
+        Register => Handler::SwabR,
+        _ => Handler::Other,
+    }
+}
+
+pub(crate) fn sxt(dest: Addressing) -> Handler
+    ensures { (n : ℕ) → IsSingle n Width.Word Instr.Sxt dest → Handles result n }
+{
+    match dest {
+        Register => Handler::SxtR,
+        _ => Handler::Other,
+    }
+}
+
+pub(crate) fn xor(n: Reg, dest: Addressing) -> Handler
+    ensures { (word : ℕ) → IsExtended word Instr.Xor dest → n ≡ reg_of (word / 0o100 % 0o10) → Handles result word }
+{
+    match dest {
+        Register => {
+            if is_pc(n) {
+                Handler::Other
+            } else {
+                Handler::XorRR
+            }
+        }
+        _ => Handler::Other,
+    }
+}
+
+pub(crate) fn mul(operand: Addressing) -> Handler
+    ensures { (n : ℕ) → IsExtended n Instr.Mul operand → Handles result n }
+{
+    match operand {
+        Register => Handler::MulR,
+        Immediate => Handler::MulI,
+        Indexed => Handler::MulX,
+        _ => Handler::Other,
+    }
+}
+
+pub(crate) fn div(operand: Addressing) -> Handler
+    ensures { (n : ℕ) → IsExtended n Instr.Div operand → Handles result n }
+{
+    match operand {
+        Register => Handler::DivR,
+        Immediate => Handler::DivI,
+        Indexed => Handler::DivX,
+        _ => Handler::Other,
+    }
+}
+
+pub(crate) fn ash(operand: Addressing) -> Handler
+    ensures { (n : ℕ) → IsExtended n Instr.Ash operand → Handles result n }
+{
+    match operand {
+        Register => Handler::AshR,
+        Immediate => Handler::AshI,
+        Indexed => Handler::AshX,
+        _ => Handler::Other,
+    }
+}
+
+pub(crate) fn ashc(operand: Addressing) -> Handler
+    ensures { (n : ℕ) → IsExtended n Instr.Ashc operand → Handles result n }
+{
+    match operand {
+        Register => Handler::AshcR,
+        Immediate => Handler::AshcI,
+        Indexed => Handler::AshcX,
+        _ => Handler::Other,
+    }
+}
+
+pub(crate) fn jsr(operand: Addressing) -> Handler
+    ensures { (n : ℕ) → IsExtended n Instr.Jsr operand → Handles result n }
+{
+    match operand {
+        Absolute => Handler::JsrA,
+        Relative => Handler::JsrL,
+        _ => Handler::Other,
+    }
+}
+
+pub(crate) fn jmp(dest: Addressing) -> Handler
+    ensures { (n : ℕ) → IsSingle n Width.Word Instr.Jmp dest → Handles result n }
+{
+    match dest {
+        Absolute => Handler::JmpA,
+        Relative => Handler::JmpL,
+        Deferred => Handler::JmpD,
+        _ => Handler::Other,
+    }
+}
+
+pub(crate) fn branch(condition: Condition) -> Handler
+    ensures { (n : ℕ) → IsBranch n condition → Handles result n }
+{
+    match condition {
+        Condition::Always => Handler::Always,
+        Condition::NotEqual => Handler::NotEqual,
+        Condition::Equal => Handler::Equal,
+        Condition::GreaterOrEqual => Handler::GreaterOrEqual,
+        Condition::Less => Handler::Less,
+        Condition::Greater => Handler::Greater,
+        Condition::LessOrEqual => Handler::LessOrEqual,
+        Condition::Plus => Handler::Plus,
+        Condition::Minus => Handler::Minus,
+        Condition::Higher => Handler::Higher,
+        Condition::LowerOrSame => Handler::LowerOrSame,
+        Condition::OverflowClear => Handler::OverflowClear,
+        Condition::OverflowSet => Handler::OverflowSet,
+        Condition::CarryClear => Handler::CarryClear,
+        Condition::CarrySet => Handler::CarrySet,
+    }
+}

@@ -1,0 +1,10 @@
+-- A register, or what stands at a place.
+use Rattle.pdp_decode.specs.Decode.{operand_of}
+use Rattle.pdp_step.proofs.AnyMode.{register_moved, memory_moved}
+use Rattle.pdp_step.proofs.any.AnyAddressingMode.store_moved.Goals as goal
+
+pub returns-then-is_in_register-clause-stored : goal.returns-then-is_in_register-clause-stored
+returns-then-is_in_register-clause-stored g c = register_moved (g.P.Processor.machine c.args.p.now) (g.P.Processor.machine c.hold_moved.new.p) g.W.Size.width c.args.n (g.P.Processor.address (g.P.Processor.rest c.args.p.now) c.args.place) c.args.made (c.is_in_register.ensures.is c.if-is_in_register.true) c.hold_moved.ensures.held
+
+pub returns-clause-stored : goal.returns-clause-stored
+returns-clause-stored g c = memory_moved (g.P.Processor.machine c.args.p.now) (g.P.Processor.machine c.store.new.p) g.W.Size.width (operand_of c.args.n) (g.P.Processor.address (g.P.Processor.rest c.args.p.now) c.args.place) c.args.made c.store.result (c.is_in_register.ensures.not c.if-is_in_register.false) c.store.ensures.stored

@@ -1,0 +1,8 @@
+-- What stands at an indexed address.
+use Rattle.std.proofs.Common.{ℕ, ap}
+use Rattle.pdp_step.specs.Registers.{plus}
+use Rattle.pdp_step.proofs.Reached.{value_indexed}
+use Rattle.pdp_step.proofs.in_memory.IndexedAddressingMode.value.Goals as goal
+
+pub returns-clause-source : goal.returns-clause-source
+returns-clause-source g c = rw c.in_ok-x.ensures.after (value_indexed (g.P.Processor.machine c.args.p.now) c.args.pc.now g.W.Size.width c.args.n c.in_ok-x.x _ c.read_at.result (g.met.P.Processor.eight c.args.p.now) c.requires.way c.in_ok-x.ensures.word (ap (λ (v : ℕ). plus v c.in_ok-x.x) c.reg.ensures) c.read_at.ensures.value)
