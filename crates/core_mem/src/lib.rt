@@ -53,6 +53,14 @@ impl Core {
         &self.bytes
     }
 
+    /// All bytes, to change them.
+    #[inline(always)]
+    pub fn bytes_mut(&mut self) -> &mut [u8]
+        ensures { result.now ≡ self.entry.now }
+    {
+        &mut self.bytes
+    }
+
     /// The bytes of a click.
     #[tactic(auto, unfolding(crate::specs::Bytes::part))]
     pub fn click(&self, at: u16) -> &[u8; 64]
