@@ -207,4 +207,5 @@ starts_described k s x u a =
       text_len = a.text_len ∙ sym (ap (λ (i : Image). length i.text) now);
       data_len = a.data_len ∙ sym (ap (λ (i : Image). length i.data) now);
       stack_start = omega (arith, z, n);
+      core = a.core;
     }

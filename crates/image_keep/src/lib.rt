@@ -17,6 +17,7 @@ mod making;
 mod memory;
 mod near;
 mod parts;
+mod registers;
 mod rooms;
 mod row;
 mod running;

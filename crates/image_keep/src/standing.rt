@@ -4,7 +4,7 @@ ghost use Rattle.v6_base.specs.Access.{load_byte, load_word, store_byte, store_w
 ghost use Rattle.v6_base.specs.Words.{word_set};
 ghost use Rattle.core_mem.specs.Bytes.{part};
 ghost use Rattle.image_keep.specs.Running.{state_bytes, with_state};
-ghost use Rattle.image_keep.specs.Standing.{Follows, standing_image, StandsIn, IsPlace, IsWordPlace, address};
+ghost use Rattle.image_keep.specs.Standing.{IsNear, standing_image, StandsIn, IsPlace, IsWordPlace, address};
 
 use crate::memory::word_in;
 use crate::starts::Starts;
@@ -52,12 +52,36 @@ fn is_odd(f: &Standing, at: usize) -> bool
 }
 
 impl Standing {
-    /// Where a process stands whose parts start there.
-    pub fn of(starts: &Starts) -> Standing
-        requires { 1024 ≤ starts.now.image }
-        ensures { Follows result starts.now }
+    /// No process: its program has no bytes.
+    fn none() -> Standing
+        ensures { result.code_len ≡ 0 }
     {
+        Standing {
+            area: 0,
+            text: 0,
+            text_len: 0,
+            code: 0,
+            code_len: 0,
+            base: 0,
+            data: 0,
+            data_len: 0,
+            data_end: 0,
+            stack_start: 0,
+            stack: 0,
+            odd: 1,
+        }
+    }
+
+    /// Where a process stands whose parts start there, if all of them are in core.
+    pub fn of(starts: &Starts) -> Standing
+        ensures { IsNear result starts.now }
+    {
+        let text_end = starts.text + starts.text_len;
         let data_end = starts.image + starts.data_len;
+        let stack_end = data_end + (65536 - starts.stack_start);
+        if starts.image < AREA_SIZE || text_end > starts.core || stack_end > starts.core {
+            return Standing::none();
+        }
         let is_bare = starts.text_len == 0;
         Standing {
             area: starts.image - AREA_SIZE,
