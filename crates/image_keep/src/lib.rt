@@ -6,6 +6,7 @@
 
 mod access;
 mod areas;
+mod attempt;
 mod bytes;
 mod deposit;
 mod finding;
