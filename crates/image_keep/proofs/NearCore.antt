@@ -32,6 +32,7 @@ use Rattle.image_keep.specs.Starts.{AreStarts}
 use Rattle.image_keep.specs.Running.{IsFixed, with_state, state_bytes, machine_in, with_machine_in}
 use Rattle.image_keep.specs.Standing.{standing_image, StandsIn, Follows, IsNear}
 use Rattle.image_keep.specs.Near.{standing_machine, stack_end, Around, around}
+use Rattle.image_keep.specs.Attempted.{Attempted}
 use Rattle.image_keep.proofs.Frames.{alive_image, image_back, area_back, with_image_area, with_image_same}
 use Rattle.image_keep.proofs.Own.{with_line}
 use Rattle.image_keep.proofs.InPlan.{core_kept}
@@ -51,17 +52,6 @@ pub record AtHand (k : Kept) (s : ℕ) (f : Standing) (core : List ℕ) (u : UAr
   pub inside : 0 < f.code_len → StandsIn (length core) f
   pub stated : 0 < f.code_len → part core f.area 18 ≡ state_bytes u.r u.cc
   pub image : 0 < f.code_len → standing_image core f ≡ image_of k s
-
--- What an attempt at one instruction leaves of core and of the u area.
-pub record Attempted (f : Standing) (old new : List ℕ) (u w : UArea) (result : Bool) : Type 0 where
-  pub near : IsTrue result → 0 < f.code_len
-  pub done : IsTrue result → instr (standing_machine old u f) ≡ stepped Next (standing_machine new w f)
-  pub missed : result ≡ false → 0 < f.code_len → standing_machine new w f ≡ standing_machine old u f
-  pub far_core : result ≡ false → f.code_len ≡ 0 → new ≡ old
-  pub far_area : result ≡ false → f.code_len ≡ 0 → w ≡ u
-  pub around : 0 < f.code_len → around new w f ≡ around old u f
-  pub stated : 0 < f.code_len → part new f.area 18 ≡ state_bytes w.r w.cc
-  pub size : length new ≡ length old
 
 -- All else of the images is as it was.
 pub record OthersStay (a b : Inside) (s : ℕ) (w : UArea) : Type 0 where

@@ -6,8 +6,10 @@
 
 mod access;
 mod areas;
+mod attempt;
 mod bytes;
 mod deposit;
+mod executing;
 mod finding;
 mod fork;
 mod growth;
