@@ -1,6 +1,6 @@
 -- A process at hand in core: its parts are bytes of core, and what its instructions leave of core and of its u area, decoded,
 -- is what is kept, with this image and these registers and codes.
-use Rattle.std.proofs.Common.{◌≡◌, ◌⊎◌, ℕ, ◌+◌, ◌-◌, ◌*◌, ◌<◌, ◌≤◌, inl, inr, Bool, true, false, List, ◌++◌, length, set, refl, sym, ap, subst, ◌∙◌, arith}
+use Rattle.std.proofs.Common.{◌≡◌, ◌⊎◌, ℕ, ◌+◌, ◌-◌, ◌*◌, ◌<◌, ◌≤◌, inl, inr, Bool, true, false, List, ◌++◌, length, set, Option, refl, sym, ap, subst, ◌∙◌, arith}
 use Rattle.std.specs.Prelude.{IsTrue, replicate}
 use Rattle.std.proofs.lemmas.Bool.{cases_lt}
 use Rattle.std.proofs.lemmas.List.{length-append, set-get_or}
@@ -11,11 +11,13 @@ use Rattle.core_mem.proofs.Parts.{part-left, part-right, part-add}
 use Rattle.u_area.specs.declared.area.UArea.{UArea}
 use Rattle.u_area.proofs.AreaLemmas.{one_area}
 use Rattle.map_fit.specs.declared.holes.Hole.{Hole}
+use Rattle.text_tab.specs.declared.row.TextRow.{TextRow}
 use Rattle.pdp_step.specs.declared.outcome.Outcome.{Outcome}
 use Rattle.pdp_step.specs.declared.outcome.Outcome.TheVariants.{Next}
 use Rattle.pdp_step.specs.Machine.{Machine}
 use Rattle.pdp_step.specs.Instruction.{Stepped, stepped, instr}
 use Rattle.image_keep.specs.declared.images.Images.TheInside.{Inside}
+use Rattle.image_keep.specs.declared.row.Row.{Row}
 use Rattle.image_keep.specs.declared.running.Fixed.{Fixed}
 use Rattle.image_keep.specs.declared.standing.Standing.{Standing}
 use Rattle.image_keep.specs.declared.starts.Starts.{Starts}
@@ -139,11 +141,11 @@ other_state u w same =
     (ap (λ (x : UArea). x.child_system) same) (ap (λ (x : UArea). x.status) same) (ap (λ (x : UArea). x.handlers) same) (ap (λ (x : UArea). x.files) same)
 
 -- what an instruction works on that leaves all as it is
-machine_back : (k : Kept) (s : ℕ) → HasImage k s → with_machine_in k s (machine_in k s) ≡ k
-machine_back k s has =
+machine_back : (k : Kept) (s : ℕ) → with_machine_in k s (machine_in k s) ≡ k
+machine_back k s =
     let u : UArea = area_of k s in
     let same : with_state u u.r u.cc ≡ u = sym (other_state u u refl) in
-    (λ i. with_area (image_back k s i) s (same i)) ∙ area_back k s has
+    (λ i. with_area (image_back k s i) s (same i)) ∙ area_back k s
 
 module _ (a : Inside) (k : Kept) (f : Fixed) (view : kept_in a ≡ k) (h : AreImages a) (bytes : AreBytes (line_of a.memory)) (fixed : IsFixed k f) where
   s : ℕ
@@ -226,7 +228,7 @@ module _ (a : Inside) (k : Kept) (f : Fixed) (view : kept_in a ≡ k) (h : AreIm
           maps = subst (λ (p : List Hole). AreMaps (stock_in b) b.core_map p) (sym others.swap_map) (subst (λ (p : List Hole). AreMaps (stock_in b) p a.swap_map) (sym others.core_map) (subst (λ (q : Stock). AreMaps q a.core_map a.swap_map) (sym its_stock) maps));
           table = ap length others.texts ∙ h.table;
           cut = omega (arith, size, cut, c);
-          counted = (λ i. IsCounted (sym others.rows i) (sym others.texts i)) ▹ h.counted;
+          counted = subst (λ (l : List Row). IsCounted l b.texts) (sym others.rows) (subst (λ (l : List (Option TextRow)). IsCounted a.rows.items l) (sym others.texts) h.counted);
           told = told;
           areas = areas;
         }
@@ -279,7 +281,7 @@ module _ (a : Inside) (k : Kept) (f : Fixed) (view : kept_in a ≡ k) (h : AreIm
         images = left_images done_landed.sound now_told now_areas;
         outcome = λ yes. ap (λ (p : Stepped). p.outcome) (its_step yes);
         done = λ yes. now_kept ∙ ap (λ (p : Stepped). with_machine_in k f.slot p.machine) (sym (its_step yes));
-        kept = λ no. now_kept ∙ ap (with_machine_in k f.slot) (did.missed no some ∙ its_machine some) ∙ machine_back k f.slot has;
+        kept = λ no. now_kept ∙ ap (with_machine_in k f.slot) (did.missed no some ∙ its_machine some) ∙ machine_back k f.slot;
         fixed = now_fixed;
       }
 

@@ -19,13 +19,13 @@ mod making;
 mod memory;
 mod near;
 mod parts;
-mod registers;
 mod rooms;
 mod row;
 mod running;
 mod runs;
 mod standing;
 mod starts;
+mod state;
 mod swapping;
 mod texts;
 

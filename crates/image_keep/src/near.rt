@@ -125,7 +125,7 @@ impl Processor for Near<'_> {
     ghost eight = { λ p. p.eight };
 }
 
-#[tactic(auto, using(crate::proofs::StandsThere::stands_as))]
+#[tactic(auto, using(crate::proofs::NearCore::executed))]
 fn trial(n: u32) -> u32
     ensures { result ≡ n }
 {
