@@ -12,7 +12,7 @@ ghost use Rattle.image_keep.specs.Standing.{standing_image, StandsIn};
 ghost use Rattle.image_keep.specs.Near.{standing_machine, around};
 
 use crate::near::Near;
-use crate::registers::state_bytes;
+use crate::state::state_bytes;
 use crate::standing::{Standing, program_word, reg};
 use pdp_decode::{Dispatch, Handler};
 use pdp_step::{perform, perform_apart, perform_stepping};
