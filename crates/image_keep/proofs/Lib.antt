@@ -54,3 +54,4 @@ pub mod StandingState
 pub mod NearParts
 pub mod Landing
 pub mod StandsThere
+pub mod NearCore

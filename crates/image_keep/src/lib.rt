@@ -6,8 +6,10 @@
 
 mod access;
 mod areas;
+mod attempt;
 mod bytes;
 mod deposit;
+mod executing;
 mod finding;
 mod fork;
 mod growth;
@@ -17,13 +19,13 @@ mod making;
 mod memory;
 mod near;
 mod parts;
-mod registers;
 mod rooms;
 mod row;
 mod running;
 mod runs;
 mod standing;
 mod starts;
+mod state;
 mod swapping;
 mod texts;
 

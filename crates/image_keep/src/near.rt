@@ -17,12 +17,12 @@ use v6_base::Trap;
 /// The bytes in which a process stands, with its u area, decoded. Registers and codes stand in both.
 #[derive(Drop)]
 pub(crate) struct Near<'a> {
-    core: &'a mut [u8],
-    area: &'a mut UArea,
-    standing: &'a Standing,
-    ghost stands: { StandsIn (length core.now) standing.now },
-    ghost eight: { length area.now.r ≡ 8 },
-    ghost stated: { part core.now standing.now.area 18 ≡ state_bytes area.now.r area.now.cc },
+    pub(crate) core: &'a mut [u8],
+    pub(crate) area: &'a mut UArea,
+    pub(crate) standing: &'a Standing,
+    pub(crate) ghost stands: { StandsIn (length core.now) standing.now },
+    pub(crate) ghost eight: { length area.now.r ≡ 8 },
+    pub(crate) ghost stated: { part core.now standing.now.area 18 ≡ state_bytes area.now.r area.now.cc },
 }
 
 // The index of a register that a number's low octal digit names.
@@ -125,7 +125,7 @@ impl Processor for Near<'_> {
     ghost eight = { λ p. p.eight };
 }
 
-#[tactic(auto, using(crate::proofs::StandsThere::stands_as))]
+#[tactic(auto, using(crate::proofs::NearCore::executed))]
 fn trial(n: u32) -> u32
     ensures { result ≡ n }
 {

@@ -146,7 +146,8 @@ impl Standing {
 #[inline(always)]
 #[tactic(auto, using(crate::proofs::StandingParts::programs))]
 pub(crate) fn program_word(core: &[u8], f: &Standing, pc: usize) -> Option<u16>
-    requires { StandsIn (length core.now) f.now }
+    requires { 0 < f.now.code_len → StandsIn (length core.now) f.now }
+    ensures near { IfSome result (λ _. 0 < f.now.code_len) }
     ensures word { IfSome result (λ word. load_word (standing_image core.now f.now) pc ≡ Ok word) }
     ensures low { IfSome result (λ _. pc < 65536) }
 {
