@@ -1,9 +1,7 @@
 //! The process that executes instructions: its registers, at the front of its u area.
-ghost use Rattle.std.specs.Prelude.{◌≡◌, ◌<◌, IsTrue, false};
+ghost use Rattle.std.specs.Prelude.{◌≡◌, ◌<◌};
 ghost use Rattle.image_keep.specs.Kept.{HasImage, IsKept, area_of, with_area};
-ghost use Rattle.image_keep.specs.Running.{IsFixed, machine_in, with_machine_in, with_state, state_bytes};
-ghost use Rattle.pdp_step.specs.declared.outcome.Outcome.TheVariants.{Next};
-ghost use Rattle.pdp_step.specs.Instruction.{instr};
+ghost use Rattle.image_keep.specs.Running.{IsFixed, with_state, state_bytes};
 
 use crate::areas::{area_ref, put_state};
 use crate::images::Images;
@@ -11,7 +9,6 @@ use crate::memory::see_bytes;
 use crate::running::Fixed;
 use crate::standing::Standing;
 use fs_codec::{put_word, put_words};
-use pdp_decode::Dispatch;
 use u_area::{AREA_SIZE, PS, REGISTERS, UArea, UMODE};
 use v6_base::Slot;
 
@@ -75,19 +72,5 @@ impl Images {
         let at = fixed.starts.image - AREA_SIZE;
         self.memory.put(at, &state_bytes(r, cc));
         put_state(&mut self.areas, fixed.slot as usize, r, cc);
-    }
-
-    /// The process of which this is fixed does one instruction where it stands in core, if that is one that ends so: else
-    /// nothing has changed.
-    #[inline(always)]
-    pub fn execute_near(&mut self, fixed: &Fixed, dispatch: &Dispatch) -> bool
-        requires { IsFixed self.old fixed.now }
-        ensures outcome { IsTrue result → (instr (machine_in self.old fixed.now.slot)).outcome ≡ Next }
-        ensures done { IsTrue result → self.new ≡ with_machine_in self.old fixed.now.slot (instr (machine_in self.old fixed.now.slot)).machine }
-        ensures kept { result ≡ false → self.new ≡ self.old }
-        ensures fixed { IsFixed self.new fixed.now }
-    {
-        let _ = dispatch;
-        false
     }
 }
