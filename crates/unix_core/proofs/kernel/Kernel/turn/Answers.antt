@@ -85,19 +85,19 @@ returns-else-execute_near-clause-texts g c =
     c.args.self.now (left_view m.stage m.world k kept c.args.self.now c.self.view_is) c.requires
     c.careful.new.self.stage c.careful.new.self.world c.careful.ensures.takes
 
-pub returns-in-Resting-clause-idle : goal.returns-in-Resting-clause-idle
-returns-in-Resting-clause-idle g c =
+pub returns-in_default-clause-idle : goal.returns-in_default-clause-idle
+returns-in_default-clause-idle g c =
     let m = c.self.inside.machine in
     taken_idle m.stage m.world c.self.invariant c.see_kept.ensures c.args.self.now c.self.view_is c.requires c.other_slot.result c.other_slot.ensures.answer
 
-pub returns-in-Resting-clause-private : goal.returns-in-Resting-clause-private
-returns-in-Resting-clause-private g c =
+pub returns-in_default-clause-private : goal.returns-in_default-clause-private
+returns-in_default-clause-private g c =
     let m = c.self.inside.machine in
     taken_private m.stage m.world c.self.invariant c.see_kept.ensures c.args.self.now c.self.view_is c.requires
     c.other_slot.new.self.stage c.other_slot.new.self.world c.other_slot.ensures.takes
 
-pub returns-in-Resting-clause-texts : goal.returns-in-Resting-clause-texts
-returns-in-Resting-clause-texts g c =
+pub returns-in_default-clause-texts : goal.returns-in_default-clause-texts
+returns-in_default-clause-texts g c =
     let m = c.self.inside.machine in
     taken_texts m.stage m.world c.self.invariant c.see_kept.ensures c.args.self.now c.self.view_is c.requires
     c.other_slot.new.self.stage c.other_slot.new.self.world c.other_slot.ensures.takes
