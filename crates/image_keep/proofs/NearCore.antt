@@ -3,7 +3,8 @@
 use Rattle.std.proofs.Common.{◌≡◌, ◌⊎◌, ℕ, ◌+◌, ◌-◌, ◌*◌, ◌<◌, ◌≤◌, inl, inr, Bool, true, false, List, ◌++◌, length, set, Option, refl, sym, ap, subst, ◌∙◌, arith}
 use Rattle.std.specs.Prelude.{IsTrue, replicate}
 use Rattle.std.proofs.lemmas.Bool.{cases_lt}
-use Rattle.std.proofs.lemmas.List.{length-append, set-get_or}
+use Rattle.std.specs.Vec.{with_items}
+use Rattle.std.proofs.lemmas.List.{length-append, set-get_or, with_items_is}
 use Rattle.v6_base.specs.Image.{Image, AreBytes, IsImage}
 use Rattle.v6_base.proofs.Copies.{SameLengths}
 use Rattle.core_mem.specs.Bytes.{part}
@@ -23,7 +24,7 @@ use Rattle.image_keep.specs.declared.standing.Standing.{Standing}
 use Rattle.image_keep.specs.declared.starts.Starts.{Starts}
 use Rattle.image_keep.specs.Area.{no_area}
 use Rattle.image_keep.specs.Areas.{area_at, AreAreas}
-use Rattle.image_keep.specs.Line.{line_of}
+use Rattle.image_keep.specs.Line.{Lists, line_of}
 use Rattle.image_keep.specs.Kept.{Kept, IsKept, HasImage, image_of, area_of, with_image, with_area}
 use Rattle.image_keep.specs.Memory.{Stock, place_at, kept_of, IsSound}
 use Rattle.image_keep.specs.Counts.{IsCounted}
@@ -34,7 +35,7 @@ use Rattle.image_keep.specs.Starts.{AreStarts}
 use Rattle.image_keep.specs.Running.{IsFixed, with_state, state_bytes, machine_in, with_machine_in}
 use Rattle.image_keep.specs.Standing.{standing_image, StandsIn, Follows, IsNear}
 use Rattle.image_keep.specs.Near.{standing_machine, stack_end, Around, around}
-use Rattle.image_keep.specs.Attempted.{Attempted}
+use Rattle.image_keep.specs.Attempted.{IsAtHand, Attempted}
 use Rattle.image_keep.proofs.Frames.{alive_image, image_back, area_back, with_image_area, with_image_same}
 use Rattle.image_keep.proofs.Own.{with_line}
 use Rattle.image_keep.proofs.InPlan.{core_kept}
@@ -306,3 +307,26 @@ module _ (a : Inside) (k : Kept) (f : Fixed) (view : kept_in a ≡ k) (h : AreIm
       | inl some ↦ at_work some
       | inr none ↦ far_away result refl (omega (arith, none))
     ]
+
+-- the same over a slice of the u areas
+pub at_hand_in : (a : Inside) (k : Kept) (f : Fixed) (given : List UArea) → kept_in a ≡ k → AreImages a → AreBytes (line_of a.memory) → IsFixed k f → given ≡ a.areas.items
+    → IsAtHand f.standing a.memory.core (area_at given f.slot)
+at_hand_in a k f given view h bytes fixed same =
+    let at : AtHand k f.slot f.standing a.memory.core (area_at a.areas.items f.slot) = at_hand a k f view h bytes fixed in
+    subst (λ (l : List UArea). IsAtHand f.standing a.memory.core (area_at l f.slot)) (sym same) (record { eight = at.eight; inside = at.inside; stated = at.stated })
+
+pub executed_in : (a : Inside) (k : Kept) (f : Fixed) (given areas : List UArea) (m : Lists) (result : Bool) → kept_in a ≡ k → AreImages a → AreBytes (line_of a.memory) → IsFixed k f → given ≡ a.areas.items → length areas ≡ a.areas.len
+    → Attempted f.standing a.memory.core m.core (area_at given f.slot) (area_at areas f.slot) result → m.swap ≡ a.memory.swap → areas ≡ set given f.slot (area_at areas f.slot)
+    → Executed (record a { memory = m; areas = with_items a.areas areas }) k f result
+executed_in a k f given areas m result view h bytes fixed same long did swap put =
+    let others : OthersStay a (record a { memory = m; areas = with_items a.areas areas }) f.slot (area_at areas f.slot) = record {
+      swap = swap;
+      core = refl;
+      rows = refl;
+      areas = with_items_is a.areas areas long ∙ put ∙ ap (λ (l : List UArea). set l f.slot (area_at areas f.slot)) same;
+      texts = refl;
+      core_map = refl;
+      swap_map = refl;
+    } in
+    executed a k f view h bytes fixed (record a { memory = m; areas = with_items a.areas areas }) (area_at areas f.slot) result others
+    (subst (λ (l : List UArea). Attempted f.standing a.memory.core m.core (area_at l f.slot) (area_at areas f.slot) result) same did)
