@@ -275,30 +275,30 @@ module _ (a : Inside) (k : Kept) (f : Fixed) (view : kept_in a ≡ k) (h : AreIm
           subst (λ j. AreStarts j f.slot f.starts) (sym now_kept) (starts_described (with_image k f.slot m) f.slot f.starts (with_state (area_of k f.slot) w.r w.cc) (starts_after k f.slot f.starts m fixed same))
 
       its_step : IsTrue result → instr (machine_in k f.slot) ≡ stepped Next (standing_machine b.memory.core w f.standing)
-      its_step yes = ap instr (sym (its_machine some)) ∙ did.done yes
+      its_step well = ap instr (sym (its_machine some)) ∙ did.done well
 
       at_work : Executed b k f result
       at_work = record {
         images = left_images done_landed.sound now_told now_areas;
-        outcome = λ yes. ap (λ (p : Stepped). p.outcome) (its_step yes);
-        done = λ yes. now_kept ∙ ap (λ (p : Stepped). with_machine_in k f.slot p.machine) (sym (its_step yes));
-        kept = λ no. now_kept ∙ ap (with_machine_in k f.slot) (did.missed no some ∙ its_machine some) ∙ machine_back k f.slot;
+        outcome = λ well. ap (λ (p : Stepped). p.outcome) (its_step well);
+        done = λ well. now_kept ∙ ap (λ (p : Stepped). with_machine_in k f.slot p.machine) (sym (its_step well));
+        kept = λ ill. now_kept ∙ ap (with_machine_in k f.slot) (did.missed ill some ∙ its_machine some) ∙ machine_back k f.slot;
         fixed = now_fixed;
       }
 
     far_away : (r : Bool) → result ≡ r → f.standing.code_len ≡ 0 → Executed b k f result
-    far_away true yes none = (let some = did.near yes in absurd (omega (arith, some, none)))
-    far_away false no none =
-        let same : b.memory.core ≡ a.memory.core = did.far_core no none in
+    far_away true well none = (let some = did.near well in absurd (omega (arith, some, none)))
+    far_away false ill none =
+        let same : b.memory.core ≡ a.memory.core = did.far_core ill none in
         let stays : stock_in b ≡ stock_in a = its_stock ∙ ap (λ (p : List ℕ). with_line (stock_in a) (p ++ a.memory.swap)) same in
         let kept : kept_in b ≡ kept_in a = ap kept_of stays in
-        let areas : b.areas.items ≡ a.areas.items = others.areas ∙ ap (set a.areas.items f.slot) (did.far_area no none) ∙ set-get_or a.areas.items f.slot no_area in
+        let areas : b.areas.items ≡ a.areas.items = others.areas ∙ ap (set a.areas.items f.slot) (did.far_area ill none) ∙ set-get_or a.areas.items f.slot no_area in
         record {
           images = left_images (subst (λ (p : List ℕ). IsSound (with_line (stock_in a) (p ++ a.memory.swap))) (sym same) h.sound) (subst AreTold (sym kept) h.told)
               (subst (λ (l : List UArea). AreAreas l (kept_in b).slots) (sym areas) (subst (λ (j : Kept). AreAreas a.areas.items j.slots) (sym kept) h.areas));
-          outcome = λ yes. absurd (cc (yes, no));
-          done = λ yes. absurd (cc (yes, no));
-          kept = λ no. kept ∙ view;
+          outcome = λ well. absurd (cc (well, ill));
+          done = λ well. absurd (cc (well, ill));
+          kept = λ ill. kept ∙ view;
           fixed = subst (λ j. AreStarts j f.slot f.starts) (sym (kept ∙ view)) fixed;
         }
 
