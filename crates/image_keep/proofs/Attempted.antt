@@ -1,5 +1,5 @@
 -- A row that has ended is the instruction at PC. A row that has missed has changed nothing, once the registers are put back.
-use Rattle.std.proofs.Common.{◌≡◌, ℕ, ◌+◌, ◌%◌, ◌<◌, ◌≤◌, ◌⊎◌, Bool, true, false, List, length, replicate, Result, Ok, Err, refl, sym, ap, ◌∙◌, subst, arith}
+use Rattle.std.proofs.Common.{◌≡◌, ℕ, ◌+◌, ◌%◌, ◌<◌, ◌≤◌, ◌⊎◌, true, false, List, length, replicate, Result, Ok, Err, sym, ap, ◌∙◌, subst, arith}
 use Rattle.std.specs.Result.{is_ok}
 use Rattle.v6_base.specs.Access.{load_word}
 use Rattle.core_mem.specs.Bytes.{part}
@@ -16,7 +16,7 @@ use Rattle.pdp_step.specs.Parts.{at_pc, IsMissed, IsTrapped, Ends}
 use Rattle.pdp_step.proofs.Ends.{instr_done}
 use Rattle.pdp_step.proofs.TableRows.{attempted}
 use Rattle.image_keep.specs.declared.standing.Standing.{Standing}
-use Rattle.image_keep.specs.Running.{with_state, state_bytes}
+use Rattle.image_keep.specs.Running.{with_state}
 use Rattle.image_keep.specs.Standing.{standing_image, StandsIn}
 use Rattle.image_keep.specs.Near.{standing_machine, Around, around}
 use Rattle.image_keep.proofs.NearParts.{around_stated}
