@@ -1,11 +1,11 @@
 -- What an instruction writes leaves all that is around.
-use Rattle.std.proofs.Common.{◌≡◌, ℕ, ◌+◌, ◌-◌, ◌*◌, ◌%◌, ◌<◌, ◌≤◌, ◌⊎◌, inl, inr, List, length, replicate, refl, sym, ap, ◌∙◌, arith}
+use Rattle.std.proofs.Common.{◌≡◌, ℕ, ◌+◌, ◌-◌, ◌≤◌, ◌⊎◌, inl, inr, List, length, replicate, ap, ◌∙◌, arith}
 use Rattle.core_mem.specs.Bytes.{part}
 use Rattle.u_area.specs.declared.area.UArea.{UArea}
 use Rattle.image_keep.specs.declared.standing.Standing.{Standing}
 use Rattle.image_keep.specs.Running.{with_state, state_bytes}
-use Rattle.image_keep.specs.Standing.{standing_image, StandsIn}
-use Rattle.image_keep.specs.Near.{stack_end, Around, around}
+use Rattle.image_keep.specs.Standing.{StandsIn}
+use Rattle.image_keep.specs.Near.{stack_end, around}
 
 pub record Kept_around (core new : List ℕ) (f : Standing) : Type 0 where
   pub size : length new ≡ length core

@@ -4,7 +4,8 @@ use Rattle.std.proofs.lemmas.List.{set-append_right, length-set}
 use Rattle.fs_codec.specs.Bytes.{bytes_of}
 use Rattle.fs_codec.proofs.BytesLemmas.{length-bytes_of}
 use Rattle.v6_base.specs.Words.{word_set}
-use Rattle.core_mem.specs.Bytes.{part}
+use Rattle.core_mem.specs.Bytes.{part, over}
+use Rattle.core_mem.proofs.Parts.{length-over, part-over_same, part-over_apart}
 use Rattle.u_area.specs.declared.area.UArea.{UArea}
 use Rattle.image_keep.specs.declared.standing.Standing.{Standing}
 use Rattle.image_keep.specs.Running.{with_state, state_bytes}
@@ -44,7 +45,7 @@ stated_codes core at cc old r eight low was room is =
     ∙ set-append_right (bytes_of r) (bytes_of ((61440 + old) ∷ [])) 16 16 cc long (omega arith)
     ∙ ap (λ (l : List ℕ). bytes_of r ++ l) (sym (λ i. first i ∷ second i ∷ []))
 
-area_in : (size : ℕ) (f : Standing) → StandsIn size f → f.area + 18 ≤ size
+pub area_in : (size : ℕ) (f : Standing) → StandsIn size f → f.area + 18 ≤ size
 area_in size f s = let a = s.area in let e = s.end in let i = s.stack_in in let b = s.stack_below in omega (arith, a, e, i, b)
 
 pub state_low : (size : ℕ) (f : Standing) (k : ℕ) → StandsIn size f → k < 18 → f.area + k < size
@@ -89,4 +90,23 @@ register_stated core new f u n w s eight low is new_is = ap (λ c. part c f.area
 pub codes_stated : (core new : List ℕ) (f : Standing) (u : UArea) (cc : ℕ) → StandsIn (length core) f → length u.r ≡ 8 → cc < 16 → part core f.area 18 ≡ state_bytes u.r u.cc → new ≡ set core (f.area + 16) cc → part new f.area 18 ≡ state_bytes u.r cc
 codes_stated core new f u cc s eight low is new_is = ap (λ c. part c f.area 18) new_is ∙ stated_codes core f.area cc u.cc u.r eight low u.codes (area_in (length core) f s) is
 
+-- registers and codes are put there together
+pub state_put : (core new : List ℕ) (f : Standing) (b r : List ℕ) (cc : ℕ) → StandsIn (length core) f → length b ≡ 18 → b ≡ state_bytes r cc → new ≡ over core f.area b → part new f.area 18 ≡ state_bytes r cc
+state_put core new f b r cc s long is new_is = ap (λ c. part c f.area 18) new_is ∙ part-over_same core f.area b 18 long (area_in (length core) f s) ∙ is
+
+pub state_size : (core new : List ℕ) (f : Standing) (b : List ℕ) → StandsIn (length core) f → length b ≡ 18 → new ≡ over core f.area b → length new ≡ length core
+state_size core new f b s long new_is = ap length new_is ∙ length-over core f.area b (let a = area_in (length core) f s in omega (arith, long, a))
+
+pub state_rest : (core new : List ℕ) (f : Standing) (b : List ℕ) (k m : ℕ) → StandsIn (length core) f → length b ≡ 18 → new ≡ over core f.area b → (k + m ≤ f.area) ⊎ (f.area + 18 ≤ k) → part new k m ≡ part core k m
+state_rest core new f b k m s long new_is off = ap (λ c. part c k m) new_is ∙ part-over_apart core f.area b k m (let a = area_in (length core) f s in omega (arith, long, a)) (by off)
+  where
+    by : (k + m ≤ f.area) ⊎ (f.area + 18 ≤ k) → (k + m ≤ f.area) ⊎ (f.area + length b ≤ k)
+    by (inl h) = inl h
+    by (inr h) = inr (omega (arith, h, long))
+
+pub state_image : (core new : List ℕ) (f : Standing) (b : List ℕ) → StandsIn (length core) f → length b ≡ 18 → new ≡ over core f.area b → standing_image new f ≡ standing_image core f
+state_image core new f b s long new_is = image_same core new f s (λ k m off. state_rest core new f b k m s long new_is off)
+
 pub ruleset registers = (state_low, area_register, register_stated, codes_stated, state_is, length-set)
+
+pub ruleset states = (area_in, state_put, state_size, state_rest, state_image, state_is)

@@ -196,6 +196,7 @@ fn attempt_steps(
 }
 
 // Puts bytes to a place.
+#[tactic(auto, unfolding(core_mem::specs::Bytes::over))]
 fn write(core: &mut [u8], at: usize, bytes: &[u8; 18])
     requires { at + length bytes.now ≤ length core.old }
     ensures { core.new ≡ over core.old at bytes.now }
@@ -204,6 +205,7 @@ fn write(core: &mut [u8], at: usize, bytes: &[u8; 18])
 }
 
 // Gives a process registers and condition codes, in the bytes of its u area and in the decoded one.
+#[tactic(auto, using(crate::proofs::StandingState::states))]
 fn put_state(core: &mut [u8], area: &mut UArea, f: &Standing, r: &[u16; 8], cc: u8)
     requires stands { StandsIn (length core.old) f.now }
     requires codes { cc < 16 }
