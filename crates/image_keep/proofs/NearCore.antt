@@ -1,11 +1,11 @@
 -- A process at hand in core: its parts are bytes of core, and what its instructions leave of core and of its u area, decoded,
 -- is what is kept, with this image and these registers and codes.
-use Rattle.std.proofs.Common.{◌≡◌, ◌⊎◌, ℕ, ◌+◌, ◌-◌, ◌*◌, ◌<◌, ◌≤◌, inl, inr, Bool, true, false, List, ◌++◌, length, set, Option, refl, sym, ap, subst, ◌∙◌, arith}
+use Rattle.std.proofs.Common.{◌≡◌, ℕ, ◌+◌, ◌-◌, ◌<◌, ◌≤◌, inl, inr, Bool, true, false, List, ◌++◌, length, set, Option, refl, sym, ap, subst, ◌∙◌, arith}
 use Rattle.std.specs.Prelude.{IsTrue, replicate}
 use Rattle.std.proofs.lemmas.Bool.{cases_lt}
 use Rattle.std.specs.Vec.{with_items}
 use Rattle.std.proofs.lemmas.List.{length-append, set-get_or, with_items_is}
-use Rattle.v6_base.specs.Image.{Image, AreBytes, IsImage}
+use Rattle.v6_base.specs.Image.{Image, AreBytes}
 use Rattle.v6_base.proofs.Copies.{SameLengths}
 use Rattle.core_mem.specs.Bytes.{part}
 use Rattle.core_mem.proofs.Parts.{part-left, part-right, part-add}
@@ -13,7 +13,6 @@ use Rattle.u_area.specs.declared.area.UArea.{UArea}
 use Rattle.u_area.proofs.AreaLemmas.{one_area}
 use Rattle.map_fit.specs.declared.holes.Hole.{Hole}
 use Rattle.text_tab.specs.declared.row.TextRow.{TextRow}
-use Rattle.pdp_step.specs.declared.outcome.Outcome.{Outcome}
 use Rattle.pdp_step.specs.declared.outcome.Outcome.TheVariants.{Next}
 use Rattle.pdp_step.specs.Machine.{Machine}
 use Rattle.pdp_step.specs.Instruction.{Stepped, stepped, instr}
@@ -33,10 +32,10 @@ use Rattle.image_keep.specs.Told.{AreTold}
 use Rattle.image_keep.specs.Inside.{stock_in, kept_in, AreImages}
 use Rattle.image_keep.specs.Starts.{AreStarts}
 use Rattle.image_keep.specs.Running.{IsFixed, with_state, state_bytes, machine_in, with_machine_in}
-use Rattle.image_keep.specs.Standing.{standing_image, StandsIn, Follows, IsNear}
+use Rattle.image_keep.specs.Standing.{standing_image, StandsIn}
 use Rattle.image_keep.specs.Near.{standing_machine, stack_end, Around, around}
 use Rattle.image_keep.specs.Attempted.{IsAtHand, Attempted}
-use Rattle.image_keep.proofs.Frames.{alive_image, image_back, area_back, with_image_area, with_image_same}
+use Rattle.image_keep.proofs.Frames.{alive_image, image_back, area_back, with_image_area}
 use Rattle.image_keep.proofs.Own.{with_line}
 use Rattle.image_keep.proofs.InPlan.{core_kept}
 use Rattle.image_keep.proofs.KeptForm.{kept_holds}
