@@ -124,10 +124,3 @@ impl Processor for Near<'_> {
 
     ghost eight = { λ p. p.eight };
 }
-
-#[tactic(auto, using(crate::proofs::NearCore::executed))]
-fn trial(n: u32) -> u32
-    ensures { result ≡ n }
-{
-    n
-}
