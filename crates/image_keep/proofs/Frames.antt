@@ -212,3 +212,12 @@ with_area_place k s t u = kept_by_area place_in k s t u (place_described u (keep
 
 pub with_area_has : (k : Kept) (s t : ℕ) (u : UArea) → HasImage k t → HasImage (with_area k s u) t
 with_area_has k s t u has = alive_image (with_area k s u) t (with_area_alive k s t u ∙ image_alive k t has)
+
+described_back : (x : Keeping) → described (area_in x) x ≡ x
+described_back Nothing = refl
+described_back (Alive held) = refl
+described_back (Grave u block) = refl
+
+pub area_back : (k : Kept) (s : ℕ) → with_area k s (area_of k s) ≡ k
+unfolding with_area
+area_back k s = ap (with_keeping k s) (described_back (keeping k s)) ∙ keeping_back k s

@@ -82,7 +82,7 @@ image_landed old new f r cc m s l is =
     let t : m.text ≡ part new f.text f.text_len = ap (λ (i : Image). i.text) (sym is) ∙ sym (text_same old new f r cc s l) in
     λ j. record { text = t j; «data» = part new f.data f.data_len; stack = part new f.data_end (65536 - f.stack_start) }
 
-lengths_same : (old new : List ℕ) (f : Standing) (m : Image) → StandsIn (length old) f → length new ≡ length old → standing_image old f ≡ m → SameLengths m (standing_image new f)
+pub lengths_same : (old new : List ℕ) (f : Standing) (m : Image) → StandsIn (length old) f → length new ≡ length old → standing_image old f ≡ m → SameLengths m (standing_image new f)
 unfolding standing_image
 lengths_same old new f m s size is =
     let n : StandsIn (length new) f = subst (λ i. StandsIn i f) (sym size) s in

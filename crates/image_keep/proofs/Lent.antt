@@ -87,8 +87,8 @@ segments_fit v k s t row place view h c told has here is size =
 
 pub starts_are : (v : Stock) (k : Kept) (s click t text image : ℕ) (row : Row) (place : Place) (x : Starts) → kept_of v ≡ k → IsSound v → IsCounted v.rows v.texts → HasImage k s → row ≡ row_at v.rows s → row.state ≡ state.Alive place
     → 64 * click ≡ place_at v.core place → t ≡ text_clicks_in v.texts row.text → text ≡ start_in v.texts v.core row.text → image ≡ 64 * click + 1024
-    → x.text ≡ text → x.image ≡ image → x.text_len ≡ 64 * t → x.data_len ≡ 64 * row.data_size → x.stack_start + 64 * row.stack_size ≡ 65536 → AreStarts k s x
-starts_are v k s click t text image row place x view h c has here is at size text_is image_is a b d e f =
+    → x.text ≡ text → x.image ≡ image → x.text_len ≡ 64 * t → x.data_len ≡ 64 * row.data_size → x.stack_start + 64 * row.stack_size ≡ 65536 → x.core ≡ 64 * v.core → AreStarts k s x
+starts_are v k s click t text image row place x view h c has here is at size text_is image_is a b d e f size_is =
     let r : Row = row_at v.rows s in
     let g : Facts v s place = at_place_of v k s row place view h c has here is in
     let parts_are = ap (λ j. image_of j s) (sym view) ∙ image_parts v s place g.is in
@@ -112,6 +112,7 @@ starts_are v k s click t text image row place x view h c has here is at size tex
       text_len = d ∙ sym tl;
       data_len = e ∙ ap (λ n. 64 * n) ds ∙ sym dl;
       stack_start = omega (arith, f, ks, sl);
+      core = size_is ∙ ap (λ n. 64 * n) core;
     }
   where
     same_here : has.0.place ≡ place

@@ -55,3 +55,4 @@ pub mod NearParts
 pub mod Attempted
 pub mod Landing
 pub mod StandsThere
+pub mod NearCore

@@ -193,6 +193,7 @@ starts_after k s x m a same =
       text_len = a.text_len ∙ sym (ap (λ (i : Image). length i.text) now ∙ same.text);
       data_len = a.data_len ∙ sym (ap (λ (i : Image). length i.data) now ∙ same.data);
       stack_start = omega (arith, z, n);
+      core = a.core;
     }
 
 pub ruleset reading = (find_is, there_within, byte_read, starts_after)

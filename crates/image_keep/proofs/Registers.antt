@@ -2,11 +2,11 @@
 use Rattle.std.proofs.Common.{◌≡◌, ℕ, ◌+◌, ◌-◌, ◌*◌, ◌%◌, ◌<◌, ◌≤◌, ◌⊎◌, inl, inr, List, [], ◌∷◌, ◌++◌, length, take, drop, slice_index, refl, sym, ap, subst, ◌∙◌, arith, append_assoc, length-append, length-drop}
 use Rattle.std.proofs.Math.Seq.{drop-append_seam}
 use Rattle.std.proofs.lemmas.Bool.{cases_lt}
-use Rattle.std.proofs.lemmas.List.{take_rest, get_or_past}
+use Rattle.std.proofs.lemmas.List.{take_all, take_rest, get_or_past}
 use Rattle.std.proofs.lemmas.List.Elements.{All-get_or}
 use Rattle.v6_base.specs.Image.{Image, AreBytes}
 use Rattle.core_mem.specs.Bytes.{part, over}
-use Rattle.core_mem.proofs.Parts.{length-part, length-over, part-part, part-over_apart, over-over, over-self}
+use Rattle.core_mem.proofs.Parts.{length-part, length-over, part-part, part-left, part-over_apart, over-over, over-self}
 use Rattle.fs_codec.specs.Bytes.{bytes_of}
 use Rattle.fs_codec.specs.Words.{word, words}
 use Rattle.fs_codec.proofs.BytesLemmas.{length-bytes_of, bytes_of_words, bytes_of_word, part_join, part_whole}
@@ -29,6 +29,10 @@ use Rattle.image_keep.proofs.InPlan.{core_kept}
 use Rattle.image_keep.proofs.Facts.{Facts}
 use Rattle.image_keep.proofs.AreaSet.{AreaSet, known}
 
+front_whole : (b : List ℕ) (n : ℕ) → length b ≡ n → part b 0 n ≡ b
+unfolding part
+front_whole b n long = take_all n b (omega (arith, long))
+
 -- what stands in front of a u area's bytes, and what follows it
 front_of_area : (u : UArea) → length u.r ≡ 8 → area_bytes u ≡ state_bytes u.r u.cc ++ laid 18 (drop 2 (fields u))
 unfolding area_bytes laid state_bytes bytes_of
@@ -50,6 +54,26 @@ byte_fits b are k = elim (cases_lt k (length b)) [
   | inl low ↦ All-get_or (λ x. x < 256) b k 0 low are
   | inr past ↦ let none : slice_index b k ≡ 0 = get_or_past b k 0 past in omega (arith, none)
 ]
+
+-- the registers and codes of a u area stand where it stands, and are as many as stand there
+pub state_there : (line : List ℕ) (at : ℕ) (u : UArea) → length u.r ≡ 8 → part line at 1024 ≡ area_bytes u → part line at 18 ≡ state_bytes u.r u.cc
+state_there line at u eight there =
+    let rest : List ℕ = laid 18 (drop 2 (fields u)) in
+    let long : length (state_bytes u.r u.cc) ≡ 18 = state_long u.r u.cc eight in
+    let e : at + 0 ≡ at = omega arith in
+    ap (λ i. part line i 18) (sym e)
+    ∙ sym (part-part line at 1024 0 18 (omega arith))
+    ∙ ap (λ b. part b 0 18) (there ∙ front_of_area u eight)
+    ∙ part-left (state_bytes u.r u.cc) rest 0 18 (omega (arith, long))
+    ∙ front_whole (state_bytes u.r u.cc) 18 long
+
+pub state_eight : (bytes : List ℕ) (at : ℕ) (r : List ℕ) (cc : ℕ) → at + 18 ≤ length bytes → part bytes at 18 ≡ state_bytes r cc → length r ≡ 8
+unfolding state_bytes bytes_of
+state_eight bytes at r cc room there =
+    let n = length-bytes_of r in
+    let both : length (state_bytes r cc) ≡ length (bytes_of r) + 2 = length-append (bytes_of r) (bytes_of ((61440 + cc) ∷ [])) in
+    let long : length (state_bytes r cc) ≡ 18 = ap length (sym there) ∙ length-part bytes at 18 room in
+    omega (arith, n, both, long)
 
 pub state_spelled : (b r : List ℕ) (cc : ℕ) → length b ≡ 18 → AreBytes b → words b 0 8 ≡ r → word b 16 ≡ 61440 + cc → b ≡ state_bytes r cc
 unfolding state_bytes
@@ -207,4 +231,5 @@ starts_described k s x u a =
       text_len = a.text_len ∙ sym (ap (λ (i : Image). length i.text) now);
       data_len = a.data_len ∙ sym (ap (λ (i : Image). length i.data) now);
       stack_start = omega (arith, z, n);
+      core = a.core;
     }

@@ -13,6 +13,7 @@ use Rattle.image_keep.specs.SharedTexts.{with_text, filled, retexted}
 use Rattle.image_keep.specs.Counts.{is_text}
 use Rattle.image_keep.specs.Moves.{come_shared, leave_shared, text_need, swapped_in, swapped_out}
 use Rattle.image_keep.specs.Told.{IsTold, AreTold}
+use Rattle.image_keep.specs.Running.{with_state}
 use Rattle.image_keep.proofs.Frames.{keeping_same, keeping_other}
 
 -- one slot keeps something else
@@ -124,6 +125,15 @@ area_told i j k s u view is holds sizes told =
     subst AreTold (sym is) (told_slot k s (described u (keeping k s)) t
     (told_area (text_clicks k (text_of k s)) (text_of k s) (keeping k s) u
     (λ held e. subst (λ (v : UArea). (u.text_size ≡ v.text_size) × (u.data_size ≡ v.data_size) × (u.stack_size ≡ v.stack_size)) (ap area_in e) (area_sizes k s u holds (held, e) sizes)) (t s)))
+
+-- another u area with other registers and codes alone
+pub state_told : (k j : Kept) (s : ℕ) (r : List ℕ) (cc : ℕ) → j ≡ with_area k s (with_state (area_of k s) r cc) → AreTold k → AreTold j
+unfolding with_area
+state_told k j s r cc is told =
+    let u : UArea = with_state (area_of k s) r cc in
+    subst AreTold (sym is) (told_slot k s (described u (keeping k s)) told
+    (told_area (text_clicks k (text_of k s)) (text_of k s) (keeping k s) u
+    (λ held e. (let known : area_of k s ≡ held.u = ap area_in e in (ap (λ (v : UArea). v.text_size) known, ap (λ (v : UArea). v.data_size) known, ap (λ (v : UArea). v.stack_size) known))) (told s)))
 
 -- an image comes into core, or goes out
 loaded_clicks : (at : ℕ) (row : TextRow) → (loaded_at at row).clicks ≡ row.clicks

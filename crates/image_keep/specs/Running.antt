@@ -5,8 +5,9 @@ use Rattle.std.proofs.Common.{lit<}
 use Rattle.fs_codec.specs.Bytes.{bytes_of}
 use Rattle.u_area.specs.declared.area.UArea.{UArea}
 use Rattle.u_area.specs.declared.layout.TheConstants.{UMODE}
+use Rattle.pdp_step.specs.Machine.{Machine}
 use Rattle.image_keep.specs.declared.running.Fixed.{Fixed}
-use Rattle.image_keep.specs.Kept.{Kept}
+use Rattle.image_keep.specs.Kept.{Kept, image_of, area_of, with_image, with_area}
 use Rattle.image_keep.specs.Starts.{AreStarts}
 
 -- where the slot's image stands, and how long its parts are, is as told
@@ -16,6 +17,13 @@ IsFixed k f = AreStarts k f.slot f.starts
 -- a u area with other registers and condition codes
 abbrev pub with_state : UArea → List ℕ → ℕ → UArea
 with_state u r cc = record u { r = r; cc = cc % 16; codes = mod-lt cc (lit< tt) }
+
+-- what an instruction of a process works on, and what is kept of the process with what that has become
+abbrev pub machine_in : Kept → ℕ → Machine
+machine_in k s = record { r = (area_of k s).r; cc = (area_of k s).cc; image = image_of k s }
+
+abbrev pub with_machine_in : Kept → ℕ → Machine → Kept
+with_machine_in k s m = with_area (with_image k s m.image) s (with_state (area_of k s) m.r m.cc)
 
 -- the first 18 bytes of a u area: eight registers and the processor status word
 unfoldable pub state_bytes : List ℕ → ℕ → List ℕ

@@ -51,6 +51,12 @@ pub record Follows (f : Standing) (x : Starts) : Type 0 where
   pub bare : f.text_len ≡ 0 → (f.code ≡ f.data) × (f.code_len ≡ f.data_len)
   pub pure : 0 < f.text_len → (f.code ≡ f.text) × (f.code_len ≡ f.text_len)
 
+-- where all parts are in core, the places follow from where they start; else there is no program at hand
+pub record IsNear (f : Standing) (x : Starts) : Type 0 where
+  pub follows : 0 < f.code_len → Follows f x
+  pub text_in : 0 < f.code_len → f.text + f.text_len ≤ x.core
+  pub stack_in : 0 < f.code_len → f.data_end + 65536 ≤ x.core + f.stack_start
+
 -- what an address names, by the sizes
 abbrev pub names : Standing → ℕ → Named
 names f v = named_by f.text_len f.data_len (65536 - f.stack_start) v

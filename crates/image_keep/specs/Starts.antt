@@ -30,6 +30,7 @@ pub record AreStarts (k : Kept) (s : ℕ) (x : Starts) : Type 0 where
   pub text_len : x.text_len ≡ length (image_of k s).text
   pub data_len : x.data_len ≡ length (image_of k s).data
   pub stack_start : x.stack_start + length (image_of k s).stack ≡ 65536
+  pub core : x.core ≡ 64 * k.core
 
 -- where a byte stands that an address names
 abbrev pub start_of : Starts → Named → ℕ

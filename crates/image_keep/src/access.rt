@@ -102,9 +102,10 @@ fn start_of_text(texts: &Texts, core: u16, text: Option<TextId>) -> usize
     }
 }
 
-/// Where an image's parts stand, by where its text is read and its data begin, and by its sizes in clicks.
+/// Where an image's parts stand beside so many clicks of core, by where its text is read and its data begin, and by its sizes
+/// in clicks.
 #[inline(always)]
-fn starts_at(text: usize, image: usize, t: u16, d: u16, stack: u16) -> Starts
+fn starts_at(core: u16, text: usize, image: usize, t: u16, d: u16, stack: u16) -> Starts
     requires low_text { text ≤ 1000000 }
     requires low_image { image ≤ 1000000 }
     requires segments { nseg t + nseg d + nseg stack ≤ 8 }
@@ -113,6 +114,7 @@ fn starts_at(text: usize, image: usize, t: u16, d: u16, stack: u16) -> Starts
     ensures text_len { result.text_len ≡ 64 * t }
     ensures data_len { result.data_len ≡ 64 * d }
     ensures stack_start { result.stack_start + 64 * stack ≡ 65536 }
+    ensures core { result.core ≡ 64 * core }
 {
     Starts {
         text,
@@ -121,6 +123,7 @@ fn starts_at(text: usize, image: usize, t: u16, d: u16, stack: u16) -> Starts
         base: 8192 * ((usize::from(t) + 127) / 128),
         data_len: 64 * usize::from(d),
         stack_start: 65536 - 64 * usize::from(stack),
+        core: 64 * usize::from(core),
     }
 }
 
@@ -137,7 +140,7 @@ impl Images {
         let text = start_of_text(&self.texts, self.core, row.text);
         let image = 64 * place_click(self.core, place_of(row)) + 1024;
         let clicks = clicks_of_text(&self.texts, row.text);
-        starts_at(text, image, clicks, row.data_size, row.stack_size)
+        starts_at(self.core, text, image, clicks, row.data_size, row.stack_size)
     }
 
     /// What an address of a slot's image names.

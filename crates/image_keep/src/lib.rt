@@ -24,6 +24,7 @@ mod running;
 mod runs;
 mod standing;
 mod starts;
+mod state;
 mod swapping;
 mod texts;
 

@@ -124,10 +124,3 @@ impl Processor for Near<'_> {
 
     ghost eight = { λ p. p.eight };
 }
-
-#[tactic(auto, using(crate::proofs::StandsThere::stands_as))]
-fn trial(n: u32) -> u32
-    ensures { result ≡ n }
-{
-    n
-}

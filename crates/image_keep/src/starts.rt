@@ -14,6 +14,8 @@ pub(crate) struct Starts {
     pub data_len: usize,
     /// The address at which the stack begins.
     pub stack_start: usize,
+    /// The bytes of core.
+    pub core: usize,
     pub ghost low_text: { text ≤ 1000000 },
     pub ghost low_image: { image ≤ 1000000 },
     pub ghost is_base: { base ≡ data_base text_len },

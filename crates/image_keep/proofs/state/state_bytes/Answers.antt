@@ -1,7 +1,7 @@
 use Rattle.std.proofs.Common.{rules}
 use Rattle.fs_codec.proofs.WordsLemmas.{words_kept}
 use Rattle.image_keep.proofs.Registers.{state_spelled}
-use Rattle.image_keep.proofs.running.state_bytes.Goals as goal
+use Rattle.image_keep.proofs.state.state_bytes.Goals as goal
 
 pub returns : goal.returns
 returns c =

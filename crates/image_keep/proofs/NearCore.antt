@@ -1,0 +1,318 @@
+-- A process at hand in core: its parts are bytes of core, and what its instructions leave of core and of its u area, decoded,
+-- is what is kept, with this image and these registers and codes.
+use Rattle.std.proofs.Common.{◌≡◌, ◌⊎◌, ℕ, ◌+◌, ◌-◌, ◌*◌, ◌<◌, ◌≤◌, inl, inr, Bool, true, false, List, ◌++◌, length, set, Option, refl, sym, ap, subst, ◌∙◌, arith}
+use Rattle.std.specs.Prelude.{IsTrue, replicate}
+use Rattle.std.proofs.lemmas.Bool.{cases_lt}
+use Rattle.std.proofs.lemmas.List.{length-append, set-get_or}
+use Rattle.v6_base.specs.Image.{Image, AreBytes, IsImage}
+use Rattle.v6_base.proofs.Copies.{SameLengths}
+use Rattle.core_mem.specs.Bytes.{part}
+use Rattle.core_mem.proofs.Parts.{part-left, part-right, part-add}
+use Rattle.u_area.specs.declared.area.UArea.{UArea}
+use Rattle.u_area.proofs.AreaLemmas.{one_area}
+use Rattle.map_fit.specs.declared.holes.Hole.{Hole}
+use Rattle.text_tab.specs.declared.row.TextRow.{TextRow}
+use Rattle.pdp_step.specs.declared.outcome.Outcome.{Outcome}
+use Rattle.pdp_step.specs.declared.outcome.Outcome.TheVariants.{Next}
+use Rattle.pdp_step.specs.Machine.{Machine}
+use Rattle.pdp_step.specs.Instruction.{Stepped, stepped, instr}
+use Rattle.image_keep.specs.declared.images.Images.TheInside.{Inside}
+use Rattle.image_keep.specs.declared.row.Row.{Row}
+use Rattle.image_keep.specs.declared.running.Fixed.{Fixed}
+use Rattle.image_keep.specs.declared.standing.Standing.{Standing}
+use Rattle.image_keep.specs.declared.starts.Starts.{Starts}
+use Rattle.image_keep.specs.Area.{no_area}
+use Rattle.image_keep.specs.Areas.{area_at, AreAreas}
+use Rattle.image_keep.specs.Line.{line_of}
+use Rattle.image_keep.specs.Kept.{Kept, IsKept, HasImage, image_of, area_of, with_image, with_area}
+use Rattle.image_keep.specs.Memory.{Stock, place_at, kept_of, IsSound}
+use Rattle.image_keep.specs.Counts.{IsCounted}
+use Rattle.image_keep.specs.Maps.{AreMaps}
+use Rattle.image_keep.specs.Told.{AreTold}
+use Rattle.image_keep.specs.Inside.{stock_in, kept_in, AreImages}
+use Rattle.image_keep.specs.Starts.{AreStarts}
+use Rattle.image_keep.specs.Running.{IsFixed, with_state, state_bytes, machine_in, with_machine_in}
+use Rattle.image_keep.specs.Standing.{standing_image, StandsIn, Follows, IsNear}
+use Rattle.image_keep.specs.Near.{standing_machine, stack_end, Around, around}
+use Rattle.image_keep.proofs.Frames.{alive_image, image_back, area_back, with_image_area, with_image_same}
+use Rattle.image_keep.proofs.Own.{with_line}
+use Rattle.image_keep.proofs.InPlan.{core_kept}
+use Rattle.image_keep.proofs.KeptForm.{kept_holds}
+use Rattle.image_keep.proofs.Storing.{told_image}
+use Rattle.image_keep.proofs.Told.{state_told}
+use Rattle.image_keep.proofs.AreasKept.{area_known, image_low, areas_imaged, areas_described}
+use Rattle.image_keep.proofs.Reading.{starts_after}
+use Rattle.image_keep.proofs.Registers.{Stands, stands, state_there, state_eight, starts_described}
+use Rattle.image_keep.proofs.Landing.{StandsAs, LeftAround, Landed, landed, lengths_same}
+use Rattle.image_keep.proofs.StandsThere.{stands_as}
+
+-- A process at hand, by the bytes of core and its u area, decoded.
+pub record AtHand (k : Kept) (s : ℕ) (f : Standing) (core : List ℕ) (u : UArea) : Type 0 where
+  pub area : u ≡ area_of k s
+  pub eight : length u.r ≡ 8
+  pub inside : 0 < f.code_len → StandsIn (length core) f
+  pub stated : 0 < f.code_len → part core f.area 18 ≡ state_bytes u.r u.cc
+  pub image : 0 < f.code_len → standing_image core f ≡ image_of k s
+
+-- What an attempt at one instruction leaves of core and of the u area.
+pub record Attempted (f : Standing) (old new : List ℕ) (u w : UArea) (result : Bool) : Type 0 where
+  pub near : IsTrue result → 0 < f.code_len
+  pub done : IsTrue result → instr (standing_machine old u f) ≡ stepped Next (standing_machine new w f)
+  pub missed : result ≡ false → 0 < f.code_len → standing_machine new w f ≡ standing_machine old u f
+  pub far_core : result ≡ false → f.code_len ≡ 0 → new ≡ old
+  pub far_area : result ≡ false → f.code_len ≡ 0 → w ≡ u
+  pub around : 0 < f.code_len → around new w f ≡ around old u f
+  pub stated : 0 < f.code_len → part new f.area 18 ≡ state_bytes w.r w.cc
+  pub size : length new ≡ length old
+
+-- All else of the images is as it was.
+pub record OthersStay (a b : Inside) (s : ℕ) (w : UArea) : Type 0 where
+  pub swap : b.memory.swap ≡ a.memory.swap
+  pub core : b.core ≡ a.core
+  pub rows : b.rows.items ≡ a.rows.items
+  pub areas : b.areas.items ≡ set a.areas.items s w
+  pub texts : b.texts ≡ a.texts
+  pub core_map : b.core_map ≡ a.core_map
+  pub swap_map : b.swap_map ≡ a.swap_map
+
+-- The images after it.
+pub record Executed (b : Inside) (k : Kept) (f : Fixed) (result : Bool) : Type 0 where
+  pub images : AreImages b
+  pub outcome : IsTrue result → (instr (machine_in k f.slot)).outcome ≡ Next
+  pub done : IsTrue result → kept_in b ≡ with_machine_in k f.slot (instr (machine_in k f.slot)).machine
+  pub kept : result ≡ false → kept_in b ≡ k
+  pub fixed : IsFixed (kept_in b) f
+
+-- places of core in the line
+core_stands : (core size : ℕ) (f : Standing) → StandsIn size f → core ≤ 1000000 → f.text + f.text_len ≤ core → f.data_end + 65536 ≤ core + f.stack_start → StandsIn core f
+core_stands core size f i small text stack = record {
+  small = small;
+  text_in = text;
+  stack_in = stack;
+  area = i.area;
+  end = i.end;
+  text_apart = i.text_apart;
+  base = i.base;
+  text_below = i.text_below;
+  data_below = i.data_below;
+  stack_below = i.stack_below;
+  text_even = i.text_even;
+  data_even = i.data_even;
+  stack_even = i.stack_even;
+  odd = i.odd;
+  stack = i.stack;
+  bare = i.bare;
+  pure = i.pure;
+}
+
+core_image : (core swap : List ℕ) (f : Standing) → StandsIn (length core) f → standing_image (core ++ swap) f ≡ standing_image core f
+unfolding standing_image
+core_image core swap f i =
+    let e = i.end in let b = i.stack_below in let s = i.stack_in in
+    let one : part (core ++ swap) f.text f.text_len ≡ part core f.text f.text_len = part-left core swap f.text f.text_len i.text_in in
+    let two : part (core ++ swap) f.data f.data_len ≡ part core f.data f.data_len = part-left core swap f.data f.data_len (omega (arith, e, b, s)) in
+    let three : part (core ++ swap) f.data_end (65536 - f.stack_start) ≡ part core f.data_end (65536 - f.stack_start) = part-left core swap f.data_end (65536 - f.stack_start) (omega (arith, b, s)) in
+    λ j. record { text = one j; «data» = two j; stack = three j }
+
+core_behind : (old new swap : List ℕ) (at : ℕ) → length new ≡ length old → at ≤ length old → part new at (length old - at) ≡ part old at (length old - at)
+    → part (new ++ swap) at (length (old ++ swap) - at) ≡ part (old ++ swap) at (length (old ++ swap) - at)
+core_behind old new swap at size low same =
+    let n : ℕ = length old - at in
+    let m : ℕ = length swap in
+    let both = length-append old swap in
+    let long : length (old ++ swap) - at ≡ n + m = omega (arith, both, low) in
+    let one : part (new ++ swap) at n ≡ part (old ++ swap) at n = part-left new swap at n (omega (arith, size, low)) ∙ same ∙ sym (part-left old swap at n (omega (arith, low))) in
+    let two : part (new ++ swap) (at + n) m ≡ part (old ++ swap) (at + n) m = part-right new swap (at + n) 0 m (omega (arith, size, low)) ∙ sym (part-right old swap (at + n) 0 m (omega (arith, low))) in
+    let joined : part (new ++ swap) at (n + m) ≡ part (old ++ swap) at (n + m) = part-add (new ++ swap) at n m ∙ (λ i. one i ++ two i) ∙ sym (part-add (old ++ swap) at n m) in
+    subst (λ i. part (new ++ swap) at i ≡ part (old ++ swap) at i) (sym long) joined
+
+core_around : (old new swap : List ℕ) (f : Standing) (u w : UArea) → StandsIn (length old) f → length new ≡ length old → around new w f ≡ around old u f → part new f.area 18 ≡ state_bytes w.r w.cc
+    → LeftAround (old ++ swap) (new ++ swap) f w.r w.cc
+core_around old new swap f u w i size same stated =
+    let ar = i.area in let e = i.end in let b = i.stack_below in let s = i.stack_in in
+    let was = length-append old swap in
+    let is = length-append new swap in
+    record {
+      size = omega (arith, was, is, size);
+      before = part-left new swap 0 f.area (omega (arith, ar, e, b, s, size)) ∙ ap (λ (x : Around). x.before) same ∙ sym (part-left old swap 0 f.area (omega (arith, ar, e, b, s)));
+      fields = part-left new swap (f.area + 18) 1006 (omega (arith, ar, e, b, s, size)) ∙ ap (λ (x : Around). x.fields) same ∙ sym (part-left old swap (f.area + 18) 1006 (omega (arith, ar, e, b, s)));
+      behind = core_behind old new swap (stack_end f) size (omega (arith, b, s)) (subst (λ n. part new (stack_end f) (n - stack_end f) ≡ part old (stack_end f) (length old - stack_end f)) size (ap (λ (x : Around). x.behind) same));
+      stated = part-left new swap f.area 18 (omega (arith, ar, e, b, s, size)) ∙ stated;
+    }
+
+-- a u area of which all else is as it was
+other_state : (u w : UArea) → with_state w (replicate 8 0) 0 ≡ with_state u (replicate 8 0) 0 → w ≡ with_state u w.r w.cc
+other_state u w same =
+    let c = w.codes in
+    one_area w (with_state u w.r w.cc) refl (omega (arith, c))
+    (ap (λ (x : UArea). x.uid) same) (ap (λ (x : UArea). x.gid) same) (ap (λ (x : UArea). x.ruid) same) (ap (λ (x : UArea). x.rgid) same) (ap (λ (x : UArea). x.dir) same)
+    (ap (λ (x : UArea). x.text_size) same) (ap (λ (x : UArea). x.data_size) same) (ap (λ (x : UArea). x.stack_size) same) (ap (λ (x : UArea). x.pending) same)
+    (ap (λ (x : UArea). x.call) same) (ap (λ (x : UArea). x.user_time) same) (ap (λ (x : UArea). x.system_time) same) (ap (λ (x : UArea). x.child_user) same)
+    (ap (λ (x : UArea). x.child_system) same) (ap (λ (x : UArea). x.status) same) (ap (λ (x : UArea). x.handlers) same) (ap (λ (x : UArea). x.files) same)
+
+-- what an instruction works on that leaves all as it is
+machine_back : (k : Kept) (s : ℕ) → with_machine_in k s (machine_in k s) ≡ k
+machine_back k s =
+    let u : UArea = area_of k s in
+    let same : with_state u u.r u.cc ≡ u = sym (other_state u u refl) in
+    (λ i. with_area (image_back k s i) s (same i)) ∙ area_back k s
+
+module _ (a : Inside) (k : Kept) (f : Fixed) (view : kept_in a ≡ k) (h : AreImages a) (bytes : AreBytes (line_of a.memory)) (fixed : IsFixed k f) where
+  s : ℕ
+  s = f.slot
+
+  x : Starts
+  x = f.starts
+
+  t : Standing
+  t = f.standing
+
+  v : Stock
+  v = stock_in a
+
+  u : UArea
+  u = area_at a.areas.items f.slot
+
+  has : HasImage k f.slot
+  has = alive_image k f.slot fixed.alive
+
+  holds : IsKept k
+  holds = kept_holds (stock_in a) k view h.sound h.table h.told bytes
+
+  there : Stands (stock_in a) k f.slot f.starts (alive_image k f.slot fixed.alive).0.place
+  there = stands (stock_in a) k f.slot f.starts view h.sound h.counted fixed
+
+  known : area_at a.areas.items f.slot ≡ area_of k f.slot
+  known = area_known a.areas.items (kept_in a) k f.slot view h.areas has
+
+  placed : 0 < f.standing.code_len → StandsAs (stock_in a) k f.slot f.starts f.standing
+  placed some = stands_as (stock_in a) k f.slot f.starts f.standing view h.sound h.counted (holds.formed f.slot) fixed (f.near.follows some)
+
+  inside : 0 < f.standing.code_len → StandsIn (length a.memory.core) f.standing
+  inside some =
+      let cut = h.cut in let most = h.sound.most in let c = fixed.core in
+      let core : a.core ≡ k.core = sym (core_kept (stock_in a)) ∙ ap (λ (j : Kept). j.core) view in
+      let i = f.near.text_in some in let j = f.near.stack_in some in
+      core_stands (length a.memory.core) (length (line_of a.memory)) f.standing (placed some).inside (omega (arith, cut, most)) (omega (arith, i, c, core, cut)) (omega (arith, j, c, core, cut))
+
+  image : 0 < f.standing.code_len → standing_image a.memory.core f.standing ≡ image_of k f.slot
+  image some = sym (core_image a.memory.core a.memory.swap f.standing (inside some)) ∙ (placed some).image
+
+  stated : 0 < f.standing.code_len → part a.memory.core f.standing.area 18 ≡ state_bytes (area_at a.areas.items f.slot).r (area_at a.areas.items f.slot).cc
+  stated some =
+      let i = inside some in
+      let ar = i.area in let e = i.end in let b = i.stack_below in let st = i.stack_in in
+      let at = there.at in let d = (placed some).data_at in
+      let begins : f.standing.area ≡ place_at a.core (alive_image k f.slot fixed.alive).0.place = omega (arith, ar, at, d) in
+      sym (part-left a.memory.core a.memory.swap f.standing.area 18 (omega (arith, ar, e, b, st)))
+      ∙ ap (λ n. part (line_of a.memory) n 18) begins
+      ∙ state_there (line_of a.memory) (place_at a.core (alive_image k f.slot fixed.alive).0.place) (area_of k f.slot) there.sized.r there.bytes
+      ∙ ap (λ (w : UArea). state_bytes w.r w.cc) (sym known)
+
+  pub at_hand : AtHand k f.slot f.standing a.memory.core (area_at a.areas.items f.slot)
+  at_hand = record {
+    area = known;
+    eight = ap (λ (w : UArea). length w.r) known ∙ there.sized.r;
+    inside = inside;
+    stated = stated;
+    image = image;
+  }
+
+  its_machine : 0 < f.standing.code_len → standing_machine a.memory.core (area_at a.areas.items f.slot) f.standing ≡ machine_in k f.slot
+  its_machine some = (let m = image some in λ i. record { r = (known i).r; cc = (known i).cc; image = m i })
+
+  module _ (b : Inside) (w : UArea) (result : Bool) (others : OthersStay a b f.slot w) (did : Attempted f.standing a.memory.core b.memory.core (area_at a.areas.items f.slot) w result) where
+    line : List ℕ
+    line = b.memory.core ++ a.memory.swap
+
+    its_stock : stock_in b ≡ with_line (stock_in a) (b.memory.core ++ a.memory.swap)
+    its_stock = λ i. record { line = b.memory.core ++ others.swap i; core = others.core i; rows = others.rows i; texts = others.texts i }
+
+    -- what stays of the invariant, whatever the bytes are
+    left_images : IsSound (with_line (stock_in a) (b.memory.core ++ a.memory.swap)) → AreTold (kept_in b) → AreAreas b.areas.items (kept_in b).slots → AreImages b
+    left_images sound told areas =
+        let size = did.size in let cut = h.cut in let c = others.core in
+        let maps : AreMaps (with_line (stock_in a) (b.memory.core ++ a.memory.swap)) a.core_map a.swap_map = record { core = h.maps.core; swap = h.maps.swap } in
+        record {
+          sound = subst IsSound (sym its_stock) sound;
+          maps = subst (λ (p : List Hole). AreMaps (stock_in b) b.core_map p) (sym others.swap_map) (subst (λ (p : List Hole). AreMaps (stock_in b) p a.swap_map) (sym others.core_map) (subst (λ (q : Stock). AreMaps q a.core_map a.swap_map) (sym its_stock) maps));
+          table = ap length others.texts ∙ h.table;
+          cut = omega (arith, size, cut, c);
+          counted = subst (λ (l : List Row). IsCounted l b.texts) (sym others.rows) (subst (λ (l : List (Option TextRow)). IsCounted a.rows.items l) (sym others.texts) h.counted);
+          told = told;
+          areas = areas;
+        }
+
+    module _ (some : 0 < f.standing.code_len) where
+      now : Machine
+      now = standing_machine b.memory.core w f.standing
+
+      wide : StandsIn (length b.memory.core) f.standing
+      wide = subst (λ n. StandsIn n f.standing) (sym did.size) (inside some)
+
+      becomes : w ≡ with_state (area_of k f.slot) w.r w.cc
+      becomes = other_state (area_at a.areas.items f.slot) w (ap (λ (p : Around). p.area) (did.around some)) ∙ ap (λ (p : UArea). with_state p w.r w.cc) known
+
+      done_landed : Landed (stock_in a) k f.slot f.standing (b.memory.core ++ a.memory.swap) w.r w.cc
+      done_landed = landed (stock_in a) k f.slot f.starts f.standing (b.memory.core ++ a.memory.swap) w.r w.cc view h.sound h.counted fixed (placed some) (state_eight b.memory.core f.standing.area w.r w.cc room (did.stated some)) w.codes
+          (core_around a.memory.core b.memory.core a.memory.swap f.standing (area_at a.areas.items f.slot) w (inside some) did.size (did.around some) (did.stated some))
+        where
+          room : f.standing.area + 18 ≤ length b.memory.core
+          room = let ar = wide.area in let e = wide.end in let b = wide.stack_below in let st = wide.stack_in in omega (arith, ar, e, b, st)
+
+      now_kept : kept_in b ≡ with_machine_in k f.slot (standing_machine b.memory.core w f.standing)
+      now_kept = ap kept_of its_stock ∙ done_landed.kept ∙ ap (λ (m : Image). with_area (with_image k f.slot m) f.slot (with_state (area_of k f.slot) w.r w.cc)) (core_image b.memory.core a.memory.swap f.standing wide)
+
+      now_told : AreTold (kept_in b)
+      now_told =
+          let m : Image = standing_image b.memory.core f.standing in
+          state_told (with_image k f.slot m) (kept_in b) f.slot w.r w.cc (now_kept ∙ ap (λ (p : UArea). with_area (with_image k f.slot m) f.slot (with_state p w.r w.cc)) (sym (with_image_area k f.slot f.slot m)))
+          (told_image (kept_in a) (with_image k f.slot m) k f.slot m view refl h.told)
+
+      now_areas : AreAreas b.areas.items (kept_in b).slots
+      now_areas =
+          let m : Image = standing_image b.memory.core f.standing in
+          areas_described a.areas.items b.areas.items (with_image k f.slot m) (kept_in b) (with_image k f.slot m) f.slot (with_state (area_of k f.slot) w.r w.cc) refl now_kept
+          (image_low (stock_in a) k f.slot view h.sound h.counted has)
+          (others.areas ∙ ap (set a.areas.items f.slot) becomes)
+          (areas_imaged a.areas.items (kept_in a) (with_image k f.slot m) k f.slot m view refl h.areas)
+
+      now_fixed : IsFixed (kept_in b) f
+      now_fixed =
+          let m : Image = standing_image b.memory.core f.standing in
+          let same : SameLengths (image_of k f.slot) m = lengths_same a.memory.core b.memory.core f.standing (image_of k f.slot) (inside some) did.size (image some) in
+          subst (λ j. AreStarts j f.slot f.starts) (sym now_kept) (starts_described (with_image k f.slot m) f.slot f.starts (with_state (area_of k f.slot) w.r w.cc) (starts_after k f.slot f.starts m fixed same))
+
+      its_step : IsTrue result → instr (machine_in k f.slot) ≡ stepped Next (standing_machine b.memory.core w f.standing)
+      its_step well = ap instr (sym (its_machine some)) ∙ did.done well
+
+      at_work : Executed b k f result
+      at_work = record {
+        images = left_images done_landed.sound now_told now_areas;
+        outcome = λ well. ap (λ (p : Stepped). p.outcome) (its_step well);
+        done = λ well. now_kept ∙ ap (λ (p : Stepped). with_machine_in k f.slot p.machine) (sym (its_step well));
+        kept = λ ill. now_kept ∙ ap (with_machine_in k f.slot) (did.missed ill some ∙ its_machine some) ∙ machine_back k f.slot;
+        fixed = now_fixed;
+      }
+
+    far_away : (r : Bool) → result ≡ r → f.standing.code_len ≡ 0 → Executed b k f result
+    far_away true well none = (let some = did.near well in absurd (omega (arith, some, none)))
+    far_away false ill none =
+        let same : b.memory.core ≡ a.memory.core = did.far_core ill none in
+        let stays : stock_in b ≡ stock_in a = its_stock ∙ ap (λ (p : List ℕ). with_line (stock_in a) (p ++ a.memory.swap)) same in
+        let kept : kept_in b ≡ kept_in a = ap kept_of stays in
+        let areas : b.areas.items ≡ a.areas.items = others.areas ∙ ap (set a.areas.items f.slot) (did.far_area ill none) ∙ set-get_or a.areas.items f.slot no_area in
+        record {
+          images = left_images (subst (λ (p : List ℕ). IsSound (with_line (stock_in a) (p ++ a.memory.swap))) (sym same) h.sound) (subst AreTold (sym kept) h.told)
+              (subst (λ (l : List UArea). AreAreas l (kept_in b).slots) (sym areas) (subst (λ (j : Kept). AreAreas a.areas.items j.slots) (sym kept) h.areas));
+          outcome = λ well. absurd (cc (well, ill));
+          done = λ well. absurd (cc (well, ill));
+          kept = λ ill. kept ∙ view;
+          fixed = subst (λ j. AreStarts j f.slot f.starts) (sym (kept ∙ view)) fixed;
+        }
+
+    pub executed : Executed b k f result
+    executed = elim (cases_lt 0 f.standing.code_len) [
+      | inl some ↦ at_work some
+      | inr none ↦ far_away result refl (omega (arith, none))
+    ]

@@ -1,0 +1,76 @@
+//! The process that executes instructions: its registers, at the front of its u area.
+ghost use Rattle.std.specs.Prelude.{◌≡◌, ◌<◌};
+ghost use Rattle.image_keep.specs.Kept.{HasImage, IsKept, area_of, with_area};
+ghost use Rattle.image_keep.specs.Running.{IsFixed, with_state, state_bytes};
+
+use crate::areas::{area_ref, put_state};
+use crate::images::Images;
+use crate::memory::see_bytes;
+use crate::running::Fixed;
+use crate::standing::Standing;
+use fs_codec::{put_word, put_words};
+use u_area::{AREA_SIZE, PS, REGISTERS, UArea, UMODE};
+use v6_base::Slot;
+
+/// The bytes of the registers and of the processor status word.
+pub(crate) const STATE_SIZE: usize = 18;
+
+/// The bytes with which a u area begins.
+#[inline(always)]
+pub(crate) fn state_bytes(r: &[u16; 8], cc: u8) -> [u8; STATE_SIZE]
+    requires { cc < 16 }
+    ensures { result ≡ state_bytes r.now cc }
+{
+    let mut bytes = [0; STATE_SIZE];
+    put_words(&mut bytes, REGISTERS, r);
+    put_word(&mut bytes, PS, UMODE + u16::from(cc));
+    see_bytes(&bytes);
+    bytes
+}
+
+impl Images {
+    /// What is kept has its form. Nothing is read.
+    #[inline(always)]
+    pub(crate) fn see_kept(&self)
+        ensures { IsKept self.now }
+    {
+        self.memory.see_bytes();
+    }
+
+    /// What stays fixed of a process in a slot, which has an image.
+    pub fn fixed(&self, s: Slot) -> Fixed
+        requires { HasImage self.now s }
+        ensures fixed { IsFixed self.now result }
+        ensures slot { result.slot ≡ s }
+    {
+        let starts = self.starts(s);
+        Fixed {
+            slot: s,
+            starts,
+            standing: Standing::of(&starts),
+        }
+    }
+
+    /// The u area of the process of which this is fixed, with its registers.
+    #[inline(always)]
+    pub fn area_at(&self, fixed: &Fixed) -> &UArea
+        requires { IsFixed self.now fixed.now }
+        ensures { result.now ≡ area_of self.now fixed.now.slot }
+    {
+        area_ref(&self.areas, fixed.slot as usize)
+    }
+
+    /// Puts registers and condition codes into the u area of the process of which this is fixed.
+    #[inline(always)]
+    pub fn set_registers_at(&mut self, fixed: &Fixed, r: &[u16; 8], cc: u8)
+        requires fixed { IsFixed self.old fixed.now }
+        requires codes { cc < 16 }
+        ensures kept { self.new ≡ with_area self.old fixed.now.slot (with_state (area_of self.old fixed.now.slot) r.now cc) }
+        ensures fixed { IsFixed self.new fixed.now }
+    {
+        self.memory.see_bytes();
+        let at = fixed.starts.image - AREA_SIZE;
+        self.memory.put(at, &state_bytes(r, cc));
+        put_state(&mut self.areas, fixed.slot as usize, r, cc);
+    }
+}
