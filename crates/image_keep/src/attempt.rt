@@ -1,19 +1,18 @@
 //! One instruction of the process that executes instructions, done where it stands in core.
-ghost use Rattle.std.specs.Prelude.{◌≡◌, ◌+◌, ◌<◌, ◌≤◌, ◌⊎◌, ℕ, IsTrue, false, length};
-ghost use Rattle.core_mem.specs.Bytes.{part, over};
+ghost use Rattle.std.specs.Prelude.{◌≡◌, ◌<◌, ◌≤◌, IsTrue, false, length};
+ghost use Rattle.core_mem.specs.Bytes.{part};
 ghost use Rattle.pdp_decode.specs.Decode.{decode_of};
 ghost use Rattle.pdp_decode.specs.Handlers.{Handles};
 ghost use Rattle.pdp_step.specs.declared.outcome.Outcome.{Outcome};
 ghost use Rattle.pdp_step.specs.Instruction.{row_of, stepped, instr};
 ghost use Rattle.pdp_step.specs.After.{Finished, finished};
 ghost use Rattle.pdp_step.specs.Parts.{at_pc};
-ghost use Rattle.image_keep.specs.Running.{state_bytes, with_state};
+ghost use Rattle.image_keep.specs.Running.{state_bytes};
 ghost use Rattle.image_keep.specs.Standing.{standing_image, StandsIn};
 ghost use Rattle.image_keep.specs.Near.{standing_machine, around};
 
 use crate::near::Near;
-use crate::state::state_bytes;
-use crate::standing::{Standing, program_word, reg};
+use crate::standing::{Standing, program_word, reg, set_state};
 use pdp_decode::{Dispatch, Handler};
 use pdp_step::{perform, perform_apart, perform_stepping};
 use u_area::UArea;
@@ -162,7 +161,7 @@ fn attempt_stepping(
     if attempt_steps(core, area, standing, handler, pc, word) {
         return true;
     }
-    put_state(core, area, standing, &r, cc);
+    set_state(core, area, standing, &r, cc);
     false
 }
 
@@ -193,29 +192,4 @@ fn attempt_steps(
         standing,
     };
     perform_stepping(&mut near, handler, pc, word).is_ok()
-}
-
-// Puts bytes to a place.
-#[tactic(auto, unfolding(core_mem::specs::Bytes::over))]
-fn write(core: &mut [u8], at: usize, bytes: &[u8; 18])
-    requires { at + length bytes.now ≤ length core.old }
-    ensures { core.new ≡ over core.old at bytes.now }
-{
-    core[at..at + 18].copy_from_slice(bytes);
-}
-
-// Gives a process registers and condition codes, in the bytes of its u area and in the decoded one.
-#[tactic(auto, using(crate::proofs::StandingState::states))]
-fn put_state(core: &mut [u8], area: &mut UArea, f: &Standing, r: &[u16; 8], cc: u8)
-    requires stands { StandsIn (length core.old) f.now }
-    requires codes { cc < 16 }
-    ensures area { area.new ≡ with_state area.old r.now cc }
-    ensures stated { part core.new f.now.area 18 ≡ state_bytes area.new.r area.new.cc }
-    ensures image { standing_image core.new f.now ≡ standing_image core.old f.now }
-    ensures rest { (k m : ℕ) → (k + m ≤ f.now.area) ⊎ (f.now.area + 18 ≤ k) → part core.new k m ≡ part core.old k m }
-    ensures size { length core.new ≡ length core.old }
-{
-    write(core, f.area, &state_bytes(r, cc));
-    area.r = *r;
-    area.cc = cc;
 }

@@ -2,12 +2,13 @@
 ghost use Rattle.std.specs.Prelude.{◌≡◌, ℕ, ◌+◌, ◌*◌, ◌%◌, ◌<◌, ◌≤◌, ◌⊎◌, IfSome, Ok, false, length, slice_index, slice_set};
 ghost use Rattle.v6_base.specs.Access.{load_byte, load_word, store_byte, store_word};
 ghost use Rattle.v6_base.specs.Words.{word_set};
-ghost use Rattle.core_mem.specs.Bytes.{part};
+ghost use Rattle.core_mem.specs.Bytes.{part, over};
 ghost use Rattle.image_keep.specs.Running.{state_bytes, with_state};
 ghost use Rattle.image_keep.specs.Standing.{IsNear, standing_image, StandsIn, IsPlace, IsWordPlace, address};
 
 use crate::memory::word_in;
 use crate::starts::Starts;
+use crate::state::{STATE_SIZE, state_bytes};
 use u_area::{AREA_SIZE, PS, UArea};
 
 /// Where the parts of a process stand in core, in bytes from its beginning: the u area, the text, the data with the stack
@@ -261,5 +262,30 @@ pub(crate) fn set_cc(core: &mut [u8], area: &mut UArea, f: &Standing, cc: u8)
     ensures size { length core.new ≡ length core.old }
 {
     core[f.area + PS] = cc;
+    area.cc = cc;
+}
+
+// Puts the bytes of registers and codes to a place.
+#[tactic(auto, unfolding(core_mem::specs::Bytes::over))]
+fn write(core: &mut [u8], at: usize, bytes: &[u8; STATE_SIZE])
+    requires { at + length bytes.now ≤ length core.old }
+    ensures { core.new ≡ over core.old at bytes.now }
+{
+    core[at..at + STATE_SIZE].copy_from_slice(bytes);
+}
+
+/// Gives a process registers and condition codes, likewise.
+#[tactic(auto, using(crate::proofs::StandingState::states))]
+pub(crate) fn set_state(core: &mut [u8], area: &mut UArea, f: &Standing, r: &[u16; 8], cc: u8)
+    requires stands { StandsIn (length core.old) f.now }
+    requires codes { cc < 16 }
+    ensures area { area.new ≡ with_state area.old r.now cc }
+    ensures stated { part core.new f.now.area 18 ≡ state_bytes area.new.r area.new.cc }
+    ensures image { standing_image core.new f.now ≡ standing_image core.old f.now }
+    ensures rest { (k m : ℕ) → (k + m ≤ f.now.area) ⊎ (f.now.area + 18 ≤ k) → part core.new k m ≡ part core.old k m }
+    ensures size { length core.new ≡ length core.old }
+{
+    write(core, f.area, &state_bytes(r, cc));
+    area.r = *r;
     area.cc = cc;
 }
