@@ -89,7 +89,11 @@ impl Standing {
             text: starts.text,
             text_len: starts.text_len,
             code: if is_bare { starts.image } else { starts.text },
-            code_len: if is_bare { starts.data_len } else { starts.text_len },
+            code_len: if is_bare {
+                starts.data_len
+            } else {
+                starts.text_len
+            },
             base: starts.base,
             data: starts.image,
             data_len: starts.data_len,
