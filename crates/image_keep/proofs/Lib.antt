@@ -52,7 +52,6 @@ pub mod Deposited
 pub mod StandingParts
 pub mod StandingState
 pub mod NearParts
-pub mod Attempted
 pub mod Landing
 pub mod StandsThere
 pub mod NearCore

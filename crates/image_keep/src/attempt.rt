@@ -1,15 +1,12 @@
 //! One instruction of the process that executes instructions, done where it stands in core.
 ghost use Rattle.std.specs.Prelude.{◌≡◌, ◌<◌, ◌≤◌, IsTrue, false, length};
 ghost use Rattle.core_mem.specs.Bytes.{part};
-ghost use Rattle.pdp_decode.specs.Decode.{decode_of};
 ghost use Rattle.pdp_decode.specs.Handlers.{Handles};
 ghost use Rattle.pdp_step.specs.declared.outcome.Outcome.{Outcome};
-ghost use Rattle.pdp_step.specs.Instruction.{row_of, stepped, instr};
-ghost use Rattle.pdp_step.specs.After.{Finished, finished};
-ghost use Rattle.pdp_step.specs.Parts.{at_pc};
+ghost use Rattle.pdp_step.specs.Instruction.{stepped, instr};
 ghost use Rattle.image_keep.specs.Running.{state_bytes};
 ghost use Rattle.image_keep.specs.Standing.{standing_image, StandsIn};
-ghost use Rattle.image_keep.specs.Near.{standing_machine, around};
+ghost use Rattle.image_keep.specs.Near.{StandsWith, IsRowDone, standing_machine, around};
 
 use crate::near::Near;
 use crate::standing::{Standing, program_word, reg, set_state};
@@ -60,17 +57,14 @@ fn attempt_frequent(
     pc: usize,
     word: u32,
 ) -> bool
-    requires stands { StandsIn (length core.old) standing.now }
-    requires eight { length area.old.r ≡ 8 }
-    requires stated { part core.old standing.now.area 18 ≡ state_bytes area.old.r area.old.cc }
+    requires stands { StandsWith core.old area.old standing.now }
     requires handles { Handles handler word }
     requires word { word < 65536 }
     requires room { pc ≤ 65538 }
-    ensures row { IsTrue result → Finished.Done (standing_machine core.new area.new standing.now) ≡ finished (standing_image core.old standing.now) (row_of (at_pc (standing_machine core.old area.old standing.now) pc) word (decode_of word)) }
+    ensures row { IsTrue result → IsRowDone (standing_machine core.old area.old standing.now) pc word (standing_machine core.new area.new standing.now) }
     ensures missed { result ≡ false → standing_machine core.new area.new standing.now ≡ standing_machine core.old area.old standing.now }
     ensures around { around core.new area.new standing.now ≡ around core.old area.old standing.now }
-    ensures eight { length area.new.r ≡ 8 }
-    ensures stated { part core.new standing.now.area 18 ≡ state_bytes area.new.r area.new.cc }
+    ensures stands { StandsWith core.new area.new standing.now }
 {
     let mut near = Near {
         core,
@@ -90,16 +84,14 @@ fn attempt_other(
     pc: usize,
     word: u32,
 ) -> bool
-    requires stands { StandsIn (length core.old) standing.now }
-    requires eight { length area.old.r ≡ 8 }
-    requires stated { part core.old standing.now.area 18 ≡ state_bytes area.old.r area.old.cc }
+    requires stands { StandsWith core.old area.old standing.now }
     requires handles { Handles handler word }
     requires word { word < 65536 }
     requires room { pc ≤ 65538 }
-    ensures row { IsTrue result → Finished.Done (standing_machine core.new area.new standing.now) ≡ finished (standing_image core.old standing.now) (row_of (at_pc (standing_machine core.old area.old standing.now) pc) word (decode_of word)) }
+    ensures row { IsTrue result → IsRowDone (standing_machine core.old area.old standing.now) pc word (standing_machine core.new area.new standing.now) }
     ensures missed { result ≡ false → standing_machine core.new area.new standing.now ≡ standing_machine core.old area.old standing.now }
     ensures around { around core.new area.new standing.now ≡ around core.old area.old standing.now }
-    ensures stated { part core.new standing.now.area 18 ≡ state_bytes area.new.r area.new.cc }
+    ensures stands { StandsWith core.new area.new standing.now }
 {
     attempt_apart(core, area, standing, handler, pc, word)
         || attempt_stepping(core, area, standing, handler, pc, word)
@@ -115,17 +107,14 @@ fn attempt_apart(
     pc: usize,
     word: u32,
 ) -> bool
-    requires stands { StandsIn (length core.old) standing.now }
-    requires eight { length area.old.r ≡ 8 }
-    requires stated { part core.old standing.now.area 18 ≡ state_bytes area.old.r area.old.cc }
+    requires stands { StandsWith core.old area.old standing.now }
     requires handles { Handles handler word }
     requires word { word < 65536 }
     requires room { pc ≤ 65538 }
-    ensures row { IsTrue result → Finished.Done (standing_machine core.new area.new standing.now) ≡ finished (standing_image core.old standing.now) (row_of (at_pc (standing_machine core.old area.old standing.now) pc) word (decode_of word)) }
+    ensures row { IsTrue result → IsRowDone (standing_machine core.old area.old standing.now) pc word (standing_machine core.new area.new standing.now) }
     ensures missed { result ≡ false → standing_machine core.new area.new standing.now ≡ standing_machine core.old area.old standing.now }
     ensures around { around core.new area.new standing.now ≡ around core.old area.old standing.now }
-    ensures eight { length area.new.r ≡ 8 }
-    ensures stated { part core.new standing.now.area 18 ≡ state_bytes area.new.r area.new.cc }
+    ensures stands { StandsWith core.new area.new standing.now }
 {
     let mut near = Near {
         core,
@@ -145,16 +134,14 @@ fn attempt_stepping(
     pc: usize,
     word: u32,
 ) -> bool
-    requires stands { StandsIn (length core.old) standing.now }
-    requires eight { length area.old.r ≡ 8 }
-    requires stated { part core.old standing.now.area 18 ≡ state_bytes area.old.r area.old.cc }
+    requires stands { StandsWith core.old area.old standing.now }
     requires handles { Handles handler word }
     requires word { word < 65536 }
     requires room { pc ≤ 65538 }
-    ensures row { IsTrue result → Finished.Done (standing_machine core.new area.new standing.now) ≡ finished (standing_image core.old standing.now) (row_of (at_pc (standing_machine core.old area.old standing.now) pc) word (decode_of word)) }
+    ensures row { IsTrue result → IsRowDone (standing_machine core.old area.old standing.now) pc word (standing_machine core.new area.new standing.now) }
     ensures missed { result ≡ false → standing_machine core.new area.new standing.now ≡ standing_machine core.old area.old standing.now }
     ensures around { around core.new area.new standing.now ≡ around core.old area.old standing.now }
-    ensures stated { part core.new standing.now.area 18 ≡ state_bytes area.new.r area.new.cc }
+    ensures stands { StandsWith core.new area.new standing.now }
 {
     let r = area.r;
     let cc = area.cc;
@@ -175,16 +162,14 @@ fn attempt_steps(
     pc: usize,
     word: u32,
 ) -> bool
-    requires stands { StandsIn (length core.old) standing.now }
-    requires eight { length area.old.r ≡ 8 }
-    requires stated { part core.old standing.now.area 18 ≡ state_bytes area.old.r area.old.cc }
+    requires stands { StandsWith core.old area.old standing.now }
     requires handles { Handles handler word }
     requires word { word < 65536 }
     requires room { pc ≤ 65538 }
-    ensures row { IsTrue result → Finished.Done (standing_machine core.new area.new standing.now) ≡ finished (standing_image core.old standing.now) (row_of (at_pc (standing_machine core.old area.old standing.now) pc) word (decode_of word)) }
+    ensures row { IsTrue result → IsRowDone (standing_machine core.old area.old standing.now) pc word (standing_machine core.new area.new standing.now) }
     ensures image { result ≡ false → standing_image core.new standing.now ≡ standing_image core.old standing.now }
     ensures around { around core.new area.new standing.now ≡ around core.old area.old standing.now }
-    ensures stated { part core.new standing.now.area 18 ≡ state_bytes area.new.r area.new.cc }
+    ensures stands { StandsWith core.new area.new standing.now }
 {
     let mut near = Near {
         core,
