@@ -47,6 +47,39 @@ pub(crate) fn attempt(
     }
 }
 
+/// The instruction at PC, where the process is at hand, its word has a handler, and all that it reads and writes is there.
+/// Else nothing has changed.
+#[inline(always)]
+pub(crate) fn attempt_any(
+    core: &mut [u8],
+    area: &mut UArea,
+    standing: &Standing,
+    dispatch: &Dispatch,
+) -> bool
+    requires stands { 0 < standing.now.code_len → StandsIn (length core.old) standing.now }
+    requires eight { length area.old.r ≡ 8 }
+    requires stated { 0 < standing.now.code_len → part core.old standing.now.area 18 ≡ state_bytes area.old.r area.old.cc }
+    ensures near { IsTrue result → 0 < standing.now.code_len }
+    ensures done { IsTrue result → instr (standing_machine core.old area.old standing.now) ≡ stepped Outcome.Next (standing_machine core.new area.new standing.now) }
+    ensures missed { result ≡ false → 0 < standing.now.code_len → standing_machine core.new area.new standing.now ≡ standing_machine core.old area.old standing.now }
+    ensures far { result ≡ false → standing.now.code_len ≡ 0 → core.new ≡ core.old }
+    ensures far_area { result ≡ false → standing.now.code_len ≡ 0 → area.new ≡ area.old }
+    ensures around { 0 < standing.now.code_len → around core.new area.new standing.now ≡ around core.old area.old standing.now }
+    ensures stated { 0 < standing.now.code_len → part core.new standing.now.area 18 ≡ state_bytes area.new.r area.new.cc }
+    ensures size { length core.new ≡ length core.old }
+{
+    let pc = usize::from(reg(area, 7));
+    match program_word(core, standing, pc) {
+        Some(word) => {
+            let word = u32::from(word);
+            let handler = dispatch.handler(word);
+            attempt_frequent(core, area, standing, handler, pc + 2, word)
+                || attempt_other(core, area, standing, handler, pc + 2, word)
+        }
+        None => false,
+    }
+}
+
 // The row of a word, for the most frequent handlers.
 #[inline(always)]
 fn attempt_frequent(
