@@ -5,7 +5,9 @@
 #![tactic(auto)]
 
 ghost use Rattle.std.specs.Prelude.{◌≡◌, ◌+◌, ◌-◌, ◌*◌, ◌<◌, ◌≤◌, ℕ, length, replicate, slice_index, slice_set, IfOk};
+ghost use Rattle.std.specs.Borrow.{sem};
 ghost use Rattle.core_mem.specs.Bytes.{part, over, click_start};
+ghost use Rattle.core_mem.specs.Lent.{LendsBytes};
 
 use std::alloc::{AllocError, Global};
 use std::marker::Model;
@@ -51,6 +53,15 @@ impl Core {
         ensures { result.now ≡ self.now }
     {
         &self.bytes
+    }
+
+    /// All bytes, to change them.
+    #[inline(always)]
+    pub fn bytes_mut(&mut self) -> &mut [u8]
+        ensures* ends { sem 𝓛 (LendsBytes self.entry result) }
+        ensures bytes { result.now ≡ self.entry.now }
+    {
+        self.bytes.as_mut_slice()
     }
 
     /// The bytes of a click.

@@ -1,10 +1,11 @@
 -- A process at hand in core: its parts are bytes of core, and what its instructions leave of core and of its u area, decoded,
 -- is what is kept, with this image and these registers and codes.
-use Rattle.std.proofs.Common.{◌≡◌, ◌⊎◌, ℕ, ◌+◌, ◌-◌, ◌*◌, ◌<◌, ◌≤◌, inl, inr, Bool, true, false, List, ◌++◌, length, set, Option, refl, sym, ap, subst, ◌∙◌, arith}
+use Rattle.std.proofs.Common.{◌≡◌, ℕ, ◌+◌, ◌-◌, ◌<◌, ◌≤◌, inl, inr, Bool, true, false, List, ◌++◌, length, set, Option, refl, sym, ap, subst, ◌∙◌, arith}
 use Rattle.std.specs.Prelude.{IsTrue, replicate}
 use Rattle.std.proofs.lemmas.Bool.{cases_lt}
-use Rattle.std.proofs.lemmas.List.{length-append, set-get_or}
-use Rattle.v6_base.specs.Image.{Image, AreBytes, IsImage}
+use Rattle.std.specs.Vec.{with_items}
+use Rattle.std.proofs.lemmas.List.{length-append, set-get_or, with_items_is}
+use Rattle.v6_base.specs.Image.{Image, AreBytes}
 use Rattle.v6_base.proofs.Copies.{SameLengths}
 use Rattle.core_mem.specs.Bytes.{part}
 use Rattle.core_mem.proofs.Parts.{part-left, part-right, part-add}
@@ -12,7 +13,6 @@ use Rattle.u_area.specs.declared.area.UArea.{UArea}
 use Rattle.u_area.proofs.AreaLemmas.{one_area}
 use Rattle.map_fit.specs.declared.holes.Hole.{Hole}
 use Rattle.text_tab.specs.declared.row.TextRow.{TextRow}
-use Rattle.pdp_step.specs.declared.outcome.Outcome.{Outcome}
 use Rattle.pdp_step.specs.declared.outcome.Outcome.TheVariants.{Next}
 use Rattle.pdp_step.specs.Machine.{Machine}
 use Rattle.pdp_step.specs.Instruction.{Stepped, stepped, instr}
@@ -23,7 +23,7 @@ use Rattle.image_keep.specs.declared.standing.Standing.{Standing}
 use Rattle.image_keep.specs.declared.starts.Starts.{Starts}
 use Rattle.image_keep.specs.Area.{no_area}
 use Rattle.image_keep.specs.Areas.{area_at, AreAreas}
-use Rattle.image_keep.specs.Line.{line_of}
+use Rattle.image_keep.specs.Line.{Lists, line_of}
 use Rattle.image_keep.specs.Kept.{Kept, IsKept, HasImage, image_of, area_of, with_image, with_area}
 use Rattle.image_keep.specs.Memory.{Stock, place_at, kept_of, IsSound}
 use Rattle.image_keep.specs.Counts.{IsCounted}
@@ -32,9 +32,10 @@ use Rattle.image_keep.specs.Told.{AreTold}
 use Rattle.image_keep.specs.Inside.{stock_in, kept_in, AreImages}
 use Rattle.image_keep.specs.Starts.{AreStarts}
 use Rattle.image_keep.specs.Running.{IsFixed, with_state, state_bytes, machine_in, with_machine_in}
-use Rattle.image_keep.specs.Standing.{standing_image, StandsIn, Follows, IsNear}
+use Rattle.image_keep.specs.Standing.{standing_image, StandsIn}
 use Rattle.image_keep.specs.Near.{standing_machine, stack_end, Around, around}
-use Rattle.image_keep.proofs.Frames.{alive_image, image_back, area_back, with_image_area, with_image_same}
+use Rattle.image_keep.specs.Attempted.{IsAtHand, Attempted}
+use Rattle.image_keep.proofs.Frames.{alive_image, image_back, area_back, with_image_area}
 use Rattle.image_keep.proofs.Own.{with_line}
 use Rattle.image_keep.proofs.InPlan.{core_kept}
 use Rattle.image_keep.proofs.KeptForm.{kept_holds}
@@ -53,17 +54,6 @@ pub record AtHand (k : Kept) (s : ℕ) (f : Standing) (core : List ℕ) (u : UAr
   pub inside : 0 < f.code_len → StandsIn (length core) f
   pub stated : 0 < f.code_len → part core f.area 18 ≡ state_bytes u.r u.cc
   pub image : 0 < f.code_len → standing_image core f ≡ image_of k s
-
--- What an attempt at one instruction leaves of core and of the u area.
-pub record Attempted (f : Standing) (old new : List ℕ) (u w : UArea) (result : Bool) : Type 0 where
-  pub near : IsTrue result → 0 < f.code_len
-  pub done : IsTrue result → instr (standing_machine old u f) ≡ stepped Next (standing_machine new w f)
-  pub missed : result ≡ false → 0 < f.code_len → standing_machine new w f ≡ standing_machine old u f
-  pub far_core : result ≡ false → f.code_len ≡ 0 → new ≡ old
-  pub far_area : result ≡ false → f.code_len ≡ 0 → w ≡ u
-  pub around : 0 < f.code_len → around new w f ≡ around old u f
-  pub stated : 0 < f.code_len → part new f.area 18 ≡ state_bytes w.r w.cc
-  pub size : length new ≡ length old
 
 -- All else of the images is as it was.
 pub record OthersStay (a b : Inside) (s : ℕ) (w : UArea) : Type 0 where
@@ -316,3 +306,26 @@ module _ (a : Inside) (k : Kept) (f : Fixed) (view : kept_in a ≡ k) (h : AreIm
       | inl some ↦ at_work some
       | inr none ↦ far_away result refl (omega (arith, none))
     ]
+
+-- the same over a slice of the u areas
+pub at_hand_in : (a : Inside) (k : Kept) (f : Fixed) (given : List UArea) → kept_in a ≡ k → AreImages a → AreBytes (line_of a.memory) → IsFixed k f → given ≡ a.areas.items
+    → IsAtHand f.standing a.memory.core (area_at given f.slot)
+at_hand_in a k f given view h bytes fixed same =
+    let at : AtHand k f.slot f.standing a.memory.core (area_at a.areas.items f.slot) = at_hand a k f view h bytes fixed in
+    subst (λ (l : List UArea). IsAtHand f.standing a.memory.core (area_at l f.slot)) (sym same) (record { eight = at.eight; inside = at.inside; stated = at.stated })
+
+pub executed_in : (a : Inside) (k : Kept) (f : Fixed) (given areas : List UArea) (m : Lists) (result : Bool) → kept_in a ≡ k → AreImages a → AreBytes (line_of a.memory) → IsFixed k f → given ≡ a.areas.items → length areas ≡ a.areas.len
+    → Attempted f.standing a.memory.core m.core (area_at given f.slot) (area_at areas f.slot) result → m.swap ≡ a.memory.swap → areas ≡ set given f.slot (area_at areas f.slot)
+    → Executed (record a { memory = m; areas = with_items a.areas areas }) k f result
+executed_in a k f given areas m result view h bytes fixed same long did swap put =
+    let others : OthersStay a (record a { memory = m; areas = with_items a.areas areas }) f.slot (area_at areas f.slot) = record {
+      swap = swap;
+      core = refl;
+      rows = refl;
+      areas = with_items_is a.areas areas long ∙ put ∙ ap (λ (l : List UArea). set l f.slot (area_at areas f.slot)) same;
+      texts = refl;
+      core_map = refl;
+      swap_map = refl;
+    } in
+    executed a k f view h bytes fixed (record a { memory = m; areas = with_items a.areas areas }) (area_at areas f.slot) result others
+    (subst (λ (l : List UArea). Attempted f.standing a.memory.core m.core (area_at l f.slot) (area_at areas f.slot) result) same did)

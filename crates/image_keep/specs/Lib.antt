@@ -18,6 +18,7 @@ pub mod SharedTexts
 pub mod Starts
 pub mod Standing
 pub mod Near
+pub mod Attempted
 pub mod Running
 pub mod Holds
 pub mod Leaves

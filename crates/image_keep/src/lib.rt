@@ -9,6 +9,7 @@ mod areas;
 mod attempt;
 mod bytes;
 mod deposit;
+mod executing;
 mod finding;
 mod fork;
 mod growth;

@@ -3,11 +3,16 @@ ghost use Rattle.std.specs.Prelude.{◌≡◌, ◌⊎◌, ◌+◌, ◌*◌, ◌<
 ghost use Rattle.v6_base.specs.Words.{word_set};
 ghost use Rattle.core_mem.specs.Bytes.{part, over};
 ghost use Rattle.v6_base.specs.Image.{AreBytes};
+ghost use Rattle.image_keep.specs.Attempted.{IsAtHand, Attempted};
 ghost use Rattle.image_keep.specs.Line.{line_of};
 
+use crate::attempt::attempt;
+use crate::standing::Standing;
 use core_mem::Core;
+use pdp_decode::Dispatch;
 use std::alloc::{AllocError, Global};
 use std::marker::Model;
+use u_area::UArea;
 
 /// The bytes of core, and those of the swap area. Clicks are numbered from 0 on, first those of core.
 #[derive(Drop)]
@@ -342,6 +347,21 @@ impl Memory {
         ensures { result.now ≡ self.now.core }
     {
         self.core.as_slice()
+    }
+
+    /// An attempt at one instruction of a process that stands in core.
+    #[inline(always)]
+    pub(crate) fn attempt(
+        &mut self,
+        area: &mut UArea,
+        standing: &Standing,
+        dispatch: &Dispatch,
+    ) -> bool
+        requires { IsAtHand standing.now self.old.core area.old }
+        ensures did { Attempted standing.now self.old.core self.new.core area.old area.new result }
+        ensures swap { self.new.swap ≡ self.old.swap }
+    {
+        attempt(self.core.bytes_mut(), area, standing, dispatch)
     }
 
     /// The bytes of the swap area.

@@ -12,10 +12,9 @@ use Rattle.pdp_step.specs.Instruction.{Stepped, stepped, instr}
 use Rattle.image_keep.specs.declared.running.Fixed.{Fixed}
 use Rattle.image_keep.specs.Kept.{Kept, image_of, area_of, with_image, with_area}
 use Rattle.image_keep.specs.Lent.{Lent, left_of}
-use Rattle.image_keep.specs.Running.{IsFixed, with_state}
+use Rattle.image_keep.specs.Running.{IsFixed, machine_in, with_machine_in, with_state}
 use Rattle.image_keep.proofs.Frames.{with_image_area}
 use Rattle.image_keep.proofs.Reading.{starts_after}
-use Rattle.unix_core.specs.Parts.{machine_in, with_machine_in}
 use Rattle.unix_core.proofs.LoanLemmas.{lent_back}
 
 module _ (k lent now : Kept) (f : Fixed) (was is : ℕ) (a b : GName) (fixed : IsFixed k f) (begins : lent ≡ k) (slot : was ≡ f.slot)

@@ -10,7 +10,7 @@ use Rattle.pdp_step.specs.Machine.{Machine}
 use Rattle.pdp_step.specs.Instruction.{instr}
 use Rattle.pick_rules.specs.Choice.{settle}
 use Rattle.image_keep.specs.Kept.{IsKept, area_of}
-use Rattle.image_keep.specs.Running.{with_state}
+use Rattle.image_keep.specs.Running.{machine_in, with_machine_in, with_state}
 use Rattle.sys_procs.specs.declared.procs.Procs.{Procs}
 use Rattle.sys_procs.specs.Process.{Process}
 use Rattle.sys_procs.proofs.Alive.{put_here}
@@ -24,7 +24,7 @@ use Rattle.abstract_unix.specs.Calls.{resumed}
 use Rattle.abstract_unix.specs.Delivery.{ends_turn}
 use Rattle.abstract_unix.specs.Turn.{Turn, machine_of, with_machine, is_user, comes_to, instruction, begins_turn, turn, turn_of, slot_by, slot_of, settled_as, settled_after, turned}
 use Rattle.abstract_unix.specs.Runs.{Slot, event_of}
-use Rattle.unix_core.specs.Parts.{unix_of, system_at, machine_in, with_machine_in, IsReady, IsUser, HasStepped}
+use Rattle.unix_core.specs.Parts.{unix_of, system_at, IsReady, IsUser, HasStepped}
 use Rattle.abstract_unix.proofs.Owing.{some_within}
 use Rattle.unix_core.proofs.WorldLemmas.{ready_alive, slot_is}
 use Rattle.unix_core.proofs.PutLemmas.{IsLikeArea}

@@ -1,7 +1,6 @@
 -- How the parts of a kernel are the Unix and the board: the world of files and processes.
 use Rattle.std.specs.Prelude.{◌≡◌, ◌<◌, ℕ, min, Bool, true, false, if◌then◌else◌, List, map, Option, Some, None}
 use Rattle.pdp_step.specs.declared.outcome.Outcome.{Outcome}
-use Rattle.pdp_step.specs.Machine.{Machine}
 use Rattle.pdp_step.specs.Instruction.{instr}
 use Rattle.pick_rules.specs.declared.table.Table.{Table}
 use Rattle.pick_rules.specs.Choice.{chosen, settle}
@@ -13,9 +12,9 @@ use Rattle.pick_rules.specs.Logged.{Stop, logged, left_by}
 use Rattle.v6_base.specs.declared.entry.Place.TheVariants.{Core}
 use Rattle.image_keep.specs.Area.{sized_area}
 use Rattle.image_keep.specs.Places.{cleared}
-use Rattle.image_keep.specs.Kept.{Held, Kept, HasImage, image_of, area_of, with_image, with_area}
+use Rattle.image_keep.specs.Kept.{Held, Kept, HasImage}
 use Rattle.image_keep.specs.declared.running.Fixed.{Fixed}
-use Rattle.image_keep.specs.Running.{IsFixed, with_state}
+use Rattle.image_keep.specs.Running.{IsFixed}
 use Rattle.sys_procs.specs.World.{clock_of, processes_in, texts_in}
 use Rattle.sys_procs.specs.Agree.{board_of}
 use Rattle.sys_procs.specs.Handed.{AreProcs, IsMarked}
@@ -58,13 +57,6 @@ system_at w = record { unix = unix_of w; board = board_in w }
 -- what the next slot comes to
 abbrev pub turn_at : parts.World → Turn
 turn_at w = settled_after (slot_of (system_at w) w.procs.table.running)
-
--- what an instruction of a process works on, and what is kept of the process with what that has become
-abbrev pub machine_in : Kept → ℕ → Machine
-machine_in k s = record { r = (area_of k s).r; cc = (area_of k s).cc; image = image_of k s }
-
-abbrev pub with_machine_in : Kept → ℕ → Machine → Kept
-with_machine_in k s m = with_area (with_image k s m.image) s (with_state (area_of k s) m.r m.cc)
 
 -- what a turn comes to of which this is left, and which ends so
 abbrev pub turn_end : parts.World → ℕ → Ending → Turn

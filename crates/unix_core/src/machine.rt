@@ -6,13 +6,13 @@ ghost use Rattle.pdp_step.specs.Instruction.{instr};
 ghost use Rattle.pick_rules.specs.Choice.{chosen, settle};
 ghost use Rattle.pick_rules.specs.Effects.{Show};
 ghost use Rattle.pick_rules.specs.Logged.{logged};
-ghost use Rattle.image_keep.specs.Running.{IsFixed};
+ghost use Rattle.image_keep.specs.Running.{IsFixed, machine_in, with_machine_in};
 ghost use Rattle.abstract_unix.specs.declared.ends.Ends.TheVariants.{AtEnd};
 ghost use Rattle.abstract_unix.specs.Unix.{Unix, System, Started, process_of};
 ghost use Rattle.abstract_unix.specs.Endings.{is_early};
 ghost use Rattle.abstract_unix.specs.Turn.{turned, ticked_by, turned_by, ending_of, turn, turn_of, settled, settled_after, pass_of};
 ghost use Rattle.abstract_unix.specs.Outside.{calls, charged, mode_of, tick_entry, timed_area, is_user_mode, tick_of, with_key, key_lines, typed_of};
-ghost use Rattle.unix_core.specs.Parts.{unix_of, board_in, system_at, turn_at, turn_end, phase_of, machine_in, with_machine_in, is_over, IsGood, IsReady, IsUser, IsCovered, IsKernel, HasCome, HasStepped, Takes, delivers_where};
+ghost use Rattle.unix_core.specs.Parts.{unix_of, board_in, system_at, turn_at, turn_end, phase_of, is_over, IsGood, IsReady, IsUser, IsCovered, IsKernel, HasCome, HasStepped, Takes, delivers_where};
 
 use crate::delivery::{deliver_after, deliver_due};
 use crate::files::see_procs;

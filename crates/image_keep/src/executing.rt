@@ -1,0 +1,55 @@
+//! The process that executes instructions does one where it stands in core.
+ghost use Rattle.std.specs.Prelude.{◌≡◌, ◌<◌, IsTrue, false, length, slice_set};
+ghost use Rattle.pdp_step.specs.declared.outcome.Outcome.TheVariants.{Next};
+ghost use Rattle.pdp_step.specs.Instruction.{instr};
+ghost use Rattle.image_keep.specs.Areas.{area_at};
+ghost use Rattle.image_keep.specs.Attempted.{IsAtHand, Attempted};
+ghost use Rattle.image_keep.specs.Running.{IsFixed, machine_in, with_machine_in};
+
+use crate::images::Images;
+use crate::memory::Memory;
+use crate::running::Fixed;
+use crate::standing::Standing;
+use pdp_decode::Dispatch;
+use u_area::UArea;
+
+/// An attempt at one instruction of the process in a slot.
+#[inline(always)]
+fn attempt_in(
+    memory: &mut Memory,
+    areas: &mut [UArea],
+    s: usize,
+    standing: &Standing,
+    dispatch: &Dispatch,
+) -> bool
+    requires slot { s < length areas.old }
+    requires at_hand { IsAtHand standing.now memory.old.core (area_at areas.old s) }
+    ensures did { Attempted standing.now memory.old.core memory.new.core (area_at areas.old s) (area_at areas.new s) result }
+    ensures swap { memory.new.swap ≡ memory.old.swap }
+    ensures areas { areas.new ≡ slice_set areas.old s (area_at areas.new s) }
+    ensures long { length areas.new ≡ length areas.old }
+{
+    memory.attempt(&mut areas[s], standing, dispatch)
+}
+
+impl Images {
+    /// The process of which this is fixed does one instruction where it stands in core, if that is one that ends so: else
+    /// nothing has changed.
+    #[inline(always)]
+    pub fn execute_near(&mut self, fixed: &Fixed, dispatch: &Dispatch) -> bool
+        requires { IsFixed self.old fixed.now }
+        ensures outcome { IsTrue result → (instr (machine_in self.old fixed.now.slot)).outcome ≡ Next }
+        ensures done { IsTrue result → self.new ≡ with_machine_in self.old fixed.now.slot (instr (machine_in self.old fixed.now.slot)).machine }
+        ensures kept { result ≡ false → self.new ≡ self.old }
+        ensures fixed { IsFixed self.new fixed.now }
+    {
+        self.memory.see_bytes();
+        attempt_in(
+            &mut self.memory,
+            &mut self.areas,
+            fixed.slot as usize,
+            &fixed.standing,
+            dispatch,
+        )
+    }
+}
