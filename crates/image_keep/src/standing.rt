@@ -67,6 +67,7 @@ impl Standing {
             text_len: 0,
             code: 0,
             code_len: 0,
+            code_end: 0,
             base: 0,
             data: 0,
             data_len: 0,
@@ -74,6 +75,7 @@ impl Standing {
             stack_start: 0,
             stack: 0,
             odd: 1,
+            nought: 0,
         }
     }
 
@@ -88,16 +90,18 @@ impl Standing {
             return Standing::none();
         }
         let is_bare = starts.text_len == 0;
+        let code_len = if is_bare {
+            starts.data_len
+        } else {
+            starts.text_len
+        };
         Standing {
             area: starts.image - AREA_SIZE,
             text: starts.text,
             text_len: starts.text_len,
             code: if is_bare { starts.image } else { starts.text },
-            code_len: if is_bare {
-                starts.data_len
-            } else {
-                starts.text_len
-            },
+            code_len,
+            code_end: code_len,
             base: starts.base,
             data: starts.image,
             data_len: starts.data_len,
@@ -105,6 +109,7 @@ impl Standing {
             stack_start: starts.stack_start,
             stack: data_end.wrapping_sub(starts.stack_start),
             odd: 1,
+            nought: 0,
         }
     }
 
