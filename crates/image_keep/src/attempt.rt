@@ -8,10 +8,12 @@ ghost use Rattle.image_keep.specs.Running.{state_bytes};
 ghost use Rattle.image_keep.specs.Standing.{standing_image, StandsIn};
 ghost use Rattle.image_keep.specs.Near.{StandsWith, IsRowDone, standing_machine, around};
 
-use crate::near::Near;
-use crate::standing::{Standing, program_word, reg, set_state};
+use crate::near::processor;
+use crate::standing::{Standing, instruction_word, reg, set_state};
 use pdp_decode::{Dispatch, Handler};
-use pdp_step::{perform, perform_apart, perform_stepping};
+use pdp_step::{
+    perform, perform_any, perform_apart, perform_bytes, perform_extended, perform_stepping,
+};
 use u_area::UArea;
 
 /// The instruction at PC, where the process is at hand, its word has a handler, and all that it reads and writes is there.
@@ -36,19 +38,39 @@ pub(crate) fn attempt(
     ensures size { length core.new ≡ length core.old }
 {
     let pc = usize::from(reg(area, 7));
-    match program_word(core, standing, pc) {
-        Some(word) => {
-            let word = u32::from(word);
-            let handler = dispatch.handler(word);
-            attempt_frequent(core, area, standing, handler, pc + 2, word)
-                || attempt_other(core, area, standing, handler, pc + 2, word)
-        }
+    match instruction_word(core, standing, pc) {
+        Some(word) => attempt_row(core, area, standing, dispatch.handler(word), pc + 2, word),
         None => false,
     }
 }
 
-/// The instruction at PC, where the process is at hand, its word has a handler, and all that it reads and writes is there.
-/// Else nothing has changed.
+// The row of a word by its handler. The rows stand in four functions, each of which the compiler puts here.
+#[inline(always)]
+fn attempt_row(
+    core: &mut [u8],
+    area: &mut UArea,
+    standing: &Standing,
+    handler: Handler,
+    pc: usize,
+    word: u32,
+) -> bool
+    requires stands { StandsWith core.old area.old standing.now }
+    requires handles { Handles handler word }
+    requires word { word < 65536 }
+    requires room { pc ≤ 65538 }
+    ensures row { IsTrue result → IsRowDone (standing_machine core.old area.old standing.now) pc word (standing_machine core.new area.new standing.now) }
+    ensures missed { result ≡ false → standing_machine core.new area.new standing.now ≡ standing_machine core.old area.old standing.now }
+    ensures around { around core.new area.new standing.now ≡ around core.old area.old standing.now }
+    ensures stands { StandsWith core.new area.new standing.now }
+{
+    let mut p = processor(core, area, standing);
+    perform(&mut p, handler, pc, word).is_ok()
+        || perform_bytes(&mut p, handler, pc, word).is_ok()
+        || perform_extended(&mut p, handler, pc, word).is_ok()
+        || perform_apart(&mut p, handler, pc, word).is_ok()
+}
+
+/// The same for an instruction whose handler has no such row, and for one without a handler.
 #[inline(always)]
 pub(crate) fn attempt_any(
     core: &mut [u8],
@@ -69,96 +91,18 @@ pub(crate) fn attempt_any(
     ensures size { length core.new ≡ length core.old }
 {
     let pc = usize::from(reg(area, 7));
-    match program_word(core, standing, pc) {
+    match instruction_word(core, standing, pc) {
         Some(word) => {
-            let word = u32::from(word);
-            let handler = dispatch.handler(word);
-            attempt_frequent(core, area, standing, handler, pc + 2, word)
-                || attempt_other(core, area, standing, handler, pc + 2, word)
+            attempt_stepping(core, area, standing, dispatch.handler(word), pc + 2, word)
+                || attempt_modes(core, area, standing, pc + 2, word)
         }
         None => false,
     }
 }
 
-// The row of a word, for the most frequent handlers.
-#[inline(always)]
-fn attempt_frequent(
-    core: &mut [u8],
-    area: &mut UArea,
-    standing: &Standing,
-    handler: Handler,
-    pc: usize,
-    word: u32,
-) -> bool
-    requires stands { StandsWith core.old area.old standing.now }
-    requires handles { Handles handler word }
-    requires word { word < 65536 }
-    requires room { pc ≤ 65538 }
-    ensures row { IsTrue result → IsRowDone (standing_machine core.old area.old standing.now) pc word (standing_machine core.new area.new standing.now) }
-    ensures missed { result ≡ false → standing_machine core.new area.new standing.now ≡ standing_machine core.old area.old standing.now }
-    ensures around { around core.new area.new standing.now ≡ around core.old area.old standing.now }
-    ensures stands { StandsWith core.new area.new standing.now }
-{
-    let mut near = Near {
-        core,
-        area,
-        standing,
-    };
-    perform(&mut near, handler, pc, word).is_ok()
-}
-
-// The row of a word, for the other handlers. It stands out of line, to keep the frequent ones small.
-#[inline(never)]
-fn attempt_other(
-    core: &mut [u8],
-    area: &mut UArea,
-    standing: &Standing,
-    handler: Handler,
-    pc: usize,
-    word: u32,
-) -> bool
-    requires stands { StandsWith core.old area.old standing.now }
-    requires handles { Handles handler word }
-    requires word { word < 65536 }
-    requires room { pc ≤ 65538 }
-    ensures row { IsTrue result → IsRowDone (standing_machine core.old area.old standing.now) pc word (standing_machine core.new area.new standing.now) }
-    ensures missed { result ≡ false → standing_machine core.new area.new standing.now ≡ standing_machine core.old area.old standing.now }
-    ensures around { around core.new area.new standing.now ≡ around core.old area.old standing.now }
-    ensures stands { StandsWith core.new area.new standing.now }
-{
-    attempt_apart(core, area, standing, handler, pc, word)
-        || attempt_stepping(core, area, standing, handler, pc, word)
-}
-
-// The row of a word, for the less frequent handlers.
-#[inline(always)]
-fn attempt_apart(
-    core: &mut [u8],
-    area: &mut UArea,
-    standing: &Standing,
-    handler: Handler,
-    pc: usize,
-    word: u32,
-) -> bool
-    requires stands { StandsWith core.old area.old standing.now }
-    requires handles { Handles handler word }
-    requires word { word < 65536 }
-    requires room { pc ≤ 65538 }
-    ensures row { IsTrue result → IsRowDone (standing_machine core.old area.old standing.now) pc word (standing_machine core.new area.new standing.now) }
-    ensures missed { result ≡ false → standing_machine core.new area.new standing.now ≡ standing_machine core.old area.old standing.now }
-    ensures around { around core.new area.new standing.now ≡ around core.old area.old standing.now }
-    ensures stands { StandsWith core.new area.new standing.now }
-{
-    let mut near = Near {
-        core,
-        area,
-        standing,
-    };
-    perform_apart(&mut near, handler, pc, word).is_ok()
-}
-
 // The row of a word whose source steps before the destination is located. Where it misses, the registers are put back.
 #[inline(always)]
+#[tactic(auto, using(crate::proofs::StandingState::image_same))]
 fn attempt_stepping(
     core: &mut [u8],
     area: &mut UArea,
@@ -178,16 +122,16 @@ fn attempt_stepping(
 {
     let r = area.r;
     let cc = area.cc;
-    if attempt_steps(core, area, standing, handler, pc, word) {
+    if step_row(core, area, standing, handler, pc, word) {
         return true;
     }
-    set_state(core, area, standing, &r, cc);
+    set_state(core, area, standing.area, &r, cc);
     false
 }
 
 // The same with the registers as they were by then.
 #[inline(always)]
-fn attempt_steps(
+fn step_row(
     core: &mut [u8],
     area: &mut UArea,
     standing: &Standing,
@@ -204,10 +148,48 @@ fn attempt_steps(
     ensures around { around core.new area.new standing.now ≡ around core.old area.old standing.now }
     ensures stands { StandsWith core.new area.new standing.now }
 {
-    let mut near = Near {
-        core,
-        area,
-        standing,
-    };
-    perform_stepping(&mut near, handler, pc, word).is_ok()
+    let mut p = processor(core, area, standing);
+    perform_stepping(&mut p, handler, pc, word).is_ok()
+}
+
+// The row of a word over any addressing modes, likewise.
+#[inline(always)]
+#[tactic(auto, using(crate::proofs::StandingState::image_same))]
+fn attempt_modes(
+    core: &mut [u8],
+    area: &mut UArea,
+    standing: &Standing,
+    pc: usize,
+    word: u32,
+) -> bool
+    requires stands { StandsWith core.old area.old standing.now }
+    requires word { word < 65536 }
+    requires room { pc ≤ 65538 }
+    ensures row { IsTrue result → IsRowDone (standing_machine core.old area.old standing.now) pc word (standing_machine core.new area.new standing.now) }
+    ensures missed { result ≡ false → standing_machine core.new area.new standing.now ≡ standing_machine core.old area.old standing.now }
+    ensures around { around core.new area.new standing.now ≡ around core.old area.old standing.now }
+    ensures stands { StandsWith core.new area.new standing.now }
+{
+    let r = area.r;
+    let cc = area.cc;
+    if modes_row(core, area, standing, pc, word) {
+        return true;
+    }
+    set_state(core, area, standing.area, &r, cc);
+    false
+}
+
+// The same with the registers as they were by then.
+#[inline(always)]
+fn modes_row(core: &mut [u8], area: &mut UArea, standing: &Standing, pc: usize, word: u32) -> bool
+    requires stands { StandsWith core.old area.old standing.now }
+    requires word { word < 65536 }
+    requires room { pc ≤ 65538 }
+    ensures row { IsTrue result → IsRowDone (standing_machine core.old area.old standing.now) pc word (standing_machine core.new area.new standing.now) }
+    ensures image { result ≡ false → standing_image core.new standing.now ≡ standing_image core.old standing.now }
+    ensures around { around core.new area.new standing.now ≡ around core.old area.old standing.now }
+    ensures stands { StandsWith core.new area.new standing.now }
+{
+    let mut p = processor(core, area, standing);
+    perform_any(&mut p, pc, word).is_ok()
 }
