@@ -1,12 +1,11 @@
 -- What instructions leave of a process where it stands: all that is kept is as it was, but for its image, its registers and its
 -- codes.
-use Rattle.std.proofs.Common.{◌≡◌, ◌⊎◌, ℕ, ◌+◌, ◌-◌, ◌*◌, ◌%◌, ◌<◌, ◌≤◌, inl, inr, List, [], ◌∷◌, ◌++◌, length, take, drop, refl, sym, ap, subst, ◌∙◌, arith, length-drop}
-use Rattle.std.proofs.lemmas.List.{take_all, length-append}
+use Rattle.std.proofs.Common.{◌≡◌, ◌⊎◌, ℕ, ◌+◌, ◌-◌, ◌*◌, ◌<◌, ◌≤◌, inl, inr, List, ◌++◌, length, take, drop, sym, ap, subst, ◌∙◌, arith, length-drop}
+use Rattle.std.proofs.lemmas.List.{take_all}
 use Rattle.v6_base.specs.Image.{Image}
 use Rattle.v6_base.proofs.Copies.{SameLengths}
 use Rattle.core_mem.specs.Bytes.{part, over}
 use Rattle.core_mem.proofs.Parts.{length-part, length-over, part-add, part-over_same, part-over_apart, take-over, drop-over, over-self, part_below, part_above}
-use Rattle.v6_base.specs.declared.entry.Place.{Place}
 use Rattle.u_area.specs.declared.area.UArea.{UArea}
 use Rattle.u_area.specs.Area.{fetched, IsStored}
 use Rattle.image_keep.specs.declared.row.Row.{Row}
@@ -82,7 +81,7 @@ image_landed old new f r cc m s l is =
     let t : m.text ≡ part new f.text f.text_len = ap (λ (i : Image). i.text) (sym is) ∙ sym (text_same old new f r cc s l) in
     λ j. record { text = t j; «data» = part new f.data f.data_len; stack = part new f.data_end (65536 - f.stack_start) }
 
-lengths_same : (old new : List ℕ) (f : Standing) (m : Image) → StandsIn (length old) f → length new ≡ length old → standing_image old f ≡ m → SameLengths m (standing_image new f)
+pub lengths_same : (old new : List ℕ) (f : Standing) (m : Image) → StandsIn (length old) f → length new ≡ length old → standing_image old f ≡ m → SameLengths m (standing_image new f)
 unfolding standing_image
 lengths_same old new f m s size is =
     let n : StandsIn (length new) f = subst (λ i. StandsIn i f) (sym size) s in

@@ -1,10 +1,11 @@
 -- A process at hand in core: its parts are bytes of core, and what its instructions leave of core and of its u area, decoded,
 -- is what is kept, with this image and these registers and codes.
-use Rattle.std.proofs.Common.{◌≡◌, ◌⊎◌, ℕ, ◌+◌, ◌-◌, ◌*◌, ◌<◌, ◌≤◌, inl, inr, Bool, true, false, List, ◌++◌, length, set, Option, refl, sym, ap, subst, ◌∙◌, arith}
+use Rattle.std.proofs.Common.{◌≡◌, ℕ, ◌+◌, ◌-◌, ◌<◌, ◌≤◌, inl, inr, Bool, true, false, List, ◌++◌, length, set, Option, refl, sym, ap, subst, ◌∙◌, arith}
 use Rattle.std.specs.Prelude.{IsTrue, replicate}
 use Rattle.std.proofs.lemmas.Bool.{cases_lt}
-use Rattle.std.proofs.lemmas.List.{length-append, set-get_or}
-use Rattle.v6_base.specs.Image.{Image, AreBytes, IsImage}
+use Rattle.std.specs.Vec.{with_items}
+use Rattle.std.proofs.lemmas.List.{length-append, set-get_or, with_items_is}
+use Rattle.v6_base.specs.Image.{Image, AreBytes}
 use Rattle.v6_base.proofs.Copies.{SameLengths}
 use Rattle.core_mem.specs.Bytes.{part}
 use Rattle.core_mem.proofs.Parts.{part-left, part-right, part-add}
@@ -12,7 +13,6 @@ use Rattle.u_area.specs.declared.area.UArea.{UArea}
 use Rattle.u_area.proofs.AreaLemmas.{one_area}
 use Rattle.map_fit.specs.declared.holes.Hole.{Hole}
 use Rattle.text_tab.specs.declared.row.TextRow.{TextRow}
-use Rattle.pdp_step.specs.declared.outcome.Outcome.{Outcome}
 use Rattle.pdp_step.specs.declared.outcome.Outcome.TheVariants.{Next}
 use Rattle.pdp_step.specs.Machine.{Machine}
 use Rattle.pdp_step.specs.Instruction.{Stepped, stepped, instr}
@@ -23,7 +23,7 @@ use Rattle.image_keep.specs.declared.standing.Standing.{Standing}
 use Rattle.image_keep.specs.declared.starts.Starts.{Starts}
 use Rattle.image_keep.specs.Area.{no_area}
 use Rattle.image_keep.specs.Areas.{area_at, AreAreas}
-use Rattle.image_keep.specs.Line.{line_of}
+use Rattle.image_keep.specs.Line.{Lists, line_of}
 use Rattle.image_keep.specs.Kept.{Kept, IsKept, HasImage, image_of, area_of, with_image, with_area}
 use Rattle.image_keep.specs.Memory.{Stock, place_at, kept_of, IsSound}
 use Rattle.image_keep.specs.Counts.{IsCounted}
@@ -32,16 +32,16 @@ use Rattle.image_keep.specs.Told.{AreTold}
 use Rattle.image_keep.specs.Inside.{stock_in, kept_in, AreImages}
 use Rattle.image_keep.specs.Starts.{AreStarts}
 use Rattle.image_keep.specs.Running.{IsFixed, with_state, state_bytes, machine_in, with_machine_in}
-use Rattle.image_keep.specs.Standing.{standing_image, StandsIn, Follows, IsNear}
+use Rattle.image_keep.specs.Standing.{standing_image, StandsIn}
 use Rattle.image_keep.specs.Near.{standing_machine, stack_end, Around, around}
-use Rattle.image_keep.specs.Attempted.{Attempted}
-use Rattle.image_keep.proofs.Frames.{alive_image, image_back, area_back, with_image_area, with_image_same}
+use Rattle.image_keep.specs.Attempted.{IsAtHand, Attempted}
+use Rattle.image_keep.proofs.Frames.{alive_image, image_back, area_back, with_image_area}
 use Rattle.image_keep.proofs.Own.{with_line}
 use Rattle.image_keep.proofs.InPlan.{core_kept}
 use Rattle.image_keep.proofs.KeptForm.{kept_holds}
 use Rattle.image_keep.proofs.Storing.{told_image}
 use Rattle.image_keep.proofs.Told.{state_told}
-use Rattle.image_keep.proofs.AreasKept.{area_known, image_low, areas_imaged, areas_described}
+use Rattle.image_keep.proofs.AreasKept.{seat, area_known, image_low, areas_imaged, areas_described}
 use Rattle.image_keep.proofs.Reading.{starts_after}
 use Rattle.image_keep.proofs.Registers.{Stands, stands, state_there, state_eight, starts_described}
 use Rattle.image_keep.proofs.Landing.{StandsAs, LeftAround, Landed, landed, lengths_same}
@@ -90,6 +90,8 @@ core_stands core size f i small text stack = record {
   data_even = i.data_even;
   stack_even = i.stack_even;
   odd = i.odd;
+  nought = i.nought;
+  code_end = i.code_end;
   stack = i.stack;
   bare = i.bare;
   pure = i.pure;
@@ -274,30 +276,30 @@ module _ (a : Inside) (k : Kept) (f : Fixed) (view : kept_in a ≡ k) (h : AreIm
           subst (λ j. AreStarts j f.slot f.starts) (sym now_kept) (starts_described (with_image k f.slot m) f.slot f.starts (with_state (area_of k f.slot) w.r w.cc) (starts_after k f.slot f.starts m fixed same))
 
       its_step : IsTrue result → instr (machine_in k f.slot) ≡ stepped Next (standing_machine b.memory.core w f.standing)
-      its_step yes = ap instr (sym (its_machine some)) ∙ did.done yes
+      its_step well = ap instr (sym (its_machine some)) ∙ did.done well
 
       at_work : Executed b k f result
       at_work = record {
         images = left_images done_landed.sound now_told now_areas;
-        outcome = λ yes. ap (λ (p : Stepped). p.outcome) (its_step yes);
-        done = λ yes. now_kept ∙ ap (λ (p : Stepped). with_machine_in k f.slot p.machine) (sym (its_step yes));
-        kept = λ no. now_kept ∙ ap (with_machine_in k f.slot) (did.missed no some ∙ its_machine some) ∙ machine_back k f.slot;
+        outcome = λ well. ap (λ (p : Stepped). p.outcome) (its_step well);
+        done = λ well. now_kept ∙ ap (λ (p : Stepped). with_machine_in k f.slot p.machine) (sym (its_step well));
+        kept = λ ill. now_kept ∙ ap (with_machine_in k f.slot) (did.missed ill some ∙ its_machine some) ∙ machine_back k f.slot;
         fixed = now_fixed;
       }
 
     far_away : (r : Bool) → result ≡ r → f.standing.code_len ≡ 0 → Executed b k f result
-    far_away true yes none = (let some = did.near yes in absurd (omega (arith, some, none)))
-    far_away false no none =
-        let same : b.memory.core ≡ a.memory.core = did.far_core no none in
+    far_away true well none = (let some = did.near well in absurd (omega (arith, some, none)))
+    far_away false ill none =
+        let same : b.memory.core ≡ a.memory.core = did.far_core ill none in
         let stays : stock_in b ≡ stock_in a = its_stock ∙ ap (λ (p : List ℕ). with_line (stock_in a) (p ++ a.memory.swap)) same in
         let kept : kept_in b ≡ kept_in a = ap kept_of stays in
-        let areas : b.areas.items ≡ a.areas.items = others.areas ∙ ap (set a.areas.items f.slot) (did.far_area no none) ∙ set-get_or a.areas.items f.slot no_area in
+        let areas : b.areas.items ≡ a.areas.items = others.areas ∙ ap (set a.areas.items f.slot) (did.far_area ill none) ∙ set-get_or a.areas.items f.slot no_area in
         record {
           images = left_images (subst (λ (p : List ℕ). IsSound (with_line (stock_in a) (p ++ a.memory.swap))) (sym same) h.sound) (subst AreTold (sym kept) h.told)
               (subst (λ (l : List UArea). AreAreas l (kept_in b).slots) (sym areas) (subst (λ (j : Kept). AreAreas a.areas.items j.slots) (sym kept) h.areas));
-          outcome = λ yes. absurd (cc (yes, no));
-          done = λ yes. absurd (cc (yes, no));
-          kept = λ no. kept ∙ view;
+          outcome = λ well. absurd (cc (well, ill));
+          done = λ well. absurd (cc (well, ill));
+          kept = λ ill. kept ∙ view;
           fixed = subst (λ j. AreStarts j f.slot f.starts) (sym (kept ∙ view)) fixed;
         }
 
@@ -306,3 +308,36 @@ module _ (a : Inside) (k : Kept) (f : Fixed) (view : kept_in a ≡ k) (h : AreIm
       | inl some ↦ at_work some
       | inr none ↦ far_away result refl (omega (arith, none))
     ]
+
+-- the same over a slice of the u areas, by an index
+pub at_hand_in : (a : Inside) (k : Kept) (f : Fixed) (given : List UArea) → kept_in a ≡ k → AreImages a → AreBytes (line_of a.memory) → IsFixed k f → given ≡ a.areas.items
+    → IsAtHand f.standing a.memory.core (area_at given f.index)
+at_hand_in a k f given view h bytes fixed same =
+    let at : AtHand k f.slot f.standing a.memory.core (area_at a.areas.items f.slot) = at_hand a k f view h bytes fixed in
+    let there : IsAtHand f.standing a.memory.core (area_at a.areas.items f.slot) = record { eight = at.eight; inside = at.inside; stated = at.stated } in
+    subst (λ n. IsAtHand f.standing a.memory.core (area_at given n)) (sym f.indexed) (subst (λ (l : List UArea). IsAtHand f.standing a.memory.core (area_at l f.slot)) (sym same) there)
+
+pub executed_in : (a : Inside) (k : Kept) (f : Fixed) (given areas : List UArea) (m : Lists) (result : Bool) → kept_in a ≡ k → AreImages a → AreBytes (line_of a.memory) → IsFixed k f → given ≡ a.areas.items → length areas ≡ a.areas.len
+    → Attempted f.standing a.memory.core m.core (area_at given f.index) (area_at areas f.index) result → m.swap ≡ a.memory.swap → areas ≡ set given f.index (area_at areas f.index)
+    → Executed (record a { memory = m; areas = with_items a.areas areas }) k f result
+executed_in a k f given areas m result view h bytes fixed same long did swap put =
+    let its : areas ≡ set given f.slot (area_at areas f.slot) = subst (λ n. areas ≡ set given n (area_at areas n)) f.indexed put in
+    let others : OthersStay a (record a { memory = m; areas = with_items a.areas areas }) f.slot (area_at areas f.slot) = record {
+      swap = swap;
+      core = refl;
+      rows = refl;
+      areas = with_items_is a.areas areas long ∙ its ∙ ap (λ (l : List UArea). set l f.slot (area_at areas f.slot)) same;
+      texts = refl;
+      core_map = refl;
+      swap_map = refl;
+    } in
+    executed a k f view h bytes fixed (record a { memory = m; areas = with_items a.areas areas }) (area_at areas f.slot) result others
+    (subst (λ (l : List UArea). Attempted f.standing a.memory.core m.core (area_at l f.slot) (area_at areas f.slot) result) same
+    (subst (λ n. Attempted f.standing a.memory.core m.core (area_at given n) (area_at areas n) result) f.indexed did))
+
+-- the index is one of a u area
+pub seat_in : (a : Inside) (k : Kept) (f : Fixed) → kept_in a ≡ k → AreImages a → IsFixed k f → f.index < length a.areas.items
+seat_in a k f view h fixed =
+    let low : f.slot < 50 = image_low (stock_in a) k f.slot view h.sound h.counted (alive_image k f.slot fixed.alive) in
+    let at : f.slot < length a.areas.items = seat a.areas.items (kept_in a).slots f.slot h.areas low in
+    subst (λ n. n < length a.areas.items) (sym f.indexed) at

@@ -1,5 +1,5 @@
 -- What holds of the texts that are kept.
-use Rattle.std.proofs.Common.{◌≡◌, ◌∙◌, ℕ, ◌<◌, ◌≤◌, ◌&&◌, inl, inr, Bool, true, false, cond, List, length, count_by, Option, Some, None, IsSome, refl, sym, ap, subst, arith}
+use Rattle.std.proofs.Common.{◌≡◌, ◌∙◌, ℕ, ◌<◌, ◌≤◌, ◌&&◌, inl, inr, true, List, length, count_by, Option, Some, None, IsSome, refl, sym, ap, subst, arith}
 use Rattle.std.proofs.lemmas.Bool.{cases_lt, eq-eqb}
 use Rattle.std.proofs.lemmas.List.{get_or_past}
 use Rattle.v6_base.specs.declared.entry.Place.TheVariants.{Core, Swap}
@@ -8,7 +8,7 @@ use Rattle.text_tab.specs.Table.{AreTexts, text_at}
 use Rattle.image_keep.specs.declared.row.State.{State}
 use Rattle.image_keep.specs.declared.row.State.TheVariants as state
 use Rattle.image_keep.specs.declared.row.Row.{Row}
-use Rattle.image_keep.specs.Kept.{Keeping, Kept, Shared, shared, text_of, keeping}
+use Rattle.image_keep.specs.Kept.{Kept, Shared, shared}
 use Rattle.image_keep.specs.Memory.{Stock, no_row, row_at, text_in, text_for, keeping_by, shared_in, kept_of}
 use Rattle.image_keep.specs.Counts.{IsCounted, is_text, is_in_core, has_text, has_loaded}
 use Rattle.image_keep.specs.SharedTexts.{is_loaded, IsTextOfSlot, AreShared}

@@ -1,10 +1,10 @@
 -- What stands in core of a process: words and bytes of its image, at their places.
-use Rattle.std.proofs.Common.{◌≡◌, ℕ, ◌+◌, ◌-◌, ◌*◌, ◌/◌, ◌%◌, ◌<◌, ◌≤◌, ◌⊎◌, inl, inr, Bool, true, false, nat_lt, nat_le, ◌&&◌, if◌then◌else◌, le-ltb, lt-ltb, le-leb, List, [], ◌∷◌, length, take, drop, slice_index, slice_set, set, refl, sym, ap, subst, ◌∙◌, arith, Ok, Err}
+use Rattle.std.proofs.Common.{◌≡◌, ℕ, ◌+◌, ◌-◌, ◌*◌, ◌/◌, ◌%◌, ◌<◌, ◌≤◌, ◌⊎◌, inl, inr, Bool, true, false, nat_lt, nat_le, ◌&&◌, if◌then◌else◌, le-ltb, lt-ltb, le-leb, List, length, take, drop, slice_index, set, refl, sym, ap, ◌∙◌, arith, Ok}
 use Rattle.std.proofs.lemmas.Bool.{cases_lt}
 use Rattle.std.proofs.lemmas.List.{get_or-take, get_or-drop, drop-set-lt, drop-set-add, take-set-le, length-set}
 use Rattle.v6_base.specs.declared.named.Named.{Named}
 use Rattle.v6_base.specs.declared.named.Named.TheVariants.{InText, InData, InStack, Nothing}
-use Rattle.v6_base.specs.Image.{Image, named, named_by, data_base}
+use Rattle.v6_base.specs.Image.{named, named_by, data_base}
 use Rattle.v6_base.specs.Access.{load_byte, load_word, store_byte, store_word}
 use Rattle.v6_base.specs.Words.{next_byte, word_set}
 use Rattle.v6_base.proofs.Cuts.{store_word_by}

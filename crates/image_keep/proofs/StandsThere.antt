@@ -1,5 +1,5 @@
 -- Where the parts of an image start, it stands as what is kept says.
-use Rattle.std.proofs.Common.{◌≡◌, ◌≢◌, ◌⊎◌, ℕ, ◌+◌, ◌-◌, ◌*◌, ◌/◌, ◌%◌, ◌<◌, ◌≤◌, ◌==◌, inl, inr, cond, Bool, true, false, Option, Some, None, List, [], length, refl, sym, ap, subst, ◌∙◌, arith}
+use Rattle.std.proofs.Common.{◌≡◌, ◌⊎◌, ℕ, ◌+◌, ◌-◌, ◌*◌, ◌/◌, ◌%◌, ◌<◌, ◌≤◌, ◌==◌, inl, inr, cond, Bool, true, false, Option, Some, None, List, [], length, refl, sym, ap, subst, ◌∙◌, arith}
 use Rattle.std.proofs.lemmas.Bool.{eqb-false}
 use Rattle.v6_base.specs.declared.entry.Place.{Place}
 use Rattle.v6_base.specs.Image.{Image, nseg, IsImage, data_base}
@@ -12,10 +12,10 @@ use Rattle.image_keep.specs.declared.row.State.TheVariants as state
 use Rattle.image_keep.specs.declared.starts.Starts.{Starts}
 use Rattle.image_keep.specs.declared.standing.Standing.{Standing}
 use Rattle.image_keep.specs.Kept.{Kept, image_of, text_of, shared}
-use Rattle.image_keep.specs.Memory.{Stock, row_at, swap_at, place_at, clicks_in, text_in, text_for, shared_in, kept_of, out_spot, in_spot, RowOf, OutOf, InOf, IsSound}
+use Rattle.image_keep.specs.Memory.{Stock, row_at, swap_at, place_at, clicks_in, text_in, text_for, shared_in, kept_of, out_spot, in_spot, OutOf, InOf, IsSound}
 use Rattle.image_keep.specs.Counts.{IsCounted}
 use Rattle.image_keep.specs.Starts.{AreStarts, text_start, shared_start}
-use Rattle.image_keep.specs.Standing.{standing_image, StandsIn, Follows}
+use Rattle.image_keep.specs.Standing.{standing_image, Follows}
 use Rattle.image_keep.proofs.Writes.{IsOff}
 use Rattle.image_keep.proofs.Own.{own_off}
 use Rattle.image_keep.proofs.Places.{shared_at}
@@ -139,6 +139,8 @@ stands_as v k s x f view h c formed a g =
         data_even = omega (arith, dlen, dc);
         stack_even = omega (arith, ss, xs, sc);
         odd = g.odd;
+        nought = g.nought;
+        code_end = g.code_end;
         stack = g.stack;
         bare = g.bare;
         pure = g.pure;

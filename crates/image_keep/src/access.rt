@@ -140,7 +140,14 @@ impl Images {
         let text = start_of_text(&self.texts, self.core, row.text);
         let image = 64 * place_click(self.core, place_of(row)) + 1024;
         let clicks = clicks_of_text(&self.texts, row.text);
-        starts_at(self.core, text, image, clicks, row.data_size, row.stack_size)
+        starts_at(
+            self.core,
+            text,
+            image,
+            clicks,
+            row.data_size,
+            row.stack_size,
+        )
     }
 
     /// What an address of a slot's image names.

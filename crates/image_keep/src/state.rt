@@ -13,7 +13,7 @@ use u_area::{AREA_SIZE, PS, REGISTERS, UArea, UMODE};
 use v6_base::Slot;
 
 /// The bytes of the registers and of the processor status word.
-const STATE_SIZE: usize = 18;
+pub(crate) const STATE_SIZE: usize = 18;
 
 /// The bytes with which a u area begins.
 #[inline(always)]
@@ -46,6 +46,7 @@ impl Images {
         let starts = self.starts(s);
         Fixed {
             slot: s,
+            index: s as usize,
             starts,
             standing: Standing::of(&starts),
         }

@@ -1,16 +1,19 @@
 -- What is known of each slot stays what the slots have.
 use Rattle.std.proofs.Common.{◌≡◌, ◌<◌, ℕ, zero, suc, Bool, true, false, List, length, get_or, set, replicate, Option, Some, None, refl, sym, ap, subst, ◌∙◌}
+use Rattle.std.specs.Prelude.{IsTrue}
 use Rattle.std.proofs.lemmas.List.{map-set, get_or-map, length-map}
 use Rattle.v6_base.specs.declared.entry.Place.{Place}
 use Rattle.v6_base.specs.Image.{Image}
 use Rattle.v6_base.specs.Access.{with_byte, image_after}
 use Rattle.u_area.specs.declared.area.UArea.{UArea}
+use Rattle.pdp_step.specs.Machine.{Machine}
 use Rattle.image_keep.specs.Kept.{Held, Keeping, Nothing, Alive, Grave, Kept, keeping, with_keeping, imaged, described, with_image, with_area, image_of, area_of, text_of, no_users, HasImage, HasGrave}
 use Rattle.image_keep.specs.Lent.{left_of}
 use Rattle.image_keep.specs.Deposits.{with_byte_of, IsPut}
 use Rattle.image_keep.specs.Places.{with_image_at, with_grave_at}
 use Rattle.image_keep.specs.Moves.{with_image_moved, forked_at}
-use Rattle.image_keep.proofs.Frames.{after, keeping_back}
+use Rattle.image_keep.specs.Running.{with_machine_in}
+use Rattle.image_keep.proofs.Frames.{after, keeping_back, left_image}
 use Rattle.image_keep.proofs.PlaceFrames.{bare_moved, bare_forked}
 use Rattle.part_rows.specs.declared.kind.Kind.{Kind}
 use Rattle.part_rows.specs.declared.kind.Kind.TheVariants as kind
@@ -167,5 +170,20 @@ pub plain_deposit : (k w : Kept) (swap : Bool) (at b : ℕ) (r : Bool) → k.use
 unfolding with_image with_byte_of
 plain_deposit k w swap at b true plain put same = ap (λ v. v.users) (put refl).3 ∙ plain
 plain_deposit k w swap at b false plain put same = ap (λ v. v.users) (same refl) ∙ plain
+
+-- an instruction is done, or nothing
+tied_machine : (kinds : List Kind) (k w : Kept) (s : ℕ) (m : Machine) → kinds ≡ kinds_of k → w ≡ with_machine_in k s m → kinds ≡ kinds_of w
+tied_machine kinds k w s m tied is = tied_area kinds (with_image k s m.image) w s _ (tied_loan kinds k (with_image k s m.image) s tied (left_image k s m.image)) is
+
+plain_machine : (k w : Kept) (s : ℕ) (m : Machine) → k.users ≡ no_users → w ≡ with_machine_in k s m → w.users ≡ no_users
+plain_machine k w s m plain is = plain_area (with_image k s m.image) w s _ (plain_loan k (with_image k s m.image) s plain (left_image k s m.image)) is
+
+pub tied_executed : (kinds : List Kind) (k w : Kept) (s : ℕ) (m : Machine) (done : Bool) → kinds ≡ kinds_of k → (IsTrue done → w ≡ with_machine_in k s m) → (done ≡ false → w ≡ k) → kinds ≡ kinds_of w
+tied_executed kinds k w s m true tied is same = tied_machine kinds k w s m tied (is refl)
+tied_executed kinds k w s m false tied is same = tied ∙ ap kinds_of (sym (same refl))
+
+pub plain_executed : (k w : Kept) (s : ℕ) (m : Machine) (done : Bool) → k.users ≡ no_users → (IsTrue done → w ≡ with_machine_in k s m) → (done ≡ false → w ≡ k) → w.users ≡ no_users
+plain_executed k w s m true plain is same = plain_machine k w s m plain (is refl)
+plain_executed k w s m false plain is same = ap (λ (v : Kept). v.users) (same refl) ∙ plain
 
 pub ruleset ties = (tied_deposit, plain_deposit, has_image, has_nothing, has_grave, no_text, none_text, tied_put, tied_area, tied_loan, tied_moved, tied_not_moved, tied_expanded, tied_forked, tied_not_forked, tied_grave, tied_no_grave, plain_put, plain_moved, plain_forked, plain_grave, plain_area, plain_loan)

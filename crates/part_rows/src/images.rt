@@ -9,6 +9,7 @@ mod copies;
 mod deposits;
 mod growth;
 mod headers;
+mod instructions;
 mod maps;
 mod places;
 mod scenes;

@@ -33,6 +33,8 @@ pub enum Step {
     Gets(Slot, u16, Option<[u8; 4]>),
     /// Four bytes, and whether they are put from an address of a slot's image on.
     Puts(Slot, u16, [u8; 4], bool),
+    /// A slot's process does one instruction where it stands in core, or nothing.
+    Executes(Slot, bool),
     /// A byte is put to a place of core, or with `true` of the swap area, or not.
     Deposits(bool, u32, u8, bool),
     /// The byte at such a place.
@@ -75,6 +77,7 @@ fn holds(table: &mut Table, step: Step) -> bool {
         Step::Loads(s, at, byte) => table.load(s, at) == Some(byte),
         Step::Gets(s, at, bytes) => table.get(s, at) == Some(bytes),
         Step::Puts(s, at, bytes, done) => table.put(s, at, bytes) == Some(done),
+        Step::Executes(s, done) => table.execute(s) == Some(done),
         Step::Deposits(swap, at, byte, put) => table.deposit(swap, at, byte) == Some(put),
         Step::Has(swap, at, byte) => table.byte(swap, at) == Some(byte),
         _ => places(table, step),

@@ -5,6 +5,7 @@ ghost use Rattle.part_rows.specs.Kinds.{kinds_of};
 
 use crate::kind::Kind;
 use image_keep::{Images, NoSwap};
+use pdp_decode::Dispatch;
 use seg_regs::Proto;
 use std::alloc::{AllocError, Global};
 use v6_base::{Place, Slot, Space, Trap};
@@ -25,6 +26,7 @@ pub struct End {
 pub struct Table {
     images: Images,
     kinds: [Kind; 50],
+    dispatch: Dispatch,
     ghost tied: { kinds ≡ kinds_of images },
     ghost plain: { images.users ≡ no_users },
 }
@@ -40,6 +42,7 @@ impl Table {
         Ok(Table {
             images: Images::new(alloc, core, &swap)?,
             kinds: [Kind::Nothing; 50],
+            dispatch: Dispatch::new(alloc)?,
         })
     }
 
@@ -204,6 +207,15 @@ impl Table {
         }
         let mut space = self.images.space(s);
         Some(space.copy_out(at, &bytes))
+    }
+
+    /// The process in a slot does one instruction where it stands in core, or nothing.
+    pub fn execute(&mut self, s: Slot) -> Option<bool> {
+        if !self.has_image(s) {
+            return None;
+        }
+        let fixed = self.images.fixed(s);
+        Some(self.images.execute_near(&fixed, &self.dispatch))
     }
 
     /// Puts a byte to a place of core, or of the swap area, where there is such a place, and says whether it is put.

@@ -26,7 +26,7 @@ pub starts_at-requires-clause-segments : goal.starts_at-requires-clause-segments
 starts_at-requires-clause-segments c = segments_fit (stock_in c.self.inside) c.args.self.now c.args.s c.clicks_of_text-clicks.result c.row_of-row.result c.place_of.result c.self.view_is c.self.invariant.sound c.self.invariant.counted c.self.invariant.told c.requires (rw c.deref.ensures.value at c.row_of-row.ensures) c.place_of.ensures c.clicks_of_text-clicks.ensures
 
 pub returns-clause-starts : goal.returns-clause-starts
-returns-clause-starts c = (starts_are (stock_in c.self.inside) c.args.self.now c.args.s c.place_click.result c.clicks_of_text-clicks.result c.start_of_text-text.result (64 * c.place_click.result + 1024) c.row_of-row.result c.place_of.result c.starts_at.result c.self.view_is c.self.invariant.sound c.self.invariant.counted c.requires (rw c.deref.ensures.value at c.row_of-row.ensures) c.place_of.ensures c.place_click.ensures c.clicks_of_text-clicks.ensures c.start_of_text-text.ensures refl c.starts_at.ensures.text c.starts_at.ensures.image c.starts_at.ensures.text_len c.starts_at.ensures.data_len c.starts_at.ensures.stack_start)
+returns-clause-starts c = (starts_are (stock_in c.self.inside) c.args.self.now c.args.s c.place_click.result c.clicks_of_text-clicks.result c.start_of_text-text.result (64 * c.place_click.result + 1024) c.row_of-row.result c.place_of.result c.starts_at.result c.self.view_is c.self.invariant.sound c.self.invariant.counted c.requires (rw c.deref.ensures.value at c.row_of-row.ensures) c.place_of.ensures c.place_click.ensures c.clicks_of_text-clicks.ensures c.start_of_text-text.ensures refl c.starts_at.ensures.text c.starts_at.ensures.image c.starts_at.ensures.text_len c.starts_at.ensures.data_len c.starts_at.ensures.stack_start c.starts_at.ensures.core)
 
 pub returns-clause-holds : goal.returns-clause-holds
 returns-clause-holds c = kept_holds (stock_in c.self.inside) c.args.self.now c.self.view_is c.self.invariant.sound c.self.invariant.table c.self.invariant.told c.see_bytes.ensures
