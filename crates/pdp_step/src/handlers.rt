@@ -289,6 +289,7 @@ pub fn perform_stepping<P: Processor>(
     requires word { word < 65536 }
     requires room { pc ≤ 65538 }
     ensures row { Ends result (P.machine p.new) (finished (P.machine p.old).image (row_of (at_pc (P.machine p.old) pc) word (decode_of word))) }
+    ensures image { IsMissed result → (P.machine p.new).image ≡ (P.machine p.old).image }
     ensures trapped { IsTrapped result → P.MayTrap }
     ensures rest { P.rest p.new ≡ P.rest p.old }
 {

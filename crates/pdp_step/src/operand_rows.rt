@@ -38,6 +38,7 @@ fn put_moved<P: Processor, W: Size, D: AddressingMode>(
     ensures row { Ends result (P.machine p.new) (finished (P.machine p.old).image (go (then_do (formed (at_pc (P.machine p.old) from) W.width (operand_of word).mode (operand_of word).reg) (λ dest. Ok (moved_result dest.machine W.width dest.location (result_of W.width value false (carry_in (P.machine p.old)))))))) }
     ensures kept { IsTrue D.late → IsMissed result → P.machine p.new ≡ P.machine p.old }
     ensures sure { IsTrue D.sure → IsMissed result → ⊥ }
+    ensures image { IsMissed result → (P.machine p.new).image ≡ (P.machine p.old).image }
     ensures missed { IsMissed result → P.MayMiss }
     ensures trapped { IsTrapped result → P.MayTrap }
     ensures rest { P.rest p.new ≡ P.rest p.old }
@@ -65,6 +66,7 @@ pub fn move_to<P: Processor, W: Size, S: AddressingMode, D: AddressingMode>(
     requires room { from ≤ 65538 }
     ensures row { Ends result (P.machine p.new) (finished (P.machine p.old).image (go (moved (at_pc (P.machine p.old) from) W.width (operand_of (word / 64)) (operand_of word)))) }
     ensures kept { IsTrue (S.late && (D.late && (S.steady || D.sure))) → IsMissed result → P.machine p.new ≡ P.machine p.old }
+    ensures image { IsMissed result → (P.machine p.new).image ≡ (P.machine p.old).image }
     ensures missed { IsMissed result → P.MayMiss }
     ensures trapped { IsTrapped result → P.MayTrap }
     ensures rest { P.rest p.new ≡ P.rest p.old }
@@ -90,6 +92,7 @@ fn test_with<P: Processor, W: Size, D: AddressingMode, A: Alteration>(
     ensures row { Ends result (P.machine p.new) (finished (P.machine p.old).image (go (tested (at_pc (P.machine p.old) from) W.width (operand_of word) (A.made alteration.now W.width (carry_in (P.machine p.old)))))) }
     ensures kept { IsTrue D.late → IsMissed result → P.machine p.new ≡ P.machine p.old }
     ensures sure { IsTrue D.sure → IsMissed result → ⊥ }
+    ensures image { IsMissed result → (P.machine p.new).image ≡ (P.machine p.old).image }
     ensures missed { IsMissed result → P.MayMiss }
     ensures trapped { IsTrapped result → P.MayTrap }
     ensures rest { P.rest p.new ≡ P.rest p.old }
@@ -118,6 +121,7 @@ pub fn compare<P: Processor, W: Size, S: AddressingMode, D: AddressingMode, O: O
     requires room { from ≤ 65538 }
     ensures row { Ends result (P.machine p.new) (finished (P.machine p.old).image (go (compared (at_pc (P.machine p.old) from) W.width (operand_of (word / 64)) (operand_of word) (O.made W.width (carry_in (P.machine p.old)))))) }
     ensures kept { IsTrue (S.late && (D.late && (S.steady || D.sure))) → IsMissed result → P.machine p.new ≡ P.machine p.old }
+    ensures image { IsMissed result → (P.machine p.new).image ≡ (P.machine p.old).image }
     ensures missed { IsMissed result → P.MayMiss }
     ensures trapped { IsTrapped result → P.MayTrap }
     ensures rest { P.rest p.new ≡ P.rest p.old }
