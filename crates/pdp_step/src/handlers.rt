@@ -22,7 +22,7 @@ use crate::operation::{Addition, BitClear, BitSet, BitTest, Comparison, Subtract
 use crate::pair_rows::{divide, multiply, shift_pair, shift_reg};
 use crate::processor::Processor;
 use crate::size::{Bytes, Words};
-use crate::transfers::{branch_if, count, jump, jump_to_subroutine, return_by};
+use crate::transfers::{branch_if, count, jump, jump_to_subroutine, names_in, return_by, set_codes};
 use pdp_decode::{Condition, Handler};
 
 /// The row of a word by its handler, for the most frequent ones. Where it misses, nothing has changed.
@@ -203,6 +203,8 @@ pub fn perform_apart<P: Processor>(
         Handler::TstD => test::<P, Words, Deferred>(p, pc, word),
         Handler::TstM => test::<P, Words, Autodecrement>(p, pc, word),
         Handler::SxtR => extend_sign::<P, Register>(p, pc, word),
+        Handler::ClearCodes => set_codes(p, pc, false, names_in(word)),
+        Handler::SetCodes => set_codes(p, pc, true, names_in(word)),
         Handler::MulR => multiply::<P, Register>(p, pc, word),
         Handler::MulI => multiply::<P, Immediate>(p, pc, word),
         Handler::MulX => multiply::<P, Indexed>(p, pc, word),
