@@ -32,6 +32,25 @@ fn attempt_in(
     memory.attempt(&mut areas[s], standing, dispatch)
 }
 
+/// The same for an instruction that isn't frequent.
+#[inline(always)]
+fn attempt_other_in(
+    memory: &mut Memory,
+    areas: &mut [UArea],
+    s: usize,
+    standing: &Standing,
+    dispatch: &Dispatch,
+) -> bool
+    requires slot { s < length areas.old }
+    requires at_hand { IsAtHand standing.now memory.old.core (area_at areas.old s) }
+    ensures did { Attempted standing.now memory.old.core memory.new.core (area_at areas.old s) (area_at areas.new s) result }
+    ensures swap { memory.new.swap ≡ memory.old.swap }
+    ensures areas { areas.new ≡ slice_set areas.old s (area_at areas.new s) }
+    ensures long { length areas.new ≡ length areas.old }
+{
+    memory.attempt_other(&mut areas[s], standing, dispatch)
+}
+
 impl Images {
     /// The process of which this is fixed does one instruction where it stands in core, if that is one that ends so: else
     /// nothing has changed.
@@ -43,11 +62,42 @@ impl Images {
         ensures kept { result ≡ false → self.new ≡ self.old }
         ensures fixed { IsFixed self.new fixed.now }
     {
+        self.execute_frequent(fixed, dispatch) || self.execute_other(fixed, dispatch)
+    }
+
+    /// The same for an instruction that is frequent.
+    #[inline(always)]
+    fn execute_frequent(&mut self, fixed: &Fixed, dispatch: &Dispatch) -> bool
+        requires { IsFixed self.old fixed.now }
+        ensures outcome { IsTrue result → (instr (machine_in self.old fixed.now.slot)).outcome ≡ Next }
+        ensures done { IsTrue result → self.new ≡ with_machine_in self.old fixed.now.slot (instr (machine_in self.old fixed.now.slot)).machine }
+        ensures kept { result ≡ false → self.new ≡ self.old }
+        ensures fixed { IsFixed self.new fixed.now }
+    {
         self.memory.see_bytes();
         attempt_in(
             &mut self.memory,
             &mut self.areas,
-            fixed.slot as usize,
+            fixed.index,
+            &fixed.standing,
+            dispatch,
+        )
+    }
+
+    /// The same for any other instruction. It stands out of line, to keep the first small.
+    #[inline(never)]
+    fn execute_other(&mut self, fixed: &Fixed, dispatch: &Dispatch) -> bool
+        requires { IsFixed self.old fixed.now }
+        ensures outcome { IsTrue result → (instr (machine_in self.old fixed.now.slot)).outcome ≡ Next }
+        ensures done { IsTrue result → self.new ≡ with_machine_in self.old fixed.now.slot (instr (machine_in self.old fixed.now.slot)).machine }
+        ensures kept { result ≡ false → self.new ≡ self.old }
+        ensures fixed { IsFixed self.new fixed.now }
+    {
+        self.memory.see_bytes();
+        attempt_other_in(
+            &mut self.memory,
+            &mut self.areas,
+            fixed.index,
             &fixed.standing,
             dispatch,
         )

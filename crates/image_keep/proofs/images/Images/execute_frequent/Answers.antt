@@ -1,15 +1,9 @@
 use Rattle.std.proofs.Common.{◌∙◌}
-use Rattle.image_keep.specs.Inside.{stock_in}
-use Rattle.image_keep.proofs.Frames.{alive_image}
-use Rattle.image_keep.proofs.AreasKept.{image_low, seat}
-use Rattle.image_keep.proofs.NearCore.{at_hand_in, executed_in}
-use Rattle.image_keep.proofs.images.Images.execute_near.Goals as goal
+use Rattle.image_keep.proofs.NearCore.{at_hand_in, executed_in, seat_in}
+use Rattle.image_keep.proofs.images.Images.execute_frequent.Goals as goal
 
 pub attempt_in-requires-clause-slot : goal.attempt_in-requires-clause-slot
-attempt_in-requires-clause-slot c =
-    let s = c.args.fixed.now.slot in
-    rw c.deref_mut.ensures.value (seat c.self.inside.areas.items _ s c.self.invariant.areas
-    (image_low (stock_in c.self.inside) c.args.self.now s c.self.view_is c.self.invariant.sound c.self.invariant.counted (alive_image c.args.self.now s c.requires.alive)))
+attempt_in-requires-clause-slot c = rw c.deref_mut.ensures.value (seat_in c.self.inside c.args.self.now c.args.fixed.now c.self.view_is c.self.invariant c.requires)
 
 pub attempt_in-requires-clause-at_hand : goal.attempt_in-requires-clause-at_hand
 attempt_in-requires-clause-at_hand c = at_hand_in c.self.inside c.args.self.now c.args.fixed.now _ c.self.view_is c.self.invariant c.see_bytes.ensures c.requires c.deref_mut.ensures.value

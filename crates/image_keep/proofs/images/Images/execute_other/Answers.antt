@@ -1,0 +1,24 @@
+use Rattle.std.proofs.Common.{◌∙◌}
+use Rattle.image_keep.proofs.NearCore.{at_hand_in, executed_in, seat_in}
+use Rattle.image_keep.proofs.images.Images.execute_other.Goals as goal
+
+pub attempt_other_in-requires-clause-slot : goal.attempt_other_in-requires-clause-slot
+attempt_other_in-requires-clause-slot c = rw c.deref_mut.ensures.value (seat_in c.self.inside c.args.self.now c.args.fixed.now c.self.view_is c.self.invariant c.requires)
+
+pub attempt_other_in-requires-clause-at_hand : goal.attempt_other_in-requires-clause-at_hand
+attempt_other_in-requires-clause-at_hand c = at_hand_in c.self.inside c.args.self.now c.args.fixed.now _ c.self.view_is c.self.invariant c.see_bytes.ensures c.requires c.deref_mut.ensures.value
+
+pub invariant_of-self : goal.invariant_of-self
+invariant_of-self c = (executed_in c.self.inside c.args.self.now c.args.fixed.now _ c.attempt_other_in.new.areas c.attempt_other_in.new.memory c.attempt_other_in.result c.self.view_is c.self.invariant c.see_bytes.ensures c.requires c.deref_mut.ensures.value (c.attempt_other_in.ensures.long ∙ c.deref_mut.ensures.len) c.attempt_other_in.ensures.did c.attempt_other_in.ensures.swap c.attempt_other_in.ensures.areas).images
+
+pub returns-clause-outcome : goal.returns-clause-outcome
+returns-clause-outcome c = (executed_in c.self.inside c.args.self.now c.args.fixed.now _ c.attempt_other_in.new.areas c.attempt_other_in.new.memory c.attempt_other_in.result c.self.view_is c.self.invariant c.see_bytes.ensures c.requires c.deref_mut.ensures.value (c.attempt_other_in.ensures.long ∙ c.deref_mut.ensures.len) c.attempt_other_in.ensures.did c.attempt_other_in.ensures.swap c.attempt_other_in.ensures.areas).outcome
+
+pub returns-clause-done : goal.returns-clause-done
+returns-clause-done c = (executed_in c.self.inside c.args.self.now c.args.fixed.now _ c.attempt_other_in.new.areas c.attempt_other_in.new.memory c.attempt_other_in.result c.self.view_is c.self.invariant c.see_bytes.ensures c.requires c.deref_mut.ensures.value (c.attempt_other_in.ensures.long ∙ c.deref_mut.ensures.len) c.attempt_other_in.ensures.did c.attempt_other_in.ensures.swap c.attempt_other_in.ensures.areas).done
+
+pub returns-clause-kept : goal.returns-clause-kept
+returns-clause-kept c = (executed_in c.self.inside c.args.self.now c.args.fixed.now _ c.attempt_other_in.new.areas c.attempt_other_in.new.memory c.attempt_other_in.result c.self.view_is c.self.invariant c.see_bytes.ensures c.requires c.deref_mut.ensures.value (c.attempt_other_in.ensures.long ∙ c.deref_mut.ensures.len) c.attempt_other_in.ensures.did c.attempt_other_in.ensures.swap c.attempt_other_in.ensures.areas).kept
+
+pub returns-clause-fixed : goal.returns-clause-fixed
+returns-clause-fixed c = (executed_in c.self.inside c.args.self.now c.args.fixed.now _ c.attempt_other_in.new.areas c.attempt_other_in.new.memory c.attempt_other_in.result c.self.view_is c.self.invariant c.see_bytes.ensures c.requires c.deref_mut.ensures.value (c.attempt_other_in.ensures.long ∙ c.deref_mut.ensures.len) c.attempt_other_in.ensures.did c.attempt_other_in.ensures.swap c.attempt_other_in.ensures.areas).fixed
