@@ -47,6 +47,7 @@ starts_others k s t x m other a =
       text_len = a.text_len ∙ ap (λ y. length (image_in y).text) (sym same);
       data_len = a.data_len ∙ ap (λ y. length (image_in y).data) (sym same);
       stack_start = subst (λ y. x.stack_start + length (image_in y).stack ≡ 65536) (sym same) a.stack_start;
+      core = a.core;
     }
 
 -- another byte leaves the sizes

@@ -12,6 +12,7 @@ use fs_blocks::Volume;
 use fs_check::{ImageFault, accept};
 use fs_nodes::Nodes;
 use image_keep::Images;
+use pdp_decode::Dispatch;
 use std::alloc::{AllocError, Global};
 use v6_base::Tape;
 
@@ -103,6 +104,9 @@ impl Kernel {
         let Ok(tape) = Tape::new(alloc, TAPE_ENTRIES, TAPE_BYTES) else {
             return Err(BootFault::NoMemory);
         };
-        Ok(Kernel::new(images, tape, nodes, time, core))
+        let Ok(dispatch) = Dispatch::new(alloc) else {
+            return Err(BootFault::NoMemory);
+        };
+        Ok(Kernel::new(images, tape, nodes, time, core, dispatch))
     }
 }

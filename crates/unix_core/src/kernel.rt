@@ -17,7 +17,7 @@ ghost use Rattle.abstract_unix.specs.Shared.{AllTextsStay, OtherTextsStay};
 
 use crate::files::{ROOT, see_kept, see_nodes, see_procs};
 use crate::init::put_program;
-use crate::machine::{Machine, Stage, execute};
+use crate::machine::{Machine, Stage};
 use crate::world::World;
 use abstract_unix::Turned;
 use fs_codec::DISK_BLOCKS;
@@ -25,7 +25,7 @@ use fs_nodes::Nodes;
 use fs_tree::Tree;
 use image_keep::Images;
 use open_files::OpenTable;
-use pdp_step::Outcome;
+use pdp_decode::Dispatch;
 use pick_rules::Table;
 use proc_tab::Rows;
 use seg_regs::Proto;
@@ -62,6 +62,8 @@ fn make_first(procs: &mut Procs)
 #[derive(Drop)]
 pub struct Kernel {
     pub(crate) machine: Machine,
+    /// The handler of each instruction word.
+    dispatch: Dispatch,
 }
 
 impl Model for Kernel {
@@ -89,7 +91,14 @@ impl Kernel {
 
     /// A kernel with a file system, whose process 1 is about to execute `/etc/init`, with images and a tape of which nothing
     /// is used. Inode 1 is referred to as the root and as a directory.
-    pub(crate) fn new(images: Images, tape: Tape, nodes: Nodes, time: u32, core: u16) -> Self
+    pub(crate) fn new(
+        images: Images,
+        tape: Tape,
+        nodes: Nodes,
+        time: u32,
+        core: u16,
+        dispatch: Dispatch,
+    ) -> Self
         requires least { 64 ≤ core }
         requires most { core ≤ 3968 }
         requires images { images ≡ first_kept core }
@@ -125,6 +134,7 @@ impl Kernel {
                     core,
                 },
             },
+            dispatch,
         }
     }
 
@@ -166,14 +176,12 @@ impl Kernel {
         see_kept(&self.machine.world.procs.images);
         match &self.machine.stage {
             Stage::Running(fixed) => {
-                match execute(&mut self.machine.world.procs, fixed) {
+                let images = &mut self.machine.world.procs.images;
+                if images.execute_near(fixed, &self.dispatch) {
                     // left at once: joined with the other answers it is looked at anew each time
-                    Outcome::Next => return Turned::Ran,
-                    outcome => {
-                        let s = fixed.slot;
-                        self.machine.after_step(s, outcome, trace)
-                    }
+                    return Turned::Ran;
                 }
+                self.machine.careful(trace)
             }
             Stage::Resting => self.machine.other_slot(trace),
             Stage::New | Stage::Stopped | Stage::Finished => unreachable!(),

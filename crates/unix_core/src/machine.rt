@@ -15,7 +15,7 @@ ghost use Rattle.abstract_unix.specs.Outside.{calls, charged, mode_of, tick_entr
 ghost use Rattle.unix_core.specs.Parts.{unix_of, board_in, system_at, turn_at, turn_end, phase_of, is_over, IsGood, IsReady, IsUser, IsCovered, IsKernel, HasCome, HasStepped, Takes, delivers_where};
 
 use crate::delivery::{deliver_after, deliver_due};
-use crate::files::see_procs;
+use crate::files::{see_kept, see_procs};
 use crate::process::{come_to, resume};
 use crate::settling::{end_turn, settle, wake};
 use crate::world::World;
@@ -127,7 +127,7 @@ fn turned(ending: Ending) -> Turned
 
 /// The process of which this is fixed does one instruction, with the registers in its u area.
 #[inline(always)]
-pub(crate) fn execute(procs: &mut Procs, fixed: &Fixed) -> Outcome
+fn execute(procs: &mut Procs, fixed: &Fixed) -> Outcome
     requires { IsFixed procs.old.images fixed.now }
     ensures outcome { result ≡ (instr (machine_in procs.old.images fixed.now.slot)).outcome }
     ensures kept { procs.new ≡ record procs.old {
@@ -291,6 +291,33 @@ impl Machine {
         let ending = come_to(&mut self.world, s, outcome, trace);
         let ending = deliver_after(&mut self.world, s, ending, trace);
         self.end(s, ending, trace)
+    }
+
+    /// Takes a slot in which a process executes any instruction, with what that comes to. It stands out of line, beside the
+    /// loop over slots, which has those that are done where the process stands in core.
+    #[cold]
+    #[inline(never)]
+    pub(crate) fn careful<T: Trace>(&mut self, trace: &mut T) -> Turned
+        requires kernel { IsKernel self.old.stage self.old.world }
+        requires running { (f : Fixed) × (self.old.stage ≡ Stage.Running f) }
+        ensures answer { result ≡ turned (turn_at self.old.world) }
+        ensures takes { Takes (turn_at self.old.world) self.new.stage self.new.world }
+        ensures rest { SameRest self.old.world.files.tree.nodes.blocks self.new.world.files.tree.nodes.blocks }
+        ensures items { Took (T.taken trace.old)
+            (turn_at self.old.world).items (T.taken trace.new) }
+        ensures frame { T.leads_to trace.old trace.new }
+    {
+        see_kept(&self.world.procs.images);
+        match &self.stage {
+            Stage::Running(fixed) => match execute(&mut self.world.procs, fixed) {
+                Outcome::Next => Turned::Ran,
+                outcome => {
+                    let s = fixed.slot;
+                    self.after_step(s, outcome, trace)
+                }
+            },
+            _ => unreachable!(),
+        }
     }
 
     /// Takes a slot in which no process just executes an instruction. It stands out of line, so that every other slot asks for
