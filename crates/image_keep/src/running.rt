@@ -25,7 +25,7 @@ pub struct Fixed {
 
 /// The bytes with which a u area begins.
 #[inline(always)]
-fn state_bytes(r: &[u16; 8], cc: u8) -> [u8; STATE_SIZE]
+pub(crate) fn state_bytes(r: &[u16; 8], cc: u8) -> [u8; STATE_SIZE]
     requires { cc < 16 }
     ensures { result ≡ state_bytes r.now cc }
 {
