@@ -19,10 +19,12 @@ use Rattle.unix_core.specs.Parts.{unix_of, board_in, IsReady, HasCome}
 use Rattle.unix_core.proofs.WorldLemmas.{ready_alive, slot_is}
 use Rattle.unix_core.proofs.PutLemmas.{IsLikeArea, with_images, unix_put, board_put, good_put}
 
--- An area has its codes, whichever proof says that they are four bits.
-pub given_is : (u : UArea) (r : List ℕ) (codes : u.cc < 16) → ◌≡◌ {A = UArea} (record u { r = r; codes = codes }) (record u { r = r })
-given_is u r codes =
-    one_area (record u { r = r; codes = codes }) (record u { r = r }) refl refl refl refl refl refl refl refl refl refl refl refl refl refl refl refl refl refl refl
+-- An area with other registers and its own codes.
+pub given_is : (u : UArea) (r : List ℕ) → with_state u r u.cc ≡ record u { r = r }
+given_is u r =
+    let fits = u.codes in
+    let same : u.cc % 16 ≡ u.cc = omega (arith, fits) in
+    one_area (with_state u r u.cc) (record u { r = r }) refl same refl refl refl refl refl refl refl refl refl refl refl refl refl refl refl refl refl
 
 -- the u area of who runs
 pub own_area : (w : World) (s : ℕ) → IsReady w s → area_of w.procs.images s ≡ (process_of (unix_of w) s).u

@@ -1,4 +1,4 @@
-use Rattle.std.proofs.Common.{◌≡◌, ◌∙◌, length, slice_set, rules, ap}
+use Rattle.std.proofs.Common.{◌≡◌, ◌*◌, ◌∙◌, length, slice_set, rules, ap}
 use Rattle.u_area.specs.declared.area.UArea.{UArea}
 use Rattle.core_mem.specs.Bytes.{over}
 use Rattle.image_keep.specs.declared.row.Row.{Row}
