@@ -1,11 +1,12 @@
 -- The u area of the process that runs is another one, which names the same files and the same directory.
-use Rattle.std.proofs.Common.{◌≡◌, ◌∙◌, ◌<◌, ◌==◌, ℕ, List, get_or, Some, None, true, refl, sym, ap, subst}
+use Rattle.std.proofs.Common.{◌≡◌, ◌∙◌, ◌<◌, ◌%◌, ◌==◌, ℕ, List, get_or, Some, None, true, refl, sym, ap, subst, arith}
 use Rattle.std.specs.Prelude.{unwrap_or}
 use Rattle.std.proofs.lemmas.List.{get_or-set_same}
 use Rattle.std.proofs.lemmas.Bool.{eqb-true}
 use Rattle.u_area.specs.declared.area.UArea.{UArea}
 use Rattle.u_area.proofs.AreaLemmas.{one_area}
 use Rattle.image_keep.specs.Kept.{Kept, with_area, area_of}
+use Rattle.image_keep.specs.Running.{with_state}
 use Rattle.sys_procs.proofs.Alive.{area_here}
 use Rattle.unix_core.specs.declared.world.World.{World}
 use Rattle.sys_procs.specs.Process.{Process, no_process}
