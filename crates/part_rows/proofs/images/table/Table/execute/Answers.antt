@@ -1,4 +1,3 @@
-use Rattle.std.proofs.Common.{subst, sym, ap}
 use Rattle.part_rows.proofs.TableLemmas.{tied_executed, plain_executed}
 use Rattle.part_rows.proofs.images.table.Table.execute.Goals as goal
 
