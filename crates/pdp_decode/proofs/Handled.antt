@@ -8,13 +8,14 @@ use Rattle.pdp_decode.specs.declared.instr.Width.{Width}
 use Rattle.pdp_decode.specs.declared.instr.Width.TheVariants.{Word, Byte}
 use Rattle.pdp_decode.specs.declared.instr.Reg.{Reg}
 use Rattle.pdp_decode.specs.declared.instr.Operand.{Operand}
+use Rattle.pdp_decode.specs.declared.instr.Flags.{Flags}
 use Rattle.pdp_decode.specs.declared.instr.Instr.{Instr}
-use Rattle.pdp_decode.specs.declared.instr.Instr.TheVariants.{Sob, Rts, Branch}
+use Rattle.pdp_decode.specs.declared.instr.Instr.TheVariants.{Sob, Rts, Branch, Codes}
 use Rattle.pdp_decode.specs.declared.instr.Condition.{Condition}
 use Rattle.pdp_decode.specs.declared.instr.Condition.TheVariants.{Always, NotEqual, Equal, GreaterOrEqual, Less, Greater, LessOrEqual, Plus, Minus, Higher, LowerOrSame, OverflowClear, OverflowSet, CarryClear, CarrySet}
 use Rattle.pdp_decode.specs.declared.addressing.Addressing.{Addressing}
-use Rattle.pdp_decode.specs.Numbers.{byte_bit, reg_code, code, branch_code}
-use Rattle.pdp_decode.specs.Decode.{reg_of, operand_of, decode_of}
+use Rattle.pdp_decode.specs.Numbers.{byte_bit, reg_code, code, one_if, flag_bits, branch_code}
+use Rattle.pdp_decode.specs.Decode.{reg_of, operand_of, flags_of, decode_of}
 use Rattle.pdp_decode.specs.Handlers.{IsAddressed, IsDouble, IsSingle, IsExtended, Handles, IsDispatch}
 use Rattle.pdp_decode.proofs.Alone.{operand_back, reg_back, reg_small, code_small}
 
@@ -83,6 +84,44 @@ pub return_by : (r : Reg) (n : ℕ) → n ≡ 0o000200 + reg_code r → decode_o
 return_by r n word is =
     let low : n ≡ 0o10 * 0o20 + reg_code r = omega (arith, word) in
     is ∙ ap Rts (register_by r n 0o20 low)
+
+flags_back : (set n z v c : Bool) (word : ℕ) → word ≡ 0o000240 + 0o20 * one_if set + flag_bits (record { n = n; z = z; v = v; c = c }) → flags_of word ≡ record { n = n; z = z; v = v; c = c }
+unfolding flags_of
+flags_back true true true true true word is = rw is refl
+flags_back true true true true false word is = rw is refl
+flags_back true true true false true word is = rw is refl
+flags_back true true true false false word is = rw is refl
+flags_back true true false true true word is = rw is refl
+flags_back true true false true false word is = rw is refl
+flags_back true true false false true word is = rw is refl
+flags_back true true false false false word is = rw is refl
+flags_back true false true true true word is = rw is refl
+flags_back true false true true false word is = rw is refl
+flags_back true false true false true word is = rw is refl
+flags_back true false true false false word is = rw is refl
+flags_back true false false true true word is = rw is refl
+flags_back true false false true false word is = rw is refl
+flags_back true false false false true word is = rw is refl
+flags_back true false false false false word is = rw is refl
+flags_back false true true true true word is = rw is refl
+flags_back false true true true false word is = rw is refl
+flags_back false true true false true word is = rw is refl
+flags_back false true true false false word is = rw is refl
+flags_back false true false true true word is = rw is refl
+flags_back false true false true false word is = rw is refl
+flags_back false true false false true word is = rw is refl
+flags_back false true false false false word is = rw is refl
+flags_back false false true true true word is = rw is refl
+flags_back false false true true false word is = rw is refl
+flags_back false false true false true word is = rw is refl
+flags_back false false true false false word is = rw is refl
+flags_back false false false true true word is = rw is refl
+flags_back false false false true false word is = rw is refl
+flags_back false false false false true word is = rw is refl
+flags_back false false false false false word is = rw is refl
+
+pub codes_by : (set : Bool) (f : Flags) (n : ℕ) → n ≡ 0o000240 + 0o20 * one_if set + flag_bits f → decode_of n ≡ Codes set f → decode_of n ≡ Codes set (flags_of n)
+codes_by set f n word is = is ∙ ap (λ (x : Flags). Codes set x) (sym (flags_back set f.n f.z f.v f.c n word))
 
 code_even : (t : Condition) → branch_code t % 0o400 ≡ 0
 code_even Always = refl

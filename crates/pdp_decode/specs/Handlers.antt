@@ -1,5 +1,5 @@
 -- What a handler says of a word: its instruction, and how the operands of that are found.
-use Rattle.std.specs.Prelude.{◌≡◌, ◌≢◌, ◌<◌, ℕ, ◌/◌, ◌%◌, List, length, slice_index_or}
+use Rattle.std.specs.Prelude.{◌≡◌, ◌≢◌, ◌<◌, ℕ, ◌/◌, ◌%◌, List, length, slice_index_or, true, false}
 use Rattle.pdp_decode.specs.declared.instr.Width.{Width}
 use Rattle.pdp_decode.specs.declared.instr.Width.TheVariants.{Word, Byte}
 use Rattle.pdp_decode.specs.declared.instr.Mode.TheVariants as mode
@@ -9,12 +9,12 @@ use Rattle.pdp_decode.specs.declared.instr.Operand.{Operand}
 use Rattle.pdp_decode.specs.declared.instr.Condition.{Condition}
 use Rattle.pdp_decode.specs.declared.instr.Condition.TheVariants as condition
 use Rattle.pdp_decode.specs.declared.instr.Instr.{Instr}
-use Rattle.pdp_decode.specs.declared.instr.Instr.TheVariants.{Mov, Cmp, Bit, Bic, Bis, Add, Sub, Clr, Com, Inc, Dec, Neg, Adc, Sbc, Tst, Ror, Rol, Asr, Asl, Swab, Sxt, Mul, Div, Ash, Ashc, Xor, Sob, Branch, Jmp, Jsr, Rts}
+use Rattle.pdp_decode.specs.declared.instr.Instr.TheVariants.{Mov, Cmp, Bit, Bic, Bis, Add, Sub, Clr, Com, Inc, Dec, Neg, Adc, Sbc, Tst, Ror, Rol, Asr, Asl, Swab, Sxt, Mul, Div, Ash, Ashc, Xor, Sob, Branch, Jmp, Jsr, Rts, Codes}
 use Rattle.pdp_decode.specs.declared.addressing.Addressing.{Addressing}
 use Rattle.pdp_decode.specs.declared.addressing.Addressing.TheVariants.{Register, Immediate, Absolute, Indexed, Deferred, Autoincrement, Autodecrement, Relative, Other}
 use Rattle.pdp_decode.specs.declared.handler.Handler.{Handler}
 use Rattle.pdp_decode.specs.declared.handler.Handler.TheVariants as handler
-use Rattle.pdp_decode.specs.Decode.{reg_of, operand_of, decode_of}
+use Rattle.pdp_decode.specs.Decode.{reg_of, operand_of, flags_of, decode_of}
 
 -- a register that steps by the operand's size: R6 and PC step by 2 at a byte too
 abbrev pub IsStepped : Width → Reg → Type 0
@@ -244,6 +244,8 @@ Handles handler.JmpD n = IsSingle n Word Jmp Deferred
 Handles handler.JsrA n = IsExtended n Jsr Absolute
 Handles handler.JsrL n = IsExtended n Jsr Relative
 Handles handler.Rts n = decode_of n ≡ Rts (reg_of (n % 0o10))
+Handles handler.ClearCodes n = decode_of n ≡ Codes false (flags_of n)
+Handles handler.SetCodes n = decode_of n ≡ Codes true (flags_of n)
 Handles handler.Other n = Unit {0}
 
 -- a table of the handlers of all words

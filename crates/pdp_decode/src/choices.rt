@@ -1,6 +1,6 @@
 //! The choice of a handler by the ways to an instruction's operands.
 ghost use Rattle.std.specs.Prelude.{ℕ, ◌≡◌, ◌/◌, ◌%◌};
-ghost use Rattle.pdp_decode.specs.Decode.{reg_of};
+ghost use Rattle.pdp_decode.specs.Decode.{reg_of, flags_of, decode_of};
 ghost use Rattle.pdp_decode.specs.declared.instr.Width.{Width};
 ghost use Rattle.pdp_decode.specs.declared.instr.Instr.{Instr};
 ghost use Rattle.pdp_decode.specs.Handlers.{IsDouble, IsSingle, IsExtended, IsBranch, Handles};
@@ -430,5 +430,15 @@ pub(crate) fn branch(condition: Condition) -> Handler
         Condition::OverflowSet => Handler::OverflowSet,
         Condition::CarryClear => Handler::CarryClear,
         Condition::CarrySet => Handler::CarrySet,
+    }
+}
+
+pub(crate) fn codes(set: bool) -> Handler
+    ensures { (n : ℕ) → decode_of n ≡ Instr.Codes set (flags_of n) → Handles result n }
+{
+    if set {
+        Handler::SetCodes
+    } else {
+        Handler::ClearCodes
     }
 }

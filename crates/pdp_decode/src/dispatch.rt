@@ -4,7 +4,7 @@ ghost use Rattle.pdp_decode.specs.Handlers.{Handles, IsDispatch};
 
 use crate::addressing::addressed;
 use crate::choices::{
-    adc, add, ash, ashc, asl, asr, bic, bis, bit, branch, clr, cmp, com, dec, div, inc, jmp, jsr,
+    adc, add, ash, ashc, asl, asr, bic, bis, bit, branch, clr, cmp, codes, com, dec, div, inc, jmp, jsr,
     mov, mul, neg, rol, ror, sbc, sub, swab, sxt, tst, xor,
 };
 use crate::handler::Handler;
@@ -49,6 +49,7 @@ fn handler_of(word: u16) -> Handler
         Instr::Jmp(d) => jmp(addressed(Width::Word, d)),
         Instr::Jsr(_, d) => jsr(addressed(Width::Word, d)),
         Instr::Rts(_) => Handler::Rts,
+        Instr::Codes(set, _) => codes(set),
         _ => Handler::Other,
     }
 }

@@ -191,6 +191,8 @@ pub enum Handler {
     JsrA,
     JsrL,
     Rts,
+    ClearCodes,
+    SetCodes,
     /// Any other word, and any instruction with operands found otherwise.
     Other,
 }

@@ -22,7 +22,7 @@ use crate::operation::{Addition, BitClear, BitSet, BitTest, Comparison, Subtract
 use crate::pair_rows::{divide, multiply, shift_pair, shift_reg};
 use crate::processor::Processor;
 use crate::size::{Bytes, Words};
-use crate::transfers::{branch_if, count, jump, jump_to_subroutine, return_by};
+use crate::transfers::{branch_if, count, jump, jump_to_subroutine, names_in, return_by, set_codes};
 use pdp_decode::{Condition, Handler};
 
 /// The row of a word by its handler, for the most frequent ones. Where it misses, nothing has changed.
@@ -132,9 +132,9 @@ pub fn perform<P: Processor>(p: &mut P, handler: Handler, pc: usize, word: u32) 
     }
 }
 
-/// The row of a word by its handler, for the less frequent ones. Where it misses, nothing has changed. It stands out of line, to
-/// keep the first small.
-#[inline(never)]
+/// The row of a word by its handler, for the less frequent ones. Where it misses, nothing has changed. The rows stand in several
+/// functions, since the compiler makes code in place of a call of none that is too large.
+#[inline(always)]
 pub fn perform_apart<P: Processor>(
     p: &mut P,
     handler: Handler,
@@ -202,7 +202,30 @@ pub fn perform_apart<P: Processor>(
         Handler::DecL => modify::<P, Words, Relative, Decreasing>(p, pc, word, &Decreasing),
         Handler::TstD => test::<P, Words, Deferred>(p, pc, word),
         Handler::TstM => test::<P, Words, Autodecrement>(p, pc, word),
+        _ => Err(Halt::Missed),
+    }
+}
+
+/// The row of a word by its handler, for MUL, DIV, ASH, ASHC and SXT. Where it misses, nothing has changed.
+#[inline(always)]
+pub fn perform_extended<P: Processor>(
+    p: &mut P,
+    handler: Handler,
+    pc: usize,
+    word: u32,
+) -> Result<(), Halt>
+    requires handles { Handles handler word }
+    requires word { word < 65536 }
+    requires room { pc ≤ 65538 }
+    ensures row { Ends result (P.machine p.new) (finished (P.machine p.old).image (row_of (at_pc (P.machine p.old) pc) word (decode_of word))) }
+    ensures kept { IsMissed result → P.machine p.new ≡ P.machine p.old }
+    ensures trapped { IsTrapped result → P.MayTrap }
+    ensures rest { P.rest p.new ≡ P.rest p.old }
+{
+    match handler {
         Handler::SxtR => extend_sign::<P, Register>(p, pc, word),
+        Handler::ClearCodes => set_codes(p, pc, false, names_in(word)),
+        Handler::SetCodes => set_codes(p, pc, true, names_in(word)),
         Handler::MulR => multiply::<P, Register>(p, pc, word),
         Handler::MulI => multiply::<P, Immediate>(p, pc, word),
         Handler::MulX => multiply::<P, Indexed>(p, pc, word),
@@ -215,13 +238,13 @@ pub fn perform_apart<P: Processor>(
         Handler::AshcR => shift_pair::<P, Register>(p, pc, word),
         Handler::AshcI => shift_pair::<P, Immediate>(p, pc, word),
         Handler::AshcX => shift_pair::<P, Indexed>(p, pc, word),
-        _ => perform_bytes(p, handler, pc, word),
+        _ => Err(Halt::Missed),
     }
 }
 
-// Of these, the ones that work on bytes.
+/// The row of a word by its handler, for those that work on bytes. Where it misses, nothing has changed.
 #[inline(always)]
-fn perform_bytes<P: Processor>(
+pub fn perform_bytes<P: Processor>(
     p: &mut P,
     handler: Handler,
     pc: usize,
@@ -278,7 +301,7 @@ fn perform_bytes<P: Processor>(
 
 /// The row of a word by its handler, for those whose source steps before the destination is located: where it misses, the
 /// registers are as they were by then, and no byte has changed.
-#[inline(never)]
+#[inline(always)]
 pub fn perform_stepping<P: Processor>(
     p: &mut P,
     handler: Handler,

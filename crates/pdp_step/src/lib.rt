@@ -24,9 +24,10 @@ mod stepping;
 mod table;
 mod transfers;
 
-pub use halt::Halt;
-pub use handlers::{perform, perform_apart, perform_stepping};
+pub use halt::{Halt, Refusal};
+pub use handlers::{perform, perform_apart, perform_bytes, perform_extended, perform_stepping};
 pub use outcome::{Kind, Outcome};
 pub use processor::Processor;
 pub use regs::Regs;
 pub use stepping::step;
+pub use table::{attempt, perform_any};

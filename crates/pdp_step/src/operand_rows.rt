@@ -153,6 +153,7 @@ fn alter_with<P: Processor, W: Size, D: AddressingMode, A: Alteration>(
     ensures row { Ends result (P.machine p.new) (finished (P.machine p.old).image (go (modified (at_pc (P.machine p.old) from) W.width (operand_of word) (A.made alteration.now W.width (carry_in (P.machine p.old)))))) }
     ensures kept { IsTrue D.late → IsMissed result → P.machine p.new ≡ P.machine p.old }
     ensures sure { IsTrue D.sure → IsMissed result → ⊥ }
+    ensures image { IsMissed result → (P.machine p.new).image ≡ (P.machine p.old).image }
     ensures missed { IsMissed result → P.MayMiss }
     ensures trapped { IsTrapped result → P.MayTrap }
     ensures rest { P.rest p.new ≡ P.rest p.old }
@@ -185,6 +186,7 @@ pub fn join<P: Processor, W: Size, S: AddressingMode, D: AddressingMode, O: Oper
     requires room { from ≤ 65538 }
     ensures row { Ends result (P.machine p.new) (finished (P.machine p.old).image (go (joined (at_pc (P.machine p.old) from) W.width (operand_of (word / 64)) (operand_of word) (O.made W.width (carry_in (P.machine p.old)))))) }
     ensures kept { IsTrue (S.late && (D.late && (S.steady || D.sure))) → IsMissed result → P.machine p.new ≡ P.machine p.old }
+    ensures image { IsMissed result → (P.machine p.new).image ≡ (P.machine p.old).image }
     ensures missed { IsMissed result → P.MayMiss }
     ensures trapped { IsTrapped result → P.MayTrap }
     ensures rest { P.rest p.new ≡ P.rest p.old }
@@ -214,6 +216,7 @@ pub fn exclusive_or<P: Processor, S: AddressingMode, D: AddressingMode>(
     requires room { from ≤ 65538 }
     ensures row { Ends result (P.machine p.new) (finished (P.machine p.old).image (go (modified (at_pc (P.machine p.old) from) Width.Word (operand_of word) (combine_of ExclusiveOr Width.Word (carry_in (P.machine p.old)) (reg_in (at_pc (P.machine p.old) from) (reg_of (word / 64 % 8))))))) }
     ensures kept { IsTrue (S.late && (D.late && (S.steady || D.sure))) → IsMissed result → P.machine p.new ≡ P.machine p.old }
+    ensures image { IsMissed result → (P.machine p.new).image ≡ (P.machine p.old).image }
     ensures missed { IsMissed result → P.MayMiss }
     ensures trapped { IsTrapped result → P.MayTrap }
     ensures rest { P.rest p.new ≡ P.rest p.old }
@@ -244,6 +247,7 @@ pub fn modify<P: Processor, W: Size, D: AddressingMode, A: Alteration>(
     requires room { from ≤ 65538 }
     ensures row { Ends result (P.machine p.new) (finished (P.machine p.old).image (go (modified (at_pc (P.machine p.old) from) W.width (operand_of word) (A.made alteration.now W.width (carry_in (P.machine p.old)))))) }
     ensures kept { IsTrue D.late → IsMissed result → P.machine p.new ≡ P.machine p.old }
+    ensures image { IsMissed result → (P.machine p.new).image ≡ (P.machine p.old).image }
     ensures missed { IsMissed result → P.MayMiss }
     ensures trapped { IsTrapped result → P.MayTrap }
     ensures rest { P.rest p.new ≡ P.rest p.old }
@@ -262,6 +266,7 @@ pub fn exchange<P: Processor, D: AddressingMode>(
     requires room { from ≤ 65538 }
     ensures row { Ends result (P.machine p.new) (finished (P.machine p.old).image (go (modified (at_pc (P.machine p.old) from) Width.Word (operand_of word) swapped))) }
     ensures kept { IsTrue D.late → IsMissed result → P.machine p.new ≡ P.machine p.old }
+    ensures image { IsMissed result → (P.machine p.new).image ≡ (P.machine p.old).image }
     ensures missed { IsMissed result → P.MayMiss }
     ensures trapped { IsTrapped result → P.MayTrap }
     ensures rest { P.rest p.new ≡ P.rest p.old }
@@ -280,6 +285,7 @@ pub fn test<P: Processor, W: Size, D: AddressingMode>(
     requires room { from ≤ 65538 }
     ensures row { Ends result (P.machine p.new) (finished (P.machine p.old).image (go (tested (at_pc (P.machine p.old) from) W.width (operand_of word) (λ x. result_of W.width x false false)))) }
     ensures kept { IsTrue D.late → IsMissed result → P.machine p.new ≡ P.machine p.old }
+    ensures image { IsMissed result → (P.machine p.new).image ≡ (P.machine p.old).image }
     ensures missed { IsMissed result → P.MayMiss }
     ensures trapped { IsTrapped result → P.MayTrap }
     ensures rest { P.rest p.new ≡ P.rest p.old }
@@ -301,6 +307,7 @@ fn replace<P: Processor, W: Size, D: AddressingMode>(
     requires room { from ≤ 65538 }
     ensures row { Ends result (P.machine p.new) (finished (P.machine p.old).image (go (replaced (at_pc (P.machine p.old) from) W.width (operand_of word) made))) }
     ensures kept { IsTrue D.late → IsMissed result → P.machine p.new ≡ P.machine p.old }
+    ensures image { IsMissed result → (P.machine p.new).image ≡ (P.machine p.old).image }
     ensures missed { IsMissed result → P.MayMiss }
     ensures trapped { IsTrapped result → P.MayTrap }
     ensures rest { P.rest p.new ≡ P.rest p.old }
@@ -326,6 +333,7 @@ pub fn clear<P: Processor, W: Size, D: AddressingMode>(
     requires room { from ≤ 65538 }
     ensures row { Ends result (P.machine p.new) (finished (P.machine p.old).image (go (replaced (at_pc (P.machine p.old) from) W.width (operand_of word) (result_of W.width 0 false false)))) }
     ensures kept { IsTrue D.late → IsMissed result → P.machine p.new ≡ P.machine p.old }
+    ensures image { IsMissed result → (P.machine p.new).image ≡ (P.machine p.old).image }
     ensures missed { IsMissed result → P.MayMiss }
     ensures trapped { IsTrapped result → P.MayTrap }
     ensures rest { P.rest p.new ≡ P.rest p.old }
@@ -358,6 +366,7 @@ pub fn extend_sign<P: Processor, D: AddressingMode>(
     requires room { from ≤ 65538 }
     ensures row { Ends result (P.machine p.new) (finished (P.machine p.old).image (go (replaced (at_pc (P.machine p.old) from) Width.Word (operand_of word) (sign_made (P.machine p.old).cc)))) }
     ensures kept { IsTrue D.late → IsMissed result → P.machine p.new ≡ P.machine p.old }
+    ensures image { IsMissed result → (P.machine p.new).image ≡ (P.machine p.old).image }
     ensures missed { IsMissed result → P.MayMiss }
     ensures trapped { IsTrapped result → P.MayTrap }
     ensures rest { P.rest p.new ≡ P.rest p.old }

@@ -65,6 +65,7 @@ pub fn multiply<P: Processor, S: AddressingMode>(
     requires room { from ≤ 65538 }
     ensures row { Ends result (P.machine p.new) (finished (P.machine p.old).image (go (multiplied (at_pc (P.machine p.old) from) (reg_of (word / 64 % 8)) (operand_of word)))) }
     ensures kept { IsTrue S.late → IsMissed result → P.machine p.new ≡ P.machine p.old }
+    ensures image { IsMissed result → (P.machine p.new).image ≡ (P.machine p.old).image }
     ensures missed { IsMissed result → P.MayMiss }
     ensures trapped { IsTrapped result → P.MayTrap }
     ensures rest { P.rest p.new ≡ P.rest p.old }
@@ -118,6 +119,7 @@ pub fn divide<P: Processor, S: AddressingMode>(
     requires room { from ≤ 65538 }
     ensures row { Ends result (P.machine p.new) (finished (P.machine p.old).image (go (divided (at_pc (P.machine p.old) from) (reg_of (word / 64 % 8)) (operand_of word)))) }
     ensures kept { IsTrue S.late → IsMissed result → P.machine p.new ≡ P.machine p.old }
+    ensures image { IsMissed result → (P.machine p.new).image ≡ (P.machine p.old).image }
     ensures missed { IsMissed result → P.MayMiss }
     ensures trapped { IsTrapped result → P.MayTrap }
     ensures rest { P.rest p.new ≡ P.rest p.old }
@@ -144,6 +146,7 @@ pub fn shift_reg<P: Processor, S: AddressingMode>(
     requires room { from ≤ 65538 }
     ensures row { Ends result (P.machine p.new) (finished (P.machine p.old).image (go (shifted_reg (at_pc (P.machine p.old) from) (reg_of (word / 64 % 8)) (operand_of word)))) }
     ensures kept { IsTrue S.late → IsMissed result → P.machine p.new ≡ P.machine p.old }
+    ensures image { IsMissed result → (P.machine p.new).image ≡ (P.machine p.old).image }
     ensures missed { IsMissed result → P.MayMiss }
     ensures trapped { IsTrapped result → P.MayTrap }
     ensures rest { P.rest p.new ≡ P.rest p.old }
@@ -172,6 +175,7 @@ pub fn shift_pair<P: Processor, S: AddressingMode>(
     requires room { from ≤ 65538 }
     ensures row { Ends result (P.machine p.new) (finished (P.machine p.old).image (go (shifted_pair (at_pc (P.machine p.old) from) (reg_of (word / 64 % 8)) (operand_of word)))) }
     ensures kept { IsTrue S.late → IsMissed result → P.machine p.new ≡ P.machine p.old }
+    ensures image { IsMissed result → (P.machine p.new).image ≡ (P.machine p.old).image }
     ensures missed { IsMissed result → P.MayMiss }
     ensures trapped { IsTrapped result → P.MayTrap }
     ensures rest { P.rest p.new ≡ P.rest p.old }

@@ -1,5 +1,5 @@
 //! The table of instructions over any addressing modes.
-ghost use Rattle.std.specs.Prelude.{◌≡◌, ◌<◌, ◌≤◌, ◌/◌, false, ℕ};
+ghost use Rattle.std.specs.Prelude.{◌≡◌, ◌<◌, ◌≤◌, ◌/◌, false, ℕ, IsErr};
 ghost use Rattle.pdp_decode.specs.Decode.{decode_of, operand_of};
 ghost use Rattle.pdp_decode.specs.declared.instr.Width.{Width};
 ghost use Rattle.pdp_step.specs.Machine.{carry_in};
@@ -35,6 +35,7 @@ use pdp_decode::{Instr, SoftTrap, Width, decode};
 pub fn attempt<P: Processor>(p: &mut P) -> Result<(), Refusal>
     ensures attempt { Finishes result (P.machine p.new) (finished (P.machine p.old).image (plan_of (P.machine p.old))) }
     ensures number { RefusesNumbered result }
+    ensures image { IsErr result → (P.machine p.new).image ≡ (P.machine p.old).image }
     ensures missed { RefusesMissed result → P.MayMiss }
     ensures trapped { RefusesTrapped result → P.MayTrap }
     ensures rest { P.rest p.new ≡ P.rest p.old }
@@ -51,6 +52,7 @@ pub fn attempt<P: Processor>(p: &mut P) -> Result<(), Refusal>
 fn any_move<P: Processor>(p: &mut P, pc: usize, word: u32, w: Width) -> Result<(), Halt>
     requires room { pc ≤ 65538 }
     ensures row { Ends result (P.machine p.new) (finished (P.machine p.old).image (go (moved (at_pc (P.machine p.old) pc) w (operand_of (word / 64)) (operand_of word)))) }
+    ensures image { IsMissed result → (P.machine p.new).image ≡ (P.machine p.old).image }
     ensures missed { IsMissed result → P.MayMiss }
     ensures trapped { IsTrapped result → P.MayTrap }
     ensures rest { P.rest p.new ≡ P.rest p.old }
@@ -71,6 +73,7 @@ fn any_compare<P: Processor, O: Operation>(
 ) -> Result<(), Halt>
     requires room { pc ≤ 65538 }
     ensures row { Ends result (P.machine p.new) (finished (P.machine p.old).image (go (compared (at_pc (P.machine p.old) pc) w (operand_of (word / 64)) (operand_of word) (O.made w (carry_in (P.machine p.old)))))) }
+    ensures image { IsMissed result → (P.machine p.new).image ≡ (P.machine p.old).image }
     ensures missed { IsMissed result → P.MayMiss }
     ensures trapped { IsTrapped result → P.MayTrap }
     ensures rest { P.rest p.new ≡ P.rest p.old }
@@ -91,6 +94,7 @@ fn any_join<P: Processor, O: Operation>(
 ) -> Result<(), Halt>
     requires room { pc ≤ 65538 }
     ensures row { Ends result (P.machine p.new) (finished (P.machine p.old).image (go (joined (at_pc (P.machine p.old) pc) w (operand_of (word / 64)) (operand_of word) (O.made w (carry_in (P.machine p.old)))))) }
+    ensures image { IsMissed result → (P.machine p.new).image ≡ (P.machine p.old).image }
     ensures missed { IsMissed result → P.MayMiss }
     ensures trapped { IsTrapped result → P.MayTrap }
     ensures rest { P.rest p.new ≡ P.rest p.old }
@@ -113,6 +117,7 @@ fn any_modify<P: Processor, A: Alteration>(
     requires room { pc ≤ 65538 }
     requires size { (x : Width) → A.IsFor alteration.now x }
     ensures row { Ends result (P.machine p.new) (finished (P.machine p.old).image (go (modified (at_pc (P.machine p.old) pc) w (operand_of word) (A.made alteration.now w (carry_in (P.machine p.old)))))) }
+    ensures image { IsMissed result → (P.machine p.new).image ≡ (P.machine p.old).image }
     ensures missed { IsMissed result → P.MayMiss }
     ensures trapped { IsTrapped result → P.MayTrap }
     ensures rest { P.rest p.new ≡ P.rest p.old }
@@ -128,6 +133,7 @@ fn any_modify<P: Processor, A: Alteration>(
 fn any_clear<P: Processor>(p: &mut P, pc: usize, word: u32, w: Width) -> Result<(), Halt>
     requires room { pc ≤ 65538 }
     ensures row { Ends result (P.machine p.new) (finished (P.machine p.old).image (go (replaced (at_pc (P.machine p.old) pc) w (operand_of word) (result_of w 0 false false)))) }
+    ensures image { IsMissed result → (P.machine p.new).image ≡ (P.machine p.old).image }
     ensures missed { IsMissed result → P.MayMiss }
     ensures trapped { IsTrapped result → P.MayTrap }
     ensures rest { P.rest p.new ≡ P.rest p.old }
@@ -143,6 +149,7 @@ fn any_clear<P: Processor>(p: &mut P, pc: usize, word: u32, w: Width) -> Result<
 fn any_test<P: Processor>(p: &mut P, pc: usize, word: u32, w: Width) -> Result<(), Halt>
     requires room { pc ≤ 65538 }
     ensures row { Ends result (P.machine p.new) (finished (P.machine p.old).image (go (tested (at_pc (P.machine p.old) pc) w (operand_of word) (λ x. result_of w x false false)))) }
+    ensures image { IsMissed result → (P.machine p.new).image ≡ (P.machine p.old).image }
     ensures missed { IsMissed result → P.MayMiss }
     ensures trapped { IsTrapped result → P.MayTrap }
     ensures rest { P.rest p.new ≡ P.rest p.old }
@@ -153,14 +160,30 @@ fn any_test<P: Processor>(p: &mut P, pc: usize, word: u32, w: Width) -> Result<(
     }
 }
 
-// The row of a word, with PC after it.
+/// The row of any word, with PC after it. Where it isn't done, the registers are as they were by then, and no byte has changed.
 #[inline(always)]
-#[tactic(auto, unfolding(crate::specs::Instruction::row_of, crate::specs::After::finish_of, crate::specs::Instruction::stored))]
-fn perform_any<P: Processor>(p: &mut P, pc: usize, word: u32) -> Result<(), Refusal>
+pub fn perform_any<P: Processor>(p: &mut P, pc: usize, word: u32) -> Result<(), Refusal>
     requires word { word < 65536 }
     requires room { pc ≤ 65538 }
     ensures row { Finishes result (P.machine p.new) (finished (P.machine p.old).image (row_of (at_pc (P.machine p.old) pc) word (decode_of word))) }
     ensures number { RefusesNumbered result }
+    ensures image { IsErr result → (P.machine p.new).image ≡ (P.machine p.old).image }
+    ensures missed { RefusesMissed result → P.MayMiss }
+    ensures trapped { RefusesTrapped result → P.MayTrap }
+    ensures rest { P.rest p.new ≡ P.rest p.old }
+{
+    perform_instruction(p, pc, word)
+}
+
+// The row of a word, by its instruction, with PC after it.
+#[inline(always)]
+#[tactic(auto, unfolding(crate::specs::Instruction::row_of, crate::specs::After::finish_of, crate::specs::Instruction::stored))]
+fn perform_instruction<P: Processor>(p: &mut P, pc: usize, word: u32) -> Result<(), Refusal>
+    requires word { word < 65536 }
+    requires room { pc ≤ 65538 }
+    ensures row { Finishes result (P.machine p.new) (finished (P.machine p.old).image (row_of (at_pc (P.machine p.old) pc) word (decode_of word))) }
+    ensures number { RefusesNumbered result }
+    ensures image { RefusesMissed result → (P.machine p.new).image ≡ (P.machine p.old).image }
     ensures missed { RefusesMissed result → P.MayMiss }
     ensures trapped { RefusesTrapped result → P.MayTrap }
     ensures rest { P.rest p.new ≡ P.rest p.old }

@@ -3,7 +3,7 @@ ghost use Rattle.std.specs.Prelude.{◌≡◌, ◌≢◌, ◌&&◌, ◌/◌, ◌
 ghost use Rattle.pdp_decode.specs.declared.instr.Mode.{Mode};
 ghost use Rattle.pdp_decode.specs.declared.instr.Reg.{Reg};
 ghost use Rattle.pdp_decode.specs.declared.instr.Width.{Width};
-ghost use Rattle.pdp_decode.specs.Decode.{reg_of, operand_of};
+ghost use Rattle.pdp_decode.specs.Decode.{reg_of, operand_of, flags_of};
 ghost use Rattle.pdp_decode.specs.Handlers.{IsAddressed};
 ghost use Rattle.pdp_step.specs.Registers.{plus, minus, codes_in};
 ghost use Rattle.pdp_decode.specs.Numbers.{flag_bits};
@@ -101,6 +101,7 @@ pub fn jump<P: Processor, D: AddressingMode>(p: &mut P, from: usize, word: u32) 
     requires room { from ≤ 65538 }
     ensures row { Ends result (P.machine p.new) (finished (P.machine p.old).image (go (jumped (at_pc (P.machine p.old) from) (operand_of word)))) }
     ensures kept { IsTrue D.late → IsMissed result → P.machine p.new ≡ P.machine p.old }
+    ensures image { IsMissed result → (P.machine p.new).image ≡ (P.machine p.old).image }
     ensures missed { IsMissed result → P.MayMiss }
     ensures trapped { IsTrapped result → P.MayTrap }
     ensures rest { P.rest p.new ≡ P.rest p.old }
@@ -150,6 +151,7 @@ pub fn jump_to_subroutine<P: Processor, D: AddressingMode>(
     requires room { from ≤ 65538 }
     ensures row { Ends result (P.machine p.new) (finished (P.machine p.old).image (go (jumped_to_subroutine (at_pc (P.machine p.old) from) (reg_of (word / 64 % 8)) (operand_of word)))) }
     ensures kept { IsTrue (D.late && D.steady) → IsMissed result → P.machine p.new ≡ P.machine p.old }
+    ensures image { IsMissed result → (P.machine p.new).image ≡ (P.machine p.old).image }
     ensures missed { IsMissed result → P.MayMiss }
     ensures trapped { IsTrapped result → P.MayTrap }
     ensures rest { P.rest p.new ≡ P.rest p.old }
@@ -189,6 +191,7 @@ fn pop<P: Processor>(p: &mut P, place: usize) -> Result<u16, Trap>
 pub fn return_by<P: Processor>(p: &mut P, pc: usize, word: u32) -> Result<(), Halt>
     ensures row { Ends result (P.machine p.new) (finished (P.machine p.old).image (go (returned (at_pc (P.machine p.old) pc) (reg_of (word % 8))))) }
     ensures kept { IsMissed result → P.machine p.new ≡ P.machine p.old }
+    ensures image { IsMissed result → (P.machine p.new).image ≡ (P.machine p.old).image }
     ensures missed { IsMissed result → P.MayMiss }
     ensures trapped { IsTrapped result → P.MayTrap }
     ensures rest { P.rest p.new ≡ P.rest p.old }
@@ -215,6 +218,7 @@ pub fn return_by<P: Processor>(p: &mut P, pc: usize, word: u32) -> Result<(), Ha
 #[inline(always)]
 pub fn mark<P: Processor>(p: &mut P, pc: usize, word: u32) -> Result<(), Halt>
     ensures row { Ends result (P.machine p.new) (finished (P.machine p.old).image (go (marked (at_pc (P.machine p.old) pc) (word % 64)))) }
+    ensures image { IsMissed result → (P.machine p.new).image ≡ (P.machine p.old).image }
     ensures missed { IsMissed result → P.MayMiss }
     ensures trapped { IsTrapped result → P.MayTrap }
     ensures rest { P.rest p.new ≡ P.rest p.old }
@@ -267,6 +271,7 @@ fn pop_status<P: Processor>(p: &mut P, first: usize, second: usize) -> Result<()
 #[inline(always)]
 pub fn resume<P: Processor>(p: &mut P, pc: usize) -> Result<(), Halt>
     ensures row { Ends result (P.machine p.new) (finished (P.machine p.old).image (go (resumed (at_pc (P.machine p.old) pc)))) }
+    ensures image { IsMissed result → (P.machine p.new).image ≡ (P.machine p.old).image }
     ensures missed { IsMissed result → P.MayMiss }
     ensures trapped { IsTrapped result → P.MayTrap }
     ensures rest { P.rest p.new ≡ P.rest p.old }
@@ -297,6 +302,15 @@ fn named(cc: u8, set: bool, names: Flags) -> u8
         chosen(names.v, set, k.v),
         chosen(names.c, set, k.c),
     )
+}
+
+/// The codes that a word names.
+#[inline(always)]
+#[tactic(auto, unfolding(pdp_decode::specs::Decode::flags_of, crate::specs::Registers::codes_in))]
+pub fn names_in(word: u32) -> Flags
+    ensures { result ≡ flags_of word }
+{
+    codes((word % 16) as u8)
 }
 
 /// The instructions that set and clear codes.

@@ -2,7 +2,7 @@
 use Rattle.std.proofs.Common.{sym}
 use Rattle.pdp_decode.specs.declared.instr.Width.TheVariants.{Word}
 use Rattle.pdp_decode.specs.declared.instr.Instr.TheVariants.{Mov, Cmp, Bit, Bic, Bis, Add, Sub, Clr, Com, Inc, Dec, Neg, Adc, Sbc, Tst, Ror, Rol, Asr, Asl, Swab, Sxt, Mul, Div, Ash, Ashc, Xor, Jmp, Jsr}
-use Rattle.pdp_decode.proofs.Handled.{double_by, single_by, extended_by, register_of, count_by, branch_by, return_by}
+use Rattle.pdp_decode.proofs.Handled.{double_by, single_by, extended_by, register_of, count_by, branch_by, return_by, codes_by}
 use Rattle.pdp_decode.proofs.dispatch.handler_of.Goals as goal
 
 pub returns-in-Mov : goal.returns-in-Mov
@@ -97,3 +97,6 @@ returns-in-Jsr c = c.jsr.ensures c.args.word (extended_by Jsr c.in-Jsr.field-0 c
 
 pub returns-in-Rts : goal.returns-in-Rts
 returns-in-Rts c = return_by c.in-Rts.field-0 c.args.word c.in-Rts.ensures.word (sym c.in-Rts.ensures.value)
+
+pub returns-in-Codes : goal.returns-in-Codes
+returns-in-Codes c = c.codes.ensures c.args.word (codes_by c.in-Codes.set c.in-Codes.field-1 c.args.word c.in-Codes.ensures.word (sym c.in-Codes.ensures.value))
