@@ -5,7 +5,7 @@ use Rattle.pdp_step.specs.declared.outcome.Outcome.TheVariants.{Next}
 use Rattle.pdp_step.specs.Instruction.{instr}
 use Rattle.pick_rules.specs.Choice.{settle}
 use Rattle.image_keep.specs.declared.running.Fixed.{Fixed}
-use Rattle.image_keep.specs.Kept.{IsKept}
+use Rattle.image_keep.specs.Kept.{Kept, IsKept}
 use Rattle.image_keep.specs.Running.{IsFixed, machine_in, with_machine_in}
 use Rattle.sys_procs.specs.declared.procs.Procs.{Procs}
 use Rattle.abstract_unix.specs.declared.turned.Turned.{Turned}
@@ -19,7 +19,9 @@ use Rattle.abstract_unix.specs.Shared.{OtherTextsStay}
 use Rattle.unix_core.specs.declared.world.World.{World}
 use Rattle.unix_core.specs.declared.machine.Stage.{Stage}
 use Rattle.unix_core.specs.declared.machine.Stage.TheVariants as stage
+use Rattle.unix_core.specs.State.{KernelState}
 use Rattle.unix_core.specs.Parts.{system_at, turn_at, phase_of, HasStepped, IsKernel, IsRunning, IsUser, Takes}
+use Rattle.unix_core.proofs.PutLemmas.{with_images}
 use Rattle.unix_core.proofs.MachineLemmas.{runs_kernel}
 use Rattle.unix_core.proofs.TurnSteps.{has_stepped, stepped_user, quiet_system, plain_answer, plain_goes, plain_next, plain_items}
 use Rattle.unix_core.proofs.PrivateLemmas.{fifty_slots, slot_private}
@@ -62,20 +64,72 @@ module _ (at : Stage) (w : World) (f : Fixed) (is : at ≡ stage.Running f) (ker
     pub next_items : (turn_at w).items ≡ []
     next_items = plain_items (system_at w) f.slot run.user.ready.user then_ done quiet
 
+-- The same, where it was done in place.
+module _ (at : Stage) (w : World) (f : Fixed) (is : at ≡ stage.Running f) (kernel : IsKernel at w) (holds : IsKept w.procs.images) (k : Kept)
+    (kept : k ≡ with_machine_in w.procs.images f.slot (instr (machine_in w.procs.images f.slot)).machine)
+    (next : (instr (machine_in w.procs.images f.slot)).outcome ≡ Next) (fixed : IsFixed k f) where
+  procs_now : record w.procs { images = k } ≡ record w.procs { images = with_machine_in w.procs.images f.slot (instr (machine_in w.procs.images f.slot)).machine }
+  procs_now = ap (λ (x : Kept). record w.procs { images = x }) kept
+
+  pub near_answer : Ran ≡ turned (turn_at w)
+  near_answer = next_answer at w f is kernel holds (record w.procs { images = k }) procs_now (sym next) fixed
+
+  pub near_takes : Takes (turn_at w) at (with_images w k)
+  near_takes = next_takes at w f is kernel holds (record w.procs { images = k }) procs_now (sym next) fixed
+
+  pub near_items : (turn_at w).items ≡ []
+  near_items = next_items at w f is kernel holds (record w.procs { images = k }) procs_now (sym next) fixed
+
+-- what a kernel is to its caller
+abbrev pub state_of : Stage → World → KernelState
+state_of at w = record {
+  system = system_at w;
+  kept = w.procs.images;
+  blocks = w.files.tree.nodes.blocks;
+  stored = w.files.tree.nodes.stored;
+  phase = phase_of at;
+}
+
+-- Nothing was done, and the kernel is the same.
+module _ (at : Stage) (w : World) (k : Kept) (kept : k ≡ w.procs.images) where
+  unchanged : w ≡ with_images w k
+  unchanged = ap (with_images w) (sym kept)
+
+  pub left_kernel : IsKernel at w → IsKernel at (with_images w k)
+  left_kernel kernel = subst (IsKernel at) unchanged kernel
+
+  pub left_kept : IsKept w.procs.images → IsKept k
+  left_kept holds = subst IsKept (sym kept) holds
+
+  pub left_view : (v : KernelState) → state_of at w ≡ v → state_of at (with_images w k) ≡ v
+  left_view v view = ap (state_of at) (sym unchanged) ∙ view
+
 -- What a slot came to is the event of the system that was told.
-module _ (at : Stage) (w : World) (started : phase_of at ≡ Started) (kernel : IsKernel at w) (holds : IsKept w.procs.images) (was : System) (same : system_at w ≡ was) where
-  pub taken_idle : (answer : Turned) → answer ≡ turned (turn_at w) → answer ≡ Idle → NobodyCanRun was.board.table
-  taken_idle answer is = idle_nobody at w started kernel was same answer (is ∙ ap (λ (x : System). turned (event_of Slot x)) same)
+module _ (at : Stage) (w : World) (kernel : IsKernel at w) (holds : IsKept w.procs.images) (v : KernelState) (view : state_of at w ≡ v) (goes : v.phase ≡ Started) where
+  started : phase_of at ≡ Started
+  started = ap (λ (x : KernelState). x.phase) view ∙ goes
+
+  same : system_at w ≡ v.system
+  same = ap (λ (x : KernelState). x.system) view
+
+  pub taken_answer : (answer : Turned) → answer ≡ turned (turn_at w) → answer ≡ turned (event_of Slot v.system)
+  taken_answer answer is = is ∙ ap (λ (x : System). turned (event_of Slot x)) same
+
+  pub taken_idle : (answer : Turned) → answer ≡ turned (turn_at w) → answer ≡ Idle → NobodyCanRun v.system.board.table
+  taken_idle answer is = idle_nobody at w started kernel v.system same answer (taken_answer answer is)
+
+  pub taken_none : (turn_at w).items ≡ [] → (event_of Slot v.system).items ≡ []
+  taken_none none = ap (λ (x : System). (event_of Slot x).items) (sym same) ∙ none
 
   module _ (at' : Stage) (w' : World) (takes : Takes (turn_at w) at' w') where
-    pub taken_next : system_at w' ≡ (event_of Slot was).next
+    pub taken_next : system_at w' ≡ (event_of Slot v.system).next
     taken_next = takes.system ∙ ap (λ (x : System). (event_of Slot x).next) same
 
-    pub taken_phase : phase_of at' ≡ phase_after (event_of Slot was).ending
+    pub taken_phase : phase_of at' ≡ phase_after (event_of Slot v.system).ending
     taken_phase = takes.phase ∙ ap (λ (x : System). phase_after (event_of Slot x).ending) same
 
-    pub taken_private : OthersUndisturbed was (system_at w')
-    taken_private = subst (λ (n : System). OthersUndisturbed was n) (sym taken_next) (slot_private was (fifty_slots w was same))
+    pub taken_private : OthersUndisturbed v.system (system_at w')
+    taken_private = subst (λ (n : System). OthersUndisturbed v.system n) (sym taken_next) (slot_private v.system (fifty_slots w v.system same))
 
-    pub taken_texts : OtherTextsStay was (event_of Slot was).items (system_at w')
-    taken_texts = turned_stays at w started kernel holds was _ same taken_next
+    pub taken_texts : OtherTextsStay v.system (event_of Slot v.system).items (system_at w')
+    taken_texts = turned_stays at w started kernel holds v.system _ same taken_next

@@ -161,6 +161,7 @@ impl Kernel {
 
     /// Takes one slot: the turn of the running process, which is one instruction with its call, or the rest of a call in which
     /// it slept. Where it comes to a panic, the run has stopped: no event is taken any more.
+    #[inline(always)]
     pub fn turn<T: Trace>(&mut self, trace: &mut T) -> Turned
         requires { self.old.phase ≡ Started }
         ensures phase { self.new.phase ≡ phase_after (event_of Slot self.old.system).ending }
@@ -183,8 +184,7 @@ impl Kernel {
                 }
                 self.machine.careful(trace)
             }
-            Stage::Resting => self.machine.other_slot(trace),
-            Stage::New | Stage::Stopped | Stage::Finished => unreachable!(),
+            _ => self.machine.other_slot(trace),
         }
     }
 

@@ -4,4 +4,4 @@ use Rattle.unix_core.proofs.kernel.Kernel.boot.Goals as goal
 
 pub returns-clause-system : goal.returns-clause-system
 returns-clause-system c =
-    boots_as c.args.image.now c.args.core c.take_root.new.nodes.store _ c.in_default.ensures (c.take_root.ensures.store ∙ c.in-Ok.ensures.store) c.new-3.ensures.system
+    boots_as c.args.image.now c.args.core c.take_root.new.nodes.store _ c.in_default.ensures (c.take_root.ensures.store ∙ c.in-Ok.ensures.store) c.new-4.ensures.system

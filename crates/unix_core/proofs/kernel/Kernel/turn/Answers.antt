@@ -1,153 +1,103 @@
-use Rattle.std.proofs.Common.{◌≡◌, ◌∙◌, ap, sym, subst}
-use Rattle.v6_base.specs.Trace.{Took}
 use Rattle.v6_base.proofs.Took.{took_nothing}
-use Rattle.fs_laws.specs.Rest.{SameRest}
-use Rattle.unix_core.specs.declared.world.World.{World}
-use Rattle.unix_core.specs.declared.machine.Stage.{Stage}
-use Rattle.abstract_unix.specs.Unix.{System}
-use Rattle.unix_core.specs.State.{KernelState}
-use Rattle.abstract_unix.specs.Endings.{phase_after}
-use Rattle.abstract_unix.specs.Turn.{Turn, turned}
-use Rattle.abstract_unix.specs.Runs.{Slot, event_of}
-use Rattle.unix_core.specs.Parts.{system_at, phase_of, HasStepped, IsKernel, IsPaused, IsRunning}
-use Rattle.unix_core.proofs.MachineLemmas.{runs_kernel}
-use Rattle.unix_core.proofs.TurnSteps.{has_stepped, stepped_user, user_slot, quiet_system, plain_answer, plain_goes, plain_next, plain_items}
-use Rattle.abstract_unix.specs.Private.{OthersUndisturbed}
-use Rattle.unix_core.proofs.PrivateLemmas.{fifty_slots, slot_private}
-use Rattle.unix_core.proofs.StayingLemmas.{turned_stays}
-use Rattle.unix_core.proofs.IdleLemmas.{idle_nobody}
+use Rattle.unix_core.specs.Parts.{turn_at, Takes}
+use Rattle.unix_core.proofs.PutLemmas.{with_images}
+use Rattle.unix_core.proofs.TakenLemmas.{near_answer, near_takes, near_items, left_kernel, left_kept, left_view, taken_answer, taken_idle, taken_none, taken_next, taken_phase, taken_private, taken_texts}
+use Rattle.unix_core.proofs.kernel.Kernel.turn.Given as given
+use Rattle.unix_core.proofs.kernel.Kernel.turn.Goals.{Then-execute_near}
 use Rattle.unix_core.proofs.kernel.Kernel.turn.Goals as goal
 
-pub execute-requires : goal.execute-requires
-execute-requires g c =
-    (c.self.invariant.running c.in-Running.fixed c.in-Running.is).fixed
+pub execute_near-requires : goal.execute_near-requires
+execute_near-requires g c = (c.self.invariant.running c.in-Running.fixed c.in-Running.is).fixed
+
+-- An instruction was done where the process stands.
+did : (g : given.Over) (c : Then-execute_near g)
+    → Takes (turn_at c.self.inside.machine.world) c.self.inside.machine.stage (with_images c.self.inside.machine.world c.execute_near.new.self)
+did g c =
+    let m = c.self.inside.machine in
+    near_takes m.stage m.world c.in-Running.fixed c.in-Running.is c.self.invariant c.see_kept.ensures c.execute_near.new.self
+    (c.execute_near.ensures.done c.if-execute_near.true) (c.execute_near.ensures.outcome c.if-execute_near.true) c.execute_near.ensures.fixed
 
 pub invariant_of-self : goal.invariant_of-self
-invariant_of-self g c =
-    let w : World = c.self.inside.machine.world in
-    let f = c.in-Running.fixed in
-    let run : IsRunning f w = c.self.invariant.running f c.in-Running.is in
-    let then_ : World = record w { procs = c.execute.new.procs } in
-    subst (λ (at : Stage). IsKernel at then_) (sym c.in-Running.is)
-    (runs_kernel then_ f (record { user = stepped_user w f.slot run.user c.see_kept.ensures c.execute.new.procs c.execute.ensures.kept; fixed = c.execute.ensures.fixed }))
+invariant_of-self g c = (did g c).kernel
 
-pub after_step-requires : goal.after_step-requires
-after_step-requires g c =
-    let w : World = c.self.inside.machine.world in
-    let f = c.in-Running.fixed in
-    let run : IsRunning f w = c.self.invariant.running f c.in-Running.is in
-    let then_ : World = record w { procs = c.execute.new.procs } in
-    stepped_user w f.slot run.user c.see_kept.ensures c.execute.new.procs c.execute.ensures.kept
-
-pub returns-in-Next-clause-answer : goal.returns-in-Next-clause-answer
-returns-in-Next-clause-answer g c =
-    let w : World = c.self.inside.machine.world in
-    let f = c.in-Running.fixed in
-    let run : IsRunning f w = c.self.invariant.running f c.in-Running.is in
-    let then_ : World = record w { procs = c.execute.new.procs } in
-    let same : system_at w ≡ c.args.self.now.system = ap (λ (x : KernelState). x.system) c.self.view_is in
-    let done : HasStepped (system_at w) then_ f.slot c.execute.result = has_stepped w f.slot run.user c.see_kept.ensures c.execute.new.procs c.execute.ensures.kept c.execute.result c.execute.ensures.outcome in
-    let next = subst (λ o. HasStepped (system_at w) then_ f.slot o) c.in-Next.is done in
-    plain_answer (system_at w) f.slot run.user.ready.user then_ next (quiet_system w f.slot run.user)
-    ∙ ap (λ (x : System). turned (event_of Slot x)) same
-
-pub returns-in-Next-clause-next : goal.returns-in-Next-clause-next
-returns-in-Next-clause-next g c =
-    let w : World = c.self.inside.machine.world in
-    let f = c.in-Running.fixed in
-    let run : IsRunning f w = c.self.invariant.running f c.in-Running.is in
-    let then_ : World = record w { procs = c.execute.new.procs } in
-    let same : system_at w ≡ c.args.self.now.system = ap (λ (x : KernelState). x.system) c.self.view_is in
-    let done : HasStepped (system_at w) then_ f.slot c.execute.result = has_stepped w f.slot run.user c.see_kept.ensures c.execute.new.procs c.execute.ensures.kept c.execute.result c.execute.ensures.outcome in
-    let next = subst (λ o. HasStepped (system_at w) then_ f.slot o) c.in-Next.is done in
-    plain_next (system_at w) f.slot run.user.ready.user then_ next (quiet_system w f.slot run.user)
-    ∙ ap (λ (x : System). (event_of Slot x).next) same
-
-pub returns-in-Next-clause-private : goal.returns-in-Next-clause-private
-returns-in-Next-clause-private g c =
-    let was : System = c.args.self.now.system in
-    let fifty = fifty_slots c.self.inside.machine.world was (ap (λ (x : KernelState). x.system) c.self.view_is) in
-    subst (λ (n : System). OthersUndisturbed was n) (sym (returns-in-Next-clause-next g c)) (slot_private was fifty)
-
-pub returns-in-Next-clause-texts : goal.returns-in-Next-clause-texts
-returns-in-Next-clause-texts g c =
+pub returns-then-execute_near-clause-phase : goal.returns-then-execute_near-clause-phase
+returns-then-execute_near-clause-phase g c =
     let m = c.self.inside.machine in
-    let started = ap (λ (x : KernelState). x.phase) c.self.view_is ∙ c.requires in
-    turned_stays m.stage m.world started c.self.invariant c.see_kept.ensures _ _
-    (ap (λ (x : KernelState). x.system) c.self.view_is) (returns-in-Next-clause-next g c)
+    taken_phase m.stage m.world c.self.invariant c.see_kept.ensures c.args.self.now c.self.view_is c.requires m.stage (with_images m.world c.execute_near.new.self) (did g c)
 
-pub returns-in-Next-clause-items : goal.returns-in-Next-clause-items
-returns-in-Next-clause-items g c =
-    let w : World = c.self.inside.machine.world in
-    let f = c.in-Running.fixed in
-    let run : IsRunning f w = c.self.invariant.running f c.in-Running.is in
-    let then_ : World = record w { procs = c.execute.new.procs } in
-    let same : system_at w ≡ c.args.self.now.system = ap (λ (x : KernelState). x.system) c.self.view_is in
-    let done : HasStepped (system_at w) then_ f.slot c.execute.result = has_stepped w f.slot run.user c.see_kept.ensures c.execute.new.procs c.execute.ensures.kept c.execute.result c.execute.ensures.outcome in
-    let next = subst (λ o. HasStepped (system_at w) then_ f.slot o) c.in-Next.is done in
-    took_nothing _ _ (ap (λ (x : System). (event_of Slot x).items) (sym same)
-    ∙ plain_items (system_at w) f.slot run.user.ready.user then_ next (quiet_system w f.slot run.user))
-
-pub returns-in-Next-clause-phase : goal.returns-in-Next-clause-phase
-returns-in-Next-clause-phase g c =
-    let w : World = c.self.inside.machine.world in
-    let f = c.in-Running.fixed in
-    let run : IsRunning f w = c.self.invariant.running f c.in-Running.is in
-    let then_ : World = record w { procs = c.execute.new.procs } in
-    let same : system_at w ≡ c.args.self.now.system = ap (λ (x : KernelState). x.system) c.self.view_is in
-    let done : HasStepped (system_at w) then_ f.slot c.execute.result = has_stepped w f.slot run.user c.see_kept.ensures c.execute.new.procs c.execute.ensures.kept c.execute.result c.execute.ensures.outcome in
-    let next = subst (λ o. HasStepped (system_at w) then_ f.slot o) c.in-Next.is done in
-    ap phase_of c.in-Running.is
-    ∙ ap phase_after (sym (plain_goes (system_at w) f.slot run.user.ready.user then_ next (quiet_system w f.slot run.user)))
-    ∙ ap (λ (x : System). phase_after (event_of Slot x).ending) same
-
-pub returns-in_default : goal.returns-in_default
-returns-in_default g c =
-    let w : World = c.self.inside.machine.world in
-    let f = c.in-Running.fixed in
-    let run : IsRunning f w = c.self.invariant.running f c.in-Running.is in
-    let then_ : World = record w { procs = c.execute.new.procs } in
-    let same : system_at w ≡ c.args.self.now.system = ap (λ (x : KernelState). x.system) c.self.view_is in
-    let done : HasStepped (system_at w) then_ f.slot c.execute.result = has_stepped w f.slot run.user c.see_kept.ensures c.execute.new.procs c.execute.ensures.kept c.execute.result c.execute.ensures.outcome in
-    let after = c.after_step in
-    let slot = sym (user_slot (system_at w) f.slot run.user.ready.runs run.user.ready.user) ∙ ap (event_of Slot) same in
-    let was : System = c.args.self.now.system in
-    let takes = after.ensures.takes (system_at w) done in
-    let next = takes.system ∙ ap (λ (t : Turn). t.next) slot in
-    let answer = after.ensures.answer (system_at w) done ∙ ap turned slot in
-    record {
-      answer = answer;
-      phase = takes.phase ∙ ap (λ (t : Turn). phase_after t.ending) slot;
-      idle = idle_nobody c.self.inside.machine.stage w (ap (λ (x : KernelState). x.phase) c.self.view_is ∙ c.requires) c.self.invariant was same _ answer;
-      next = next;
-      private = subst (λ (n : System). OthersUndisturbed was n) (sym next) (slot_private was (fifty_slots w was same));
-      texts = turned_stays c.self.inside.machine.stage w (ap (λ (x : KernelState). x.phase) c.self.view_is ∙ c.requires)
-          c.self.invariant c.see_kept.ensures was _ same next;
-      rest = subst (λ b. SameRest b after.new.self.world.files.tree.nodes.blocks) (ap (λ (x : KernelState). x.blocks) c.self.view_is) after.ensures.rest;
-      items = subst (λ (t : Turn). Took (g.T.Trace.taken c.args.trace.now) t.items (g.T.Trace.taken after.new.trace)) slot (after.ensures.items (system_at w) done);
-      frame = after.ensures.frame;
-    }
-
-pub returns-in-Resting : goal.returns-in-Resting
-returns-in-Resting g c =
+pub returns-then-execute_near-clause-answer : goal.returns-then-execute_near-clause-answer
+returns-then-execute_near-clause-answer g c =
     let m = c.self.inside.machine in
-    let other = c.other_slot in
-    let kernel : IsPaused m.world = c.self.invariant.resting c.in-Resting.is in
-    let same : event_of Slot (system_at m.world) ≡ event_of Slot c.args.self.now.system =
-    ap (λ (x : KernelState). event_of Slot x.system) c.self.view_is in
-    let was : System = c.args.self.now.system in
-    let next = other.ensures.takes.system ∙ ap (λ (t : Turn). t.next) same in
-    let answer = other.ensures.answer ∙ ap turned same in
-    record {
-      answer = answer;
-      phase = other.ensures.takes.phase ∙ ap (λ (t : Turn). phase_after t.ending) same;
-      idle = idle_nobody m.stage m.world (ap phase_of c.in-Resting.is) c.self.invariant was (ap (λ (x : KernelState). x.system) c.self.view_is) _ answer;
-      next = next;
-      private = subst (λ (n : System). OthersUndisturbed was n) (sym next)
-          (slot_private was (fifty_slots m.world was (ap (λ (x : KernelState). x.system) c.self.view_is)));
-      texts = turned_stays m.stage m.world (ap (λ (x : KernelState). x.phase) c.self.view_is ∙ c.requires) c.self.invariant
-          c.see_kept.ensures was _ (ap (λ (x : KernelState). x.system) c.self.view_is) next;
-      rest = subst (λ b. SameRest b other.new.self.world.files.tree.nodes.blocks) (ap (λ (x : KernelState). x.blocks) c.self.view_is) other.ensures.rest;
-      items = subst (λ (t : Turn). Took (g.T.Trace.taken c.args.trace.now) t.items (g.T.Trace.taken other.new.trace)) same other.ensures.items;
-      frame = other.ensures.frame;
-    }
+    taken_answer m.stage m.world c.self.invariant c.see_kept.ensures c.args.self.now c.self.view_is c.requires _
+    (near_answer m.stage m.world c.in-Running.fixed c.in-Running.is c.self.invariant c.see_kept.ensures c.execute_near.new.self
+    (c.execute_near.ensures.done c.if-execute_near.true) (c.execute_near.ensures.outcome c.if-execute_near.true) c.execute_near.ensures.fixed)
+
+pub returns-then-execute_near-clause-next : goal.returns-then-execute_near-clause-next
+returns-then-execute_near-clause-next g c =
+    let m = c.self.inside.machine in
+    taken_next m.stage m.world c.self.invariant c.see_kept.ensures c.args.self.now c.self.view_is c.requires m.stage (with_images m.world c.execute_near.new.self) (did g c)
+
+pub returns-then-execute_near-clause-private : goal.returns-then-execute_near-clause-private
+returns-then-execute_near-clause-private g c =
+    let m = c.self.inside.machine in
+    taken_private m.stage m.world c.self.invariant c.see_kept.ensures c.args.self.now c.self.view_is c.requires m.stage (with_images m.world c.execute_near.new.self) (did g c)
+
+pub returns-then-execute_near-clause-texts : goal.returns-then-execute_near-clause-texts
+returns-then-execute_near-clause-texts g c =
+    let m = c.self.inside.machine in
+    taken_texts m.stage m.world c.self.invariant c.see_kept.ensures c.args.self.now c.self.view_is c.requires m.stage (with_images m.world c.execute_near.new.self) (did g c)
+
+pub returns-then-execute_near-clause-items : goal.returns-then-execute_near-clause-items
+returns-then-execute_near-clause-items g c =
+    let m = c.self.inside.machine in
+    took_nothing _ _ (taken_none m.stage m.world c.self.invariant c.see_kept.ensures c.args.self.now c.self.view_is c.requires
+    (near_items m.stage m.world c.in-Running.fixed c.in-Running.is c.self.invariant c.see_kept.ensures c.execute_near.new.self
+    (c.execute_near.ensures.done c.if-execute_near.true) (c.execute_near.ensures.outcome c.if-execute_near.true) c.execute_near.ensures.fixed))
+
+pub careful-requires-clause-kernel : goal.careful-requires-clause-kernel
+careful-requires-clause-kernel g c =
+    let m = c.self.inside.machine in
+    left_kernel m.stage m.world c.execute_near.new.self (c.execute_near.ensures.kept c.if-execute_near.false) c.self.invariant
+
+pub returns-else-execute_near-clause-idle : goal.returns-else-execute_near-clause-idle
+returns-else-execute_near-clause-idle g c =
+    let m = c.self.inside.machine in
+    let k = c.execute_near.new.self in
+    let kept = c.execute_near.ensures.kept c.if-execute_near.false in
+    taken_idle m.stage (with_images m.world k) (left_kernel m.stage m.world k kept c.self.invariant) (left_kept m.stage m.world k kept c.see_kept.ensures)
+    c.args.self.now (left_view m.stage m.world k kept c.args.self.now c.self.view_is) c.requires c.careful.result c.careful.ensures.answer
+
+pub returns-else-execute_near-clause-private : goal.returns-else-execute_near-clause-private
+returns-else-execute_near-clause-private g c =
+    let m = c.self.inside.machine in
+    let k = c.execute_near.new.self in
+    let kept = c.execute_near.ensures.kept c.if-execute_near.false in
+    taken_private m.stage (with_images m.world k) (left_kernel m.stage m.world k kept c.self.invariant) (left_kept m.stage m.world k kept c.see_kept.ensures)
+    c.args.self.now (left_view m.stage m.world k kept c.args.self.now c.self.view_is) c.requires
+    c.careful.new.self.stage c.careful.new.self.world c.careful.ensures.takes
+
+pub returns-else-execute_near-clause-texts : goal.returns-else-execute_near-clause-texts
+returns-else-execute_near-clause-texts g c =
+    let m = c.self.inside.machine in
+    let k = c.execute_near.new.self in
+    let kept = c.execute_near.ensures.kept c.if-execute_near.false in
+    taken_texts m.stage (with_images m.world k) (left_kernel m.stage m.world k kept c.self.invariant) (left_kept m.stage m.world k kept c.see_kept.ensures)
+    c.args.self.now (left_view m.stage m.world k kept c.args.self.now c.self.view_is) c.requires
+    c.careful.new.self.stage c.careful.new.self.world c.careful.ensures.takes
+
+pub returns-in_default-clause-idle : goal.returns-in_default-clause-idle
+returns-in_default-clause-idle g c =
+    let m = c.self.inside.machine in
+    taken_idle m.stage m.world c.self.invariant c.see_kept.ensures c.args.self.now c.self.view_is c.requires c.other_slot.result c.other_slot.ensures.answer
+
+pub returns-in_default-clause-private : goal.returns-in_default-clause-private
+returns-in_default-clause-private g c =
+    let m = c.self.inside.machine in
+    taken_private m.stage m.world c.self.invariant c.see_kept.ensures c.args.self.now c.self.view_is c.requires
+    c.other_slot.new.self.stage c.other_slot.new.self.world c.other_slot.ensures.takes
+
+pub returns-in_default-clause-texts : goal.returns-in_default-clause-texts
+returns-in_default-clause-texts g c =
+    let m = c.self.inside.machine in
+    taken_texts m.stage m.world c.self.invariant c.see_kept.ensures c.args.self.now c.self.view_is c.requires
+    c.other_slot.new.self.stage c.other_slot.new.self.world c.other_slot.ensures.takes

@@ -38,8 +38,8 @@ returns-in-Next-clause-items g c =
     took_nothing _ _ (next_items m.stage m.world c.in-Running.fixed c.in-Running.is c.requires.kernel c.see_kept.ensures c.execute.new.procs c.execute.ensures.kept
     (sym c.in-Next.is ∙ c.execute.ensures.outcome) c.execute.ensures.fixed)
 
-pub returns-in_default : goal.returns-in_default
-returns-in_default g c =
+pub returns-in_default-execute : goal.returns-in_default-execute
+returns-in_default-execute g c =
     let w : World = c.args.self.now.world in
     let f = c.in-Running.fixed in
     let run : IsRunning f w = c.requires.kernel.running f c.in-Running.is in
