@@ -5,9 +5,10 @@ ghost use Rattle.image_keep.specs.Growth.{most_clicks};
 ghost use Rattle.image_keep.specs.Area.{no_area};
 ghost use Rattle.image_keep.specs.Memory.{no_row};
 ghost use Rattle.image_keep.specs.Places.{swap_fit, with_grave_at};
+ghost use Rattle.image_keep.specs.Running.{with_state};
 ghost use Rattle.u_area.specs.Area.{IsSized};
 
-use crate::areas::{area_at, put_area};
+use crate::areas::{area_at, put_area, put_state};
 use crate::making::made_area;
 use crate::memory::Memory;
 use crate::parts::{
@@ -15,6 +16,7 @@ use crate::parts::{
     row_of, set_row,
 };
 use crate::row::{Row, State};
+use crate::state::state_bytes;
 use map_fit::Holes;
 use std::alloc::{AllocError, Global};
 use std::marker::Model;
@@ -153,6 +155,20 @@ impl Images {
         let at = place_click(self.core, place_of(row));
         self.memory.put(64 * at, &front);
         put_area(&mut self.areas, s as usize, u);
+    }
+
+    /// Puts registers and condition codes into the u area of a slot with an image: its first 18 bytes are written, and the
+    /// rest stands there as it was.
+    pub fn set_registers(&mut self, s: Slot, r: &[u16; 8], cc: u8)
+        requires image { HasImage self.old s }
+        requires codes { cc < 16 }
+        ensures { self.new ≡ with_area self.old s (with_state (area_of self.old s) r.now cc) }
+    {
+        self.memory.see_bytes();
+        let row = row_of(&self.rows, s as usize);
+        let at = place_click(self.core, place_of(row));
+        self.memory.put(64 * at, &state_bytes(r, cc));
+        put_state(&mut self.areas, s as usize, r, cc);
     }
 
     /// Keeps of a process that ends half of its u area, in a block of the swap area, which is the answer. Lions'

@@ -29,8 +29,11 @@ impl Images {
         ensures loan { result.images.ghost_name ≡ self.entry.ghost_name }
         ensures slot { result.slot ≡ s }
     {
-        let fixed = self.fixed(s);
-        self.space_at(&fixed)
+        SpaceOf {
+            starts: self.starts(s),
+            images: self,
+            slot: s as usize,
+        }
     }
 
     /// The memory of the process of which this is fixed.

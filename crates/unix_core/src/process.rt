@@ -46,10 +46,10 @@ fn enter(images: &mut Images, s: Slot, words: u8)
     requires { HasImage images.old s }
     ensures { images.new ≡ with_area images.old s (entered_area words (area_of images.old s)) }
 {
-    let mut u = images.area(s);
-    u.cc -= u.cc % 2;
-    u.r[7] = u.r[7].wrapping_add(2 * u16::from(words));
-    images.set_area(s, &u);
+    let u = images.area(s);
+    let mut r = u.r;
+    r[7] = r[7].wrapping_add(2 * u16::from(words));
+    images.set_registers(s, &r, u.cc - u.cc % 2);
 }
 
 /// R0 and R1 take what a call gives.
@@ -57,10 +57,11 @@ fn give(images: &mut Images, s: Slot, r0: u16, r1: u16)
     requires { HasImage images.old s }
     ensures { images.new ≡ with_area images.old s (given_area r0 r1 (area_of images.old s)) }
 {
-    let mut u = images.area(s);
-    u.r[0] = r0;
-    u.r[1] = r1;
-    images.set_area(s, &u);
+    let u = images.area(s);
+    let mut r = u.r;
+    r[0] = r0;
+    r[1] = r1;
+    images.set_registers(s, &r, u.cc);
 }
 
 /// A call is refused: C is set, and R0 takes the number of the error.
@@ -68,10 +69,10 @@ fn refuse(images: &mut Images, s: Slot, number: u16)
     requires { HasImage images.old s }
     ensures { images.new ≡ with_area images.old s (refused_area number (area_of images.old s)) }
 {
-    let mut u = images.area(s);
-    u.cc = u.cc - u.cc % 2 + 1;
-    u.r[0] = number;
-    images.set_area(s, &u);
+    let u = images.area(s);
+    let mut r = u.r;
+    r[0] = number;
+    images.set_registers(s, &r, u.cc - u.cc % 2 + 1);
 }
 
 /// The number of an error: INTRO(II).

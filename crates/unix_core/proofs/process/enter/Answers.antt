@@ -1,13 +1,13 @@
-use Rattle.std.proofs.Common.{◌∙◌, ap}
+use Rattle.std.proofs.Common.{◌+◌, ◌-◌, ◌*◌, ◌%◌, ◌∙◌, slice_index, slice_set, ap}
 use Rattle.u_area.specs.declared.area.UArea.{UArea}
-use Rattle.image_keep.specs.Kept.{with_area}
-use Rattle.abstract_unix.specs.Calls.{entered_area}
-use Rattle.image_keep.proofs.Registers.{state_is}
+use Rattle.image_keep.specs.Kept.{area_of, with_area}
+use Rattle.image_keep.specs.Running.{with_state}
 use Rattle.unix_core.proofs.process.enter.Goals as goal
 
 pub returns : goal.returns
 returns c =
-    c.set_area.ensures
-    ∙ ap (with_area c.args.images.now c.args.s) (state_is c.area-u.result _ _ _)
-    ∙ ap (λ n. with_area c.args.images.now c.args.s (entered_area n c.area-u.result)) c.from.ensures
-    ∙ ap (λ (u : UArea). with_area c.args.images.now c.args.s (entered_area c.args.words u)) c.area-u.ensures.u
+    c.set_registers.ensures
+    ∙ ap (λ n. with_area c.args.images.now c.args.s (with_state (area_of c.args.images.now c.args.s)
+        (slice_set c.area-u.result.r 7 ((slice_index c.area-u.result.r 7 + 2 * n) % 65536)) (c.area-u.result.cc - c.area-u.result.cc % 2))) c.from.ensures
+    ∙ ap (λ (u : UArea). with_area c.args.images.now c.args.s (with_state (area_of c.args.images.now c.args.s)
+        (slice_set u.r 7 ((slice_index u.r 7 + 2 * c.args.words) % 65536)) (u.cc - u.cc % 2))) c.area-u.ensures.u
