@@ -14,20 +14,20 @@ returns-in-Some-clause-kept c =
 
 pub returns-then-execute_any-clause-outcome : goal.returns-then-execute_any-clause-outcome
 returns-then-execute_any-clause-outcome c =
-    sym (c.execute_any.ensures.outcome c.if-execute_any.true) ∙ outcome_same c.args.procs.now c.args.fixed.now c.call_near.new.self c.in_default.ensures.kept
+    sym (c.execute_any.ensures.outcome c.if-execute_any.true) ∙ outcome_same c.args.procs.now c.args.fixed.now c.call_near.new.self (c.call_near.ensures.kept c.in_default.is)
 
 pub returns-then-execute_any-clause-kept : goal.returns-then-execute_any-clause-kept
 returns-then-execute_any-clause-kept c =
     let p : Procs = c.args.procs.now in
-    ap (λ (k : Kept). record p { images = k }) (c.execute_any.ensures.done c.if-execute_any.true) ∙ procs_same p c.args.fixed.now c.call_near.new.self c.in_default.ensures.kept
+    ap (λ (k : Kept). record p { images = k }) (c.execute_any.ensures.done c.if-execute_any.true) ∙ procs_same p c.args.fixed.now c.call_near.new.self (c.call_near.ensures.kept c.in_default.is)
 
-pub returns-else-execute_any-clause-outcome : goal.returns-else-execute_any-clause-outcome
-returns-else-execute_any-clause-outcome c =
+pub returns-clause-outcome : goal.returns-clause-outcome
+returns-clause-outcome c =
     c.execute_lent.ensures.outcome
-    ∙ outcome_same c.args.procs.now c.args.fixed.now c.execute_any.new.self (c.execute_any.ensures.kept c.if-execute_any.false ∙ c.in_default.ensures.kept)
+    ∙ outcome_same c.args.procs.now c.args.fixed.now c.execute_any.new.self (c.execute_any.ensures.kept c.if-execute_any.false ∙ (c.call_near.ensures.kept c.in_default.is))
 
-pub returns-else-execute_any-clause-kept : goal.returns-else-execute_any-clause-kept
-returns-else-execute_any-clause-kept c =
+pub returns-clause-kept : goal.returns-clause-kept
+returns-clause-kept c =
     let p : Procs = c.args.procs.now in
     c.execute_lent.ensures.kept
-    ∙ procs_same p c.args.fixed.now c.execute_any.new.self (c.execute_any.ensures.kept c.if-execute_any.false ∙ c.in_default.ensures.kept)
+    ∙ procs_same p c.args.fixed.now c.execute_any.new.self (c.execute_any.ensures.kept c.if-execute_any.false ∙ (c.call_near.ensures.kept c.in_default.is))
