@@ -32,9 +32,9 @@ fn attempt_in(
     memory.attempt(&mut areas[s], standing, dispatch)
 }
 
-/// The same for an instruction that isn't frequent.
+/// The same for an instruction whose handler has no row in place.
 #[inline(always)]
-fn attempt_other_in(
+fn attempt_any_in(
     memory: &mut Memory,
     areas: &mut [UArea],
     s: usize,
@@ -48,7 +48,7 @@ fn attempt_other_in(
     ensures areas { areas.new ≡ slice_set areas.old s (area_at areas.new s) }
     ensures long { length areas.new ≡ length areas.old }
 {
-    memory.attempt_other(&mut areas[s], standing, dispatch)
+    memory.attempt_any(&mut areas[s], standing, dispatch)
 }
 
 impl Images {
@@ -62,12 +62,12 @@ impl Images {
         ensures kept { result ≡ false → self.new ≡ self.old }
         ensures fixed { IsFixed self.new fixed.now }
     {
-        self.execute_frequent(fixed, dispatch) || self.execute_other(fixed, dispatch)
+        self.execute_by_handler(fixed, dispatch) || self.execute_any(fixed, dispatch)
     }
 
-    /// The same for an instruction that is frequent.
+    /// The same for an instruction whose handler has a row in place.
     #[inline(always)]
-    fn execute_frequent(&mut self, fixed: &Fixed, dispatch: &Dispatch) -> bool
+    fn execute_by_handler(&mut self, fixed: &Fixed, dispatch: &Dispatch) -> bool
         requires { IsFixed self.old fixed.now }
         ensures outcome { IsTrue result → (instr (machine_in self.old fixed.now.slot)).outcome ≡ Next }
         ensures done { IsTrue result → self.new ≡ with_machine_in self.old fixed.now.slot (instr (machine_in self.old fixed.now.slot)).machine }
@@ -84,9 +84,9 @@ impl Images {
         )
     }
 
-    /// The same for any other instruction. It stands out of line, to keep the first small.
+    /// The same for any other instruction. It stands out of line, to keep the loop over slots small.
     #[inline(never)]
-    fn execute_other(&mut self, fixed: &Fixed, dispatch: &Dispatch) -> bool
+    fn execute_any(&mut self, fixed: &Fixed, dispatch: &Dispatch) -> bool
         requires { IsFixed self.old fixed.now }
         ensures outcome { IsTrue result → (instr (machine_in self.old fixed.now.slot)).outcome ≡ Next }
         ensures done { IsTrue result → self.new ≡ with_machine_in self.old fixed.now.slot (instr (machine_in self.old fixed.now.slot)).machine }
@@ -94,7 +94,7 @@ impl Images {
         ensures fixed { IsFixed self.new fixed.now }
     {
         self.memory.see_bytes();
-        attempt_other_in(
+        attempt_any_in(
             &mut self.memory,
             &mut self.areas,
             fixed.index,

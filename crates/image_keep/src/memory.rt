@@ -364,9 +364,9 @@ impl Memory {
         attempt(self.core.bytes_mut(), area, standing, dispatch)
     }
 
-    /// The same for an instruction that isn't frequent.
+    /// The same for an instruction whose handler has no row in place.
     #[inline(always)]
-    pub(crate) fn attempt_other(
+    pub(crate) fn attempt_any(
         &mut self,
         area: &mut UArea,
         standing: &Standing,
