@@ -1,10 +1,15 @@
--- A row that is done is the instruction at PC.
-use Rattle.std.proofs.Common.{◌≡◌, ℕ, ◌+◌, ◌%◌, ◌<◌, Ok, sym, ap, ◌∙◌, arith}
+-- A row that is done is the instruction at PC; so is a call that is asked for.
+use Rattle.std.proofs.Common.{◌≡◌, ℕ, ◌+◌, ◌%◌, ◌<◌, Result, Ok, sym, ap, ◌∙◌, arith}
+use Rattle.v6_base.specs.declared.space.Trap.{Trap}
 use Rattle.v6_base.specs.Access.{load_word}
 use Rattle.pdp_decode.specs.declared.instr.Reg.TheVariants.{Pc}
-use Rattle.pdp_step.specs.declared.outcome.Outcome.TheVariants.{Next}
-use Rattle.pdp_step.specs.Machine.{Machine, reg_in}
-use Rattle.pdp_step.specs.Instruction.{stepped, instr}
+use Rattle.pdp_decode.specs.declared.instr.Instr.{Instr}
+use Rattle.pdp_decode.specs.declared.instr.Instr.TheVariants.{Sys}
+use Rattle.pdp_decode.specs.Decode.{decode_of}
+use Rattle.pdp_step.specs.declared.outcome.Outcome.TheVariants.{Next, Call}
+use Rattle.pdp_step.specs.Machine.{Machine, reg_in, with_reg, passed}
+use Rattle.pdp_step.specs.Operands.{at_memory, word_at}
+use Rattle.pdp_step.specs.Instruction.{row_of, begun, plan_of, settled, stepped, instr}
 use Rattle.pdp_step.proofs.Ends.{instr_done}
 use Rattle.pdp_step.proofs.TableRows.{attempted}
 use Rattle.image_keep.specs.Near.{IsRowDone}
@@ -13,3 +18,11 @@ pub instr_row : (m new : Machine) (pc word : ℕ) → pc ≡ reg_in m Pc → pc 
 instr_row m new pc word is small loaded done =
     let low : pc % 65536 ≡ pc = omega (arith, small) in
     sym (instr_done m new (attempted (Ok tt) new m pc word is small (sym (ap (λ (a : ℕ). load_word m.image a) low ∙ loaded)) done))
+
+pub instr_call : (m : Machine) (pc word n : ℕ) → pc ≡ reg_in m Pc → load_word m.image pc ≡ Ok word → decode_of word ≡ Sys n → instr m ≡ stepped (Call n) (with_reg m Pc ((pc + 2) % 65536))
+unfolding instr plan_of word_at row_of
+instr_call m pc word n is loaded asks =
+    let load : load_word m.image (reg_in m Pc) ≡ Ok word = ap (λ (a : ℕ). load_word m.image a) (sym is) ∙ loaded in
+    ap (λ (r : Result ℕ Trap). settled m (begun m (at_memory m r))) load
+    ∙ ap (λ (i : Instr). settled m (row_of (passed m) word i)) asks
+    ∙ ap (λ (a : ℕ). stepped (Call n) (with_reg m Pc ((a + 2) % 65536))) (sym is)
