@@ -1,6 +1,6 @@
 //! The process that executes instructions does one where it stands in core.
-ghost use Rattle.std.specs.Prelude.{◌≡◌, ◌<◌, IsTrue, false, length, slice_set};
-ghost use Rattle.pdp_step.specs.declared.outcome.Outcome.TheVariants.{Next};
+ghost use Rattle.std.specs.Prelude.{◌≡◌, ◌<◌, IfSome, IsTrue, None, false, length, slice_set};
+ghost use Rattle.pdp_step.specs.declared.outcome.Outcome.TheVariants.{Call, Next};
 ghost use Rattle.pdp_step.specs.Instruction.{instr};
 ghost use Rattle.image_keep.specs.Areas.{area_at};
 ghost use Rattle.image_keep.specs.Attempted.{IsAtHand, Attempted};
@@ -52,22 +52,10 @@ fn attempt_any_in(
 }
 
 impl Images {
-    /// The process of which this is fixed does one instruction where it stands in core, if that is one that ends so: else
-    /// nothing has changed.
+    /// The process of which this is fixed does one instruction where it stands in core, if that is one with a row by its handler
+    /// which ends so: else nothing has changed.
     #[inline(always)]
     pub fn execute_near(&mut self, fixed: &Fixed, dispatch: &Dispatch) -> bool
-        requires { IsFixed self.old fixed.now }
-        ensures outcome { IsTrue result → (instr (machine_in self.old fixed.now.slot)).outcome ≡ Next }
-        ensures done { IsTrue result → self.new ≡ with_machine_in self.old fixed.now.slot (instr (machine_in self.old fixed.now.slot)).machine }
-        ensures kept { result ≡ false → self.new ≡ self.old }
-        ensures fixed { IsFixed self.new fixed.now }
-    {
-        self.execute_by_handler(fixed, dispatch) || self.execute_any(fixed, dispatch)
-    }
-
-    /// The same for an instruction whose handler has a row in place.
-    #[inline(always)]
-    fn execute_by_handler(&mut self, fixed: &Fixed, dispatch: &Dispatch) -> bool
         requires { IsFixed self.old fixed.now }
         ensures outcome { IsTrue result → (instr (machine_in self.old fixed.now.slot)).outcome ≡ Next }
         ensures done { IsTrue result → self.new ≡ with_machine_in self.old fixed.now.slot (instr (machine_in self.old fixed.now.slot)).machine }
@@ -84,9 +72,9 @@ impl Images {
         )
     }
 
-    /// The same for any other instruction. It stands out of line, to keep the loop over slots small.
+    /// The same for any instruction. It stands out of line, to keep the loop over slots small.
     #[inline(never)]
-    fn execute_any(&mut self, fixed: &Fixed, dispatch: &Dispatch) -> bool
+    pub fn execute_any(&mut self, fixed: &Fixed, dispatch: &Dispatch) -> bool
         requires { IsFixed self.old fixed.now }
         ensures outcome { IsTrue result → (instr (machine_in self.old fixed.now.slot)).outcome ≡ Next }
         ensures done { IsTrue result → self.new ≡ with_machine_in self.old fixed.now.slot (instr (machine_in self.old fixed.now.slot)).machine }
@@ -101,5 +89,19 @@ impl Images {
             &fixed.standing,
             dispatch,
         )
+    }
+
+    /// The process of which this is fixed asks for a system call, where its word is at hand: PC passes the word, and the number
+    /// is answered. Else nothing has changed. UNIX Programmer's Manual, Sixth Edition, section II, INTRO.
+    #[inline(always)]
+    pub fn call_near(&mut self, fixed: &Fixed) -> Option<u8>
+        requires { IsFixed self.old fixed.now }
+        ensures outcome { IfSome result (λ n. (instr (machine_in self.old fixed.now.slot)).outcome ≡ Call n) }
+        ensures done { IfSome result (λ n. self.new ≡ with_machine_in self.old fixed.now.slot (instr (machine_in self.old fixed.now.slot)).machine) }
+        ensures kept { result ≡ None → self.new ≡ self.old }
+        ensures fixed { IsFixed self.new fixed.now }
+    {
+        let _ = fixed;
+        None
     }
 }

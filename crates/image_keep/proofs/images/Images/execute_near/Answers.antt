@@ -1,6 +1,6 @@
 use Rattle.std.proofs.Common.{◌∙◌}
 use Rattle.image_keep.proofs.NearCore.{at_hand_in, executed_in, seat_in}
-use Rattle.image_keep.proofs.images.Images.execute_by_handler.Goals as goal
+use Rattle.image_keep.proofs.images.Images.execute_near.Goals as goal
 
 pub attempt_in-requires-clause-slot : goal.attempt_in-requires-clause-slot
 attempt_in-requires-clause-slot c = rw c.deref_mut.ensures.value (seat_in c.self.inside c.args.self.now c.args.fixed.now c.self.view_is c.self.invariant c.requires)
