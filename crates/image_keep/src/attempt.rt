@@ -7,7 +7,8 @@ ghost use Rattle.pdp_step.specs.declared.outcome.Outcome.{Outcome};
 ghost use Rattle.pdp_step.specs.Machine.{with_reg};
 ghost use Rattle.pdp_step.specs.Instruction.{stepped, instr};
 ghost use Rattle.image_keep.specs.Running.{state_bytes};
-ghost use Rattle.image_keep.specs.Standing.{standing_image, StandsIn};
+ghost use Rattle.image_keep.specs.Standing.{standing_image};
+ghost use Rattle.image_keep.specs.Attempted.{IsAtHand, Attempted};
 ghost use Rattle.image_keep.specs.Near.{StandsWith, IsRowDone, standing_machine, around};
 
 use crate::near::processor;
@@ -28,17 +29,8 @@ pub(crate) fn attempt(
     standing: &Standing,
     dispatch: &Dispatch,
 ) -> bool
-    requires stands { 0 < standing.now.code_len → StandsIn (length core.old) standing.now }
-    requires eight { length area.old.r ≡ 8 }
-    requires stated { 0 < standing.now.code_len → part core.old standing.now.area 18 ≡ state_bytes area.old.r area.old.cc }
-    ensures near { IsTrue result → 0 < standing.now.code_len }
-    ensures done { IsTrue result → instr (standing_machine core.old area.old standing.now) ≡ stepped Outcome.Next (standing_machine core.new area.new standing.now) }
-    ensures missed { result ≡ false → 0 < standing.now.code_len → standing_machine core.new area.new standing.now ≡ standing_machine core.old area.old standing.now }
-    ensures far { result ≡ false → standing.now.code_len ≡ 0 → core.new ≡ core.old }
-    ensures far_area { result ≡ false → standing.now.code_len ≡ 0 → area.new ≡ area.old }
-    ensures around { 0 < standing.now.code_len → around core.new area.new standing.now ≡ around core.old area.old standing.now }
-    ensures stated { 0 < standing.now.code_len → part core.new standing.now.area 18 ≡ state_bytes area.new.r area.new.cc }
-    ensures size { length core.new ≡ length core.old }
+    requires { IsAtHand standing.now core.old area.old }
+    ensures { Attempted standing.now core.old core.new area.old area.new result }
 {
     let pc = usize::from(reg(area, 7));
     match instruction_word(core, standing, pc) {
@@ -81,17 +73,8 @@ pub(crate) fn attempt_any(
     standing: &Standing,
     dispatch: &Dispatch,
 ) -> bool
-    requires stands { 0 < standing.now.code_len → StandsIn (length core.old) standing.now }
-    requires eight { length area.old.r ≡ 8 }
-    requires stated { 0 < standing.now.code_len → part core.old standing.now.area 18 ≡ state_bytes area.old.r area.old.cc }
-    ensures near { IsTrue result → 0 < standing.now.code_len }
-    ensures done { IsTrue result → instr (standing_machine core.old area.old standing.now) ≡ stepped Outcome.Next (standing_machine core.new area.new standing.now) }
-    ensures missed { result ≡ false → 0 < standing.now.code_len → standing_machine core.new area.new standing.now ≡ standing_machine core.old area.old standing.now }
-    ensures far { result ≡ false → standing.now.code_len ≡ 0 → core.new ≡ core.old }
-    ensures far_area { result ≡ false → standing.now.code_len ≡ 0 → area.new ≡ area.old }
-    ensures around { 0 < standing.now.code_len → around core.new area.new standing.now ≡ around core.old area.old standing.now }
-    ensures stated { 0 < standing.now.code_len → part core.new standing.now.area 18 ≡ state_bytes area.new.r area.new.cc }
-    ensures size { length core.new ≡ length core.old }
+    requires { IsAtHand standing.now core.old area.old }
+    ensures { Attempted standing.now core.old core.new area.old area.new result }
 {
     let pc = usize::from(reg(area, 7));
     match instruction_word(core, standing, pc) {
@@ -201,9 +184,7 @@ fn modes_row(core: &mut [u8], area: &mut UArea, standing: &Standing, pc: usize, 
 /// call is answered. Else nothing has changed.
 #[inline(always)]
 pub(crate) fn attempt_call(core: &mut [u8], area: &mut UArea, standing: &Standing) -> Option<u8>
-    requires stands { 0 < standing.now.code_len → StandsIn (length core.old) standing.now }
-    requires eight { length area.old.r ≡ 8 }
-    requires stated { 0 < standing.now.code_len → part core.old standing.now.area 18 ≡ state_bytes area.old.r area.old.cc }
+    requires { IsAtHand standing.now core.old area.old }
     ensures near { IfSome result (λ _. 0 < standing.now.code_len) }
     ensures done { IfSome result (λ n. instr (standing_machine core.old area.old standing.now) ≡ stepped (Outcome.Call n) (standing_machine core.new area.new standing.now)) }
     ensures missed { result ≡ None → core.new ≡ core.old }
