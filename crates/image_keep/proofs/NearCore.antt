@@ -41,7 +41,7 @@ use Rattle.image_keep.proofs.InPlan.{core_kept}
 use Rattle.image_keep.proofs.KeptForm.{kept_holds}
 use Rattle.image_keep.proofs.Storing.{told_image}
 use Rattle.image_keep.proofs.Told.{state_told}
-use Rattle.image_keep.proofs.AreasKept.{area_known, image_low, areas_imaged, areas_described}
+use Rattle.image_keep.proofs.AreasKept.{seat, area_known, image_low, areas_imaged, areas_described}
 use Rattle.image_keep.proofs.Reading.{starts_after}
 use Rattle.image_keep.proofs.Registers.{Stands, stands, state_there, state_eight, starts_described}
 use Rattle.image_keep.proofs.Landing.{StandsAs, LeftAround, Landed, landed, lengths_same}
@@ -90,6 +90,8 @@ core_stands core size f i small text stack = record {
   data_even = i.data_even;
   stack_even = i.stack_even;
   odd = i.odd;
+  nought = i.nought;
+  code_end = i.code_end;
   stack = i.stack;
   bare = i.bare;
   pure = i.pure;
@@ -307,25 +309,35 @@ module _ (a : Inside) (k : Kept) (f : Fixed) (view : kept_in a ≡ k) (h : AreIm
       | inr none ↦ far_away result refl (omega (arith, none))
     ]
 
--- the same over a slice of the u areas
+-- the same over a slice of the u areas, by an index
 pub at_hand_in : (a : Inside) (k : Kept) (f : Fixed) (given : List UArea) → kept_in a ≡ k → AreImages a → AreBytes (line_of a.memory) → IsFixed k f → given ≡ a.areas.items
-    → IsAtHand f.standing a.memory.core (area_at given f.slot)
+    → IsAtHand f.standing a.memory.core (area_at given f.index)
 at_hand_in a k f given view h bytes fixed same =
     let at : AtHand k f.slot f.standing a.memory.core (area_at a.areas.items f.slot) = at_hand a k f view h bytes fixed in
-    subst (λ (l : List UArea). IsAtHand f.standing a.memory.core (area_at l f.slot)) (sym same) (record { eight = at.eight; inside = at.inside; stated = at.stated })
+    let there : IsAtHand f.standing a.memory.core (area_at a.areas.items f.slot) = record { eight = at.eight; inside = at.inside; stated = at.stated } in
+    subst (λ n. IsAtHand f.standing a.memory.core (area_at given n)) (sym f.indexed) (subst (λ (l : List UArea). IsAtHand f.standing a.memory.core (area_at l f.slot)) (sym same) there)
 
 pub executed_in : (a : Inside) (k : Kept) (f : Fixed) (given areas : List UArea) (m : Lists) (result : Bool) → kept_in a ≡ k → AreImages a → AreBytes (line_of a.memory) → IsFixed k f → given ≡ a.areas.items → length areas ≡ a.areas.len
-    → Attempted f.standing a.memory.core m.core (area_at given f.slot) (area_at areas f.slot) result → m.swap ≡ a.memory.swap → areas ≡ set given f.slot (area_at areas f.slot)
+    → Attempted f.standing a.memory.core m.core (area_at given f.index) (area_at areas f.index) result → m.swap ≡ a.memory.swap → areas ≡ set given f.index (area_at areas f.index)
     → Executed (record a { memory = m; areas = with_items a.areas areas }) k f result
 executed_in a k f given areas m result view h bytes fixed same long did swap put =
+    let its : areas ≡ set given f.slot (area_at areas f.slot) = subst (λ n. areas ≡ set given n (area_at areas n)) f.indexed put in
     let others : OthersStay a (record a { memory = m; areas = with_items a.areas areas }) f.slot (area_at areas f.slot) = record {
       swap = swap;
       core = refl;
       rows = refl;
-      areas = with_items_is a.areas areas long ∙ put ∙ ap (λ (l : List UArea). set l f.slot (area_at areas f.slot)) same;
+      areas = with_items_is a.areas areas long ∙ its ∙ ap (λ (l : List UArea). set l f.slot (area_at areas f.slot)) same;
       texts = refl;
       core_map = refl;
       swap_map = refl;
     } in
     executed a k f view h bytes fixed (record a { memory = m; areas = with_items a.areas areas }) (area_at areas f.slot) result others
-    (subst (λ (l : List UArea). Attempted f.standing a.memory.core m.core (area_at l f.slot) (area_at areas f.slot) result) same did)
+    (subst (λ (l : List UArea). Attempted f.standing a.memory.core m.core (area_at l f.slot) (area_at areas f.slot) result) same
+    (subst (λ n. Attempted f.standing a.memory.core m.core (area_at given n) (area_at areas n) result) f.indexed did))
+
+-- the index is one of a u area
+pub seat_in : (a : Inside) (k : Kept) (f : Fixed) → kept_in a ≡ k → AreImages a → IsFixed k f → f.index < length a.areas.items
+seat_in a k f view h fixed =
+    let low : f.slot < 50 = image_low (stock_in a) k f.slot view h.sound h.counted (alive_image k f.slot fixed.alive) in
+    let at : f.slot < length a.areas.items = seat a.areas.items (kept_in a).slots f.slot h.areas low in
+    subst (λ n. n < length a.areas.items) (sym f.indexed) at
