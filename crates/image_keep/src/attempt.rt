@@ -1,16 +1,20 @@
 //! One instruction of the process that executes instructions, done where it stands in core.
-ghost use Rattle.std.specs.Prelude.{◌≡◌, ◌<◌, ◌≤◌, IsTrue, false, length};
+ghost use Rattle.std.specs.Prelude.{◌≡◌, ℕ, ◌<◌, ◌≤◌, IfSome, IsTrue, Ok, false, length};
+ghost use Rattle.v6_base.specs.Access.{load_word};
 ghost use Rattle.core_mem.specs.Bytes.{part};
+ghost use Rattle.pdp_decode.specs.Decode.{decode_of};
 ghost use Rattle.pdp_decode.specs.Handlers.{Handles};
+ghost use Rattle.pdp_decode.specs.declared.instr.Instr.{Instr};
 ghost use Rattle.pdp_step.specs.declared.outcome.Outcome.{Outcome};
 ghost use Rattle.pdp_step.specs.Instruction.{stepped, instr};
 ghost use Rattle.image_keep.specs.Running.{state_bytes};
 ghost use Rattle.image_keep.specs.Standing.{standing_image, StandsIn};
+ghost use Rattle.image_keep.specs.Attempted.{IsAtHand, Called};
 ghost use Rattle.image_keep.specs.Near.{StandsWith, IsRowDone, standing_machine, around};
 
 use crate::near::processor;
-use crate::standing::{Standing, instruction_word, reg, set_state};
-use pdp_decode::{Dispatch, Handler};
+use crate::standing::{Standing, instruction_word, reg, set_reg, set_state};
+use pdp_decode::{Dispatch, Handler, Instr, decode};
 use pdp_step::{
     perform, perform_any, perform_apart, perform_bytes, perform_extended, perform_stepping,
 };
@@ -97,6 +101,39 @@ pub(crate) fn attempt_any(
                 || attempt_modes(core, area, standing, pc + 2, word)
         }
         None => false,
+    }
+}
+
+/// The system call that the word at PC asks for, where the process is at hand: PC passes the word. Else nothing has changed.
+#[inline(always)]
+pub(crate) fn attempt_call(core: &mut [u8], area: &mut UArea, standing: &Standing) -> Option<u8>
+    requires { IsAtHand standing.now core.old area.old }
+    ensures { Called standing.now core.old core.new area.old area.new result }
+{
+    let pc = usize::from(reg(area, 7));
+    match call_at(core, standing, pc) {
+        Some(n) => {
+            set_reg(core, area, standing.area, 7, ((pc + 2) % 65536) as u16);
+            Some(n)
+        }
+        None => None,
+    }
+}
+
+// The system call that the word at an address asks for.
+#[inline(always)]
+fn call_at(core: &[u8], standing: &Standing, pc: usize) -> Option<u8>
+    requires { 0 < standing.now.code_len → StandsIn (length core.now) standing.now }
+    ensures near { IfSome result (λ _. 0 < standing.now.code_len) }
+    ensures low { IfSome result (λ _. pc < 65536) }
+    ensures call { IfSome result (λ n. (word : ℕ) × (load_word (standing_image core.now standing.now) pc ≡ Ok word) × (decode_of word ≡ Instr.Sys n)) }
+{
+    match instruction_word(core, standing, pc) {
+        Some(word) => match decode(word as u16) {
+            Instr::Sys(n) => Some(n),
+            _ => None,
+        },
+        None => None,
     }
 }
 
