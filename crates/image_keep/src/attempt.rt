@@ -1,22 +1,22 @@
 //! One instruction of the process that executes instructions, done where it stands in core.
-ghost use Rattle.std.specs.Prelude.{◌≡◌, ℕ, ◌<◌, ◌≤◌, IfSome, IsTrue, Ok, false, length};
-ghost use Rattle.v6_base.specs.Access.{load_word};
+ghost use Rattle.std.specs.Prelude.{◌≡◌, ◌<◌, ◌≤◌, IsTrue, IfSome, None, false, length};
 ghost use Rattle.core_mem.specs.Bytes.{part};
-ghost use Rattle.pdp_decode.specs.Decode.{decode_of};
 ghost use Rattle.pdp_decode.specs.Handlers.{Handles};
-ghost use Rattle.pdp_decode.specs.declared.instr.Instr.{Instr};
+ghost use Rattle.pdp_decode.specs.declared.instr.Reg.{Reg};
 ghost use Rattle.pdp_step.specs.declared.outcome.Outcome.{Outcome};
+ghost use Rattle.pdp_step.specs.Machine.{with_reg};
 ghost use Rattle.pdp_step.specs.Instruction.{stepped, instr};
 ghost use Rattle.image_keep.specs.Running.{state_bytes};
-ghost use Rattle.image_keep.specs.Standing.{standing_image, StandsIn};
-ghost use Rattle.image_keep.specs.Attempted.{IsAtHand, Called};
+ghost use Rattle.image_keep.specs.Standing.{standing_image};
+ghost use Rattle.image_keep.specs.Attempted.{IsAtHand, Attempted};
 ghost use Rattle.image_keep.specs.Near.{StandsWith, IsRowDone, standing_machine, around};
 
 use crate::near::processor;
-use crate::standing::{Standing, instruction_word, reg, set_reg, set_state};
+use crate::standing::{Standing, instruction_word, reg, set_state};
 use pdp_decode::{Dispatch, Handler, Instr, decode};
 use pdp_step::{
-    perform, perform_any, perform_apart, perform_bytes, perform_extended, perform_stepping,
+    Processor, perform, perform_any, perform_apart, perform_bytes, perform_extended,
+    perform_stepping,
 };
 use u_area::UArea;
 
@@ -29,17 +29,8 @@ pub(crate) fn attempt(
     standing: &Standing,
     dispatch: &Dispatch,
 ) -> bool
-    requires stands { 0 < standing.now.code_len → StandsIn (length core.old) standing.now }
-    requires eight { length area.old.r ≡ 8 }
-    requires stated { 0 < standing.now.code_len → part core.old standing.now.area 18 ≡ state_bytes area.old.r area.old.cc }
-    ensures near { IsTrue result → 0 < standing.now.code_len }
-    ensures done { IsTrue result → instr (standing_machine core.old area.old standing.now) ≡ stepped Outcome.Next (standing_machine core.new area.new standing.now) }
-    ensures missed { result ≡ false → 0 < standing.now.code_len → standing_machine core.new area.new standing.now ≡ standing_machine core.old area.old standing.now }
-    ensures far { result ≡ false → standing.now.code_len ≡ 0 → core.new ≡ core.old }
-    ensures far_area { result ≡ false → standing.now.code_len ≡ 0 → area.new ≡ area.old }
-    ensures around { 0 < standing.now.code_len → around core.new area.new standing.now ≡ around core.old area.old standing.now }
-    ensures stated { 0 < standing.now.code_len → part core.new standing.now.area 18 ≡ state_bytes area.new.r area.new.cc }
-    ensures size { length core.new ≡ length core.old }
+    requires { IsAtHand standing.now core.old area.old }
+    ensures { Attempted standing.now core.old core.new area.old area.new result }
 {
     let pc = usize::from(reg(area, 7));
     match instruction_word(core, standing, pc) {
@@ -82,17 +73,8 @@ pub(crate) fn attempt_any(
     standing: &Standing,
     dispatch: &Dispatch,
 ) -> bool
-    requires stands { 0 < standing.now.code_len → StandsIn (length core.old) standing.now }
-    requires eight { length area.old.r ≡ 8 }
-    requires stated { 0 < standing.now.code_len → part core.old standing.now.area 18 ≡ state_bytes area.old.r area.old.cc }
-    ensures near { IsTrue result → 0 < standing.now.code_len }
-    ensures done { IsTrue result → instr (standing_machine core.old area.old standing.now) ≡ stepped Outcome.Next (standing_machine core.new area.new standing.now) }
-    ensures missed { result ≡ false → 0 < standing.now.code_len → standing_machine core.new area.new standing.now ≡ standing_machine core.old area.old standing.now }
-    ensures far { result ≡ false → standing.now.code_len ≡ 0 → core.new ≡ core.old }
-    ensures far_area { result ≡ false → standing.now.code_len ≡ 0 → area.new ≡ area.old }
-    ensures around { 0 < standing.now.code_len → around core.new area.new standing.now ≡ around core.old area.old standing.now }
-    ensures stated { 0 < standing.now.code_len → part core.new standing.now.area 18 ≡ state_bytes area.new.r area.new.cc }
-    ensures size { length core.new ≡ length core.old }
+    requires { IsAtHand standing.now core.old area.old }
+    ensures { Attempted standing.now core.old core.new area.old area.new result }
 {
     let pc = usize::from(reg(area, 7));
     match instruction_word(core, standing, pc) {
@@ -101,39 +83,6 @@ pub(crate) fn attempt_any(
                 || attempt_modes(core, area, standing, pc + 2, word)
         }
         None => false,
-    }
-}
-
-/// The system call that the word at PC asks for, where the process is at hand: PC passes the word. Else nothing has changed.
-#[inline(always)]
-pub(crate) fn attempt_call(core: &mut [u8], area: &mut UArea, standing: &Standing) -> Option<u8>
-    requires { IsAtHand standing.now core.old area.old }
-    ensures { Called standing.now core.old core.new area.old area.new result }
-{
-    let pc = usize::from(reg(area, 7));
-    match call_at(core, standing, pc) {
-        Some(n) => {
-            set_reg(core, area, standing.area, 7, ((pc + 2) % 65536) as u16);
-            Some(n)
-        }
-        None => None,
-    }
-}
-
-// The system call that the word at an address asks for.
-#[inline(always)]
-fn call_at(core: &[u8], standing: &Standing, pc: usize) -> Option<u8>
-    requires { 0 < standing.now.code_len → StandsIn (length core.now) standing.now }
-    ensures near { IfSome result (λ _. 0 < standing.now.code_len) }
-    ensures low { IfSome result (λ _. pc < 65536) }
-    ensures call { IfSome result (λ n. (word : ℕ) × (load_word (standing_image core.now standing.now) pc ≡ Ok word) × (decode_of word ≡ Instr.Sys n)) }
-{
-    match instruction_word(core, standing, pc) {
-        Some(word) => match decode(word as u16) {
-            Instr::Sys(n) => Some(n),
-            _ => None,
-        },
-        None => None,
     }
 }
 
@@ -229,4 +178,42 @@ fn modes_row(core: &mut [u8], area: &mut UArea, standing: &Standing, pc: usize, 
 {
     let mut p = processor(core, area, standing);
     perform_any(&mut p, pc, word).is_ok()
+}
+
+/// The instruction at PC, where the process is at hand and asks for a system call: PC passes its word, and the number of the
+/// call is answered. Else nothing has changed.
+#[inline(always)]
+pub(crate) fn attempt_call(core: &mut [u8], area: &mut UArea, standing: &Standing) -> Option<u8>
+    requires { IsAtHand standing.now core.old area.old }
+    ensures near { IfSome result (λ _. 0 < standing.now.code_len) }
+    ensures done { IfSome result (λ n. instr (standing_machine core.old area.old standing.now) ≡ stepped (Outcome.Call n) (standing_machine core.new area.new standing.now)) }
+    ensures missed { result ≡ None → core.new ≡ core.old }
+    ensures missed_area { result ≡ None → area.new ≡ area.old }
+    ensures around { 0 < standing.now.code_len → around core.new area.new standing.now ≡ around core.old area.old standing.now }
+    ensures stated { 0 < standing.now.code_len → part core.new standing.now.area 18 ≡ state_bytes area.new.r area.new.cc }
+    ensures size { length core.new ≡ length core.old }
+{
+    let pc = reg(area, 7);
+    match instruction_word(core, standing, usize::from(pc)) {
+        Some(word) => match decode(word as u16) {
+            Instr::Sys(n) => {
+                set_pc(core, area, standing, pc.wrapping_add(2));
+                Some(n)
+            }
+            _ => None,
+        },
+        None => None,
+    }
+}
+
+// Sets PC.
+#[inline(always)]
+#[tactic(auto, unfolding(pdp_decode::specs::Decode::reg_of))]
+fn set_pc(core: &mut [u8], area: &mut UArea, standing: &Standing, pc: u16)
+    requires { StandsWith core.old area.old standing.now }
+    ensures machine { standing_machine core.new area.new standing.now ≡ with_reg (standing_machine core.old area.old standing.now) Reg.Pc pc }
+    ensures around { around core.new area.new standing.now ≡ around core.old area.old standing.now }
+    ensures stands { StandsWith core.new area.new standing.now }
+{
+    processor(core, area, standing).set_reg(7, pc);
 }

@@ -1,10 +1,15 @@
-use Rattle.std.proofs.Common.{◌+◌, ◌%◌, ◌∙◌, refl}
-use Rattle.image_keep.proofs.AtPc.{call_passed}
+-- The word at PC asks for a call.
+use Rattle.std.proofs.Common.{ℕ, sym, ap, ◌∙◌}
+use Rattle.v6_base.specs.Access.{load_word}
+use Rattle.pdp_step.specs.declared.outcome.Outcome.TheVariants.{Call}
+use Rattle.pdp_step.specs.Machine.{Machine}
+use Rattle.pdp_step.specs.Instruction.{stepped}
+use Rattle.image_keep.specs.Standing.{standing_image}
+use Rattle.image_keep.specs.Near.{standing_machine}
+use Rattle.image_keep.proofs.AtPc.{instr_call}
 use Rattle.image_keep.proofs.attempt.attempt_call.Goals as goal
 
-pub returns-in-Some : goal.returns-in-Some
-returns-in-Some c =
-    let some = c.in-Some.ensures.near in
-    let call = c.in-Some.ensures.call in
-    call_passed c.args.standing.now c.args.core.now c.set_reg.new.core c.args.area.now c.set_reg.new.area c.from-pc.result call.0 c.in-Some.n ((c.from-pc.result + 2) % 65536) some (c.requires.inside some) (c.from-pc.ensures ∙ c.reg.ensures) call.1 call.2
-    refl c.set_reg.ensures.area c.set_reg.ensures.stated c.set_reg.ensures.rest c.set_reg.ensures.size
+pub returns-in-Sys-clause-done : goal.returns-in-Sys-clause-done
+returns-in-Sys-clause-done c =
+    instr_call (standing_machine c.args.core.now c.args.area.now c.args.standing.now) c.reg-pc.result c.in-Some.word c.in-Sys.n c.reg-pc.ensures (ap (λ (a : ℕ). load_word (standing_image c.args.core.now c.args.standing.now) a) (sym c.from.ensures) ∙ c.in-Some.ensures.word) (sym c.in-Sys.ensures.value)
+    ∙ ap (λ (m : Machine). stepped (Call c.in-Sys.n) m) (sym c.set_pc.ensures.machine)
