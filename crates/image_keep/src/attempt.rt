@@ -1,12 +1,8 @@
 //! One instruction of the process that executes instructions, done where it stands in core.
-ghost use Rattle.std.specs.Prelude.{◌≡◌, ◌<◌, ◌≤◌, IsTrue, IfSome, None, false, length};
-ghost use Rattle.core_mem.specs.Bytes.{part};
+ghost use Rattle.std.specs.Prelude.{◌≡◌, ◌<◌, ◌≤◌, IsTrue, false};
 ghost use Rattle.pdp_decode.specs.Handlers.{Handles};
 ghost use Rattle.pdp_decode.specs.declared.instr.Reg.{Reg};
-ghost use Rattle.pdp_step.specs.declared.outcome.Outcome.{Outcome};
 ghost use Rattle.pdp_step.specs.Machine.{with_reg};
-ghost use Rattle.pdp_step.specs.Instruction.{stepped, instr};
-ghost use Rattle.image_keep.specs.Running.{state_bytes};
 ghost use Rattle.image_keep.specs.Standing.{standing_image};
 ghost use Rattle.image_keep.specs.Attempted.{IsAtHand, Attempted, Called};
 ghost use Rattle.image_keep.specs.Near.{StandsWith, IsRowDone, standing_machine, around};
