@@ -1,14 +1,10 @@
 //! One instruction of the process that executes instructions, done where it stands in core.
-ghost use Rattle.std.specs.Prelude.{◌≡◌, ◌<◌, ◌≤◌, IsTrue, IfSome, None, false, length};
-ghost use Rattle.core_mem.specs.Bytes.{part};
+ghost use Rattle.std.specs.Prelude.{◌≡◌, ◌<◌, ◌≤◌, IsTrue, false};
 ghost use Rattle.pdp_decode.specs.Handlers.{Handles};
 ghost use Rattle.pdp_decode.specs.declared.instr.Reg.{Reg};
-ghost use Rattle.pdp_step.specs.declared.outcome.Outcome.{Outcome};
 ghost use Rattle.pdp_step.specs.Machine.{with_reg};
-ghost use Rattle.pdp_step.specs.Instruction.{stepped, instr};
-ghost use Rattle.image_keep.specs.Running.{state_bytes};
 ghost use Rattle.image_keep.specs.Standing.{standing_image};
-ghost use Rattle.image_keep.specs.Attempted.{IsAtHand, Attempted};
+ghost use Rattle.image_keep.specs.Attempted.{IsAtHand, Attempted, Called};
 ghost use Rattle.image_keep.specs.Near.{StandsWith, IsRowDone, standing_machine, around};
 
 use crate::near::processor;
@@ -185,13 +181,7 @@ fn modes_row(core: &mut [u8], area: &mut UArea, standing: &Standing, pc: usize, 
 #[inline(always)]
 pub(crate) fn attempt_call(core: &mut [u8], area: &mut UArea, standing: &Standing) -> Option<u8>
     requires { IsAtHand standing.now core.old area.old }
-    ensures near { IfSome result (λ _. 0 < standing.now.code_len) }
-    ensures done { IfSome result (λ n. instr (standing_machine core.old area.old standing.now) ≡ stepped (Outcome.Call n) (standing_machine core.new area.new standing.now)) }
-    ensures missed { result ≡ None → core.new ≡ core.old }
-    ensures missed_area { result ≡ None → area.new ≡ area.old }
-    ensures around { 0 < standing.now.code_len → around core.new area.new standing.now ≡ around core.old area.old standing.now }
-    ensures stated { 0 < standing.now.code_len → part core.new standing.now.area 18 ≡ state_bytes area.new.r area.new.cc }
-    ensures size { length core.new ≡ length core.old }
+    ensures { Called standing.now core.old core.new area.old area.new result }
 {
     let pc = reg(area, 7);
     match instruction_word(core, standing, usize::from(pc)) {
