@@ -1,18 +1,18 @@
 //! One instruction of the process that executes instructions, done where it stands in core.
-ghost use Rattle.std.specs.Prelude.{◌≡◌, ◌<◌, ◌≤◌, IsTrue, false, length};
-ghost use Rattle.core_mem.specs.Bytes.{part};
+ghost use Rattle.std.specs.Prelude.{◌≡◌, ◌<◌, ◌≤◌, IsTrue, false};
 ghost use Rattle.pdp_decode.specs.Handlers.{Handles};
-ghost use Rattle.pdp_step.specs.declared.outcome.Outcome.{Outcome};
-ghost use Rattle.pdp_step.specs.Instruction.{stepped, instr};
-ghost use Rattle.image_keep.specs.Running.{state_bytes};
-ghost use Rattle.image_keep.specs.Standing.{standing_image, StandsIn};
+ghost use Rattle.pdp_decode.specs.declared.instr.Reg.{Reg};
+ghost use Rattle.pdp_step.specs.Machine.{with_reg};
+ghost use Rattle.image_keep.specs.Standing.{standing_image};
+ghost use Rattle.image_keep.specs.Attempted.{IsAtHand, Attempted, Called};
 ghost use Rattle.image_keep.specs.Near.{StandsWith, IsRowDone, standing_machine, around};
 
 use crate::near::processor;
 use crate::standing::{Standing, instruction_word, reg, set_state};
-use pdp_decode::{Dispatch, Handler};
+use pdp_decode::{Dispatch, Handler, Instr, decode};
 use pdp_step::{
-    perform, perform_any, perform_apart, perform_bytes, perform_extended, perform_stepping,
+    Processor, perform, perform_any, perform_apart, perform_bytes, perform_extended,
+    perform_stepping,
 };
 use u_area::UArea;
 
@@ -25,17 +25,8 @@ pub(crate) fn attempt(
     standing: &Standing,
     dispatch: &Dispatch,
 ) -> bool
-    requires stands { 0 < standing.now.code_len → StandsIn (length core.old) standing.now }
-    requires eight { length area.old.r ≡ 8 }
-    requires stated { 0 < standing.now.code_len → part core.old standing.now.area 18 ≡ state_bytes area.old.r area.old.cc }
-    ensures near { IsTrue result → 0 < standing.now.code_len }
-    ensures done { IsTrue result → instr (standing_machine core.old area.old standing.now) ≡ stepped Outcome.Next (standing_machine core.new area.new standing.now) }
-    ensures missed { result ≡ false → 0 < standing.now.code_len → standing_machine core.new area.new standing.now ≡ standing_machine core.old area.old standing.now }
-    ensures far { result ≡ false → standing.now.code_len ≡ 0 → core.new ≡ core.old }
-    ensures far_area { result ≡ false → standing.now.code_len ≡ 0 → area.new ≡ area.old }
-    ensures around { 0 < standing.now.code_len → around core.new area.new standing.now ≡ around core.old area.old standing.now }
-    ensures stated { 0 < standing.now.code_len → part core.new standing.now.area 18 ≡ state_bytes area.new.r area.new.cc }
-    ensures size { length core.new ≡ length core.old }
+    requires { IsAtHand standing.now core.old area.old }
+    ensures { Attempted standing.now core.old core.new area.old area.new result }
 {
     let pc = usize::from(reg(area, 7));
     match instruction_word(core, standing, pc) {
@@ -78,17 +69,8 @@ pub(crate) fn attempt_any(
     standing: &Standing,
     dispatch: &Dispatch,
 ) -> bool
-    requires stands { 0 < standing.now.code_len → StandsIn (length core.old) standing.now }
-    requires eight { length area.old.r ≡ 8 }
-    requires stated { 0 < standing.now.code_len → part core.old standing.now.area 18 ≡ state_bytes area.old.r area.old.cc }
-    ensures near { IsTrue result → 0 < standing.now.code_len }
-    ensures done { IsTrue result → instr (standing_machine core.old area.old standing.now) ≡ stepped Outcome.Next (standing_machine core.new area.new standing.now) }
-    ensures missed { result ≡ false → 0 < standing.now.code_len → standing_machine core.new area.new standing.now ≡ standing_machine core.old area.old standing.now }
-    ensures far { result ≡ false → standing.now.code_len ≡ 0 → core.new ≡ core.old }
-    ensures far_area { result ≡ false → standing.now.code_len ≡ 0 → area.new ≡ area.old }
-    ensures around { 0 < standing.now.code_len → around core.new area.new standing.now ≡ around core.old area.old standing.now }
-    ensures stated { 0 < standing.now.code_len → part core.new standing.now.area 18 ≡ state_bytes area.new.r area.new.cc }
-    ensures size { length core.new ≡ length core.old }
+    requires { IsAtHand standing.now core.old area.old }
+    ensures { Attempted standing.now core.old core.new area.old area.new result }
 {
     let pc = usize::from(reg(area, 7));
     match instruction_word(core, standing, pc) {
@@ -192,4 +174,36 @@ fn modes_row(core: &mut [u8], area: &mut UArea, standing: &Standing, pc: usize, 
 {
     let mut p = processor(core, area, standing);
     perform_any(&mut p, pc, word).is_ok()
+}
+
+/// The instruction at PC, where the process is at hand and asks for a system call: PC passes its word, and the number of the
+/// call is answered. Else nothing has changed.
+#[inline(always)]
+pub(crate) fn attempt_call(core: &mut [u8], area: &mut UArea, standing: &Standing) -> Option<u8>
+    requires { IsAtHand standing.now core.old area.old }
+    ensures { Called standing.now core.old core.new area.old area.new result }
+{
+    let pc = reg(area, 7);
+    match instruction_word(core, standing, usize::from(pc)) {
+        Some(word) => match decode(word as u16) {
+            Instr::Sys(n) => {
+                set_pc(core, area, standing, pc.wrapping_add(2));
+                Some(n)
+            }
+            _ => None,
+        },
+        None => None,
+    }
+}
+
+// Sets PC.
+#[inline(always)]
+#[tactic(auto, unfolding(pdp_decode::specs::Decode::reg_of))]
+fn set_pc(core: &mut [u8], area: &mut UArea, standing: &Standing, pc: u16)
+    requires { StandsWith core.old area.old standing.now }
+    ensures machine { standing_machine core.new area.new standing.now ≡ with_reg (standing_machine core.old area.old standing.now) Reg.Pc pc }
+    ensures around { around core.new area.new standing.now ≡ around core.old area.old standing.now }
+    ensures stands { StandsWith core.new area.new standing.now }
+{
+    processor(core, area, standing).set_reg(7, pc);
 }

@@ -3,7 +3,7 @@ ghost use Rattle.std.specs.Prelude.{◌≡◌, ◌<◌, IfSome, IsTrue, None, fa
 ghost use Rattle.pdp_step.specs.declared.outcome.Outcome.TheVariants.{Call, Next};
 ghost use Rattle.pdp_step.specs.Instruction.{instr};
 ghost use Rattle.image_keep.specs.Areas.{area_at};
-ghost use Rattle.image_keep.specs.Attempted.{IsAtHand, Attempted};
+ghost use Rattle.image_keep.specs.Attempted.{IsAtHand, Attempted, Called};
 ghost use Rattle.image_keep.specs.Running.{IsFixed, machine_in, with_machine_in};
 
 use crate::images::Images;
@@ -49,6 +49,24 @@ fn attempt_any_in(
     ensures long { length areas.new ≡ length areas.old }
 {
     memory.attempt_any(&mut areas[s], standing, dispatch)
+}
+
+/// The system call that the process in a slot asks for.
+#[inline(always)]
+fn call_in(
+    memory: &mut Memory,
+    areas: &mut [UArea],
+    s: usize,
+    standing: &Standing,
+) -> Option<u8>
+    requires slot { s < length areas.old }
+    requires at_hand { IsAtHand standing.now memory.old.core (area_at areas.old s) }
+    ensures did { Called standing.now memory.old.core memory.new.core (area_at areas.old s) (area_at areas.new s) result }
+    ensures swap { memory.new.swap ≡ memory.old.swap }
+    ensures areas { areas.new ≡ slice_set areas.old s (area_at areas.new s) }
+    ensures long { length areas.new ≡ length areas.old }
+{
+    memory.attempt_call(&mut areas[s], standing)
 }
 
 impl Images {
@@ -101,7 +119,12 @@ impl Images {
         ensures kept { result ≡ None → self.new ≡ self.old }
         ensures fixed { IsFixed self.new fixed.now }
     {
-        let _ = fixed;
-        None
+        self.memory.see_bytes();
+        call_in(
+            &mut self.memory,
+            &mut self.areas,
+            fixed.index,
+            &fixed.standing,
+        )
     }
 }
