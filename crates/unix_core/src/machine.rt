@@ -177,16 +177,14 @@ impl Machine {
         ensures started { phase_of self.new.stage ≡ Started }
         ensures world { self.new.world ≡ self.old.world }
     {
-        self.stage = Stage::Resting;
         match self.world.procs.table.running {
             Some(s) if s != 0 => self.enter_user(s),
-            _ => {}
+            _ => self.stage = Stage::Resting,
         }
     }
 
     /// Sees whether a process that runs executes instructions, and what then stays fixed of it.
     fn enter_user(&mut self, s: Slot)
-        requires stage { self.old.stage ≡ Stage.Resting }
         requires ready { IsReady self.old.world s }
         requires settled { settle self.old.world.procs.table ≡ None }
         ensures kernel { IsKernel self.new.stage self.new.world }
@@ -195,6 +193,8 @@ impl Machine {
     {
         if self.world.procs.images.area(s).pending == 0 {
             self.stage = Stage::Running(self.world.procs.images.fixed(s));
+        } else {
+            self.stage = Stage::Resting;
         }
     }
 
