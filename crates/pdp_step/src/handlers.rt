@@ -22,7 +22,9 @@ use crate::operation::{Addition, BitClear, BitSet, BitTest, Comparison, Subtract
 use crate::pair_rows::{divide, multiply, shift_pair, shift_reg};
 use crate::processor::Processor;
 use crate::size::{Bytes, Words};
-use crate::transfers::{branch_if, count, jump, jump_to_subroutine, names_in, return_by, set_codes};
+use crate::transfers::{
+    branch_if, count, jump, jump_to_subroutine, names_in, return_by, set_codes,
+};
 use pdp_decode::{Condition, Handler};
 
 /// The row of a word by its handler, for the most frequent ones. Where it misses, nothing has changed.
