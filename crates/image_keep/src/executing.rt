@@ -53,12 +53,7 @@ fn attempt_any_in(
 
 /// The system call that the process in a slot asks for.
 #[inline(always)]
-fn call_in(
-    memory: &mut Memory,
-    areas: &mut [UArea],
-    s: usize,
-    standing: &Standing,
-) -> Option<u8>
+fn call_in(memory: &mut Memory, areas: &mut [UArea], s: usize, standing: &Standing) -> Option<u8>
     requires slot { s < length areas.old }
     requires at_hand { IsAtHand standing.now memory.old.core (area_at areas.old s) }
     ensures did { Called standing.now memory.old.core memory.new.core (area_at areas.old s) (area_at areas.new s) result }
