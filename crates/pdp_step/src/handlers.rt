@@ -205,7 +205,7 @@ pub fn perform_apart<P: Processor>(
     }
 }
 
-/// The row of a word by its handler, for those with a word in memory for each operand, or with one that is given to memory. Where it
+/// The row of a word by its handler, for those with two operands in memory, or with one there and an immediate one. Where it
 /// misses, nothing has changed.
 #[inline(always)]
 pub fn perform_between<P: Processor>(
@@ -246,7 +246,8 @@ pub fn perform_between<P: Processor>(
     }
 }
 
-/// The row of a word by its handler, for MUL, DIV, ASH, ASHC and SXT. Where it misses, nothing has changed.
+/// The row of a word by its handler, for MUL, DIV, ASH, ASHC, SXT, the condition codes, and some that change a word in memory.
+/// Where it misses, nothing has changed.
 #[inline(always)]
 pub fn perform_extended<P: Processor>(
     p: &mut P,
