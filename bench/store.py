@@ -135,20 +135,20 @@ ANSWERS = {
 use Rattle.std.proofs.Common.{List, ℕ, sym, ◌∙◌, subst}
 use Rattle.buf_cache.specs.Blocks.{block_at}
 use Rattle.fs_laws.specs.Chain.{IsSound}
-use Rattle.fs_laws.proofs.ImageLemmas.{image_whole}
+use Rattle.fs_laws.proofs.ImageLemmas.{image_sound}
 use Rattle.store_bench.proofs.open.Goals as goal
 
 pub open_on-requires : goal.open_on-requires
 open_on-requires c =
     let P : List (List ℕ) → Type 0 = λ l. IsSound (block_at l) in
-    subst P (sym (c.in_ok-cache-in-Ok.ensures ∙ c.in_ok-from_bytes-in-Ok.ensures)) (image_whole c.args.image.now c.in-Ok.ensures).sound
+    subst P (sym (c.in_ok-cache-in-Ok.ensures.blocks ∙ c.in_ok-from_bytes-in-Ok.ensures)) (image_sound c.args.image.now c.in-Ok.ensures)
 """,
     "open_nodes": """
 use Rattle.std.proofs.Common.{List, ℕ, sym, ◌∙◌, subst}
 use Rattle.buf_cache.specs.Blocks.{block_at}
 use Rattle.fs_laws.specs.Chain.{IsSound}
 use Rattle.fs_laws.specs.Whole.{IsWhole}
-use Rattle.fs_laws.proofs.ImageLemmas.{image_whole}
+use Rattle.fs_laws.proofs.ImageLemmas.{image_sound, image_whole}
 use Rattle.fs_laws.proofs.WholeLemmas.{whole_has_none}
 use Rattle.fs_blocks.specs.State.{disk}
 use Rattle.store_bench.proofs.open_nodes.Goals as goal
@@ -156,14 +156,14 @@ use Rattle.store_bench.proofs.open_nodes.Goals as goal
 pub open_on-volume-requires : goal.open_on-volume-requires
 open_on-volume-requires c =
     let P : List (List ℕ) → Type 0 = λ l. IsSound (block_at l) in
-    subst P (sym (c.in_ok-cache-in-Ok.ensures ∙ c.in_ok-from_bytes-in-Ok.ensures)) (image_whole c.args.image.now c.in-Ok.ensures).sound
+    subst P (sym (c.in_ok-cache-in-Ok.ensures.blocks ∙ c.in_ok-from_bytes-in-Ok.ensures)) (image_sound c.args.image.now c.in-Ok.ensures)
 
 pub new-requires-in-Ok : goal.new-requires-in-Ok
 new-requires-in-Ok c =
     let P : List (List ℕ) → Type 0 = λ l. IsWhole (block_at l) in
     let e = c.open_on-volume.ensures in
-    record { sound = whole_has_none (disk c.open_on-volume.result) (e.whole
-        (subst P (sym (c.in_ok-cache-in-Ok.ensures ∙ c.in_ok-from_bytes-in-Ok.ensures)) (image_whole c.args.image.now c.in-Ok.ensures))) }
+    record { sound = whole_has_none (disk c.open_on-volume.result.state) (e.whole
+        (subst P (sym (c.in_ok-cache-in-Ok.ensures.blocks ∙ c.in_ok-from_bytes-in-Ok.ensures)) (image_whole c.args.image.now c.in-Ok.ensures))) }
 """,
 }
 

@@ -52,6 +52,7 @@ pub mod Deposited
 pub mod StandingParts
 pub mod StandingState
 pub mod NearParts
+pub mod AtPc
 pub mod Landing
 pub mod StandsThere
 pub mod NearCore

@@ -1,7 +1,7 @@
 -- A process at hand in core: its parts are bytes of core, and what its instructions leave of core and of its u area, decoded,
 -- is what is kept, with this image and these registers and codes.
-use Rattle.std.proofs.Common.{◌≡◌, ℕ, ◌+◌, ◌-◌, ◌<◌, ◌≤◌, inl, inr, Bool, true, false, List, ◌++◌, length, set, Option, refl, sym, ap, subst, ◌∙◌, arith}
-use Rattle.std.specs.Prelude.{IsTrue, replicate}
+use Rattle.std.proofs.Common.{◌≡◌, ℕ, ◌+◌, ◌-◌, ◌<◌, ◌≤◌, inl, inr, Bool, true, false, List, ◌++◌, length, set, Option, Some, None, refl, sym, ap, subst, ◌∙◌, arith}
+use Rattle.std.specs.Prelude.{IfSome, IsTrue, replicate}
 use Rattle.std.proofs.lemmas.Bool.{cases_lt}
 use Rattle.std.specs.Vec.{with_items}
 use Rattle.std.proofs.lemmas.List.{length-append, set-get_or, with_items_is}
@@ -13,7 +13,7 @@ use Rattle.u_area.specs.declared.area.UArea.{UArea}
 use Rattle.u_area.proofs.AreaLemmas.{one_area}
 use Rattle.map_fit.specs.declared.holes.Hole.{Hole}
 use Rattle.text_tab.specs.declared.row.TextRow.{TextRow}
-use Rattle.pdp_step.specs.declared.outcome.Outcome.TheVariants.{Next}
+use Rattle.pdp_step.specs.declared.outcome.Outcome.TheVariants.{Call, Next}
 use Rattle.pdp_step.specs.Machine.{Machine}
 use Rattle.pdp_step.specs.Instruction.{Stepped, stepped, instr}
 use Rattle.image_keep.specs.declared.images.Images.TheInside.{Inside}
@@ -34,14 +34,14 @@ use Rattle.image_keep.specs.Starts.{AreStarts}
 use Rattle.image_keep.specs.Running.{IsFixed, with_state, state_bytes, machine_in, with_machine_in}
 use Rattle.image_keep.specs.Standing.{standing_image, StandsIn}
 use Rattle.image_keep.specs.Near.{standing_machine, stack_end, Around, around}
-use Rattle.image_keep.specs.Attempted.{IsAtHand, Attempted}
+use Rattle.image_keep.specs.Attempted.{IsAtHand, Attempted, Called}
 use Rattle.image_keep.proofs.Frames.{alive_image, image_back, area_back, with_image_area}
 use Rattle.image_keep.proofs.Own.{with_line}
 use Rattle.image_keep.proofs.InPlan.{core_kept}
 use Rattle.image_keep.proofs.KeptForm.{kept_holds}
 use Rattle.image_keep.proofs.Storing.{told_image}
 use Rattle.image_keep.proofs.Told.{state_told}
-use Rattle.image_keep.proofs.AreasKept.{area_known, image_low, areas_imaged, areas_described}
+use Rattle.image_keep.proofs.AreasKept.{seat, area_known, image_low, areas_imaged, areas_described}
 use Rattle.image_keep.proofs.Reading.{starts_after}
 use Rattle.image_keep.proofs.Registers.{Stands, stands, state_there, state_eight, starts_described}
 use Rattle.image_keep.proofs.Landing.{StandsAs, LeftAround, Landed, landed, lengths_same}
@@ -65,12 +65,31 @@ pub record OthersStay (a b : Inside) (s : ℕ) (w : UArea) : Type 0 where
   pub core_map : b.core_map ≡ a.core_map
   pub swap_map : b.swap_map ≡ a.swap_map
 
+-- what is so of core and of the u area after any of it
+pub record LeftBeside (f : Standing) (old new : List ℕ) (u w : UArea) : Type 0 where
+  pub around : 0 < f.code_len → around new w f ≡ around old u f
+  pub stated : 0 < f.code_len → part new f.area 18 ≡ state_bytes w.r w.cc
+  pub size : length new ≡ length old
+
+-- images that keep this, in their form
+pub record Comes (b : Inside) (f : Fixed) (k : Kept) : Type 0 where
+  pub images : AreImages b
+  pub kept : kept_in b ≡ k
+  pub fixed : IsFixed (kept_in b) f
+
 -- The images after it.
 pub record Executed (b : Inside) (k : Kept) (f : Fixed) (result : Bool) : Type 0 where
   pub images : AreImages b
   pub outcome : IsTrue result → (instr (machine_in k f.slot)).outcome ≡ Next
   pub done : IsTrue result → kept_in b ≡ with_machine_in k f.slot (instr (machine_in k f.slot)).machine
   pub kept : result ≡ false → kept_in b ≡ k
+  pub fixed : IsFixed (kept_in b) f
+
+pub record CalledFor (b : Inside) (k : Kept) (f : Fixed) (result : Option ℕ) : Type 0 where
+  pub images : AreImages b
+  pub outcome : IfSome result (λ n. (instr (machine_in k f.slot)).outcome ≡ Call n)
+  pub done : IfSome result (λ n. kept_in b ≡ with_machine_in k f.slot (instr (machine_in k f.slot)).machine)
+  pub kept : result ≡ None → kept_in b ≡ k
   pub fixed : IsFixed (kept_in b) f
 
 -- places of core in the line
@@ -90,6 +109,8 @@ core_stands core size f i small text stack = record {
   data_even = i.data_even;
   stack_even = i.stack_even;
   odd = i.odd;
+  nought = i.nought;
+  code_end = i.code_end;
   stack = i.stack;
   bare = i.bare;
   pure = i.pure;
@@ -211,7 +232,7 @@ module _ (a : Inside) (k : Kept) (f : Fixed) (view : kept_in a ≡ k) (h : AreIm
   its_machine : 0 < f.standing.code_len → standing_machine a.memory.core (area_at a.areas.items f.slot) f.standing ≡ machine_in k f.slot
   its_machine some = (let m = image some in λ i. record { r = (known i).r; cc = (known i).cc; image = m i })
 
-  module _ (b : Inside) (w : UArea) (result : Bool) (others : OthersStay a b f.slot w) (did : Attempted f.standing a.memory.core b.memory.core (area_at a.areas.items f.slot) w result) where
+  module _ (b : Inside) (w : UArea) (others : OthersStay a b f.slot w) (did : LeftBeside f.standing a.memory.core b.memory.core (area_at a.areas.items f.slot) w) where
     line : List ℕ
     line = b.memory.core ++ a.memory.swap
 
@@ -273,59 +294,105 @@ module _ (a : Inside) (k : Kept) (f : Fixed) (view : kept_in a ≡ k) (h : AreIm
           let same : SameLengths (image_of k f.slot) m = lengths_same a.memory.core b.memory.core f.standing (image_of k f.slot) (inside some) did.size (image some) in
           subst (λ j. AreStarts j f.slot f.starts) (sym now_kept) (starts_described (with_image k f.slot m) f.slot f.starts (with_state (area_of k f.slot) w.r w.cc) (starts_after k f.slot f.starts m fixed same))
 
-      its_step : IsTrue result → instr (machine_in k f.slot) ≡ stepped Next (standing_machine b.memory.core w f.standing)
-      its_step well = ap instr (sym (its_machine some)) ∙ did.done well
+      at_work : Comes b f (with_machine_in k f.slot (standing_machine b.memory.core w f.standing))
+      at_work = record { images = left_images done_landed.sound now_told now_areas; kept = now_kept; fixed = now_fixed }
 
-      at_work : Executed b k f result
-      at_work = record {
-        images = left_images done_landed.sound now_told now_areas;
-        outcome = λ well. ap (λ (p : Stepped). p.outcome) (its_step well);
-        done = λ well. now_kept ∙ ap (λ (p : Stepped). with_machine_in k f.slot p.machine) (sym (its_step well));
-        kept = λ ill. now_kept ∙ ap (with_machine_in k f.slot) (did.missed ill some ∙ its_machine some) ∙ machine_back k f.slot;
-        fixed = now_fixed;
-      }
-
-    far_away : (r : Bool) → result ≡ r → f.standing.code_len ≡ 0 → Executed b k f result
-    far_away true well none = (let some = did.near well in absurd (omega (arith, some, none)))
-    far_away false ill none =
-        let same : b.memory.core ≡ a.memory.core = did.far_core ill none in
+    far_away : b.memory.core ≡ a.memory.core → w ≡ area_at a.areas.items f.slot → Comes b f k
+    far_away same own =
         let stays : stock_in b ≡ stock_in a = its_stock ∙ ap (λ (p : List ℕ). with_line (stock_in a) (p ++ a.memory.swap)) same in
         let kept : kept_in b ≡ kept_in a = ap kept_of stays in
-        let areas : b.areas.items ≡ a.areas.items = others.areas ∙ ap (set a.areas.items f.slot) (did.far_area ill none) ∙ set-get_or a.areas.items f.slot no_area in
+        let areas : b.areas.items ≡ a.areas.items = others.areas ∙ ap (set a.areas.items f.slot) own ∙ set-get_or a.areas.items f.slot no_area in
         record {
           images = left_images (subst (λ (p : List ℕ). IsSound (with_line (stock_in a) (p ++ a.memory.swap))) (sym same) h.sound) (subst AreTold (sym kept) h.told)
               (subst (λ (l : List UArea). AreAreas l (kept_in b).slots) (sym areas) (subst (λ (j : Kept). AreAreas a.areas.items j.slots) (sym kept) h.areas));
-          outcome = λ well. absurd (cc (well, ill));
-          done = λ well. absurd (cc (well, ill));
-          kept = λ ill. kept ∙ view;
+          kept = kept ∙ view;
           fixed = subst (λ j. AreStarts j f.slot f.starts) (sym (kept ∙ view)) fixed;
         }
 
-    pub executed : Executed b k f result
-    executed = elim (cases_lt 0 f.standing.code_len) [
-      | inl some ↦ at_work some
-      | inr none ↦ far_away result refl (omega (arith, none))
+    -- an instruction with the next one after it
+    done_here : (result : Bool) → Attempted f.standing a.memory.core b.memory.core (area_at a.areas.items f.slot) w result → 0 < f.standing.code_len → Executed b k f result
+    done_here result at some =
+        let c : Comes b f (with_machine_in k f.slot (standing_machine b.memory.core w f.standing)) = at_work some in
+        let step : IsTrue result → instr (machine_in k f.slot) ≡ stepped Next (standing_machine b.memory.core w f.standing) = λ well. ap instr (sym (its_machine some)) ∙ at.done well in
+        record {
+          images = c.images;
+          outcome = λ well. ap (λ (p : Stepped). p.outcome) (step well);
+          done = λ well. c.kept ∙ ap (λ (p : Stepped). with_machine_in k f.slot p.machine) (sym (step well));
+          kept = λ ill. c.kept ∙ ap (with_machine_in k f.slot) (at.missed ill some ∙ its_machine some) ∙ machine_back k f.slot;
+          fixed = c.fixed;
+        }
+
+    nothing_here : (result : Bool) → Attempted f.standing a.memory.core b.memory.core (area_at a.areas.items f.slot) w result → f.standing.code_len ≡ 0 → Executed b k f result
+    nothing_here true at none = (let some = at.near refl in absurd (omega (arith, some, none)))
+    nothing_here false at none =
+        let c : Comes b f k = far_away (at.far_core refl none) (at.far_area refl none) in
+        record { images = c.images; outcome = λ well. absurd (cc well); done = λ well. absurd (cc well); kept = λ ill. c.kept; fixed = c.fixed }
+
+    pub executed : (result : Bool) → Attempted f.standing a.memory.core b.memory.core (area_at a.areas.items f.slot) w result → Executed b k f result
+    executed result at = elim (cases_lt 0 f.standing.code_len) [
+      | inl some ↦ done_here result at some
+      | inr none ↦ nothing_here result at (omega (arith, none))
     ]
 
--- the same over a slice of the u areas
+    -- a system call
+    pub called : (result : Option ℕ) → Called f.standing a.memory.core b.memory.core (area_at a.areas.items f.slot) w result → CalledFor b k f result
+    called None at =
+        let c : Comes b f k = far_away (at.kept_core refl) (at.kept_area refl) in
+        record { images = c.images; outcome = tt; done = tt; kept = λ none. c.kept; fixed = c.fixed }
+    called (Some n) at =
+        let c : Comes b f (with_machine_in k f.slot (standing_machine b.memory.core w f.standing)) = at_work at.near in
+        let step : instr (machine_in k f.slot) ≡ stepped (Call n) (standing_machine b.memory.core w f.standing) = ap instr (sym (its_machine at.near)) ∙ at.called in
+        record {
+          images = c.images;
+          outcome = ap (λ (p : Stepped). p.outcome) step;
+          done = c.kept ∙ ap (λ (p : Stepped). with_machine_in k f.slot p.machine) (sym step);
+          kept = λ none. absurd (cc none);
+          fixed = c.fixed;
+        }
+
+-- the same over a slice of the u areas, by an index
 pub at_hand_in : (a : Inside) (k : Kept) (f : Fixed) (given : List UArea) → kept_in a ≡ k → AreImages a → AreBytes (line_of a.memory) → IsFixed k f → given ≡ a.areas.items
-    → IsAtHand f.standing a.memory.core (area_at given f.slot)
+    → IsAtHand f.standing a.memory.core (area_at given f.index)
 at_hand_in a k f given view h bytes fixed same =
     let at : AtHand k f.slot f.standing a.memory.core (area_at a.areas.items f.slot) = at_hand a k f view h bytes fixed in
-    subst (λ (l : List UArea). IsAtHand f.standing a.memory.core (area_at l f.slot)) (sym same) (record { eight = at.eight; inside = at.inside; stated = at.stated })
+    let there : IsAtHand f.standing a.memory.core (area_at a.areas.items f.slot) = record { eight = at.eight; inside = at.inside; stated = at.stated } in
+    subst (λ n. IsAtHand f.standing a.memory.core (area_at given n)) (sym f.indexed) (subst (λ (l : List UArea). IsAtHand f.standing a.memory.core (area_at l f.slot)) (sym same) there)
 
-pub executed_in : (a : Inside) (k : Kept) (f : Fixed) (given areas : List UArea) (m : Lists) (result : Bool) → kept_in a ≡ k → AreImages a → AreBytes (line_of a.memory) → IsFixed k f → given ≡ a.areas.items → length areas ≡ a.areas.len
-    → Attempted f.standing a.memory.core m.core (area_at given f.slot) (area_at areas f.slot) result → m.swap ≡ a.memory.swap → areas ≡ set given f.slot (area_at areas f.slot)
-    → Executed (record a { memory = m; areas = with_items a.areas areas }) k f result
-executed_in a k f given areas m result view h bytes fixed same long did swap put =
-    let others : OthersStay a (record a { memory = m; areas = with_items a.areas areas }) f.slot (area_at areas f.slot) = record {
+others_in : (a : Inside) (f : Fixed) (given areas : List UArea) (m : Lists) → given ≡ a.areas.items → length areas ≡ a.areas.len → m.swap ≡ a.memory.swap → areas ≡ set given f.index (area_at areas f.index)
+    → OthersStay a (record a { memory = m; areas = with_items a.areas areas }) f.slot (area_at areas f.slot)
+others_in a f given areas m same long swap put =
+    let its : areas ≡ set given f.slot (area_at areas f.slot) = subst (λ n. areas ≡ set given n (area_at areas n)) f.indexed put in
+    record {
       swap = swap;
       core = refl;
       rows = refl;
-      areas = with_items_is a.areas areas long ∙ put ∙ ap (λ (l : List UArea). set l f.slot (area_at areas f.slot)) same;
+      areas = with_items_is a.areas areas long ∙ its ∙ ap (λ (l : List UArea). set l f.slot (area_at areas f.slot)) same;
       texts = refl;
       core_map = refl;
       swap_map = refl;
-    } in
-    executed a k f view h bytes fixed (record a { memory = m; areas = with_items a.areas areas }) (area_at areas f.slot) result others
-    (subst (λ (l : List UArea). Attempted f.standing a.memory.core m.core (area_at l f.slot) (area_at areas f.slot) result) same did)
+    }
+
+pub executed_in : (a : Inside) (k : Kept) (f : Fixed) (given areas : List UArea) (m : Lists) (result : Bool) → kept_in a ≡ k → AreImages a → AreBytes (line_of a.memory) → IsFixed k f → given ≡ a.areas.items → length areas ≡ a.areas.len
+    → Attempted f.standing a.memory.core m.core (area_at given f.index) (area_at areas f.index) result → m.swap ≡ a.memory.swap → areas ≡ set given f.index (area_at areas f.index)
+    → Executed (record a { memory = m; areas = with_items a.areas areas }) k f result
+executed_in a k f given areas m result view h bytes fixed same long did swap put =
+    let at : Attempted f.standing a.memory.core m.core (area_at a.areas.items f.slot) (area_at areas f.slot) result =
+    subst (λ (l : List UArea). Attempted f.standing a.memory.core m.core (area_at l f.slot) (area_at areas f.slot) result) same (subst (λ n. Attempted f.standing a.memory.core m.core (area_at given n) (area_at areas n) result) f.indexed did) in
+    executed a k f view h bytes fixed (record a { memory = m; areas = with_items a.areas areas }) (area_at areas f.slot) (others_in a f given areas m same long swap put)
+    (record { around = at.around; stated = at.stated; size = at.size }) result at
+
+pub called_in : (a : Inside) (k : Kept) (f : Fixed) (given areas : List UArea) (m : Lists) (result : Option ℕ) → kept_in a ≡ k → AreImages a → AreBytes (line_of a.memory) → IsFixed k f → given ≡ a.areas.items → length areas ≡ a.areas.len
+    → Called f.standing a.memory.core m.core (area_at given f.index) (area_at areas f.index) result → m.swap ≡ a.memory.swap → areas ≡ set given f.index (area_at areas f.index)
+    → CalledFor (record a { memory = m; areas = with_items a.areas areas }) k f result
+called_in a k f given areas m result view h bytes fixed same long did swap put =
+    let at : Called f.standing a.memory.core m.core (area_at a.areas.items f.slot) (area_at areas f.slot) result =
+    subst (λ (l : List UArea). Called f.standing a.memory.core m.core (area_at l f.slot) (area_at areas f.slot) result) same (subst (λ n. Called f.standing a.memory.core m.core (area_at given n) (area_at areas n) result) f.indexed did) in
+    called a k f view h bytes fixed (record a { memory = m; areas = with_items a.areas areas }) (area_at areas f.slot) (others_in a f given areas m same long swap put)
+    (record { around = at.around; stated = at.stated; size = at.size }) result at
+
+-- the index is one of a u area
+pub seat_in : (a : Inside) (k : Kept) (f : Fixed) → kept_in a ≡ k → AreImages a → IsFixed k f → f.index < length a.areas.items
+seat_in a k f view h fixed =
+    let low : f.slot < 50 = image_low (stock_in a) k f.slot view h.sound h.counted (alive_image k f.slot fixed.alive) in
+    let at : f.slot < length a.areas.items = seat a.areas.items (kept_in a).slots f.slot h.areas low in
+    subst (λ n. n < length a.areas.items) (sym f.indexed) at

@@ -5,6 +5,7 @@ use Rattle.u_area.specs.declared.area.UArea.{UArea}
 use Rattle.image_keep.specs.declared.standing.Standing.{Standing}
 use Rattle.image_keep.specs.Running.{with_state, state_bytes}
 use Rattle.image_keep.specs.Standing.{StandsIn}
+use Rattle.image_keep.proofs.StandingState.{image_beside}
 use Rattle.image_keep.specs.Near.{stack_end, around}
 
 pub record Kept_around (core new : List ℕ) (f : Standing) : Type 0 where
@@ -28,14 +29,14 @@ around_stored core new u f s size rest =
     })
 
 -- registers or codes were written
-pub around_stated : (core new : List ℕ) (u w : UArea) (f : Standing) → StandsIn (length core) f → length new ≡ length core → with_state w (replicate 8 0) 0 ≡ with_state u (replicate 8 0) 0 → ((k m : ℕ) → (k + m ≤ f.area) ⊎ (f.area + 18 ≤ k) → part new k m ≡ part core k m) → around new w f ≡ around core u f
-around_stated core new u w f s size same rest =
+pub around_stated : (core new : List ℕ) (u w : UArea) (f : Standing) (at : ℕ) → StandsIn (length core) f → at ≡ f.area → length new ≡ length core → with_state w (replicate 8 0) 0 ≡ with_state u (replicate 8 0) 0 → ((k m : ℕ) → (k + m ≤ at) ⊎ (at + 18 ≤ k) → part new k m ≡ part core k m) → around new w f ≡ around core u f
+around_stated core new u w f at s is size same rest =
     let a = s.area in let e = s.end in
     let k : around new u f ≡ around core u f = around_same core new u f (record {
       size = size;
-      before = rest 0 f.area (inl (omega arith));
-      fields = rest (f.area + 18) 1006 (inr (omega arith));
-      behind = rest (stack_end f) (length core - stack_end f) (inr (omega (arith, a, e)));
+      before = rest 0 f.area (inl (omega (arith, is)));
+      fields = rest (f.area + 18) 1006 (inr (omega (arith, is)));
+      behind = rest (stack_end f) (length core - stack_end f) (inr (omega (arith, a, e, is)));
     }) in
     ap (λ (v : UArea). record (around new u f) { area = v }) same ∙ k
 
@@ -43,4 +44,4 @@ around_stated core new u w f s size same rest =
 pub stated_after : (core new : List ℕ) (u : UArea) (f : Standing) → StandsIn (length core) f → ((k m : ℕ) → (k + m ≤ f.data) ⊎ (f.data_end + 65536 ≤ k + f.stack_start) → part new k m ≡ part core k m) → part core f.area 18 ≡ state_bytes u.r u.cc → part new f.area 18 ≡ state_bytes u.r u.cc
 stated_after core new u f s rest is = rest f.area 18 (inl (let a = s.area in omega (arith, a))) ∙ is
 
-pub ruleset near = (around_stored, around_stated, stated_after)
+pub ruleset near = (around_stored, around_stated, stated_after, image_beside)

@@ -1,5 +1,5 @@
 -- Registers and condition codes are written one by one where they stand: the bytes are then those of the u area with them.
-use Rattle.std.proofs.Common.{◌≡◌, ℕ, zero, suc, ◌+◌, ◌-◌, ◌*◌, ◌/◌, ◌%◌, ◌<◌, ◌≤◌, ◌⊎◌, inl, inr, List, [], ◌∷◌, ◌++◌, length, slice_set, set, refl, sym, ap, ◌∙◌, arith}
+use Rattle.std.proofs.Common.{◌≡◌, ℕ, zero, suc, ◌+◌, ◌-◌, ◌*◌, ◌/◌, ◌%◌, ◌<◌, ◌≤◌, ◌⊎◌, inl, inr, List, [], ◌∷◌, ◌++◌, length, slice_set, set, refl, sym, ap, subst, ◌∙◌, arith}
 use Rattle.std.proofs.lemmas.List.{set-append_right, length-set}
 use Rattle.fs_codec.specs.Bytes.{bytes_of}
 use Rattle.fs_codec.proofs.BytesLemmas.{length-bytes_of}
@@ -48,21 +48,18 @@ stated_codes core at cc old r eight low was room is =
 pub area_in : (size : ℕ) (f : Standing) → StandsIn size f → f.area + 18 ≤ size
 area_in size f s = let a = s.area in let e = s.end in let i = s.stack_in in let b = s.stack_below in omega (arith, a, e, i, b)
 
-pub state_low : (size : ℕ) (f : Standing) (k : ℕ) → StandsIn size f → k < 18 → f.area + k < size
-state_low size f k s low = let a = area_in size f s in omega (arith, a, low)
-
 -- what stands elsewhere
-pub register_rest : (core new : List ℕ) (f : Standing) (n w k m : ℕ) → n < 8 → new ≡ word_set core (f.area + 2 * n) w → (k + m ≤ f.area) ⊎ (f.area + 18 ≤ k) → part new k m ≡ part core k m
-register_rest core new f n w k m low is off = ap (λ c. part c k m) is ∙ word_apart core k m (f.area + 2 * n) w (by off)
+pub register_rest : (core new : List ℕ) (at n w k m : ℕ) → n < 8 → new ≡ word_set core (at + 2 * n) w → (k + m ≤ at) ⊎ (at + 18 ≤ k) → part new k m ≡ part core k m
+register_rest core new at n w k m low is off = ap (λ c. part c k m) is ∙ word_apart core k m (at + 2 * n) w (by off)
   where
-    by : (k + m ≤ f.area) ⊎ (f.area + 18 ≤ k) → (f.area + 2 * n + 2 ≤ k) ⊎ (k + m ≤ f.area + 2 * n)
+    by : (k + m ≤ at) ⊎ (at + 18 ≤ k) → (at + 2 * n + 2 ≤ k) ⊎ (k + m ≤ at + 2 * n)
     by (inl h) = inr (omega (arith, h))
     by (inr h) = inl (omega (arith, h, low))
 
-pub codes_rest : (core new : List ℕ) (f : Standing) (cc k m : ℕ) → new ≡ set core (f.area + 16) cc → (k + m ≤ f.area) ⊎ (f.area + 18 ≤ k) → part new k m ≡ part core k m
-codes_rest core new f cc k m is off = ap (λ c. part c k m) is ∙ part_apart core k m (f.area + 16) cc (by off)
+pub codes_rest : (core new : List ℕ) (at cc k m : ℕ) → new ≡ set core (at + 16) cc → (k + m ≤ at) ⊎ (at + 18 ≤ k) → part new k m ≡ part core k m
+codes_rest core new at cc k m is off = ap (λ c. part c k m) is ∙ part_apart core k m (at + 16) cc (by off)
   where
-    by : (k + m ≤ f.area) ⊎ (f.area + 18 ≤ k) → (f.area + 16 < k) ⊎ (k + m ≤ f.area + 16)
+    by : (k + m ≤ at) ⊎ (at + 18 ≤ k) → (at + 16 < k) ⊎ (k + m ≤ at + 16)
     by (inl h) = inr (omega (arith, h))
     by (inr h) = inl (omega (arith, h))
 
@@ -80,33 +77,33 @@ image_same core new f s rest =
     by (inl h) = inl h
     by (inr h) = inr (let a = s.area in let e = s.end in let b = s.stack_below in omega (arith, h, a, e, b))
 
+pub image_beside : (core new : List ℕ) (f : Standing) (at : ℕ) → StandsIn (length core) f → at ≡ f.area → ((k m : ℕ) → (k + m ≤ at) ⊎ (at + 18 ≤ k) → part new k m ≡ part core k m) → standing_image new f ≡ standing_image core f
+image_beside core new f at s is rest = image_same core new f s (subst (λ n. (k m : ℕ) → (k + m ≤ n) ⊎ (n + 18 ≤ k) → part new k m ≡ part core k m) is rest)
+
 -- the u area with one register or with other codes
 pub area_register : (u : UArea) (n w : ℕ) → record u { r = slice_set u.r n w } ≡ with_state u (slice_set u.r n w) u.cc
 area_register u n w = state_is u (slice_set u.r n w) u.cc u.codes
 
-pub register_stated : (core new : List ℕ) (f : Standing) (u : UArea) (n w : ℕ) → StandsIn (length core) f → length u.r ≡ 8 → n < 8 → part core f.area 18 ≡ state_bytes u.r u.cc → new ≡ word_set core (f.area + 2 * n) w → part new f.area 18 ≡ state_bytes (slice_set u.r n w) u.cc
-register_stated core new f u n w s eight low is new_is = ap (λ c. part c f.area 18) new_is ∙ stated_register core f.area n w u.r u.cc eight low (area_in (length core) f s) is
+pub register_stated : (core new : List ℕ) (at : ℕ) (u : UArea) (n w : ℕ) → at + 18 ≤ length core → length u.r ≡ 8 → n < 8 → part core at 18 ≡ state_bytes u.r u.cc → new ≡ word_set core (at + 2 * n) w → part new at 18 ≡ state_bytes (slice_set u.r n w) u.cc
+register_stated core new at u n w room eight low is new_is = ap (λ c. part c at 18) new_is ∙ stated_register core at n w u.r u.cc eight low room is
 
-pub codes_stated : (core new : List ℕ) (f : Standing) (u : UArea) (cc : ℕ) → StandsIn (length core) f → length u.r ≡ 8 → cc < 16 → part core f.area 18 ≡ state_bytes u.r u.cc → new ≡ set core (f.area + 16) cc → part new f.area 18 ≡ state_bytes u.r cc
-codes_stated core new f u cc s eight low is new_is = ap (λ c. part c f.area 18) new_is ∙ stated_codes core f.area cc u.cc u.r eight low u.codes (area_in (length core) f s) is
+pub codes_stated : (core new : List ℕ) (at : ℕ) (u : UArea) (cc : ℕ) → at + 18 ≤ length core → length u.r ≡ 8 → cc < 16 → part core at 18 ≡ state_bytes u.r u.cc → new ≡ set core (at + 16) cc → part new at 18 ≡ state_bytes u.r cc
+codes_stated core new at u cc room eight low is new_is = ap (λ c. part c at 18) new_is ∙ stated_codes core at cc u.cc u.r eight low u.codes room is
+
+pub ruleset registers = (area_register, register_stated, codes_stated, state_is, length-set)
 
 -- registers and codes are put there together
-pub state_put : (core new : List ℕ) (f : Standing) (b r : List ℕ) (cc : ℕ) → StandsIn (length core) f → length b ≡ 18 → b ≡ state_bytes r cc → new ≡ over core f.area b → part new f.area 18 ≡ state_bytes r cc
-state_put core new f b r cc s long is new_is = ap (λ c. part c f.area 18) new_is ∙ part-over_same core f.area b 18 long (area_in (length core) f s) ∙ is
+pub state_put : (core new : List ℕ) (at : ℕ) (b r : List ℕ) (cc : ℕ) → at + 18 ≤ length core → length b ≡ 18 → b ≡ state_bytes r cc → new ≡ over core at b → part new at 18 ≡ state_bytes r cc
+state_put core new at b r cc room long is new_is = ap (λ c. part c at 18) new_is ∙ part-over_same core at b 18 long room ∙ is
 
-pub state_size : (core new : List ℕ) (f : Standing) (b : List ℕ) → StandsIn (length core) f → length b ≡ 18 → new ≡ over core f.area b → length new ≡ length core
-state_size core new f b s long new_is = ap length new_is ∙ length-over core f.area b (let a = area_in (length core) f s in omega (arith, long, a))
+pub state_size : (core new : List ℕ) (at : ℕ) (b : List ℕ) → at + 18 ≤ length core → length b ≡ 18 → new ≡ over core at b → length new ≡ length core
+state_size core new at b room long new_is = ap length new_is ∙ length-over core at b (omega (arith, long, room))
 
-pub state_rest : (core new : List ℕ) (f : Standing) (b : List ℕ) (k m : ℕ) → StandsIn (length core) f → length b ≡ 18 → new ≡ over core f.area b → (k + m ≤ f.area) ⊎ (f.area + 18 ≤ k) → part new k m ≡ part core k m
-state_rest core new f b k m s long new_is off = ap (λ c. part c k m) new_is ∙ part-over_apart core f.area b k m (let a = area_in (length core) f s in omega (arith, long, a)) (by off)
+pub state_rest : (core new : List ℕ) (at : ℕ) (b : List ℕ) (k m : ℕ) → at + 18 ≤ length core → length b ≡ 18 → new ≡ over core at b → (k + m ≤ at) ⊎ (at + 18 ≤ k) → part new k m ≡ part core k m
+state_rest core new at b k m room long new_is off = ap (λ c. part c k m) new_is ∙ part-over_apart core at b k m (omega (arith, long, room)) (by off)
   where
-    by : (k + m ≤ f.area) ⊎ (f.area + 18 ≤ k) → (k + m ≤ f.area) ⊎ (f.area + length b ≤ k)
+    by : (k + m ≤ at) ⊎ (at + 18 ≤ k) → (k + m ≤ at) ⊎ (at + length b ≤ k)
     by (inl h) = inl h
     by (inr h) = inr (omega (arith, h, long))
 
-pub state_image : (core new : List ℕ) (f : Standing) (b : List ℕ) → StandsIn (length core) f → length b ≡ 18 → new ≡ over core f.area b → standing_image new f ≡ standing_image core f
-state_image core new f b s long new_is = image_same core new f s (λ k m off. state_rest core new f b k m s long new_is off)
-
-pub ruleset registers = (state_low, area_register, register_stated, codes_stated, state_is, length-set)
-
-pub ruleset states = (area_in, state_put, state_size, state_rest, state_image, state_is)
+pub ruleset states = (state_put, state_size, state_rest, state_is)

@@ -32,6 +32,8 @@ pub record StandsIn (size : ℕ) (f : Standing) : Type 0 where
   pub data_even : f.data_len % 2 ≡ 0
   pub stack_even : f.stack_start % 2 ≡ 0
   pub odd : f.odd ≡ 1
+  pub nought : f.nought ≡ 0
+  pub code_end : f.code_end ≡ f.code_len
   pub stack : (f.stack + f.stack_start) % 18446744073709551616 ≡ f.data_end
   pub bare : f.text_len ≡ 0 → (f.code ≡ f.data) × (f.code_len ≡ f.data_len)
   pub pure : 0 < f.text_len → (f.code ≡ f.text) × (f.code_len ≡ f.text_len)
@@ -47,6 +49,8 @@ pub record Follows (f : Standing) (x : Starts) : Type 0 where
   pub area : f.area + 1024 ≡ f.data
   pub end : f.data_end ≡ f.data + f.data_len
   pub odd : f.odd ≡ 1
+  pub nought : f.nought ≡ 0
+  pub code_end : f.code_end ≡ f.code_len
   pub stack : (f.stack + f.stack_start) % 18446744073709551616 ≡ f.data_end
   pub bare : f.text_len ≡ 0 → (f.code ≡ f.data) × (f.code_len ≡ f.data_len)
   pub pure : 0 < f.text_len → (f.code ≡ f.text) × (f.code_len ≡ f.text_len)

@@ -1,9 +1,9 @@
 //! The process that executes instructions does one where it stands in core.
-ghost use Rattle.std.specs.Prelude.{◌≡◌, ◌<◌, IsTrue, false, length, slice_set};
-ghost use Rattle.pdp_step.specs.declared.outcome.Outcome.TheVariants.{Next};
+ghost use Rattle.std.specs.Prelude.{◌≡◌, ◌<◌, IfSome, IsTrue, None, false, length, slice_set};
+ghost use Rattle.pdp_step.specs.declared.outcome.Outcome.TheVariants.{Call, Next};
 ghost use Rattle.pdp_step.specs.Instruction.{instr};
 ghost use Rattle.image_keep.specs.Areas.{area_at};
-ghost use Rattle.image_keep.specs.Attempted.{IsAtHand, Attempted};
+ghost use Rattle.image_keep.specs.Attempted.{IsAtHand, Attempted, Called};
 ghost use Rattle.image_keep.specs.Running.{IsFixed, machine_in, with_machine_in};
 
 use crate::images::Images;
@@ -32,9 +32,46 @@ fn attempt_in(
     memory.attempt(&mut areas[s], standing, dispatch)
 }
 
+/// The same for an instruction whose handler has no row in place.
+#[inline(always)]
+fn attempt_any_in(
+    memory: &mut Memory,
+    areas: &mut [UArea],
+    s: usize,
+    standing: &Standing,
+    dispatch: &Dispatch,
+) -> bool
+    requires slot { s < length areas.old }
+    requires at_hand { IsAtHand standing.now memory.old.core (area_at areas.old s) }
+    ensures did { Attempted standing.now memory.old.core memory.new.core (area_at areas.old s) (area_at areas.new s) result }
+    ensures swap { memory.new.swap ≡ memory.old.swap }
+    ensures areas { areas.new ≡ slice_set areas.old s (area_at areas.new s) }
+    ensures long { length areas.new ≡ length areas.old }
+{
+    memory.attempt_any(&mut areas[s], standing, dispatch)
+}
+
+/// The system call that the process in a slot asks for.
+#[inline(always)]
+fn call_in(
+    memory: &mut Memory,
+    areas: &mut [UArea],
+    s: usize,
+    standing: &Standing,
+) -> Option<u8>
+    requires slot { s < length areas.old }
+    requires at_hand { IsAtHand standing.now memory.old.core (area_at areas.old s) }
+    ensures did { Called standing.now memory.old.core memory.new.core (area_at areas.old s) (area_at areas.new s) result }
+    ensures swap { memory.new.swap ≡ memory.old.swap }
+    ensures areas { areas.new ≡ slice_set areas.old s (area_at areas.new s) }
+    ensures long { length areas.new ≡ length areas.old }
+{
+    memory.attempt_call(&mut areas[s], standing)
+}
+
 impl Images {
-    /// The process of which this is fixed does one instruction where it stands in core, if that is one that ends so: else
-    /// nothing has changed.
+    /// The process of which this is fixed does one instruction where it stands in core, if that is one with a row by its handler
+    /// which ends so: else nothing has changed.
     #[inline(always)]
     pub fn execute_near(&mut self, fixed: &Fixed, dispatch: &Dispatch) -> bool
         requires { IsFixed self.old fixed.now }
@@ -47,9 +84,47 @@ impl Images {
         attempt_in(
             &mut self.memory,
             &mut self.areas,
-            fixed.slot as usize,
+            fixed.index,
             &fixed.standing,
             dispatch,
+        )
+    }
+
+    /// The same for any instruction. It stands out of line, to keep the loop over slots small.
+    #[inline(never)]
+    pub fn execute_any(&mut self, fixed: &Fixed, dispatch: &Dispatch) -> bool
+        requires { IsFixed self.old fixed.now }
+        ensures outcome { IsTrue result → (instr (machine_in self.old fixed.now.slot)).outcome ≡ Next }
+        ensures done { IsTrue result → self.new ≡ with_machine_in self.old fixed.now.slot (instr (machine_in self.old fixed.now.slot)).machine }
+        ensures kept { result ≡ false → self.new ≡ self.old }
+        ensures fixed { IsFixed self.new fixed.now }
+    {
+        self.memory.see_bytes();
+        attempt_any_in(
+            &mut self.memory,
+            &mut self.areas,
+            fixed.index,
+            &fixed.standing,
+            dispatch,
+        )
+    }
+
+    /// The process of which this is fixed asks for a system call, where its word is at hand: PC passes the word, and the number
+    /// is answered. Else nothing has changed. UNIX Programmer's Manual, Sixth Edition, section II, INTRO.
+    #[inline(always)]
+    pub fn call_near(&mut self, fixed: &Fixed) -> Option<u8>
+        requires { IsFixed self.old fixed.now }
+        ensures outcome { IfSome result (λ n. (instr (machine_in self.old fixed.now.slot)).outcome ≡ Call n) }
+        ensures done { IfSome result (λ n. self.new ≡ with_machine_in self.old fixed.now.slot (instr (machine_in self.old fixed.now.slot)).machine) }
+        ensures kept { result ≡ None → self.new ≡ self.old }
+        ensures fixed { IsFixed self.new fixed.now }
+    {
+        self.memory.see_bytes();
+        call_in(
+            &mut self.memory,
+            &mut self.areas,
+            fixed.index,
+            &fixed.standing,
         )
     }
 }

@@ -3,10 +3,10 @@ ghost use Rattle.std.specs.Prelude.{◌≡◌, ◌⊎◌, ◌+◌, ◌*◌, ◌<
 ghost use Rattle.v6_base.specs.Words.{word_set};
 ghost use Rattle.core_mem.specs.Bytes.{part, over};
 ghost use Rattle.v6_base.specs.Image.{AreBytes};
-ghost use Rattle.image_keep.specs.Attempted.{IsAtHand, Attempted};
+ghost use Rattle.image_keep.specs.Attempted.{IsAtHand, Attempted, Called};
 ghost use Rattle.image_keep.specs.Line.{line_of};
 
-use crate::attempt::attempt;
+use crate::attempt::{attempt, attempt_any, attempt_call};
 use crate::standing::Standing;
 use core_mem::Core;
 use pdp_decode::Dispatch;
@@ -362,6 +362,31 @@ impl Memory {
         ensures swap { self.new.swap ≡ self.old.swap }
     {
         attempt(self.core.bytes_mut(), area, standing, dispatch)
+    }
+
+    /// The same for an instruction whose handler has no row in place.
+    #[inline(always)]
+    pub(crate) fn attempt_any(
+        &mut self,
+        area: &mut UArea,
+        standing: &Standing,
+        dispatch: &Dispatch,
+    ) -> bool
+        requires { IsAtHand standing.now self.old.core area.old }
+        ensures did { Attempted standing.now self.old.core self.new.core area.old area.new result }
+        ensures swap { self.new.swap ≡ self.old.swap }
+    {
+        attempt_any(self.core.bytes_mut(), area, standing, dispatch)
+    }
+
+    /// The system call that a process asks for, which stands in core.
+    #[inline(always)]
+    pub(crate) fn attempt_call(&mut self, area: &mut UArea, standing: &Standing) -> Option<u8>
+        requires { IsAtHand standing.now self.old.core area.old }
+        ensures did { Called standing.now self.old.core self.new.core area.old area.new result }
+        ensures swap { self.new.swap ≡ self.old.swap }
+    {
+        attempt_call(self.core.bytes_mut(), area, standing)
     }
 
     /// The bytes of the swap area.

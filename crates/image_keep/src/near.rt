@@ -5,6 +5,7 @@ ghost use Rattle.pdp_decode.specs.Numbers.{reg_code};
 ghost use Rattle.pdp_decode.specs.Decode.{reg_of};
 ghost use Rattle.image_keep.specs.Running.{state_bytes};
 ghost use Rattle.image_keep.specs.Standing.{StandsIn};
+ghost use Rattle.image_keep.specs.Near.{StandsWith};
 
 use crate::standing::{
     Standing, load_byte, load_word, program_byte, program_word, reg, set_cc, set_reg, store_byte,
@@ -17,12 +18,37 @@ use v6_base::Trap;
 /// The bytes in which a process stands, with its u area, decoded. Registers and codes stand in both.
 #[derive(Drop)]
 pub(crate) struct Near<'a> {
-    pub(crate) core: &'a mut [u8],
-    pub(crate) area: &'a mut UArea,
-    pub(crate) standing: &'a Standing,
-    pub(crate) ghost stands: { StandsIn (length core.now) standing.now },
-    pub(crate) ghost eight: { length area.now.r ≡ 8 },
-    pub(crate) ghost stated: { part core.now standing.now.area 18 ≡ state_bytes area.now.r area.now.cc },
+    core: &'a mut [u8],
+    area: &'a mut UArea,
+    standing: &'a Standing,
+    /// Where its u area stands.
+    at: usize,
+    ghost place: { at ≡ standing.now.area },
+    ghost stands: { StandsIn (length core.now) standing.now },
+    ghost eight: { length area.now.r ≡ 8 },
+    ghost stated: { part core.now standing.now.area 18 ≡ state_bytes area.now.r area.now.cc },
+}
+
+/// The process that stands there.
+#[inline(always)]
+pub(crate) fn processor<'a>(
+    core: &'a mut [u8],
+    area: &'a mut UArea,
+    standing: &'a Standing,
+) -> Near<'a>
+    requires { StandsWith core.old area.old standing.now }
+    ensures core { result.core.now ≡ core.entry.now }
+    ensures core_loan { result.core.ghost_name ≡ core.entry.ghost_name }
+    ensures area { result.area.now ≡ area.entry.now }
+    ensures area_loan { result.area.ghost_name ≡ area.entry.ghost_name }
+    ensures standing { result.standing.now ≡ standing.now }
+{
+    Near {
+        core,
+        area,
+        standing,
+        at: standing.area,
+    }
 }
 
 // The index of a register that a number's low octal digit names.
@@ -61,7 +87,7 @@ impl Processor for Near<'_> {
 
     #[inline(always)]
     fn set_reg(&mut self, n: u32, value: u16) {
-        set_reg(self.core, self.area, self.standing, index(n), value);
+        set_reg(self.core, self.area, self.at, index(n), value);
     }
 
     #[inline(always)]
@@ -71,7 +97,7 @@ impl Processor for Near<'_> {
 
     #[inline(always)]
     fn set_cc(&mut self, cc: u8) {
-        set_cc(self.core, self.area, self.standing, cc);
+        set_cc(self.core, self.area, self.at, cc);
     }
 
     #[inline(always)]

@@ -1,5 +1,6 @@
 //! The process that executes instructions: what stays fixed of it meanwhile. The segmentation registers in Lions' Commentary,
 //! `sureg` in `main.c`.
+ghost use Rattle.std.specs.Prelude.{◌≡◌};
 ghost use Rattle.image_keep.specs.Standing.{IsNear};
 
 use crate::standing::Standing;
@@ -11,8 +12,11 @@ use v6_base::Slot;
 #[derive(Clone, Copy, Debug, PartialEq, Eq)]
 pub struct Fixed {
     pub slot: Slot,
+    /// The same as an index.
+    pub(crate) index: usize,
     pub(crate) starts: Starts,
     /// The same as places in core, where it is there.
     pub(crate) standing: Standing,
+    pub(crate) ghost indexed: { index ≡ slot },
     pub(crate) ghost near: { IsNear standing starts },
 }

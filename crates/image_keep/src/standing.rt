@@ -21,6 +21,8 @@ pub(crate) struct Standing {
     /// The program: the text, or the data where there is none.
     pub code: usize,
     pub code_len: usize,
+    /// The same once more, for the words after the first of an instruction: the compiler then keeps no register for it.
+    pub code_end: usize,
     pub base: usize,
     pub data: usize,
     pub data_len: usize,
@@ -30,6 +32,8 @@ pub(crate) struct Standing {
     pub stack: usize,
     /// 1, the bit of an odd address: the compiler doesn't know it, and so reads a word as a word.
     pub odd: usize,
+    /// 0, likewise: it is added to the word of an instruction.
+    pub nought: u32,
 }
 
 /// Puts a word to two neighbours.
@@ -63,6 +67,7 @@ impl Standing {
             text_len: 0,
             code: 0,
             code_len: 0,
+            code_end: 0,
             base: 0,
             data: 0,
             data_len: 0,
@@ -70,6 +75,7 @@ impl Standing {
             stack_start: 0,
             stack: 0,
             odd: 1,
+            nought: 0,
         }
     }
 
@@ -84,16 +90,18 @@ impl Standing {
             return Standing::none();
         }
         let is_bare = starts.text_len == 0;
+        let code_len = if is_bare {
+            starts.data_len
+        } else {
+            starts.text_len
+        };
         Standing {
             area: starts.image - AREA_SIZE,
             text: starts.text,
             text_len: starts.text_len,
             code: if is_bare { starts.image } else { starts.text },
-            code_len: if is_bare {
-                starts.data_len
-            } else {
-                starts.text_len
-            },
+            code_len,
+            code_end: code_len,
             base: starts.base,
             data: starts.image,
             data_len: starts.data_len,
@@ -101,6 +109,7 @@ impl Standing {
             stack_start: starts.stack_start,
             stack: data_end.wrapping_sub(starts.stack_start),
             odd: 1,
+            nought: 0,
         }
     }
 
@@ -147,16 +156,31 @@ impl Standing {
     }
 }
 
+/// The word of the instruction at an address, where it is even and within: no other test tells whether the process is at hand.
+#[inline(always)]
+#[tactic(auto, using(crate::proofs::StandingParts::programs))]
+pub(crate) fn instruction_word(core: &[u8], f: &Standing, pc: usize) -> Option<u32>
+    requires { 0 < f.now.code_len → StandsIn (length core.now) f.now }
+    ensures near { IfSome result (λ _. 0 < f.now.code_len) }
+    ensures word { IfSome result (λ word. load_word (standing_image core.now f.now) pc ≡ Ok word) }
+    ensures small { IfSome result (λ word. word < 65536) }
+    ensures low { IfSome result (λ _. pc < 65536) }
+{
+    if pc % 2 == 1 || pc >= f.code_len {
+        return None;
+    }
+    Some(u32::from(word_in(core, f.code + pc)) + f.nought)
+}
+
 /// The word of the program at an address, where it is even and within.
 #[inline(always)]
 #[tactic(auto, using(crate::proofs::StandingParts::programs))]
 pub(crate) fn program_word(core: &[u8], f: &Standing, pc: usize) -> Option<u16>
-    requires { 0 < f.now.code_len → StandsIn (length core.now) f.now }
-    ensures near { IfSome result (λ _. 0 < f.now.code_len) }
+    requires { StandsIn (length core.now) f.now }
     ensures word { IfSome result (λ word. load_word (standing_image core.now f.now) pc ≡ Ok word) }
     ensures low { IfSome result (λ _. pc < 65536) }
 {
-    if pc % 2 == 1 || pc >= f.code_len {
+    if pc % 2 == 1 || pc >= f.code_end {
         return None;
     }
     Some(word_in(core, f.code + pc))
@@ -170,7 +194,7 @@ pub(crate) fn program_byte(core: &[u8], f: &Standing, pc: usize) -> Option<u8>
     ensures byte { IfSome result (λ byte. load_byte (standing_image core.now f.now) pc ≡ Ok byte) }
     ensures low { IfSome result (λ _. pc < 65536) }
 {
-    if pc >= f.code_len {
+    if pc >= f.code_end {
         return None;
     }
     Some(core[f.code + pc])
@@ -233,39 +257,37 @@ pub(crate) fn reg(area: &UArea, n: usize) -> u16
     area.r[n]
 }
 
-/// Gives a register of a process a value, in the bytes of its u area and in the decoded one.
+/// Gives a register of a process a value, in the bytes of its u area, which stands there, and in the decoded one.
 #[inline(always)]
 #[tactic(auto, using(crate::proofs::StandingState::registers))]
-pub(crate) fn set_reg(core: &mut [u8], area: &mut UArea, f: &Standing, n: usize, value: u16)
-    requires stands { StandsIn (length core.old) f.now }
+pub(crate) fn set_reg(core: &mut [u8], area: &mut UArea, at: usize, n: usize, value: u16)
+    requires inside { at + 18 ≤ length core.old }
     requires number { n < 8 }
     requires eight { length area.old.r ≡ 8 }
-    requires stated { part core.old f.now.area 18 ≡ state_bytes area.old.r area.old.cc }
+    requires stated { part core.old at 18 ≡ state_bytes area.old.r area.old.cc }
     ensures area { area.new ≡ with_state area.old (slice_set area.old.r n value) area.old.cc }
-    ensures stated { part core.new f.now.area 18 ≡ state_bytes area.new.r area.new.cc }
-    ensures image { standing_image core.new f.now ≡ standing_image core.old f.now }
-    ensures rest { (k m : ℕ) → (k + m ≤ f.now.area) ⊎ (f.now.area + 18 ≤ k) → part core.new k m ≡ part core.old k m }
+    ensures stated { part core.new at 18 ≡ state_bytes area.new.r area.new.cc }
+    ensures rest { (k m : ℕ) → (k + m ≤ at) ⊎ (at + 18 ≤ k) → part core.new k m ≡ part core.old k m }
     ensures size { length core.new ≡ length core.old }
 {
-    put_word(core, f.area + 2 * n, value);
+    put_word(core, at + 2 * n, value);
     area.r[n] = value;
 }
 
 /// Gives a process condition codes, likewise.
 #[inline(always)]
 #[tactic(auto, using(crate::proofs::StandingState::registers))]
-pub(crate) fn set_cc(core: &mut [u8], area: &mut UArea, f: &Standing, cc: u8)
-    requires stands { StandsIn (length core.old) f.now }
+pub(crate) fn set_cc(core: &mut [u8], area: &mut UArea, at: usize, cc: u8)
+    requires inside { at + 18 ≤ length core.old }
     requires codes { cc < 16 }
     requires eight { length area.old.r ≡ 8 }
-    requires stated { part core.old f.now.area 18 ≡ state_bytes area.old.r area.old.cc }
+    requires stated { part core.old at 18 ≡ state_bytes area.old.r area.old.cc }
     ensures area { area.new ≡ with_state area.old area.old.r cc }
-    ensures stated { part core.new f.now.area 18 ≡ state_bytes area.new.r area.new.cc }
-    ensures image { standing_image core.new f.now ≡ standing_image core.old f.now }
-    ensures rest { (k m : ℕ) → (k + m ≤ f.now.area) ⊎ (f.now.area + 18 ≤ k) → part core.new k m ≡ part core.old k m }
+    ensures stated { part core.new at 18 ≡ state_bytes area.new.r area.new.cc }
+    ensures rest { (k m : ℕ) → (k + m ≤ at) ⊎ (at + 18 ≤ k) → part core.new k m ≡ part core.old k m }
     ensures size { length core.new ≡ length core.old }
 {
-    core[f.area + PS] = cc;
+    core[at + PS] = cc;
     area.cc = cc;
 }
 
@@ -280,16 +302,15 @@ fn write(core: &mut [u8], at: usize, bytes: &[u8; STATE_SIZE])
 
 /// Gives a process registers and condition codes, likewise.
 #[tactic(auto, using(crate::proofs::StandingState::states))]
-pub(crate) fn set_state(core: &mut [u8], area: &mut UArea, f: &Standing, r: &[u16; 8], cc: u8)
-    requires stands { StandsIn (length core.old) f.now }
+pub(crate) fn set_state(core: &mut [u8], area: &mut UArea, at: usize, r: &[u16; 8], cc: u8)
+    requires inside { at + 18 ≤ length core.old }
     requires codes { cc < 16 }
     ensures area { area.new ≡ with_state area.old r.now cc }
-    ensures stated { part core.new f.now.area 18 ≡ state_bytes area.new.r area.new.cc }
-    ensures image { standing_image core.new f.now ≡ standing_image core.old f.now }
-    ensures rest { (k m : ℕ) → (k + m ≤ f.now.area) ⊎ (f.now.area + 18 ≤ k) → part core.new k m ≡ part core.old k m }
+    ensures stated { part core.new at 18 ≡ state_bytes area.new.r area.new.cc }
+    ensures rest { (k m : ℕ) → (k + m ≤ at) ⊎ (at + 18 ≤ k) → part core.new k m ≡ part core.old k m }
     ensures size { length core.new ≡ length core.old }
 {
-    write(core, f.area, &state_bytes(r, cc));
+    write(core, at, &state_bytes(r, cc));
     area.r = *r;
     area.cc = cc;
 }

@@ -46,6 +46,7 @@ impl Images {
         let starts = self.starts(s);
         Fixed {
             slot: s,
+            index: s as usize,
             starts,
             standing: Standing::of(&starts),
         }

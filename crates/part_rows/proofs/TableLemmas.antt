@@ -1,6 +1,6 @@
 -- What is known of each slot stays what the slots have.
 use Rattle.std.proofs.Common.{◌≡◌, ◌<◌, ℕ, zero, suc, Bool, true, false, List, length, get_or, set, replicate, Option, Some, None, refl, sym, ap, subst, ◌∙◌}
-use Rattle.std.specs.Prelude.{IsTrue}
+use Rattle.std.specs.Prelude.{IfSome, IsTrue}
 use Rattle.std.proofs.lemmas.List.{map-set, get_or-map, length-map}
 use Rattle.v6_base.specs.declared.entry.Place.{Place}
 use Rattle.v6_base.specs.Image.{Image}
@@ -185,5 +185,14 @@ tied_executed kinds k w s m false tied is same = tied ∙ ap kinds_of (sym (same
 pub plain_executed : (k w : Kept) (s : ℕ) (m : Machine) (done : Bool) → k.users ≡ no_users → (IsTrue done → w ≡ with_machine_in k s m) → (done ≡ false → w ≡ k) → w.users ≡ no_users
 plain_executed k w s m true plain is same = plain_machine k w s m plain (is refl)
 plain_executed k w s m false plain is same = ap (λ (v : Kept). v.users) (same refl) ∙ plain
+
+-- a system call is asked for, or none
+pub tied_asked : (kinds : List Kind) (k w : Kept) (s : ℕ) (m : Machine) (call : Option ℕ) → kinds ≡ kinds_of k → IfSome call (λ _. w ≡ with_machine_in k s m) → (call ≡ None → w ≡ k) → kinds ≡ kinds_of w
+tied_asked kinds k w s m None tied is same = tied ∙ ap kinds_of (sym (same refl))
+tied_asked kinds k w s m (Some n) tied is same = tied_machine kinds k w s m tied is
+
+pub plain_asked : (k w : Kept) (s : ℕ) (m : Machine) (call : Option ℕ) → k.users ≡ no_users → IfSome call (λ _. w ≡ with_machine_in k s m) → (call ≡ None → w ≡ k) → w.users ≡ no_users
+plain_asked k w s m None plain is same = ap (λ (v : Kept). v.users) (same refl) ∙ plain
+plain_asked k w s m (Some n) plain is same = plain_machine k w s m plain is
 
 pub ruleset ties = (tied_deposit, plain_deposit, has_image, has_nothing, has_grave, no_text, none_text, tied_put, tied_area, tied_loan, tied_moved, tied_not_moved, tied_expanded, tied_forked, tied_not_forked, tied_grave, tied_no_grave, plain_put, plain_moved, plain_forked, plain_grave, plain_area, plain_loan)

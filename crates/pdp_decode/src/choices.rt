@@ -36,6 +36,12 @@ pub(crate) fn mov(width: Width, source: Addressing, dest: Addressing) -> Handler
         (Width::Word, Indexed, Indexed) => Handler::MovXX,
         (Width::Word, Indexed, Autodecrement) => Handler::MovXM,
         (Width::Word, Autoincrement, Autoincrement) => Handler::MovPP,
+        (Width::Word, Deferred, Deferred) => Handler::MovDD,
+        (Width::Word, Absolute, Absolute) => Handler::MovAA,
+        (Width::Word, Deferred, Autodecrement) => Handler::MovDM,
+        (Width::Word, Autoincrement, Deferred) => Handler::MovPD,
+        (Width::Word, Autoincrement, Autodecrement) => Handler::MovPM,
+        (Width::Word, Autoincrement, Indexed) => Handler::MovPX,
         (Width::Byte, Register, Register) => Handler::MovbRR,
         (Width::Byte, Absolute, Register) => Handler::MovbAR,
         (Width::Byte, Indexed, Register) => Handler::MovbXR,
@@ -48,6 +54,10 @@ pub(crate) fn mov(width: Width, source: Addressing, dest: Addressing) -> Handler
         (Width::Byte, Register, Autodecrement) => Handler::MovbRM,
         (Width::Byte, Immediate, Indexed) => Handler::MovbIX,
         (Width::Byte, Autoincrement, Autoincrement) => Handler::MovbPP,
+        (Width::Byte, Absolute, Absolute) => Handler::MovbAA,
+        (Width::Byte, Deferred, Deferred) => Handler::MovbDD,
+        (Width::Byte, Immediate, Absolute) => Handler::MovbIA,
+        (Width::Byte, Autoincrement, Deferred) => Handler::MovbPD,
         _ => Handler::Other,
     }
 }
@@ -68,6 +78,8 @@ pub(crate) fn cmp(width: Width, source: Addressing, dest: Addressing) -> Handler
         (Width::Word, Register, Deferred) => Handler::CmpRD,
         (Width::Word, Absolute, Immediate) => Handler::CmpAI,
         (Width::Word, Indexed, Immediate) => Handler::CmpXI,
+        (Width::Word, Deferred, Deferred) => Handler::CmpDD,
+        (Width::Word, Absolute, Absolute) => Handler::CmpAA,
         (Width::Byte, Register, Register) => Handler::CmpbRR,
         (Width::Byte, Immediate, Register) => Handler::CmpbIR,
         (Width::Byte, Indexed, Register) => Handler::CmpbXR,
@@ -76,6 +88,9 @@ pub(crate) fn cmp(width: Width, source: Addressing, dest: Addressing) -> Handler
         (Width::Byte, Register, Deferred) => Handler::CmpbRD,
         (Width::Byte, Autoincrement, Immediate) => Handler::CmpbPI,
         (Width::Byte, Autoincrement, Autoincrement) => Handler::CmpbPP,
+        (Width::Byte, Absolute, Register) => Handler::CmpbAR,
+        (Width::Byte, Absolute, Immediate) => Handler::CmpbAI,
+        (Width::Byte, Indexed, Immediate) => Handler::CmpbXI,
         _ => Handler::Other,
     }
 }
@@ -90,6 +105,7 @@ pub(crate) fn bit(width: Width, source: Addressing, dest: Addressing) -> Handler
         (Width::Word, Indexed, Register) => Handler::BitXR,
         (Width::Byte, Register, Register) => Handler::BitbRR,
         (Width::Byte, Immediate, Register) => Handler::BitbIR,
+        (Width::Byte, Absolute, Register) => Handler::BitbAR,
         _ => Handler::Other,
     }
 }
@@ -149,6 +165,8 @@ pub(crate) fn add(source: Addressing, dest: Addressing) -> Handler
         (Register, Autoincrement) => Handler::AddRP,
         (Immediate, Absolute) => Handler::AddIA,
         (Immediate, Indexed) => Handler::AddIX,
+        (Deferred, Deferred) => Handler::AddDD,
+        (Absolute, Absolute) => Handler::AddAA,
         _ => Handler::Other,
     }
 }
@@ -183,6 +201,10 @@ pub(crate) fn clr(width: Width, dest: Addressing) -> Handler
         (Width::Word, Autoincrement) => Handler::ClrP,
         (Width::Word, Relative) => Handler::ClrL,
         (Width::Byte, Register) => Handler::ClrbR,
+        (Width::Byte, Absolute) => Handler::ClrbA,
+        (Width::Byte, Indexed) => Handler::ClrbX,
+        (Width::Byte, Deferred) => Handler::ClrbD,
+        (Width::Byte, Autoincrement) => Handler::ClrbP,
         _ => Handler::Other,
     }
 }
@@ -208,6 +230,7 @@ pub(crate) fn inc(width: Width, dest: Addressing) -> Handler
         (Width::Word, Autoincrement) => Handler::IncP,
         (Width::Word, Relative) => Handler::IncL,
         (Width::Byte, Register) => Handler::IncbR,
+        (Width::Byte, Absolute) => Handler::IncbA,
         _ => Handler::Other,
     }
 }
@@ -223,6 +246,7 @@ pub(crate) fn dec(width: Width, dest: Addressing) -> Handler
         (Width::Word, Autoincrement) => Handler::DecP,
         (Width::Word, Relative) => Handler::DecL,
         (Width::Byte, Register) => Handler::DecbR,
+        (Width::Byte, Absolute) => Handler::DecbA,
         _ => Handler::Other,
     }
 }
@@ -269,6 +293,10 @@ pub(crate) fn tst(width: Width, dest: Addressing) -> Handler
         (Width::Word, Deferred) => Handler::TstD,
         (Width::Word, Autodecrement) => Handler::TstM,
         (Width::Byte, Register) => Handler::TstbR,
+        (Width::Byte, Absolute) => Handler::TstbA,
+        (Width::Byte, Indexed) => Handler::TstbX,
+        (Width::Byte, Deferred) => Handler::TstbD,
+        (Width::Byte, Autoincrement) => Handler::TstbP,
         _ => Handler::Other,
     }
 }

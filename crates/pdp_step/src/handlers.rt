@@ -224,8 +224,6 @@ pub fn perform_extended<P: Processor>(
 {
     match handler {
         Handler::SxtR => extend_sign::<P, Register>(p, pc, word),
-        Handler::ClearCodes => set_codes(p, pc, false, names_in(word)),
-        Handler::SetCodes => set_codes(p, pc, true, names_in(word)),
         Handler::MulR => multiply::<P, Register>(p, pc, word),
         Handler::MulI => multiply::<P, Immediate>(p, pc, word),
         Handler::MulX => multiply::<P, Indexed>(p, pc, word),
@@ -299,8 +297,8 @@ pub fn perform_bytes<P: Processor>(
     }
 }
 
-/// The row of a word by its handler, for those whose source steps before the destination is located: where it misses, the
-/// registers are as they were by then, and no byte has changed.
+/// The row of a word by its handler, for those whose source steps before the destination is located, and for the least frequent
+/// ones: where it misses, the registers are as they were by then, and no byte has changed.
 #[inline(always)]
 pub fn perform_stepping<P: Processor>(
     p: &mut P,
@@ -318,11 +316,41 @@ pub fn perform_stepping<P: Processor>(
 {
     match handler {
         Handler::MovPP => move_to::<P, Words, Autoincrement, Autoincrement>(p, pc, word),
+        Handler::MovDD => move_to::<P, Words, Deferred, Deferred>(p, pc, word),
+        Handler::MovAA => move_to::<P, Words, Absolute, Absolute>(p, pc, word),
+        Handler::MovDM => move_to::<P, Words, Deferred, Autodecrement>(p, pc, word),
+        Handler::MovPD => move_to::<P, Words, Autoincrement, Deferred>(p, pc, word),
+        Handler::MovPM => move_to::<P, Words, Autoincrement, Autodecrement>(p, pc, word),
+        Handler::MovPX => move_to::<P, Words, Autoincrement, Indexed>(p, pc, word),
+        Handler::CmpDD => compare::<P, Words, Deferred, Deferred, Comparison>(p, pc, word),
+        Handler::CmpAA => compare::<P, Words, Absolute, Absolute, Comparison>(p, pc, word),
+        Handler::AddDD => join::<P, Words, Deferred, Deferred, Addition>(p, pc, word),
+        Handler::AddAA => join::<P, Words, Absolute, Absolute, Addition>(p, pc, word),
         Handler::MovbPP => move_to::<P, Bytes, Autoincrement, Autoincrement>(p, pc, word),
+        Handler::MovbAA => move_to::<P, Bytes, Absolute, Absolute>(p, pc, word),
+        Handler::MovbDD => move_to::<P, Bytes, Deferred, Deferred>(p, pc, word),
+        Handler::MovbIA => move_to::<P, Bytes, Immediate, Absolute>(p, pc, word),
+        Handler::MovbPD => move_to::<P, Bytes, Autoincrement, Deferred>(p, pc, word),
         Handler::CmpbPI => compare::<P, Bytes, Autoincrement, Immediate, Comparison>(p, pc, word),
         Handler::CmpbPP => compare::<P, Bytes, Autoincrement, Autoincrement, Comparison>(
             p, pc, word,
         ),
+        Handler::CmpbAR => compare::<P, Bytes, Absolute, Register, Comparison>(p, pc, word),
+        Handler::CmpbAI => compare::<P, Bytes, Absolute, Immediate, Comparison>(p, pc, word),
+        Handler::CmpbXI => compare::<P, Bytes, Indexed, Immediate, Comparison>(p, pc, word),
+        Handler::BitbAR => compare::<P, Bytes, Absolute, Register, BitTest>(p, pc, word),
+        Handler::IncbA => modify::<P, Bytes, Absolute, Increasing>(p, pc, word, &Increasing),
+        Handler::DecbA => modify::<P, Bytes, Absolute, Decreasing>(p, pc, word, &Decreasing),
+        Handler::ClrbA => clear::<P, Bytes, Absolute>(p, pc, word),
+        Handler::ClrbX => clear::<P, Bytes, Indexed>(p, pc, word),
+        Handler::ClrbD => clear::<P, Bytes, Deferred>(p, pc, word),
+        Handler::ClrbP => clear::<P, Bytes, Autoincrement>(p, pc, word),
+        Handler::TstbA => test::<P, Bytes, Absolute>(p, pc, word),
+        Handler::TstbX => test::<P, Bytes, Indexed>(p, pc, word),
+        Handler::TstbD => test::<P, Bytes, Deferred>(p, pc, word),
+        Handler::TstbP => test::<P, Bytes, Autoincrement>(p, pc, word),
+        Handler::ClearCodes => set_codes(p, pc, false, names_in(word)),
+        Handler::SetCodes => set_codes(p, pc, true, names_in(word)),
         _ => Err(Halt::Missed),
     }
 }

@@ -64,22 +64,6 @@ module _ (at : Stage) (w : World) (f : Fixed) (is : at ≡ stage.Running f) (ker
     pub next_items : (turn_at w).items ≡ []
     next_items = plain_items (system_at w) f.slot run.user.ready.user then_ done quiet
 
--- The same, where it was done in place.
-module _ (at : Stage) (w : World) (f : Fixed) (is : at ≡ stage.Running f) (kernel : IsKernel at w) (holds : IsKept w.procs.images) (k : Kept)
-    (kept : k ≡ with_machine_in w.procs.images f.slot (instr (machine_in w.procs.images f.slot)).machine)
-    (next : (instr (machine_in w.procs.images f.slot)).outcome ≡ Next) (fixed : IsFixed k f) where
-  procs_now : record w.procs { images = k } ≡ record w.procs { images = with_machine_in w.procs.images f.slot (instr (machine_in w.procs.images f.slot)).machine }
-  procs_now = ap (λ (x : Kept). record w.procs { images = x }) kept
-
-  pub near_answer : Ran ≡ turned (turn_at w)
-  near_answer = next_answer at w f is kernel holds (record w.procs { images = k }) procs_now (sym next) fixed
-
-  pub near_takes : Takes (turn_at w) at (with_images w k)
-  near_takes = next_takes at w f is kernel holds (record w.procs { images = k }) procs_now (sym next) fixed
-
-  pub near_items : (turn_at w).items ≡ []
-  near_items = next_items at w f is kernel holds (record w.procs { images = k }) procs_now (sym next) fixed
-
 -- what a kernel is to its caller
 abbrev pub state_of : Stage → World → KernelState
 state_of at w = record {
@@ -118,9 +102,6 @@ module _ (at : Stage) (w : World) (kernel : IsKernel at w) (holds : IsKept w.pro
   pub taken_idle : (answer : Turned) → answer ≡ turned (turn_at w) → answer ≡ Idle → NobodyCanRun v.system.board.table
   taken_idle answer is = idle_nobody at w started kernel v.system same answer (taken_answer answer is)
 
-  pub taken_none : (turn_at w).items ≡ [] → (event_of Slot v.system).items ≡ []
-  taken_none none = ap (λ (x : System). (event_of Slot x).items) (sym same) ∙ none
-
   module _ (at' : Stage) (w' : World) (takes : Takes (turn_at w) at' w') where
     pub taken_next : system_at w' ≡ (event_of Slot v.system).next
     taken_next = takes.system ∙ ap (λ (x : System). (event_of Slot x).next) same
@@ -133,3 +114,33 @@ module _ (at : Stage) (w : World) (kernel : IsKernel at w) (holds : IsKept w.pro
 
     pub taken_texts : OtherTextsStay v.system (event_of Slot v.system).items (system_at w')
     taken_texts = turned_stays at w started kernel holds v.system _ same taken_next
+
+  -- an instruction that was done in place
+  module _ (f : Fixed) (is : at ≡ stage.Running f) (k : Kept) (kept : k ≡ with_machine_in w.procs.images f.slot (instr (machine_in w.procs.images f.slot)).machine)
+      (next : (instr (machine_in w.procs.images f.slot)).outcome ≡ Next) (fixed : IsFixed k f) where
+    procs_now : record w.procs { images = k } ≡ record w.procs { images = with_machine_in w.procs.images f.slot (instr (machine_in w.procs.images f.slot)).machine }
+    procs_now = ap (λ (x : Kept). record w.procs { images = x }) kept
+
+    near_takes : Takes (turn_at w) at (with_images w k)
+    near_takes = next_takes at w f is kernel holds (record w.procs { images = k }) procs_now (sym next) fixed
+
+    pub near_kernel : IsKernel at (with_images w k)
+    near_kernel = near_takes.kernel
+
+    pub near_answer : Ran ≡ turned (event_of Slot v.system)
+    near_answer = taken_answer Ran (next_answer at w f is kernel holds (record w.procs { images = k }) procs_now (sym next) fixed)
+
+    pub near_items : (event_of Slot v.system).items ≡ []
+    near_items = ap (λ (x : System). (event_of Slot x).items) (sym same) ∙ next_items at w f is kernel holds (record w.procs { images = k }) procs_now (sym next) fixed
+
+    pub near_next : system_at (with_images w k) ≡ (event_of Slot v.system).next
+    near_next = taken_next at (with_images w k) near_takes
+
+    pub near_phase : phase_of at ≡ phase_after (event_of Slot v.system).ending
+    near_phase = taken_phase at (with_images w k) near_takes
+
+    pub near_private : OthersUndisturbed v.system (system_at (with_images w k))
+    near_private = taken_private at (with_images w k) near_takes
+
+    pub near_texts : OtherTextsStay v.system (event_of Slot v.system).items (system_at (with_images w k))
+    near_texts = taken_texts at (with_images w k) near_takes

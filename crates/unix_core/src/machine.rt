@@ -21,6 +21,7 @@ use crate::settling::{end_turn, settle, wake};
 use crate::world::World;
 use abstract_unix::{Ending, Turned};
 use image_keep::Fixed;
+use pdp_decode::Dispatch;
 use pdp_step::{Outcome, Regs, step};
 use pick_rules::{Mode, Second};
 use swap_sched::pass;
@@ -125,9 +126,10 @@ fn turned(ending: Ending) -> Turned
     }
 }
 
-/// The process of which this is fixed does one instruction, with the registers in its u area.
+/// The process of which this is fixed does one instruction over its memory, which is lent for it, with the registers in its u
+/// area.
 #[inline(always)]
-fn execute(procs: &mut Procs, fixed: &Fixed) -> Outcome
+fn execute_lent(procs: &mut Procs, fixed: &Fixed) -> Outcome
     requires { IsFixed procs.old.images fixed.now }
     ensures outcome { result ≡ (instr (machine_in procs.old.images fixed.now.slot)).outcome }
     ensures kept { procs.new ≡ record procs.old {
@@ -144,6 +146,25 @@ fn execute(procs: &mut Procs, fixed: &Fixed) -> Outcome
     };
     procs.images.set_registers_at(fixed, &regs.r, regs.cc);
     outcome
+}
+
+/// The process of which this is fixed does one instruction, whatever it comes to. A call is looked for first.
+#[inline(always)]
+fn execute(procs: &mut Procs, fixed: &Fixed, dispatch: &Dispatch) -> Outcome
+    requires { IsFixed procs.old.images fixed.now }
+    ensures outcome { result ≡ (instr (machine_in procs.old.images fixed.now.slot)).outcome }
+    ensures kept { procs.new ≡ record procs.old {
+      images = with_machine_in procs.old.images fixed.now.slot (instr (machine_in procs.old.images fixed.now.slot)).machine;
+    } }
+    ensures fixed { IsFixed procs.new.images fixed.now }
+{
+    if let Some(n) = procs.images.call_near(fixed) {
+        return Outcome::Call(n);
+    }
+    if procs.images.execute_any(fixed, dispatch) {
+        return Outcome::Next;
+    }
+    execute_lent(procs, fixed)
 }
 
 impl Machine {
@@ -297,7 +318,7 @@ impl Machine {
     /// loop over slots, which has those that are done where the process stands in core.
     #[cold]
     #[inline(never)]
-    pub(crate) fn careful<T: Trace>(&mut self, trace: &mut T) -> Turned
+    pub(crate) fn careful<T: Trace>(&mut self, dispatch: &Dispatch, trace: &mut T) -> Turned
         requires kernel { IsKernel self.old.stage self.old.world }
         requires running { (f : Fixed) × (self.old.stage ≡ Stage.Running f) }
         ensures answer { result ≡ turned (turn_at self.old.world) }
@@ -309,7 +330,7 @@ impl Machine {
     {
         see_kept(&self.world.procs.images);
         match &self.stage {
-            Stage::Running(fixed) => match execute(&mut self.world.procs, fixed) {
+            Stage::Running(fixed) => match execute(&mut self.world.procs, fixed, dispatch) {
                 Outcome::Next => Turned::Ran,
                 outcome => {
                     let s = fixed.slot;

@@ -33,8 +33,12 @@ pub enum Step {
     Gets(Slot, u16, Option<[u8; 4]>),
     /// Four bytes, and whether they are put from an address of a slot's image on.
     Puts(Slot, u16, [u8; 4], bool),
-    /// A slot's process does one instruction where it stands in core, or nothing.
+    /// A slot's process does one instruction by the handler of its word where it stands in core, or nothing.
     Executes(Slot, bool),
+    /// It does one by its addressing modes, or nothing.
+    ExecutesAny(Slot, bool),
+    /// A slot's process asks for this system call where it stands in core, or for none.
+    Asks(Slot, Option<u8>),
     /// A byte is put to a place of core, or with `true` of the swap area, or not.
     Deposits(bool, u32, u8, bool),
     /// The byte at such a place.
@@ -78,6 +82,8 @@ fn holds(table: &mut Table, step: Step) -> bool {
         Step::Gets(s, at, bytes) => table.get(s, at) == Some(bytes),
         Step::Puts(s, at, bytes, done) => table.put(s, at, bytes) == Some(done),
         Step::Executes(s, done) => table.execute(s) == Some(done),
+        Step::ExecutesAny(s, done) => table.execute_any(s) == Some(done),
+        Step::Asks(s, call) => table.ask(s) == Some(call),
         Step::Deposits(swap, at, byte, put) => table.deposit(swap, at, byte) == Some(put),
         Step::Has(swap, at, byte) => table.byte(swap, at) == Some(byte),
         _ => places(table, step),

@@ -209,13 +209,31 @@ impl Table {
         Some(space.copy_out(at, &bytes))
     }
 
-    /// The process in a slot does one instruction where it stands in core, or nothing.
+    /// The process in a slot does one instruction by the handler of its word where it stands in core, or nothing.
     pub fn execute(&mut self, s: Slot) -> Option<bool> {
         if !self.has_image(s) {
             return None;
         }
         let fixed = self.images.fixed(s);
         Some(self.images.execute_near(&fixed, &self.dispatch))
+    }
+
+    /// It does one by its addressing modes, or nothing.
+    pub fn execute_any(&mut self, s: Slot) -> Option<bool> {
+        if !self.has_image(s) {
+            return None;
+        }
+        let fixed = self.images.fixed(s);
+        Some(self.images.execute_any(&fixed, &self.dispatch))
+    }
+
+    /// The system call that the process in a slot asks for where it stands in core, if its instruction is one.
+    pub fn ask(&mut self, s: Slot) -> Option<Option<u8>> {
+        if !self.has_image(s) {
+            return None;
+        }
+        let fixed = self.images.fixed(s);
+        Some(self.images.call_near(&fixed))
     }
 
     /// Puts a byte to a place of core, or of the swap area, where there is such a place, and says whether it is put.

@@ -1,16 +1,12 @@
 -- A handler says what its word is.
-use Rattle.std.proofs.Common.{◌/◌, ◌%◌, true, false, refl, subst}
+use Rattle.std.proofs.Common.{◌/◌, ◌%◌, refl}
 use Rattle.pdp_decode.specs.declared.instr.Width.TheVariants.{Word}
-use Rattle.pdp_decode.specs.declared.instr.Instr.TheVariants.{Sxt, Mul, Div, Ash, Ashc, Codes}
+use Rattle.pdp_decode.specs.declared.instr.Instr.TheVariants.{Sxt, Mul, Div, Ash, Ashc}
 use Rattle.pdp_decode.specs.declared.handler.Handler.TheVariants as handler
-use Rattle.pdp_decode.specs.declared.instr.Flags.{Flags}
-use Rattle.pdp_decode.specs.Numbers.{flag_bits}
-use Rattle.pdp_decode.specs.Decode.{reg_of, operand_of, flags_of}
-use Rattle.pdp_step.specs.Registers.{codes_in}
-use Rattle.pdp_step.specs.Rows.{replaced, sign_made, multiplied, divided, shifted_reg, shifted_pair, named_codes}
-use Rattle.pdp_step.specs.Instruction.{go, on_codes, row_of}
-use Rattle.pdp_step.specs.After.{finished}
-use Rattle.pdp_step.specs.Parts.{at_pc, Ends}
+use Rattle.pdp_decode.specs.Decode.{reg_of, operand_of}
+use Rattle.pdp_step.specs.Rows.{replaced, sign_made, multiplied, divided, shifted_reg, shifted_pair}
+use Rattle.pdp_step.specs.Instruction.{go, row_of}
+use Rattle.pdp_step.specs.Parts.{at_pc}
 use Rattle.pdp_step.proofs.TableRows.{handled, row_as}
 use Rattle.pdp_step.proofs.handlers.perform_extended.Goals as goal
 
@@ -20,14 +16,6 @@ extend_sign-requires-clause-dest g c = (handled c.args.handler handler.SxtR c.ar
 pub returns-in-SxtR-clause-row : goal.returns-in-SxtR-clause-row
 unfolding row_of
 returns-in-SxtR-clause-row g c = row_as c.extend_sign.result (g.P.Processor.machine c.extend_sign.new.p) (at_pc (g.P.Processor.machine c.args.p.now) c.args.pc) c.args.word (Sxt (operand_of c.args.word)) (go (replaced (at_pc (g.P.Processor.machine c.args.p.now) c.args.pc) Word (operand_of c.args.word) (sign_made (g.P.Processor.machine c.args.p.now).cc))) (handled c.args.handler handler.SxtR c.args.word c.in-SxtR.is c.requires.handles).is refl c.extend_sign.ensures.row
-
-pub returns-in-ClearCodes-clause-row : goal.returns-in-ClearCodes-clause-row
-unfolding row_of
-returns-in-ClearCodes-clause-row g c = row_as c.set_codes.result (g.P.Processor.machine c.set_codes.new.p) (at_pc (g.P.Processor.machine c.args.p.now) c.args.pc) c.args.word (Codes false (flags_of c.args.word)) (on_codes (at_pc (g.P.Processor.machine c.args.p.now) c.args.pc) (flag_bits (named_codes false (flags_of c.args.word) (codes_in (g.P.Processor.machine c.args.p.now).cc)))) (handled c.args.handler handler.ClearCodes c.args.word c.in-ClearCodes.is c.requires.handles) refl (subst (λ (x : Flags). Ends c.set_codes.result (g.P.Processor.machine c.set_codes.new.p) (finished (g.P.Processor.machine c.args.p.now).image (on_codes (at_pc (g.P.Processor.machine c.args.p.now) c.args.pc) (flag_bits (named_codes false x (codes_in (g.P.Processor.machine c.args.p.now).cc)))))) c.names_in.ensures c.set_codes.ensures.row)
-
-pub returns-in-SetCodes-clause-row : goal.returns-in-SetCodes-clause-row
-unfolding row_of
-returns-in-SetCodes-clause-row g c = row_as c.set_codes-in-SetCodes.result (g.P.Processor.machine c.set_codes-in-SetCodes.new.p) (at_pc (g.P.Processor.machine c.args.p.now) c.args.pc) c.args.word (Codes true (flags_of c.args.word)) (on_codes (at_pc (g.P.Processor.machine c.args.p.now) c.args.pc) (flag_bits (named_codes true (flags_of c.args.word) (codes_in (g.P.Processor.machine c.args.p.now).cc)))) (handled c.args.handler handler.SetCodes c.args.word c.in-SetCodes.is c.requires.handles) refl (subst (λ (x : Flags). Ends c.set_codes-in-SetCodes.result (g.P.Processor.machine c.set_codes-in-SetCodes.new.p) (finished (g.P.Processor.machine c.args.p.now).image (on_codes (at_pc (g.P.Processor.machine c.args.p.now) c.args.pc) (flag_bits (named_codes true x (codes_in (g.P.Processor.machine c.args.p.now).cc)))))) c.names_in-in-SetCodes.ensures c.set_codes-in-SetCodes.ensures.row)
 
 pub multiply-requires-clause-source : goal.multiply-requires-clause-source
 multiply-requires-clause-source g c = (handled c.args.handler handler.MulR c.args.word c.in-MulR.is c.requires.handles).operand

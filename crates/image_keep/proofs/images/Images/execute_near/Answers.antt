@@ -1,15 +1,9 @@
 use Rattle.std.proofs.Common.{◌∙◌}
-use Rattle.image_keep.specs.Inside.{stock_in}
-use Rattle.image_keep.proofs.Frames.{alive_image}
-use Rattle.image_keep.proofs.AreasKept.{image_low, seat}
-use Rattle.image_keep.proofs.NearCore.{at_hand_in, executed_in}
+use Rattle.image_keep.proofs.NearCore.{at_hand_in, executed_in, seat_in}
 use Rattle.image_keep.proofs.images.Images.execute_near.Goals as goal
 
 pub attempt_in-requires-clause-slot : goal.attempt_in-requires-clause-slot
-attempt_in-requires-clause-slot c =
-    let s = c.args.fixed.now.slot in
-    rw c.deref_mut.ensures.value (seat c.self.inside.areas.items _ s c.self.invariant.areas
-    (image_low (stock_in c.self.inside) c.args.self.now s c.self.view_is c.self.invariant.sound c.self.invariant.counted (alive_image c.args.self.now s c.requires.alive)))
+attempt_in-requires-clause-slot c = rw c.deref_mut.ensures.value (seat_in c.self.inside c.args.self.now c.args.fixed.now c.self.view_is c.self.invariant c.requires)
 
 pub attempt_in-requires-clause-at_hand : goal.attempt_in-requires-clause-at_hand
 attempt_in-requires-clause-at_hand c = at_hand_in c.self.inside c.args.self.now c.args.fixed.now _ c.self.view_is c.self.invariant c.see_bytes.ensures c.requires c.deref_mut.ensures.value
@@ -17,14 +11,7 @@ attempt_in-requires-clause-at_hand c = at_hand_in c.self.inside c.args.self.now 
 pub invariant_of-self : goal.invariant_of-self
 invariant_of-self c = (executed_in c.self.inside c.args.self.now c.args.fixed.now _ c.attempt_in.new.areas c.attempt_in.new.memory c.attempt_in.result c.self.view_is c.self.invariant c.see_bytes.ensures c.requires c.deref_mut.ensures.value (c.attempt_in.ensures.long ∙ c.deref_mut.ensures.len) c.attempt_in.ensures.did c.attempt_in.ensures.swap c.attempt_in.ensures.areas).images
 
-pub returns-clause-outcome : goal.returns-clause-outcome
-returns-clause-outcome c = (executed_in c.self.inside c.args.self.now c.args.fixed.now _ c.attempt_in.new.areas c.attempt_in.new.memory c.attempt_in.result c.self.view_is c.self.invariant c.see_bytes.ensures c.requires c.deref_mut.ensures.value (c.attempt_in.ensures.long ∙ c.deref_mut.ensures.len) c.attempt_in.ensures.did c.attempt_in.ensures.swap c.attempt_in.ensures.areas).outcome
-
-pub returns-clause-done : goal.returns-clause-done
-returns-clause-done c = (executed_in c.self.inside c.args.self.now c.args.fixed.now _ c.attempt_in.new.areas c.attempt_in.new.memory c.attempt_in.result c.self.view_is c.self.invariant c.see_bytes.ensures c.requires c.deref_mut.ensures.value (c.attempt_in.ensures.long ∙ c.deref_mut.ensures.len) c.attempt_in.ensures.did c.attempt_in.ensures.swap c.attempt_in.ensures.areas).done
-
-pub returns-clause-kept : goal.returns-clause-kept
-returns-clause-kept c = (executed_in c.self.inside c.args.self.now c.args.fixed.now _ c.attempt_in.new.areas c.attempt_in.new.memory c.attempt_in.result c.self.view_is c.self.invariant c.see_bytes.ensures c.requires c.deref_mut.ensures.value (c.attempt_in.ensures.long ∙ c.deref_mut.ensures.len) c.attempt_in.ensures.did c.attempt_in.ensures.swap c.attempt_in.ensures.areas).kept
-
-pub returns-clause-fixed : goal.returns-clause-fixed
-returns-clause-fixed c = (executed_in c.self.inside c.args.self.now c.args.fixed.now _ c.attempt_in.new.areas c.attempt_in.new.memory c.attempt_in.result c.self.view_is c.self.invariant c.see_bytes.ensures c.requires c.deref_mut.ensures.value (c.attempt_in.ensures.long ∙ c.deref_mut.ensures.len) c.attempt_in.ensures.did c.attempt_in.ensures.swap c.attempt_in.ensures.areas).fixed
+pub returns : goal.returns
+returns c =
+    let e = executed_in c.self.inside c.args.self.now c.args.fixed.now _ c.attempt_in.new.areas c.attempt_in.new.memory c.attempt_in.result c.self.view_is c.self.invariant c.see_bytes.ensures c.requires c.deref_mut.ensures.value (c.attempt_in.ensures.long ∙ c.deref_mut.ensures.len) c.attempt_in.ensures.did c.attempt_in.ensures.swap c.attempt_in.ensures.areas in
+    record { outcome = e.outcome; done = e.done; kept = e.kept; fixed = e.fixed }

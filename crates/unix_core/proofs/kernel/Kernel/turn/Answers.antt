@@ -1,59 +1,55 @@
 use Rattle.v6_base.proofs.Took.{took_nothing}
-use Rattle.unix_core.specs.Parts.{turn_at, Takes}
 use Rattle.unix_core.proofs.PutLemmas.{with_images}
-use Rattle.unix_core.proofs.TakenLemmas.{near_answer, near_takes, near_items, left_kernel, left_kept, left_view, taken_answer, taken_idle, taken_none, taken_next, taken_phase, taken_private, taken_texts}
-use Rattle.unix_core.proofs.kernel.Kernel.turn.Given as given
-use Rattle.unix_core.proofs.kernel.Kernel.turn.Goals.{Then-execute_near}
+use Rattle.unix_core.proofs.TakenLemmas.{left_kernel, left_kept, left_view, taken_idle, taken_private, taken_texts, near_kernel, near_phase, near_answer, near_next, near_private, near_texts, near_items}
 use Rattle.unix_core.proofs.kernel.Kernel.turn.Goals as goal
 
 pub execute_near-requires : goal.execute_near-requires
 execute_near-requires g c = (c.self.invariant.running c.in-Running.fixed c.in-Running.is).fixed
 
 -- An instruction was done where the process stands.
-did : (g : given.Over) (c : Then-execute_near g)
-    → Takes (turn_at c.self.inside.machine.world) c.self.inside.machine.stage (with_images c.self.inside.machine.world c.execute_near.new.self)
-did g c =
-    let m = c.self.inside.machine in
-    near_takes m.stage m.world c.in-Running.fixed c.in-Running.is c.self.invariant c.see_kept.ensures c.execute_near.new.self
-    (c.execute_near.ensures.done c.if-execute_near.true) (c.execute_near.ensures.outcome c.if-execute_near.true) c.execute_near.ensures.fixed
-
 pub invariant_of-self : goal.invariant_of-self
-invariant_of-self g c = (did g c).kernel
+invariant_of-self g c =
+    let m = c.self.inside.machine in
+    near_kernel m.stage m.world c.self.invariant c.see_kept.ensures c.args.self.now c.self.view_is c.requires c.in-Running.fixed c.in-Running.is c.execute_near.new.self
+    (c.execute_near.ensures.done c.if-execute_near.true) (c.execute_near.ensures.outcome c.if-execute_near.true) c.execute_near.ensures.fixed
 
 pub returns-then-execute_near-clause-phase : goal.returns-then-execute_near-clause-phase
 returns-then-execute_near-clause-phase g c =
     let m = c.self.inside.machine in
-    taken_phase m.stage m.world c.self.invariant c.see_kept.ensures c.args.self.now c.self.view_is c.requires m.stage (with_images m.world c.execute_near.new.self) (did g c)
+    near_phase m.stage m.world c.self.invariant c.see_kept.ensures c.args.self.now c.self.view_is c.requires c.in-Running.fixed c.in-Running.is c.execute_near.new.self
+    (c.execute_near.ensures.done c.if-execute_near.true) (c.execute_near.ensures.outcome c.if-execute_near.true) c.execute_near.ensures.fixed
 
 pub returns-then-execute_near-clause-answer : goal.returns-then-execute_near-clause-answer
 returns-then-execute_near-clause-answer g c =
     let m = c.self.inside.machine in
-    taken_answer m.stage m.world c.self.invariant c.see_kept.ensures c.args.self.now c.self.view_is c.requires _
-    (near_answer m.stage m.world c.in-Running.fixed c.in-Running.is c.self.invariant c.see_kept.ensures c.execute_near.new.self
-    (c.execute_near.ensures.done c.if-execute_near.true) (c.execute_near.ensures.outcome c.if-execute_near.true) c.execute_near.ensures.fixed)
+    near_answer m.stage m.world c.self.invariant c.see_kept.ensures c.args.self.now c.self.view_is c.requires c.in-Running.fixed c.in-Running.is c.execute_near.new.self
+    (c.execute_near.ensures.done c.if-execute_near.true) (c.execute_near.ensures.outcome c.if-execute_near.true) c.execute_near.ensures.fixed
 
 pub returns-then-execute_near-clause-next : goal.returns-then-execute_near-clause-next
 returns-then-execute_near-clause-next g c =
     let m = c.self.inside.machine in
-    taken_next m.stage m.world c.self.invariant c.see_kept.ensures c.args.self.now c.self.view_is c.requires m.stage (with_images m.world c.execute_near.new.self) (did g c)
+    near_next m.stage m.world c.self.invariant c.see_kept.ensures c.args.self.now c.self.view_is c.requires c.in-Running.fixed c.in-Running.is c.execute_near.new.self
+    (c.execute_near.ensures.done c.if-execute_near.true) (c.execute_near.ensures.outcome c.if-execute_near.true) c.execute_near.ensures.fixed
 
 pub returns-then-execute_near-clause-private : goal.returns-then-execute_near-clause-private
 returns-then-execute_near-clause-private g c =
     let m = c.self.inside.machine in
-    taken_private m.stage m.world c.self.invariant c.see_kept.ensures c.args.self.now c.self.view_is c.requires m.stage (with_images m.world c.execute_near.new.self) (did g c)
+    near_private m.stage m.world c.self.invariant c.see_kept.ensures c.args.self.now c.self.view_is c.requires c.in-Running.fixed c.in-Running.is c.execute_near.new.self
+    (c.execute_near.ensures.done c.if-execute_near.true) (c.execute_near.ensures.outcome c.if-execute_near.true) c.execute_near.ensures.fixed
 
 pub returns-then-execute_near-clause-texts : goal.returns-then-execute_near-clause-texts
 returns-then-execute_near-clause-texts g c =
     let m = c.self.inside.machine in
-    taken_texts m.stage m.world c.self.invariant c.see_kept.ensures c.args.self.now c.self.view_is c.requires m.stage (with_images m.world c.execute_near.new.self) (did g c)
+    near_texts m.stage m.world c.self.invariant c.see_kept.ensures c.args.self.now c.self.view_is c.requires c.in-Running.fixed c.in-Running.is c.execute_near.new.self
+    (c.execute_near.ensures.done c.if-execute_near.true) (c.execute_near.ensures.outcome c.if-execute_near.true) c.execute_near.ensures.fixed
 
 pub returns-then-execute_near-clause-items : goal.returns-then-execute_near-clause-items
 returns-then-execute_near-clause-items g c =
     let m = c.self.inside.machine in
-    took_nothing _ _ (taken_none m.stage m.world c.self.invariant c.see_kept.ensures c.args.self.now c.self.view_is c.requires
-    (near_items m.stage m.world c.in-Running.fixed c.in-Running.is c.self.invariant c.see_kept.ensures c.execute_near.new.self
-    (c.execute_near.ensures.done c.if-execute_near.true) (c.execute_near.ensures.outcome c.if-execute_near.true) c.execute_near.ensures.fixed))
+    took_nothing _ _ (near_items m.stage m.world c.self.invariant c.see_kept.ensures c.args.self.now c.self.view_is c.requires c.in-Running.fixed c.in-Running.is c.execute_near.new.self
+    (c.execute_near.ensures.done c.if-execute_near.true) (c.execute_near.ensures.outcome c.if-execute_near.true) c.execute_near.ensures.fixed)
 
+-- It wasn't, and nothing has changed.
 pub careful-requires-clause-kernel : goal.careful-requires-clause-kernel
 careful-requires-clause-kernel g c =
     let m = c.self.inside.machine in

@@ -1,9 +1,6 @@
-use Rattle.std.proofs.Common.{◌≡◌, ◌∙◌, sym, ap, subst}
+use Rattle.std.proofs.Common.{◌∙◌, sym, ap, subst}
 use Rattle.v6_base.specs.Trace.{Took}
 use Rattle.v6_base.proofs.Took.{took_nothing}
-use Rattle.pdp_step.specs.declared.outcome.Outcome.TheVariants.{Next}
-use Rattle.pdp_step.specs.Instruction.{instr}
-use Rattle.image_keep.specs.Running.{machine_in}
 use Rattle.unix_core.specs.declared.world.World.{World}
 use Rattle.abstract_unix.specs.Turn.{Turn, turned}
 use Rattle.abstract_unix.specs.Endings.{phase_after}

@@ -3,7 +3,7 @@ use Rattle.u_area.specs.declared.area.UArea.{UArea}
 use Rattle.image_keep.specs.Kept.{Kept}
 use Rattle.sys_procs.specs.declared.procs.Procs.{Procs}
 use Rattle.unix_core.proofs.RunningLemmas.{fixed_after, outcome_is, kept_is}
-use Rattle.unix_core.proofs.machine.execute.Goals as goal
+use Rattle.unix_core.proofs.machine.execute_lent.Goals as goal
 
 pub set_registers_at-requires-clause-fixed : goal.set_registers_at-requires-clause-fixed
 set_registers_at-requires-clause-fixed c =
