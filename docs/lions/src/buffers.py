@@ -7,6 +7,7 @@ A line of LIST is `read N`, `change N`, `clear N` or `sync`; what stands behind 
 with -q only the sums are told. PICTURE gets a lane for each block in SVG: where it is in a buffer, and where it is still to be
 written."""
 import argparse
+import itertools
 import sys
 
 
@@ -68,10 +69,13 @@ def drawn(states):
         y = 30 + high * lane
         out.append(f'<text x="4" y="{y + 9}">block {block}</text>')
         out.append(f'<path d="M{left} {y + high - 1}H{width - 20}" stroke="#ddd"/>')
-        for at, state in enumerate(states):
-            if block in state:
-                fill = "#333" if state[block] else "#ccc"
-                out.append(f'<rect x="{left + wide * at}" y="{y + 1}" width="{wide}" height="{high - 3}" fill="{fill}"/>')
+        at = 0
+        for has, same in itertools.groupby(state.get(block) for state in states):
+            columns = len(list(same))
+            if has is not None:
+                out.append(f'<rect x="{left + wide * at}" y="{y + 1}" width="{wide * columns}" height="{high - 3}" '
+                           f'fill="{"#333" if has else "#ccc"}"/>')
+            at += columns
     for at in range(0, len(states), 10):
         out.append(f'<text x="{left + wide * at}" y="{height - 6}">{at + 1}</text>')
     return "\n".join([*out, "</svg>", ""])
