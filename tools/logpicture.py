@@ -34,8 +34,8 @@ text { font: 11px sans-serif; fill: #000 }
 .edge { fill: none; stroke: #555; stroke-width: 1 }
 .held { stroke: #444; stroke-width: 0.5 }
 .tick { stroke: #999; stroke-width: 0.5 }
-@page { size: landscape; margin: 10mm }
-@media print { svg { width: 100%; height: auto } }
+@page { size: %s; margin: 10mm }
+@media print { svg { width: 100%%; height: auto; max-height: 100vh } }
 """
 PATTERNS = """<defs>
 <pattern id="dots" width="6" height="6" patternUnits="userSpaceOnUse"><rect width="6" height="6" fill="#ddd"/><circle cx="3" cy="3" r="1.6" fill="#222"/></pattern>
@@ -128,8 +128,10 @@ class Picture:
         lanes_end = TOP + len(self.lanes) * (LANE + GAP)
         core_top, core_end = lanes_end + 44, lanes_end + 44 + CORE_HEIGHT
         swap_top, swap_end = core_end + 30, core_end + 30 + SWAP_HEIGHT
-        out = [f'<svg xmlns="http://www.w3.org/2000/svg" viewBox="0 0 {LEFT + COLUMNS + 20} {swap_end + 20}" '
-               f'width="{LEFT + COLUMNS + 20}" height="{swap_end + 20}">', f"<style>{STYLE}</style>", PATTERNS,
+        width, height = LEFT + COLUMNS + 20, swap_end + 20
+        style = STYLE % ("portrait" if height > width else "landscape")  # of the page, where it is printed
+        out = [f'<svg xmlns="http://www.w3.org/2000/svg" viewBox="0 0 {width} {height}" '
+               f'width="{width}" height="{height}">', f"<style>{style}</style>", PATTERNS,
                '<rect width="100%" height="100%" fill="#fff"/>']
         out += self.legend() + self.drawn_lanes() + self.marks(lanes_end)
         out += self.map(f"core: {table.core} clicks", "at", CORE_FIRST, table.core, core_top, CORE_HEIGHT)

@@ -243,6 +243,15 @@ class Log(Case):
         greys = sorted(sum(bytes.fromhex(fill[1:])) / 765 for fill in plain)
         self.assertGreater(min(high - low for low, high in zip(greys, greys[1:])), 0.1)
 
+    def test_the_page_that_is_printed(self):
+        """A picture with few lanes is printed across, one with many upright; both are made as wide as the page."""
+        forks = "".join(f"fork 1 {number} swap {4000 + 10 * number}\n" for number in range(2, 50))
+        few = self.log("draw", self.text("few", TEXTS))[1]
+        many = self.log("draw", self.text("many", "boot 1200 0\nsleep 0 -100 runout\ngo 1\n" + forks + "end\n"))[1]
+        for shown, side in ((few, "landscape"), (many, "portrait")):
+            self.assertIn(f"@page {{ size: {side};", shown)
+            self.assertIn("@media print { svg { width: 100%; height: auto; max-height: 100vh } }", shown)
+
     def test_a_lane_s_name(self):
         """It has as many of the processes that were in the slot as there is room for, and always one."""
         forks = "".join(f"fork 1 2 at {at}\nexit 2 swap 4000\nreap 2\n" for at in range(40, 80))

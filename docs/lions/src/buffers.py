@@ -60,7 +60,7 @@ def drawn(states):
     width, height = left + wide * len(states) + 20, 40 + high * len(blocks) + 20
     out = [f'<svg xmlns="http://www.w3.org/2000/svg" viewBox="0 0 {width} {height}" width="{width}" height="{height}">',
            "<style>text { font: 10px sans-serif } @page { size: landscape; margin: 10mm } "
-           "@media print { svg { width: 100%; height: auto } }</style>",
+           "@media print { svg { width: 100%; height: auto; max-height: 100vh } }</style>",
            '<rect width="100%" height="100%" fill="#fff"/>',
            '<rect x="4" y="8" width="14" height="8" fill="#333"/><text x="22" y="16">in a buffer, still to be written</text>',
            '<rect x="204" y="8" width="14" height="8" fill="#ccc" stroke="#555"/>'
