@@ -3,6 +3,7 @@
 A long log is thinned: the picture has so many columns, and a column shows what was so for most of its lines; the maps show
 what was so at its end.
 """
+import colorsys
 from xml.sax.saxutils import escape
 
 from proctable import CORE_FIRST, SWAP_FIRST, SWAP_LAST
@@ -17,23 +18,30 @@ STATES = {  # letter: how it is filled, and what it means. They differ in bright
     "o": ("url(#dots)", "could run, out of core"),
     "w": ("#dfe9f5", "waits; a signal wakes it"),
     "W": ("url(#lines)", "waits, out of core"),
-    "s": ("#f7efd8", "sleeps; no signal wakes it"),
+    "s": ("url(#bars)", "sleeps; no signal wakes it"),
     "S": ("url(#lines)", "waits, out of core"),
     "z": ("url(#cross)", "has ended, not waited for"),
 }
 HUES = 11  # colours of holders; two numbers next to each other differ
+LIGHTS = (0.62, 0.74, 0.86)  # how bright they are, in turn: paper has only this. A text is darker than all
+TEXT_LIGHT = 0.49
+NAMED = 27  # letters that the name of a lane has at most
 STYLE = """
 text { font: 11px sans-serif; fill: #000 }
 .title { font-size: 13px; font-weight: bold }
 .small, .unit { font-size: 9px }
 .unit { text-anchor: end }
 .edge { fill: none; stroke: #555; stroke-width: 1 }
+.held { stroke: #444; stroke-width: 0.5 }
 .tick { stroke: #999; stroke-width: 0.5 }
+@page { size: %s; margin: 10mm }
+@media print { svg { width: 100%%; height: auto; max-height: 100vh } }
 """
 PATTERNS = """<defs>
-<pattern id="dots" width="4" height="4" patternUnits="userSpaceOnUse"><rect width="4" height="4" fill="#ddd"/><circle cx="2" cy="2" r="1" fill="#333"/></pattern>
-<pattern id="lines" width="4" height="4" patternUnits="userSpaceOnUse"><rect width="4" height="4" fill="#fff"/><path d="M0 4L4 0" stroke="#668" stroke-width="0.8"/></pattern>
-<pattern id="cross" width="5" height="5" patternUnits="userSpaceOnUse"><rect width="5" height="5" fill="#fff"/><path d="M0 0L5 5M0 5L5 0" stroke="#a33" stroke-width="0.8"/></pattern>
+<pattern id="dots" width="6" height="6" patternUnits="userSpaceOnUse"><rect width="6" height="6" fill="#ddd"/><circle cx="3" cy="3" r="1.6" fill="#222"/></pattern>
+<pattern id="lines" width="8" height="8" patternUnits="userSpaceOnUse"><rect width="8" height="8" fill="#fff"/><path d="M-1 1L1 -1M0 8L8 0M7 9L9 7" stroke="#335" stroke-width="1.2"/></pattern>
+<pattern id="bars" width="8" height="5" patternUnits="userSpaceOnUse"><rect width="8" height="5" fill="#f7efd8"/><path d="M0 2.5H8" stroke="#a08a50"/></pattern>
+<pattern id="cross" width="8" height="8" patternUnits="userSpaceOnUse"><rect width="8" height="8" fill="#fff"/><path d="M0 0L8 8M0 8L8 0" stroke="#a33" stroke-width="1.2"/></pattern>
 </defs>"""
 
 
@@ -120,8 +128,10 @@ class Picture:
         lanes_end = TOP + len(self.lanes) * (LANE + GAP)
         core_top, core_end = lanes_end + 44, lanes_end + 44 + CORE_HEIGHT
         swap_top, swap_end = core_end + 30, core_end + 30 + SWAP_HEIGHT
-        out = [f'<svg xmlns="http://www.w3.org/2000/svg" viewBox="0 0 {LEFT + COLUMNS + 20} {swap_end + 20}" '
-               f'width="{LEFT + COLUMNS + 20}" height="{swap_end + 20}">', f"<style>{STYLE}</style>", PATTERNS,
+        width, height = LEFT + COLUMNS + 20, swap_end + 20
+        style = STYLE % ("portrait" if height > width else "landscape")  # of the page, where it is printed
+        out = [f'<svg xmlns="http://www.w3.org/2000/svg" viewBox="0 0 {width} {height}" '
+               f'width="{width}" height="{height}">', f"<style>{style}</style>", PATTERNS,
                '<rect width="100%" height="100%" fill="#fff"/>']
         out += self.legend() + self.drawn_lanes() + self.marks(lanes_end)
         out += self.map(f"core: {table.core} clicks", "at", CORE_FIRST, table.core, core_top, CORE_HEIGHT)
@@ -139,15 +149,24 @@ class Picture:
     def drawn_lanes(self):
         out = []
         for slot, lane in enumerate(self.lanes):
-            y, numbers = TOP + slot * (LANE + GAP), self.names[slot]
-            named = ", ".join(map(str, numbers[:4])) + (" .." if len(numbers) > 4 else "")
-            out.append(text(4, y + 12, f"slot {slot}: " + ("the swapper" if not slot else f"process {named}")))
+            y = TOP + slot * (LANE + GAP)
+            out.append(text(4, y + 12, self.named(slot)))
             for first, last, letter in lane.pieces():
                 x = self.columns.x(first)
                 fill, means = STATES[letter]
                 out.append(rect(x, y, round(self.columns.x(last) - x, 2), LANE, fill, title=means))
             out.append(f'<path class="tick" d="M{LEFT} {y + LANE}h{COLUMNS}"/>')
         return out
+
+    def named(self, slot):
+        """The name of a lane: its slot, and the first of the processes in it, as many as have room."""
+        if not slot:
+            return "slot 0: the swapper"
+        numbers, count = self.names[slot], len(self.names[slot])
+        first = f"slot {slot}: process "
+        while count > 1 and len(first + ", ".join(map(str, numbers[:count]))) + 3 * (count < len(numbers)) > NAMED:
+            count -= 1
+        return first + ", ".join(map(str, numbers[:count])) + " .." * (count < len(numbers))
 
     def marks(self, y):
         """The numbers of lines, and of slots where they are known."""
@@ -176,9 +195,10 @@ class Picture:
                 x, y = self.columns.x(begin), round(top + (start - first) * scale, 2)
                 wide, high = round(self.columns.x(end) - x, 2), round(max(units * scale, 0.5), 2)
                 called = holder if holder.startswith("text") else f"process {holder}"
-                out.append(rect(x, y, wide, high, colour(holder), title=f"{called}: {start} to {start + units - 1}"))
-                if wide > 8 * len(holder) and high > 9:
-                    out.append(text(x + 2, y + min(high, 14) - 3, holder, "small"))
+                edge = "held" if min(wide, high) > 2 else ""
+                out.append(rect(x, y, wide, high, colour(holder), edge, f"{called}: {start} to {start + units - 1}"))
+                if wide > 8 * len(holder) and high > 8:
+                    out.append(text(x + 2, round(y + min(high / 2 + 3, 11), 2), holder, "small"))
         out.append(rect(LEFT, top, COLUMNS, height, "none", "edge"))
         for unit in (first, (first + last) // 2, last):
             out.append(text(LEFT - 5, round(top + (unit - first) * scale + 8 * (unit < last), 2), str(unit), "unit"))
@@ -195,10 +215,24 @@ def stretches(columns):
 
 
 def colour(holder):
+    """A colour by number, as bright as its turn among LIGHTS says."""
     if holder.startswith("text"):
-        return "#c9b458"
+        return tint(50, TEXT_LIGHT)
     number = int(holder)
-    return f"hsl({number * 360 * 4 // HUES % 360},55%,{60 + number % 3 * 9}%)"
+    return tint(number * 360 * 4 // HUES % 360, LIGHTS[number % 3])
+
+
+def brightness(parts):
+    """Of red, green and blue, each up to 1: what is left of them in grey."""
+    return 0.299 * parts[0] + 0.587 * parts[1] + 0.114 * parts[2]
+
+
+def tint(hue, light):
+    """The colour of this hue, with white or black so that it is so bright."""
+    parts = colorsys.hls_to_rgb(hue / 360, 0.6, 0.55)
+    has = brightness(parts)
+    mixed = [one * light / has if has > light else 1 - (1 - one) * (1 - light) / (1 - has) for one in parts]
+    return "#" + "".join(f"{round(255 * one):02x}" for one in mixed)
 
 
 def rect(x, y, width, height, fill, kind="", title=""):

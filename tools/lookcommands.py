@@ -1,7 +1,7 @@
 """The commands of look.py: docs/tools/look.md."""
 import re
 
-from looksearch import Event, Search, State
+from looksearch import Event, Search, State, usual
 from proctable import FORMS
 
 NUMBER = re.compile("[0-9]+")
@@ -25,6 +25,7 @@ until WHAT, since WHAT   forwards and backwards to where WHAT becomes so:
     call [NAME]              it stands at this call, or at any
     pc PLACE [PLACE]         its PC is there, or between two places
     word PLACE [VALUE]       a word of it changes, or becomes a value
+near [COUNT]             for pc and word: how many of the nearest moments are looked at one by one
 watch PLACE              shows a word at each moment from now on; unwatch: none any more
 help, quit
 of N, at the end of a command, is process N. A number with a 0 before it is octal. A PLACE is an address,
@@ -42,6 +43,7 @@ class Looker:
         self.history, self.views = history, views
         self.moment = history.moment(0)
         self.watched = []  # (number of the process, address), one after the other
+        self.near = None  # how many moments a search looks at one by one, where it isn't as usual
         self.is_over = False
 
     def lines_of(self, text):
@@ -244,8 +246,21 @@ class Looker:
         does = getattr(self, "where_" + kind, None)
         if does is None:
             raise LookError(f"{kind}: it's state, place, call, pc or word that becomes so")
-        slots = does(Search(self.history, self.moment, forwards), *words)
-        return self.found(slots, " ".join([kind, *words]), forwards)
+        search = Search(self.history, self.moment, forwards, self.near)
+        slots, text = does(search, *words), " ".join([kind, *words])
+        if not search.left_out(slots):
+            return self.found(slots, text, forwards)
+        if slots is None:
+            raise LookError(f"{text}: not found {'behind' if forwards else 'before'} slot {self.moment.slots}; "
+                            f"each moment was looked at {'up' if forwards else 'down'} to slot {search.sure}, and some further on")
+        return self.go(slots) + [f"each moment was looked at {'up' if forwards else 'down'} to slot {search.sure}; from there to "
+                                 f"slot {slots} it may have come and gone"]
+
+    def do_near(self, count=None):
+        if count is not None:
+            self.near = self.number_of(count, "moments")
+        near = usual(self.history) if self.near is None else self.near
+        return [f"the nearest {near} moments are looked at one by one"]
 
     def where_state(self, search, letters):
         if not set(letters) <= set(LETTERS):

@@ -1,19 +1,24 @@
 """Searches over the moments of a run, forwards and backwards.
 
-What the log tells is found by its lines, exactly. What memory alone tells is found by halving between moments at which it differs:
-the nearest moments are looked at one by one, and further on some in each stretch, so what comes and goes between two of them
-may be missed."""
+What the log tells is found by its lines, exactly. What memory alone tells is found exactly among the nearest moments, which are
+looked at one by one. Further on some are looked at in each stretch, and where two of them differ it is halved between them: so what
+comes and goes between two of them may be missed. A search tells how far each was looked at."""
 import itertools
 
 from callwords import call_at
 from moments import is_turn
 
-NEAR, MOST_NEAR = 24, 512  # moments that are looked at one by one: the fewest, and the most
+NEAR, MOST_NEAR = 24, 512  # moments that are looked at one by one: the fewest, and the most, if nobody asks for more
 WORK = 20_000_000  # slots that may be run for them, where they are more than the fewest
 PROBES, WIDER = 8, 8  # moments that are looked at in a stretch, and how much longer than the last a stretch is
 PARTS = 4  # of a stretch that is halved
 AT_ONCE = 16  # calls that are looked at together
 BLOCK = 4096  # lines of the log that are gone through together, backwards
+
+
+def usual(history):
+    """How many of the nearest moments are looked at one by one, where nobody says another number."""
+    return max(NEAR, min(MOST_NEAR, WORK // (history.last + 1)))
 
 
 class Event:
@@ -56,10 +61,13 @@ class State(Event):
 
 
 class Search:
-    """From a moment of a history, forwards or backwards; each gives the slots of the moment that is found, or None."""
+    """From a moment of a history, forwards or backwards; each gives the slots of the moment that is found, or None. `near` is how
+    many of the nearest moments are looked at one by one where memory is asked for, and `sure` up to which slot all were."""
 
-    def __init__(self, history, moment, forwards):
+    def __init__(self, history, moment, forwards, near=None):
         self.history, self.moment, self.forwards = history, moment, forwards
+        self.near = usual(history) if near is None else near
+        self.sure = None
 
     # by the log
 
@@ -148,12 +156,14 @@ class Search:
         def begins(low, high):
             return at(low) != at(high) and at(high) is not False
 
-        low, high = self.near()
-        fetch(range(low, high + 1))
-        pairs = [(slots - 1, slots) for slots in range(low + 1, high + 1)]
-        for pair in pairs if self.forwards else reversed(pairs):
-            if begins(*pair):
-                return pair[1]
+        low, high = self.nearest()
+        for first, last in self.pieces(low, high):
+            fetch(range(first, last + 1))
+            pairs = [(slots - 1, slots) for slots in range(first + 1, last + 1)]
+            for pair in pairs if self.forwards else reversed(pairs):
+                if begins(*pair):
+                    return pair[1]
+        self.sure = high if self.forwards else low
         for stretch in self.stretches(low, high):
             fetch(stretch)
             pairs = list(zip(stretch, stretch[1:]))
@@ -162,12 +172,25 @@ class Search:
                     return self.halve(at, fetch, low, high)
         return None
 
-    def near(self):
-        here, last = self.moment.slots, self.history.last
-        near = max(NEAR, min(MOST_NEAR, WORK // (last + 1)))
+    def nearest(self):
+        here = self.moment.slots
         if self.forwards:
-            return here, min(here + near, last)
-        return max(here - 1 - near, 0), max(here - 1, 0)
+            return here, min(here + self.near, self.history.last)
+        return max(here - 1 - self.near, 0), max(here - 1, 0)
+
+    def pieces(self, low, high):
+        """The stretch from one moment to the other in pieces, those first that are nearer."""
+        if self.forwards:
+            return [(first, min(first + MOST_NEAR, high)) for first in range(low, high, MOST_NEAR)]
+        return [(max(last - MOST_NEAR, low), last) for last in range(high, low, -MOST_NEAR)]
+
+    def left_out(self, slots):
+        """Whether moments before the one that was found, or before the end of the run, were not looked at."""
+        if self.sure is None:
+            return False
+        if self.forwards:
+            return self.sure < (self.history.last if slots is None else slots - 1)
+        return self.sure > (0 if slots is None else slots)
 
     def stretches(self, low, high):
         """Moments to be looked at, in stretches that become longer and longer."""

@@ -10,7 +10,7 @@ import tempfile
 
 sys.path.insert(0, os.path.dirname(os.path.abspath(__file__)))
 import disassembler
-from files import read_bytes, told
+from files import guarded, read_bytes
 from pdp11 import ARGUMENTS
 from program import V6, ProgramError, add_version
 from rowfile import DATA, DISK_BYTES, HI, SWAP_AT, TEXT, Row, RowError, names
@@ -210,27 +210,25 @@ def main(words):
     parser.add_argument("--data", metavar="FOLDER", default=DATA, help="another folder that has rows/FAMILY/NAME")
     add_version(parser)
     options = parser.parse_args(words)
+    return guarded("row.py", lambda: run(options), RowError, ProgramError)
+
+
+def run(options):
+    """The status: 1 where a row that was run didn't come out as it says."""
+    if not options.names:
+        for name in names(options.data):
+            print(f"{name}: {Row(name, options.data).remarks[0]}")
+        return 0
     failed = 0
-    try:
-        if not options.names:
-            for name in names(options.data):
-                print(f"{name}: {Row(name, options.data).remarks[0]}")
-            return 0
-        with tempfile.TemporaryDirectory() as folder:
-            runner = Runner(options.v6, folder)
-            for name in chosen(options.names, options.data):
-                row = Row(name, options.data)
-                image, came = runner.run(row)
-                found = differences(row, image, came)
-                failed += bool(found)
-                tell(row, found) if options.quiet else show(row, image, came, found)
-    except (RowError, ProgramError) as error:
-        print(f"row.py: {error}", file=sys.stderr)
-        return 1
-    except OSError as error:
-        print(f"row.py: {told(error)}", file=sys.stderr)
-        return 1
-    return 1 if failed else 0
+    with tempfile.TemporaryDirectory() as folder:
+        runner = Runner(options.v6, folder)
+        for name in chosen(options.names, options.data):
+            row = Row(name, options.data)
+            image, came = runner.run(row)
+            found = differences(row, image, came)
+            failed += bool(found)
+            tell(row, found) if options.quiet else show(row, image, came, found)
+    return int(failed > 0)
 
 
 if __name__ == "__main__":

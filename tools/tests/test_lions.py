@@ -84,6 +84,14 @@ class Links(unittest.TestCase):
                 if heading:
                     self.assertIn(heading, anchors(read(target).decode()), (name, file))
 
+    def test_pictures(self):
+        """Each page has one, which one of its commands makes."""
+        for page in PAGES:
+            text = self.page(page + ".md")
+            self.assertTrue(PICTURE.findall(text), page)
+            for picture in PICTURE.findall(text):
+                self.assertTrue(any(f" {picture}" in command for command, _ in commands(text)), (page, picture))
+
     def test_questions(self):
         """Each page has two questions, each with an answer of its own; and the first page leads to each."""
         asked = [question for page in PAGES for question in QUESTION.findall(self.page(page + ".md"))]

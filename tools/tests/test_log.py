@@ -6,6 +6,8 @@ import xml.etree.ElementTree as tree
 
 from common import TOP, V6, Case, read, tool, v6
 
+import logpicture
+
 log_main, disk_main = tool("log").main, tool("disk").main
 SVG = "{http://www.w3.org/2000/svg}"
 LOG = """boot 100 7
@@ -226,6 +228,52 @@ class Log(Case):
         shown = self.log("show", "--script", script, "--from", "269", "--to", "277", names[1])[1]
         self.assertIn("\n\n" + shown + "```\n", read(os.path.join(TOP, "docs", "tools", "log.md")).decode())
         self.assertIn("     2400 rWrRo  a tick in a program; second 4 ends\n", shown)
+
+    def test_on_paper(self):
+        """Without colours, too: processes with numbers next to each other differ in brightness by a tenth, and a text from all."""
+        def light(holder):
+            red, green, blue = bytes.fromhex(logpicture.colour(holder)[1:])
+            return (0.299 * red + 0.587 * green + 0.114 * blue) / 255
+
+        for number in range(1, 100):
+            self.assertGreater(abs(light(str(number)) - light(str(number + 1))), 0.1, number)
+            self.assertGreater(light(str(number)) - light("text 0"), 0.1, number)
+        plain = [fill for fill, _ in logpicture.STATES.values() if not fill.startswith("url")]
+        self.assertEqual(len(set(plain)), len(plain))
+        greys = sorted(sum(bytes.fromhex(fill[1:])) / 765 for fill in plain)
+        self.assertGreater(min(high - low for low, high in zip(greys, greys[1:])), 0.1)
+
+    def test_the_page_that_is_printed(self):
+        """A picture with few lanes is printed across, one with many upright; both are made as wide as the page."""
+        forks = "".join(f"fork 1 {number} swap {4000 + 10 * number}\n" for number in range(2, 50))
+        few = self.log("draw", self.text("few", TEXTS))[1]
+        many = self.log("draw", self.text("many", "boot 1200 0\nsleep 0 -100 runout\ngo 1\n" + forks + "end\n"))[1]
+        for shown, side in ((few, "landscape"), (many, "portrait")):
+            self.assertIn(f"@page {{ size: {side};", shown)
+            self.assertIn("@media print { svg { width: 100%; height: auto; max-height: 100vh } }", shown)
+
+    def test_a_lane_s_name(self):
+        """It has as many of the processes that were in the slot as there is room for, and always one."""
+        forks = "".join(f"fork 1 2 at {at}\nexit 2 swap 4000\nreap 2\n" for at in range(40, 80))
+        name = self.text("log", "boot 1200 0\nsleep 0 -100 runout\ngo 1\n" + forks + "end\n")
+        status, shown, _ = self.log("draw", name)
+        self.assertEqual(status, 0)
+        self.assertIn(">slot 2: process 2, 3, 4 ..<", shown)
+        self.assertIn(">slot 1: process 1<", shown)
+
+    def test_a_label_is_in_its_piece(self):
+        """The number of a holder stands within the piece that it names."""
+        status, shown, _ = self.log("draw", self.text("log", TEXTS.replace("text 1 0 20", "text 1 0 16")))  # two blocks
+        self.assertEqual(status, 0)
+        parts, labels = list(tree.fromstring(shown)), 0
+        for piece, label in zip(parts, parts[1:]):
+            title = piece.find(SVG + "title")
+            if label.tag == SVG + "text" and title is not None and title.text.startswith(("process ", "text ")):
+                top, high, bottom = float(piece.get("y")), float(piece.get("height")), float(label.get("y"))
+                self.assertLessEqual(top, bottom - 7)  # of a letter of nine units
+                self.assertLess(bottom, top + high)
+                labels += 1
+        self.assertGreater(labels, 3)
 
     def test_a_long_log_is_thinned(self):
         turns = "go 1\nsleep 1 10 keys\nwake keys\ngo 1\ntrap 1\n" * 20000

@@ -310,6 +310,33 @@ class Moves(unittest.TestCase):
             (1, image((0,) * 8, text=text + struct.pack("<H", slots in (500, 29000)))))))
         self.assertEqual([self.at("slot 1", "until word 040 1"), self.at("slot 29400", "since word 040 1")], [500, 29000])
 
+    def test_what_is_missed(self):
+        """Behind the nearest moments what comes and goes may be missed, and that is said; `near` finds it."""
+        text = TEXT.ljust(32, b"\0")
+        self.looker = looker_of(ByHand(30000, START, lambda slots: placed(
+            (1, image((0,) * 8, text=text + struct.pack("<H", slots in (1501, 28501)))))))
+        with self.assertRaisesRegex(LookError, "word 040 1: not found behind slot 1; each moment was looked at up to slot 513, and some"):
+            self.at("slot 1", "until word 040 1")
+        with self.assertRaisesRegex(LookError, "not found before slot 30000; each moment was looked at down to slot 29487, and some"):
+            self.at("slot 30000", "since word 040 1")
+        self.assertEqual(self.looker.lines_of("near"), ["the nearest 512 moments are looked at one by one"])
+        self.assertEqual(self.looker.lines_of("near 1500"), ["the nearest 1500 moments are looked at one by one"])
+        self.assertEqual([self.at("slot 1", "until word 040 1"), self.at("slot 30000", "since word 040 1")], [1501, 28501])
+        self.looker.lines_of("slot 1")
+        self.assertEqual(len(self.looker.lines_of("until word 040 1")), 1)  # the head alone: each was looked at
+
+    def test_how_far_each_was_looked_at(self):
+        """It is said where it wasn't each, and not where it was."""
+        said = "each moment was looked at up to slot 24; from there to slot 1234567 it may have come and gone"
+        self.assertEqual(self.looker.lines_of("until word 040")[-1], said)
+        said = "each moment was looked at down to slot 9999975; from there to slot 7654321 it may have come and gone"
+        self.looker.lines_of("slot 10000000")
+        self.assertEqual(self.looker.lines_of("since word 040")[-1], said)
+        self.looker.lines_of("slot 1234560")
+        self.assertNotIn("each moment", "".join(self.looker.lines_of("until word 040")))
+        self.looker.lines_of("slot 1234570")
+        self.assertNotIn("each moment", "".join(self.looker.lines_of("since word 040")))
+
     def test_pc(self):
         """A name is all of its routine, up to the next name."""
         self.assertEqual(self.at("slot 1", "until pc sub"), 5000000)

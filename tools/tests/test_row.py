@@ -1,6 +1,8 @@
 """Rows: their sources make their words, their comments tell the places of the disk, and the tool runs them."""
 import os
 import re
+import subprocess
+import sys
 import unittest
 
 from common import TOP, Case, tool
@@ -127,6 +129,15 @@ class Language(Case):
 
 
 class Command(Case):
+    def test_a_closed_pipe(self):
+        """A reader that goes ends the list without a word."""
+        out, into = os.pipe()
+        os.close(out)
+        with os.fdopen(into, "wb") as file:
+            command = [sys.executable, os.path.join(TOP, "tools", "row.py")]
+            done = subprocess.run(command, stdout=file, stderr=subprocess.PIPE)
+        self.assertEqual((done.returncode, done.stderr), (141, b""))
+
     def test_rows_hold(self):
         """Each row, by the program as it is built and by its own host; the gate runs them over files in memory."""
         names = rowfile.names()

@@ -11,33 +11,64 @@ use crate::near::processor;
 use crate::standing::{Standing, instruction_word, reg, set_state};
 use pdp_decode::{Dispatch, Handler, Instr, decode};
 use pdp_step::{
-    Processor, perform, perform_any, perform_apart, perform_bytes, perform_extended,
-    perform_stepping,
+    Processor, perform, perform_any, perform_apart, perform_between, perform_bytes,
+    perform_extended, perform_stepping,
 };
 use u_area::UArea;
 
 /// The instruction at PC, where the process is at hand, its word has a handler, and all that it reads and writes is there.
-/// Else nothing has changed.
+/// Else nothing has changed. The places come twice: the compiler forms the address of a field where it is used only as long
+/// as few uses do.
 #[inline(always)]
 pub(crate) fn attempt(
     core: &mut [u8],
     area: &mut UArea,
     standing: &Standing,
+    again: &Standing,
     dispatch: &Dispatch,
 ) -> bool
-    requires { IsAtHand standing.now core.old area.old }
+    requires at_hand { IsAtHand standing.now core.old area.old }
+    requires same { again.now ≡ standing.now }
     ensures { Attempted standing.now core.old core.new area.old area.new result }
 {
     let pc = usize::from(reg(area, 7));
     match instruction_word(core, standing, pc) {
-        Some(word) => attempt_row(core, area, standing, dispatch.handler(word), pc + 2, word),
+        Some(word) => {
+            let handler = dispatch.handler(word);
+            attempt_row(core, area, standing, again, handler, pc + 2, word)
+        }
         None => false,
     }
 }
 
-// The row of a word by its handler. The rows stand in four functions, each of which the compiler puts here.
+// The row of a word by its handler.
 #[inline(always)]
 fn attempt_row(
+    core: &mut [u8],
+    area: &mut UArea,
+    standing: &Standing,
+    again: &Standing,
+    handler: Handler,
+    pc: usize,
+    word: u32,
+) -> bool
+    requires same { again.now ≡ standing.now }
+    requires stands { StandsWith core.old area.old standing.now }
+    requires handles { Handles handler word }
+    requires word { word < 65536 }
+    requires room { pc ≤ 65538 }
+    ensures row { IsTrue result → IsRowDone (standing_machine core.old area.old standing.now) pc word (standing_machine core.new area.new standing.now) }
+    ensures missed { result ≡ false → standing_machine core.new area.new standing.now ≡ standing_machine core.old area.old standing.now }
+    ensures around { around core.new area.new standing.now ≡ around core.old area.old standing.now }
+    ensures stands { StandsWith core.new area.new standing.now }
+{
+    attempt_frequent(core, area, standing, handler, pc, word)
+        || attempt_further(core, area, again, handler, pc, word)
+}
+
+// The same for the most frequent handlers. Each function of rows has one caller: the compiler then puts it there.
+#[inline(always)]
+fn attempt_frequent(
     core: &mut [u8],
     area: &mut UArea,
     standing: &Standing,
@@ -54,35 +85,125 @@ fn attempt_row(
     ensures around { around core.new area.new standing.now ≡ around core.old area.old standing.now }
     ensures stands { StandsWith core.new area.new standing.now }
 {
-    let mut p = processor(core, area, standing);
-    perform(&mut p, handler, pc, word).is_ok()
-        || perform_bytes(&mut p, handler, pc, word).is_ok()
-        || perform_extended(&mut p, handler, pc, word).is_ok()
-        || perform_apart(&mut p, handler, pc, word).is_ok()
+    perform(&mut processor(core, area, standing), handler, pc, word).is_ok()
 }
 
-/// The same for an instruction whose handler has no such row, and for one without a handler.
+// The same for all others.
 #[inline(always)]
-pub(crate) fn attempt_any(
+fn attempt_further(
     core: &mut [u8],
     area: &mut UArea,
     standing: &Standing,
-    dispatch: &Dispatch,
+    handler: Handler,
+    pc: usize,
+    word: u32,
 ) -> bool
-    requires { IsAtHand standing.now core.old area.old }
-    ensures { Attempted standing.now core.old core.new area.old area.new result }
+    requires stands { StandsWith core.old area.old standing.now }
+    requires handles { Handles handler word }
+    requires word { word < 65536 }
+    requires room { pc ≤ 65538 }
+    ensures row { IsTrue result → IsRowDone (standing_machine core.old area.old standing.now) pc word (standing_machine core.new area.new standing.now) }
+    ensures missed { result ≡ false → standing_machine core.new area.new standing.now ≡ standing_machine core.old area.old standing.now }
+    ensures around { around core.new area.new standing.now ≡ around core.old area.old standing.now }
+    ensures stands { StandsWith core.new area.new standing.now }
 {
-    let pc = usize::from(reg(area, 7));
-    match instruction_word(core, standing, pc) {
-        Some(word) => {
-            attempt_stepping(core, area, standing, dispatch.handler(word), pc + 2, word)
-                || attempt_modes(core, area, standing, pc + 2, word)
-        }
-        None => false,
-    }
+    handler != Handler::Other
+        && (attempt_bytes(core, area, standing, handler, pc, word)
+            || attempt_apart(core, area, standing, handler, pc, word)
+            || attempt_between(core, area, standing, handler, pc, word)
+            || attempt_extended(core, area, standing, handler, pc, word)
+            || attempt_stepping(core, area, standing, handler, pc, word))
 }
 
-// The row of a word whose source steps before the destination is located. Where it misses, the registers are put back.
+// The same for those that work on bytes.
+#[inline(always)]
+fn attempt_bytes(
+    core: &mut [u8],
+    area: &mut UArea,
+    standing: &Standing,
+    handler: Handler,
+    pc: usize,
+    word: u32,
+) -> bool
+    requires stands { StandsWith core.old area.old standing.now }
+    requires handles { Handles handler word }
+    requires word { word < 65536 }
+    requires room { pc ≤ 65538 }
+    ensures row { IsTrue result → IsRowDone (standing_machine core.old area.old standing.now) pc word (standing_machine core.new area.new standing.now) }
+    ensures missed { result ≡ false → standing_machine core.new area.new standing.now ≡ standing_machine core.old area.old standing.now }
+    ensures around { around core.new area.new standing.now ≡ around core.old area.old standing.now }
+    ensures stands { StandsWith core.new area.new standing.now }
+{
+    perform_bytes(&mut processor(core, area, standing), handler, pc, word).is_ok()
+}
+
+// The same for those that are less frequent.
+#[inline(always)]
+fn attempt_apart(
+    core: &mut [u8],
+    area: &mut UArea,
+    standing: &Standing,
+    handler: Handler,
+    pc: usize,
+    word: u32,
+) -> bool
+    requires stands { StandsWith core.old area.old standing.now }
+    requires handles { Handles handler word }
+    requires word { word < 65536 }
+    requires room { pc ≤ 65538 }
+    ensures row { IsTrue result → IsRowDone (standing_machine core.old area.old standing.now) pc word (standing_machine core.new area.new standing.now) }
+    ensures missed { result ≡ false → standing_machine core.new area.new standing.now ≡ standing_machine core.old area.old standing.now }
+    ensures around { around core.new area.new standing.now ≡ around core.old area.old standing.now }
+    ensures stands { StandsWith core.new area.new standing.now }
+{
+    perform_apart(&mut processor(core, area, standing), handler, pc, word).is_ok()
+}
+
+// The same for those with two words in memory.
+#[inline(always)]
+fn attempt_between(
+    core: &mut [u8],
+    area: &mut UArea,
+    standing: &Standing,
+    handler: Handler,
+    pc: usize,
+    word: u32,
+) -> bool
+    requires stands { StandsWith core.old area.old standing.now }
+    requires handles { Handles handler word }
+    requires word { word < 65536 }
+    requires room { pc ≤ 65538 }
+    ensures row { IsTrue result → IsRowDone (standing_machine core.old area.old standing.now) pc word (standing_machine core.new area.new standing.now) }
+    ensures missed { result ≡ false → standing_machine core.new area.new standing.now ≡ standing_machine core.old area.old standing.now }
+    ensures around { around core.new area.new standing.now ≡ around core.old area.old standing.now }
+    ensures stands { StandsWith core.new area.new standing.now }
+{
+    perform_between(&mut processor(core, area, standing), handler, pc, word).is_ok()
+}
+
+// The same for MUL, DIV, ASH, ASHC, SXT and the condition codes.
+#[inline(always)]
+fn attempt_extended(
+    core: &mut [u8],
+    area: &mut UArea,
+    standing: &Standing,
+    handler: Handler,
+    pc: usize,
+    word: u32,
+) -> bool
+    requires stands { StandsWith core.old area.old standing.now }
+    requires handles { Handles handler word }
+    requires word { word < 65536 }
+    requires room { pc ≤ 65538 }
+    ensures row { IsTrue result → IsRowDone (standing_machine core.old area.old standing.now) pc word (standing_machine core.new area.new standing.now) }
+    ensures missed { result ≡ false → standing_machine core.new area.new standing.now ≡ standing_machine core.old area.old standing.now }
+    ensures around { around core.new area.new standing.now ≡ around core.old area.old standing.now }
+    ensures stands { StandsWith core.new area.new standing.now }
+{
+    perform_extended(&mut processor(core, area, standing), handler, pc, word).is_ok()
+}
+
+// The same for those whose source steps before the destination is located. Where one misses, the registers are put back.
 #[inline(always)]
 #[tactic(auto, using(crate::proofs::StandingState::image_same))]
 fn attempt_stepping(
@@ -130,11 +251,23 @@ fn step_row(
     ensures around { around core.new area.new standing.now ≡ around core.old area.old standing.now }
     ensures stands { StandsWith core.new area.new standing.now }
 {
-    let mut p = processor(core, area, standing);
-    perform_stepping(&mut p, handler, pc, word).is_ok()
+    perform_stepping(&mut processor(core, area, standing), handler, pc, word).is_ok()
 }
 
-// The row of a word over any addressing modes, likewise.
+/// The same for any instruction, by no handler.
+#[inline(always)]
+pub(crate) fn attempt_any(core: &mut [u8], area: &mut UArea, standing: &Standing) -> bool
+    requires { IsAtHand standing.now core.old area.old }
+    ensures { Attempted standing.now core.old core.new area.old area.new result }
+{
+    let pc = usize::from(reg(area, 7));
+    match instruction_word(core, standing, pc) {
+        Some(word) => attempt_modes(core, area, standing, pc + 2, word),
+        None => false,
+    }
+}
+
+// The row of a word over any addressing modes. Where it isn't done, the registers are put back.
 #[inline(always)]
 #[tactic(auto, using(crate::proofs::StandingState::image_same))]
 fn attempt_modes(
@@ -172,8 +305,7 @@ fn modes_row(core: &mut [u8], area: &mut UArea, standing: &Standing, pc: usize, 
     ensures around { around core.new area.new standing.now ≡ around core.old area.old standing.now }
     ensures stands { StandsWith core.new area.new standing.now }
 {
-    let mut p = processor(core, area, standing);
-    perform_any(&mut p, pc, word).is_ok()
+    perform_any(&mut processor(core, area, standing), pc, word).is_ok()
 }
 
 /// The instruction at PC, where the process is at hand and asks for a system call: PC passes its word, and the number of the

@@ -20,27 +20,23 @@ fn attempt_in(
     areas: &mut [UArea],
     s: usize,
     standing: &Standing,
+    again: &Standing,
     dispatch: &Dispatch,
 ) -> bool
     requires slot { s < length areas.old }
+    requires same { again.now ≡ standing.now }
     requires at_hand { IsAtHand standing.now memory.old.core (area_at areas.old s) }
     ensures did { Attempted standing.now memory.old.core memory.new.core (area_at areas.old s) (area_at areas.new s) result }
     ensures swap { memory.new.swap ≡ memory.old.swap }
     ensures areas { areas.new ≡ slice_set areas.old s (area_at areas.new s) }
     ensures long { length areas.new ≡ length areas.old }
 {
-    memory.attempt(&mut areas[s], standing, dispatch)
+    memory.attempt(&mut areas[s], standing, again, dispatch)
 }
 
-/// The same for an instruction whose handler has no row in place.
+/// The same for any instruction, by no handler.
 #[inline(always)]
-fn attempt_any_in(
-    memory: &mut Memory,
-    areas: &mut [UArea],
-    s: usize,
-    standing: &Standing,
-    dispatch: &Dispatch,
-) -> bool
+fn attempt_any_in(memory: &mut Memory, areas: &mut [UArea], s: usize, standing: &Standing) -> bool
     requires slot { s < length areas.old }
     requires at_hand { IsAtHand standing.now memory.old.core (area_at areas.old s) }
     ensures did { Attempted standing.now memory.old.core memory.new.core (area_at areas.old s) (area_at areas.new s) result }
@@ -48,17 +44,12 @@ fn attempt_any_in(
     ensures areas { areas.new ≡ slice_set areas.old s (area_at areas.new s) }
     ensures long { length areas.new ≡ length areas.old }
 {
-    memory.attempt_any(&mut areas[s], standing, dispatch)
+    memory.attempt_any(&mut areas[s], standing)
 }
 
 /// The system call that the process in a slot asks for.
 #[inline(always)]
-fn call_in(
-    memory: &mut Memory,
-    areas: &mut [UArea],
-    s: usize,
-    standing: &Standing,
-) -> Option<u8>
+fn call_in(memory: &mut Memory, areas: &mut [UArea], s: usize, standing: &Standing) -> Option<u8>
     requires slot { s < length areas.old }
     requires at_hand { IsAtHand standing.now memory.old.core (area_at areas.old s) }
     ensures did { Called standing.now memory.old.core memory.new.core (area_at areas.old s) (area_at areas.new s) result }
@@ -86,13 +77,14 @@ impl Images {
             &mut self.areas,
             fixed.index,
             &fixed.standing,
+            &fixed.again,
             dispatch,
         )
     }
 
     /// The same for any instruction. It stands out of line, to keep the loop over slots small.
     #[inline(never)]
-    pub fn execute_any(&mut self, fixed: &Fixed, dispatch: &Dispatch) -> bool
+    pub fn execute_any(&mut self, fixed: &Fixed) -> bool
         requires { IsFixed self.old fixed.now }
         ensures outcome { IsTrue result → (instr (machine_in self.old fixed.now.slot)).outcome ≡ Next }
         ensures done { IsTrue result → self.new ≡ with_machine_in self.old fixed.now.slot (instr (machine_in self.old fixed.now.slot)).machine }
@@ -105,7 +97,6 @@ impl Images {
             &mut self.areas,
             fixed.index,
             &fixed.standing,
-            dispatch,
         )
     }
 

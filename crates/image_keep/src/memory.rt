@@ -355,28 +355,25 @@ impl Memory {
         &mut self,
         area: &mut UArea,
         standing: &Standing,
+        again: &Standing,
         dispatch: &Dispatch,
     ) -> bool
-        requires { IsAtHand standing.now self.old.core area.old }
+        requires at_hand { IsAtHand standing.now self.old.core area.old }
+        requires same { again.now ≡ standing.now }
         ensures did { Attempted standing.now self.old.core self.new.core area.old area.new result }
         ensures swap { self.new.swap ≡ self.old.swap }
     {
-        attempt(self.core.bytes_mut(), area, standing, dispatch)
+        attempt(self.core.bytes_mut(), area, standing, again, dispatch)
     }
 
-    /// The same for an instruction whose handler has no row in place.
+    /// The same for any instruction, by no handler.
     #[inline(always)]
-    pub(crate) fn attempt_any(
-        &mut self,
-        area: &mut UArea,
-        standing: &Standing,
-        dispatch: &Dispatch,
-    ) -> bool
+    pub(crate) fn attempt_any(&mut self, area: &mut UArea, standing: &Standing) -> bool
         requires { IsAtHand standing.now self.old.core area.old }
         ensures did { Attempted standing.now self.old.core self.new.core area.old area.new result }
         ensures swap { self.new.swap ≡ self.old.swap }
     {
-        attempt_any(self.core.bytes_mut(), area, standing, dispatch)
+        attempt_any(self.core.bytes_mut(), area, standing)
     }
 
     /// The system call that a process asks for, which stands in core.

@@ -17,6 +17,9 @@ pub struct Fixed {
     pub(crate) starts: Starts,
     /// The same as places in core, where it is there.
     pub(crate) standing: Standing,
+    /// The same once more: the compiler forms the address of a field where it is used only as long as few uses do.
+    pub(crate) again: Standing,
     pub(crate) ghost indexed: { index ≡ slot },
+    pub(crate) ghost same: { again ≡ standing },
     pub(crate) ghost near: { IsNear standing starts },
 }

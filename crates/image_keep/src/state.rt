@@ -44,11 +44,13 @@ impl Images {
         ensures slot { result.slot ≡ s }
     {
         let starts = self.starts(s);
+        let standing = Standing::of(&starts);
         Fixed {
             slot: s,
             index: s as usize,
             starts,
-            standing: Standing::of(&starts),
+            standing,
+            again: standing,
         }
     }
 

@@ -1,6 +1,7 @@
-//! All 65,536 words against the octal ranges of the table of instructions, and some words with all that is read from
-//! them (PDP-11/40 Processor Handbook, chapter 4 and appendix B; the ranges stand in docs/manual/instructions.md).
-use pdp_decode::decode;
+//! All 65,536 words against the octal ranges of the table of instructions, some words with all that is read from them, and
+//! which handler some have (PDP-11/40 Processor Handbook, chapters 3 and 4 and appendix B; the ranges stand in
+//! docs/manual/instructions.md).
+use pdp_decode::{Dispatch, Handler, decode};
 use std::alloc::Global;
 use std::process::Abort;
 
@@ -168,4 +169,59 @@ fn judge_words(rt: &impl Abort, alloc: Global, rows: &[(u16, &str)]) {
 #[test]
 fn operands_and_numbers_are_read_from_their_digits(rt: HostRuntime) {
     judge_words(&rt, rt.alloc(), &WORDS);
+}
+
+// Which handler a word has, by its instruction and its operands' modes.
+static HANDLERS: [(u16, Handler); 32] = [
+    (0o010102, Handler::MovRR), // MOV R1,R2
+    (0o012701, Handler::MovIR), // MOV #5,R1
+    (0o013701, Handler::MovAR), // MOV @#700,R1
+    (0o016601, Handler::MovXR), // MOV -2(SP),R1
+    (0o016701, Handler::MovLR), // MOV A,R1
+    (0o012601, Handler::MovPR), // MOV (SP)+,R1
+    (0o010146, Handler::MovRM), // MOV R1,-(SP)
+    (0o010137, Handler::MovRA), // MOV R1,@#700
+    (0o011112, Handler::MovDD), // MOV (R1),(R2)
+    (0o010701, Handler::Other), // MOV PC,R1: no register that a handler takes
+    (0o112103, Handler::MovbPR), // MOVB (R1)+,R3
+    (0o112603, Handler::Other), // MOVB (SP)+,R3: SP steps by two
+    (0o020100, Handler::CmpRR), // CMP R1,R0
+    (0o060137, Handler::AddRA), // ADD R1,@#62
+    (0o162704, Handler::SubIR), // SUB #2,R4
+    (0o005001, Handler::ClrR), // CLR R1
+    (0o005237, Handler::IncA), // INC @#700
+    (0o105201, Handler::IncbR), // INCB R1
+    (0o005726, Handler::TstP), // TST (SP)+
+    (0o070227, Handler::MulI), // MUL #3,R2
+    (0o073027, Handler::AshcI), // ASHC #3,R0
+    (0o074102, Handler::XorRR), // XOR R1,R2
+    (0o074702, Handler::Other), // XOR PC,R2
+    (0o000777, Handler::Always), // BR .
+    (0o001003, Handler::NotEqual), // BNE
+    (0o077001, Handler::Sob), // SOB R0
+    (0o004737, Handler::JsrA), // JSR PC,@#10
+    (0o000207, Handler::Rts), // RTS PC
+    (0o000257, Handler::ClearCodes), // CCC
+    (0o000261, Handler::SetCodes), // SEC
+    (0o104400, Handler::Other), // TRAP 0
+    (0o000000, Handler::Other), // HALT
+];
+
+fn handler_holds(dispatch: &Dispatch, word: u16, handler: Handler) -> bool {
+    dispatch.handler(word as u32) == handler
+}
+
+fn judge_handlers(rt: &impl Abort, dispatch: &Dispatch, rows: &[(u16, Handler)]) {
+    for (word, handler) in rows {
+        assert!(rt;
+            handler_holds(dispatch, *word, *handler),
+            "{word} has no {handler:?}"
+        );
+    }
+}
+
+#[test]
+fn frequent_words_have_their_handlers(rt: HostRuntime) {
+    let dispatch = Dispatch::new(rt.alloc()).expect(&rt, "memory");
+    judge_handlers(&rt, &dispatch, &HANDLERS);
 }

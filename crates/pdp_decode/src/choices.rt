@@ -42,6 +42,9 @@ pub(crate) fn mov(width: Width, source: Addressing, dest: Addressing) -> Handler
         (Width::Word, Autoincrement, Deferred) => Handler::MovPD,
         (Width::Word, Autoincrement, Autodecrement) => Handler::MovPM,
         (Width::Word, Autoincrement, Indexed) => Handler::MovPX,
+        (Width::Word, Immediate, Deferred) => Handler::MovID,
+        (Width::Word, Indexed, Deferred) => Handler::MovXD,
+        (Width::Word, Deferred, Indexed) => Handler::MovDX,
         (Width::Byte, Register, Register) => Handler::MovbRR,
         (Width::Byte, Absolute, Register) => Handler::MovbAR,
         (Width::Byte, Indexed, Register) => Handler::MovbXR,
@@ -58,6 +61,7 @@ pub(crate) fn mov(width: Width, source: Addressing, dest: Addressing) -> Handler
         (Width::Byte, Deferred, Deferred) => Handler::MovbDD,
         (Width::Byte, Immediate, Absolute) => Handler::MovbIA,
         (Width::Byte, Autoincrement, Deferred) => Handler::MovbPD,
+        (Width::Byte, Immediate, Deferred) => Handler::MovbID,
         _ => Handler::Other,
     }
 }
@@ -80,6 +84,7 @@ pub(crate) fn cmp(width: Width, source: Addressing, dest: Addressing) -> Handler
         (Width::Word, Indexed, Immediate) => Handler::CmpXI,
         (Width::Word, Deferred, Deferred) => Handler::CmpDD,
         (Width::Word, Absolute, Absolute) => Handler::CmpAA,
+        (Width::Word, Deferred, Immediate) => Handler::CmpDI,
         (Width::Byte, Register, Register) => Handler::CmpbRR,
         (Width::Byte, Immediate, Register) => Handler::CmpbIR,
         (Width::Byte, Indexed, Register) => Handler::CmpbXR,
@@ -91,6 +96,7 @@ pub(crate) fn cmp(width: Width, source: Addressing, dest: Addressing) -> Handler
         (Width::Byte, Absolute, Register) => Handler::CmpbAR,
         (Width::Byte, Absolute, Immediate) => Handler::CmpbAI,
         (Width::Byte, Indexed, Immediate) => Handler::CmpbXI,
+        (Width::Byte, Deferred, Immediate) => Handler::CmpbDI,
         _ => Handler::Other,
     }
 }
@@ -103,9 +109,13 @@ pub(crate) fn bit(width: Width, source: Addressing, dest: Addressing) -> Handler
         (Width::Word, Immediate, Register) => Handler::BitIR,
         (Width::Word, Absolute, Register) => Handler::BitAR,
         (Width::Word, Indexed, Register) => Handler::BitXR,
+        (Width::Word, Immediate, Absolute) => Handler::BitIA,
+        (Width::Word, Immediate, Indexed) => Handler::BitIX,
         (Width::Byte, Register, Register) => Handler::BitbRR,
         (Width::Byte, Immediate, Register) => Handler::BitbIR,
         (Width::Byte, Absolute, Register) => Handler::BitbAR,
+        (Width::Byte, Immediate, Indexed) => Handler::BitbIX,
+        (Width::Byte, Immediate, Deferred) => Handler::BitbID,
         _ => Handler::Other,
     }
 }
@@ -121,6 +131,7 @@ pub(crate) fn bic(width: Width, source: Addressing, dest: Addressing) -> Handler
         (Width::Word, Register, Absolute) => Handler::BicRA,
         (Width::Word, Register, Indexed) => Handler::BicRX,
         (Width::Word, Immediate, Indexed) => Handler::BicIX,
+        (Width::Word, Immediate, Absolute) => Handler::BicIA,
         (Width::Byte, Register, Register) => Handler::BicbRR,
         (Width::Byte, Immediate, Register) => Handler::BicbIR,
         _ => Handler::Other,
@@ -138,12 +149,14 @@ pub(crate) fn bis(width: Width, source: Addressing, dest: Addressing) -> Handler
         (Width::Word, Register, Absolute) => Handler::BisRA,
         (Width::Word, Register, Indexed) => Handler::BisRX,
         (Width::Word, Immediate, Indexed) => Handler::BisIX,
+        (Width::Word, Immediate, Absolute) => Handler::BisIA,
         (Width::Byte, Register, Register) => Handler::BisbRR,
         (Width::Byte, Immediate, Register) => Handler::BisbIR,
         (Width::Byte, Deferred, Register) => Handler::BisbDR,
         (Width::Byte, Autoincrement, Register) => Handler::BisbPR,
         (Width::Byte, Register, Deferred) => Handler::BisbRD,
         (Width::Byte, Register, Autoincrement) => Handler::BisbRP,
+        (Width::Byte, Register, Absolute) => Handler::BisbRA,
         _ => Handler::Other,
     }
 }
@@ -167,6 +180,7 @@ pub(crate) fn add(source: Addressing, dest: Addressing) -> Handler
         (Immediate, Indexed) => Handler::AddIX,
         (Deferred, Deferred) => Handler::AddDD,
         (Absolute, Absolute) => Handler::AddAA,
+        (Immediate, Deferred) => Handler::AddID,
         _ => Handler::Other,
     }
 }
@@ -231,6 +245,7 @@ pub(crate) fn inc(width: Width, dest: Addressing) -> Handler
         (Width::Word, Relative) => Handler::IncL,
         (Width::Byte, Register) => Handler::IncbR,
         (Width::Byte, Absolute) => Handler::IncbA,
+        (Width::Byte, Indexed) => Handler::IncbX,
         _ => Handler::Other,
     }
 }
@@ -256,6 +271,7 @@ pub(crate) fn neg(width: Width, dest: Addressing) -> Handler
 {
     match (width, dest) {
         (Width::Word, Register) => Handler::NegR,
+        (Width::Word, Absolute) => Handler::NegA,
         (Width::Byte, Register) => Handler::NegbR,
         _ => Handler::Other,
     }
@@ -266,6 +282,8 @@ pub(crate) fn adc(width: Width, dest: Addressing) -> Handler
 {
     match (width, dest) {
         (Width::Word, Register) => Handler::AdcR,
+        (Width::Word, Absolute) => Handler::AdcA,
+        (Width::Word, Indexed) => Handler::AdcX,
         (Width::Byte, Register) => Handler::AdcbR,
         _ => Handler::Other,
     }
@@ -326,6 +344,7 @@ pub(crate) fn asr(width: Width, dest: Addressing) -> Handler
 {
     match (width, dest) {
         (Width::Word, Register) => Handler::AsrR,
+        (Width::Word, Absolute) => Handler::AsrA,
         (Width::Byte, Register) => Handler::AsrbR,
         _ => Handler::Other,
     }
@@ -336,6 +355,7 @@ pub(crate) fn asl(width: Width, dest: Addressing) -> Handler
 {
     match (width, dest) {
         (Width::Word, Register) => Handler::AslR,
+        (Width::Word, Absolute) => Handler::AslA,
         (Width::Byte, Register) => Handler::AslbR,
         _ => Handler::Other,
     }

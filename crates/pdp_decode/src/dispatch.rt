@@ -4,8 +4,8 @@ ghost use Rattle.pdp_decode.specs.Handlers.{Handles, IsDispatch};
 
 use crate::addressing::addressed;
 use crate::choices::{
-    adc, add, ash, ashc, asl, asr, bic, bis, bit, branch, clr, cmp, codes, com, dec, div, inc, jmp, jsr,
-    mov, mul, neg, rol, ror, sbc, sub, swab, sxt, tst, xor,
+    adc, add, ash, ashc, asl, asr, bic, bis, bit, branch, clr, cmp, codes, com, dec, div, inc, jmp,
+    jsr, mov, mul, neg, rol, ror, sbc, sub, swab, sxt, tst, xor,
 };
 use crate::handler::Handler;
 use crate::instr::{Instr, Width};

@@ -52,7 +52,7 @@ fn index<P: Processor>(p: &mut P, n: u32) -> Result<u16, Halt>
 }
 
 // The address of an operand in memory.
-#[inline(never)]
+#[inline(always)]
 #[tactic(auto, unfolding(crate::specs::Operands::formed, crate::specs::Operands::word_at))]
 fn find<P: Processor, W: Size>(p: &mut P, mode: Mode, n: u32) -> Result<u16, Halt>
     requires memory { mode ≢ Mode.Register }

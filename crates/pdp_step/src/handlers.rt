@@ -22,7 +22,9 @@ use crate::operation::{Addition, BitClear, BitSet, BitTest, Comparison, Subtract
 use crate::pair_rows::{divide, multiply, shift_pair, shift_reg};
 use crate::processor::Processor;
 use crate::size::{Bytes, Words};
-use crate::transfers::{branch_if, count, jump, jump_to_subroutine, names_in, return_by, set_codes};
+use crate::transfers::{
+    branch_if, count, jump, jump_to_subroutine, names_in, return_by, set_codes,
+};
 use pdp_decode::{Condition, Handler};
 
 /// The row of a word by its handler, for the most frequent ones. Where it misses, nothing has changed.
@@ -153,9 +155,6 @@ pub fn perform_apart<P: Processor>(
         Handler::MovIA => move_to::<P, Words, Immediate, Absolute>(p, pc, word),
         Handler::MovIX => move_to::<P, Words, Immediate, Indexed>(p, pc, word),
         Handler::MovIM => move_to::<P, Words, Immediate, Autodecrement>(p, pc, word),
-        Handler::MovXM => move_to::<P, Words, Indexed, Autodecrement>(p, pc, word),
-        Handler::MovXX => move_to::<P, Words, Indexed, Indexed>(p, pc, word),
-        Handler::MovAM => move_to::<P, Words, Absolute, Autodecrement>(p, pc, word),
         Handler::CmpDR => compare::<P, Words, Deferred, Register, Comparison>(p, pc, word),
         Handler::CmpPR => compare::<P, Words, Autoincrement, Register, Comparison>(p, pc, word),
         Handler::CmpLR => compare::<P, Words, Relative, Register, Comparison>(p, pc, word),
@@ -206,7 +205,49 @@ pub fn perform_apart<P: Processor>(
     }
 }
 
-/// The row of a word by its handler, for MUL, DIV, ASH, ASHC and SXT. Where it misses, nothing has changed.
+/// The row of a word by its handler, for those with two operands in memory, or with one there and an immediate one. Where it
+/// misses, nothing has changed.
+#[inline(always)]
+pub fn perform_between<P: Processor>(
+    p: &mut P,
+    handler: Handler,
+    pc: usize,
+    word: u32,
+) -> Result<(), Halt>
+    requires handles { Handles handler word }
+    requires word { word < 65536 }
+    requires room { pc ≤ 65538 }
+    ensures row { Ends result (P.machine p.new) (finished (P.machine p.old).image (row_of (at_pc (P.machine p.old) pc) word (decode_of word))) }
+    ensures kept { IsMissed result → P.machine p.new ≡ P.machine p.old }
+    ensures trapped { IsTrapped result → P.MayTrap }
+    ensures rest { P.rest p.new ≡ P.rest p.old }
+{
+    match handler {
+        Handler::MovDD => move_to::<P, Words, Deferred, Deferred>(p, pc, word),
+        Handler::MovAA => move_to::<P, Words, Absolute, Absolute>(p, pc, word),
+        Handler::MovDM => move_to::<P, Words, Deferred, Autodecrement>(p, pc, word),
+        Handler::MovID => move_to::<P, Words, Immediate, Deferred>(p, pc, word),
+        Handler::MovXD => move_to::<P, Words, Indexed, Deferred>(p, pc, word),
+        Handler::MovDX => move_to::<P, Words, Deferred, Indexed>(p, pc, word),
+        Handler::CmpDD => compare::<P, Words, Deferred, Deferred, Comparison>(p, pc, word),
+        Handler::CmpAA => compare::<P, Words, Absolute, Absolute, Comparison>(p, pc, word),
+        Handler::CmpDI => compare::<P, Words, Deferred, Immediate, Comparison>(p, pc, word),
+        Handler::AddDD => join::<P, Words, Deferred, Deferred, Addition>(p, pc, word),
+        Handler::AddAA => join::<P, Words, Absolute, Absolute, Addition>(p, pc, word),
+        Handler::AddID => join::<P, Words, Immediate, Deferred, Addition>(p, pc, word),
+        Handler::BitIA => compare::<P, Words, Immediate, Absolute, BitTest>(p, pc, word),
+        Handler::BitIX => compare::<P, Words, Immediate, Indexed, BitTest>(p, pc, word),
+        Handler::BisIA => join::<P, Words, Immediate, Absolute, BitSet>(p, pc, word),
+        Handler::BicIA => join::<P, Words, Immediate, Absolute, BitClear>(p, pc, word),
+        Handler::MovXX => move_to::<P, Words, Indexed, Indexed>(p, pc, word),
+        Handler::MovXM => move_to::<P, Words, Indexed, Autodecrement>(p, pc, word),
+        Handler::MovAM => move_to::<P, Words, Absolute, Autodecrement>(p, pc, word),
+        _ => Err(Halt::Missed),
+    }
+}
+
+/// The row of a word by its handler, for MUL, DIV, ASH, ASHC, SXT, the condition codes, and some that change a word in memory.
+/// Where it misses, nothing has changed.
 #[inline(always)]
 pub fn perform_extended<P: Processor>(
     p: &mut P,
@@ -224,6 +265,8 @@ pub fn perform_extended<P: Processor>(
 {
     match handler {
         Handler::SxtR => extend_sign::<P, Register>(p, pc, word),
+        Handler::ClearCodes => set_codes(p, pc, false, names_in(word)),
+        Handler::SetCodes => set_codes(p, pc, true, names_in(word)),
         Handler::MulR => multiply::<P, Register>(p, pc, word),
         Handler::MulI => multiply::<P, Immediate>(p, pc, word),
         Handler::MulX => multiply::<P, Indexed>(p, pc, word),
@@ -236,6 +279,11 @@ pub fn perform_extended<P: Processor>(
         Handler::AshcR => shift_pair::<P, Register>(p, pc, word),
         Handler::AshcI => shift_pair::<P, Immediate>(p, pc, word),
         Handler::AshcX => shift_pair::<P, Indexed>(p, pc, word),
+        Handler::AdcA => modify::<P, Words, Absolute, AddingCarry>(p, pc, word, &AddingCarry),
+        Handler::AdcX => modify::<P, Words, Indexed, AddingCarry>(p, pc, word, &AddingCarry),
+        Handler::AslA => modify::<P, Words, Absolute, ShiftingLeft>(p, pc, word, &ShiftingLeft),
+        Handler::AsrA => modify::<P, Words, Absolute, ShiftingRight>(p, pc, word, &ShiftingRight),
+        Handler::NegA => modify::<P, Words, Absolute, Negating>(p, pc, word, &Negating),
         _ => Err(Halt::Missed),
     }
 }
@@ -261,13 +309,24 @@ pub fn perform_bytes<P: Processor>(
         Handler::MovbRA => move_to::<P, Bytes, Register, Absolute>(p, pc, word),
         Handler::MovbRM => move_to::<P, Bytes, Register, Autodecrement>(p, pc, word),
         Handler::MovbIX => move_to::<P, Bytes, Immediate, Indexed>(p, pc, word),
+        Handler::MovbAA => move_to::<P, Bytes, Absolute, Absolute>(p, pc, word),
+        Handler::MovbDD => move_to::<P, Bytes, Deferred, Deferred>(p, pc, word),
+        Handler::MovbIA => move_to::<P, Bytes, Immediate, Absolute>(p, pc, word),
+        Handler::MovbID => move_to::<P, Bytes, Immediate, Deferred>(p, pc, word),
         Handler::CmpbRR => compare::<P, Bytes, Register, Register, Comparison>(p, pc, word),
         Handler::CmpbDR => compare::<P, Bytes, Deferred, Register, Comparison>(p, pc, word),
         Handler::CmpbPR => compare::<P, Bytes, Autoincrement, Register, Comparison>(p, pc, word),
         Handler::CmpbXR => compare::<P, Bytes, Indexed, Register, Comparison>(p, pc, word),
         Handler::CmpbRD => compare::<P, Bytes, Register, Deferred, Comparison>(p, pc, word),
+        Handler::CmpbAR => compare::<P, Bytes, Absolute, Register, Comparison>(p, pc, word),
+        Handler::CmpbAI => compare::<P, Bytes, Absolute, Immediate, Comparison>(p, pc, word),
+        Handler::CmpbXI => compare::<P, Bytes, Indexed, Immediate, Comparison>(p, pc, word),
+        Handler::CmpbDI => compare::<P, Bytes, Deferred, Immediate, Comparison>(p, pc, word),
         Handler::BitbRR => compare::<P, Bytes, Register, Register, BitTest>(p, pc, word),
         Handler::BitbIR => compare::<P, Bytes, Immediate, Register, BitTest>(p, pc, word),
+        Handler::BitbAR => compare::<P, Bytes, Absolute, Register, BitTest>(p, pc, word),
+        Handler::BitbIX => compare::<P, Bytes, Immediate, Indexed, BitTest>(p, pc, word),
+        Handler::BitbID => compare::<P, Bytes, Immediate, Deferred, BitTest>(p, pc, word),
         Handler::BicbRR => join::<P, Bytes, Register, Register, BitClear>(p, pc, word),
         Handler::BicbIR => join::<P, Bytes, Immediate, Register, BitClear>(p, pc, word),
         Handler::BisbRR => join::<P, Bytes, Register, Register, BitSet>(p, pc, word),
@@ -276,9 +335,13 @@ pub fn perform_bytes<P: Processor>(
         Handler::BisbPR => join::<P, Bytes, Autoincrement, Register, BitSet>(p, pc, word),
         Handler::BisbRD => join::<P, Bytes, Register, Deferred, BitSet>(p, pc, word),
         Handler::BisbRP => join::<P, Bytes, Register, Autoincrement, BitSet>(p, pc, word),
+        Handler::BisbRA => join::<P, Bytes, Register, Absolute, BitSet>(p, pc, word),
         Handler::CombR => modify::<P, Bytes, Register, Complementing>(p, pc, word, &Complementing),
         Handler::IncbR => modify::<P, Bytes, Register, Increasing>(p, pc, word, &Increasing),
+        Handler::IncbA => modify::<P, Bytes, Absolute, Increasing>(p, pc, word, &Increasing),
+        Handler::IncbX => modify::<P, Bytes, Indexed, Increasing>(p, pc, word, &Increasing),
         Handler::DecbR => modify::<P, Bytes, Register, Decreasing>(p, pc, word, &Decreasing),
+        Handler::DecbA => modify::<P, Bytes, Absolute, Decreasing>(p, pc, word, &Decreasing),
         Handler::NegbR => modify::<P, Bytes, Register, Negating>(p, pc, word, &Negating),
         Handler::AdcbR => modify::<P, Bytes, Register, AddingCarry>(p, pc, word, &AddingCarry),
         Handler::SbcbR => modify::<P, Bytes, Register, SubtractingCarry>(
@@ -292,13 +355,21 @@ pub fn perform_bytes<P: Processor>(
         Handler::AsrbR => modify::<P, Bytes, Register, ShiftingRight>(p, pc, word, &ShiftingRight),
         Handler::AslbR => modify::<P, Bytes, Register, ShiftingLeft>(p, pc, word, &ShiftingLeft),
         Handler::ClrbR => clear::<P, Bytes, Register>(p, pc, word),
+        Handler::ClrbA => clear::<P, Bytes, Absolute>(p, pc, word),
+        Handler::ClrbX => clear::<P, Bytes, Indexed>(p, pc, word),
+        Handler::ClrbD => clear::<P, Bytes, Deferred>(p, pc, word),
+        Handler::ClrbP => clear::<P, Bytes, Autoincrement>(p, pc, word),
         Handler::TstbR => test::<P, Bytes, Register>(p, pc, word),
+        Handler::TstbA => test::<P, Bytes, Absolute>(p, pc, word),
+        Handler::TstbX => test::<P, Bytes, Indexed>(p, pc, word),
+        Handler::TstbD => test::<P, Bytes, Deferred>(p, pc, word),
+        Handler::TstbP => test::<P, Bytes, Autoincrement>(p, pc, word),
         _ => Err(Halt::Missed),
     }
 }
 
-/// The row of a word by its handler, for those whose source steps before the destination is located, and for the least frequent
-/// ones: where it misses, the registers are as they were by then, and no byte has changed.
+/// The row of a word by its handler, for those whose source steps before the destination is located: where it misses, the
+/// registers are as they were by then, and no byte has changed.
 #[inline(always)]
 pub fn perform_stepping<P: Processor>(
     p: &mut P,
@@ -316,41 +387,15 @@ pub fn perform_stepping<P: Processor>(
 {
     match handler {
         Handler::MovPP => move_to::<P, Words, Autoincrement, Autoincrement>(p, pc, word),
-        Handler::MovDD => move_to::<P, Words, Deferred, Deferred>(p, pc, word),
-        Handler::MovAA => move_to::<P, Words, Absolute, Absolute>(p, pc, word),
-        Handler::MovDM => move_to::<P, Words, Deferred, Autodecrement>(p, pc, word),
         Handler::MovPD => move_to::<P, Words, Autoincrement, Deferred>(p, pc, word),
         Handler::MovPM => move_to::<P, Words, Autoincrement, Autodecrement>(p, pc, word),
         Handler::MovPX => move_to::<P, Words, Autoincrement, Indexed>(p, pc, word),
-        Handler::CmpDD => compare::<P, Words, Deferred, Deferred, Comparison>(p, pc, word),
-        Handler::CmpAA => compare::<P, Words, Absolute, Absolute, Comparison>(p, pc, word),
-        Handler::AddDD => join::<P, Words, Deferred, Deferred, Addition>(p, pc, word),
-        Handler::AddAA => join::<P, Words, Absolute, Absolute, Addition>(p, pc, word),
         Handler::MovbPP => move_to::<P, Bytes, Autoincrement, Autoincrement>(p, pc, word),
-        Handler::MovbAA => move_to::<P, Bytes, Absolute, Absolute>(p, pc, word),
-        Handler::MovbDD => move_to::<P, Bytes, Deferred, Deferred>(p, pc, word),
-        Handler::MovbIA => move_to::<P, Bytes, Immediate, Absolute>(p, pc, word),
         Handler::MovbPD => move_to::<P, Bytes, Autoincrement, Deferred>(p, pc, word),
         Handler::CmpbPI => compare::<P, Bytes, Autoincrement, Immediate, Comparison>(p, pc, word),
         Handler::CmpbPP => compare::<P, Bytes, Autoincrement, Autoincrement, Comparison>(
             p, pc, word,
         ),
-        Handler::CmpbAR => compare::<P, Bytes, Absolute, Register, Comparison>(p, pc, word),
-        Handler::CmpbAI => compare::<P, Bytes, Absolute, Immediate, Comparison>(p, pc, word),
-        Handler::CmpbXI => compare::<P, Bytes, Indexed, Immediate, Comparison>(p, pc, word),
-        Handler::BitbAR => compare::<P, Bytes, Absolute, Register, BitTest>(p, pc, word),
-        Handler::IncbA => modify::<P, Bytes, Absolute, Increasing>(p, pc, word, &Increasing),
-        Handler::DecbA => modify::<P, Bytes, Absolute, Decreasing>(p, pc, word, &Decreasing),
-        Handler::ClrbA => clear::<P, Bytes, Absolute>(p, pc, word),
-        Handler::ClrbX => clear::<P, Bytes, Indexed>(p, pc, word),
-        Handler::ClrbD => clear::<P, Bytes, Deferred>(p, pc, word),
-        Handler::ClrbP => clear::<P, Bytes, Autoincrement>(p, pc, word),
-        Handler::TstbA => test::<P, Bytes, Absolute>(p, pc, word),
-        Handler::TstbX => test::<P, Bytes, Indexed>(p, pc, word),
-        Handler::TstbD => test::<P, Bytes, Deferred>(p, pc, word),
-        Handler::TstbP => test::<P, Bytes, Autoincrement>(p, pc, word),
-        Handler::ClearCodes => set_codes(p, pc, false, names_in(word)),
-        Handler::SetCodes => set_codes(p, pc, true, names_in(word)),
         _ => Err(Halt::Missed),
     }
 }

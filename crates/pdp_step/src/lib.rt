@@ -25,9 +25,11 @@ mod table;
 mod transfers;
 
 pub use halt::{Halt, Refusal};
-pub use handlers::{perform, perform_apart, perform_bytes, perform_extended, perform_stepping};
+pub use handlers::{
+    perform, perform_apart, perform_between, perform_bytes, perform_extended, perform_stepping,
+};
 pub use outcome::{Kind, Outcome};
 pub use processor::Processor;
 pub use regs::Regs;
 pub use stepping::step;
-pub use table::{attempt, perform_any};
+pub use table::perform_any;

@@ -15,6 +15,7 @@ use Rattle.image_keep.specs.Lent.{Lent, left_of}
 use Rattle.image_keep.specs.Running.{IsFixed, machine_in, with_machine_in, with_state}
 use Rattle.image_keep.proofs.Frames.{with_image_area}
 use Rattle.image_keep.proofs.Reading.{starts_after}
+use Rattle.sys_procs.specs.declared.procs.Procs.{Procs}
 use Rattle.unix_core.proofs.LoanLemmas.{lent_back}
 
 module _ (k lent now : Kept) (f : Fixed) (was is : ℕ) (a b : GName) (fixed : IsFixed k f) (begins : lent ≡ k) (slot : was ≡ f.slot)
@@ -49,3 +50,12 @@ module _ (k lent now : Kept) (f : Fixed) (was is : ℕ) (a b : GName) (fixed : I
         ∙ ap (λ x. with_area x f.slot (with_state (area_of x f.slot) regs'.r regs'.cc)) back
         ∙ ap (λ (u : UArea). with_area (with_image k f.slot image) f.slot (with_state u regs'.r regs'.cc)) (with_image_area k f.slot f.slot image)
         ∙ ap (λ (x : Stepped). with_machine_in k f.slot x.machine) instr_is
+
+-- What is kept has not changed, and the instruction is the same.
+module _ (p : Procs) (f : Fixed) (k : Kept) (same : k ≡ p.images) where
+  pub outcome_same : (instr (machine_in k f.slot)).outcome ≡ (instr (machine_in p.images f.slot)).outcome
+  outcome_same = ap (λ (x : Kept). (instr (machine_in x f.slot)).outcome) same
+
+  pub procs_same : record p { images = with_machine_in k f.slot (instr (machine_in k f.slot)).machine }
+      ≡ record p { images = with_machine_in p.images f.slot (instr (machine_in p.images f.slot)).machine }
+  procs_same = ap (λ (x : Kept). record p { images = with_machine_in x f.slot (instr (machine_in x f.slot)).machine }) same

@@ -182,7 +182,7 @@ impl Kernel {
                     // left at once: joined with the other answers it is looked at anew each time
                     return Turned::Ran;
                 }
-                self.machine.careful(&self.dispatch, trace)
+                self.machine.careful(trace)
             }
             _ => self.machine.other_slot(trace),
         }

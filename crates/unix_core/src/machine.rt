@@ -21,7 +21,6 @@ use crate::settling::{end_turn, settle, wake};
 use crate::world::World;
 use abstract_unix::{Ending, Turned};
 use image_keep::Fixed;
-use pdp_decode::Dispatch;
 use pdp_step::{Outcome, Regs, step};
 use pick_rules::{Mode, Second};
 use swap_sched::pass;
@@ -150,7 +149,7 @@ fn execute_lent(procs: &mut Procs, fixed: &Fixed) -> Outcome
 
 /// The process of which this is fixed does one instruction, whatever it comes to. A call is looked for first.
 #[inline(always)]
-fn execute(procs: &mut Procs, fixed: &Fixed, dispatch: &Dispatch) -> Outcome
+fn execute(procs: &mut Procs, fixed: &Fixed) -> Outcome
     requires { IsFixed procs.old.images fixed.now }
     ensures outcome { result ≡ (instr (machine_in procs.old.images fixed.now.slot)).outcome }
     ensures kept { procs.new ≡ record procs.old {
@@ -161,7 +160,7 @@ fn execute(procs: &mut Procs, fixed: &Fixed, dispatch: &Dispatch) -> Outcome
     if let Some(n) = procs.images.call_near(fixed) {
         return Outcome::Call(n);
     }
-    if procs.images.execute_any(fixed, dispatch) {
+    if procs.images.execute_any(fixed) {
         return Outcome::Next;
     }
     execute_lent(procs, fixed)
@@ -177,16 +176,14 @@ impl Machine {
         ensures started { phase_of self.new.stage ≡ Started }
         ensures world { self.new.world ≡ self.old.world }
     {
-        self.stage = Stage::Resting;
         match self.world.procs.table.running {
             Some(s) if s != 0 => self.enter_user(s),
-            _ => {}
+            _ => self.stage = Stage::Resting,
         }
     }
 
     /// Sees whether a process that runs executes instructions, and what then stays fixed of it.
     fn enter_user(&mut self, s: Slot)
-        requires stage { self.old.stage ≡ Stage.Resting }
         requires ready { IsReady self.old.world s }
         requires settled { settle self.old.world.procs.table ≡ None }
         ensures kernel { IsKernel self.new.stage self.new.world }
@@ -195,6 +192,8 @@ impl Machine {
     {
         if self.world.procs.images.area(s).pending == 0 {
             self.stage = Stage::Running(self.world.procs.images.fixed(s));
+        } else {
+            self.stage = Stage::Resting;
         }
     }
 
@@ -318,7 +317,7 @@ impl Machine {
     /// loop over slots, which has those that are done where the process stands in core.
     #[cold]
     #[inline(never)]
-    pub(crate) fn careful<T: Trace>(&mut self, dispatch: &Dispatch, trace: &mut T) -> Turned
+    pub(crate) fn careful<T: Trace>(&mut self, trace: &mut T) -> Turned
         requires kernel { IsKernel self.old.stage self.old.world }
         requires running { (f : Fixed) × (self.old.stage ≡ Stage.Running f) }
         ensures answer { result ≡ turned (turn_at self.old.world) }
@@ -330,7 +329,7 @@ impl Machine {
     {
         see_kept(&self.world.procs.images);
         match &self.stage {
-            Stage::Running(fixed) => match execute(&mut self.world.procs, fixed, dispatch) {
+            Stage::Running(fixed) => match execute(&mut self.world.procs, fixed) {
                 Outcome::Next => Turned::Ran,
                 outcome => {
                     let s = fixed.slot;

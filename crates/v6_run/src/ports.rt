@@ -127,17 +127,16 @@ fn keep(kept: &mut Kept, byte: u8)
     }
 }
 
-/// The line of an entry of the log, with its line feed.
-fn line_of(entry: &Entry) -> ArrayVec<u8, LINE_ROOM>
-    ensures { result.items ≡ entry_line entry.now ++ 0o012 ∷ [] }
+/// Puts the line of an entry of the log, with its line feed, into an empty line.
+fn put_line(line: &mut ArrayVec<u8, LINE_ROOM>, entry: &Entry)
+    requires { line.old.items ≡ [] }
+    ensures { line.new.items ≡ entry_line entry.now ++ 0o012 ∷ [] }
 {
     let text = log_text::line(entry);
-    let mut line = ArrayVec::new();
     let Ok(()) = line.try_extend_from_slice(text.as_slice()) else {
         unreachable!()
     };
     line.push(b'\n');
-    line
 }
 
 /// What is left of a line after so many bytes.
@@ -188,7 +187,8 @@ impl<'a, H: Host> Trace for Ports<'a, H> {
         if self.is_silent() {
             return;
         }
-        let line = line_of(&e);
+        let mut line = ArrayVec::new();
+        put_line(&mut line, &e);
         if let Err(count) = write_text(self.host, OutPort::Log, line.as_slice()) {
             keep_line(&mut self.kept, &line, count);
         }

@@ -224,7 +224,7 @@ impl Table {
             return None;
         }
         let fixed = self.images.fixed(s);
-        Some(self.images.execute_any(&fixed, &self.dispatch))
+        Some(self.images.execute_any(&fixed))
     }
 
     /// The system call that the process in a slot asks for where it stands in core, if its instruction is one.

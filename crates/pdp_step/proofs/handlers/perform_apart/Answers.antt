@@ -42,36 +42,6 @@ pub returns-in-MovIM-clause-row : goal.returns-in-MovIM-clause-row
 unfolding row_of
 returns-in-MovIM-clause-row g c = row_as c.move_to-in-MovIM.result (g.P.Processor.machine c.move_to-in-MovIM.new.p) (at_pc (g.P.Processor.machine c.args.p.now) c.args.pc) c.args.word (Mov Word (operand_of (c.args.word / 64)) (operand_of c.args.word)) (go (moved (at_pc (g.P.Processor.machine c.args.p.now) c.args.pc) Word (operand_of (c.args.word / 64)) (operand_of c.args.word))) (handled c.args.handler handler.MovIM c.args.word c.in-MovIM.is c.requires.handles).is refl c.move_to-in-MovIM.ensures.row
 
-pub move_to-requires-in-MovXM-clause-source : goal.move_to-requires-in-MovXM-clause-source
-move_to-requires-in-MovXM-clause-source g c = (handled c.args.handler handler.MovXM c.args.word c.in-MovXM.is c.requires.handles).source
-
-pub move_to-requires-in-MovXM-clause-dest : goal.move_to-requires-in-MovXM-clause-dest
-move_to-requires-in-MovXM-clause-dest g c = (handled c.args.handler handler.MovXM c.args.word c.in-MovXM.is c.requires.handles).dest
-
-pub returns-in-MovXM-clause-row : goal.returns-in-MovXM-clause-row
-unfolding row_of
-returns-in-MovXM-clause-row g c = row_as c.move_to-in-MovXM.result (g.P.Processor.machine c.move_to-in-MovXM.new.p) (at_pc (g.P.Processor.machine c.args.p.now) c.args.pc) c.args.word (Mov Word (operand_of (c.args.word / 64)) (operand_of c.args.word)) (go (moved (at_pc (g.P.Processor.machine c.args.p.now) c.args.pc) Word (operand_of (c.args.word / 64)) (operand_of c.args.word))) (handled c.args.handler handler.MovXM c.args.word c.in-MovXM.is c.requires.handles).is refl c.move_to-in-MovXM.ensures.row
-
-pub move_to-requires-in-MovXX-clause-source : goal.move_to-requires-in-MovXX-clause-source
-move_to-requires-in-MovXX-clause-source g c = (handled c.args.handler handler.MovXX c.args.word c.in-MovXX.is c.requires.handles).source
-
-pub move_to-requires-in-MovXX-clause-dest : goal.move_to-requires-in-MovXX-clause-dest
-move_to-requires-in-MovXX-clause-dest g c = (handled c.args.handler handler.MovXX c.args.word c.in-MovXX.is c.requires.handles).dest
-
-pub returns-in-MovXX-clause-row : goal.returns-in-MovXX-clause-row
-unfolding row_of
-returns-in-MovXX-clause-row g c = row_as c.move_to-in-MovXX.result (g.P.Processor.machine c.move_to-in-MovXX.new.p) (at_pc (g.P.Processor.machine c.args.p.now) c.args.pc) c.args.word (Mov Word (operand_of (c.args.word / 64)) (operand_of c.args.word)) (go (moved (at_pc (g.P.Processor.machine c.args.p.now) c.args.pc) Word (operand_of (c.args.word / 64)) (operand_of c.args.word))) (handled c.args.handler handler.MovXX c.args.word c.in-MovXX.is c.requires.handles).is refl c.move_to-in-MovXX.ensures.row
-
-pub move_to-requires-in-MovAM-clause-source : goal.move_to-requires-in-MovAM-clause-source
-move_to-requires-in-MovAM-clause-source g c = (handled c.args.handler handler.MovAM c.args.word c.in-MovAM.is c.requires.handles).source
-
-pub move_to-requires-in-MovAM-clause-dest : goal.move_to-requires-in-MovAM-clause-dest
-move_to-requires-in-MovAM-clause-dest g c = (handled c.args.handler handler.MovAM c.args.word c.in-MovAM.is c.requires.handles).dest
-
-pub returns-in-MovAM-clause-row : goal.returns-in-MovAM-clause-row
-unfolding row_of
-returns-in-MovAM-clause-row g c = row_as c.move_to-in-MovAM.result (g.P.Processor.machine c.move_to-in-MovAM.new.p) (at_pc (g.P.Processor.machine c.args.p.now) c.args.pc) c.args.word (Mov Word (operand_of (c.args.word / 64)) (operand_of c.args.word)) (go (moved (at_pc (g.P.Processor.machine c.args.p.now) c.args.pc) Word (operand_of (c.args.word / 64)) (operand_of c.args.word))) (handled c.args.handler handler.MovAM c.args.word c.in-MovAM.is c.requires.handles).is refl c.move_to-in-MovAM.ensures.row
-
 pub compare-requires-clause-source : goal.compare-requires-clause-source
 compare-requires-clause-source g c = (handled c.args.handler handler.CmpDR c.args.word c.in-CmpDR.is c.requires.handles).source
 

@@ -52,6 +52,46 @@ pub returns-in-MovbIX-clause-row : goal.returns-in-MovbIX-clause-row
 unfolding row_of
 returns-in-MovbIX-clause-row g c = row_as c.move_to-in-MovbIX.result (g.P.Processor.machine c.move_to-in-MovbIX.new.p) (at_pc (g.P.Processor.machine c.args.p.now) c.args.pc) c.args.word (Mov Byte (operand_of (c.args.word / 64)) (operand_of c.args.word)) (go (moved (at_pc (g.P.Processor.machine c.args.p.now) c.args.pc) Byte (operand_of (c.args.word / 64)) (operand_of c.args.word))) (handled c.args.handler handler.MovbIX c.args.word c.in-MovbIX.is c.requires.handles).is refl c.move_to-in-MovbIX.ensures.row
 
+pub move_to-requires-in-MovbAA-clause-source : goal.move_to-requires-in-MovbAA-clause-source
+move_to-requires-in-MovbAA-clause-source g c = (handled c.args.handler handler.MovbAA c.args.word c.in-MovbAA.is c.requires.handles).source
+
+pub move_to-requires-in-MovbAA-clause-dest : goal.move_to-requires-in-MovbAA-clause-dest
+move_to-requires-in-MovbAA-clause-dest g c = (handled c.args.handler handler.MovbAA c.args.word c.in-MovbAA.is c.requires.handles).dest
+
+pub returns-in-MovbAA-clause-row : goal.returns-in-MovbAA-clause-row
+unfolding row_of
+returns-in-MovbAA-clause-row g c = row_as c.move_to-in-MovbAA.result (g.P.Processor.machine c.move_to-in-MovbAA.new.p) (at_pc (g.P.Processor.machine c.args.p.now) c.args.pc) c.args.word (Mov Byte (operand_of (c.args.word / 64)) (operand_of c.args.word)) (go (moved (at_pc (g.P.Processor.machine c.args.p.now) c.args.pc) Byte (operand_of (c.args.word / 64)) (operand_of c.args.word))) (handled c.args.handler handler.MovbAA c.args.word c.in-MovbAA.is c.requires.handles).is refl c.move_to-in-MovbAA.ensures.row
+
+pub move_to-requires-in-MovbDD-clause-source : goal.move_to-requires-in-MovbDD-clause-source
+move_to-requires-in-MovbDD-clause-source g c = (handled c.args.handler handler.MovbDD c.args.word c.in-MovbDD.is c.requires.handles).source
+
+pub move_to-requires-in-MovbDD-clause-dest : goal.move_to-requires-in-MovbDD-clause-dest
+move_to-requires-in-MovbDD-clause-dest g c = (handled c.args.handler handler.MovbDD c.args.word c.in-MovbDD.is c.requires.handles).dest
+
+pub returns-in-MovbDD-clause-row : goal.returns-in-MovbDD-clause-row
+unfolding row_of
+returns-in-MovbDD-clause-row g c = row_as c.move_to-in-MovbDD.result (g.P.Processor.machine c.move_to-in-MovbDD.new.p) (at_pc (g.P.Processor.machine c.args.p.now) c.args.pc) c.args.word (Mov Byte (operand_of (c.args.word / 64)) (operand_of c.args.word)) (go (moved (at_pc (g.P.Processor.machine c.args.p.now) c.args.pc) Byte (operand_of (c.args.word / 64)) (operand_of c.args.word))) (handled c.args.handler handler.MovbDD c.args.word c.in-MovbDD.is c.requires.handles).is refl c.move_to-in-MovbDD.ensures.row
+
+pub move_to-requires-in-MovbIA-clause-source : goal.move_to-requires-in-MovbIA-clause-source
+move_to-requires-in-MovbIA-clause-source g c = (handled c.args.handler handler.MovbIA c.args.word c.in-MovbIA.is c.requires.handles).source
+
+pub move_to-requires-in-MovbIA-clause-dest : goal.move_to-requires-in-MovbIA-clause-dest
+move_to-requires-in-MovbIA-clause-dest g c = (handled c.args.handler handler.MovbIA c.args.word c.in-MovbIA.is c.requires.handles).dest
+
+pub returns-in-MovbIA-clause-row : goal.returns-in-MovbIA-clause-row
+unfolding row_of
+returns-in-MovbIA-clause-row g c = row_as c.move_to-in-MovbIA.result (g.P.Processor.machine c.move_to-in-MovbIA.new.p) (at_pc (g.P.Processor.machine c.args.p.now) c.args.pc) c.args.word (Mov Byte (operand_of (c.args.word / 64)) (operand_of c.args.word)) (go (moved (at_pc (g.P.Processor.machine c.args.p.now) c.args.pc) Byte (operand_of (c.args.word / 64)) (operand_of c.args.word))) (handled c.args.handler handler.MovbIA c.args.word c.in-MovbIA.is c.requires.handles).is refl c.move_to-in-MovbIA.ensures.row
+
+pub move_to-requires-in-MovbID-clause-source : goal.move_to-requires-in-MovbID-clause-source
+move_to-requires-in-MovbID-clause-source g c = (handled c.args.handler handler.MovbID c.args.word c.in-MovbID.is c.requires.handles).source
+
+pub move_to-requires-in-MovbID-clause-dest : goal.move_to-requires-in-MovbID-clause-dest
+move_to-requires-in-MovbID-clause-dest g c = (handled c.args.handler handler.MovbID c.args.word c.in-MovbID.is c.requires.handles).dest
+
+pub returns-in-MovbID-clause-row : goal.returns-in-MovbID-clause-row
+unfolding row_of
+returns-in-MovbID-clause-row g c = row_as c.move_to-in-MovbID.result (g.P.Processor.machine c.move_to-in-MovbID.new.p) (at_pc (g.P.Processor.machine c.args.p.now) c.args.pc) c.args.word (Mov Byte (operand_of (c.args.word / 64)) (operand_of c.args.word)) (go (moved (at_pc (g.P.Processor.machine c.args.p.now) c.args.pc) Byte (operand_of (c.args.word / 64)) (operand_of c.args.word))) (handled c.args.handler handler.MovbID c.args.word c.in-MovbID.is c.requires.handles).is refl c.move_to-in-MovbID.ensures.row
+
 pub compare-requires-clause-source : goal.compare-requires-clause-source
 compare-requires-clause-source g c = (handled c.args.handler handler.CmpbRR c.args.word c.in-CmpbRR.is c.requires.handles).source
 
@@ -102,6 +142,46 @@ pub returns-in-CmpbRD-clause-row : goal.returns-in-CmpbRD-clause-row
 unfolding row_of
 returns-in-CmpbRD-clause-row g c = row_as c.compare-in-CmpbRD.result (g.P.Processor.machine c.compare-in-CmpbRD.new.p) (at_pc (g.P.Processor.machine c.args.p.now) c.args.pc) c.args.word (Cmp Byte (operand_of (c.args.word / 64)) (operand_of c.args.word)) (go (compared (at_pc (g.P.Processor.machine c.args.p.now) c.args.pc) Byte (operand_of (c.args.word / 64)) (operand_of c.args.word) (combine_of Compare Byte (carry_in (g.P.Processor.machine c.args.p.now))))) (handled c.args.handler handler.CmpbRD c.args.word c.in-CmpbRD.is c.requires.handles).is refl c.compare-in-CmpbRD.ensures.row
 
+pub compare-requires-in-CmpbAR-clause-source : goal.compare-requires-in-CmpbAR-clause-source
+compare-requires-in-CmpbAR-clause-source g c = (handled c.args.handler handler.CmpbAR c.args.word c.in-CmpbAR.is c.requires.handles).source
+
+pub compare-requires-in-CmpbAR-clause-dest : goal.compare-requires-in-CmpbAR-clause-dest
+compare-requires-in-CmpbAR-clause-dest g c = (handled c.args.handler handler.CmpbAR c.args.word c.in-CmpbAR.is c.requires.handles).dest
+
+pub returns-in-CmpbAR-clause-row : goal.returns-in-CmpbAR-clause-row
+unfolding row_of
+returns-in-CmpbAR-clause-row g c = row_as c.compare-in-CmpbAR.result (g.P.Processor.machine c.compare-in-CmpbAR.new.p) (at_pc (g.P.Processor.machine c.args.p.now) c.args.pc) c.args.word (Cmp Byte (operand_of (c.args.word / 64)) (operand_of c.args.word)) (go (compared (at_pc (g.P.Processor.machine c.args.p.now) c.args.pc) Byte (operand_of (c.args.word / 64)) (operand_of c.args.word) (combine_of Compare Byte (carry_in (g.P.Processor.machine c.args.p.now))))) (handled c.args.handler handler.CmpbAR c.args.word c.in-CmpbAR.is c.requires.handles).is refl c.compare-in-CmpbAR.ensures.row
+
+pub compare-requires-in-CmpbAI-clause-source : goal.compare-requires-in-CmpbAI-clause-source
+compare-requires-in-CmpbAI-clause-source g c = (handled c.args.handler handler.CmpbAI c.args.word c.in-CmpbAI.is c.requires.handles).source
+
+pub compare-requires-in-CmpbAI-clause-dest : goal.compare-requires-in-CmpbAI-clause-dest
+compare-requires-in-CmpbAI-clause-dest g c = (handled c.args.handler handler.CmpbAI c.args.word c.in-CmpbAI.is c.requires.handles).dest
+
+pub returns-in-CmpbAI-clause-row : goal.returns-in-CmpbAI-clause-row
+unfolding row_of
+returns-in-CmpbAI-clause-row g c = row_as c.compare-in-CmpbAI.result (g.P.Processor.machine c.compare-in-CmpbAI.new.p) (at_pc (g.P.Processor.machine c.args.p.now) c.args.pc) c.args.word (Cmp Byte (operand_of (c.args.word / 64)) (operand_of c.args.word)) (go (compared (at_pc (g.P.Processor.machine c.args.p.now) c.args.pc) Byte (operand_of (c.args.word / 64)) (operand_of c.args.word) (combine_of Compare Byte (carry_in (g.P.Processor.machine c.args.p.now))))) (handled c.args.handler handler.CmpbAI c.args.word c.in-CmpbAI.is c.requires.handles).is refl c.compare-in-CmpbAI.ensures.row
+
+pub compare-requires-in-CmpbXI-clause-source : goal.compare-requires-in-CmpbXI-clause-source
+compare-requires-in-CmpbXI-clause-source g c = (handled c.args.handler handler.CmpbXI c.args.word c.in-CmpbXI.is c.requires.handles).source
+
+pub compare-requires-in-CmpbXI-clause-dest : goal.compare-requires-in-CmpbXI-clause-dest
+compare-requires-in-CmpbXI-clause-dest g c = (handled c.args.handler handler.CmpbXI c.args.word c.in-CmpbXI.is c.requires.handles).dest
+
+pub returns-in-CmpbXI-clause-row : goal.returns-in-CmpbXI-clause-row
+unfolding row_of
+returns-in-CmpbXI-clause-row g c = row_as c.compare-in-CmpbXI.result (g.P.Processor.machine c.compare-in-CmpbXI.new.p) (at_pc (g.P.Processor.machine c.args.p.now) c.args.pc) c.args.word (Cmp Byte (operand_of (c.args.word / 64)) (operand_of c.args.word)) (go (compared (at_pc (g.P.Processor.machine c.args.p.now) c.args.pc) Byte (operand_of (c.args.word / 64)) (operand_of c.args.word) (combine_of Compare Byte (carry_in (g.P.Processor.machine c.args.p.now))))) (handled c.args.handler handler.CmpbXI c.args.word c.in-CmpbXI.is c.requires.handles).is refl c.compare-in-CmpbXI.ensures.row
+
+pub compare-requires-in-CmpbDI-clause-source : goal.compare-requires-in-CmpbDI-clause-source
+compare-requires-in-CmpbDI-clause-source g c = (handled c.args.handler handler.CmpbDI c.args.word c.in-CmpbDI.is c.requires.handles).source
+
+pub compare-requires-in-CmpbDI-clause-dest : goal.compare-requires-in-CmpbDI-clause-dest
+compare-requires-in-CmpbDI-clause-dest g c = (handled c.args.handler handler.CmpbDI c.args.word c.in-CmpbDI.is c.requires.handles).dest
+
+pub returns-in-CmpbDI-clause-row : goal.returns-in-CmpbDI-clause-row
+unfolding row_of
+returns-in-CmpbDI-clause-row g c = row_as c.compare-in-CmpbDI.result (g.P.Processor.machine c.compare-in-CmpbDI.new.p) (at_pc (g.P.Processor.machine c.args.p.now) c.args.pc) c.args.word (Cmp Byte (operand_of (c.args.word / 64)) (operand_of c.args.word)) (go (compared (at_pc (g.P.Processor.machine c.args.p.now) c.args.pc) Byte (operand_of (c.args.word / 64)) (operand_of c.args.word) (combine_of Compare Byte (carry_in (g.P.Processor.machine c.args.p.now))))) (handled c.args.handler handler.CmpbDI c.args.word c.in-CmpbDI.is c.requires.handles).is refl c.compare-in-CmpbDI.ensures.row
+
 pub compare-requires-in-BitbRR-clause-source : goal.compare-requires-in-BitbRR-clause-source
 compare-requires-in-BitbRR-clause-source g c = (handled c.args.handler handler.BitbRR c.args.word c.in-BitbRR.is c.requires.handles).source
 
@@ -121,6 +201,36 @@ compare-requires-in-BitbIR-clause-dest g c = (handled c.args.handler handler.Bit
 pub returns-in-BitbIR-clause-row : goal.returns-in-BitbIR-clause-row
 unfolding row_of
 returns-in-BitbIR-clause-row g c = row_as c.compare-in-BitbIR.result (g.P.Processor.machine c.compare-in-BitbIR.new.p) (at_pc (g.P.Processor.machine c.args.p.now) c.args.pc) c.args.word (Bit Byte (operand_of (c.args.word / 64)) (operand_of c.args.word)) (go (compared (at_pc (g.P.Processor.machine c.args.p.now) c.args.pc) Byte (operand_of (c.args.word / 64)) (operand_of c.args.word) (combine_of TestBits Byte (carry_in (g.P.Processor.machine c.args.p.now))))) (handled c.args.handler handler.BitbIR c.args.word c.in-BitbIR.is c.requires.handles).is refl c.compare-in-BitbIR.ensures.row
+
+pub compare-requires-in-BitbAR-clause-source : goal.compare-requires-in-BitbAR-clause-source
+compare-requires-in-BitbAR-clause-source g c = (handled c.args.handler handler.BitbAR c.args.word c.in-BitbAR.is c.requires.handles).source
+
+pub compare-requires-in-BitbAR-clause-dest : goal.compare-requires-in-BitbAR-clause-dest
+compare-requires-in-BitbAR-clause-dest g c = (handled c.args.handler handler.BitbAR c.args.word c.in-BitbAR.is c.requires.handles).dest
+
+pub returns-in-BitbAR-clause-row : goal.returns-in-BitbAR-clause-row
+unfolding row_of
+returns-in-BitbAR-clause-row g c = row_as c.compare-in-BitbAR.result (g.P.Processor.machine c.compare-in-BitbAR.new.p) (at_pc (g.P.Processor.machine c.args.p.now) c.args.pc) c.args.word (Bit Byte (operand_of (c.args.word / 64)) (operand_of c.args.word)) (go (compared (at_pc (g.P.Processor.machine c.args.p.now) c.args.pc) Byte (operand_of (c.args.word / 64)) (operand_of c.args.word) (combine_of TestBits Byte (carry_in (g.P.Processor.machine c.args.p.now))))) (handled c.args.handler handler.BitbAR c.args.word c.in-BitbAR.is c.requires.handles).is refl c.compare-in-BitbAR.ensures.row
+
+pub compare-requires-in-BitbIX-clause-source : goal.compare-requires-in-BitbIX-clause-source
+compare-requires-in-BitbIX-clause-source g c = (handled c.args.handler handler.BitbIX c.args.word c.in-BitbIX.is c.requires.handles).source
+
+pub compare-requires-in-BitbIX-clause-dest : goal.compare-requires-in-BitbIX-clause-dest
+compare-requires-in-BitbIX-clause-dest g c = (handled c.args.handler handler.BitbIX c.args.word c.in-BitbIX.is c.requires.handles).dest
+
+pub returns-in-BitbIX-clause-row : goal.returns-in-BitbIX-clause-row
+unfolding row_of
+returns-in-BitbIX-clause-row g c = row_as c.compare-in-BitbIX.result (g.P.Processor.machine c.compare-in-BitbIX.new.p) (at_pc (g.P.Processor.machine c.args.p.now) c.args.pc) c.args.word (Bit Byte (operand_of (c.args.word / 64)) (operand_of c.args.word)) (go (compared (at_pc (g.P.Processor.machine c.args.p.now) c.args.pc) Byte (operand_of (c.args.word / 64)) (operand_of c.args.word) (combine_of TestBits Byte (carry_in (g.P.Processor.machine c.args.p.now))))) (handled c.args.handler handler.BitbIX c.args.word c.in-BitbIX.is c.requires.handles).is refl c.compare-in-BitbIX.ensures.row
+
+pub compare-requires-in-BitbID-clause-source : goal.compare-requires-in-BitbID-clause-source
+compare-requires-in-BitbID-clause-source g c = (handled c.args.handler handler.BitbID c.args.word c.in-BitbID.is c.requires.handles).source
+
+pub compare-requires-in-BitbID-clause-dest : goal.compare-requires-in-BitbID-clause-dest
+compare-requires-in-BitbID-clause-dest g c = (handled c.args.handler handler.BitbID c.args.word c.in-BitbID.is c.requires.handles).dest
+
+pub returns-in-BitbID-clause-row : goal.returns-in-BitbID-clause-row
+unfolding row_of
+returns-in-BitbID-clause-row g c = row_as c.compare-in-BitbID.result (g.P.Processor.machine c.compare-in-BitbID.new.p) (at_pc (g.P.Processor.machine c.args.p.now) c.args.pc) c.args.word (Bit Byte (operand_of (c.args.word / 64)) (operand_of c.args.word)) (go (compared (at_pc (g.P.Processor.machine c.args.p.now) c.args.pc) Byte (operand_of (c.args.word / 64)) (operand_of c.args.word) (combine_of TestBits Byte (carry_in (g.P.Processor.machine c.args.p.now))))) (handled c.args.handler handler.BitbID c.args.word c.in-BitbID.is c.requires.handles).is refl c.compare-in-BitbID.ensures.row
 
 pub join-requires-clause-source : goal.join-requires-clause-source
 join-requires-clause-source g c = (handled c.args.handler handler.BicbRR c.args.word c.in-BicbRR.is c.requires.handles).source
@@ -202,6 +312,16 @@ pub returns-in-BisbRP-clause-row : goal.returns-in-BisbRP-clause-row
 unfolding row_of
 returns-in-BisbRP-clause-row g c = row_as c.join-in-BisbRP.result (g.P.Processor.machine c.join-in-BisbRP.new.p) (at_pc (g.P.Processor.machine c.args.p.now) c.args.pc) c.args.word (Bis Byte (operand_of (c.args.word / 64)) (operand_of c.args.word)) (go (joined (at_pc (g.P.Processor.machine c.args.p.now) c.args.pc) Byte (operand_of (c.args.word / 64)) (operand_of c.args.word) (combine_of SetBits Byte (carry_in (g.P.Processor.machine c.args.p.now))))) (handled c.args.handler handler.BisbRP c.args.word c.in-BisbRP.is c.requires.handles).is refl c.join-in-BisbRP.ensures.row
 
+pub join-requires-in-BisbRA-clause-source : goal.join-requires-in-BisbRA-clause-source
+join-requires-in-BisbRA-clause-source g c = (handled c.args.handler handler.BisbRA c.args.word c.in-BisbRA.is c.requires.handles).source
+
+pub join-requires-in-BisbRA-clause-dest : goal.join-requires-in-BisbRA-clause-dest
+join-requires-in-BisbRA-clause-dest g c = (handled c.args.handler handler.BisbRA c.args.word c.in-BisbRA.is c.requires.handles).dest
+
+pub returns-in-BisbRA-clause-row : goal.returns-in-BisbRA-clause-row
+unfolding row_of
+returns-in-BisbRA-clause-row g c = row_as c.join-in-BisbRA.result (g.P.Processor.machine c.join-in-BisbRA.new.p) (at_pc (g.P.Processor.machine c.args.p.now) c.args.pc) c.args.word (Bis Byte (operand_of (c.args.word / 64)) (operand_of c.args.word)) (go (joined (at_pc (g.P.Processor.machine c.args.p.now) c.args.pc) Byte (operand_of (c.args.word / 64)) (operand_of c.args.word) (combine_of SetBits Byte (carry_in (g.P.Processor.machine c.args.p.now))))) (handled c.args.handler handler.BisbRA c.args.word c.in-BisbRA.is c.requires.handles).is refl c.join-in-BisbRA.ensures.row
+
 pub modify-requires-clause-dest : goal.modify-requires-clause-dest
 modify-requires-clause-dest g c = (handled c.args.handler handler.CombR c.args.word c.in-CombR.is c.requires.handles).dest
 
@@ -216,12 +336,33 @@ pub returns-in-IncbR-clause-row : goal.returns-in-IncbR-clause-row
 unfolding row_of
 returns-in-IncbR-clause-row g c = row_as c.modify-in-IncbR.result (g.P.Processor.machine c.modify-in-IncbR.new.p) (at_pc (g.P.Processor.machine c.args.p.now) c.args.pc) c.args.word (Inc Byte (operand_of c.args.word)) (go (modified (at_pc (g.P.Processor.machine c.args.p.now) c.args.pc) Byte (operand_of c.args.word) (change_of Increase Byte (carry_in (g.P.Processor.machine c.args.p.now))))) (handled c.args.handler handler.IncbR c.args.word c.in-IncbR.is c.requires.handles).is refl c.modify-in-IncbR.ensures.row
 
+pub modify-requires-in-IncbA-clause-dest : goal.modify-requires-in-IncbA-clause-dest
+modify-requires-in-IncbA-clause-dest g c = (handled c.args.handler handler.IncbA c.args.word c.in-IncbA.is c.requires.handles).dest
+
+pub returns-in-IncbA-clause-row : goal.returns-in-IncbA-clause-row
+unfolding row_of
+returns-in-IncbA-clause-row g c = row_as c.modify-in-IncbA.result (g.P.Processor.machine c.modify-in-IncbA.new.p) (at_pc (g.P.Processor.machine c.args.p.now) c.args.pc) c.args.word (Inc Byte (operand_of c.args.word)) (go (modified (at_pc (g.P.Processor.machine c.args.p.now) c.args.pc) Byte (operand_of c.args.word) (change_of Increase Byte (carry_in (g.P.Processor.machine c.args.p.now))))) (handled c.args.handler handler.IncbA c.args.word c.in-IncbA.is c.requires.handles).is refl c.modify-in-IncbA.ensures.row
+
+pub modify-requires-in-IncbX-clause-dest : goal.modify-requires-in-IncbX-clause-dest
+modify-requires-in-IncbX-clause-dest g c = (handled c.args.handler handler.IncbX c.args.word c.in-IncbX.is c.requires.handles).dest
+
+pub returns-in-IncbX-clause-row : goal.returns-in-IncbX-clause-row
+unfolding row_of
+returns-in-IncbX-clause-row g c = row_as c.modify-in-IncbX.result (g.P.Processor.machine c.modify-in-IncbX.new.p) (at_pc (g.P.Processor.machine c.args.p.now) c.args.pc) c.args.word (Inc Byte (operand_of c.args.word)) (go (modified (at_pc (g.P.Processor.machine c.args.p.now) c.args.pc) Byte (operand_of c.args.word) (change_of Increase Byte (carry_in (g.P.Processor.machine c.args.p.now))))) (handled c.args.handler handler.IncbX c.args.word c.in-IncbX.is c.requires.handles).is refl c.modify-in-IncbX.ensures.row
+
 pub modify-requires-in-DecbR-clause-dest : goal.modify-requires-in-DecbR-clause-dest
 modify-requires-in-DecbR-clause-dest g c = (handled c.args.handler handler.DecbR c.args.word c.in-DecbR.is c.requires.handles).dest
 
 pub returns-in-DecbR-clause-row : goal.returns-in-DecbR-clause-row
 unfolding row_of
 returns-in-DecbR-clause-row g c = row_as c.modify-in-DecbR.result (g.P.Processor.machine c.modify-in-DecbR.new.p) (at_pc (g.P.Processor.machine c.args.p.now) c.args.pc) c.args.word (Dec Byte (operand_of c.args.word)) (go (modified (at_pc (g.P.Processor.machine c.args.p.now) c.args.pc) Byte (operand_of c.args.word) (change_of Decrease Byte (carry_in (g.P.Processor.machine c.args.p.now))))) (handled c.args.handler handler.DecbR c.args.word c.in-DecbR.is c.requires.handles).is refl c.modify-in-DecbR.ensures.row
+
+pub modify-requires-in-DecbA-clause-dest : goal.modify-requires-in-DecbA-clause-dest
+modify-requires-in-DecbA-clause-dest g c = (handled c.args.handler handler.DecbA c.args.word c.in-DecbA.is c.requires.handles).dest
+
+pub returns-in-DecbA-clause-row : goal.returns-in-DecbA-clause-row
+unfolding row_of
+returns-in-DecbA-clause-row g c = row_as c.modify-in-DecbA.result (g.P.Processor.machine c.modify-in-DecbA.new.p) (at_pc (g.P.Processor.machine c.args.p.now) c.args.pc) c.args.word (Dec Byte (operand_of c.args.word)) (go (modified (at_pc (g.P.Processor.machine c.args.p.now) c.args.pc) Byte (operand_of c.args.word) (change_of Decrease Byte (carry_in (g.P.Processor.machine c.args.p.now))))) (handled c.args.handler handler.DecbA c.args.word c.in-DecbA.is c.requires.handles).is refl c.modify-in-DecbA.ensures.row
 
 pub modify-requires-in-NegbR-clause-dest : goal.modify-requires-in-NegbR-clause-dest
 modify-requires-in-NegbR-clause-dest g c = (handled c.args.handler handler.NegbR c.args.word c.in-NegbR.is c.requires.handles).dest
@@ -279,9 +420,65 @@ pub returns-in-ClrbR-clause-row : goal.returns-in-ClrbR-clause-row
 unfolding row_of
 returns-in-ClrbR-clause-row g c = row_as c.clear.result (g.P.Processor.machine c.clear.new.p) (at_pc (g.P.Processor.machine c.args.p.now) c.args.pc) c.args.word (Clr Byte (operand_of c.args.word)) (go (replaced (at_pc (g.P.Processor.machine c.args.p.now) c.args.pc) Byte (operand_of c.args.word) (result_of Byte 0 false false))) (handled c.args.handler handler.ClrbR c.args.word c.in-ClrbR.is c.requires.handles).is refl c.clear.ensures.row
 
+pub clear-requires-in-ClrbA-clause-dest : goal.clear-requires-in-ClrbA-clause-dest
+clear-requires-in-ClrbA-clause-dest g c = (handled c.args.handler handler.ClrbA c.args.word c.in-ClrbA.is c.requires.handles).dest
+
+pub returns-in-ClrbA-clause-row : goal.returns-in-ClrbA-clause-row
+unfolding row_of
+returns-in-ClrbA-clause-row g c = row_as c.clear-in-ClrbA.result (g.P.Processor.machine c.clear-in-ClrbA.new.p) (at_pc (g.P.Processor.machine c.args.p.now) c.args.pc) c.args.word (Clr Byte (operand_of c.args.word)) (go (replaced (at_pc (g.P.Processor.machine c.args.p.now) c.args.pc) Byte (operand_of c.args.word) (result_of Byte 0 false false))) (handled c.args.handler handler.ClrbA c.args.word c.in-ClrbA.is c.requires.handles).is refl c.clear-in-ClrbA.ensures.row
+
+pub clear-requires-in-ClrbX-clause-dest : goal.clear-requires-in-ClrbX-clause-dest
+clear-requires-in-ClrbX-clause-dest g c = (handled c.args.handler handler.ClrbX c.args.word c.in-ClrbX.is c.requires.handles).dest
+
+pub returns-in-ClrbX-clause-row : goal.returns-in-ClrbX-clause-row
+unfolding row_of
+returns-in-ClrbX-clause-row g c = row_as c.clear-in-ClrbX.result (g.P.Processor.machine c.clear-in-ClrbX.new.p) (at_pc (g.P.Processor.machine c.args.p.now) c.args.pc) c.args.word (Clr Byte (operand_of c.args.word)) (go (replaced (at_pc (g.P.Processor.machine c.args.p.now) c.args.pc) Byte (operand_of c.args.word) (result_of Byte 0 false false))) (handled c.args.handler handler.ClrbX c.args.word c.in-ClrbX.is c.requires.handles).is refl c.clear-in-ClrbX.ensures.row
+
+pub clear-requires-in-ClrbD-clause-dest : goal.clear-requires-in-ClrbD-clause-dest
+clear-requires-in-ClrbD-clause-dest g c = (handled c.args.handler handler.ClrbD c.args.word c.in-ClrbD.is c.requires.handles).dest
+
+pub returns-in-ClrbD-clause-row : goal.returns-in-ClrbD-clause-row
+unfolding row_of
+returns-in-ClrbD-clause-row g c = row_as c.clear-in-ClrbD.result (g.P.Processor.machine c.clear-in-ClrbD.new.p) (at_pc (g.P.Processor.machine c.args.p.now) c.args.pc) c.args.word (Clr Byte (operand_of c.args.word)) (go (replaced (at_pc (g.P.Processor.machine c.args.p.now) c.args.pc) Byte (operand_of c.args.word) (result_of Byte 0 false false))) (handled c.args.handler handler.ClrbD c.args.word c.in-ClrbD.is c.requires.handles).is refl c.clear-in-ClrbD.ensures.row
+
+pub clear-requires-in-ClrbP-clause-dest : goal.clear-requires-in-ClrbP-clause-dest
+clear-requires-in-ClrbP-clause-dest g c = (handled c.args.handler handler.ClrbP c.args.word c.in-ClrbP.is c.requires.handles).dest
+
+pub returns-in-ClrbP-clause-row : goal.returns-in-ClrbP-clause-row
+unfolding row_of
+returns-in-ClrbP-clause-row g c = row_as c.clear-in-ClrbP.result (g.P.Processor.machine c.clear-in-ClrbP.new.p) (at_pc (g.P.Processor.machine c.args.p.now) c.args.pc) c.args.word (Clr Byte (operand_of c.args.word)) (go (replaced (at_pc (g.P.Processor.machine c.args.p.now) c.args.pc) Byte (operand_of c.args.word) (result_of Byte 0 false false))) (handled c.args.handler handler.ClrbP c.args.word c.in-ClrbP.is c.requires.handles).is refl c.clear-in-ClrbP.ensures.row
+
 pub test-requires-clause-dest : goal.test-requires-clause-dest
 test-requires-clause-dest g c = (handled c.args.handler handler.TstbR c.args.word c.in-TstbR.is c.requires.handles).dest
 
 pub returns-in-TstbR-clause-row : goal.returns-in-TstbR-clause-row
 unfolding row_of
 returns-in-TstbR-clause-row g c = row_as c.test.result (g.P.Processor.machine c.test.new.p) (at_pc (g.P.Processor.machine c.args.p.now) c.args.pc) c.args.word (Tst Byte (operand_of c.args.word)) (go (tested (at_pc (g.P.Processor.machine c.args.p.now) c.args.pc) Byte (operand_of c.args.word) (λ x. result_of Byte x false false))) (handled c.args.handler handler.TstbR c.args.word c.in-TstbR.is c.requires.handles).is refl c.test.ensures.row
+
+pub test-requires-in-TstbA-clause-dest : goal.test-requires-in-TstbA-clause-dest
+test-requires-in-TstbA-clause-dest g c = (handled c.args.handler handler.TstbA c.args.word c.in-TstbA.is c.requires.handles).dest
+
+pub returns-in-TstbA-clause-row : goal.returns-in-TstbA-clause-row
+unfolding row_of
+returns-in-TstbA-clause-row g c = row_as c.test-in-TstbA.result (g.P.Processor.machine c.test-in-TstbA.new.p) (at_pc (g.P.Processor.machine c.args.p.now) c.args.pc) c.args.word (Tst Byte (operand_of c.args.word)) (go (tested (at_pc (g.P.Processor.machine c.args.p.now) c.args.pc) Byte (operand_of c.args.word) (λ x. result_of Byte x false false))) (handled c.args.handler handler.TstbA c.args.word c.in-TstbA.is c.requires.handles).is refl c.test-in-TstbA.ensures.row
+
+pub test-requires-in-TstbX-clause-dest : goal.test-requires-in-TstbX-clause-dest
+test-requires-in-TstbX-clause-dest g c = (handled c.args.handler handler.TstbX c.args.word c.in-TstbX.is c.requires.handles).dest
+
+pub returns-in-TstbX-clause-row : goal.returns-in-TstbX-clause-row
+unfolding row_of
+returns-in-TstbX-clause-row g c = row_as c.test-in-TstbX.result (g.P.Processor.machine c.test-in-TstbX.new.p) (at_pc (g.P.Processor.machine c.args.p.now) c.args.pc) c.args.word (Tst Byte (operand_of c.args.word)) (go (tested (at_pc (g.P.Processor.machine c.args.p.now) c.args.pc) Byte (operand_of c.args.word) (λ x. result_of Byte x false false))) (handled c.args.handler handler.TstbX c.args.word c.in-TstbX.is c.requires.handles).is refl c.test-in-TstbX.ensures.row
+
+pub test-requires-in-TstbD-clause-dest : goal.test-requires-in-TstbD-clause-dest
+test-requires-in-TstbD-clause-dest g c = (handled c.args.handler handler.TstbD c.args.word c.in-TstbD.is c.requires.handles).dest
+
+pub returns-in-TstbD-clause-row : goal.returns-in-TstbD-clause-row
+unfolding row_of
+returns-in-TstbD-clause-row g c = row_as c.test-in-TstbD.result (g.P.Processor.machine c.test-in-TstbD.new.p) (at_pc (g.P.Processor.machine c.args.p.now) c.args.pc) c.args.word (Tst Byte (operand_of c.args.word)) (go (tested (at_pc (g.P.Processor.machine c.args.p.now) c.args.pc) Byte (operand_of c.args.word) (λ x. result_of Byte x false false))) (handled c.args.handler handler.TstbD c.args.word c.in-TstbD.is c.requires.handles).is refl c.test-in-TstbD.ensures.row
+
+pub test-requires-in-TstbP-clause-dest : goal.test-requires-in-TstbP-clause-dest
+test-requires-in-TstbP-clause-dest g c = (handled c.args.handler handler.TstbP c.args.word c.in-TstbP.is c.requires.handles).dest
+
+pub returns-in-TstbP-clause-row : goal.returns-in-TstbP-clause-row
+unfolding row_of
+returns-in-TstbP-clause-row g c = row_as c.test-in-TstbP.result (g.P.Processor.machine c.test-in-TstbP.new.p) (at_pc (g.P.Processor.machine c.args.p.now) c.args.pc) c.args.word (Tst Byte (operand_of c.args.word)) (go (tested (at_pc (g.P.Processor.machine c.args.p.now) c.args.pc) Byte (operand_of c.args.word) (λ x. result_of Byte x false false))) (handled c.args.handler handler.TstbP c.args.word c.in-TstbP.is c.requires.handles).is refl c.test-in-TstbP.ensures.row

@@ -1,12 +1,18 @@
 -- A handler says what its word is.
-use Rattle.std.proofs.Common.{◌/◌, ◌%◌, refl}
+use Rattle.std.proofs.Common.{◌/◌, ◌%◌, true, false, refl, subst}
 use Rattle.pdp_decode.specs.declared.instr.Width.TheVariants.{Word}
-use Rattle.pdp_decode.specs.declared.instr.Instr.TheVariants.{Sxt, Mul, Div, Ash, Ashc}
+use Rattle.pdp_decode.specs.declared.instr.Instr.TheVariants.{Neg, Adc, Asr, Asl, Sxt, Mul, Div, Ash, Ashc, Codes}
 use Rattle.pdp_decode.specs.declared.handler.Handler.TheVariants as handler
-use Rattle.pdp_decode.specs.Decode.{reg_of, operand_of}
-use Rattle.pdp_step.specs.Rows.{replaced, sign_made, multiplied, divided, shifted_reg, shifted_pair}
-use Rattle.pdp_step.specs.Instruction.{go, row_of}
-use Rattle.pdp_step.specs.Parts.{at_pc}
+use Rattle.pdp_decode.specs.declared.instr.Flags.{Flags}
+use Rattle.pdp_decode.specs.Numbers.{flag_bits}
+use Rattle.pdp_decode.specs.Decode.{reg_of, operand_of, flags_of}
+use Rattle.pdp_step.specs.Registers.{codes_in}
+use Rattle.pdp_step.specs.Machine.{carry_in}
+use Rattle.pdp_step.specs.Arithmetic.{Negate, AddCarry, ShiftRight, ShiftLeft, change_of}
+use Rattle.pdp_step.specs.Rows.{modified, replaced, sign_made, multiplied, divided, shifted_reg, shifted_pair, named_codes}
+use Rattle.pdp_step.specs.Instruction.{go, on_codes, row_of}
+use Rattle.pdp_step.specs.After.{finished}
+use Rattle.pdp_step.specs.Parts.{at_pc, Ends}
 use Rattle.pdp_step.proofs.TableRows.{handled, row_as}
 use Rattle.pdp_step.proofs.handlers.perform_extended.Goals as goal
 
@@ -16,6 +22,14 @@ extend_sign-requires-clause-dest g c = (handled c.args.handler handler.SxtR c.ar
 pub returns-in-SxtR-clause-row : goal.returns-in-SxtR-clause-row
 unfolding row_of
 returns-in-SxtR-clause-row g c = row_as c.extend_sign.result (g.P.Processor.machine c.extend_sign.new.p) (at_pc (g.P.Processor.machine c.args.p.now) c.args.pc) c.args.word (Sxt (operand_of c.args.word)) (go (replaced (at_pc (g.P.Processor.machine c.args.p.now) c.args.pc) Word (operand_of c.args.word) (sign_made (g.P.Processor.machine c.args.p.now).cc))) (handled c.args.handler handler.SxtR c.args.word c.in-SxtR.is c.requires.handles).is refl c.extend_sign.ensures.row
+
+pub returns-in-ClearCodes-clause-row : goal.returns-in-ClearCodes-clause-row
+unfolding row_of
+returns-in-ClearCodes-clause-row g c = row_as c.set_codes.result (g.P.Processor.machine c.set_codes.new.p) (at_pc (g.P.Processor.machine c.args.p.now) c.args.pc) c.args.word (Codes false (flags_of c.args.word)) (on_codes (at_pc (g.P.Processor.machine c.args.p.now) c.args.pc) (flag_bits (named_codes false (flags_of c.args.word) (codes_in (g.P.Processor.machine c.args.p.now).cc)))) (handled c.args.handler handler.ClearCodes c.args.word c.in-ClearCodes.is c.requires.handles) refl (subst (λ (x : Flags). Ends c.set_codes.result (g.P.Processor.machine c.set_codes.new.p) (finished (g.P.Processor.machine c.args.p.now).image (on_codes (at_pc (g.P.Processor.machine c.args.p.now) c.args.pc) (flag_bits (named_codes false x (codes_in (g.P.Processor.machine c.args.p.now).cc)))))) c.names_in.ensures c.set_codes.ensures.row)
+
+pub returns-in-SetCodes-clause-row : goal.returns-in-SetCodes-clause-row
+unfolding row_of
+returns-in-SetCodes-clause-row g c = row_as c.set_codes-in-SetCodes.result (g.P.Processor.machine c.set_codes-in-SetCodes.new.p) (at_pc (g.P.Processor.machine c.args.p.now) c.args.pc) c.args.word (Codes true (flags_of c.args.word)) (on_codes (at_pc (g.P.Processor.machine c.args.p.now) c.args.pc) (flag_bits (named_codes true (flags_of c.args.word) (codes_in (g.P.Processor.machine c.args.p.now).cc)))) (handled c.args.handler handler.SetCodes c.args.word c.in-SetCodes.is c.requires.handles) refl (subst (λ (x : Flags). Ends c.set_codes-in-SetCodes.result (g.P.Processor.machine c.set_codes-in-SetCodes.new.p) (finished (g.P.Processor.machine c.args.p.now).image (on_codes (at_pc (g.P.Processor.machine c.args.p.now) c.args.pc) (flag_bits (named_codes true x (codes_in (g.P.Processor.machine c.args.p.now).cc)))))) c.names_in-in-SetCodes.ensures c.set_codes-in-SetCodes.ensures.row)
 
 pub multiply-requires-clause-source : goal.multiply-requires-clause-source
 multiply-requires-clause-source g c = (handled c.args.handler handler.MulR c.args.word c.in-MulR.is c.requires.handles).operand
@@ -100,3 +114,38 @@ shift_pair-requires-in-AshcX-clause-source g c = (handled c.args.handler handler
 pub returns-in-AshcX-clause-row : goal.returns-in-AshcX-clause-row
 unfolding row_of
 returns-in-AshcX-clause-row g c = row_as c.shift_pair-in-AshcX.result (g.P.Processor.machine c.shift_pair-in-AshcX.new.p) (at_pc (g.P.Processor.machine c.args.p.now) c.args.pc) c.args.word (Ashc (reg_of (c.args.word / 64 % 8)) (operand_of c.args.word)) (go (shifted_pair (at_pc (g.P.Processor.machine c.args.p.now) c.args.pc) (reg_of (c.args.word / 64 % 8)) (operand_of c.args.word))) (handled c.args.handler handler.AshcX c.args.word c.in-AshcX.is c.requires.handles).is refl c.shift_pair-in-AshcX.ensures.row
+
+pub modify-requires-clause-dest : goal.modify-requires-clause-dest
+modify-requires-clause-dest g c = (handled c.args.handler handler.AdcA c.args.word c.in-AdcA.is c.requires.handles).dest
+
+pub returns-in-AdcA-clause-row : goal.returns-in-AdcA-clause-row
+unfolding row_of
+returns-in-AdcA-clause-row g c = row_as c.modify.result (g.P.Processor.machine c.modify.new.p) (at_pc (g.P.Processor.machine c.args.p.now) c.args.pc) c.args.word (Adc Word (operand_of c.args.word)) (go (modified (at_pc (g.P.Processor.machine c.args.p.now) c.args.pc) Word (operand_of c.args.word) (change_of AddCarry Word (carry_in (g.P.Processor.machine c.args.p.now))))) (handled c.args.handler handler.AdcA c.args.word c.in-AdcA.is c.requires.handles).is refl c.modify.ensures.row
+
+pub modify-requires-in-AdcX-clause-dest : goal.modify-requires-in-AdcX-clause-dest
+modify-requires-in-AdcX-clause-dest g c = (handled c.args.handler handler.AdcX c.args.word c.in-AdcX.is c.requires.handles).dest
+
+pub returns-in-AdcX-clause-row : goal.returns-in-AdcX-clause-row
+unfolding row_of
+returns-in-AdcX-clause-row g c = row_as c.modify-in-AdcX.result (g.P.Processor.machine c.modify-in-AdcX.new.p) (at_pc (g.P.Processor.machine c.args.p.now) c.args.pc) c.args.word (Adc Word (operand_of c.args.word)) (go (modified (at_pc (g.P.Processor.machine c.args.p.now) c.args.pc) Word (operand_of c.args.word) (change_of AddCarry Word (carry_in (g.P.Processor.machine c.args.p.now))))) (handled c.args.handler handler.AdcX c.args.word c.in-AdcX.is c.requires.handles).is refl c.modify-in-AdcX.ensures.row
+
+pub modify-requires-in-AslA-clause-dest : goal.modify-requires-in-AslA-clause-dest
+modify-requires-in-AslA-clause-dest g c = (handled c.args.handler handler.AslA c.args.word c.in-AslA.is c.requires.handles).dest
+
+pub returns-in-AslA-clause-row : goal.returns-in-AslA-clause-row
+unfolding row_of
+returns-in-AslA-clause-row g c = row_as c.modify-in-AslA.result (g.P.Processor.machine c.modify-in-AslA.new.p) (at_pc (g.P.Processor.machine c.args.p.now) c.args.pc) c.args.word (Asl Word (operand_of c.args.word)) (go (modified (at_pc (g.P.Processor.machine c.args.p.now) c.args.pc) Word (operand_of c.args.word) (change_of ShiftLeft Word (carry_in (g.P.Processor.machine c.args.p.now))))) (handled c.args.handler handler.AslA c.args.word c.in-AslA.is c.requires.handles).is refl c.modify-in-AslA.ensures.row
+
+pub modify-requires-in-AsrA-clause-dest : goal.modify-requires-in-AsrA-clause-dest
+modify-requires-in-AsrA-clause-dest g c = (handled c.args.handler handler.AsrA c.args.word c.in-AsrA.is c.requires.handles).dest
+
+pub returns-in-AsrA-clause-row : goal.returns-in-AsrA-clause-row
+unfolding row_of
+returns-in-AsrA-clause-row g c = row_as c.modify-in-AsrA.result (g.P.Processor.machine c.modify-in-AsrA.new.p) (at_pc (g.P.Processor.machine c.args.p.now) c.args.pc) c.args.word (Asr Word (operand_of c.args.word)) (go (modified (at_pc (g.P.Processor.machine c.args.p.now) c.args.pc) Word (operand_of c.args.word) (change_of ShiftRight Word (carry_in (g.P.Processor.machine c.args.p.now))))) (handled c.args.handler handler.AsrA c.args.word c.in-AsrA.is c.requires.handles).is refl c.modify-in-AsrA.ensures.row
+
+pub modify-requires-in-NegA-clause-dest : goal.modify-requires-in-NegA-clause-dest
+modify-requires-in-NegA-clause-dest g c = (handled c.args.handler handler.NegA c.args.word c.in-NegA.is c.requires.handles).dest
+
+pub returns-in-NegA-clause-row : goal.returns-in-NegA-clause-row
+unfolding row_of
+returns-in-NegA-clause-row g c = row_as c.modify-in-NegA.result (g.P.Processor.machine c.modify-in-NegA.new.p) (at_pc (g.P.Processor.machine c.args.p.now) c.args.pc) c.args.word (Neg Word (operand_of c.args.word)) (go (modified (at_pc (g.P.Processor.machine c.args.p.now) c.args.pc) Word (operand_of c.args.word) (change_of Negate Word (carry_in (g.P.Processor.machine c.args.p.now))))) (handled c.args.handler handler.NegA c.args.word c.in-NegA.is c.requires.handles).is refl c.modify-in-NegA.ensures.row

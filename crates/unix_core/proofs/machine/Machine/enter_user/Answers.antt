@@ -31,6 +31,5 @@ pub returns-else-area-eq0-clause-kernel : goal.returns-else-area-eq0-clause-kern
 returns-else-area-eq0-clause-kernel c =
     let w : World = c.args.self.now.world in
     let s = c.args.s in
-    subst (λ (at : Stage). IsKernel at w) (sym c.requires.stage)
-    (calls_kernel w s c.requires.ready c.requires.settled
-    (user_is w s _ (ready_alive w s c.requires.ready) (ne_eqb _ 0 (λ e. c.if-area-eq0.false (ap (λ (u : UArea). u.pending) c.area.ensures.u ∙ e)))))
+    calls_kernel w s c.requires.ready c.requires.settled
+    (user_is w s _ (ready_alive w s c.requires.ready) (ne_eqb _ 0 (λ e. c.if-area-eq0.false (ap (λ (u : UArea). u.pending) c.area.ensures.u ∙ e))))

@@ -21,12 +21,12 @@ returns-in-Err-clause-took g c =
     let line = c.as_slice.ensures.value in
     let old = g.H.Host.outside c.args.self.now.host.now in
     let new = g.H.Host.outside c.write_text.new.host in
-    let rest = drop c.in-Err.count c.line_of-line.result.items in
-    let took = took_front old new c.args.self.now.kept c.args.e _ loud c.in-Err.ensures.only (line ∙ c.line_of-line.ensures) c.in-Err.count
+    let rest = drop c.in-Err.count c.put_line.new.line.items in
+    let took = took_front old new c.args.self.now.kept c.args.e _ loud c.in-Err.ensures.only (line ∙ c.put_line.ensures) c.in-Err.count
     c.in-Err.ensures.front rest (ap (drop c.in-Err.count) (sym line)) in
     subst (λ k. Took (taken_by old c.args.self.now.kept) (Log c.args.e ∷ []) (taken_by new k)) (sym c.keep_line.ensures) took
 
 pub returns-in_default-clause-took : goal.returns-in_default-clause-took
 returns-in_default-clause-took g c =
     let loud = sym c.is_silent.ensures ∙ c.if-is_silent.false in
-    took_all _ _ c.args.self.now.kept c.args.e _ loud c.in_default.ensures.only (c.as_slice.ensures.value ∙ c.line_of-line.ensures) c.in_default.ensures.whole
+    took_all _ _ c.args.self.now.kept c.args.e _ loud c.in_default.ensures.only (c.as_slice.ensures.value ∙ c.put_line.ensures) c.in_default.ensures.whole
