@@ -118,7 +118,11 @@ fn goes_on_with_what_was_put(alloc: Global) -> Result<bool, AllocError> {
     if !runs(&mut kernel, 6, &mut tape) {
         return Ok(false);
     }
-    let after = [byte_at(&kernel, 2), byte_at(&kernel, 4), byte_at(&kernel, 6)];
+    let after = [
+        byte_at(&kernel, 2),
+        byte_at(&kernel, 4),
+        byte_at(&kernel, 6),
+    ];
     Ok(before && put && refused && after == [Some(2), Some(2), Some(7)])
 }
 
