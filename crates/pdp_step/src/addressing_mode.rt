@@ -32,10 +32,10 @@ pub trait AddressingMode {
     /// That nothing has changed where it isn't at hand.
     ghost late: { Bool };
 
-    /// Forms the address.
+    /// Forms the address. An operand in a register has none, and is as one that isn't at hand.
     fn address<P: Processor, W: Size>(p: &mut P, pc: &mut usize, n: u32) -> Result<u16, Halt>
         requires way { IsAddressed addressing W.width (operand_of n) }
-        requires memory { (operand_of n).mode ≢ Mode.Register }
+        requires memory { (operand_of n).mode ≡ Mode.Register → P.MayMiss }
         requires room { pc.old ≤ 1000000 }
         ensures formed { IsReached result (at_pc (P.machine p.new) pc.new) (formed (at_pc (P.machine p.old) pc.old) W.width (operand_of n).mode (operand_of n).reg) }
         ensures image { (P.machine p.new).image ≡ (P.machine p.old).image }

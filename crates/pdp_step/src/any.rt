@@ -160,6 +160,9 @@ impl AddressingMode for Any {
 
     #[inline(always)]
     fn address<P: Processor, W: Size>(p: &mut P, pc: &mut usize, n: u32) -> Result<u16, Halt> {
+        if is_in_register(n) {
+            return Err(Halt::Missed);
+        }
         reach::<P, W>(p, pc, n)
     }
 

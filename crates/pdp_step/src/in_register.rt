@@ -23,7 +23,7 @@ impl AddressingMode for Register {
     ghost late = { true };
 
     fn address<P: Processor, W: Size>(p: &mut P, pc: &mut usize, n: u32) -> Result<u16, Halt> {
-        unreachable!()
+        Err(Halt::Missed)
     }
 
     #[inline(always)]
