@@ -18,7 +18,13 @@ const FORTY: [Piece<'static>; 1] = [(
 \x08\x89\x18\0\xb6\x01\xc2\x15\x28\0\0\x0a\x04\x89\0\0\0\x02\xc2\x0a\xfa\x02\xff\x01/d\0\0",
 )];
 
-/// The word at its address 0.
+/// `/etc/init` as a program that goes round three words for ever: `inc r1`, `mov (sp),r3`, and a branch back.
+const ROUND: [Piece<'static>; 1] = [(
+    33_792,
+    b"\x07\x01\x06\0\0\0\0\0\0\0\0\0\0\0\0\0\x81\x0a\x83\x13\xfd\x01",
+)];
+
+/// The word at the address 0 of the first of these.
 const FIRST_WORD: &[u8] = b"\x08\x89";
 
 /// The kernel of a made disk with these pieces, before its start.
@@ -58,12 +64,12 @@ fn deposit(kernel: &mut Kernel, at: u32, b: u8) -> bool
     kernel.deposit(false, at, b)
 }
 
-/// The first byte of core.
-fn first_byte(kernel: &Kernel) -> Option<u8> {
-    if kernel.core().is_empty() {
+/// The byte of core at a place.
+fn byte_at(kernel: &Kernel, at: u32) -> Option<u8> {
+    if at as usize >= kernel.core().len() {
         return None;
     }
-    Some(kernel.core_byte(0))
+    Some(kernel.core_byte(at))
 }
 
 /// How many blocks of files the disk has that begin with that word.
@@ -91,7 +97,33 @@ fn executes_what_was_put(alloc: Global) -> Result<bool, AllocError> {
     let put = deposit(&mut kernel, 1037, 120);
     let ran = kernel.turn(&mut tape) == Turned::Ran;
     let logged = tape.entries() == [Entry::Trap(1), Entry::Go(1)].as_slice();
-    Ok(refused && put && ran && logged && first_byte(&kernel) == Some(2))
+    Ok(refused && put && ran && logged && byte_at(&kernel, 0) == Some(2))
+}
+
+/// A process goes on with the bytes on which it stands. Its first turn is an exec, and six more go round twice: R1, in the
+/// bytes 2 and 3 of its u area, is 2, and R3, at 6, the number of arguments, 1. Then byte 1024 makes its first word `inc r2`,
+/// and byte 2352 the number 7; byte 2 takes none. When it has gone round twice more R1 is 2, R2 is 2 and R3 is 7.
+fn goes_on_with_what_was_put(alloc: Global) -> Result<bool, AllocError> {
+    let mut tape = Tape::new(alloc, 64, 64)?;
+    let Some(mut kernel) = kernel_of(alloc, &ROUND)? else {
+        return Ok(false);
+    };
+    kernel.start(&mut tape);
+    if !runs(&mut kernel, 7, &mut tape) {
+        return Ok(false);
+    }
+    let before = [byte_at(&kernel, 2), byte_at(&kernel, 6)] == [Some(2), Some(1)];
+    let put = deposit(&mut kernel, 1024, 0x82) && deposit(&mut kernel, 2352, 7);
+    let refused = !deposit(&mut kernel, 2, 9);
+    if !runs(&mut kernel, 6, &mut tape) {
+        return Ok(false);
+    }
+    let after = [
+        byte_at(&kernel, 2),
+        byte_at(&kernel, 4),
+        byte_at(&kernel, 6),
+    ];
+    Ok(before && put && refused && after == [Some(2), Some(2), Some(7)])
 }
 
 /// Of the forty blocks that are written there are some on the disk before the run is finished, and some not, as fifteen
@@ -113,6 +145,12 @@ fn writes_late(alloc: Global) -> Result<bool, AllocError> {
 #[test]
 fn a_byte_that_is_put_into_core_is_the_process_s(rt: HostRuntime) -> Result<(), Fail> {
     assert!(rt; executes_what_was_put(rt.alloc())?);
+    Ok(())
+}
+
+#[test]
+fn a_process_goes_on_with_a_byte_that_is_put_where_it_stands(rt: HostRuntime) -> Result<(), Fail> {
+    assert!(rt; goes_on_with_what_was_put(rt.alloc())?);
     Ok(())
 }
 
