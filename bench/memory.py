@@ -1,13 +1,14 @@
 #!/usr/bin/env python3
 """Compares what `v6 memory` leaves of random runs with a reference.
 
-    bench/memory.py [full] COMMAND COUNT [FIRST]
+    bench/memory.py [full | instructions] COMMAND COUNT [FIRST]
 
 COMMAND is a built v6. The runs are by turns those of bench/processes.py, those with the word `execs`, and both with the word
-`small`, or all of them those with the word `full`; COUNT seeds from FIRST on (0 where it isn't given). Compared are the status,
-the report, the number of bytes, and each byte of core and of the swap area that is prescribed: u areas, data and stacks of
-processes that live, half of the u area of each that has ended, and texts; and the same of the swap area of the disk that `v6 run`
-leaves. Where a run comes to a panic `memory` may write nothing, and the disk alone is compared.
+`small`; or all of them those with the word `full`, or programs of random instructions, as random_instructions has them. COUNT
+seeds are taken from FIRST on (0 where it isn't given). Compared are the status, the report, the number of bytes, and each byte
+of core and of the swap area that is prescribed: u areas, data and stacks of processes that live, half of the u area of each
+that has ended, and texts; and the same of the swap area of the disk that `v6 run` leaves. Where a run comes to a panic `memory`
+may write nothing, and the disk alone is compared.
 
 The reference is the Python module `abstract_unix`; the environment variable ABSTRACT_UNIX names the folder in which it is.
 It writes beside its FINAL a mask, with 1 for each byte that is prescribed.
@@ -22,6 +23,7 @@ import tempfile
 
 from file_calls import SWAP_AT
 from processes import PANIC, Case, ExecCase, FullCase, in_small_core
+from random_instructions import InstructionCase
 
 KINDS = (Case, ExecCase, in_small_core(Case), in_small_core(ExecCase))
 
@@ -79,7 +81,7 @@ def told(what, came, wanted, mask):
 
 
 def main(words):
-    kinds = (FullCase,) if words[:1] == ["full"] else KINDS
+    kinds = {"full": (FullCase,), "instructions": (InstructionCase,)}.get(" ".join(words[:1]), KINDS)
     words = words[kinds is not KINDS :]
     if len(words) not in (2, 3):
         sys.exit(__doc__)
