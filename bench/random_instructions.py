@@ -92,6 +92,8 @@ class Instructions:
             places = [rng.choice((0o20, 0o30, 0o40, 0o50, 0o60, 0, 0o10, 0o70)) | rng.randrange(8) for _ in range(1 + is_two)]
             if rng.random() < 0.8:
                 places = [place & 0o70 | rng.randrange(6) for place in places]
+            if is_two and rng.random() < 0.3:
+                places = [0o20 | rng.randrange(6), rng.choice((0o10, 0o20, 0o40, 0o60)) | rng.randrange(7)]      # from (R)+
             places = [0o27 if place in (0o47, 0o57) else place for place in places]      # -(PC) goes on for ever
             register = rng.randrange(8) << 6
             one = rng.choice(ONE)
