@@ -67,10 +67,16 @@ class Views:
 
     def head(self, moment):
         running = moment.running()
-        who = "nobody can run" if running is None else "the swapper runs" if not running else f"{self.who(moment, running)} runs"
+        who = self.nobody(moment) if running is None else "the swapper runs" if not running else f"{self.who(moment, running)} runs"
         line = f"line {moment.at} of {len(moment.history.run.log)}"
         within = f" (of the lines {moment.first + 1} to {moment.lines} of the moment)" if moment.at < moment.lines else ""
         return f"slot {moment.slots} of {moment.history.last}, second {moment.table.second()}, {line}{within}: {who}"
+
+    def nobody(self, moment):
+        """That nobody runs: nobody can, or somebody could, and a later line chooses."""
+        table = moment.table
+        could = moment.at < len(moment.history.run.log) and any(table.letter(slot) == "r" for slot in table.rows)
+        return "nobody runs yet" if could else "nobody can run"
 
     # processes
 

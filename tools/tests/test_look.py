@@ -272,6 +272,10 @@ class Moves(unittest.TestCase):
             self.looker = looker_of(ByHand(10000000, [line for line in self.LINES if line[1] != "trap 1"], self.held))
             self.at("slot 10000000", "last line", "since call")
 
+    def test_nobody_runs_yet(self):
+        """Between the line after which nobody runs and the next choice somebody may be ready in core."""
+        self.assertEqual(self.looker.lines_of("line 14")[0].rsplit(": ", 1)[1], "nobody runs yet")
+
     def test_states(self):
         self.assertEqual(self.at("until place swap of 2"), 9000000)
         self.assertEqual(self.at("until place core 38 of 2"), 9500000)
