@@ -35,6 +35,7 @@ pub mod Empty
 pub mod Overwriting
 pub mod Cutting
 pub mod Growing
+pub mod StateOf
 pub mod Storing
 pub mod Reading
 pub mod Made

@@ -3,6 +3,7 @@ use Rattle.std.specs.Prelude.{◌≡◌, ◌*◌, length}
 use Rattle.image_keep.specs.declared.images.Images.TheInside.{Inside}
 use Rattle.image_keep.specs.Line.{line_of}
 use Rattle.image_keep.specs.Kept.{Kept}
+use Rattle.image_keep.specs.State.{ImagesState}
 use Rattle.image_keep.specs.Memory.{Stock, IsSound, kept_of}
 use Rattle.image_keep.specs.Maps.{AreMaps}
 use Rattle.image_keep.specs.Counts.{IsCounted}
@@ -14,6 +15,9 @@ stock_in a = record { line = line_of a.memory; core = a.core; rows = a.rows.item
 
 abbrev pub kept_in : Inside → Kept
 kept_in a = kept_of (stock_in a)
+
+abbrev pub state_of : Inside → ImagesState
+state_of a = record { kept = kept_in a; core = a.memory.core; swap = a.memory.swap }
 
 pub record AreImages (a : Inside) : Type 0 where
   pub sound : IsSound (stock_in a)

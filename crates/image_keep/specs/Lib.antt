@@ -1,6 +1,7 @@
 pub mod Area
 pub mod Areas
 pub mod Kept
+pub mod State
 pub mod Places
 pub mod Lent
 pub mod Growth

@@ -131,9 +131,9 @@ impl Images {
     /// Where the parts of a slot's image stand.
     #[inline(always)]
     pub(crate) fn starts(&self, s: Slot) -> Starts
-        requires { HasImage self.now s }
-        ensures starts { AreStarts self.now s result }
-        ensures holds { IsKept self.now }
+        requires { HasImage self.now.kept s }
+        ensures starts { AreStarts self.now.kept s result }
+        ensures holds { IsKept self.now.kept }
     {
         self.memory.see_bytes();
         let row = row_of(&self.rows, s as usize);
@@ -153,11 +153,11 @@ impl Images {
     /// What an address of a slot's image names.
     #[inline(always)]
     pub(crate) fn find(&self, s: usize, starts: &Starts, at: u16) -> Named
-        requires { AreStarts self.now s starts.now }
-        ensures named { result ≡ named (image_of self.now s) at }
-        ensures within { IsWithin (image_of self.now s) result }
-        ensures next { at % 2 ≡ 0 → named (image_of self.now s) (at + 1) ≡ next_byte result }
-        ensures next_within { at % 2 ≡ 0 → IsWithin (image_of self.now s) (next_byte result) }
+        requires { AreStarts self.now.kept s starts.now }
+        ensures named { result ≡ named (image_of self.now.kept s) at }
+        ensures within { IsWithin (image_of self.now.kept s) result }
+        ensures next { at % 2 ≡ 0 → named (image_of self.now.kept s) (at + 1) ≡ next_byte result }
+        ensures next_within { at % 2 ≡ 0 → IsWithin (image_of self.now.kept s) (next_byte result) }
     {
         let _ = &self.memory;
         starts.find(at)
@@ -166,10 +166,10 @@ impl Images {
     /// The byte that is named.
     #[inline(always)]
     fn byte_of(&self, s: usize, starts: &Starts, at: Named) -> u8
-        requires starts { AreStarts self.now s starts.now }
-        requires within { IsWithin (image_of self.now s) at }
+        requires starts { AreStarts self.now.kept s starts.now }
+        requires within { IsWithin (image_of self.now.kept s) at }
         requires some { at ≢ Named.Nothing }
-        ensures { byte_at (image_of self.now s) at ≡ Ok result }
+        ensures { byte_at (image_of self.now.kept s) at ≡ Ok result }
     {
         self.memory.byte(starts.start_of(at))
     }
@@ -177,11 +177,11 @@ impl Images {
     /// The word whose first byte is named, at an even address.
     #[inline(always)]
     fn word_of(&self, s: usize, starts: &Starts, at: Named) -> u16
-        requires starts { AreStarts self.now s starts.now }
-        requires within { IsWithin (image_of self.now s) at }
-        requires next { IsWithin (image_of self.now s) (next_byte at) }
+        requires starts { AreStarts self.now.kept s starts.now }
+        requires within { IsWithin (image_of self.now.kept s) at }
+        requires next { IsWithin (image_of self.now.kept s) (next_byte at) }
         requires some { at ≢ Named.Nothing }
-        ensures { (low high : ℕ) × (byte_at (image_of self.now s) at ≡ Ok low) × (byte_at (image_of self.now s) (next_byte at) ≡ Ok high) × (result ≡ low + 256 * high) }
+        ensures { (low high : ℕ) × (byte_at (image_of self.now.kept s) at ≡ Ok low) × (byte_at (image_of self.now.kept s) (next_byte at) ≡ Ok high) × (result ≡ low + 256 * high) }
     {
         self.memory.word(starts.start_of(at))
     }
@@ -189,11 +189,11 @@ impl Images {
     /// Writes a byte that is named.
     #[inline(always)]
     pub(crate) fn put_byte(&mut self, s: usize, starts: &Starts, at: Named, value: u8)
-        requires starts { AreStarts self.old s starts.now }
-        requires within { IsWithin (image_of self.old s) at }
+        requires starts { AreStarts self.old.kept s starts.now }
+        requires within { IsWithin (image_of self.old.kept s) at }
         requires storable { IsStorable at }
-        ensures kept { self.new ≡ with_image self.old s (image_after (image_of self.old s) (with_byte (image_of self.old s) at value)) }
-        ensures starts { AreStarts self.new s starts.now }
+        ensures kept { self.new.kept ≡ with_image self.old.kept s (image_after (image_of self.old.kept s) (with_byte (image_of self.old.kept s) at value)) }
+        ensures starts { AreStarts self.new.kept s starts.now }
     {
         self.memory.set(starts.start_of(at), value);
     }
@@ -201,12 +201,12 @@ impl Images {
     /// Writes a word whose first byte is named, at an even address.
     #[inline(always)]
     fn put_word(&mut self, s: usize, starts: &Starts, at: Named, value: u16)
-        requires starts { AreStarts self.old s starts.now }
-        requires within { IsWithin (image_of self.old s) at }
-        requires next { IsWithin (image_of self.old s) (next_byte at) }
+        requires starts { AreStarts self.old.kept s starts.now }
+        requires within { IsWithin (image_of self.old.kept s) at }
+        requires next { IsWithin (image_of self.old.kept s) (next_byte at) }
         requires storable { IsStorable at }
-        ensures kept { self.new ≡ with_image self.old s (image_after (image_of self.old s) (with_word (image_of self.old s) at value)) }
-        ensures starts { AreStarts self.new s starts.now }
+        ensures kept { self.new.kept ≡ with_image self.old.kept s (image_after (image_of self.old.kept s) (with_word (image_of self.old.kept s) at value)) }
+        ensures starts { AreStarts self.new.kept s starts.now }
     {
         self.memory.set_word(starts.start_of(at), value);
     }
@@ -214,8 +214,8 @@ impl Images {
     /// The byte at an address of a slot's image.
     #[inline(always)]
     pub(crate) fn load_byte(&self, s: usize, starts: &Starts, at: u16) -> Result<u8, Trap>
-        requires { AreStarts self.now s starts.now }
-        ensures { result ≡ load_byte (image_of self.now s) at }
+        requires { AreStarts self.now.kept s starts.now }
+        ensures { result ≡ load_byte (image_of self.now.kept s) at }
     {
         match self.find(s, starts, at) {
             Named::Nothing => Err(Trap::Segment),
@@ -226,8 +226,8 @@ impl Images {
     /// The word at an address of a slot's image.
     #[inline(always)]
     pub(crate) fn load_word(&self, s: usize, starts: &Starts, at: u16) -> Result<u16, Trap>
-        requires { AreStarts self.now s starts.now }
-        ensures { result ≡ load_word (image_of self.now s) at }
+        requires { AreStarts self.now.kept s starts.now }
+        ensures { result ≡ load_word (image_of self.now.kept s) at }
     {
         if at % 2 == 1 {
             return Err(Trap::Odd);
@@ -247,10 +247,10 @@ impl Images {
         at: u16,
         value: u8,
     ) -> Result<(), Trap>
-        requires { AreStarts self.old s starts.now }
-        ensures answer { result ≡ answer_of (store_byte (image_of self.old s) at value) }
-        ensures kept { self.new ≡ with_image self.old s (image_after (image_of self.old s) (store_byte (image_of self.old s) at value)) }
-        ensures starts { AreStarts self.new s starts.now }
+        requires { AreStarts self.old.kept s starts.now }
+        ensures answer { result ≡ answer_of (store_byte (image_of self.old.kept s) at value) }
+        ensures kept { self.new.kept ≡ with_image self.old.kept s (image_after (image_of self.old.kept s) (store_byte (image_of self.old.kept s) at value)) }
+        ensures starts { AreStarts self.new.kept s starts.now }
     {
         let named = self.find(s, starts, at);
         if !is_storable(named) {
@@ -269,10 +269,10 @@ impl Images {
         at: u16,
         value: u16,
     ) -> Result<(), Trap>
-        requires { AreStarts self.old s starts.now }
-        ensures answer { result ≡ answer_of (store_word (image_of self.old s) at value) }
-        ensures kept { self.new ≡ with_image self.old s (image_after (image_of self.old s) (store_word (image_of self.old s) at value)) }
-        ensures starts { AreStarts self.new s starts.now }
+        requires { AreStarts self.old.kept s starts.now }
+        ensures answer { result ≡ answer_of (store_word (image_of self.old.kept s) at value) }
+        ensures kept { self.new.kept ≡ with_image self.old.kept s (image_after (image_of self.old.kept s) (store_word (image_of self.old.kept s) at value)) }
+        ensures starts { AreStarts self.new.kept s starts.now }
     {
         if at % 2 == 1 {
             return Err(Trap::Odd);

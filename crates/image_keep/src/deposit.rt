@@ -1,5 +1,5 @@
 //! A byte is put where it stands, in core or in the swap area, and so in the image of the process whose it is.
-ghost use Rattle.std.specs.Prelude.{◌≡◌, ◌+◌, ◌<◌, true, false};
+ghost use Rattle.std.specs.Prelude.{◌≡◌, ◌+◌, ◌<◌, true, false, if◌then◌else◌, slice_set};
 ghost use Rattle.std.specs.List.{position};
 ghost use Rattle.image_keep.specs.Memory.{place_at};
 ghost use Rattle.image_keep.specs.ByteOf.{line_place, byte_from, byte_of, is_some_byte, has_byte};
@@ -90,10 +90,12 @@ impl Images {
     /// shared, and what is kept of a process that has ended take none. `at` counts bytes from the first of the clicks of core,
     /// or of the blocks of the swap area.
     pub fn deposit(&mut self, swap: bool, at: u32, b: u8) -> bool
-        requires inside { at < memory_size self.old swap }
-        ensures put { result ≡ true → IsPut self.old swap at b self.new }
-        ensures there { result ≡ true → HasByte self.new swap at b }
-        ensures nobodys { result ≡ false → IsNobodys self.old swap at }
+        requires inside { at < memory_size self.old.kept swap }
+        ensures put { result ≡ true → IsPut self.old.kept swap at b self.new.kept }
+        ensures there { result ≡ true → HasByte self.new.kept swap at b }
+        ensures core { result ≡ true → self.new.core ≡ (if swap then self.old.core else slice_set self.old.core at b) }
+        ensures area { result ≡ true → self.new.swap ≡ (if swap then slice_set self.old.swap at b else self.old.swap) }
+        ensures nobodys { result ≡ false → IsNobodys self.old.kept swap at }
         ensures same { result ≡ false → self.new ≡ self.old }
     {
         let place = line_place(self.core, swap, at);

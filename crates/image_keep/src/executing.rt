@@ -65,11 +65,11 @@ impl Images {
     /// which ends so: else nothing has changed.
     #[inline(always)]
     pub fn execute_near(&mut self, fixed: &Fixed, dispatch: &Dispatch) -> bool
-        requires { IsFixed self.old fixed.now }
-        ensures outcome { IsTrue result → (instr (machine_in self.old fixed.now.slot)).outcome ≡ Next }
-        ensures done { IsTrue result → self.new ≡ with_machine_in self.old fixed.now.slot (instr (machine_in self.old fixed.now.slot)).machine }
-        ensures kept { result ≡ false → self.new ≡ self.old }
-        ensures fixed { IsFixed self.new fixed.now }
+        requires { IsFixed self.old.kept fixed.now }
+        ensures outcome { IsTrue result → (instr (machine_in self.old.kept fixed.now.slot)).outcome ≡ Next }
+        ensures done { IsTrue result → self.new.kept ≡ with_machine_in self.old.kept fixed.now.slot (instr (machine_in self.old.kept fixed.now.slot)).machine }
+        ensures kept { result ≡ false → self.new.kept ≡ self.old.kept }
+        ensures fixed { IsFixed self.new.kept fixed.now }
     {
         self.memory.see_bytes();
         attempt_in(
@@ -85,11 +85,11 @@ impl Images {
     /// The same for any instruction. It stands out of line, to keep the loop over slots small.
     #[inline(never)]
     pub fn execute_any(&mut self, fixed: &Fixed) -> bool
-        requires { IsFixed self.old fixed.now }
-        ensures outcome { IsTrue result → (instr (machine_in self.old fixed.now.slot)).outcome ≡ Next }
-        ensures done { IsTrue result → self.new ≡ with_machine_in self.old fixed.now.slot (instr (machine_in self.old fixed.now.slot)).machine }
-        ensures kept { result ≡ false → self.new ≡ self.old }
-        ensures fixed { IsFixed self.new fixed.now }
+        requires { IsFixed self.old.kept fixed.now }
+        ensures outcome { IsTrue result → (instr (machine_in self.old.kept fixed.now.slot)).outcome ≡ Next }
+        ensures done { IsTrue result → self.new.kept ≡ with_machine_in self.old.kept fixed.now.slot (instr (machine_in self.old.kept fixed.now.slot)).machine }
+        ensures kept { result ≡ false → self.new.kept ≡ self.old.kept }
+        ensures fixed { IsFixed self.new.kept fixed.now }
     {
         self.memory.see_bytes();
         attempt_any_in(
@@ -104,11 +104,11 @@ impl Images {
     /// is answered. Else nothing has changed. UNIX Programmer's Manual, Sixth Edition, section II, INTRO.
     #[inline(always)]
     pub fn call_near(&mut self, fixed: &Fixed) -> Option<u8>
-        requires { IsFixed self.old fixed.now }
-        ensures outcome { IfSome result (λ n. (instr (machine_in self.old fixed.now.slot)).outcome ≡ Call n) }
-        ensures done { IfSome result (λ n. self.new ≡ with_machine_in self.old fixed.now.slot (instr (machine_in self.old fixed.now.slot)).machine) }
-        ensures kept { result ≡ None → self.new ≡ self.old }
-        ensures fixed { IsFixed self.new fixed.now }
+        requires { IsFixed self.old.kept fixed.now }
+        ensures outcome { IfSome result (λ n. (instr (machine_in self.old.kept fixed.now.slot)).outcome ≡ Call n) }
+        ensures done { IfSome result (λ n. self.new.kept ≡ with_machine_in self.old.kept fixed.now.slot (instr (machine_in self.old.kept fixed.now.slot)).machine) }
+        ensures kept { result ≡ None → self.new.kept ≡ self.old.kept }
+        ensures fixed { IsFixed self.new.kept fixed.now }
     {
         self.memory.see_bytes();
         call_in(

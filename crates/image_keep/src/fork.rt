@@ -48,14 +48,14 @@ impl Images {
     ///
     /// `NoSwap`: exactly where neither core nor the swap area has room. Nothing has changed then.
     pub fn copy_for_fork(&mut self, from: Slot, to: Slot) -> Result<Place, NoSwap>
-        requires image { HasImage self.old from }
+        requires image { HasImage self.old.kept from }
         requires slot { to < 50 }
-        requires nothing { keeping self.old to ≡ Nothing }
-        requires no_text { text_of self.old to ≡ None }
+        requires nothing { keeping self.old.kept to ≡ Nothing }
+        requires no_text { text_of self.old.kept to ≡ None }
         ensures place { MatchResult result
             (λ place. placed self.old from (clicks_of (area_of self.old from)) ≡ Some place)
             (λ _. placed self.old from (clicks_of (area_of self.old from)) ≡ None) }
-        ensures kept { self.new ≡ forked_at self.old from to (placed self.old from (clicks_of (area_of self.old from))) }
+        ensures kept { self.new.kept ≡ forked_at self.old.kept from to (placed self.old.kept from (clicks_of (area_of self.old.kept from))) }
     {
         let row = row_of(&self.rows, from as usize);
         let clicks = clicks_of(row);

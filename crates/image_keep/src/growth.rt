@@ -222,8 +222,8 @@ fn move_text(texts: &mut Texts, core_map: &mut Holes, text: Option<TextId>, from
 impl Images {
     /// The clicks of a slot's image.
     fn clicks(&self, s: Slot) -> u16
-        requires { HasImage self.now s }
-        ensures { result ≡ clicks_of (area_of self.now s) }
+        requires { HasImage self.now.kept s }
+        ensures { result ≡ clicks_of (area_of self.now.kept s) }
     {
         clicks_of(row_of(&self.rows, s as usize))
     }
@@ -231,11 +231,11 @@ impl Images {
     /// Gives a slot's image, in its place, sizes with which it doesn't grow. The answer is its place. What it has no more is
     /// free.
     fn cut(&mut self, s: Slot, d: u16, stack: u16) -> Place
-        requires image { HasImage self.old s }
-        requires segments { nseg (area_of self.old s).text_size + nseg d + nseg stack ≤ 8 }
-        requires small { 16 + d + stack ≤ clicks_of (area_of self.old s) }
-        ensures place { place_of self.old s ≡ Some result }
-        ensures kept { self.new ≡ with_image_at self.old s (area_resized (area_of self.old s) d stack) (image_resized (image_of self.old s) d stack) (Some result) }
+        requires image { HasImage self.old.kept s }
+        requires segments { nseg (area_of self.old.kept s).text_size + nseg d + nseg stack ≤ 8 }
+        requires small { 16 + d + stack ≤ clicks_of (area_of self.old.kept s) }
+        ensures place { place_of self.old.kept s ≡ Some result }
+        ensures kept { self.new.kept ≡ with_image_at self.old.kept s (area_resized (area_of self.old.kept s) d stack) (image_resized (image_of self.old.kept s) d stack) (Some result) }
     {
         let bytes = sized_bytes(&self.area(s), d, stack);
         let row = row_of(&self.rows, s as usize);
@@ -259,10 +259,10 @@ impl Images {
     /// Gives a slot's image sizes with which it grows, by first fit beside the place that it has, which is free then. The
     /// answer is where it stands.
     fn grow(&mut self, s: Slot, d: u16, stack: u16) -> Result<Place, NoSwap>
-        requires image { HasImage self.old s }
-        requires segments { nseg (area_of self.old s).text_size + nseg d + nseg stack ≤ 8 }
-        ensures place { MatchResult result (λ place. placed self.old s (16 + d + stack) ≡ Some place) (λ _. placed self.old s (16 + d + stack) ≡ None) }
-        ensures kept { self.new ≡ with_image_moved self.old s (area_resized (area_of self.old s) d stack) (image_resized (image_of self.old s) d stack) (placed self.old s (16 + d + stack)) }
+        requires image { HasImage self.old.kept s }
+        requires segments { nseg (area_of self.old.kept s).text_size + nseg d + nseg stack ≤ 8 }
+        ensures place { MatchResult result (λ place. placed self.old.kept s (16 + d + stack) ≡ Some place) (λ _. placed self.old.kept s (16 + d + stack) ≡ None) }
+        ensures kept { self.new.kept ≡ with_image_moved self.old.kept s (area_resized (area_of self.old.kept s) d stack) (image_resized (image_of self.old.kept s) d stack) (placed self.old.kept s (16 + d + stack)) }
     {
         let bytes = sized_bytes(&self.area(s), d, stack);
         let row = row_of(&self.rows, s as usize);
@@ -300,12 +300,12 @@ impl Images {
     /// `NoSwap`: exactly where the image grows, and neither core nor the swap area has room beside the place that it
     /// has. Nothing has changed then.
     pub fn resize(&mut self, s: Slot, d: u16, stack: u16) -> Result<Place, NoSwap>
-        requires image { HasImage self.old s }
-        requires segments { nseg (area_of self.old s).text_size + nseg d + nseg stack ≤ 8 }
+        requires image { HasImage self.old.kept s }
+        requires segments { nseg (area_of self.old.kept s).text_size + nseg d + nseg stack ≤ 8 }
         ensures place { MatchResult result
             (λ place. expanded self.old s (16 + d + stack) ≡ Some place)
             (λ _. expanded self.old s (16 + d + stack) ≡ None) }
-        ensures kept { self.new ≡ with_image_moved self.old s (area_resized (area_of self.old s) d stack) (image_resized (image_of self.old s) d stack) (expanded self.old s (16 + d + stack)) }
+        ensures kept { self.new.kept ≡ with_image_moved self.old.kept s (area_resized (area_of self.old.kept s) d stack) (image_resized (image_of self.old.kept s) d stack) (expanded self.old.kept s (16 + d + stack)) }
     {
         if 16 + d + stack <= self.clicks(s) {
             return Ok(self.cut(s, d, stack));

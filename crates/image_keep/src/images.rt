@@ -53,13 +53,13 @@ pub struct Images {
 }
 
 impl Model for Images {
-    ghost use Rattle.image_keep.specs.Kept.{Kept};
+    ghost use Rattle.image_keep.specs.State.{ImagesState};
 
-    ghost Value = { Kept };
+    ghost Value = { ImagesState };
 
-    ghost use Rattle.image_keep.specs.Inside.{kept_in, AreImages};
+    ghost use Rattle.image_keep.specs.Inside.{state_of, AreImages};
 
-    ghost view = { kept_in };
+    ghost view = { state_of };
 
     ghost invariant = { AreImages };
 }
@@ -101,7 +101,9 @@ impl Images {
         requires least { 64 ≤ core }
         requires most { core ≤ 3968 }
         requires swap { length swap.now ≡ 446464 }
-        ensures { IfOk result (λ k. k ≡ first_kept core) }
+        ensures kept { IfOk result (λ images. images.kept ≡ first_kept core) }
+        ensures core { IfOk result (λ images. images.core ≡ replicate (64 * core) 0) }
+        ensures swap { IfOk result (λ images. images.swap ≡ swap.now) }
     {
         Ok(Images {
             memory: Memory::new(alloc, core, swap)?,
@@ -117,8 +119,8 @@ impl Images {
     /// Where a slot's image stands, or what is kept of a process that has ended.
     pub fn place(&self, s: Slot) -> Option<Place>
         requires { s < 50 }
-        ensures place { result ≡ place_of self.now s }
-        ensures holds { IsKept self.now }
+        ensures place { result ≡ place_of self.now.kept s }
+        ensures holds { IsKept self.now.kept }
     {
         self.memory.see_bytes();
         let row = row_of(&self.rows, s as usize);
@@ -127,17 +129,17 @@ impl Images {
 
     /// The most clicks that an image may have, its u area among them.
     pub fn limit(&self) -> u16
-        ensures { result ≡ most_clicks self.now }
+        ensures { result ≡ most_clicks self.now.kept }
     {
         self.core.min(MOST_CLICKS)
     }
 
     /// The u area of a slot with an image, as it stands in core or in the swap area.
     pub fn area(&self, s: Slot) -> UArea
-        requires { HasImage self.now s }
-        ensures u { result ≡ area_of self.now s }
-        ensures sizes { HasSizes result (image_of self.now s) }
-        ensures holds { IsKept self.now }
+        requires { HasImage self.now.kept s }
+        ensures u { result ≡ area_of self.now.kept s }
+        ensures sizes { HasSizes result (image_of self.now.kept s) }
+        ensures holds { IsKept self.now.kept }
     {
         self.memory.see_bytes();
         area_at(&self.areas, s as usize)
@@ -145,9 +147,9 @@ impl Images {
 
     /// Gives a slot with an image another u area, with the sizes of that image.
     pub fn set_area(&mut self, s: Slot, u: &UArea)
-        requires image { HasImage self.old s }
-        requires sizes { HasSizes u.now (image_of self.old s) }
-        ensures { self.new ≡ with_area self.old s u.now }
+        requires image { HasImage self.old.kept s }
+        requires sizes { HasSizes u.now (image_of self.old.kept s) }
+        ensures { self.new.kept ≡ with_area self.old.kept s u.now }
     {
         self.memory.see_bytes();
         let row = row_of(&self.rows, s as usize);
@@ -160,9 +162,9 @@ impl Images {
     /// Puts registers and condition codes into the u area of a slot with an image: its first 18 bytes are written, and the
     /// rest stands there as it was.
     pub fn set_registers(&mut self, s: Slot, r: &[u16; 8], cc: u8)
-        requires image { HasImage self.old s }
+        requires image { HasImage self.old.kept s }
         requires codes { cc < 16 }
-        ensures { self.new ≡ with_area self.old s (with_state (area_of self.old s) r.now cc) }
+        ensures { self.new.kept ≡ with_area self.old.kept s (with_state (area_of self.old.kept s) r.now cc) }
     {
         self.memory.see_bytes();
         let row = row_of(&self.rows, s as usize);
@@ -178,10 +180,10 @@ impl Images {
     ///
     /// `NoSwap`: exactly where the swap area has no free block. Nothing has changed then.
     pub fn end(&mut self, s: Slot) -> Result<u16, NoSwap>
-        requires image { HasImage self.old s }
-        requires no_text { text_of self.old s ≡ None }
-        ensures block { MatchResult result (λ block. swap_fit self.old 1 ≡ Some block) (λ _. swap_fit self.old 1 ≡ None) }
-        ensures kept { self.new ≡ with_grave_at self.old s (area_of self.old s) (swap_fit self.old 1) }
+        requires image { HasImage self.old.kept s }
+        requires no_text { text_of self.old.kept s ≡ None }
+        ensures block { MatchResult result (λ block. swap_fit self.old.kept 1 ≡ Some block) (λ _. swap_fit self.old.kept 1 ≡ None) }
+        ensures kept { self.new.kept ≡ with_grave_at self.old.kept s (area_of self.old.kept s) (swap_fit self.old.kept 1) }
     {
         let row = row_of(&self.rows, s as usize);
         let from = place_click(self.core, place_of(row));
@@ -200,9 +202,9 @@ impl Images {
 
     /// Takes a slot's image away: its place is free. Lions' Commentary, `exec` in `sys1.c`.
     pub fn bare(&mut self, s: Slot)
-        requires image { HasImage self.old s }
-        requires no_text { text_of self.old s ≡ None }
-        ensures { self.new ≡ with_keeping self.old s Nothing }
+        requires image { HasImage self.old.kept s }
+        requires no_text { text_of self.old.kept s ≡ None }
+        ensures { self.new.kept ≡ with_keeping self.old.kept s Nothing }
     {
         let row = row_of(&self.rows, s as usize);
         let _ = self.core_map.count();
@@ -214,10 +216,10 @@ impl Images {
     /// Gives what is kept of a process that has ended, and frees its slot and its block. Lions' Commentary, `wait` in
     /// `sys1.c`.
     pub fn reap(&mut self, s: Slot) -> [u8; 512]
-        requires { HasGrave self.old s }
-        ensures half { result ≡ half_of (area_of self.old s) }
-        ensures sized { IsSized (area_of self.old s) }
-        ensures kept { self.new ≡ with_keeping self.old s Nothing }
+        requires { HasGrave self.old.kept s }
+        ensures half { result ≡ half_of (area_of self.old.kept s) }
+        ensures sized { IsSized (area_of self.old.kept s) }
+        ensures kept { self.new.kept ≡ with_keeping self.old.kept s Nothing }
     {
         let row = row_of(&self.rows, s as usize);
         let block = grave_block(row);

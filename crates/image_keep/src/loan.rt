@@ -17,14 +17,14 @@ pub struct SpaceOf<'a> {
     images: &'a mut Images,
     slot: usize,
     starts: Starts,
-    ghost are: { AreStarts images.now slot starts },
-    ghost formed: { IsImage (image_of images.now slot) },
+    ghost are: { AreStarts images.now.kept slot starts },
+    ghost formed: { IsImage (image_of images.now.kept slot) },
 }
 
 impl Images {
     /// The memory of the process in a slot, which has an image.
     pub fn space(&mut self, s: Slot) -> SpaceOf<'_>
-        requires { HasImage self.old s }
+        requires { HasImage self.old.kept s }
         ensures images { result.images.now ≡ self.entry.now }
         ensures loan { result.images.ghost_name ≡ self.entry.ghost_name }
         ensures slot { result.slot ≡ s }
@@ -39,7 +39,7 @@ impl Images {
     /// The memory of the process of which this is fixed.
     #[inline(always)]
     pub fn space_at(&mut self, fixed: &Fixed) -> SpaceOf<'_>
-        requires { IsFixed self.old fixed.now }
+        requires { IsFixed self.old.kept fixed.now }
         ensures images { result.images.now ≡ self.entry.now }
         ensures loan { result.images.ghost_name ≡ self.entry.ghost_name }
         ensures slot { result.slot ≡ fixed.now.slot }
@@ -58,11 +58,11 @@ impl Space for SpaceOf<'_> {
     ghost use Rattle.image_keep.specs.Kept.{image_of};
     ghost use Rattle.image_keep.specs.Lent.{Lent, left_of};
 
-    ghost image = { λ space. image_of space.images.now space.slot };
+    ghost image = { λ space. image_of space.images.now.kept space.slot };
 
     ghost Rest = { Lent };
 
-    ghost rest = { λ space. record { loan = space.images.ghost_name; slot = space.slot; left = left_of space.images.now space.slot } };
+    ghost rest = { λ space. record { loan = space.images.ghost_name; slot = space.slot; left = left_of space.images.now.kept space.slot } };
 
     #[inline(always)]
     fn load_byte(&self, at: u16) -> Result<u8, Trap> {

@@ -81,13 +81,13 @@ impl Images {
     /// `NoSwap`: exactly where neither core nor the swap area has room. Nothing has changed then.
     pub fn replace(&mut self, s: Slot, p: Proto, text: Option<TextId>) -> Result<Place, NoSwap>
         requires slot { s < 50 }
-        requires nothing { keeping self.old s ≡ Nothing }
-        requires text { text ≡ text_of self.old s }
-        requires text_size { p.text_size ≡ text_clicks self.old text }
+        requires nothing { keeping self.old.kept s ≡ Nothing }
+        requires text { text ≡ text_of self.old.kept s }
+        requires text_size { p.text_size ≡ text_clicks self.old.kept text }
         ensures place { MatchResult result
             (λ place. placed self.old s (16 + p.data_size + p.stack_size) ≡ Some place)
             (λ _. placed self.old s (16 + p.data_size + p.stack_size) ≡ None) }
-        ensures kept { self.new ≡ with_image_moved self.old s (made_area p.text_size p.data_size p.stack_size) (made_image (text_bytes self.old text) p.data_size p.stack_size) (placed self.old s (16 + p.data_size + p.stack_size)) }
+        ensures kept { self.new.kept ≡ with_image_moved self.old.kept s (made_area p.text_size p.data_size p.stack_size) (made_image (text_bytes self.old.kept text) p.data_size p.stack_size) (placed self.old.kept s (16 + p.data_size + p.stack_size)) }
     {
         let bytes = made_bytes(p.text_size, p.data_size, p.stack_size);
         let row = row_of(&self.rows, s as usize);

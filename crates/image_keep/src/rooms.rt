@@ -21,7 +21,7 @@ fn is_room_in(map: &Holes, n: u16) -> bool
 impl Images {
     /// Whether so many clicks of core are free in one piece.
     pub fn has_room(&self, clicks: u16) -> bool
-        ensures { result ≡ is_some (core_fit self.now clicks) }
+        ensures { result ≡ is_some (core_fit self.now.kept clicks) }
     {
         is_room_in(&self.core_map, clicks)
     }

@@ -17,9 +17,9 @@ impl Images {
     /// How many bytes stand from a place on, up to the end of its list.
     #[inline(always)]
     fn room(&self, s: usize, starts: &Starts, at: Named) -> usize
-        requires starts { AreStarts self.now s starts.now }
-        requires within { IsWithin (image_of self.now s) at }
-        ensures { result ≡ room (image_of self.now s) at }
+        requires starts { AreStarts self.now.kept s starts.now }
+        requires within { IsWithin (image_of self.now.kept s) at }
+        ensures { result ≡ room (image_of self.now.kept s) at }
     {
         let _ = &self.memory;
         match at {
@@ -33,11 +33,11 @@ impl Images {
     /// Copies bytes that stand from a place on.
     #[inline(always)]
     fn get_part(&self, s: usize, starts: &Starts, from: Named, into: &mut [u8])
-        requires starts { AreStarts self.now s starts.now }
-        requires within { IsWithin (image_of self.now s) from }
-        requires few { length into.old ≤ room (image_of self.now s) from }
+        requires starts { AreStarts self.now.kept s starts.now }
+        requires within { IsWithin (image_of self.now.kept s) from }
+        requires few { length into.old ≤ room (image_of self.now.kept s) from }
         requires some { 0 < length into.old }
-        ensures { into.new ≡ run_at (image_of self.now s) from (length into.old) }
+        ensures { into.new ≡ run_at (image_of self.now.kept s) from (length into.old) }
     {
         self.memory.get(starts.start_of(from), into);
     }
@@ -45,24 +45,24 @@ impl Images {
     /// Writes bytes in place of those that stand from a place on.
     #[inline(always)]
     fn put_part(&mut self, s: usize, starts: &Starts, to: Named, bytes: &[u8])
-        requires starts { AreStarts self.old s starts.now }
-        requires within { IsWithin (image_of self.old s) to }
-        requires few { length bytes.now ≤ room (image_of self.old s) to }
+        requires starts { AreStarts self.old.kept s starts.now }
+        requires within { IsWithin (image_of self.old.kept s) to }
+        requires few { length bytes.now ≤ room (image_of self.old.kept s) to }
         requires some { 0 < length bytes.now }
         requires storable { IsStorable to }
-        ensures kept { self.new ≡ with_image self.old s (with_run (image_of self.old s) to bytes.now) }
-        ensures starts { AreStarts self.new s starts.now }
+        ensures kept { self.new.kept ≡ with_image self.old.kept s (with_run (image_of self.old.kept s) to bytes.now) }
+        ensures starts { AreStarts self.new.kept s starts.now }
     {
         self.memory.put(starts.start_of(to), bytes);
     }
 
     /// Gets up to 512 bytes from an address on, all of them, or says false where one of them cannot be read.
     pub(crate) fn copy_in(&self, s: usize, starts: &Starts, at: u16, into: &mut [u8]) -> bool
-        requires starts { AreStarts self.now s starts.now }
+        requires starts { AreStarts self.now.kept s starts.now }
         requires few { length into.old ≤ 512 }
-        requires formed { IsImage (image_of self.now s) }
-        ensures done { result ≡ true → load_bytes (image_of self.now s) at (length into.old) ≡ Some into.new }
-        ensures refused { result ≡ false → load_bytes (image_of self.now s) at (length into.old) ≡ None }
+        requires formed { IsImage (image_of self.now.kept s) }
+        ensures done { result ≡ true → load_bytes (image_of self.now.kept s) at (length into.old) ≡ Some into.new }
+        ensures refused { result ≡ false → load_bytes (image_of self.now.kept s) at (length into.old) ≡ None }
     {
         let mut done = 0;
         while done < into.len() {
@@ -79,11 +79,11 @@ impl Images {
 
     /// Whether so many bytes can be written from an address on.
     fn can_set(&self, s: usize, starts: &Starts, at: u16, count: usize) -> bool
-        requires starts { AreStarts self.now s starts.now }
+        requires starts { AreStarts self.now.kept s starts.now }
         requires few { count ≤ 512 }
-        requires formed { IsImage (image_of self.now s) }
-        ensures each { result ≡ true → (k : ℕ) → k < count → is_writable (image_of self.now s) ((at + k) % 65536) ≡ true }
-        ensures refused { result ≡ false → (bytes : List ℕ) → length bytes ≡ count → store_bytes (image_of self.now s) at bytes ≡ None }
+        requires formed { IsImage (image_of self.now.kept s) }
+        ensures each { result ≡ true → (k : ℕ) → k < count → is_writable (image_of self.now.kept s) ((at + k) % 65536) ≡ true }
+        ensures refused { result ≡ false → (bytes : List ℕ) → length bytes ≡ count → store_bytes (image_of self.now.kept s) at bytes ≡ None }
     {
         let mut done = 0;
         while done < count {
@@ -99,12 +99,12 @@ impl Images {
     /// Puts up to 512 bytes from an address on, whole or not at all: false where one of them cannot be written, and then
     /// nothing has changed.
     pub(crate) fn copy_out(&mut self, s: usize, starts: &Starts, at: u16, bytes: &[u8]) -> bool
-        requires starts { AreStarts self.old s starts.now }
+        requires starts { AreStarts self.old.kept s starts.now }
         requires few { length bytes.now ≤ 512 }
-        requires formed { IsImage (image_of self.old s) }
-        ensures done { result ≡ is_some (store_bytes (image_of self.old s) at bytes.now) }
-        ensures kept { self.new ≡ with_image self.old s (image_or (image_of self.old s) (store_bytes (image_of self.old s) at bytes.now)) }
-        ensures starts { AreStarts self.new s starts.now }
+        requires formed { IsImage (image_of self.old.kept s) }
+        ensures done { result ≡ is_some (store_bytes (image_of self.old.kept s) at bytes.now) }
+        ensures kept { self.new.kept ≡ with_image self.old.kept s (image_or (image_of self.old.kept s) (store_bytes (image_of self.old.kept s) at bytes.now)) }
+        ensures starts { AreStarts self.new.kept s starts.now }
     {
         if !self.can_set(s, starts, at, bytes.len()) {
             return false;

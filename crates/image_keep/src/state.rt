@@ -32,15 +32,15 @@ impl Images {
     /// What is kept has its form. Nothing is read.
     #[inline(always)]
     pub(crate) fn see_kept(&self)
-        ensures { IsKept self.now }
+        ensures { IsKept self.now.kept }
     {
         self.memory.see_bytes();
     }
 
     /// What stays fixed of a process in a slot, which has an image.
     pub fn fixed(&self, s: Slot) -> Fixed
-        requires { HasImage self.now s }
-        ensures fixed { IsFixed self.now result }
+        requires { HasImage self.now.kept s }
+        ensures fixed { IsFixed self.now.kept result }
         ensures slot { result.slot ≡ s }
     {
         let starts = self.starts(s);
@@ -57,8 +57,8 @@ impl Images {
     /// The u area of the process of which this is fixed, with its registers.
     #[inline(always)]
     pub fn area_at(&self, fixed: &Fixed) -> &UArea
-        requires { IsFixed self.now fixed.now }
-        ensures { result.now ≡ area_of self.now fixed.now.slot }
+        requires { IsFixed self.now.kept fixed.now }
+        ensures { result.now ≡ area_of self.now.kept fixed.now.slot }
     {
         area_ref(&self.areas, fixed.slot as usize)
     }
@@ -66,10 +66,10 @@ impl Images {
     /// Puts registers and condition codes into the u area of the process of which this is fixed.
     #[inline(always)]
     pub fn set_registers_at(&mut self, fixed: &Fixed, r: &[u16; 8], cc: u8)
-        requires fixed { IsFixed self.old fixed.now }
+        requires fixed { IsFixed self.old.kept fixed.now }
         requires codes { cc < 16 }
-        ensures kept { self.new ≡ with_area self.old fixed.now.slot (with_state (area_of self.old fixed.now.slot) r.now cc) }
-        ensures fixed { IsFixed self.new fixed.now }
+        ensures kept { self.new.kept ≡ with_area self.old.kept fixed.now.slot (with_state (area_of self.old.kept fixed.now.slot) r.now cc) }
+        ensures fixed { IsFixed self.new.kept fixed.now }
     {
         self.memory.see_bytes();
         let at = fixed.starts.image - AREA_SIZE;

@@ -151,9 +151,9 @@ impl Images {
     ///
     /// `NoCore`: exactly where core has no room. Nothing has changed then.
     pub fn swap_in(&mut self, s: Slot) -> Result<u16, NoCore>
-        requires { IsOut self.old s }
-        ensures place { MatchResult result (λ at. core_fit self.old (clicks_to_load self.old s) ≡ Some at) (λ _. core_fit self.old (clicks_to_load self.old s) ≡ None) }
-        ensures kept { self.new ≡ swapped_in self.old s (core_fit self.old (clicks_to_load self.old s)) }
+        requires { IsOut self.old.kept s }
+        ensures place { MatchResult result (λ at. core_fit self.old.kept (clicks_to_load self.old.kept s) ≡ Some at) (λ _. core_fit self.old.kept (clicks_to_load self.old.kept s) ≡ None) }
+        ensures kept { self.new.kept ≡ swapped_in self.old.kept s (core_fit self.old.kept (clicks_to_load self.old.kept s)) }
     {
         let row = row_of(&self.rows, s as usize);
         let block = block_of(row);
@@ -179,10 +179,10 @@ impl Images {
     ///
     /// `NoSwap`: exactly where the swap area has no room. Nothing has changed then.
     pub fn swap_out(&mut self, s: Slot) -> Result<u16, NoSwap>
-        requires { IsLoaded self.old s }
-        ensures block { MatchResult result (λ block. swap_fit self.old (blocks (clicks_of (area_of self.old s))) ≡ Some block)
+        requires { IsLoaded self.old.kept s }
+        ensures block { MatchResult result (λ block. swap_fit self.old.kept (blocks (clicks_of (area_of self.old.kept s))) ≡ Some block)
             (λ _. swap_fit self.old (blocks (clicks_of (area_of self.old s))) ≡ None) }
-        ensures kept { self.new ≡ swapped_out self.old s (swap_fit self.old (blocks (clicks_of (area_of self.old s)))) }
+        ensures kept { self.new.kept ≡ swapped_out self.old.kept s (swap_fit self.old.kept (blocks (clicks_of (area_of self.old.kept s)))) }
     {
         let row = row_of(&self.rows, s as usize);
         let clicks = clicks_of(row);

@@ -141,18 +141,18 @@ fn give_text(rows: &mut [Row], s: usize, text: Option<TextId>)
 impl Images {
     /// The text of an inode. `None` exactly where there is none.
     pub fn find_text(&self, ino: u16) -> Option<TextId>
-        ensures text { result ≡ found_text self.now ino }
-        ensures words { FindsText self.now ino result }
-        ensures texts { AreShared self.now }
-        ensures sized { AreLong self.now }
+        ensures text { result ≡ found_text self.now.kept ino }
+        ensures words { FindsText self.now.kept ino result }
+        ensures texts { AreShared self.now.kept }
+        ensures sized { AreLong self.now.kept }
     {
         self.texts.find(ino)
     }
 
     /// What is known of a text.
     pub fn text_row(&self, t: TextId) -> &TextRow
-        requires { IsSome (shared self.now t) }
-        ensures { result.now ≡ row_in (shared self.now t) }
+        requires { IsSome (shared self.now.kept t) }
+        ensures { result.now ≡ row_in (shared self.now.kept t) }
     {
         self.texts.row(t)
     }
@@ -167,12 +167,12 @@ impl Images {
     /// room. Nothing has changed then.
     pub fn new_text(&mut self, s: Slot, ino: u16, clicks: u16) -> Result<TextId, TextRefusal>
         requires slot { s < 50 }
-        requires nothing { keeping self.old s ≡ Nothing }
-        requires no_text { text_of self.old s ≡ None }
-        requires unknown { found_text self.old ino ≡ None }
+        requires nothing { keeping self.old.kept s ≡ Nothing }
+        requires no_text { text_of self.old.kept s ≡ None }
+        requires unknown { found_text self.old.kept ino ≡ None }
         requires some { 0 < clicks }
-        ensures text { result ≡ making (free_text self.old) (swap_fit self.old (blocks clicks)) }
-        ensures kept { self.new ≡ with_made_text self.old s ino clicks (free_text self.old) (swap_fit self.old (blocks clicks)) }
+        ensures text { result ≡ making (free_text self.old.kept) (swap_fit self.old.kept (blocks clicks)) }
+        ensures kept { self.new.kept ≡ with_made_text self.old.kept s ino clicks (free_text self.old.kept) (swap_fit self.old.kept (blocks clicks)) }
     {
         if self.texts.is_full() {
             return Err(TextRefusal::Full);
@@ -191,10 +191,10 @@ impl Images {
     /// A slot without a place shares a text that is there: it has one user more. Lions' Commentary, `xalloc` in `text.c`.
     pub fn join_text(&mut self, s: Slot, t: TextId)
         requires slot { s < 50 }
-        requires nothing { keeping self.old s ≡ Nothing }
-        requires no_text { text_of self.old s ≡ None }
-        requires used { IsSome (shared self.old t) }
-        ensures { self.new ≡ with_joined_text self.old s t }
+        requires nothing { keeping self.old.kept s ≡ Nothing }
+        requires no_text { text_of self.old.kept s ≡ None }
+        requires used { IsSome (shared self.old.kept t) }
+        ensures { self.new.kept ≡ with_joined_text self.old.kept s t }
     {
         self.texts.join(t);
         give_text(&mut self.rows, s as usize, Some(t));
@@ -204,9 +204,9 @@ impl Images {
     /// text stays where its file is sticky; else its entry and its blocks are free. The image of the slot, if it has one,
     /// has no text then, and its u area says so. Lions' Commentary, `xfree` in `text.c`.
     pub fn leave_text(&mut self, s: Slot, sticky: bool) -> Left
-        requires { (t : ℕ) × (text_of self.old s ≡ Some t) }
-        ensures left { result ≡ left (row_of_text self.old (text_of self.old s)) sticky }
-        ensures kept { self.new ≡ with_left_text self.old s sticky (text_of self.old s) }
+        requires { (t : ℕ) × (text_of self.old.kept s ≡ Some t) }
+        ensures left { result ≡ left (row_of_text self.old.kept (text_of self.old.kept s)) sticky }
+        ensures kept { self.new.kept ≡ with_left_text self.old.kept s sticky (text_of self.old.kept s) }
     {
         let row = row_of(&self.rows, s as usize);
         let t = text_in(row);
@@ -221,11 +221,11 @@ impl Images {
 
     /// Puts bytes into a text that is not in core. All who share it see them.
     pub fn text_bytes(&mut self, t: TextId, at: u32, bytes: &[u8])
-        requires { (x : Shared) × (shared self.old t ≡ Some x) × (x.row.loaded ≡ 0) × (at + length bytes.now ≤ 64 * x.row.clicks) }
-        ensures texts { self.new.texts ≡ slice_set self.old.texts t (filled at bytes.now (shared self.old t)) }
-        ensures slots { (s : ℕ) → keeping self.new s ≡ retexted t (bytes_in (filled at bytes.now (shared self.old t))) (text_of self.old s) (keeping self.old s) }
-        ensures users { self.new.users ≡ self.old.users }
-        ensures core { self.new.core ≡ self.old.core }
+        requires { (x : Shared) × (shared self.old.kept t ≡ Some x) × (x.row.loaded ≡ 0) × (at + length bytes.now ≤ 64 * x.row.clicks) }
+        ensures texts { self.new.kept.texts ≡ slice_set self.old.kept.texts t (filled at bytes.now (shared self.old.kept t)) }
+        ensures slots { (s : ℕ) → keeping self.new.kept s ≡ retexted t (bytes_in (filled at bytes.now (shared self.old.kept t))) (text_of self.old.kept s) (keeping self.old.kept s) }
+        ensures users { self.new.kept.users ≡ self.old.kept.users }
+        ensures core { self.new.kept.core ≡ self.old.kept.core }
     {
         let row = *self.texts.row(t);
         let first = block_click(self.core, row.block);

@@ -15,7 +15,7 @@ use Rattle.image_keep.proofs.images.Images.copy_in.Goals as goal
 
 pub loop-done-preserved : goal.loop-done-preserved
 loop-done-preserved c =
-    let m = image_of c.args.self.now c.args.s in
+    let m = image_of c.args.self.now.kept c.args.s in
     let done : ℕ = c.loop-done.done in
     let count : ℕ = c.min-count.result in
     let h = c.loop-done-test.true in
@@ -38,7 +38,7 @@ loop-done-preserved c =
 
 pub returns-then-count-eq0-clause-refused : goal.returns-then-count-eq0-clause-refused
 returns-then-count-eq0-clause-refused c f =
-    let m = image_of c.args.self.now c.args.s in
+    let m = image_of c.args.self.now.kept c.args.s in
     let done : ℕ = c.loop-done.done in
     let here = c.find-from.ensures.named in
     let size = c.loop-done.invariant.size in
@@ -51,7 +51,7 @@ returns-then-count-eq0-clause-refused c f =
 
 pub returns-clause-done : goal.returns-clause-done
 returns-clause-done c f =
-    let m = image_of c.args.self.now c.args.s in
+    let m = image_of c.args.self.now.kept c.args.s in
     let done : ℕ = c.loop-done.done in
     let n : ℕ = length c.args.into.now in
     let size = c.loop-done.invariant.size in

@@ -15,7 +15,7 @@ use Rattle.image_keep.proofs.images.Images.copy_out.Goals as goal
 can_put : (c : goal.After-put_part) → IsStorable (named (image_of c.loop-done.self c.args.s) ((c.args.at + c.loop-done.done) % 65536))
 can_put c =
     let same = c.loop-done.invariant.lengths in
-    writable_storable (image_of c.loop-done.self c.args.s) _ (same_writable (image_of c.args.self.now c.args.s) (image_of c.loop-done.self c.args.s) _ same ∙ c.can_set.ensures.each c.if-not-can_set.false c.loop-done.done c.loop-done-test.true)
+    writable_storable (image_of c.loop-done.self c.args.s) _ (same_writable (image_of c.args.self.now.kept c.args.s) (image_of c.loop-done.self c.args.s) _ same ∙ c.can_set.ensures.each c.if-not-can_set.false c.loop-done.done c.loop-done-test.true)
 
 least : (c : goal.After-put_part) → 0 < c.min-count.result
 least c =
@@ -24,7 +24,7 @@ least c =
 
 pub loop-done-preserved : goal.loop-done-preserved
 loop-done-preserved c =
-    let start = (image_of c.args.self.now c.args.s) in
+    let start = (image_of c.args.self.now.kept c.args.s) in
     let m = (image_of c.loop-done.self c.args.s) in
     let bytes : List ℕ = c.args.bytes.now in
     let done : ℕ = c.loop-done.done in
@@ -37,7 +37,7 @@ loop-done-preserved c =
     let few : count ≤ room m (named m ((c.args.at + done) % 65536)) = omega (arith, c.min-count.ensures) in
     let fits : done + count ≤ length bytes = omega (arith, c.min-count.ensures, h) in
     let part : take (done + count - done) (drop done bytes) ≡ take count (drop done bytes) = (let k : done + count - done ≡ count = omega arith in ap (λ n. take n (drop done bytes)) k) in
-    let stored = image_put c.args.self.now c.loop-done.self c.put_part.new.self c.args.s (with_run m c.find-to.result (take (done + count - done) (drop done bytes))) c.loop-done.invariant.kept c.loop-done.invariant.starts.alive c.put_part.ensures.kept in
+    let stored = image_put c.args.self.now.kept c.loop-done.self c.put_part.new.self c.args.s (with_run m c.find-to.result (take (done + count - done) (drop done bytes))) c.loop-done.invariant.kept c.loop-done.invariant.starts.alive c.put_part.ensures.kept in
     let new : (image_of c.put_part.new.self c.args.s) ≡ with_run m (named m ((c.args.at + done) % 65536)) (take count (drop done bytes)) =
     stored.1 ∙ ap (with_run m c.find-to.result) part ∙ ap (λ p. with_run m p (take count (drop done bytes))) here in
     let long : length (take count (drop done bytes)) ≡ count = length-take-le count (drop done bytes) (omega (arith, length-drop done bytes)) in
@@ -56,15 +56,15 @@ pub loop-done-smaller : goal.loop-done-smaller
 loop-done-smaller c = let some = least c in omega (arith, some, c.min-count.ensures, c.loop-done-test.true)
 
 pub returns-then-not-can_set-clause-kept : goal.returns-then-not-can_set-clause-kept
-returns-then-not-can_set-clause-kept c = none_kept c.args.self.now c.args.s (store_bytes (image_of c.args.self.now c.args.s) c.args.at c.args.bytes.now) (c.can_set.ensures.refused c.if-not-can_set.true c.args.bytes.now refl)
+returns-then-not-can_set-clause-kept c = none_kept c.args.self.now.kept c.args.s (store_bytes (image_of c.args.self.now.kept c.args.s) c.args.at c.args.bytes.now) (c.can_set.ensures.refused c.if-not-can_set.true c.args.bytes.now refl)
 
 pub loop-done-init : goal.loop-done-init
 loop-done-init c =
     let flat : c.args.at + 0 ≡ c.args.at = omega arith in
     record {
-      kept = sym (image_back c.args.self.now c.args.s);
+      kept = sym (image_back c.args.self.now.kept c.args.s);
       starts = c.requires.starts;
-      lengths = same_lengths (image_of c.args.self.now c.args.s);
+      lengths = same_lengths (image_of c.args.self.now.kept c.args.s);
       few = omega arith;
-      same = ap (λ a. store_bytes (image_of c.args.self.now c.args.s) a c.args.bytes.now) flat;
+      same = ap (λ a. store_bytes (image_of c.args.self.now.kept c.args.s) a c.args.bytes.now) flat;
     }

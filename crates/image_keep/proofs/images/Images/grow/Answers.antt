@@ -1,3 +1,4 @@
+use Rattle.image_keep.proofs.StateOf.{kept_is}
 use Rattle.std.proofs.Common.{rules, ◌≡◌, ◌+◌, ◌∙◌, true, length, sym, ap, arith, subst, set, Some, None}
 use Rattle.std.specs.Vec.{with_items}
 use Rattle.std.proofs.lemmas.List.{with_items_is}
@@ -19,28 +20,28 @@ use Rattle.image_keep.proofs.AreasKept.{image_low, seat, area_sized, areas_moved
 use Rattle.image_keep.proofs.images.Images.grow.Goals as goal
 
 pub place_of-from-requires : goal.place_of-from-requires
-place_of-from-requires c = ap is_alive (ap (λ (r : Row). r.state) (rw c.deref.ensures.value at c.row_of-row.ensures) ∙ (known (stock_in c.self.inside) c.args.self.now c.args.s c.self.view_is c.self.invariant.sound c.self.invariant.counted c.requires.image).is)
+place_of-from-requires c = ap is_alive (ap (λ (r : Row). r.state) (rw c.deref.ensures.value at c.row_of-row.ensures) ∙ (known (stock_in c.self.inside) c.args.self.now.kept c.args.s (kept_is c.self.view_is) c.self.invariant.sound c.self.invariant.counted c.requires.image).is)
 
 pub returns-in-None-clause-place : goal.returns-in-None-clause-place
-returns-in-None-clause-place c = sym (placed_is (stock_in c.self.inside) c.args.self.now c.args.s (16 + c.args.d + c.args.stack) c.self.inside.core_map c.self.inside.swap_map c.may_stand-stands.result c.row_of-row.result None c.self.view_is c.self.invariant.sound c.self.invariant.maps (rw c.deref.ensures.value at c.row_of-row.ensures) c.may_stand-stands.ensures c.in-None.ensures.fit)
+returns-in-None-clause-place c = sym (placed_is (stock_in c.self.inside) c.args.self.now.kept c.args.s (16 + c.args.d + c.args.stack) c.self.inside.core_map c.self.inside.swap_map c.may_stand-stands.result c.row_of-row.result None (kept_is c.self.view_is) c.self.invariant.sound c.self.invariant.maps (rw c.deref.ensures.value at c.row_of-row.ensures) c.may_stand-stands.ensures c.in-None.ensures.fit)
 
 pub returns-in-None-clause-kept : goal.returns-in-None-clause-kept
-returns-in-None-clause-kept c = c.self.view_is ∙ ap (with_image_moved c.args.self.now c.args.s (area_resized (area_of c.args.self.now c.args.s) c.args.d c.args.stack) (image_resized (image_of c.args.self.now c.args.s) c.args.d c.args.stack)) (placed_is (stock_in c.self.inside) c.args.self.now c.args.s (16 + c.args.d + c.args.stack) c.self.inside.core_map c.self.inside.swap_map c.may_stand-stands.result c.row_of-row.result None c.self.view_is c.self.invariant.sound c.self.invariant.maps (rw c.deref.ensures.value at c.row_of-row.ensures) c.may_stand-stands.ensures c.in-None.ensures.fit)
+returns-in-None-clause-kept c = (kept_is c.self.view_is) ∙ ap (with_image_moved c.args.self.now.kept c.args.s (area_resized (area_of c.args.self.now.kept c.args.s) c.args.d c.args.stack) (image_resized (image_of c.args.self.now.kept c.args.s) c.args.d c.args.stack)) (placed_is (stock_in c.self.inside) c.args.self.now.kept c.args.s (16 + c.args.d + c.args.stack) c.self.inside.core_map c.self.inside.swap_map c.may_stand-stands.result c.row_of-row.result None (kept_is c.self.view_is) c.self.invariant.sound c.self.invariant.maps (rw c.deref.ensures.value at c.row_of-row.ensures) c.may_stand-stands.ensures c.in-None.ensures.fit)
 
 pub place_click-to-requires : goal.place_click-to-requires
-place_click-to-requires c = ((16 + c.args.d + c.args.stack), (place_found (stock_in c.self.inside) c.args.self.now c.args.s (16 + c.args.d + c.args.stack) c.in-Some.place c.self.view_is c.self.invariant.sound (sym (placed_is (stock_in c.self.inside) c.args.self.now c.args.s (16 + c.args.d + c.args.stack) c.self.inside.core_map c.self.inside.swap_map c.may_stand-stands.result c.row_of-row.result (Some c.in-Some.place) c.self.view_is c.self.invariant.sound c.self.invariant.maps (rw c.deref.ensures.value at c.row_of-row.ensures) c.may_stand-stands.ensures c.in-Some.ensures.fit))).inside)
+place_click-to-requires c = ((16 + c.args.d + c.args.stack), (place_found (stock_in c.self.inside) c.args.self.now.kept c.args.s (16 + c.args.d + c.args.stack) c.in-Some.place (kept_is c.self.view_is) c.self.invariant.sound (sym (placed_is (stock_in c.self.inside) c.args.self.now.kept c.args.s (16 + c.args.d + c.args.stack) c.self.inside.core_map c.self.inside.swap_map c.may_stand-stands.result c.row_of-row.result (Some c.in-Some.place) (kept_is c.self.view_is) c.self.invariant.sound c.self.invariant.maps (rw c.deref.ensures.value at c.row_of-row.ensures) c.may_stand-stands.ensures c.in-Some.ensures.fit))).inside)
 
 pub lay_resized-requires-clause-low_to : goal.lay_resized-requires-clause-low_to
-lay_resized-requires-clause-low_to c = place_low c.self.inside.core (16 + c.args.d + c.args.stack) c.place_click-to.result c.in-Some.place (place_found (stock_in c.self.inside) c.args.self.now c.args.s (16 + c.args.d + c.args.stack) c.in-Some.place c.self.view_is c.self.invariant.sound (sym (placed_is (stock_in c.self.inside) c.args.self.now c.args.s (16 + c.args.d + c.args.stack) c.self.inside.core_map c.self.inside.swap_map c.may_stand-stands.result c.row_of-row.result (Some c.in-Some.place) c.self.view_is c.self.invariant.sound c.self.invariant.maps (rw c.deref.ensures.value at c.row_of-row.ensures) c.may_stand-stands.ensures c.in-Some.ensures.fit))).inside c.self.invariant.sound.most c.place_click-to.ensures
+lay_resized-requires-clause-low_to c = place_low c.self.inside.core (16 + c.args.d + c.args.stack) c.place_click-to.result c.in-Some.place (place_found (stock_in c.self.inside) c.args.self.now.kept c.args.s (16 + c.args.d + c.args.stack) c.in-Some.place (kept_is c.self.view_is) c.self.invariant.sound (sym (placed_is (stock_in c.self.inside) c.args.self.now.kept c.args.s (16 + c.args.d + c.args.stack) c.self.inside.core_map c.self.inside.swap_map c.may_stand-stands.result c.row_of-row.result (Some c.in-Some.place) (kept_is c.self.view_is) c.self.invariant.sound c.self.invariant.maps (rw c.deref.ensures.value at c.row_of-row.ensures) c.may_stand-stands.ensures c.in-Some.ensures.fit))).inside c.self.invariant.sound.most c.place_click-to.ensures
 
 pub lay_resized-requires-clause-to : goal.lay_resized-requires-clause-to
-lay_resized-requires-clause-to c = (place_inside c.self.inside.core (16 + c.args.d + c.args.stack) c.place_click-to.result c.in-Some.place (length c.self.inside.memory.core) (length (line_of c.self.inside.memory)) (place_found (stock_in c.self.inside) c.args.self.now c.args.s (16 + c.args.d + c.args.stack) c.in-Some.place c.self.view_is c.self.invariant.sound (sym (placed_is (stock_in c.self.inside) c.args.self.now c.args.s (16 + c.args.d + c.args.stack) c.self.inside.core_map c.self.inside.swap_map c.may_stand-stands.result c.row_of-row.result (Some c.in-Some.place) c.self.view_is c.self.invariant.sound c.self.invariant.maps (rw c.deref.ensures.value at c.row_of-row.ensures) c.may_stand-stands.ensures c.in-Some.ensures.fit))).inside c.place_click-to.ensures c.self.invariant.cut c.self.invariant.sound.size).0
+lay_resized-requires-clause-to c = (place_inside c.self.inside.core (16 + c.args.d + c.args.stack) c.place_click-to.result c.in-Some.place (length c.self.inside.memory.core) (length (line_of c.self.inside.memory)) (place_found (stock_in c.self.inside) c.args.self.now.kept c.args.s (16 + c.args.d + c.args.stack) c.in-Some.place (kept_is c.self.view_is) c.self.invariant.sound (sym (placed_is (stock_in c.self.inside) c.args.self.now.kept c.args.s (16 + c.args.d + c.args.stack) c.self.inside.core_map c.self.inside.swap_map c.may_stand-stands.result c.row_of-row.result (Some c.in-Some.place) (kept_is c.self.view_is) c.self.invariant.sound c.self.invariant.maps (rw c.deref.ensures.value at c.row_of-row.ensures) c.may_stand-stands.ensures c.in-Some.ensures.fit))).inside c.place_click-to.ensures c.self.invariant.cut c.self.invariant.sound.size).0
 
 pub lay_resized-requires-clause-to_inside : goal.lay_resized-requires-clause-to_inside
-lay_resized-requires-clause-to_inside c = (place_inside c.self.inside.core (16 + c.args.d + c.args.stack) c.place_click-to.result c.in-Some.place (length c.self.inside.memory.core) (length (line_of c.self.inside.memory)) (place_found (stock_in c.self.inside) c.args.self.now c.args.s (16 + c.args.d + c.args.stack) c.in-Some.place c.self.view_is c.self.invariant.sound (sym (placed_is (stock_in c.self.inside) c.args.self.now c.args.s (16 + c.args.d + c.args.stack) c.self.inside.core_map c.self.inside.swap_map c.may_stand-stands.result c.row_of-row.result (Some c.in-Some.place) c.self.view_is c.self.invariant.sound c.self.invariant.maps (rw c.deref.ensures.value at c.row_of-row.ensures) c.may_stand-stands.ensures c.in-Some.ensures.fit))).inside c.place_click-to.ensures c.self.invariant.cut c.self.invariant.sound.size).1
+lay_resized-requires-clause-to_inside c = (place_inside c.self.inside.core (16 + c.args.d + c.args.stack) c.place_click-to.result c.in-Some.place (length c.self.inside.memory.core) (length (line_of c.self.inside.memory)) (place_found (stock_in c.self.inside) c.args.self.now.kept c.args.s (16 + c.args.d + c.args.stack) c.in-Some.place (kept_is c.self.view_is) c.self.invariant.sound (sym (placed_is (stock_in c.self.inside) c.args.self.now.kept c.args.s (16 + c.args.d + c.args.stack) c.self.inside.core_map c.self.inside.swap_map c.may_stand-stands.result c.row_of-row.result (Some c.in-Some.place) (kept_is c.self.view_is) c.self.invariant.sound c.self.invariant.maps (rw c.deref.ensures.value at c.row_of-row.ensures) c.may_stand-stands.ensures c.in-Some.ensures.fit))).inside c.place_click-to.ensures c.self.invariant.cut c.self.invariant.sound.size).1
 
 pub lay_resized-requires-clause-apart : goal.lay_resized-requires-clause-apart
-lay_resized-requires-clause-apart c = clicks_apart c.self.inside.core (16 + c.args.d + c.args.stack) (clicks_in c.row_of-row.result) c.place_click-at.result c.place_click-to.result c.place_of-from.result c.in-Some.place c.place_click-at.ensures c.place_click-to.ensures (subst (λ (r : Row). AreApart (record { at = place_at c.self.inside.core c.in-Some.place; size = place_size c.in-Some.place (16 + c.args.d + c.args.stack) }) (record { at = place_at c.self.inside.core c.place_of-from.result; size = place_size c.place_of-from.result (clicks_in r) })) (sym (rw c.deref.ensures.value at c.row_of-row.ensures)) (subst (AreApart (record { at = place_at c.self.inside.core c.in-Some.place; size = place_size c.in-Some.place (16 + c.args.d + c.args.stack) })) (ap (λ st. spot_by c.self.inside.core st (clicks_in (row_at c.self.inside.rows.items c.args.s))) (at_place_of (stock_in c.self.inside) c.args.self.now c.args.s c.row_of-row.result c.place_of-from.result c.self.view_is c.self.invariant.sound c.self.invariant.counted c.requires.image (rw c.deref.ensures.value at c.row_of-row.ensures) c.place_of-from.ensures).is) ((place_found (stock_in c.self.inside) c.args.self.now c.args.s (16 + c.args.d + c.args.stack) c.in-Some.place c.self.view_is c.self.invariant.sound (sym (placed_is (stock_in c.self.inside) c.args.self.now c.args.s (16 + c.args.d + c.args.stack) c.self.inside.core_map c.self.inside.swap_map c.may_stand-stands.result c.row_of-row.result (Some c.in-Some.place) c.self.view_is c.self.invariant.sound c.self.invariant.maps (rw c.deref.ensures.value at c.row_of-row.ensures) c.may_stand-stands.ensures c.in-Some.ensures.fit))).free (RowOf c.args.s))))
+lay_resized-requires-clause-apart c = clicks_apart c.self.inside.core (16 + c.args.d + c.args.stack) (clicks_in c.row_of-row.result) c.place_click-at.result c.place_click-to.result c.place_of-from.result c.in-Some.place c.place_click-at.ensures c.place_click-to.ensures (subst (λ (r : Row). AreApart (record { at = place_at c.self.inside.core c.in-Some.place; size = place_size c.in-Some.place (16 + c.args.d + c.args.stack) }) (record { at = place_at c.self.inside.core c.place_of-from.result; size = place_size c.place_of-from.result (clicks_in r) })) (sym (rw c.deref.ensures.value at c.row_of-row.ensures)) (subst (AreApart (record { at = place_at c.self.inside.core c.in-Some.place; size = place_size c.in-Some.place (16 + c.args.d + c.args.stack) })) (ap (λ st. spot_by c.self.inside.core st (clicks_in (row_at c.self.inside.rows.items c.args.s))) (at_place_of (stock_in c.self.inside) c.args.self.now.kept c.args.s c.row_of-row.result c.place_of-from.result (kept_is c.self.view_is) c.self.invariant.sound c.self.invariant.counted c.requires.image (rw c.deref.ensures.value at c.row_of-row.ensures) c.place_of-from.ensures).is) ((place_found (stock_in c.self.inside) c.args.self.now.kept c.args.s (16 + c.args.d + c.args.stack) c.in-Some.place (kept_is c.self.view_is) c.self.invariant.sound (sym (placed_is (stock_in c.self.inside) c.args.self.now.kept c.args.s (16 + c.args.d + c.args.stack) c.self.inside.core_map c.self.inside.swap_map c.may_stand-stands.result c.row_of-row.result (Some c.in-Some.place) (kept_is c.self.view_is) c.self.invariant.sound c.self.invariant.maps (rw c.deref.ensures.value at c.row_of-row.ensures) c.may_stand-stands.ensures c.in-Some.ensures.fit))).free (RowOf c.args.s))))
 
 pub give_back-requires-clause-inside : goal.give_back-requires-clause-inside
 give_back-requires-clause-inside c = (c.self.inside.core, c.self.invariant.sound.most, subst (λ (r : Row). InsideBy c.self.inside.core r.state (clicks_in r)) (sym (rw c.deref.ensures.value at c.row_of-row.ensures)) (row_inside (stock_in c.self.inside) c.args.s c.self.invariant.sound))
@@ -58,31 +59,31 @@ pub give_back-requires-clause-swap_room : goal.give_back-requires-clause-swap_ro
 give_back-requires-clause-swap_room c = let a = (both_room (stock_in c.self.inside) c.self.inside.core_map c.self.inside.swap_map c.self.invariant.sound c.self.invariant.maps c.self.invariant.table c.count.ensures.few c.count-2.ensures.few).1 in let b = c.take_place.ensures.few_swap in omega (arith, a, b)
 
 pub move_text-requires-clause-few : goal.move_text-requires-clause-few
-move_text-requires-clause-few c = (moved_text (stock_in c.self.inside) c.args.self.now c.args.s c.args.d c.args.stack c.place_click-at.result c.place_click-to.result c.place_of-from.result c.in-Some.place c.area.result c.sized_bytes-bytes.result c.self.inside.core_map c.self.inside.swap_map c.take_place.new.core_map c.give_back.new.core_map c.take_place.new.swap_map c.give_back.new.swap_map c.row_of-row.result c.self.view_is c.self.invariant.sound c.self.invariant.maps c.self.invariant.counted c.self.invariant.told c.requires.image (rw c.deref.ensures.value at c.row_of-row.ensures) c.place_of-from.ensures c.requires.segments c.area.ensures.u c.sized_bytes-bytes.ensures.sized c.sized_bytes-bytes.ensures.written (search rules) (sym (placed_is (stock_in c.self.inside) c.args.self.now c.args.s (16 + c.args.d + c.args.stack) c.self.inside.core_map c.self.inside.swap_map c.may_stand-stands.result c.row_of-row.result (Some c.in-Some.place) c.self.view_is c.self.invariant.sound c.self.invariant.maps (rw c.deref.ensures.value at c.row_of-row.ensures) c.may_stand-stands.ensures c.in-Some.ensures.fit)) c.place_click-at.ensures c.place_click-to.ensures c.in-Some.ensures.core c.in-Some.ensures.swap c.give_back.ensures.core c.give_back.ensures.swap c.self.invariant.table c.count-3.ensures.few).few
+move_text-requires-clause-few c = (moved_text (stock_in c.self.inside) c.args.self.now.kept c.args.s c.args.d c.args.stack c.place_click-at.result c.place_click-to.result c.place_of-from.result c.in-Some.place c.area.result c.sized_bytes-bytes.result c.self.inside.core_map c.self.inside.swap_map c.take_place.new.core_map c.give_back.new.core_map c.take_place.new.swap_map c.give_back.new.swap_map c.row_of-row.result (kept_is c.self.view_is) c.self.invariant.sound c.self.invariant.maps c.self.invariant.counted c.self.invariant.told c.requires.image (rw c.deref.ensures.value at c.row_of-row.ensures) c.place_of-from.ensures c.requires.segments c.area.ensures.u c.sized_bytes-bytes.ensures.sized c.sized_bytes-bytes.ensures.written (search rules) (sym (placed_is (stock_in c.self.inside) c.args.self.now.kept c.args.s (16 + c.args.d + c.args.stack) c.self.inside.core_map c.self.inside.swap_map c.may_stand-stands.result c.row_of-row.result (Some c.in-Some.place) (kept_is c.self.view_is) c.self.invariant.sound c.self.invariant.maps (rw c.deref.ensures.value at c.row_of-row.ensures) c.may_stand-stands.ensures c.in-Some.ensures.fit)) c.place_click-at.ensures c.place_click-to.ensures c.in-Some.ensures.core c.in-Some.ensures.swap c.give_back.ensures.core c.give_back.ensures.swap c.self.invariant.table c.count-3.ensures.few).few
 
 pub move_text-requires-clause-some : goal.move_text-requires-clause-some
-move_text-requires-clause-some c = (moved_text (stock_in c.self.inside) c.args.self.now c.args.s c.args.d c.args.stack c.place_click-at.result c.place_click-to.result c.place_of-from.result c.in-Some.place c.area.result c.sized_bytes-bytes.result c.self.inside.core_map c.self.inside.swap_map c.take_place.new.core_map c.give_back.new.core_map c.take_place.new.swap_map c.give_back.new.swap_map c.row_of-row.result c.self.view_is c.self.invariant.sound c.self.invariant.maps c.self.invariant.counted c.self.invariant.told c.requires.image (rw c.deref.ensures.value at c.row_of-row.ensures) c.place_of-from.ensures c.requires.segments c.area.ensures.u c.sized_bytes-bytes.ensures.sized c.sized_bytes-bytes.ensures.written (search rules) (sym (placed_is (stock_in c.self.inside) c.args.self.now c.args.s (16 + c.args.d + c.args.stack) c.self.inside.core_map c.self.inside.swap_map c.may_stand-stands.result c.row_of-row.result (Some c.in-Some.place) c.self.view_is c.self.invariant.sound c.self.invariant.maps (rw c.deref.ensures.value at c.row_of-row.ensures) c.may_stand-stands.ensures c.in-Some.ensures.fit)) c.place_click-at.ensures c.place_click-to.ensures c.in-Some.ensures.core c.in-Some.ensures.swap c.give_back.ensures.core c.give_back.ensures.swap c.self.invariant.table c.count-3.ensures.few).some
+move_text-requires-clause-some c = (moved_text (stock_in c.self.inside) c.args.self.now.kept c.args.s c.args.d c.args.stack c.place_click-at.result c.place_click-to.result c.place_of-from.result c.in-Some.place c.area.result c.sized_bytes-bytes.result c.self.inside.core_map c.self.inside.swap_map c.take_place.new.core_map c.give_back.new.core_map c.take_place.new.swap_map c.give_back.new.swap_map c.row_of-row.result (kept_is c.self.view_is) c.self.invariant.sound c.self.invariant.maps c.self.invariant.counted c.self.invariant.told c.requires.image (rw c.deref.ensures.value at c.row_of-row.ensures) c.place_of-from.ensures c.requires.segments c.area.ensures.u c.sized_bytes-bytes.ensures.sized c.sized_bytes-bytes.ensures.written (search rules) (sym (placed_is (stock_in c.self.inside) c.args.self.now.kept c.args.s (16 + c.args.d + c.args.stack) c.self.inside.core_map c.self.inside.swap_map c.may_stand-stands.result c.row_of-row.result (Some c.in-Some.place) (kept_is c.self.view_is) c.self.invariant.sound c.self.invariant.maps (rw c.deref.ensures.value at c.row_of-row.ensures) c.may_stand-stands.ensures c.in-Some.ensures.fit)) c.place_click-at.ensures c.place_click-to.ensures c.in-Some.ensures.core c.in-Some.ensures.swap c.give_back.ensures.core c.give_back.ensures.swap c.self.invariant.table c.count-3.ensures.few).some
 
 pub move_text-requires-clause-clicks : goal.move_text-requires-clause-clicks
-move_text-requires-clause-clicks c = (moved_text (stock_in c.self.inside) c.args.self.now c.args.s c.args.d c.args.stack c.place_click-at.result c.place_click-to.result c.place_of-from.result c.in-Some.place c.area.result c.sized_bytes-bytes.result c.self.inside.core_map c.self.inside.swap_map c.take_place.new.core_map c.give_back.new.core_map c.take_place.new.swap_map c.give_back.new.swap_map c.row_of-row.result c.self.view_is c.self.invariant.sound c.self.invariant.maps c.self.invariant.counted c.self.invariant.told c.requires.image (rw c.deref.ensures.value at c.row_of-row.ensures) c.place_of-from.ensures c.requires.segments c.area.ensures.u c.sized_bytes-bytes.ensures.sized c.sized_bytes-bytes.ensures.written (search rules) (sym (placed_is (stock_in c.self.inside) c.args.self.now c.args.s (16 + c.args.d + c.args.stack) c.self.inside.core_map c.self.inside.swap_map c.may_stand-stands.result c.row_of-row.result (Some c.in-Some.place) c.self.view_is c.self.invariant.sound c.self.invariant.maps (rw c.deref.ensures.value at c.row_of-row.ensures) c.may_stand-stands.ensures c.in-Some.ensures.fit)) c.place_click-at.ensures c.place_click-to.ensures c.in-Some.ensures.core c.in-Some.ensures.swap c.give_back.ensures.core c.give_back.ensures.swap c.self.invariant.table c.count-3.ensures.few).clicks
+move_text-requires-clause-clicks c = (moved_text (stock_in c.self.inside) c.args.self.now.kept c.args.s c.args.d c.args.stack c.place_click-at.result c.place_click-to.result c.place_of-from.result c.in-Some.place c.area.result c.sized_bytes-bytes.result c.self.inside.core_map c.self.inside.swap_map c.take_place.new.core_map c.give_back.new.core_map c.take_place.new.swap_map c.give_back.new.swap_map c.row_of-row.result (kept_is c.self.view_is) c.self.invariant.sound c.self.invariant.maps c.self.invariant.counted c.self.invariant.told c.requires.image (rw c.deref.ensures.value at c.row_of-row.ensures) c.place_of-from.ensures c.requires.segments c.area.ensures.u c.sized_bytes-bytes.ensures.sized c.sized_bytes-bytes.ensures.written (search rules) (sym (placed_is (stock_in c.self.inside) c.args.self.now.kept c.args.s (16 + c.args.d + c.args.stack) c.self.inside.core_map c.self.inside.swap_map c.may_stand-stands.result c.row_of-row.result (Some c.in-Some.place) (kept_is c.self.view_is) c.self.invariant.sound c.self.invariant.maps (rw c.deref.ensures.value at c.row_of-row.ensures) c.may_stand-stands.ensures c.in-Some.ensures.fit)) c.place_click-at.ensures c.place_click-to.ensures c.in-Some.ensures.core c.in-Some.ensures.swap c.give_back.ensures.core c.give_back.ensures.swap c.self.invariant.table c.count-3.ensures.few).clicks
 
 pub move_text-requires-clause-small : goal.move_text-requires-clause-small
-move_text-requires-clause-small c = (moved_text (stock_in c.self.inside) c.args.self.now c.args.s c.args.d c.args.stack c.place_click-at.result c.place_click-to.result c.place_of-from.result c.in-Some.place c.area.result c.sized_bytes-bytes.result c.self.inside.core_map c.self.inside.swap_map c.take_place.new.core_map c.give_back.new.core_map c.take_place.new.swap_map c.give_back.new.swap_map c.row_of-row.result c.self.view_is c.self.invariant.sound c.self.invariant.maps c.self.invariant.counted c.self.invariant.told c.requires.image (rw c.deref.ensures.value at c.row_of-row.ensures) c.place_of-from.ensures c.requires.segments c.area.ensures.u c.sized_bytes-bytes.ensures.sized c.sized_bytes-bytes.ensures.written (search rules) (sym (placed_is (stock_in c.self.inside) c.args.self.now c.args.s (16 + c.args.d + c.args.stack) c.self.inside.core_map c.self.inside.swap_map c.may_stand-stands.result c.row_of-row.result (Some c.in-Some.place) c.self.view_is c.self.invariant.sound c.self.invariant.maps (rw c.deref.ensures.value at c.row_of-row.ensures) c.may_stand-stands.ensures c.in-Some.ensures.fit)) c.place_click-at.ensures c.place_click-to.ensures c.in-Some.ensures.core c.in-Some.ensures.swap c.give_back.ensures.core c.give_back.ensures.swap c.self.invariant.table c.count-3.ensures.few).small
+move_text-requires-clause-small c = (moved_text (stock_in c.self.inside) c.args.self.now.kept c.args.s c.args.d c.args.stack c.place_click-at.result c.place_click-to.result c.place_of-from.result c.in-Some.place c.area.result c.sized_bytes-bytes.result c.self.inside.core_map c.self.inside.swap_map c.take_place.new.core_map c.give_back.new.core_map c.take_place.new.swap_map c.give_back.new.swap_map c.row_of-row.result (kept_is c.self.view_is) c.self.invariant.sound c.self.invariant.maps c.self.invariant.counted c.self.invariant.told c.requires.image (rw c.deref.ensures.value at c.row_of-row.ensures) c.place_of-from.ensures c.requires.segments c.area.ensures.u c.sized_bytes-bytes.ensures.sized c.sized_bytes-bytes.ensures.written (search rules) (sym (placed_is (stock_in c.self.inside) c.args.self.now.kept c.args.s (16 + c.args.d + c.args.stack) c.self.inside.core_map c.self.inside.swap_map c.may_stand-stands.result c.row_of-row.result (Some c.in-Some.place) (kept_is c.self.view_is) c.self.invariant.sound c.self.invariant.maps (rw c.deref.ensures.value at c.row_of-row.ensures) c.may_stand-stands.ensures c.in-Some.ensures.fit)) c.place_click-at.ensures c.place_click-to.ensures c.in-Some.ensures.core c.in-Some.ensures.swap c.give_back.ensures.core c.give_back.ensures.swap c.self.invariant.table c.count-3.ensures.few).small
 
 pub move_text-requires-clause-taken : goal.move_text-requires-clause-taken
-move_text-requires-clause-taken c = (moved_text (stock_in c.self.inside) c.args.self.now c.args.s c.args.d c.args.stack c.place_click-at.result c.place_click-to.result c.place_of-from.result c.in-Some.place c.area.result c.sized_bytes-bytes.result c.self.inside.core_map c.self.inside.swap_map c.take_place.new.core_map c.give_back.new.core_map c.take_place.new.swap_map c.give_back.new.swap_map c.row_of-row.result c.self.view_is c.self.invariant.sound c.self.invariant.maps c.self.invariant.counted c.self.invariant.told c.requires.image (rw c.deref.ensures.value at c.row_of-row.ensures) c.place_of-from.ensures c.requires.segments c.area.ensures.u c.sized_bytes-bytes.ensures.sized c.sized_bytes-bytes.ensures.written (search rules) (sym (placed_is (stock_in c.self.inside) c.args.self.now c.args.s (16 + c.args.d + c.args.stack) c.self.inside.core_map c.self.inside.swap_map c.may_stand-stands.result c.row_of-row.result (Some c.in-Some.place) c.self.view_is c.self.invariant.sound c.self.invariant.maps (rw c.deref.ensures.value at c.row_of-row.ensures) c.may_stand-stands.ensures c.in-Some.ensures.fit)) c.place_click-at.ensures c.place_click-to.ensures c.in-Some.ensures.core c.in-Some.ensures.swap c.give_back.ensures.core c.give_back.ensures.swap c.self.invariant.table c.count-3.ensures.few).taken
+move_text-requires-clause-taken c = (moved_text (stock_in c.self.inside) c.args.self.now.kept c.args.s c.args.d c.args.stack c.place_click-at.result c.place_click-to.result c.place_of-from.result c.in-Some.place c.area.result c.sized_bytes-bytes.result c.self.inside.core_map c.self.inside.swap_map c.take_place.new.core_map c.give_back.new.core_map c.take_place.new.swap_map c.give_back.new.swap_map c.row_of-row.result (kept_is c.self.view_is) c.self.invariant.sound c.self.invariant.maps c.self.invariant.counted c.self.invariant.told c.requires.image (rw c.deref.ensures.value at c.row_of-row.ensures) c.place_of-from.ensures c.requires.segments c.area.ensures.u c.sized_bytes-bytes.ensures.sized c.sized_bytes-bytes.ensures.written (search rules) (sym (placed_is (stock_in c.self.inside) c.args.self.now.kept c.args.s (16 + c.args.d + c.args.stack) c.self.inside.core_map c.self.inside.swap_map c.may_stand-stands.result c.row_of-row.result (Some c.in-Some.place) (kept_is c.self.view_is) c.self.invariant.sound c.self.invariant.maps (rw c.deref.ensures.value at c.row_of-row.ensures) c.may_stand-stands.ensures c.in-Some.ensures.fit)) c.place_click-at.ensures c.place_click-to.ensures c.in-Some.ensures.core c.in-Some.ensures.swap c.give_back.ensures.core c.give_back.ensures.swap c.self.invariant.table c.count-3.ensures.few).taken
 
 pub move_text-requires-clause-room : goal.move_text-requires-clause-room
-move_text-requires-clause-room c = (moved_text (stock_in c.self.inside) c.args.self.now c.args.s c.args.d c.args.stack c.place_click-at.result c.place_click-to.result c.place_of-from.result c.in-Some.place c.area.result c.sized_bytes-bytes.result c.self.inside.core_map c.self.inside.swap_map c.take_place.new.core_map c.give_back.new.core_map c.take_place.new.swap_map c.give_back.new.swap_map c.row_of-row.result c.self.view_is c.self.invariant.sound c.self.invariant.maps c.self.invariant.counted c.self.invariant.told c.requires.image (rw c.deref.ensures.value at c.row_of-row.ensures) c.place_of-from.ensures c.requires.segments c.area.ensures.u c.sized_bytes-bytes.ensures.sized c.sized_bytes-bytes.ensures.written (search rules) (sym (placed_is (stock_in c.self.inside) c.args.self.now c.args.s (16 + c.args.d + c.args.stack) c.self.inside.core_map c.self.inside.swap_map c.may_stand-stands.result c.row_of-row.result (Some c.in-Some.place) c.self.view_is c.self.invariant.sound c.self.invariant.maps (rw c.deref.ensures.value at c.row_of-row.ensures) c.may_stand-stands.ensures c.in-Some.ensures.fit)) c.place_click-at.ensures c.place_click-to.ensures c.in-Some.ensures.core c.in-Some.ensures.swap c.give_back.ensures.core c.give_back.ensures.swap c.self.invariant.table c.count-3.ensures.few).room
+move_text-requires-clause-room c = (moved_text (stock_in c.self.inside) c.args.self.now.kept c.args.s c.args.d c.args.stack c.place_click-at.result c.place_click-to.result c.place_of-from.result c.in-Some.place c.area.result c.sized_bytes-bytes.result c.self.inside.core_map c.self.inside.swap_map c.take_place.new.core_map c.give_back.new.core_map c.take_place.new.swap_map c.give_back.new.swap_map c.row_of-row.result (kept_is c.self.view_is) c.self.invariant.sound c.self.invariant.maps c.self.invariant.counted c.self.invariant.told c.requires.image (rw c.deref.ensures.value at c.row_of-row.ensures) c.place_of-from.ensures c.requires.segments c.area.ensures.u c.sized_bytes-bytes.ensures.sized c.sized_bytes-bytes.ensures.written (search rules) (sym (placed_is (stock_in c.self.inside) c.args.self.now.kept c.args.s (16 + c.args.d + c.args.stack) c.self.inside.core_map c.self.inside.swap_map c.may_stand-stands.result c.row_of-row.result (Some c.in-Some.place) (kept_is c.self.view_is) c.self.invariant.sound c.self.invariant.maps (rw c.deref.ensures.value at c.row_of-row.ensures) c.may_stand-stands.ensures c.in-Some.ensures.fit)) c.place_click-at.ensures c.place_click-to.ensures c.in-Some.ensures.core c.in-Some.ensures.swap c.give_back.ensures.core c.give_back.ensures.swap c.self.invariant.table c.count-3.ensures.few).room
 
 pub resize_area-requires : goal.resize_area-requires
-resize_area-requires c = rw c.deref_mut-2.ensures.value (seat c.self.inside.areas.items _ c.args.s c.self.invariant.areas (image_low (stock_in c.self.inside) c.args.self.now c.args.s c.self.view_is c.self.invariant.sound c.self.invariant.counted c.requires.image))
+resize_area-requires c = rw c.deref_mut-2.ensures.value (seat c.self.inside.areas.items _ c.args.s c.self.invariant.areas (image_low (stock_in c.self.inside) c.args.self.now.kept c.args.s (kept_is c.self.view_is) c.self.invariant.sound c.self.invariant.counted c.requires.image))
 
 pub invariant_of-self-2 : goal.invariant_of-self-2
-invariant_of-self-2 c = let g = (grows (stock_in c.self.inside) c.args.self.now c.args.s c.args.d c.args.stack c.place_click-at.result c.place_click-to.result c.place_of-from.result c.in-Some.place c.area.result c.sized_bytes-bytes.result c.self.inside.core_map c.self.inside.swap_map c.take_place.new.core_map c.give_back.new.core_map c.take_place.new.swap_map c.give_back.new.swap_map c.row_of-row.result c.self.view_is c.self.invariant.sound c.self.invariant.maps c.self.invariant.counted c.self.invariant.told c.requires.image (rw c.deref.ensures.value at c.row_of-row.ensures) c.place_of-from.ensures c.requires.segments c.area.ensures.u c.sized_bytes-bytes.ensures.sized c.sized_bytes-bytes.ensures.written (search rules) (sym (placed_is (stock_in c.self.inside) c.args.self.now c.args.s (16 + c.args.d + c.args.stack) c.self.inside.core_map c.self.inside.swap_map c.may_stand-stands.result c.row_of-row.result (Some c.in-Some.place) c.self.view_is c.self.invariant.sound c.self.invariant.maps (rw c.deref.ensures.value at c.row_of-row.ensures) c.may_stand-stands.ensures c.in-Some.ensures.fit)) c.place_click-at.ensures c.place_click-to.ensures c.in-Some.ensures.core c.in-Some.ensures.swap c.give_back.ensures.core c.give_back.ensures.swap c.move_text.new.core_map (line_of c.lay_resized.new.memory) c.move_text.new.texts (with_items c.self.inside.rows c.set_row.new.rows).items c.move_text.ensures.core c.lay_resized.ensures.line c.move_text.ensures.texts (with_items_is c.self.inside.rows c.set_row.new.rows (c.set_row.ensures.long ∙ c.deref_mut.ensures.len) ∙ (rw c.deref_mut.ensures.value at c.set_row.ensures.rows) ∙ ap (set c.self.inside.rows.items c.args.s) c.sized_row.ensures)) in record { sound = g.sound; maps = g.maps; table = ap length c.move_text.ensures.texts ∙ moved_long c.self.inside.texts c.row_of-row.result.text (Some c.place_of-from.result) c.in-Some.place ∙ c.self.invariant.table; cut = c.lay_resized.ensures.core ∙ c.self.invariant.cut; counted = g.counted; told = g.told; areas = areas_moved c.self.inside.areas.items (with_items c.self.inside.areas c.resize_area.new.areas).items _ _ c.args.self.now c.args.s (area_resized (area_of c.args.self.now c.args.s) c.args.d c.args.stack) (image_resized (image_of c.args.self.now c.args.s) c.args.d c.args.stack) c.in-Some.place c.self.view_is g.kept (image_low (stock_in c.self.inside) c.args.self.now c.args.s c.self.view_is c.self.invariant.sound c.self.invariant.counted c.requires.image) (area_sized c.self.inside.areas.items (with_items c.self.inside.areas c.resize_area.new.areas).items _ c.args.self.now c.args.s c.args.d c.args.stack c.self.view_is c.self.invariant.areas c.requires.image (with_items_is c.self.inside.areas c.resize_area.new.areas (c.resize_area.ensures.long ∙ c.deref_mut-2.ensures.len) ∙ (rw c.deref_mut-2.ensures.value at c.resize_area.ensures.areas))) c.self.invariant.areas }
+invariant_of-self-2 c = let g = (grows (stock_in c.self.inside) c.args.self.now.kept c.args.s c.args.d c.args.stack c.place_click-at.result c.place_click-to.result c.place_of-from.result c.in-Some.place c.area.result c.sized_bytes-bytes.result c.self.inside.core_map c.self.inside.swap_map c.take_place.new.core_map c.give_back.new.core_map c.take_place.new.swap_map c.give_back.new.swap_map c.row_of-row.result (kept_is c.self.view_is) c.self.invariant.sound c.self.invariant.maps c.self.invariant.counted c.self.invariant.told c.requires.image (rw c.deref.ensures.value at c.row_of-row.ensures) c.place_of-from.ensures c.requires.segments c.area.ensures.u c.sized_bytes-bytes.ensures.sized c.sized_bytes-bytes.ensures.written (search rules) (sym (placed_is (stock_in c.self.inside) c.args.self.now.kept c.args.s (16 + c.args.d + c.args.stack) c.self.inside.core_map c.self.inside.swap_map c.may_stand-stands.result c.row_of-row.result (Some c.in-Some.place) (kept_is c.self.view_is) c.self.invariant.sound c.self.invariant.maps (rw c.deref.ensures.value at c.row_of-row.ensures) c.may_stand-stands.ensures c.in-Some.ensures.fit)) c.place_click-at.ensures c.place_click-to.ensures c.in-Some.ensures.core c.in-Some.ensures.swap c.give_back.ensures.core c.give_back.ensures.swap c.move_text.new.core_map (line_of c.lay_resized.new.memory) c.move_text.new.texts (with_items c.self.inside.rows c.set_row.new.rows).items c.move_text.ensures.core c.lay_resized.ensures.line c.move_text.ensures.texts (with_items_is c.self.inside.rows c.set_row.new.rows (c.set_row.ensures.long ∙ c.deref_mut.ensures.len) ∙ (rw c.deref_mut.ensures.value at c.set_row.ensures.rows) ∙ ap (set c.self.inside.rows.items c.args.s) c.sized_row.ensures)) in record { sound = g.sound; maps = g.maps; table = ap length c.move_text.ensures.texts ∙ moved_long c.self.inside.texts c.row_of-row.result.text (Some c.place_of-from.result) c.in-Some.place ∙ c.self.invariant.table; cut = c.lay_resized.ensures.core ∙ c.self.invariant.cut; counted = g.counted; told = g.told; areas = areas_moved c.self.inside.areas.items (with_items c.self.inside.areas c.resize_area.new.areas).items _ _ c.args.self.now.kept c.args.s (area_resized (area_of c.args.self.now.kept c.args.s) c.args.d c.args.stack) (image_resized (image_of c.args.self.now.kept c.args.s) c.args.d c.args.stack) c.in-Some.place (kept_is c.self.view_is) g.kept (image_low (stock_in c.self.inside) c.args.self.now.kept c.args.s (kept_is c.self.view_is) c.self.invariant.sound c.self.invariant.counted c.requires.image) (area_sized c.self.inside.areas.items (with_items c.self.inside.areas c.resize_area.new.areas).items _ c.args.self.now.kept c.args.s c.args.d c.args.stack (kept_is c.self.view_is) c.self.invariant.areas c.requires.image (with_items_is c.self.inside.areas c.resize_area.new.areas (c.resize_area.ensures.long ∙ c.deref_mut-2.ensures.len) ∙ (rw c.deref_mut-2.ensures.value at c.resize_area.ensures.areas))) c.self.invariant.areas }
 
 pub returns-clause-place : goal.returns-clause-place
-returns-clause-place c = sym (placed_is (stock_in c.self.inside) c.args.self.now c.args.s (16 + c.args.d + c.args.stack) c.self.inside.core_map c.self.inside.swap_map c.may_stand-stands.result c.row_of-row.result (Some c.in-Some.place) c.self.view_is c.self.invariant.sound c.self.invariant.maps (rw c.deref.ensures.value at c.row_of-row.ensures) c.may_stand-stands.ensures c.in-Some.ensures.fit)
+returns-clause-place c = sym (placed_is (stock_in c.self.inside) c.args.self.now.kept c.args.s (16 + c.args.d + c.args.stack) c.self.inside.core_map c.self.inside.swap_map c.may_stand-stands.result c.row_of-row.result (Some c.in-Some.place) (kept_is c.self.view_is) c.self.invariant.sound c.self.invariant.maps (rw c.deref.ensures.value at c.row_of-row.ensures) c.may_stand-stands.ensures c.in-Some.ensures.fit)
 
 pub returns-clause-kept : goal.returns-clause-kept
-returns-clause-kept c = (grows (stock_in c.self.inside) c.args.self.now c.args.s c.args.d c.args.stack c.place_click-at.result c.place_click-to.result c.place_of-from.result c.in-Some.place c.area.result c.sized_bytes-bytes.result c.self.inside.core_map c.self.inside.swap_map c.take_place.new.core_map c.give_back.new.core_map c.take_place.new.swap_map c.give_back.new.swap_map c.row_of-row.result c.self.view_is c.self.invariant.sound c.self.invariant.maps c.self.invariant.counted c.self.invariant.told c.requires.image (rw c.deref.ensures.value at c.row_of-row.ensures) c.place_of-from.ensures c.requires.segments c.area.ensures.u c.sized_bytes-bytes.ensures.sized c.sized_bytes-bytes.ensures.written (search rules) (sym (placed_is (stock_in c.self.inside) c.args.self.now c.args.s (16 + c.args.d + c.args.stack) c.self.inside.core_map c.self.inside.swap_map c.may_stand-stands.result c.row_of-row.result (Some c.in-Some.place) c.self.view_is c.self.invariant.sound c.self.invariant.maps (rw c.deref.ensures.value at c.row_of-row.ensures) c.may_stand-stands.ensures c.in-Some.ensures.fit)) c.place_click-at.ensures c.place_click-to.ensures c.in-Some.ensures.core c.in-Some.ensures.swap c.give_back.ensures.core c.give_back.ensures.swap c.move_text.new.core_map (line_of c.lay_resized.new.memory) c.move_text.new.texts (with_items c.self.inside.rows c.set_row.new.rows).items c.move_text.ensures.core c.lay_resized.ensures.line c.move_text.ensures.texts (with_items_is c.self.inside.rows c.set_row.new.rows (c.set_row.ensures.long ∙ c.deref_mut.ensures.len) ∙ (rw c.deref_mut.ensures.value at c.set_row.ensures.rows) ∙ ap (set c.self.inside.rows.items c.args.s) c.sized_row.ensures)).kept ∙ ap (with_image_moved c.args.self.now c.args.s (area_resized (area_of c.args.self.now c.args.s) c.args.d c.args.stack) (image_resized (image_of c.args.self.now c.args.s) c.args.d c.args.stack)) (placed_is (stock_in c.self.inside) c.args.self.now c.args.s (16 + c.args.d + c.args.stack) c.self.inside.core_map c.self.inside.swap_map c.may_stand-stands.result c.row_of-row.result (Some c.in-Some.place) c.self.view_is c.self.invariant.sound c.self.invariant.maps (rw c.deref.ensures.value at c.row_of-row.ensures) c.may_stand-stands.ensures c.in-Some.ensures.fit)
+returns-clause-kept c = (grows (stock_in c.self.inside) c.args.self.now.kept c.args.s c.args.d c.args.stack c.place_click-at.result c.place_click-to.result c.place_of-from.result c.in-Some.place c.area.result c.sized_bytes-bytes.result c.self.inside.core_map c.self.inside.swap_map c.take_place.new.core_map c.give_back.new.core_map c.take_place.new.swap_map c.give_back.new.swap_map c.row_of-row.result (kept_is c.self.view_is) c.self.invariant.sound c.self.invariant.maps c.self.invariant.counted c.self.invariant.told c.requires.image (rw c.deref.ensures.value at c.row_of-row.ensures) c.place_of-from.ensures c.requires.segments c.area.ensures.u c.sized_bytes-bytes.ensures.sized c.sized_bytes-bytes.ensures.written (search rules) (sym (placed_is (stock_in c.self.inside) c.args.self.now.kept c.args.s (16 + c.args.d + c.args.stack) c.self.inside.core_map c.self.inside.swap_map c.may_stand-stands.result c.row_of-row.result (Some c.in-Some.place) (kept_is c.self.view_is) c.self.invariant.sound c.self.invariant.maps (rw c.deref.ensures.value at c.row_of-row.ensures) c.may_stand-stands.ensures c.in-Some.ensures.fit)) c.place_click-at.ensures c.place_click-to.ensures c.in-Some.ensures.core c.in-Some.ensures.swap c.give_back.ensures.core c.give_back.ensures.swap c.move_text.new.core_map (line_of c.lay_resized.new.memory) c.move_text.new.texts (with_items c.self.inside.rows c.set_row.new.rows).items c.move_text.ensures.core c.lay_resized.ensures.line c.move_text.ensures.texts (with_items_is c.self.inside.rows c.set_row.new.rows (c.set_row.ensures.long ∙ c.deref_mut.ensures.len) ∙ (rw c.deref_mut.ensures.value at c.set_row.ensures.rows) ∙ ap (set c.self.inside.rows.items c.args.s) c.sized_row.ensures)).kept ∙ ap (with_image_moved c.args.self.now.kept c.args.s (area_resized (area_of c.args.self.now.kept c.args.s) c.args.d c.args.stack) (image_resized (image_of c.args.self.now.kept c.args.s) c.args.d c.args.stack)) (placed_is (stock_in c.self.inside) c.args.self.now.kept c.args.s (16 + c.args.d + c.args.stack) c.self.inside.core_map c.self.inside.swap_map c.may_stand-stands.result c.row_of-row.result (Some c.in-Some.place) (kept_is c.self.view_is) c.self.invariant.sound c.self.invariant.maps (rw c.deref.ensures.value at c.row_of-row.ensures) c.may_stand-stands.ensures c.in-Some.ensures.fit)

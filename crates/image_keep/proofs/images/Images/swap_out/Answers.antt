@@ -1,3 +1,4 @@
+use Rattle.image_keep.proofs.StateOf.{kept_is}
 use Rattle.std.proofs.Common.{◌≡◌, ◌≤◌, ◌+◌, ◌∙◌, ℕ, true, false, sym, ap, arith, length, subst, Some, None}
 use Rattle.std.specs.Vec.{with_items}
 use Rattle.std.proofs.lemmas.List.{with_items_is}
@@ -20,25 +21,25 @@ use Rattle.image_keep.proofs.AreasKept.{areas_out}
 use Rattle.image_keep.proofs.images.Images.swap_out.Goals as goal
 
 pub row_of-row-requires : goal.row_of-row-requires
-row_of-row-requires c = rw c.deref.ensures.value ((facts (stock_in c.self.inside) c.args.self.now c.args.s (Core c.requires.0) c.self.view_is c.self.invariant.sound c.self.invariant.counted c.requires.1 c.requires.2).low)
+row_of-row-requires c = rw c.deref.ensures.value ((facts (stock_in c.self.inside) c.args.self.now.kept c.args.s (Core c.requires.0) (kept_is c.self.view_is) c.self.invariant.sound c.self.invariant.counted c.requires.1 c.requires.2).low)
 
 pub clicks_of-clicks-requires : goal.clicks_of-clicks-requires
-clicks_of-clicks-requires c = let a = subst (λ (r : Row). r.data_size + r.stack_size ≤ 1024) (sym (rw c.deref.ensures.value at c.row_of-row.ensures)) (facts (stock_in c.self.inside) c.args.self.now c.args.s (Core c.requires.0) c.self.view_is c.self.invariant.sound c.self.invariant.counted c.requires.1 c.requires.2).sizes in omega (arith, a)
+clicks_of-clicks-requires c = let a = subst (λ (r : Row). r.data_size + r.stack_size ≤ 1024) (sym (rw c.deref.ensures.value at c.row_of-row.ensures)) (facts (stock_in c.self.inside) c.args.self.now.kept c.args.s (Core c.requires.0) (kept_is c.self.view_is) c.self.invariant.sound c.self.invariant.counted c.requires.1 c.requires.2).sizes in omega (arith, a)
 
 pub place_of-requires : goal.place_of-requires
-place_of-requires c = ap is_alive (ap (λ (r : Row). r.state) (rw c.deref.ensures.value at c.row_of-row.ensures) ∙ (facts (stock_in c.self.inside) c.args.self.now c.args.s (Core c.requires.0) c.self.view_is c.self.invariant.sound c.self.invariant.counted c.requires.1 c.requires.2).is)
+place_of-requires c = ap is_alive (ap (λ (r : Row). r.state) (rw c.deref.ensures.value at c.row_of-row.ensures) ∙ (facts (stock_in c.self.inside) c.args.self.now.kept c.args.s (Core c.requires.0) (kept_is c.self.view_is) c.self.invariant.sound c.self.invariant.counted c.requires.1 c.requires.2).is)
 
 pub returns-in-None-clause-block : goal.returns-in-None-clause-block
-returns-in-None-clause-block c = (ap (λ i. swap_fit c.args.self.now (blocks i)) (out_clicks (stock_in c.self.inside) c.args.self.now c.args.s (Core c.requires.0) c.row_of-row.result c.clicks_of-clicks.result c.self.view_is c.self.invariant.sound (facts (stock_in c.self.inside) c.args.self.now c.args.s (Core c.requires.0) c.self.view_is c.self.invariant.sound c.self.invariant.counted c.requires.1 c.requires.2).is (rw c.deref.ensures.value at c.row_of-row.ensures) c.clicks_of-clicks.ensures) ∙ ap (swap_fit c.args.self.now) (sym c.blocks_of.ensures)) ∙ sym (swap_fits (stock_in c.self.inside) c.args.self.now c.self.inside.core_map c.self.inside.swap_map c.blocks_of.result None c.self.view_is c.self.invariant.sound c.self.invariant.maps (λ taken first last m. sym c.in-None.is ∙ c.take.ensures.fit taken first last m))
+returns-in-None-clause-block c = (ap (λ i. swap_fit c.args.self.now.kept (blocks i)) (out_clicks (stock_in c.self.inside) c.args.self.now.kept c.args.s (Core c.requires.0) c.row_of-row.result c.clicks_of-clicks.result (kept_is c.self.view_is) c.self.invariant.sound (facts (stock_in c.self.inside) c.args.self.now.kept c.args.s (Core c.requires.0) (kept_is c.self.view_is) c.self.invariant.sound c.self.invariant.counted c.requires.1 c.requires.2).is (rw c.deref.ensures.value at c.row_of-row.ensures) c.clicks_of-clicks.ensures) ∙ ap (swap_fit c.args.self.now.kept) (sym c.blocks_of.ensures)) ∙ sym (swap_fits (stock_in c.self.inside) c.args.self.now.kept c.self.inside.core_map c.self.inside.swap_map c.blocks_of.result None (kept_is c.self.view_is) c.self.invariant.sound c.self.invariant.maps (λ taken first last m. sym c.in-None.is ∙ c.take.ensures.fit taken first last m))
 
 pub returns-in-None-clause-kept : goal.returns-in-None-clause-kept
-returns-in-None-clause-kept c = c.self.view_is ∙ sym (out_none c.args.self.now c.args.s) ∙ ap (swapped_out c.args.self.now c.args.s) ((swap_fits (stock_in c.self.inside) c.args.self.now c.self.inside.core_map c.self.inside.swap_map c.blocks_of.result None c.self.view_is c.self.invariant.sound c.self.invariant.maps (λ taken first last m. sym c.in-None.is ∙ c.take.ensures.fit taken first last m)) ∙ sym (ap (λ i. swap_fit c.args.self.now (blocks i)) (out_clicks (stock_in c.self.inside) c.args.self.now c.args.s (Core c.requires.0) c.row_of-row.result c.clicks_of-clicks.result c.self.view_is c.self.invariant.sound (facts (stock_in c.self.inside) c.args.self.now c.args.s (Core c.requires.0) c.self.view_is c.self.invariant.sound c.self.invariant.counted c.requires.1 c.requires.2).is (rw c.deref.ensures.value at c.row_of-row.ensures) c.clicks_of-clicks.ensures) ∙ ap (swap_fit c.args.self.now) (sym c.blocks_of.ensures)))
+returns-in-None-clause-kept c = (kept_is c.self.view_is) ∙ sym (out_none c.args.self.now.kept c.args.s) ∙ ap (swapped_out c.args.self.now.kept c.args.s) ((swap_fits (stock_in c.self.inside) c.args.self.now.kept c.self.inside.core_map c.self.inside.swap_map c.blocks_of.result None (kept_is c.self.view_is) c.self.invariant.sound c.self.invariant.maps (λ taken first last m. sym c.in-None.is ∙ c.take.ensures.fit taken first last m)) ∙ sym (ap (λ i. swap_fit c.args.self.now.kept (blocks i)) (out_clicks (stock_in c.self.inside) c.args.self.now.kept c.args.s (Core c.requires.0) c.row_of-row.result c.clicks_of-clicks.result (kept_is c.self.view_is) c.self.invariant.sound (facts (stock_in c.self.inside) c.args.self.now.kept c.args.s (Core c.requires.0) (kept_is c.self.view_is) c.self.invariant.sound c.self.invariant.counted c.requires.1 c.requires.2).is (rw c.deref.ensures.value at c.row_of-row.ensures) c.clicks_of-clicks.ensures) ∙ ap (swap_fit c.args.self.now.kept) (sym c.blocks_of.ensures)))
 
 pub block_click-to-requires : goal.block_click-to-requires
-block_click-to-requires c = (swap_found (stock_in c.self.inside) c.in-Some.block c.blocks_of.result c.self.invariant.sound (ap (λ j. swap_fit j c.blocks_of.result) c.self.view_is ∙ sym (swap_fits (stock_in c.self.inside) c.args.self.now c.self.inside.core_map c.self.inside.swap_map c.blocks_of.result (Some c.in-Some.block) c.self.view_is c.self.invariant.sound c.self.invariant.maps (λ taken first last m. sym c.in-Some.is ∙ c.take.ensures.fit taken first last m)))).low
+block_click-to-requires c = (swap_found (stock_in c.self.inside) c.in-Some.block c.blocks_of.result c.self.invariant.sound (ap (λ j. swap_fit j c.blocks_of.result) (kept_is c.self.view_is) ∙ sym (swap_fits (stock_in c.self.inside) c.args.self.now.kept c.self.inside.core_map c.self.inside.swap_map c.blocks_of.result (Some c.in-Some.block) (kept_is c.self.view_is) c.self.invariant.sound c.self.invariant.maps (λ taken first last m. sym c.in-Some.is ∙ c.take.ensures.fit taken first last m)))).low
 
 pub copy-requires-clause-to_inside : goal.copy-requires-clause-to_inside
-copy-requires-clause-to_inside c = let a = c.block_click-to.ensures in let f = (swap_found (stock_in c.self.inside) c.in-Some.block c.blocks_of.result c.self.invariant.sound (ap (λ j. swap_fit j c.blocks_of.result) c.self.view_is ∙ sym (swap_fits (stock_in c.self.inside) c.args.self.now c.self.inside.core_map c.self.inside.swap_map c.blocks_of.result (Some c.in-Some.block) c.self.view_is c.self.invariant.sound c.self.invariant.maps (λ taken first last m. sym c.in-Some.is ∙ c.take.ensures.fit taken first last m)))) in let l = f.low in let h = f.high in let e = c.blocks_of.ensures in let z = c.self.invariant.sound.size in omega (arith, a, l, h, e, z)
+copy-requires-clause-to_inside c = let a = c.block_click-to.ensures in let f = (swap_found (stock_in c.self.inside) c.in-Some.block c.blocks_of.result c.self.invariant.sound (ap (λ j. swap_fit j c.blocks_of.result) (kept_is c.self.view_is) ∙ sym (swap_fits (stock_in c.self.inside) c.args.self.now.kept c.self.inside.core_map c.self.inside.swap_map c.blocks_of.result (Some c.in-Some.block) (kept_is c.self.view_is) c.self.invariant.sound c.self.invariant.maps (λ taken first last m. sym c.in-Some.is ∙ c.take.ensures.fit taken first last m)))) in let l = f.low in let h = f.high in let e = c.blocks_of.ensures in let z = c.self.invariant.sound.size in omega (arith, a, l, h, e, z)
 
 pub give_back-requires-clause-inside : goal.give_back-requires-clause-inside
 give_back-requires-clause-inside c = (c.self.inside.core, c.self.invariant.sound.most, subst (λ (r : Row). InsideBy c.self.inside.core r.state (clicks_in r)) (sym (rw c.deref.ensures.value at c.row_of-row.ensures)) (row_inside (stock_in c.self.inside) c.args.s c.self.invariant.sound))
@@ -56,35 +57,35 @@ pub give_back-requires-clause-swap_room : goal.give_back-requires-clause-swap_ro
 give_back-requires-clause-swap_room c = let a = (both_room (stock_in c.self.inside) c.self.inside.core_map c.self.inside.swap_map c.self.invariant.sound c.self.invariant.maps c.self.invariant.table c.count.ensures.few c.count-2.ensures.few).1 in let b = c.take.ensures.few in omega (arith, a, b)
 
 pub unload_text-requires-clause-some : goal.unload_text-requires-clause-some
-unload_text-requires-clause-some c = (out_text (stock_in c.self.inside) c.args.self.now c.args.s c.requires.0 c.in-Some.block c.self.inside.core_map c.self.inside.swap_map c.give_back.new.core_map c.take.new.self c.give_back.new.swap_map c.row_of-row.result c.clicks_of-clicks.result c.self.view_is c.self.invariant.sound c.self.invariant.maps c.self.invariant.counted c.self.invariant.table (facts (stock_in c.self.inside) c.args.self.now c.args.s (Core c.requires.0) c.self.view_is c.self.invariant.sound c.self.invariant.counted c.requires.1 c.requires.2).low (facts (stock_in c.self.inside) c.args.self.now c.args.s (Core c.requires.0) c.self.view_is c.self.invariant.sound c.self.invariant.counted c.requires.1 c.requires.2).is (rw c.deref.ensures.value at c.row_of-row.ensures) c.clicks_of-clicks.ensures (ap (swap_fit c.args.self.now) (sym c.blocks_of.ensures) ∙ sym (swap_fits (stock_in c.self.inside) c.args.self.now c.self.inside.core_map c.self.inside.swap_map c.blocks_of.result (Some c.in-Some.block) c.self.view_is c.self.invariant.sound c.self.invariant.maps (λ taken first last m. sym c.in-Some.is ∙ c.take.ensures.fit taken first last m))) (rw c.blocks_of.ensures at c.in-Some.ensures.left) c.give_back.ensures.core c.give_back.ensures.swap c.count-3.ensures.few).some
+unload_text-requires-clause-some c = (out_text (stock_in c.self.inside) c.args.self.now.kept c.args.s c.requires.0 c.in-Some.block c.self.inside.core_map c.self.inside.swap_map c.give_back.new.core_map c.take.new.self c.give_back.new.swap_map c.row_of-row.result c.clicks_of-clicks.result (kept_is c.self.view_is) c.self.invariant.sound c.self.invariant.maps c.self.invariant.counted c.self.invariant.table (facts (stock_in c.self.inside) c.args.self.now.kept c.args.s (Core c.requires.0) (kept_is c.self.view_is) c.self.invariant.sound c.self.invariant.counted c.requires.1 c.requires.2).low (facts (stock_in c.self.inside) c.args.self.now.kept c.args.s (Core c.requires.0) (kept_is c.self.view_is) c.self.invariant.sound c.self.invariant.counted c.requires.1 c.requires.2).is (rw c.deref.ensures.value at c.row_of-row.ensures) c.clicks_of-clicks.ensures (ap (swap_fit c.args.self.now.kept) (sym c.blocks_of.ensures) ∙ sym (swap_fits (stock_in c.self.inside) c.args.self.now.kept c.self.inside.core_map c.self.inside.swap_map c.blocks_of.result (Some c.in-Some.block) (kept_is c.self.view_is) c.self.invariant.sound c.self.invariant.maps (λ taken first last m. sym c.in-Some.is ∙ c.take.ensures.fit taken first last m))) (rw c.blocks_of.ensures at c.in-Some.ensures.left) c.give_back.ensures.core c.give_back.ensures.swap c.count-3.ensures.few).some
 
 pub unload_text-requires-clause-clicks : goal.unload_text-requires-clause-clicks
-unload_text-requires-clause-clicks c = (out_text (stock_in c.self.inside) c.args.self.now c.args.s c.requires.0 c.in-Some.block c.self.inside.core_map c.self.inside.swap_map c.give_back.new.core_map c.take.new.self c.give_back.new.swap_map c.row_of-row.result c.clicks_of-clicks.result c.self.view_is c.self.invariant.sound c.self.invariant.maps c.self.invariant.counted c.self.invariant.table (facts (stock_in c.self.inside) c.args.self.now c.args.s (Core c.requires.0) c.self.view_is c.self.invariant.sound c.self.invariant.counted c.requires.1 c.requires.2).low (facts (stock_in c.self.inside) c.args.self.now c.args.s (Core c.requires.0) c.self.view_is c.self.invariant.sound c.self.invariant.counted c.requires.1 c.requires.2).is (rw c.deref.ensures.value at c.row_of-row.ensures) c.clicks_of-clicks.ensures (ap (swap_fit c.args.self.now) (sym c.blocks_of.ensures) ∙ sym (swap_fits (stock_in c.self.inside) c.args.self.now c.self.inside.core_map c.self.inside.swap_map c.blocks_of.result (Some c.in-Some.block) c.self.view_is c.self.invariant.sound c.self.invariant.maps (λ taken first last m. sym c.in-Some.is ∙ c.take.ensures.fit taken first last m))) (rw c.blocks_of.ensures at c.in-Some.ensures.left) c.give_back.ensures.core c.give_back.ensures.swap c.count-3.ensures.few).clicks
+unload_text-requires-clause-clicks c = (out_text (stock_in c.self.inside) c.args.self.now.kept c.args.s c.requires.0 c.in-Some.block c.self.inside.core_map c.self.inside.swap_map c.give_back.new.core_map c.take.new.self c.give_back.new.swap_map c.row_of-row.result c.clicks_of-clicks.result (kept_is c.self.view_is) c.self.invariant.sound c.self.invariant.maps c.self.invariant.counted c.self.invariant.table (facts (stock_in c.self.inside) c.args.self.now.kept c.args.s (Core c.requires.0) (kept_is c.self.view_is) c.self.invariant.sound c.self.invariant.counted c.requires.1 c.requires.2).low (facts (stock_in c.self.inside) c.args.self.now.kept c.args.s (Core c.requires.0) (kept_is c.self.view_is) c.self.invariant.sound c.self.invariant.counted c.requires.1 c.requires.2).is (rw c.deref.ensures.value at c.row_of-row.ensures) c.clicks_of-clicks.ensures (ap (swap_fit c.args.self.now.kept) (sym c.blocks_of.ensures) ∙ sym (swap_fits (stock_in c.self.inside) c.args.self.now.kept c.self.inside.core_map c.self.inside.swap_map c.blocks_of.result (Some c.in-Some.block) (kept_is c.self.view_is) c.self.invariant.sound c.self.invariant.maps (λ taken first last m. sym c.in-Some.is ∙ c.take.ensures.fit taken first last m))) (rw c.blocks_of.ensures at c.in-Some.ensures.left) c.give_back.ensures.core c.give_back.ensures.swap c.count-3.ensures.few).clicks
 
 pub unload_text-requires-clause-small : goal.unload_text-requires-clause-small
-unload_text-requires-clause-small c = (out_text (stock_in c.self.inside) c.args.self.now c.args.s c.requires.0 c.in-Some.block c.self.inside.core_map c.self.inside.swap_map c.give_back.new.core_map c.take.new.self c.give_back.new.swap_map c.row_of-row.result c.clicks_of-clicks.result c.self.view_is c.self.invariant.sound c.self.invariant.maps c.self.invariant.counted c.self.invariant.table (facts (stock_in c.self.inside) c.args.self.now c.args.s (Core c.requires.0) c.self.view_is c.self.invariant.sound c.self.invariant.counted c.requires.1 c.requires.2).low (facts (stock_in c.self.inside) c.args.self.now c.args.s (Core c.requires.0) c.self.view_is c.self.invariant.sound c.self.invariant.counted c.requires.1 c.requires.2).is (rw c.deref.ensures.value at c.row_of-row.ensures) c.clicks_of-clicks.ensures (ap (swap_fit c.args.self.now) (sym c.blocks_of.ensures) ∙ sym (swap_fits (stock_in c.self.inside) c.args.self.now c.self.inside.core_map c.self.inside.swap_map c.blocks_of.result (Some c.in-Some.block) c.self.view_is c.self.invariant.sound c.self.invariant.maps (λ taken first last m. sym c.in-Some.is ∙ c.take.ensures.fit taken first last m))) (rw c.blocks_of.ensures at c.in-Some.ensures.left) c.give_back.ensures.core c.give_back.ensures.swap c.count-3.ensures.few).small
+unload_text-requires-clause-small c = (out_text (stock_in c.self.inside) c.args.self.now.kept c.args.s c.requires.0 c.in-Some.block c.self.inside.core_map c.self.inside.swap_map c.give_back.new.core_map c.take.new.self c.give_back.new.swap_map c.row_of-row.result c.clicks_of-clicks.result (kept_is c.self.view_is) c.self.invariant.sound c.self.invariant.maps c.self.invariant.counted c.self.invariant.table (facts (stock_in c.self.inside) c.args.self.now.kept c.args.s (Core c.requires.0) (kept_is c.self.view_is) c.self.invariant.sound c.self.invariant.counted c.requires.1 c.requires.2).low (facts (stock_in c.self.inside) c.args.self.now.kept c.args.s (Core c.requires.0) (kept_is c.self.view_is) c.self.invariant.sound c.self.invariant.counted c.requires.1 c.requires.2).is (rw c.deref.ensures.value at c.row_of-row.ensures) c.clicks_of-clicks.ensures (ap (swap_fit c.args.self.now.kept) (sym c.blocks_of.ensures) ∙ sym (swap_fits (stock_in c.self.inside) c.args.self.now.kept c.self.inside.core_map c.self.inside.swap_map c.blocks_of.result (Some c.in-Some.block) (kept_is c.self.view_is) c.self.invariant.sound c.self.invariant.maps (λ taken first last m. sym c.in-Some.is ∙ c.take.ensures.fit taken first last m))) (rw c.blocks_of.ensures at c.in-Some.ensures.left) c.give_back.ensures.core c.give_back.ensures.swap c.count-3.ensures.few).small
 
 pub unload_text-requires-clause-taken : goal.unload_text-requires-clause-taken
-unload_text-requires-clause-taken c = (out_text (stock_in c.self.inside) c.args.self.now c.args.s c.requires.0 c.in-Some.block c.self.inside.core_map c.self.inside.swap_map c.give_back.new.core_map c.take.new.self c.give_back.new.swap_map c.row_of-row.result c.clicks_of-clicks.result c.self.view_is c.self.invariant.sound c.self.invariant.maps c.self.invariant.counted c.self.invariant.table (facts (stock_in c.self.inside) c.args.self.now c.args.s (Core c.requires.0) c.self.view_is c.self.invariant.sound c.self.invariant.counted c.requires.1 c.requires.2).low (facts (stock_in c.self.inside) c.args.self.now c.args.s (Core c.requires.0) c.self.view_is c.self.invariant.sound c.self.invariant.counted c.requires.1 c.requires.2).is (rw c.deref.ensures.value at c.row_of-row.ensures) c.clicks_of-clicks.ensures (ap (swap_fit c.args.self.now) (sym c.blocks_of.ensures) ∙ sym (swap_fits (stock_in c.self.inside) c.args.self.now c.self.inside.core_map c.self.inside.swap_map c.blocks_of.result (Some c.in-Some.block) c.self.view_is c.self.invariant.sound c.self.invariant.maps (λ taken first last m. sym c.in-Some.is ∙ c.take.ensures.fit taken first last m))) (rw c.blocks_of.ensures at c.in-Some.ensures.left) c.give_back.ensures.core c.give_back.ensures.swap c.count-3.ensures.few).taken
+unload_text-requires-clause-taken c = (out_text (stock_in c.self.inside) c.args.self.now.kept c.args.s c.requires.0 c.in-Some.block c.self.inside.core_map c.self.inside.swap_map c.give_back.new.core_map c.take.new.self c.give_back.new.swap_map c.row_of-row.result c.clicks_of-clicks.result (kept_is c.self.view_is) c.self.invariant.sound c.self.invariant.maps c.self.invariant.counted c.self.invariant.table (facts (stock_in c.self.inside) c.args.self.now.kept c.args.s (Core c.requires.0) (kept_is c.self.view_is) c.self.invariant.sound c.self.invariant.counted c.requires.1 c.requires.2).low (facts (stock_in c.self.inside) c.args.self.now.kept c.args.s (Core c.requires.0) (kept_is c.self.view_is) c.self.invariant.sound c.self.invariant.counted c.requires.1 c.requires.2).is (rw c.deref.ensures.value at c.row_of-row.ensures) c.clicks_of-clicks.ensures (ap (swap_fit c.args.self.now.kept) (sym c.blocks_of.ensures) ∙ sym (swap_fits (stock_in c.self.inside) c.args.self.now.kept c.self.inside.core_map c.self.inside.swap_map c.blocks_of.result (Some c.in-Some.block) (kept_is c.self.view_is) c.self.invariant.sound c.self.invariant.maps (λ taken first last m. sym c.in-Some.is ∙ c.take.ensures.fit taken first last m))) (rw c.blocks_of.ensures at c.in-Some.ensures.left) c.give_back.ensures.core c.give_back.ensures.swap c.count-3.ensures.few).taken
 
 pub unload_text-requires-clause-room : goal.unload_text-requires-clause-room
-unload_text-requires-clause-room c = (out_text (stock_in c.self.inside) c.args.self.now c.args.s c.requires.0 c.in-Some.block c.self.inside.core_map c.self.inside.swap_map c.give_back.new.core_map c.take.new.self c.give_back.new.swap_map c.row_of-row.result c.clicks_of-clicks.result c.self.view_is c.self.invariant.sound c.self.invariant.maps c.self.invariant.counted c.self.invariant.table (facts (stock_in c.self.inside) c.args.self.now c.args.s (Core c.requires.0) c.self.view_is c.self.invariant.sound c.self.invariant.counted c.requires.1 c.requires.2).low (facts (stock_in c.self.inside) c.args.self.now c.args.s (Core c.requires.0) c.self.view_is c.self.invariant.sound c.self.invariant.counted c.requires.1 c.requires.2).is (rw c.deref.ensures.value at c.row_of-row.ensures) c.clicks_of-clicks.ensures (ap (swap_fit c.args.self.now) (sym c.blocks_of.ensures) ∙ sym (swap_fits (stock_in c.self.inside) c.args.self.now c.self.inside.core_map c.self.inside.swap_map c.blocks_of.result (Some c.in-Some.block) c.self.view_is c.self.invariant.sound c.self.invariant.maps (λ taken first last m. sym c.in-Some.is ∙ c.take.ensures.fit taken first last m))) (rw c.blocks_of.ensures at c.in-Some.ensures.left) c.give_back.ensures.core c.give_back.ensures.swap c.count-3.ensures.few).room
+unload_text-requires-clause-room c = (out_text (stock_in c.self.inside) c.args.self.now.kept c.args.s c.requires.0 c.in-Some.block c.self.inside.core_map c.self.inside.swap_map c.give_back.new.core_map c.take.new.self c.give_back.new.swap_map c.row_of-row.result c.clicks_of-clicks.result (kept_is c.self.view_is) c.self.invariant.sound c.self.invariant.maps c.self.invariant.counted c.self.invariant.table (facts (stock_in c.self.inside) c.args.self.now.kept c.args.s (Core c.requires.0) (kept_is c.self.view_is) c.self.invariant.sound c.self.invariant.counted c.requires.1 c.requires.2).low (facts (stock_in c.self.inside) c.args.self.now.kept c.args.s (Core c.requires.0) (kept_is c.self.view_is) c.self.invariant.sound c.self.invariant.counted c.requires.1 c.requires.2).is (rw c.deref.ensures.value at c.row_of-row.ensures) c.clicks_of-clicks.ensures (ap (swap_fit c.args.self.now.kept) (sym c.blocks_of.ensures) ∙ sym (swap_fits (stock_in c.self.inside) c.args.self.now.kept c.self.inside.core_map c.self.inside.swap_map c.blocks_of.result (Some c.in-Some.block) (kept_is c.self.view_is) c.self.invariant.sound c.self.invariant.maps (λ taken first last m. sym c.in-Some.is ∙ c.take.ensures.fit taken first last m))) (rw c.blocks_of.ensures at c.in-Some.ensures.left) c.give_back.ensures.core c.give_back.ensures.swap c.count-3.ensures.few).room
 
 pub invariant_of-self-2 : goal.invariant_of-self-2
 invariant_of-self-2 c =
-    let g = (gone_out (stock_in c.self.inside) c.args.self.now c.args.s c.requires.0 c.in-Some.block c.place_click-from.result c.block_click-to.result c.self.inside.core_map c.self.inside.swap_map c.give_back.new.core_map c.unload_text.new.core_map c.take.new.self c.give_back.new.swap_map c.row_of-row.result c.clicks_of-clicks.result (line_of c.copy.new.self) c.unload_text.new.texts (with_items c.self.inside.rows c.set_place.new.rows).items c.self.view_is c.self.invariant.sound c.self.invariant.maps c.self.invariant.counted (facts (stock_in c.self.inside) c.args.self.now c.args.s (Core c.requires.0) c.self.view_is c.self.invariant.sound c.self.invariant.counted c.requires.1 c.requires.2).low (facts (stock_in c.self.inside) c.args.self.now c.args.s (Core c.requires.0) c.self.view_is c.self.invariant.sound c.self.invariant.counted c.requires.1 c.requires.2).is (rw c.deref.ensures.value at c.row_of-row.ensures) c.clicks_of-clicks.ensures (ap (swap_fit c.args.self.now) (sym c.blocks_of.ensures) ∙ sym (swap_fits (stock_in c.self.inside) c.args.self.now c.self.inside.core_map c.self.inside.swap_map c.blocks_of.result (Some c.in-Some.block) c.self.view_is c.self.invariant.sound c.self.invariant.maps (λ taken first last m. sym c.in-Some.is ∙ c.take.ensures.fit taken first last m))) (c.place_click-from.ensures ∙ ap (place_at c.self.inside.core) (same_place (row_at c.self.inside.rows.items c.args.s).state c.place_of.result (Core c.requires.0) (sym (ap (λ (r : Row). r.state) (rw c.deref.ensures.value at c.row_of-row.ensures)) ∙ c.place_of.ensures) (facts (stock_in c.self.inside) c.args.self.now c.args.s (Core c.requires.0) c.self.view_is c.self.invariant.sound c.self.invariant.counted c.requires.1 c.requires.2).is)) c.block_click-to.ensures (rw c.blocks_of.ensures at c.in-Some.ensures.left) c.give_back.ensures.core c.give_back.ensures.swap c.unload_text.ensures.core c.copy.ensures.bytes c.unload_text.ensures.texts (with_items_is c.self.inside.rows c.set_place.new.rows (c.set_place.ensures.long ∙ c.deref_mut.ensures.len) ∙ (rw c.deref_mut.ensures.value at c.set_place.ensures.rows))) in
+    let g = (gone_out (stock_in c.self.inside) c.args.self.now.kept c.args.s c.requires.0 c.in-Some.block c.place_click-from.result c.block_click-to.result c.self.inside.core_map c.self.inside.swap_map c.give_back.new.core_map c.unload_text.new.core_map c.take.new.self c.give_back.new.swap_map c.row_of-row.result c.clicks_of-clicks.result (line_of c.copy.new.self) c.unload_text.new.texts (with_items c.self.inside.rows c.set_place.new.rows).items (kept_is c.self.view_is) c.self.invariant.sound c.self.invariant.maps c.self.invariant.counted (facts (stock_in c.self.inside) c.args.self.now.kept c.args.s (Core c.requires.0) (kept_is c.self.view_is) c.self.invariant.sound c.self.invariant.counted c.requires.1 c.requires.2).low (facts (stock_in c.self.inside) c.args.self.now.kept c.args.s (Core c.requires.0) (kept_is c.self.view_is) c.self.invariant.sound c.self.invariant.counted c.requires.1 c.requires.2).is (rw c.deref.ensures.value at c.row_of-row.ensures) c.clicks_of-clicks.ensures (ap (swap_fit c.args.self.now.kept) (sym c.blocks_of.ensures) ∙ sym (swap_fits (stock_in c.self.inside) c.args.self.now.kept c.self.inside.core_map c.self.inside.swap_map c.blocks_of.result (Some c.in-Some.block) (kept_is c.self.view_is) c.self.invariant.sound c.self.invariant.maps (λ taken first last m. sym c.in-Some.is ∙ c.take.ensures.fit taken first last m))) (c.place_click-from.ensures ∙ ap (place_at c.self.inside.core) (same_place (row_at c.self.inside.rows.items c.args.s).state c.place_of.result (Core c.requires.0) (sym (ap (λ (r : Row). r.state) (rw c.deref.ensures.value at c.row_of-row.ensures)) ∙ c.place_of.ensures) (facts (stock_in c.self.inside) c.args.self.now.kept c.args.s (Core c.requires.0) (kept_is c.self.view_is) c.self.invariant.sound c.self.invariant.counted c.requires.1 c.requires.2).is)) c.block_click-to.ensures (rw c.blocks_of.ensures at c.in-Some.ensures.left) c.give_back.ensures.core c.give_back.ensures.swap c.unload_text.ensures.core c.copy.ensures.bytes c.unload_text.ensures.texts (with_items_is c.self.inside.rows c.set_place.new.rows (c.set_place.ensures.long ∙ c.deref_mut.ensures.len) ∙ (rw c.deref_mut.ensures.value at c.set_place.ensures.rows))) in
     record {
       sound = g.sound;
       maps = g.maps;
       table = ap length c.unload_text.ensures.texts ∙ out_long c.self.inside.texts c.row_of-row.result.text ∙ c.self.invariant.table;
       cut = c.copy.ensures.core ∙ c.self.invariant.cut;
       counted = g.counted;
-      told = out_told _ _ c.args.self.now c.args.s c.in-Some.block c.self.view_is g.kept c.self.invariant.told;
-      areas = areas_out c.self.inside.areas.items _ _ c.args.self.now c.args.s c.in-Some.block c.self.view_is g.kept c.self.invariant.areas;
+      told = out_told _ _ c.args.self.now.kept c.args.s c.in-Some.block (kept_is c.self.view_is) g.kept c.self.invariant.told;
+      areas = areas_out c.self.inside.areas.items _ _ c.args.self.now.kept c.args.s c.in-Some.block (kept_is c.self.view_is) g.kept c.self.invariant.areas;
     }
 
 pub returns-clause-block : goal.returns-clause-block
-returns-clause-block c = (ap (λ i. swap_fit c.args.self.now (blocks i)) (out_clicks (stock_in c.self.inside) c.args.self.now c.args.s (Core c.requires.0) c.row_of-row.result c.clicks_of-clicks.result c.self.view_is c.self.invariant.sound (facts (stock_in c.self.inside) c.args.self.now c.args.s (Core c.requires.0) c.self.view_is c.self.invariant.sound c.self.invariant.counted c.requires.1 c.requires.2).is (rw c.deref.ensures.value at c.row_of-row.ensures) c.clicks_of-clicks.ensures) ∙ ap (swap_fit c.args.self.now) (sym c.blocks_of.ensures)) ∙ sym (swap_fits (stock_in c.self.inside) c.args.self.now c.self.inside.core_map c.self.inside.swap_map c.blocks_of.result (Some c.in-Some.block) c.self.view_is c.self.invariant.sound c.self.invariant.maps (λ taken first last m. sym c.in-Some.is ∙ c.take.ensures.fit taken first last m))
+returns-clause-block c = (ap (λ i. swap_fit c.args.self.now.kept (blocks i)) (out_clicks (stock_in c.self.inside) c.args.self.now.kept c.args.s (Core c.requires.0) c.row_of-row.result c.clicks_of-clicks.result (kept_is c.self.view_is) c.self.invariant.sound (facts (stock_in c.self.inside) c.args.self.now.kept c.args.s (Core c.requires.0) (kept_is c.self.view_is) c.self.invariant.sound c.self.invariant.counted c.requires.1 c.requires.2).is (rw c.deref.ensures.value at c.row_of-row.ensures) c.clicks_of-clicks.ensures) ∙ ap (swap_fit c.args.self.now.kept) (sym c.blocks_of.ensures)) ∙ sym (swap_fits (stock_in c.self.inside) c.args.self.now.kept c.self.inside.core_map c.self.inside.swap_map c.blocks_of.result (Some c.in-Some.block) (kept_is c.self.view_is) c.self.invariant.sound c.self.invariant.maps (λ taken first last m. sym c.in-Some.is ∙ c.take.ensures.fit taken first last m))
 
 pub returns-clause-kept : goal.returns-clause-kept
-returns-clause-kept c = (gone_out (stock_in c.self.inside) c.args.self.now c.args.s c.requires.0 c.in-Some.block c.place_click-from.result c.block_click-to.result c.self.inside.core_map c.self.inside.swap_map c.give_back.new.core_map c.unload_text.new.core_map c.take.new.self c.give_back.new.swap_map c.row_of-row.result c.clicks_of-clicks.result (line_of c.copy.new.self) c.unload_text.new.texts (with_items c.self.inside.rows c.set_place.new.rows).items c.self.view_is c.self.invariant.sound c.self.invariant.maps c.self.invariant.counted (facts (stock_in c.self.inside) c.args.self.now c.args.s (Core c.requires.0) c.self.view_is c.self.invariant.sound c.self.invariant.counted c.requires.1 c.requires.2).low (facts (stock_in c.self.inside) c.args.self.now c.args.s (Core c.requires.0) c.self.view_is c.self.invariant.sound c.self.invariant.counted c.requires.1 c.requires.2).is (rw c.deref.ensures.value at c.row_of-row.ensures) c.clicks_of-clicks.ensures (ap (swap_fit c.args.self.now) (sym c.blocks_of.ensures) ∙ sym (swap_fits (stock_in c.self.inside) c.args.self.now c.self.inside.core_map c.self.inside.swap_map c.blocks_of.result (Some c.in-Some.block) c.self.view_is c.self.invariant.sound c.self.invariant.maps (λ taken first last m. sym c.in-Some.is ∙ c.take.ensures.fit taken first last m))) (c.place_click-from.ensures ∙ ap (place_at c.self.inside.core) (same_place (row_at c.self.inside.rows.items c.args.s).state c.place_of.result (Core c.requires.0) (sym (ap (λ (r : Row). r.state) (rw c.deref.ensures.value at c.row_of-row.ensures)) ∙ c.place_of.ensures) (facts (stock_in c.self.inside) c.args.self.now c.args.s (Core c.requires.0) c.self.view_is c.self.invariant.sound c.self.invariant.counted c.requires.1 c.requires.2).is)) c.block_click-to.ensures (rw c.blocks_of.ensures at c.in-Some.ensures.left) c.give_back.ensures.core c.give_back.ensures.swap c.unload_text.ensures.core c.copy.ensures.bytes c.unload_text.ensures.texts (with_items_is c.self.inside.rows c.set_place.new.rows (c.set_place.ensures.long ∙ c.deref_mut.ensures.len) ∙ (rw c.deref_mut.ensures.value at c.set_place.ensures.rows))).kept ∙ ap (swapped_out c.args.self.now c.args.s) ((swap_fits (stock_in c.self.inside) c.args.self.now c.self.inside.core_map c.self.inside.swap_map c.blocks_of.result (Some c.in-Some.block) c.self.view_is c.self.invariant.sound c.self.invariant.maps (λ taken first last m. sym c.in-Some.is ∙ c.take.ensures.fit taken first last m)) ∙ sym (ap (λ i. swap_fit c.args.self.now (blocks i)) (out_clicks (stock_in c.self.inside) c.args.self.now c.args.s (Core c.requires.0) c.row_of-row.result c.clicks_of-clicks.result c.self.view_is c.self.invariant.sound (facts (stock_in c.self.inside) c.args.self.now c.args.s (Core c.requires.0) c.self.view_is c.self.invariant.sound c.self.invariant.counted c.requires.1 c.requires.2).is (rw c.deref.ensures.value at c.row_of-row.ensures) c.clicks_of-clicks.ensures) ∙ ap (swap_fit c.args.self.now) (sym c.blocks_of.ensures)))
+returns-clause-kept c = (gone_out (stock_in c.self.inside) c.args.self.now.kept c.args.s c.requires.0 c.in-Some.block c.place_click-from.result c.block_click-to.result c.self.inside.core_map c.self.inside.swap_map c.give_back.new.core_map c.unload_text.new.core_map c.take.new.self c.give_back.new.swap_map c.row_of-row.result c.clicks_of-clicks.result (line_of c.copy.new.self) c.unload_text.new.texts (with_items c.self.inside.rows c.set_place.new.rows).items (kept_is c.self.view_is) c.self.invariant.sound c.self.invariant.maps c.self.invariant.counted (facts (stock_in c.self.inside) c.args.self.now.kept c.args.s (Core c.requires.0) (kept_is c.self.view_is) c.self.invariant.sound c.self.invariant.counted c.requires.1 c.requires.2).low (facts (stock_in c.self.inside) c.args.self.now.kept c.args.s (Core c.requires.0) (kept_is c.self.view_is) c.self.invariant.sound c.self.invariant.counted c.requires.1 c.requires.2).is (rw c.deref.ensures.value at c.row_of-row.ensures) c.clicks_of-clicks.ensures (ap (swap_fit c.args.self.now.kept) (sym c.blocks_of.ensures) ∙ sym (swap_fits (stock_in c.self.inside) c.args.self.now.kept c.self.inside.core_map c.self.inside.swap_map c.blocks_of.result (Some c.in-Some.block) (kept_is c.self.view_is) c.self.invariant.sound c.self.invariant.maps (λ taken first last m. sym c.in-Some.is ∙ c.take.ensures.fit taken first last m))) (c.place_click-from.ensures ∙ ap (place_at c.self.inside.core) (same_place (row_at c.self.inside.rows.items c.args.s).state c.place_of.result (Core c.requires.0) (sym (ap (λ (r : Row). r.state) (rw c.deref.ensures.value at c.row_of-row.ensures)) ∙ c.place_of.ensures) (facts (stock_in c.self.inside) c.args.self.now.kept c.args.s (Core c.requires.0) (kept_is c.self.view_is) c.self.invariant.sound c.self.invariant.counted c.requires.1 c.requires.2).is)) c.block_click-to.ensures (rw c.blocks_of.ensures at c.in-Some.ensures.left) c.give_back.ensures.core c.give_back.ensures.swap c.unload_text.ensures.core c.copy.ensures.bytes c.unload_text.ensures.texts (with_items_is c.self.inside.rows c.set_place.new.rows (c.set_place.ensures.long ∙ c.deref_mut.ensures.len) ∙ (rw c.deref_mut.ensures.value at c.set_place.ensures.rows))).kept ∙ ap (swapped_out c.args.self.now.kept c.args.s) ((swap_fits (stock_in c.self.inside) c.args.self.now.kept c.self.inside.core_map c.self.inside.swap_map c.blocks_of.result (Some c.in-Some.block) (kept_is c.self.view_is) c.self.invariant.sound c.self.invariant.maps (λ taken first last m. sym c.in-Some.is ∙ c.take.ensures.fit taken first last m)) ∙ sym (ap (λ i. swap_fit c.args.self.now.kept (blocks i)) (out_clicks (stock_in c.self.inside) c.args.self.now.kept c.args.s (Core c.requires.0) c.row_of-row.result c.clicks_of-clicks.result (kept_is c.self.view_is) c.self.invariant.sound (facts (stock_in c.self.inside) c.args.self.now.kept c.args.s (Core c.requires.0) (kept_is c.self.view_is) c.self.invariant.sound c.self.invariant.counted c.requires.1 c.requires.2).is (rw c.deref.ensures.value at c.row_of-row.ensures) c.clicks_of-clicks.ensures) ∙ ap (swap_fit c.args.self.now.kept) (sym c.blocks_of.ensures)))

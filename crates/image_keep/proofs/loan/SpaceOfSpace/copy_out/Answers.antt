@@ -16,7 +16,7 @@ has old new s at bytes alive kept = ap (λ k. image_of k s) kept ∙ with_image_
 
 pub invariant_of-self : goal.invariant_of-self
 invariant_of-self c =
-    let old : Kept = c.args.self.now.images.now in
+    let old : Kept = c.args.self.now.images.now.kept in
     let s : ℕ = c.args.self.now.slot in
     let at : ℕ = c.args.at in
     let bytes : List ℕ = c.args.bytes.now in
@@ -29,7 +29,7 @@ invariant_of-self c =
 
 pub returns-clause-done : goal.returns-clause-done
 returns-clause-done c is =
-    let old : Kept = c.args.self.now.images.now in
+    let old : Kept = c.args.self.now.images.now.kept in
     let s : ℕ = c.args.self.now.slot in
     put_done (image_of old s) (store_bytes (image_of old s) c.args.at c.args.bytes.now) (sym c.copy_out.ensures.done ∙ is)
     ∙ ap Some (sym (has old c.copy_out.new.self s c.args.at c.args.bytes.now c.args.self.now.are.alive c.copy_out.ensures.kept))
@@ -39,7 +39,7 @@ returns-clause-refused c is = put_refused _ (sym c.copy_out.ensures.done ∙ is)
 
 pub returns-clause-same : goal.returns-clause-same
 returns-clause-same c is =
-    let old : Kept = c.args.self.now.images.now in
+    let old : Kept = c.args.self.now.images.now.kept in
     let s : ℕ = c.args.self.now.slot in
     has old c.copy_out.new.self s c.args.at c.args.bytes.now c.args.self.now.are.alive c.copy_out.ensures.kept
     ∙ put_same (image_of old s) (store_bytes (image_of old s) c.args.at c.args.bytes.now) (sym c.copy_out.ensures.done ∙ is)

@@ -8,7 +8,7 @@ use Rattle.image_keep.proofs.loan.SpaceOfSpace.store_word.Goals as goal
 
 pub invariant_of-self : goal.invariant_of-self
 invariant_of-self c =
-    let old = c.args.self.now.images.now in
+    let old = c.args.self.now.images.now.kept in
     let slot = c.args.self.now.slot in
     let m = image_after (image_of old slot) (store_word (image_of old slot) c.args.at c.args.value) in
     record {
